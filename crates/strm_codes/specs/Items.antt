@@ -1,0 +1,16 @@
+-- The lists of numbers that are items of a payload.
+-- Canonical ABI, "Loading" and "Storing", for tuples of scalars.
+use Rattle.std.specs.Prelude.{◌^◌, ℤ, pos, neg_ℤ, ◌≤ℤ◌, ◌<ℤ◌, List, [], ◌∷◌}
+use Rattle.strm_codes.specs.Scalars.{FitsScalar}
+use Rattle.strm_codes.specs.declared.scalars.Scalar.{Scalar}
+
+-- a number for each field, which fits it
+abbrev pub FitsItem : List Scalar → List ℤ → Type 0
+FitsItem [] [] = Unit {0}
+FitsItem [] (x ∷ xs) = ⊥
+FitsItem (s ∷ ss) [] = ⊥
+FitsItem (s ∷ ss) (x ∷ xs) = FitsScalar s x × FitsItem ss xs
+
+-- a number of at most 64 bits, signed or not
+abbrev pub IsNumber : ℤ → Type 0
+IsNumber x = (neg_ℤ (pos (2 ^ 63)) ≤ℤ x) × (x <ℤ pos (2 ^ 64))

@@ -1,0 +1,71 @@
+//! The scalars that payloads are made of.
+//!
+//! Source: Canonical ABI, "Alignment" and "Element Size".
+
+ghost use Rattle.std.specs.Prelude.{◌≡◌, ◌<◌, ◌≤◌, ◌↔◌, IsTrue};
+ghost use Rattle.strm_codes.specs.Scalars.{FitsScalar};
+ghost use Rattle.strm_codes.specs.declared.scalars.Scalar.TheVariants.{Char};
+
+/// A scalar type.
+#[derive(Clone, Copy, Debug, PartialEq, Eq)]
+pub enum Scalar {
+    Bool,
+    S8,
+    U8,
+    S16,
+    U16,
+    S32,
+    U32,
+    S64,
+    U64,
+    Char,
+}
+
+impl Scalar {
+    ghost use Rattle.strm_codes.specs.Scalars.{size_of, is_whole_number};
+
+    /// The bytes that one takes, which is its alignment too.
+    pub fn size(self) -> u32
+        ensures exact { result ≡ size_of self }
+        ensures some { 0 < result }
+        ensures most { result ≤ 8 }
+    {
+        match self {
+            Scalar::Bool | Scalar::S8 | Scalar::U8 => 1,
+            Scalar::S16 | Scalar::U16 => 2,
+            Scalar::S32 | Scalar::U32 | Scalar::Char => 4,
+            Scalar::S64 | Scalar::U64 => 8,
+        }
+    }
+
+    /// One of the eight whole numbers.
+    pub fn is_whole_number(self) -> bool
+        ensures { result ≡ is_whole_number self }
+    {
+        !matches!(self, Scalar::Bool | Scalar::Char)
+    }
+
+    /// Whether a number is an item of this scalar.
+    pub fn fits(self, number: i128) -> bool
+        ensures { IsTrue result ↔ FitsScalar self number }
+    {
+        match self {
+            Scalar::Bool => 0 <= number && number < 2,
+            Scalar::S8 => -0x80 <= number && number < 0x80,
+            Scalar::U8 => 0 <= number && number < 0x100,
+            Scalar::S16 => -0x8000 <= number && number < 0x8000,
+            Scalar::U16 => 0 <= number && number < 0x1_0000,
+            Scalar::S32 => -0x8000_0000 <= number && number < 0x8000_0000,
+            Scalar::U32 => 0 <= number && number < 0x1_0000_0000,
+            Scalar::S64 => -0x8000_0000_0000_0000 <= number && number < 0x8000_0000_0000_0000,
+            Scalar::U64 => 0 <= number && number < 0x1_0000_0000_0000_0000,
+            Scalar::Char => is_scalar_value(number),
+        }
+    }
+}
+
+fn is_scalar_value(number: i128) -> bool
+    ensures { IsTrue result ↔ FitsScalar Char number }
+{
+    0 <= number && (number < 0xD800 || (0xDFFF < number && number < 0x11_0000))
+}

@@ -1,0 +1,115 @@
+//! Items as lists of whole numbers.
+//!
+//! Ours: one type for the items of every payload.
+
+ghost use Rattle.std.specs.Prelude.{◌≡◌, ◌<◌, ◌≤◌, ◌↔◌, All, length, IsSome, IfSome, IsTrue, slice_get, Some};
+ghost use Rattle.strm_codes.specs.Items.{FitsItem, IsNumber};
+ghost use Rattle.strm_codes.specs.Layout.{scalars_of};
+
+use crate::payloads::Payload;
+use crate::scalars::Scalar;
+use std::marker::Model;
+
+/// At most eight whole numbers, each from -2^63 to 2^64 - 1: an item of a payload, a number for
+/// each of its fields.
+#[derive(Clone, Copy, PartialEq, Eq, Debug)]
+pub struct Value {
+    numbers: [i128; 8],
+    len: u8,
+}
+
+impl Model for Value {
+    ghost use Rattle.std.specs.Prelude.{ℤ, pos, List, take, length};
+    ghost use Rattle.std.proofs.Common.{arith, length-take-le, sym};
+    ghost use Rattle.strm_codes.specs.Padded.{padded, IsPadded};
+
+    ghost Value = { List ℤ };
+
+    ghost view = { λ v. take v.len v.numbers };
+
+    ghost invariant = { λ v. IsPadded (pos 0) v.numbers v.len };
+
+    ghost inverse = { λ xs. record { numbers = padded (pos 0) xs; len = length xs } };
+
+    ghost inverse_ok = { λ v h i. record {
+      numbers = sym h.behind i;
+      len = length-take-le v.len v.numbers (omega (arith, h.most, h.whole)) i;
+    } };
+}
+
+impl Value {
+    /// An item of these numbers; none for more than eight, or for a number out of range.
+    pub fn new(numbers: &[i128]) -> Option<Value>
+        ensures some { IsSome result ↔ ((length numbers.now ≤ 8) × All IsNumber numbers.now) }
+        ensures value { IfSome result (λ value. value ≡ numbers.now) }
+    {
+        let len = numbers.len();
+        if len > 8 || !are_numbers(numbers) {
+            return None;
+        }
+        let mut array = [0; 8];
+        array[..len].copy_from_slice(numbers);
+        Some(Value {
+            numbers: array,
+            len: len as u8,
+        })
+    }
+
+    /// How many numbers there are.
+    pub fn len(&self) -> usize
+        ensures exact { result ≡ length self.now }
+        ensures most { result ≤ 8 }
+    {
+        self.len as usize
+    }
+
+    /// A number, from 0.
+    pub fn get(&self, index: usize) -> i128
+        requires { index < length self.now }
+        ensures { slice_get self.now index ≡ Some result }
+    {
+        self.as_slice()[index]
+    }
+
+    /// All numbers in order.
+    pub fn as_slice(&self) -> &[i128]
+        ensures exact { result.now ≡ self.now }
+        ensures most { length result.now ≤ 8 }
+    {
+        &self.numbers[..self.len as usize]
+    }
+
+    /// Whether this is an item of the payload.
+    pub fn fits(&self, payload: Payload) -> bool
+        ensures { IsTrue result ↔ FitsItem (scalars_of payload) self.now }
+    {
+        fit_scalars(payload.scalars(), self.as_slice())
+    }
+}
+
+fn is_number(number: i128) -> bool
+    ensures { IsTrue result ↔ IsNumber number }
+{
+    -0x8000_0000_0000_0000 <= number && number < 0x1_0000_0000_0000_0000
+}
+
+fn are_numbers(numbers: &[i128]) -> bool
+    ensures { IsTrue result ↔ All IsNumber numbers.now }
+{
+    numbers.iter().all(|number| is_number(*number))
+}
+
+fn fit_scalars(scalars: &[Scalar], numbers: &[i128]) -> bool
+    ensures { IsTrue result ↔ FitsItem scalars.now numbers.now }
+{
+    if scalars.len() != numbers.len() {
+        return false;
+    }
+    for k in 0..scalars.len() {
+        let number = numbers[k];
+        if !scalars[k].fits(number) {
+            return false;
+        }
+    }
+    true
+}
