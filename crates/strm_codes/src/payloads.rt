@@ -11,7 +11,7 @@ use crate::scalars::Scalar;
 use std::marker::Model;
 
 /// One to eight scalars, the fields of a tuple in order.
-#[derive(Clone, Copy, PartialEq, Eq, Debug)]
+#[derive(Clone, Copy, Debug)]
 pub struct Shape {
     fields: [Scalar; 8],
     len: u8,
@@ -28,9 +28,9 @@ impl Model for Shape {
 
     ghost view = { λ s. take s.len s.fields };
 
-    ghost invariant = { λ s. IsPadded Flag s.fields s.len × (1 ≤ s.len) };
+    ghost invariant = { λ s. IsPadded 8 Flag s.fields s.len × (1 ≤ s.len) };
 
-    ghost inverse = { λ xs. record { fields = padded Flag xs; len = length xs } };
+    ghost inverse = { λ xs. record { fields = padded 8 Flag xs; len = length xs } };
 
     ghost inverse_ok = { λ s h i. record {
       fields = sym h.0.behind i;
@@ -82,8 +82,27 @@ impl Shape {
     }
 }
 
+impl PartialEq for Shape {
+    ghost use Rattle.std.specs.Cmp.{partial_equiv_from_equiv};
+    ghost use Rattle.strm_codes.specs.Sameness.{same_scalars, same_scalars_is_equivalence};
+
+    ghost eq = { same_scalars };
+
+    ghost laws = { partial_equiv_from_equiv same_scalars_is_equivalence };
+
+    fn eq(&self, other: &Shape) -> bool {
+        self.as_slice() == other.as_slice()
+    }
+}
+
+impl Eq for Shape {
+    ghost use Rattle.strm_codes.specs.Sameness.{same_scalars_is_equivalence};
+
+    ghost laws = { same_scalars_is_equivalence };
+}
+
 /// What one item is: nothing, a scalar, or a tuple of scalars.
-#[derive(Clone, Copy, PartialEq, Eq, Debug)]
+#[derive(Clone, Copy, Debug)]
 pub enum Payload {
     Nothing,
     One(Scalar),
@@ -131,6 +150,30 @@ impl Payload {
             _ => false,
         }
     }
+}
+
+impl PartialEq for Payload {
+    ghost use Rattle.std.specs.Cmp.{partial_equiv_from_equiv};
+    ghost use Rattle.strm_codes.specs.Sameness.{same_payload, same_payload_is_equivalence};
+
+    ghost eq = { same_payload };
+
+    ghost laws = { partial_equiv_from_equiv same_payload_is_equivalence };
+
+    fn eq(&self, other: &Payload) -> bool {
+        match (self, other) {
+            (Payload::Nothing, Payload::Nothing) => true,
+            (Payload::One(scalar), Payload::One(other)) => scalar == other,
+            (Payload::Tuple(shape), Payload::Tuple(other)) => shape == other,
+            _ => false,
+        }
+    }
+}
+
+impl Eq for Payload {
+    ghost use Rattle.strm_codes.specs.Sameness.{same_payload_is_equivalence};
+
+    ghost laws = { same_payload_is_equivalence };
 }
 
 /// The bytes from an offset to the next multiple of a size.

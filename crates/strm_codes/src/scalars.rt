@@ -7,7 +7,7 @@ ghost use Rattle.strm_codes.specs.Scalars.{FitsScalar};
 ghost use Rattle.strm_codes.specs.declared.scalars.Scalar.TheVariants.{Char};
 
 /// A scalar type.
-#[derive(Clone, Copy, Debug, PartialEq, Eq)]
+#[derive(Clone, Copy, Debug)]
 pub enum Scalar {
     Bool,
     S8,
@@ -62,6 +62,25 @@ impl Scalar {
             Scalar::Char => is_scalar_value(number),
         }
     }
+}
+
+impl PartialEq for Scalar {
+    ghost use Rattle.std.specs.Cmp.{partial_equiv_from_equiv};
+    ghost use Rattle.strm_codes.specs.Sameness.{same_scalar, same_scalar_is_equivalence};
+
+    ghost eq = { same_scalar };
+
+    ghost laws = { partial_equiv_from_equiv same_scalar_is_equivalence };
+
+    fn eq(&self, other: &Scalar) -> bool {
+        *self as u8 == *other as u8
+    }
+}
+
+impl Eq for Scalar {
+    ghost use Rattle.strm_codes.specs.Sameness.{same_scalar_is_equivalence};
+
+    ghost laws = { same_scalar_is_equivalence };
 }
 
 fn is_scalar_value(number: i128) -> bool

@@ -27,9 +27,9 @@ impl Model for Value {
 
     ghost view = { λ v. take v.len v.numbers };
 
-    ghost invariant = { λ v. IsPadded (pos 0) v.numbers v.len };
+    ghost invariant = { λ v. IsPadded 8 (pos 0) v.numbers v.len };
 
-    ghost inverse = { λ xs. record { numbers = padded (pos 0) xs; len = length xs } };
+    ghost inverse = { λ xs. record { numbers = padded 8 (pos 0) xs; len = length xs } };
 
     ghost inverse_ok = { λ v h i. record {
       numbers = sym h.behind i;

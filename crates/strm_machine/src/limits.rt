@@ -1,0 +1,10 @@
+//! The limits of a store.
+
+/// How much a store may keep. Ours, but for `handles`: wasmtime, `HandleCounter`.
+#[derive(Clone, Copy, Debug, PartialEq, Eq)]
+pub struct Limits {
+    /// Live handles of all guests together.
+    pub handles: usize,
+    /// Places: a stream takes three.
+    pub places: u32,
+}

@@ -1,0 +1,44 @@
+//! The steps of a run.
+//!
+//! Source: each names one call of the store, which is a built-in of the Canonical ABI or ours.
+
+use crate::chunks::Chunk;
+use strm_codes::codes::TransmitIndex;
+
+/// One step. Guests are numbered from 0, handles from 1; addresses and sizes are in bytes, counts
+/// in items.
+#[derive(Clone, Copy, Debug, PartialEq, Eq)]
+pub enum Step {
+    /// A guest with a memory of so many zero bytes. Ours.
+    Guest { size: u32 },
+    /// A stream or future from one guest to another. Ours: `canon stream.new` and a transfer.
+    Between {
+        writer: u32,
+        reader: u32,
+        ty: TransmitIndex,
+    },
+    /// `canon stream.write` or `canon future.write`, whose count is not looked at.
+    Write {
+        guest: u32,
+        ty: TransmitIndex,
+        handle: u32,
+        address: u32,
+        count: u32,
+    },
+    /// `canon stream.read` or `canon future.read`, whose count is not looked at.
+    Read {
+        guest: u32,
+        ty: TransmitIndex,
+        handle: u32,
+        address: u32,
+        count: u32,
+    },
+    /// Bytes put into a guest's memory. Ours.
+    Poke {
+        guest: u32,
+        address: u32,
+        bytes: Chunk,
+    },
+    /// Bytes read from a guest's memory, at most 64. Ours.
+    Dump { guest: u32, address: u32, len: u32 },
+}
