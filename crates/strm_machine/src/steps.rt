@@ -10,7 +10,9 @@ use strm_codes::codes::TransmitIndex;
 #[derive(Clone, Copy, Debug, PartialEq, Eq)]
 pub enum Step {
     /// A guest with a memory of so many zero bytes. Ours.
-    Guest { size: u32 },
+    Guest {
+        size: u32,
+    },
     /// A stream or future from one guest to another. Ours: `canon stream.new` and a transfer.
     Between {
         writer: u32,
@@ -40,5 +42,9 @@ pub enum Step {
         bytes: Chunk,
     },
     /// Bytes read from a guest's memory, at most 64. Ours.
-    Dump { guest: u32, address: u32, len: u32 },
+    Dump {
+        guest: u32,
+        address: u32,
+        len: u32,
+    },
 }
