@@ -1,0 +1,173 @@
+-- A copy is the same as lifting all items and then lowering them, and a copy of numbers is one of bytes.
+use Rattle.std.proofs.Common.{◌≡◌, ℕ, zero, suc, ◌+◌, ◌*◌, ◌<◌, ◌≤◌, ◌-◌, ℤ, pos, Bool, true, false, ◌||◌, List, [], ◌∷◌, ◌++◌, length, take, drop, get_or, Option, Some, None, refl, sym, ap, ◌∙◌, append_assoc, arith, length-drop}
+use Rattle.std.proofs.lemmas.Option.{option_and_then_some}
+use Rattle.std.proofs.lemmas.List.{length-take-le, drop-drop, take_at, drop_at, take-append-drop}
+use Rattle.std.proofs.Math.Seq.{take-add}
+use Rattle.std.specs.Option.{option_map}
+use Rattle.std.specs.List.{list_any}
+use Rattle.std.specs.Prelude.{is_some, IsNone, IsSomeAnd}
+use Rattle.strm_codes.specs.Scalars.{size_of, is_whole_number}
+use Rattle.strm_codes.specs.Layout.{gap_before, end_of, item_size}
+use Rattle.strm_codes.specs.Sameness.{same_scalar}
+use Rattle.strm_codes.specs.declared.scalars.Scalar.{Scalar}
+use Rattle.strm_codes.specs.declared.scalars.Scalar.TheVariants.{Bool as Flag, S8, U8, S16, U16, S32, U32, S64, U64, Char}
+use Rattle.strm_memory.specs.Bytes.{le, to_le, put_at, IsBytes}
+use Rattle.strm_memory.specs.Numbers.{lifted, lowered}
+use Rattle.strm_memory.specs.Items.{decode_from, encode_from, decode, encode, items, stored, items_at, stored_at}
+use Rattle.strm_memory.specs.Copies.{settled, copied_from, copied, has_char}
+use Rattle.strm_memory.proofs.ByteLemmas.{IsBytes-drop, IsBytes-take, le-lt}
+use Rattle.strm_memory.proofs.NumberLemmas.{lowered-lifted}
+use Rattle.strm_memory.proofs.FieldLemmas.{le-end_of, is_some-both}
+
+pub option_map_some : {A B P : Type 0} (f : A → B) (o : Option A) (y : B) → option_map f o ≡ Some y → ((x : A) → o ≡ Some x → f x ≡ y → P) → P
+option_map_some f None y e k = cc
+option_map_some f (Some x) y e k = k x refl cc
+
+-- the fields copied are the fields read and then written
+copied_from-decoded : (at : ℕ) (ss : List Scalar) (source bytes : List ℕ) (xs : List ℤ) → IsBytes source → end_of at ss ≤ at + length source → decode_from at ss source ≡ Some xs → copied_from at ss source bytes ≡ encode_from at ss bytes xs
+unfolding decode_from encode_from copied_from
+copied_from-decoded at [] source bytes xs h l e = refl
+copied_from-decoded at (s ∷ ss) source bytes xs h l e =
+    let gap = gap_before at (size_of s) in
+    let here = take (size_of s) (drop gap source) in
+    let inside : gap + size_of s ≤ length source = omega (arith, l, le-end_of (at + gap + size_of s) ss) in
+    let size : length here ≡ size_of s = length-take-le (size_of s) (drop gap source) (omega (arith, inside, length-drop gap source)) in
+    let bytes_here : IsBytes here = IsBytes-take (drop gap source) (size_of s) (IsBytes-drop source gap h) in
+    option_and_then_some _ (lifted s (le here)) xs e
+    (λ x p q. option_map_some _ (decode_from (at + gap + size_of s) ss (drop (gap + size_of s) source)) xs q
+    (λ ys u v.
+    let same : to_le (size_of s) (lowered s x) ≡ settled s here = lowered-lifted s here x bytes_here size (rw size at (le-lt here bytes_here)) p in
+    rw (← v, same, copied_from-decoded (at + gap + size_of s) ss (drop (gap + size_of s) source) (drop (gap + size_of s) bytes) ys (IsBytes-drop source (gap + size_of s) h) (omega (arith, l, inside, length-drop (gap + size_of s) source)) u) refl))
+
+-- the items copied are the items lifted and then lowered
+copied-items : (ss : List Scalar) (n : ℕ) (source bytes : List ℕ) (xs : List (List ℤ)) → IsBytes source → item_size ss * n ≤ length source → items ss source n ≡ Some xs → copied ss source bytes n ≡ stored ss bytes xs
+unfolding items stored copied
+copied-items ss zero source bytes xs h l e = let q : [] ≡ xs = cc in rw (← q) refl
+copied-items ss (suc n) source bytes xs h l e =
+    let room : item_size ss + item_size ss * n ≤ length source = omega (arith, l) in
+    option_and_then_some _ (decode ss source) xs e
+    (λ x p q. option_map_some _ (items ss (drop (item_size ss) source) n) xs q
+    (λ ys u v.
+    rw (← v, copied_from-decoded 0 ss source bytes x h (omega (arith, room)) p, copied-items ss n (drop (item_size ss) source) (drop (item_size ss) (encode ss bytes x)) ys (IsBytes-drop source (item_size ss) h) (omega (arith, room, length-drop (item_size ss) source)) u) refl))
+
+IsSomeAnd-from : {A : Type 0} (o : Option A) (P : A → Type 0) → is_some o ≡ true → ((x : A) → o ≡ Some x → P x) → IsSomeAnd o P
+IsSomeAnd-from None P e k = cc
+IsSomeAnd-from (Some x) P e k = k x refl
+
+pub stored_at_from_copied : (ss : List Scalar) (n : ℕ) (source m new : List ℕ) (from to : ℕ) → IsBytes source → from + item_size ss * n ≤ length source → is_some (items_at ss source from n) ≡ true → new ≡ take to m ++ copied ss (drop from source) (drop to m) n → IsSomeAnd (items_at ss source from n) (λ xs. new ≡ stored_at ss m to xs)
+stored_at_from_copied ss n source m new from to h l e f =
+    IsSomeAnd-from (items ss (drop from source) n) _ e
+    (λ xs p. f ∙ ap (λ b. take to m ++ b) (copied-items ss n (drop from source) (drop to m) xs (IsBytes-drop source from h) (omega (arith, l, length-drop from source)) p))
+
+-- any bytes are an item of a scalar that is no character
+lifted_no_char : (s : Scalar) (n : ℕ) → same_scalar s Char ≡ false → is_some (lifted s n) ≡ true
+lifted_no_char Flag n e = refl
+lifted_no_char S8 n e = refl
+lifted_no_char U8 n e = refl
+lifted_no_char S16 n e = refl
+lifted_no_char U16 n e = refl
+lifted_no_char S32 n e = refl
+lifted_no_char U32 n e = refl
+lifted_no_char S64 n e = refl
+lifted_no_char U64 n e = refl
+lifted_no_char Char n e = cc
+
+or_false : (a b : Bool) → (a || b) ≡ false → (a ≡ false) × (b ≡ false)
+or_false true b e = cc
+or_false false b e = (refl, e)
+
+decode_from-no_char : (at : ℕ) (ss : List Scalar) (bytes : List ℕ) → has_char ss ≡ false → is_some (decode_from at ss bytes) ≡ true
+unfolding decode_from
+decode_from-no_char at [] bytes e = refl
+decode_from-no_char at (s ∷ ss) bytes e =
+    let gap = gap_before at (size_of s) in
+    let both = or_false (same_scalar s Char) (has_char ss) e in
+    is_some-both (lifted s (le (take (size_of s) (drop gap bytes)))) (decode_from (at + gap + size_of s) ss (drop (gap + size_of s) bytes)) (λ x xs. x ∷ xs)
+    ∙ rw (lifted_no_char s (le (take (size_of s) (drop gap bytes))) both.0) (decode_from-no_char (at + gap + size_of s) ss (drop (gap + size_of s) bytes) both.1)
+
+pub items-no_char : (ss : List Scalar) (n : ℕ) (bytes : List ℕ) → has_char ss ≡ false → is_some (items ss bytes n) ≡ true
+unfolding items
+items-no_char ss zero bytes e = refl
+items-no_char ss (suc n) bytes e =
+    is_some-both (decode ss bytes) (items ss (drop (item_size ss) bytes) n) (λ x xs. x ∷ xs)
+    ∙ rw (decode_from-no_char 0 ss bytes e) (items-no_char ss n (drop (item_size ss) bytes) e)
+
+pub number_no_char : (s : Scalar) → is_whole_number s ≡ true → has_char (s ∷ []) ≡ false
+number_no_char Flag e = refl
+number_no_char S8 e = refl
+number_no_char U8 e = refl
+number_no_char S16 e = refl
+number_no_char U16 e = refl
+number_no_char S32 e = refl
+number_no_char U32 e = refl
+number_no_char S64 e = refl
+number_no_char U64 e = refl
+number_no_char Char e = cc
+
+pub item_size-one : (s : Scalar) → item_size (s ∷ []) ≡ size_of s
+item_size-one Flag = refl
+item_size-one S8 = refl
+item_size-one U8 = refl
+item_size-one S16 = refl
+item_size-one U16 = refl
+item_size-one S32 = refl
+item_size-one U32 = refl
+item_size-one S64 = refl
+item_size-one U64 = refl
+item_size-one Char = refl
+
+-- a number copied is its bytes copied
+one_copied : (s : Scalar) (source bytes : List ℕ) → is_whole_number s ≡ true → copied_from 0 (s ∷ []) source bytes ≡ take (size_of s) source ++ drop (size_of s) bytes
+unfolding copied_from
+one_copied Flag source bytes t = cc
+one_copied S8 source bytes t = refl
+one_copied U8 source bytes t = refl
+one_copied S16 source bytes t = refl
+one_copied U16 source bytes t = refl
+one_copied S32 source bytes t = refl
+one_copied U32 source bytes t = refl
+one_copied S64 source bytes t = refl
+one_copied U64 source bytes t = refl
+one_copied Char source bytes t = cc
+
+numbers_copied : (s : Scalar) (n : ℕ) (source bytes : List ℕ) → is_whole_number s ≡ true → size_of s * n ≤ length source → copied (s ∷ []) source bytes n ≡ take (size_of s * n) source ++ drop (size_of s * n) bytes
+unfolding copied
+numbers_copied s zero source bytes t l = let z : size_of s * zero ≡ 0 = omega arith in rw z refl
+numbers_copied s (suc n) source bytes t l =
+    let w = size_of s in
+    let e : w * suc n ≡ w + w * n = omega arith in
+    let first : length (take w source) ≡ w = length-take-le w source (omega (arith, e)) in
+    rw (
+      item_size-one s,
+      one_copied s source bytes t,
+      take_at (take w source) (drop w bytes) w first,
+      drop_at (take w source) (drop w bytes) w first,
+      numbers_copied s n (drop w source) (drop w bytes) t (omega (arith, e, length-drop w source)),
+      e,
+      take-add w (w * n) source,
+      drop-drop (w * n) w bytes,
+    )
+    (simp append_assoc)
+
+pub numbers_copied_at : (s : Scalar) (n : ℕ) (source m new : List ℕ) (from to len : ℕ) → is_whole_number s ≡ true → IsBytes source → from + item_size (s ∷ []) * n ≤ length source → len ≡ item_size (s ∷ []) * n → new ≡ put_at m to (take len (drop from source)) → IsSomeAnd (items_at (s ∷ []) source from n) (λ xs. new ≡ stored_at (s ∷ []) m to xs)
+numbers_copied_at s n source m new from to len t h l e f =
+    let room : size_of s * n ≤ length (drop from source) = rw (← item_size-one s) (omega (arith, l, length-drop from source)) in
+    let size : length (take (item_size (s ∷ []) * n) (drop from source)) ≡ item_size (s ∷ []) * n = length-take-le (item_size (s ∷ []) * n) (drop from source) (omega (arith, l, length-drop from source)) in
+    let same : put_at m to (take len (drop from source)) ≡ take to m ++ copied (s ∷ []) (drop from source) (drop to m) n =
+    rw (numbers_copied s n (drop from source) (drop to m) t room, e, size, item_size-one s, drop-drop (size_of s * n) to m) (append_assoc (take to m) _ _) in
+    stored_at_from_copied (s ∷ []) n source m new from to h l (items-no_char (s ∷ []) n (drop from source) (number_no_char s t)) (f ∙ same)
+
+nothing_copied : (n : ℕ) (source bytes : List ℕ) → copied [] source bytes n ≡ bytes
+unfolding copied copied_from
+nothing_copied zero source bytes = refl
+nothing_copied (suc n) source bytes = nothing_copied n source bytes
+
+pub nothing_copied_at : (n : ℕ) (source m : List ℕ) (from to : ℕ) → IsBytes source → from + item_size [] * n ≤ length source → IsSomeAnd (items_at [] source from n) (λ xs. m ≡ stored_at [] m to xs)
+nothing_copied_at n source m from to h l =
+    stored_at_from_copied [] n source m m from to h l (items-no_char [] n (drop from source) refl)
+    (rw (nothing_copied n (drop from source) (drop to m)) (sym (take-append-drop to m)))
+
+-- a call that is Ok, where the items are there
+pub never_none : {A : Type 0} (o : Option A) → is_some o ≡ true → (false ≡ true → IsNone o) × (IsNone o → false ≡ true)
+never_none None e = cc
+never_none (Some x) e = (λ f. cc, λ f. cc)

@@ -1,0 +1,5 @@
+pub mod ByteLemmas
+pub mod NumberLemmas
+pub mod FieldLemmas
+pub mod ItemLemmas
+pub mod CopyLemmas

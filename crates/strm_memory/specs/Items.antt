@@ -1,0 +1,77 @@
+-- The items of a region of a memory, and a memory with items stored in a region.
+-- Canonical ABI, "Loading" and "Storing", for records and lists: fields at their alignments, items one
+-- after the other. The padding between fields and behind them is never written.
+use Rattle.std.specs.Prelude.{ℕ, zero, suc, ◌+◌, ℤ, Bool, true, false, List, [], ◌∷◌, ◌++◌, take, drop, slice_index_or, Option, Some, None, option_and_then}
+use Rattle.std.specs.Option.{option_map}
+use Rattle.strm_codes.specs.Scalars.{size_of, is_whole_number}
+use Rattle.strm_codes.specs.Layout.{gap_before, item_size}
+use Rattle.strm_codes.specs.Items.{FitsItem}
+use Rattle.strm_codes.specs.declared.scalars.Scalar.{Scalar}
+use Rattle.strm_codes.specs.declared.scalars.Scalar.TheVariants.{Bool as Flag}
+use Rattle.strm_codes.specs.declared.payloads.Payload.{Payload}
+use Rattle.strm_codes.specs.declared.payloads.Payload.TheVariants.{Nothing, One, Tuple}
+use Rattle.strm_memory.specs.Bytes.{le, to_le}
+use Rattle.strm_memory.specs.Numbers.{lifted, lowered}
+
+-- the scalar of a field, from 0
+abbrev pub scalar_at : List Scalar → ℕ → Scalar
+scalar_at ss k = slice_index_or ss k Flag
+
+-- the numbers of the fields that may begin at an offset of an item, where the bytes begin there too;
+-- none where a field is none
+unfoldable pub decode_from : ℕ → List Scalar → List ℕ → Option (List ℤ)
+decode_from at [] bytes = Some []
+decode_from at (s ∷ ss) bytes =
+    let gap = gap_before at (size_of s) in
+    option_and_then
+    (λ x. option_map (λ xs. x ∷ xs) (decode_from (at + gap + size_of s) ss (drop (gap + size_of s) bytes)))
+    (lifted s (le (take (size_of s) (drop gap bytes))))
+
+-- the bytes with these numbers in those fields, and all else as it was
+unfoldable pub encode_from : ℕ → List Scalar → List ℕ → List ℤ → List ℕ
+encode_from at [] bytes xs = bytes
+encode_from at (s ∷ ss) bytes [] = bytes
+encode_from at (s ∷ ss) bytes (x ∷ xs) =
+    let gap = gap_before at (size_of s) in
+    take gap bytes
+    ++ to_le (size_of s) (lowered s x)
+    ++ encode_from (at + gap + size_of s) ss (drop (gap + size_of s) bytes) xs
+
+-- the item at the front of the bytes
+abbrev pub decode : List Scalar → List ℕ → Option (List ℤ)
+decode ss bytes = decode_from 0 ss bytes
+
+-- the bytes with an item at their front
+abbrev pub encode : List Scalar → List ℕ → List ℤ → List ℕ
+encode ss bytes x = encode_from 0 ss bytes x
+
+-- so many items from the front of the bytes on; none where one of them is none
+unfoldable pub items : List Scalar → List ℕ → ℕ → Option (List (List ℤ))
+items ss bytes zero = Some []
+items ss bytes (suc n) =
+    option_and_then (λ x. option_map (λ xs. x ∷ xs) (items ss (drop (item_size ss) bytes) n)) (decode ss bytes)
+
+-- the bytes with these items from their front on, and all else as it was
+unfoldable pub stored : List Scalar → List ℕ → List (List ℤ) → List ℕ
+stored ss bytes [] = bytes
+stored ss bytes (x ∷ xs) =
+    take (item_size ss) (encode ss bytes x) ++ stored ss (drop (item_size ss) (encode ss bytes x)) xs
+
+-- so many items of a memory from an address on
+abbrev pub items_at : List Scalar → List ℕ → ℕ → ℕ → Option (List (List ℤ))
+items_at ss memory address n = items ss (drop address memory) n
+
+-- a memory with these items from an address on, and all else as it was
+abbrev pub stored_at : List Scalar → List ℕ → ℕ → List (List ℤ) → List ℕ
+stored_at ss memory address xs = take address memory ++ stored ss (drop address memory) xs
+
+-- each is an item of these fields
+abbrev pub AreItems : List Scalar → List (List ℤ) → Type 0
+AreItems ss [] = Unit {0}
+AreItems ss (x ∷ xs) = FitsItem ss x × AreItems ss xs
+
+-- any bytes are items of these payloads: nothing, and one whole number
+abbrev pub is_number_or_none : Payload → Bool
+is_number_or_none Nothing = true
+is_number_or_none (One scalar) = is_whole_number scalar
+is_number_or_none (Tuple shape) = false

@@ -1,0 +1,6 @@
+pub mod Bytes
+pub mod Numbers
+pub mod Items
+pub mod Copies
+pub mod Region
+pub mod Lending

@@ -1,0 +1,9 @@
+//! The memories of guests, where regions of items may lie in them, and the copies of items.
+//!
+//! A payload is seen as the list of its scalars. `Items.antt` says which items lie in a region and
+//! what a memory is with items stored in one; every copy here is said by these two alone.
+#![tactic(auto)]
+
+pub mod copies;
+mod fields;
+pub mod memories;

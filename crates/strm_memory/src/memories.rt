@@ -1,0 +1,167 @@
+//! The memory of a guest, and where regions of items may lie in it.
+//!
+//! Source: wasmtime, `futures_and_streams.rs`, `check_bounds`; Canonical ABI, the traps of buffers.
+
+ghost use Rattle.std.specs.Prelude.{◌≡◌, ◌+◌, ◌*◌, ◌≤◌, ◌↔◌, [], length, replicate, take, drop, is_err, IsTrue, IsNone, IfOk, OnOk, OnErr, IsOk, IsErr, IsSomeAnd};
+ghost use Rattle.strm_codes.specs.Layout.{scalars_of, item_size};
+ghost use Rattle.strm_memory.specs.Bytes.{put_at};
+ghost use Rattle.strm_memory.specs.Items.{items_at, stored_at, is_number_or_none};
+
+use crate::copies::{BadItem, copy_region};
+use std::alloc::Global;
+use std::marker::Model;
+use strm_codes::counts::{ItemCount, OutOfMemory};
+use strm_codes::payloads::Payload;
+
+/// The bytes of a guest. Addresses begin at 0.
+#[derive(Drop)]
+pub struct GuestMemory {
+    bytes: Vec<u8>,
+}
+
+impl Model for GuestMemory {
+    ghost use Rattle.std.specs.Prelude.{ℕ, List};
+
+    ghost Value = { List ℕ };
+
+    ghost view = { λ m. m.bytes.items };
+}
+
+/// Some bytes pass the memory's end.
+#[derive(Clone, Copy, Debug, PartialEq, Eq)]
+pub struct OutOfBounds;
+
+/// Why no items may lie there.
+#[derive(Clone, Copy, Debug, PartialEq, Eq)]
+pub enum RegionError {
+    /// The region passes the memory's end.
+    OutOfBounds,
+    /// The address is no multiple of the payload's alignment.
+    NotAligned,
+}
+
+impl GuestMemory {
+    ghost use Rattle.std.specs.Borrow.{sem};
+    ghost use Rattle.strm_memory.specs.Lending.{LendsBytes};
+    ghost use Rattle.strm_memory.specs.Region.{region_of, bytes_out_of_bounds};
+
+    /// So many zero bytes. After `OutOfMemory` nothing was kept.
+    pub fn new(alloc: Global, size: u32) -> Result<GuestMemory, OutOfMemory>
+        ensures { IfOk result (λ memory. memory ≡ replicate size 0) }
+    {
+        match vec![in alloc; 0u8; size as usize] {
+            Ok(bytes) => Ok(GuestMemory { bytes }),
+            Err(_) => Err(OutOfMemory),
+        }
+    }
+
+    /// No bytes: what stands in place of a memory that is lent. Takes no memory.
+    pub fn empty(alloc: Global) -> GuestMemory
+        ensures { result ≡ [] }
+    {
+        GuestMemory {
+            bytes: Vec::new(alloc),
+        }
+    }
+
+    /// How many bytes there are.
+    pub fn len(&self) -> usize
+        ensures { result ≡ length self.now }
+    {
+        self.bytes.len()
+    }
+
+    /// All bytes.
+    pub fn bytes(&self) -> &[u8]
+        ensures { result.now ≡ self.now }
+    {
+        self.bytes.as_slice()
+    }
+
+    /// All bytes, to write.
+    pub fn bytes_mut(&mut self) -> &mut [u8]
+        ensures value { result.now ≡ self.old }
+        ensures* lends { sem 𝓛 (LendsBytes self.entry result) }
+    {
+        self.bytes.as_mut_slice()
+    }
+
+    /// So many bytes from an address on.
+    pub fn slice(&self, address: u32, len: u32) -> &[u8]
+        requires { address + len ≤ length self.now }
+        ensures { result.now ≡ take len (drop address self.now) }
+    {
+        &self.bytes[address as usize..address as usize + len as usize]
+    }
+
+    /// Writes bytes from an address on. No bytes look at no address. Takes no memory.
+    pub fn store(&mut self, address: u32, bytes: &[u8]) -> Result<(), OutOfBounds>
+        ensures out_of_bounds { is_err result ≡ bytes_out_of_bounds (length self.old) address (length bytes.now) }
+        ensures ok { OnOk result (self.new ≡ put_at self.old address bytes.now) }
+        ensures err { OnErr result (self.new ≡ self.old) }
+        ensures no_bytes { length bytes.now ≡ 0 → self.new ≡ self.old }
+    {
+        if bytes.is_empty() {
+            return Ok(());
+        }
+        let from = address as usize;
+        let size = self.bytes.len();
+        if bytes.len() > size || from > size - bytes.len() {
+            return Err(OutOfBounds);
+        }
+        self.bytes[from..from + bytes.len()].copy_from_slice(bytes);
+        Ok(())
+    }
+
+    /// Whether so many items may lie from an address on. Takes no memory.
+    pub fn region(
+        &self,
+        payload: Payload,
+        address: u32,
+        count: ItemCount,
+    ) -> Result<(), RegionError>
+        ensures { result ≡ region_of (length self.now) (scalars_of payload) address count }
+    {
+        let size = payload.size() as usize;
+        let count = count.as_usize();
+        if count == 0 || size == 0 {
+            return Ok(());
+        }
+        if self.bytes.len() < address as usize + size * count {
+            return Err(RegionError::OutOfBounds);
+        }
+        if address % payload.align() > 0 {
+            return Err(RegionError::NotAligned);
+        }
+        Ok(())
+    }
+
+    /// Copies so many items from an address of another memory to one of this, as by lifting all of
+    /// them and then lowering them. Takes no memory.
+    pub fn receive(
+        &mut self,
+        address: u32,
+        source: &GuestMemory,
+        from: u32,
+        payload: Payload,
+        count: ItemCount,
+    ) -> Result<(), BadItem>
+        requires source_holds { from + item_size (scalars_of payload) * count ≤ length source.now }
+        requires self_holds { address + item_size (scalars_of payload) * count ≤ length self.old }
+        ensures ok { OnOk result (IsSomeAnd (items_at (scalars_of payload) source.now from count)
+            (λ xs. self.new ≡ stored_at (scalars_of payload) self.old address xs)) }
+        ensures bad { IsErr result ↔ IsNone (items_at (scalars_of payload) source.now from count) }
+        ensures err { OnErr result (self.new ≡ self.old) }
+        ensures number_or_none { IsTrue (is_number_or_none payload) → IsOk result }
+    {
+        let to = address as usize;
+        copy_region(
+            source.bytes.as_slice(),
+            from as usize,
+            self.bytes.as_mut_slice(),
+            to,
+            payload,
+            count,
+        )
+    }
+}
