@@ -65,3 +65,10 @@ set-put_at m at x h = rw (set_split m at x h, add-one) (sym (append_assoc (take 
 -- one byte read
 pub take-one : (m : List ℕ) (at : ℕ) → at < length m → take 1 (drop at m) ≡ get_or m at 0 ∷ []
 take-one m at h = rw (drop_more m at 0 h) refl
+
+pub le-take-lt : (width : ℕ) (bytes : List ℕ) → IsBytes bytes → le (take width bytes) < 256 ^ width
+le-take-lt zero bytes h = omega arith
+le-take-lt (suc width) [] h = rw pow-suc (omega (arith, le-take-lt width [] h))
+le-take-lt (suc width) (b ∷ bytes) h =
+    let tail : IsBytes bytes = λ k. h (suc k) in
+    rw pow-suc (omega (arith, h 0, le-take-lt width bytes tail))

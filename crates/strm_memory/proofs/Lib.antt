@@ -3,3 +3,4 @@ pub mod NumberLemmas
 pub mod FieldLemmas
 pub mod ItemLemmas
 pub mod CopyLemmas
+pub mod RegionLemmas

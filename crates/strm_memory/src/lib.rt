@@ -6,4 +6,5 @@
 
 pub mod copies;
 mod fields;
+pub mod laws;
 pub mod memories;

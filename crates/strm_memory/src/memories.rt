@@ -4,7 +4,7 @@
 
 ghost use Rattle.std.specs.Prelude.{◌≡◌, ◌+◌, ◌*◌, ◌≤◌, ◌↔◌, [], length, replicate, take, drop, is_err, IsTrue, IsNone, IfOk, OnOk, OnErr, IsOk, IsErr, IsSomeAnd};
 ghost use Rattle.strm_codes.specs.Layout.{scalars_of, item_size};
-ghost use Rattle.strm_memory.specs.Bytes.{put_at};
+ghost use Rattle.strm_memory.specs.Bytes.{put_at, bytes_at};
 ghost use Rattle.strm_memory.specs.Items.{items_at, stored_at, is_number_or_none};
 
 use crate::copies::{BadItem, copy_region};
@@ -89,7 +89,7 @@ impl GuestMemory {
     /// So many bytes from an address on.
     pub fn slice(&self, address: u32, len: u32) -> &[u8]
         requires { address + len ≤ length self.now }
-        ensures { result.now ≡ take len (drop address self.now) }
+        ensures { result.now ≡ bytes_at self.now address len }
     {
         &self.bytes[address as usize..address as usize + len as usize]
     }
