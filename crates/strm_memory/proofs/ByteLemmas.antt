@@ -1,6 +1,6 @@
 -- Numbers as bytes.
-use Rattle.std.proofs.Common.{◌≡◌, ℕ, zero, suc, ◌+◌, ◌*◌, ◌^◌, ◌<◌, ◌≤◌, ◌%◌, ◌/◌, List, [], ◌∷◌, ◌++◌, length, take, drop, get_or, set, refl, sym, ap, add-one, append_assoc, arith, length-drop}
-use Rattle.std.proofs.lemmas.List.{length-take-le, drop-drop, get_or-drop, drop_more, set_split}
+use Rattle.std.proofs.Common.{◌≡◌, ℕ, zero, suc, ◌+◌, ◌*◌, ◌^◌, ◌<◌, ◌≤◌, ◌%◌, ◌/◌, ◌-◌, List, [], ◌∷◌, ◌++◌, length, take, drop, get_or, set, refl, sym, ap, add-one, append_assoc, arith, length-drop}
+use Rattle.std.proofs.lemmas.List.{length-take-le, drop-drop, get_or-drop, drop_more, set_split, take_more_set, drop-set-lt}
 use Rattle.std.proofs.Math.Seq.{take-add}
 use Rattle.std.proofs.Math.Nat.{pow-suc}
 use Rattle.strm_memory.specs.Bytes.{le, to_le, put_at, IsBytes}
@@ -72,3 +72,21 @@ le-take-lt (suc width) [] h = rw pow-suc (omega (arith, le-take-lt width [] h))
 le-take-lt (suc width) (b ∷ bytes) h =
     let tail : IsBytes bytes = λ k. h (suc k) in
     rw pow-suc (omega (arith, h 0, le-take-lt width bytes tail))
+
+-- one byte of a number stored, and the rest behind it
+put_at-cons : (m : List ℕ) (at x : ℕ) (xs : List ℕ) → at < length m → put_at (set m at x) (at + 1) xs ≡ put_at m at (x ∷ xs)
+put_at-cons m at x xs h =
+    let past : at < at + 1 + length xs = omega arith in
+    let same : at + 1 + length xs ≡ at + length (x ∷ xs) = omega arith in
+    rw (take_more_set m at x h, drop-set-lt (at + 1 + length xs) m at x past, same) (simp append_assoc)
+
+to_le-more : (width k n : ℕ) → k < width → to_le (width - k) n ≡ n % 256 ∷ to_le (width - (k + 1)) (n / 256)
+to_le-more width k n h =
+    let e : width - k ≡ suc (width - (k + 1)) = omega arith in
+    rw e refl
+
+pub store_more : (m : List ℕ) (at width k n : ℕ) → at + width ≤ length m → k < width → put_at (set m (at + k) (n % 256)) (at + (k + 1)) (to_le (width - (k + 1)) (n / 256)) ≡ put_at m (at + k) (to_le (width - k) n)
+store_more m at width k n h less =
+    let inside : at + k < length m = omega arith in
+    let next : at + (k + 1) ≡ at + k + 1 = omega arith in
+    rw (to_le-more width k n less, next) (put_at-cons m (at + k) (n % 256) (to_le (width - (k + 1)) (n / 256)) inside)

@@ -1,19 +1,21 @@
 -- A copy is the same as lifting all items and then lowering them, and a copy of numbers is one of bytes.
 use Rattle.std.proofs.Common.{◌≡◌, ℕ, zero, suc, ◌+◌, ◌*◌, ◌<◌, ◌≤◌, ◌-◌, ℤ, pos, Bool, true, false, ◌||◌, List, [], ◌∷◌, ◌++◌, length, take, drop, get_or, Option, Some, None, refl, sym, ap, ◌∙◌, append_assoc, arith, length-drop}
 use Rattle.std.proofs.lemmas.Option.{option_and_then_some}
-use Rattle.std.proofs.lemmas.List.{length-take-le, drop-drop, take_at, drop_at, take-append-drop}
+use Rattle.std.proofs.lemmas.List.{length-take-le, drop-drop, take_at, drop_at, take-append-drop, append-nil}
 use Rattle.std.proofs.Math.Seq.{take-add}
 use Rattle.std.specs.Option.{option_map}
 use Rattle.std.specs.List.{list_any}
-use Rattle.std.specs.Prelude.{is_some, IsNone, IsSomeAnd}
+use Rattle.std.specs.Prelude.{is_some, IsNone, IsSomeAnd, IsTrue}
 use Rattle.strm_codes.specs.Scalars.{size_of, is_whole_number}
-use Rattle.strm_codes.specs.Layout.{gap_before, end_of, item_size}
+use Rattle.strm_codes.specs.declared.payloads.Payload.{Payload}
+use Rattle.strm_codes.specs.declared.payloads.Payload.TheVariants.{Nothing, One, Tuple}
+use Rattle.strm_codes.specs.Layout.{scalars_of, gap_before, end_of, item_size}
 use Rattle.strm_codes.specs.Sameness.{same_scalar}
 use Rattle.strm_codes.specs.declared.scalars.Scalar.{Scalar}
 use Rattle.strm_codes.specs.declared.scalars.Scalar.TheVariants.{Bool as Flag, S8, U8, S16, U16, S32, U32, S64, U64, Char}
-use Rattle.strm_memory.specs.Bytes.{le, to_le, put_at, IsBytes}
+use Rattle.strm_memory.specs.Bytes.{le, to_le, put_at, bytes_at, IsBytes}
 use Rattle.strm_memory.specs.Numbers.{lifted, lowered}
-use Rattle.strm_memory.specs.Items.{decode_from, encode_from, decode, encode, items, stored, items_at, stored_at}
+use Rattle.strm_memory.specs.Items.{decode_from, encode_from, decode, encode, items, stored, items_at, stored_at, is_number_or_none}
 use Rattle.strm_memory.specs.Copies.{settled, copied_from, copied, has_char}
 use Rattle.strm_memory.proofs.ByteLemmas.{IsBytes-drop, IsBytes-take, le-lt}
 use Rattle.strm_memory.proofs.NumberLemmas.{lowered-lifted}
@@ -171,3 +173,13 @@ nothing_copied_at n source m from to h l =
 pub never_none : {A : Type 0} (o : Option A) → is_some o ≡ true → (false ≡ true → IsNone o) × (IsNone o → false ≡ true)
 never_none None e = cc
 never_none (Some x) e = (λ f. cc, λ f. cc)
+
+-- bytes moved within one memory are numbers moved
+pub moved_items : (payload : Payload) (n : ℕ) (m new : List ℕ) (from to len : ℕ) → IsTrue (is_number_or_none payload) → IsBytes m → from + item_size (scalars_of payload) * n ≤ length m → len ≡ item_size (scalars_of payload) * n → new ≡ put_at m to (bytes_at m from len) → IsSomeAnd (items_at (scalars_of payload) m from n) (λ xs. new ≡ stored_at (scalars_of payload) m to xs)
+moved_items Nothing n m new from to len t h l e f =
+    let z : len ≡ 0 = omega arith in
+    let place : to + 0 ≡ to = omega arith in
+    let same : new ≡ m = f ∙ rw (z, place, append-nil) (take-append-drop to m) in
+    rw same (nothing_copied_at n m m from to h l)
+moved_items (One s) n m new from to len t h l e f = numbers_copied_at s n m m new from to len t h l e f
+moved_items (Tuple shape) n m new from to len t h l e f = cc

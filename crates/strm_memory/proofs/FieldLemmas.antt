@@ -1,11 +1,15 @@
 -- One field of an item more, in a loop over its fields. A field begins at `start`, and the ones before it
 -- end at `at`.
-use Rattle.std.proofs.Common.{◌≡◌, ℕ, ◌+◌, ◌<◌, ◌≤◌, ℤ, pos, Bool, true, false, cond, List, [], ◌∷◌, ◌++◌, length, take, drop, get_or, Option, Some, None, refl, ap, ◌∙◌, append_assoc, add_assoc, arith, length-append, length-drop, set, min}
+use Rattle.std.proofs.Common.{◌≡◌, ℕ, zero, suc, ◌+◌, ◌<◌, ◌≤◌, ℤ, pos, Bool, true, false, cond, List, [], ◌∷◌, ◌++◌, length, take, drop, get_or, Option, Some, None, refl, ap, ◌∙◌, append_assoc, add_assoc, arith, length-append, length-drop, set, min, append-nil, ◌^◌, negsuc, lit≤, sym}
 use Rattle.std.proofs.lemmas.List.{length-take-le, drop-drop, take_at, drop_at, take-append-drop, drop_more, drop_all}
 use Rattle.std.proofs.Math.Seq.{take-add}
 use Rattle.std.specs.Option.{option_map}
-use Rattle.std.specs.Prelude.{option_and_then, is_some}
-use Rattle.strm_codes.specs.Scalars.{size_of}
+use Rattle.std.specs.Prelude.{option_and_then, is_some, All}
+use Rattle.std.specs.Int.{w128}
+use Rattle.std.proofs.lemmas.Int.{ints}
+use mir.Val.{SFits}
+use Rattle.strm_codes.specs.Scalars.{size_of, FitsScalar, IsBelow, IsWithin}
+use Rattle.strm_codes.specs.Items.{FitsItem, IsNumber}
 use Rattle.strm_codes.specs.Layout.{gap_before, end_of}
 use Rattle.strm_codes.specs.declared.scalars.Scalar.{Scalar}
 use Rattle.strm_codes.specs.declared.scalars.Scalar.TheVariants.{Bool as Flag, S8, U8, S16, U16, S32, U32, S64, U64, Char}
@@ -13,7 +17,7 @@ use Rattle.strm_memory.specs.Bytes.{le, to_le, put_at}
 use Rattle.strm_memory.specs.Numbers.{lifted, lowered}
 use Rattle.strm_memory.specs.Items.{decode_from, encode_from}
 use Rattle.strm_memory.specs.Copies.{settled, copied_from}
-use Rattle.strm_memory.proofs.ByteLemmas.{set-put_at, take-one}
+use Rattle.strm_memory.proofs.ByteLemmas.{set-put_at, take-one, length-to_le}
 
 -- what is known of a field in a loop
 pub record IsField (ss : List Scalar) (k at start size : ℕ) (s : Scalar) : Type 0 where
@@ -109,3 +113,113 @@ good_step ss k at start size s source from b f e =
 pub good_end : (ss : List Scalar) (k at : ℕ) (source : List ℕ) → length ss ≤ k → is_some (decode_from at (drop k ss) source) ≡ true
 unfolding decode_from
 good_end ss k at source h = rw (drop_all k ss h) refl
+
+decode_cons : (s : Scalar) (ss : List Scalar) (source : List ℕ) (from at gap : ℕ) (o : Option ℤ) → gap ≡ gap_before at (size_of s) → lifted s (le (take (size_of s) (drop (from + (at + gap)) source))) ≡ o → decode_from at (s ∷ ss) (drop (from + at) source) ≡ option_and_then (λ x. option_map (λ xs. x ∷ xs) (decode_from (at + gap + size_of s) ss (drop (from + (at + gap + size_of s)) source))) o
+unfolding decode_from
+decode_cons s ss source from at gap o f e =
+    let b : from + (at + gap + size_of s) ≡ from + at + (gap + size_of s) = omega arith in
+    let q : from + (at + gap) ≡ from + at + gap = omega arith in
+    rw (← e, b, q, ← f, drop-drop gap (from + at) source, drop-drop (gap + size_of s) (from + at) source) refl
+
+-- these numbers, and then the others where there are any
+abbrev pub with_front : {A : Type 0} → List A → Option (List A) → Option (List A)
+with_front front o = option_map (λ xs. front ++ xs) o
+
+pub with_front-more : {A : Type 0} (front : List A) (x : A) (o : Option (List A)) → with_front (front ++ x ∷ []) o ≡ with_front front (option_map (λ xs. x ∷ xs) o)
+with_front-more front x None = refl
+with_front-more front x (Some xs) = ap Some (append_assoc front (x ∷ []) xs)
+
+-- one field lifted
+pub decode_step : (ss : List Scalar) (k at start size : ℕ) (s : Scalar) (source : List ℕ) (from : ℕ) (front : List ℤ) (x : ℤ) → IsField ss k at start size s → Some x ≡ lifted s (le (take (size_of s) (drop (from + start) source))) → with_front (front ++ x ∷ []) (decode_from (start + size) (drop (k + 1) ss) (drop (from + (start + size)) source)) ≡ with_front front (decode_from at (drop k ss) (drop (from + at) source))
+decode_step ss k at start size s source from front x f e =
+    let e' = rw f.begins at (sym e) in
+    rw (drop_field ss k at start size s f, f.begins, f.takes, decode_cons s (drop (k + 1) ss) source from at (gap_before at (size_of s)) (Some x) refl e')
+    (with_front-more front x _)
+
+pub decode_stop : (ss : List Scalar) (k at start size : ℕ) (s : Scalar) (source : List ℕ) (from : ℕ) (front : List ℤ) → IsField ss k at start size s → None ≡ lifted s (le (take (size_of s) (drop (from + start) source))) → with_front front (decode_from at (drop k ss) (drop (from + at) source)) ≡ None
+decode_stop ss k at start size s source from front f e =
+    let e' = rw f.begins at (sym e) in
+    rw (drop_field ss k at start size s f, decode_cons s (drop (k + 1) ss) source from at (gap_before at (size_of s)) None refl e') refl
+
+pub decode_end : (ss : List Scalar) (k at : ℕ) (source : List ℕ) (front : List ℤ) → length ss ≤ k → with_front front (decode_from at (drop k ss) source) ≡ Some front
+unfolding decode_from
+decode_end ss k at source front h = rw (drop_all k ss h) (ap Some (append-nil front))
+
+encode_cons : (s : Scalar) (ss : List Scalar) (m : List ℕ) (x : ℤ) (xs : List ℤ) (to at gap : ℕ) → gap ≡ gap_before at (size_of s) → to + at + gap + size_of s ≤ length m → take (to + at + gap + size_of s) (put_at m (to + at + gap) (to_le (size_of s) (lowered s x))) ++ encode_from (at + gap + size_of s) ss (drop (to + at + gap + size_of s) (put_at m (to + at + gap) (to_le (size_of s) (lowered s x)))) xs ≡ take (to + at) m ++ encode_from at (s ∷ ss) (drop (to + at) m) (x ∷ xs)
+unfolding encode_from
+encode_cons s ss m x xs to at gap f h =
+    rw (← f) (put_field m (to + at) gap (size_of s) (to_le (size_of s) (lowered s x)) (λ b. encode_from (at + gap + size_of s) ss b xs) (length-to_le (size_of s) (lowered s x)) h)
+
+-- one field lowered
+pub encode_step : (ss : List Scalar) (k at start size : ℕ) (s : Scalar) (m : List ℕ) (to : ℕ) (xs : List ℤ) (x : ℤ) → IsField ss k at start size s → k < length xs → get_or xs k (pos 0) ≡ x → to + start + size ≤ length m → take (to + (start + size)) (put_at m (to + start) (to_le (size_of s) (lowered s x))) ++ encode_from (start + size) (drop (k + 1) ss) (drop (to + (start + size)) (put_at m (to + start) (to_le (size_of s) (lowered s x)))) (drop (k + 1) xs) ≡ take (to + at) m ++ encode_from at (drop k ss) (drop (to + at) m) (drop k xs)
+encode_step ss k at start size s m to xs x f l e h =
+    let gap = gap_before at (size_of s) in
+    let here : drop k xs ≡ x ∷ drop (k + 1) xs = drop_more xs k (pos 0) l ∙ ap (λ y. y ∷ drop (k + 1) xs) e in
+    let a : to + (at + gap + size_of s) ≡ to + at + gap + size_of s = omega arith in
+    let p : to + (at + gap) ≡ to + at + gap = omega arith in
+    let room : to + at + gap + size_of s ≤ length m = omega (arith, h, f.begins, f.takes) in
+    rw (drop_field ss k at start size s f, here, f.begins, f.takes, a, p)
+    (encode_cons s (drop (k + 1) ss) m x (drop (k + 1) xs) to at gap refl room)
+
+pub encode_end : (ss : List Scalar) (k at n : ℕ) (m : List ℕ) (xs : List ℤ) → length ss ≤ k → take n m ++ encode_from at (drop k ss) (drop n m) xs ≡ m
+unfolding encode_from
+encode_end ss k at n m xs h = rw (drop_all k ss h) (take-append-drop n m)
+
+-- the numbers behind one that fits do too
+pub fits_step : (ss : List Scalar) (k : ℕ) (xs : List ℤ) → k < length ss → k < length xs → FitsItem (drop k ss) (drop k xs) → FitsScalar (get_or ss k Flag) (get_or xs k (pos 0)) × FitsItem (drop (k + 1) ss) (drop (k + 1) xs)
+fits_step ss k xs h l f = rw (drop_more ss k Flag h, drop_more xs k (pos 0) l) at f
+
+pub length-FitsItem : (ss : List Scalar) (xs : List ℤ) → FitsItem ss xs → length xs ≡ length ss
+length-FitsItem [] [] f = refl
+length-FitsItem [] (x ∷ xs) f = absurd f
+length-FitsItem (s ∷ ss) [] f = absurd f
+length-FitsItem (s ∷ ss) (x ∷ xs) f = omega (arith, length-FitsItem ss xs f.1)
+
+-- what fits a scalar fits 128 bits
+below_fits : (limit : ℕ) (x : ℤ) → limit ≤ 2 ^ 64 → IsBelow limit x → SFits w128 x
+below_fits limit (pos n) h (a, b) = record { sfits = omega (arith, ints) }
+below_fits limit (negsuc n) h (a, b) = record { sfits = omega (arith, ints) }
+
+within_fits : (half : ℕ) (x : ℤ) → half ≤ 2 ^ 64 → IsWithin half x → SFits w128 x
+within_fits half (pos n) h (a, b) = record { sfits = omega (arith, ints) }
+within_fits half (negsuc n) h (a, b) = record { sfits = omega (arith, ints) }
+
+pub SFits-fits : (s : Scalar) (x : ℤ) → FitsScalar s x → SFits w128 x
+SFits-fits Flag x f = below_fits 2 x (lit≤ tt) f
+SFits-fits U8 x f = below_fits (2 ^ 8) x (lit≤ tt) f
+SFits-fits S8 x f = within_fits (2 ^ 7) x (lit≤ tt) f
+SFits-fits U16 x f = below_fits (2 ^ 16) x (lit≤ tt) f
+SFits-fits S16 x f = within_fits (2 ^ 15) x (lit≤ tt) f
+SFits-fits U32 x f = below_fits (2 ^ 32) x (lit≤ tt) f
+SFits-fits S32 x f = within_fits (2 ^ 31) x (lit≤ tt) f
+SFits-fits U64 x f = below_fits (2 ^ 64) x (lit≤ tt) f
+SFits-fits S64 x f = within_fits (2 ^ 63) x (lit≤ tt) f
+SFits-fits Char x f = below_fits (2 ^ 32) x (lit≤ tt) f.0
+
+below_number : (limit : ℕ) (x : ℤ) → limit ≤ 2 ^ 64 → IsBelow limit x → IsNumber x
+below_number limit (pos n) h (a, b) = (omega (arith, ints), omega (arith, ints))
+below_number limit (negsuc n) h (a, b) = absurd (omega (arith, ints))
+
+within_number : (half : ℕ) (x : ℤ) → half ≤ 2 ^ 63 → IsWithin half x → IsNumber x
+within_number half (pos n) h (a, b) = (omega (arith, ints), omega (arith, ints))
+within_number half (negsuc n) h (a, b) = (omega (arith, ints), omega (arith, ints))
+
+IsNumber-fits : (s : Scalar) (x : ℤ) → FitsScalar s x → IsNumber x
+IsNumber-fits Flag x f = below_number 2 x (lit≤ tt) f
+IsNumber-fits U8 x f = below_number (2 ^ 8) x (lit≤ tt) f
+IsNumber-fits S8 x f = within_number (2 ^ 7) x (lit≤ tt) f
+IsNumber-fits U16 x f = below_number (2 ^ 16) x (lit≤ tt) f
+IsNumber-fits S16 x f = within_number (2 ^ 15) x (lit≤ tt) f
+IsNumber-fits U32 x f = below_number (2 ^ 32) x (lit≤ tt) f
+IsNumber-fits S32 x f = within_number (2 ^ 31) x (lit≤ tt) f
+IsNumber-fits U64 x f = below_number (2 ^ 64) x (lit≤ tt) f
+IsNumber-fits S64 x f = within_number (2 ^ 63) x (lit≤ tt) f
+IsNumber-fits Char x f = below_number (2 ^ 32) x (lit≤ tt) f.0
+
+-- an item's numbers are numbers
+pub IsNumber-FitsItem : (ss : List Scalar) (xs : List ℤ) → FitsItem ss xs → All IsNumber xs
+IsNumber-FitsItem [] [] f k d h = absurd (omega arith)
+IsNumber-FitsItem [] (x ∷ xs) f k d h = absurd f
+IsNumber-FitsItem (s ∷ ss) [] f k d h = absurd f
+IsNumber-FitsItem (s ∷ ss) (x ∷ xs) f zero d h = IsNumber-fits s x f.0
+IsNumber-FitsItem (s ∷ ss) (x ∷ xs) f (suc k) d h = IsNumber-FitsItem ss xs f.1 k d (omega arith)

@@ -1,13 +1,14 @@
 -- One item more, in a loop over the items of a region.
-use Rattle.std.proofs.Common.{◌≡◌, ℕ, zero, suc, ◌+◌, ◌*◌, ◌<◌, ◌≤◌, ◌-◌, List, [], ◌∷◌, ◌++◌, length, take, drop, Bool, true, false, cond, refl, ap, arith, append_assoc}
-use Rattle.std.proofs.lemmas.List.{length-take-le, drop-drop, take-append-drop}
+use Rattle.std.proofs.Common.{◌≡◌, ℕ, zero, suc, ◌+◌, ◌*◌, ◌<◌, ◌≤◌, ◌-◌, List, [], ◌∷◌, ◌++◌, length, take, drop, Bool, true, false, cond, refl, ap, arith, append_assoc, append-nil, add-one, sym, ◌∙◌, get_or, ℤ, Option, Some, None}
+use Rattle.std.proofs.lemmas.List.{length-take-le, drop-drop, take-append-drop, drop_more, drop_all}
 use Rattle.std.proofs.Math.Seq.{take-append-add, drop-append-add}
-use Rattle.std.specs.Prelude.{is_some}
+use Rattle.std.specs.Prelude.{is_some, IsSome, IsNone, IsSomeAnd}
 use Rattle.strm_codes.specs.Layout.{item_size}
 use Rattle.strm_codes.specs.declared.scalars.Scalar.{Scalar}
-use Rattle.strm_memory.specs.Items.{decode, items}
+use Rattle.strm_codes.specs.Items.{FitsItem}
+use Rattle.strm_memory.specs.Items.{decode, encode, items, stored, AreItems, IsFirstBad}
 use Rattle.strm_memory.specs.Copies.{copied_from, copied}
-use Rattle.strm_memory.proofs.FieldLemmas.{is_some-both}
+use Rattle.strm_memory.proofs.FieldLemmas.{is_some-both, with_front, with_front-more}
 
 pub item_fits : (k n size : ℕ) → k < n → size * k + size ≤ size * n
 item_fits k n size h = grind arith
@@ -44,3 +45,80 @@ copied_more ss source m from to k n size h e less =
 pub copied_none : (ss : List Scalar) (source m : List ℕ) (to n : ℕ) → take to m ++ copied ss source (drop to m) (n - n) ≡ m
 unfolding copied
 copied_none ss source m to n = let z : n - n ≡ 0 = omega arith in rw z (take-append-drop to m)
+
+-- one item lifted
+pub items_step : (ss : List Scalar) (source : List ℕ) (at k n size : ℕ) (front : List (List ℤ)) (x : List ℤ) → k < n → size ≡ item_size ss → Some x ≡ decode ss (drop at source) → with_front (front ++ x ∷ []) (items ss (drop (at + size) source) (n - (k + 1))) ≡ with_front front (items ss (drop at source) (n - k))
+unfolding items
+items_step ss source at k n size front x h e d =
+    let s : n - k ≡ suc (n - (k + 1)) = omega arith in
+    rw (s, ← d, e, ← drop-drop (item_size ss) at source) (with_front-more front x _)
+
+cond_same : (b : Bool) → cond b true false ≡ b
+cond_same true = refl
+cond_same false = refl
+
+cond_nested : (a b c : Bool) → cond a (cond b c false) false ≡ cond (cond a b false) c false
+cond_nested true b c = refl
+cond_nested false b c = refl
+
+-- the last of the items is read behind the ones before it
+items_last : (ss : List Scalar) (source : List ℕ) (k : ℕ) → is_some (items ss source (suc k)) ≡ cond (is_some (items ss source k)) (is_some (decode ss (drop (item_size ss * k) source))) false
+unfolding items
+items_last ss source zero =
+    let z : item_size ss * zero ≡ 0 = omega arith in
+    rw (is_some-both (decode ss source) (Some []) (λ x xs. x ∷ xs), z) (cond_same (is_some (decode ss source)))
+items_last ss source (suc k) =
+    let e : item_size ss + item_size ss * k ≡ item_size ss * suc k = omega arith in
+    let rest : is_some (items ss (drop (item_size ss) source) (suc k)) ≡ cond (is_some (items ss (drop (item_size ss) source) k)) (is_some (decode ss (drop (item_size ss * suc k) source))) false =
+    items_last ss (drop (item_size ss) source) k ∙ rw (drop-drop, e) refl in
+    is_some-both (decode ss source) (items ss (drop (item_size ss) source) (suc k)) (λ x xs. x ∷ xs)
+    ∙ ap (λ b. cond (is_some (decode ss source)) b false) rest
+    ∙ cond_nested (is_some (decode ss source)) _ _
+    ∙ ap (λ b. cond b (is_some (decode ss (drop (item_size ss * suc k) source))) false) (sym (is_some-both (decode ss source) (items ss (drop (item_size ss) source) k) (λ x xs. x ∷ xs)))
+
+-- one item more that is one
+pub some_more : (ss : List Scalar) (source : List ℕ) (from at k size : ℕ) (x : List ℤ) → size ≡ item_size ss → at ≡ from + size * k → is_some (items ss (drop from source) k) ≡ true → Some x ≡ decode ss (drop at source) → is_some (items ss (drop from source) (k + 1)) ≡ true
+some_more ss source from at k size x e p good d =
+    rw (add-one, items_last ss (drop from source) k, good, drop-drop (item_size ss * k) from source, ← e, ← p, ← d) refl
+
+some_from : {A : Type 0} (o : Option A) → is_some o ≡ true → IsSome o
+some_from None e = cc
+some_from (Some x) e = refl
+
+none_from : {A : Type 0} (o : Option A) → None ≡ o → IsNone o
+none_from None e = refl
+none_from (Some x) e = cc
+
+-- one item more that is none
+pub first_bad : (ss : List Scalar) (source : List ℕ) (from at k n size : ℕ) → k < n → size ≡ item_size ss → at ≡ from + size * k → is_some (items ss (drop from source) k) ≡ true → None ≡ decode ss (drop at source) → IsFirstBad ss (drop from source) n k
+first_bad ss source from at k n size h e p good d = record {
+  within = h;
+  before = some_from (items ss (drop from source) k) good;
+  bad = rw (drop-drop (item_size ss * k) from source, ← e, ← p) (none_from (decode ss (drop at source)) d);
+}
+
+pub all_lifted : (ss : List Scalar) (source : List ℕ) (n : ℕ) (old new : List (List ℤ)) (o : Option (List (List ℤ))) → with_front new (items ss source (n - n)) ≡ with_front old o → IsSomeAnd o (λ xs. new ≡ old ++ xs)
+unfolding items
+all_lifted ss source n old new o h =
+    let z : n - n ≡ 0 = omega arith in
+    both o (sym (ap Some (append-nil new)) ∙ rw z at h)
+  where
+    both : (o : Option (List (List ℤ))) → Some new ≡ with_front old o → IsSomeAnd o (λ xs. new ≡ old ++ xs)
+    both None e = cc
+    both (Some xs) e = cc
+
+-- one item lowered
+pub stored_step : (ss : List Scalar) (m : List ℕ) (at k size : ℕ) (xs : List (List ℤ)) (x : List ℤ) → k < length xs → x ≡ get_or xs k x → size ≡ item_size ss → at ≤ length m → take (at + size) (take at m ++ encode ss (drop at m) x) ++ stored ss (drop (at + size) (take at m ++ encode ss (drop at m) x)) (drop (k + 1) xs) ≡ take at m ++ stored ss (drop at m) (drop k xs)
+unfolding stored
+stored_step ss m at k size xs x h e s less =
+    let here : drop k xs ≡ x ∷ drop (k + 1) xs = drop_more xs k x h ∙ ap (λ y. y ∷ drop (k + 1) xs) (sym e) in
+    rw (here, ← s) (sweep_more m at size (encode ss (drop at m) x) (λ b. stored ss b (drop (k + 1) xs)) less)
+
+pub stored_end : (ss : List Scalar) (m : List ℕ) (at k : ℕ) (xs : List (List ℤ)) → length xs ≤ k → take at m ++ stored ss (drop at m) (drop k xs) ≡ m
+unfolding stored
+stored_end ss m at k xs h = rw (drop_all k xs h) (take-append-drop at m)
+
+pub AreItems_step : (ss : List Scalar) (k : ℕ) (xs : List (List ℤ)) (x : List ℤ) → k < length xs → x ≡ get_or xs k x → AreItems ss (drop k xs) → FitsItem ss x × AreItems ss (drop (k + 1) xs)
+AreItems_step ss k xs x h e f =
+    let here : drop k xs ≡ x ∷ drop (k + 1) xs = drop_more xs k x h ∙ ap (λ y. y ∷ drop (k + 1) xs) (sym e) in
+    rw here at f

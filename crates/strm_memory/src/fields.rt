@@ -1,15 +1,17 @@
-//! One field of an item: where it begins, whether it holds an item, and its copy.
+//! One field of an item: where it begins, whether its bytes stand for a number, and how it is copied,
+//! lifted and lowered.
 //!
 //! Source: Canonical ABI, "Alignment", "Loading" and "Storing".
 
-ghost use Rattle.std.specs.Prelude.{◌≡◌, ◌+◌, ◌*◌, ◌^◌, ◌<◌, ◌≤◌, length, take, drop, is_some, slice_index};
-ghost use Rattle.strm_codes.specs.Scalars.{size_of, is_scalar_value};
+ghost use Rattle.std.specs.Prelude.{◌≡◌, ◌+◌, ◌^◌, ◌<◌, ◌≤◌, length, drop, is_some, IfSome};
+ghost use Rattle.strm_codes.specs.Scalars.{size_of, IsWithin, FitsScalar};
 ghost use Rattle.strm_codes.specs.Layout.{gap_before, end_of};
-ghost use Rattle.strm_memory.specs.Bytes.{le, put_at};
-ghost use Rattle.strm_memory.specs.Numbers.{lifted};
-ghost use Rattle.strm_memory.specs.Copies.{settled};
+ghost use Rattle.strm_memory.specs.Bytes.{le, to_le, put_at, bytes_at};
+ghost use Rattle.strm_memory.specs.Numbers.{lifted, lowered};
 ghost use Rattle.strm_memory.specs.Items.{scalar_at};
+ghost use Rattle.strm_memory.specs.Copies.{settled};
 
+use crate::numbers::{is_scalar_value, load_1, load_2, load_4, load_8, signed, store, unsigned};
 use strm_codes::scalars::Scalar;
 
 // Where a field begins, if the fields before it end at `at`.
@@ -35,43 +37,10 @@ fn next_start(at: usize, scalar: Scalar) -> usize
     }
 }
 
-fn load_1(bytes: &[u8], at: usize) -> u8
-    requires { at + 1 ≤ length bytes.now }
-    ensures { result ≡ le (take 1 (drop at bytes.now)) }
-{
-    bytes[at]
-}
-
-#[tactic(auto, using(crate::proofs::ByteLemmas::halves_1))]
-fn load_2(bytes: &[u8], at: usize) -> u16
-    requires { at + 2 ≤ length bytes.now }
-    ensures { result ≡ le (take 2 (drop at bytes.now)) }
-{
-    let low = load_1(bytes, at);
-    let high = load_1(bytes, at + 1);
-    u16::from(low) + 0x100 * u16::from(high)
-}
-
-#[tactic(auto, using(crate::proofs::ByteLemmas::halves_2))]
-fn load_4(bytes: &[u8], at: usize) -> u32
-    requires { at + 4 ≤ length bytes.now }
-    ensures { result ≡ le (take 4 (drop at bytes.now)) }
-{
-    let low = load_2(bytes, at);
-    let high = load_2(bytes, at + 2);
-    u32::from(low) + 0x1_0000 * u32::from(high)
-}
-
-fn is_scalar_value(number: u32) -> bool
-    ensures { result ≡ is_scalar_value number }
-{
-    number < 0xD800 || (number > 0xDFFF && number < 0x11_0000)
-}
-
 // Whether a field's bytes stand for an item.
 pub(crate) fn is_good_field(bytes: &[u8], at: usize, scalar: Scalar) -> bool
     requires { at + size_of scalar ≤ length bytes.now }
-    ensures { result ≡ is_some (lifted scalar (le (take (size_of scalar) (drop at bytes.now)))) }
+    ensures { result ≡ is_some (lifted scalar (le (bytes_at bytes.now at (size_of scalar)))) }
 {
     match scalar {
         Scalar::Char => is_scalar_value(load_4(bytes, at)),
@@ -83,7 +52,7 @@ pub(crate) fn is_good_field(bytes: &[u8], at: usize, scalar: Scalar) -> bool
 pub(crate) fn copy_bytes(source: &[u8], from: usize, destination: &mut [u8], to: usize, len: usize)
     requires source_holds { from + len ≤ length source.now }
     requires destination_holds { to + len ≤ length destination.old }
-    ensures { destination.new ≡ put_at destination.old to (take len (drop from source.now)) }
+    ensures { destination.new ≡ put_at destination.old to (bytes_at source.now from len) }
 {
     destination[to..to + len].copy_from_slice(&source[from..from + len]);
 }
@@ -99,7 +68,7 @@ pub(crate) fn copy_field(
     requires source_holds { from + size_of scalar ≤ length source.now }
     requires destination_holds { to + size_of scalar ≤ length destination.old }
     ensures { destination.new ≡
-        put_at destination.old to (settled scalar (take (size_of scalar) (drop from source.now))) }
+        put_at destination.old to (settled scalar (bytes_at source.now from (size_of scalar))) }
 {
     match scalar {
         Scalar::Bool => destination[to] = source[from].min(1),
@@ -107,5 +76,46 @@ pub(crate) fn copy_field(
         Scalar::S16 | Scalar::U16 => copy_bytes(source, from, destination, to, 2),
         Scalar::S32 | Scalar::U32 | Scalar::Char => copy_bytes(source, from, destination, to, 4),
         Scalar::S64 | Scalar::U64 => copy_bytes(source, from, destination, to, 8),
+    }
+}
+
+// The number that a field's bytes stand for.
+pub(crate) fn lift_field(bytes: &[u8], at: usize, scalar: Scalar) -> Option<i128>
+    requires { at + size_of scalar ≤ length bytes.now }
+    ensures exact { result ≡ lifted scalar (le (bytes_at bytes.now at (size_of scalar))) }
+    ensures small { IfSome result (IsWithin (2 ^ 64)) }
+{
+    match scalar {
+        Scalar::Bool => Some(i128::from(load_1(bytes, at).min(1))),
+        Scalar::S8 => Some(signed(0x80, u64::from(load_1(bytes, at)))),
+        Scalar::U8 => Some(i128::from(load_1(bytes, at))),
+        Scalar::S16 => Some(signed(0x8000, u64::from(load_2(bytes, at)))),
+        Scalar::U16 => Some(i128::from(load_2(bytes, at))),
+        Scalar::S32 => Some(signed(0x8000_0000, u64::from(load_4(bytes, at)))),
+        Scalar::U32 => Some(i128::from(load_4(bytes, at))),
+        Scalar::S64 => Some(signed(0x8000_0000_0000_0000, load_8(bytes, at))),
+        Scalar::U64 => Some(i128::from(load_8(bytes, at))),
+        Scalar::Char => {
+            let number = load_4(bytes, at);
+            is_scalar_value(number).then_some(i128::from(number))
+        }
+    }
+}
+
+// A number stored in a field that it fits.
+pub(crate) fn lower_field(bytes: &mut [u8], at: usize, scalar: Scalar, number: i128)
+    requires fits { FitsScalar scalar number }
+    requires holds { at + size_of scalar ≤ length bytes.old }
+    ensures { bytes.new ≡ put_at bytes.old at (to_le (size_of scalar) (lowered scalar number)) }
+{
+    match scalar {
+        Scalar::Bool | Scalar::U8 => store(bytes, at, 1, number as u64),
+        Scalar::S8 => store(bytes, at, 1, unsigned(0x80, number)),
+        Scalar::U16 => store(bytes, at, 2, number as u64),
+        Scalar::S16 => store(bytes, at, 2, unsigned(0x8000, number)),
+        Scalar::U32 | Scalar::Char => store(bytes, at, 4, number as u64),
+        Scalar::S32 => store(bytes, at, 4, unsigned(0x8000_0000, number)),
+        Scalar::U64 => store(bytes, at, 8, number as u64),
+        Scalar::S64 => store(bytes, at, 8, unsigned(0x8000_0000_0000_0000, number)),
     }
 }

@@ -6,5 +6,8 @@
 
 pub mod copies;
 mod fields;
+pub mod items;
 pub mod laws;
 pub mod memories;
+pub mod moves;
+mod numbers;

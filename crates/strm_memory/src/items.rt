@@ -1,0 +1,153 @@
+//! Items lifted from bytes, and lowered into them.
+//!
+//! Source: Canonical ABI, "Loading" and "Storing", for lists of records.
+
+ghost use Rattle.std.specs.Prelude.{◌≡◌, ℕ, ◌+◌, ◌*◌, ◌<◌, ◌≤◌, ◌++◌, length, take, drop, Err, IsErrOf, IsSomeAnd, OnOk, OnErr, vec_len, vec_capacity};
+ghost use Rattle.strm_codes.specs.Items.{FitsItem};
+ghost use Rattle.strm_codes.specs.Layout.{scalars_of, end_of, item_size};
+ghost use Rattle.strm_memory.specs.Items.{decode, encode, items, items_at, stored, stored_at, AreItems, IsFirstBad};
+
+use crate::fields::{field_start, lift_field, lower_field};
+use strm_codes::counts::ItemCount;
+use strm_codes::payloads::Payload;
+use strm_codes::scalars::Scalar;
+use strm_codes::values::Value;
+
+/// Why items were not lifted. The vector is as it was.
+#[derive(Clone, Copy, Debug, PartialEq, Eq)]
+pub enum LiftError {
+    /// The first item, from 0, that holds a character which is no Unicode scalar value.
+    BadItem { index: u32 },
+    /// The vector had no room and could not grow.
+    OutOfMemory,
+}
+
+/// Appends so many items from the front of the bytes.
+pub fn lift_items(
+    bytes: &[u8],
+    payload: Payload,
+    count: ItemCount,
+    out: &mut Vec<Value>,
+) -> Result<(), LiftError>
+    requires { item_size (scalars_of payload) * count ≤ length bytes.now }
+    ensures ok { OnOk result (IsSomeAnd (items (scalars_of payload) bytes.now count)
+        (λ xs. out.new.items ≡ out.old.items ++ xs)) }
+    ensures bad_item { (index : ℕ) → IsErrOf result (LiftError.BadItem index) →
+        IsFirstBad (scalars_of payload) bytes.now count index }
+    ensures out_of_memory { IsErrOf result LiftError.OutOfMemory →
+        vec_capacity out.old < vec_len out.old + count }
+    ensures err { OnErr result (out.new.items ≡ out.old.items) }
+{
+    lift_fields(
+        bytes,
+        0,
+        payload.scalars(),
+        payload.size() as usize,
+        count.as_u32(),
+        out,
+    )
+}
+
+// The same from an address on.
+pub(crate) fn lift_fields(
+    bytes: &[u8],
+    from: usize,
+    fields: &[Scalar],
+    size: usize,
+    count: u32,
+    out: &mut Vec<Value>,
+) -> Result<(), LiftError>
+    requires few { length fields.now ≤ 8 }
+    requires size { size ≡ item_size fields.now }
+    requires holds { from + size * count ≤ length bytes.now }
+    ensures ok { OnOk result (IsSomeAnd (items_at fields.now bytes.now from count)
+        (λ xs. out.new.items ≡ out.old.items ++ xs)) }
+    ensures bad_item { (index : ℕ) → IsErrOf result (LiftError.BadItem index) →
+        IsFirstBad fields.now (drop from bytes.now) count index }
+    ensures out_of_memory { IsErrOf result LiftError.OutOfMemory →
+        vec_capacity out.old < vec_len out.old + count }
+    ensures err { OnErr result (out.new.items ≡ out.old.items) }
+{
+    match out.reserve(count as usize) {
+        Ok(()) => {}
+        Err(_) => return Err(LiftError::OutOfMemory),
+    }
+    let start = out.len();
+    let mut at = from;
+    for k in 0..count {
+        match lift_item(fields, bytes, at) {
+            Some(value) => out.push_reserved(value),
+            None => {
+                out.truncate(start);
+                return Err(LiftError::BadItem { index: k });
+            }
+        }
+        at += size;
+    }
+    Ok(())
+}
+
+// The item that lies there, or none.
+pub(crate) fn lift_item(fields: &[Scalar], bytes: &[u8], from: usize) -> Option<Value>
+    requires few { length fields.now ≤ 8 }
+    requires holds { from + end_of 0 fields.now ≤ length bytes.now }
+    ensures { result ≡ decode fields.now (drop from bytes.now) }
+{
+    let mut numbers = [0i128; 8];
+    let mut at = 0;
+    for k in 0..fields.len() {
+        let scalar = fields[k];
+        let start = field_start(fields, k, at);
+        match lift_field(bytes, from + start, scalar) {
+            Some(number) => numbers[k] = number,
+            None => return None,
+        }
+        at = start + scalar.size() as usize;
+    }
+    Value::new(&numbers[..fields.len()])
+}
+
+/// Stores items from the front of the bytes on, one after the other. Padding stays. Takes no memory.
+pub fn lower_items(items: &[Value], payload: Payload, bytes: &mut [u8])
+    requires fit { AreItems (scalars_of payload) items.now }
+    requires holds { item_size (scalars_of payload) * length items.now ≤ length bytes.old }
+    ensures { bytes.new ≡ stored (scalars_of payload) bytes.old items.now }
+{
+    lower_fields(items, payload.scalars(), payload.size() as usize, bytes, 0)
+}
+
+// The same from an address on.
+pub(crate) fn lower_fields(
+    items: &[Value],
+    fields: &[Scalar],
+    size: usize,
+    bytes: &mut [u8],
+    to: usize,
+)
+    requires size { size ≡ item_size fields.now }
+    requires fit { AreItems fields.now items.now }
+    requires holds { to + size * length items.now ≤ length bytes.old }
+    ensures { bytes.new ≡ stored_at fields.now bytes.old to items.now }
+{
+    let mut at = to;
+    for k in 0..items.len() {
+        lower_item(fields, &items[k], bytes, at);
+        at += size;
+    }
+}
+
+// Stores one item there.
+fn lower_item(fields: &[Scalar], value: &Value, bytes: &mut [u8], to: usize)
+    requires fits { FitsItem fields.now value.now }
+    requires holds { to + end_of 0 fields.now ≤ length bytes.old }
+    ensures { bytes.new ≡ take to bytes.old ++ encode fields.now (drop to bytes.old) value.now }
+{
+    let numbers = value.as_slice();
+    let mut at = 0;
+    for k in 0..fields.len() {
+        let scalar = fields[k];
+        let start = field_start(fields, k, at);
+        lower_field(bytes, to + start, scalar, numbers[k]);
+        at = start + scalar.size() as usize;
+    }
+}

@@ -1,0 +1,52 @@
+//! Bytes moved, and numbers moved within one memory by their bytes.
+//!
+//! Source: wasmtime, `futures_and_streams.rs`, the plain copies of `copy`. The calls are ours.
+
+ghost use Rattle.std.specs.Prelude.{◌≡◌, ◌+◌, ◌*◌, ◌≤◌, length, IsTrue, IsSomeAnd};
+ghost use Rattle.strm_codes.specs.Layout.{scalars_of, item_size};
+ghost use Rattle.strm_memory.specs.Bytes.{put_at, bytes_at};
+ghost use Rattle.strm_memory.specs.Items.{items_at, stored_at, is_number_or_none};
+
+use crate::numbers::hold_bytes;
+use strm_codes::counts::ItemCount;
+use strm_codes::payloads::Payload;
+
+/// Copies all bytes. Takes no memory.
+pub fn move_bytes(source: &[u8], destination: &mut [u8])
+    requires { length source.now ≡ length destination.old }
+    ensures { destination.new ≡ source.now }
+{
+    destination.copy_from_slice(source);
+}
+
+/// Moves so many bytes from one address to another, as they stood before. Takes no memory.
+pub fn move_within(memory: &mut [u8], from: u32, to: u32, len: u32)
+    requires from_inside { from + len ≤ length memory.old }
+    requires to_inside { to + len ≤ length memory.old }
+    ensures { memory.new ≡ put_at memory.old to (bytes_at memory.old from len) }
+{
+    move_region(memory, from as usize, to as usize, len as usize);
+}
+
+// The same by wider numbers.
+fn move_region(memory: &mut [u8], from: usize, to: usize, len: usize)
+    requires from_inside { from + len ≤ length memory.old }
+    requires to_inside { to + len ≤ length memory.old }
+    ensures { memory.new ≡ put_at memory.old to (bytes_at memory.old from len) }
+{
+    memory.copy_within(from..from + len, to);
+}
+
+/// Copies so many items from one address to another of one memory, as by lifting all of them and
+/// then lowering them, however the two regions overlap. Takes no memory.
+pub fn copy_within_items(memory: &mut [u8], from: u32, to: u32, payload: Payload, count: ItemCount)
+    requires number_or_none { IsTrue (is_number_or_none payload) }
+    requires from_inside { from + item_size (scalars_of payload) * count ≤ length memory.old }
+    requires to_inside { to + item_size (scalars_of payload) * count ≤ length memory.old }
+    ensures { IsSomeAnd (items_at (scalars_of payload) memory.old from count)
+        (λ xs. memory.new ≡ stored_at (scalars_of payload) memory.old to xs) }
+{
+    hold_bytes(memory);
+    let len = payload.size() as usize * count.as_usize();
+    move_region(memory, from as usize, to as usize, len);
+}
