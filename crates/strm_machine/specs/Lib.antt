@@ -1,0 +1,10 @@
+pub mod State
+pub mod Sides
+pub mod Meetings
+pub mod Turns
+pub mod Tests
+pub mod Refusals
+pub mod Making
+pub mod Reactions
+pub mod Plays
+pub mod Soundness

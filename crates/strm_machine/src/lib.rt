@@ -9,3 +9,4 @@ pub mod chunks;
 pub mod limits;
 pub mod replies;
 pub mod steps;
+pub mod streams;

@@ -1,0 +1,63 @@
+-- Regions of items: what the test of their bounds says, what is left of one, and what storing into one keeps.
+use Rattle.std.proofs.Common.{◌≡◌, ℕ, ◌+◌, ◌-◌, ◌*◌, ◌<◌, ◌≤◌, ℤ, zero, suc, Some, Bool, true, false, List, length, take, drop, get_or, refl, arith, length-append, length-take, length-drop}
+use Rattle.std.proofs.lemmas.Bool.Decides.{nat_tests}
+use Rattle.std.proofs.lemmas.List.Sums.{get_or-le-sum_by}
+use Rattle.std.proofs.lemmas.Bool.{cases_lt, ltb-true, lt-ltb, le-ltb}
+use Rattle.std.specs.Prelude.{nat_lt, ◌&&◌, ◌^◌, sum}
+use Rattle.strm_codes.specs.Layout.{item_size}
+use Rattle.strm_codes.specs.declared.scalars.Scalar.{Scalar}
+use Rattle.strm_memory.specs.Items.{items_at, stored_at}
+use Rattle.strm_memory.specs.Region.{is_out_of_bounds}
+use Rattle.strm_memory.proofs.RegionLemmas.{length-items, length-stored}
+
+out_test : (size : ℕ) (w : ℕ) (address n : ℕ) → nat_lt 0 n && nat_lt 0 w && nat_lt size (address + w * n) ≡ false → 0 < n → 0 < w → address + w * n ≤ size
+out_test size w address n e h k = grind (arith, nat_tests)
+
+in_test : (size : ℕ) (w : ℕ) (address n : ℕ) → (0 < n → 0 < w → address + w * n ≤ size) → nat_lt 0 n && nat_lt 0 w && nat_lt size (address + w * n) ≡ false
+in_test size w address n h = grind (arith, nat_tests)
+
+-- items that take bytes, and don't pass the end
+pub within : (size : ℕ) (ss : List Scalar) (address n : ℕ) → is_out_of_bounds size ss address n ≡ false → 0 < n → 0 < item_size ss → address + item_size ss * n ≤ size
+within size ss address n e h k = out_test size (item_size ss) address n e h k
+
+pub not_out : (size : ℕ) (ss : List Scalar) (address n : ℕ) → (0 < n → 0 < item_size ss → address + item_size ss * n ≤ size) → is_out_of_bounds size ss address n ≡ false
+not_out size ss address n h = in_test size (item_size ss) address n h
+
+-- the rest of a region, behind its first k items
+pub not_out-rest : (size : ℕ) (ss : List Scalar) (address n k : ℕ) → k ≤ n → is_out_of_bounds size ss address n ≡ false → is_out_of_bounds size ss (address + item_size ss * k) (n - k) ≡ false
+not_out-rest size ss address n k h e =
+    let w = item_size ss in
+    let split : w * k + w * (n - k) ≡ w * n = rest_product w n k h in
+    not_out size ss (address + w * k) (n - k) (λ p q. let whole = within size ss address n e (omega arith) q in omega (arith, whole, split))
+  where
+    rest_product : (w n k : ℕ) → k ≤ n → w * k + w * (n - k) ≡ w * n
+    rest_product w n k h = grind arith
+
+-- its first k items
+pub not_out-front : (size : ℕ) (ss : List Scalar) (address n k : ℕ) → k ≤ n → is_out_of_bounds size ss address n ≡ false → is_out_of_bounds size ss address k ≡ false
+not_out-front size ss address n k h e =
+    let w = item_size ss in
+    not_out size ss address k (λ p q. let whole = within size ss address n e (omega arith) q in let less : w * k ≤ w * n = grind arith in omega (arith, whole, less))
+
+-- items taken from one place and stored in a region keep the memory's length
+pub length-stored_region : (ss : List Scalar) (source memory : List ℕ) (from to n : ℕ) (xs : List (List ℤ)) → items_at ss source from n ≡ Some xs → is_out_of_bounds (length memory) ss to n ≡ false → length (stored_at ss memory to xs) ≡ length memory
+length-stored_region ss source memory from to n xs i h =
+    let count = length-items ss (drop from source) n xs i in
+    let room : item_size ss * n ≤ length memory - to = fits (length memory) (item_size ss) to n (λ p q. within (length memory) ss to n h p q) in
+    let same = length-stored ss (drop to memory) xs (rw count (omega (arith, room, length-drop to memory))) in
+    rw (length-append, same) (omega (arith, length-take to memory, length-drop to memory))
+  where
+    fits : (size w to n : ℕ) → (0 < n → 0 < w → to + w * n ≤ size) → w * n ≤ size - to
+    fits size zero to n k = omega arith
+    fits size (suc w) to zero k = omega arith
+    fits size (suc w) to (suc n) k = omega (arith, k (omega arith) (omega arith))
+
+-- the address behind n items that lie in a memory of at most 2^28 bytes
+pub address_room : (sizes : List ℕ) (g : ℕ) (ss : List Scalar) (address n : ℕ) → g < length sizes → is_out_of_bounds (get_or sizes g 0) ss address n ≡ false → sum sizes ≤ 268435456 → address < 2 ^ 32 → address + item_size ss * n < 2 ^ 32
+address_room sizes g ss address n l h s a =
+    room (get_or sizes g 0) (item_size ss) address n (λ p q. within (get_or sizes g 0) ss address n h p q) (omega (arith, get_or-le-sum_by (λ k. k) sizes g 0 l, s)) a
+  where
+    room : (size w address n : ℕ) → (0 < n → 0 < w → address + w * n ≤ size) → size ≤ 268435456 → address < 2 ^ 32 → address + w * n < 2 ^ 32
+    room size zero address n k s a = omega arith
+    room size (suc w) address zero k s a = omega arith
+    room size (suc w) address (suc n) k s a = omega (arith, k (omega arith) (omega arith))

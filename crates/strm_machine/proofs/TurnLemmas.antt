@@ -1,0 +1,133 @@
+-- What a read or write leaves as it was: the guests' handles, the lengths of their memories, the
+-- stream's type and owners.
+use Rattle.std.proofs.Common.{◌≡◌, ℕ, ◌+◌, ◌-◌, ◌*◌, ◌<◌, ◌≤◌, min, Bool, true, false, cond, List, [], length, map, get_or, set, drop, take, ℤ, Option, Some, None, refl, sym, ap, ◌∙◌, arith, length-append, length-drop}
+use Rattle.std.proofs.Math.Seq.{map-set_same}
+use Rattle.std.proofs.lemmas.List.{length-take-le}
+use Rattle.std.proofs.Math.ListN.{get_or-map}
+use Rattle.std.specs.Option.{option_map}
+use Rattle.strm_codes.specs.declared.payloads.Payload.{Payload}
+use Rattle.strm_codes.specs.declared.codes.ReturnCode.{ReturnCode}
+use Rattle.strm_codes.specs.declared.scalars.Scalar.{Scalar}
+use Rattle.strm_codes.specs.Layout.{scalars_of, item_size}
+use Rattle.strm_memory.specs.Items.{items_at, stored_at}
+use Rattle.strm_memory.specs.Region.{is_out_of_bounds}
+use Rattle.strm_machine.specs.State.{Guest, no_guest, guest_in, memory_in, with_memory, is_gone}
+use Rattle.strm_machine.specs.Sides.{opposite, same_side, end_of, with_end, with_operation, write_of, read_of}
+use Rattle.strm_machine.specs.Meetings.{meeting_of, advanced, carried}
+use Rattle.strm_machine.specs.Turns.{Turn, answers, waits, with_received, moves, completes_alone, meets_by, meets, learns, finds, turn}
+use Rattle.strm_machine.specs.Soundness.{sizes_of, handles_of, IsPlaced, OperationIsPlaced, StreamIsPlaced}
+use Rattle.strm_machine.specs.declared.streams.Side.{Side}
+use Rattle.strm_machine.specs.declared.streams.Side.TheVariants.{Writing, Reading}
+use Rattle.strm_machine.specs.declared.streams.Operation.{Operation}
+use Rattle.strm_machine.specs.declared.streams.Stream.{Stream}
+use Rattle.strm_machine.specs.declared.streams.Meeting.{Meeting}
+use Rattle.strm_machine.specs.declared.streams.Meeting.TheVariants.{BothComplete, WriteCompletes, ReadCompletes}
+use Rattle.strm_machine.proofs.BoundLemmas.{not_out-front, length-stored_region}
+use Rattle.strm_machine.proofs.SideLemmas.{StreamKeeps, kept, kept_on, end_placed, with_end-keeps, with_operation-keeps, IsPlaced-advanced, write_of-placed, read_of-placed}
+
+-- guests with the handles and the memory lengths of others
+pub record GuestsKeep (old new : List Guest) : Type 0 where
+  pub sizes : sizes_of new ≡ sizes_of old
+  pub handles : handles_of new ≡ handles_of old
+
+pub record TurnKeeps (before : List Guest) (old : Stream) (t : Turn) : Type 0 where
+  pub guests : GuestsKeep before t.guests
+  pub stream : StreamKeeps (sizes_of before) old t.stream
+
+pub all_kept : (guests : List Guest) → GuestsKeep guests guests
+all_kept guests = record { sizes = refl; handles = refl }
+
+-- another memory of the same length
+pub with_memory-keeps : (guests : List Guest) (g : ℕ) (memory : List ℕ) → length memory ≡ length (memory_in guests g) → GuestsKeep guests (with_memory guests g memory)
+with_memory-keeps guests g memory e = record {
+  sizes = map-set_same (λ h. length h.memory) guests g (record (guest_in guests g) { memory = memory }) no_guest e;
+  handles = map-set_same (λ h. h.handles) guests g (record (guest_in guests g) { memory = memory }) no_guest refl;
+}
+
+pub size_in : (guests : List Guest) (g : ℕ) → get_or (sizes_of guests) g 0 ≡ length (memory_in guests g)
+size_in guests g = get_or-map (λ h. length h.memory) guests g no_guest
+
+carried_from : (guests : List Guest) (ss : List Scalar) (write read : Operation) (n : ℕ) (after : List Guest) (o : Option (List (List ℤ))) → is_out_of_bounds (length (memory_in guests read.guest)) ss read.address n ≡ false → items_at ss (memory_in guests write.guest) write.address n ≡ o → option_map (λ xs. with_memory guests read.guest (stored_at ss (memory_in guests read.guest) read.address xs)) o ≡ Some after → GuestsKeep guests after
+carried_from guests ss write read n after None inside i f = cc
+carried_from guests ss write read n after (Some xs) inside i f =
+    let same : with_memory guests read.guest (stored_at ss (memory_in guests read.guest) read.address xs) ≡ after = cc in
+    rw (← same) (with_memory-keeps guests read.guest _ (length-stored_region ss (memory_in guests write.guest) (memory_in guests read.guest) write.address read.address n xs i inside))
+
+-- the guests after items were carried
+pub carried-keeps : (guests : List Guest) (payload : Payload) (write read : Operation) (n : ℕ) (after : List Guest) → n ≤ read.left → IsPlaced (sizes_of guests) payload read → carried guests payload write read n ≡ Some after → GuestsKeep guests after
+carried-keeps guests payload write read n after k q e =
+    let ss = scalars_of payload in
+    let inside = not_out-front _ ss read.address read.left n k q.inside in
+    carried_from guests ss write read n after (items_at ss (memory_in guests write.guest) write.address n) (rw (size_in guests read.guest) at inside) refl e
+
+-- an end that another has met, and then n items more were received
+advanced-keeps : (side : Side) (sizes : List ℕ) (stream : Stream) (theirs : Operation) (n : ℕ) → StreamIsPlaced sizes stream → IsPlaced sizes stream.payload theirs → n ≤ theirs.left → StreamKeeps sizes stream (with_operation side (with_received stream n) (advanced stream.payload theirs n))
+advanced-keeps side sizes stream theirs n h p l =
+    let received : StreamKeeps sizes stream (with_received stream n) = record { payload = refl; kind = refl; writer = refl; reader = refl; placed = record { writer = h.writer; reader = h.reader } } in
+    kept_on sizes stream (with_received stream n) _ received
+    (with_operation-keeps side sizes (with_received stream n) (advanced stream.payload theirs n) received.placed (IsPlaced-advanced sizes stream.payload theirs n l p))
+
+-- what is known where mine is called and theirs is open
+pub record AreReady (guests : List Guest) (stream : Stream) (mine theirs : Operation) : Type 0 where
+  pub placed : StreamIsPlaced (sizes_of guests) stream
+  pub mine_placed : IsPlaced (sizes_of guests) stream.payload mine
+  pub theirs_placed : IsPlaced (sizes_of guests) stream.payload theirs
+
+waits-keeps : (side : Side) (guests : List Guest) (stream : Stream) (mine : Operation) → StreamIsPlaced (sizes_of guests) stream → IsPlaced (sizes_of guests) stream.payload mine → TurnKeeps guests stream (waits side guests stream mine)
+waits-keeps side guests stream mine h p = record {
+  guests = all_kept guests;
+  stream = with_operation-keeps side (sizes_of guests) stream mine h p;
+}
+
+least-write : (side : Side) (mine theirs : Operation) → min mine.left theirs.left ≤ (read_of side mine theirs).left
+least-write Writing mine theirs = omega arith
+least-write Reading mine theirs = omega arith
+
+moves-keeps : (side : Side) (guests : List Guest) (stream : Stream) (mine theirs : Operation) (o : Option (List Guest)) → AreReady guests stream mine theirs → carried guests stream.payload (write_of side mine theirs) (read_of side mine theirs) (min mine.left theirs.left) ≡ o → TurnKeeps guests stream (moves side guests stream mine theirs (min mine.left theirs.left) o)
+moves-keeps side guests stream mine theirs None h e = record { guests = all_kept guests; stream = kept (sizes_of guests) stream h.placed }
+moves-keeps side guests stream mine theirs (Some after) h e = record {
+  guests = carried-keeps guests stream.payload (write_of side mine theirs) (read_of side mine theirs) (min mine.left theirs.left) after (least-write side mine theirs) (read_of-placed side (sizes_of guests) stream.payload mine theirs h.mine_placed h.theirs_placed) e;
+  stream = advanced-keeps (opposite side) (sizes_of guests) stream theirs (min mine.left theirs.left) h.placed h.theirs_placed (omega arith);
+}
+
+cond_both : {A : Type 0} (P : A → Type 0) (b : Bool) (x y : A) → P x → P y → P (cond b x y)
+cond_both P true x y p q = p
+cond_both P false x y p q = q
+
+alone-keeps : (who side : Side) (guests : List Guest) (stream : Stream) (mine theirs : Operation) → AreReady guests stream mine theirs → TurnKeeps guests stream (completes_alone who side guests stream mine theirs)
+alone-keeps who side guests stream mine theirs h =
+    let stopped = with_operation (opposite side) stream (advanced stream.payload theirs 0) in
+    let first : StreamKeeps (sizes_of guests) stream stopped = with_operation-keeps (opposite side) (sizes_of guests) stream (advanced stream.payload theirs 0) h.placed (IsPlaced-advanced (sizes_of guests) stream.payload theirs 0 (omega arith) h.theirs_placed) in
+    let mine_placed : IsPlaced (sizes_of guests) stopped.payload mine = rw first.payload h.mine_placed in
+    let second : TurnKeeps guests stopped (waits side guests stopped mine) = waits-keeps side guests stopped mine first.placed mine_placed in
+    cond_both (TurnKeeps guests stream) (same_side who side) _ _
+    (record { guests = all_kept guests; stream = kept (sizes_of guests) stream h.placed })
+    (record { guests = second.guests; stream = kept_on (sizes_of guests) stream stopped _ first second.stream })
+
+meets_by-keeps : (meeting : Meeting) (side : Side) (guests : List Guest) (stream : Stream) (mine theirs : Operation) → AreReady guests stream mine theirs → TurnKeeps guests stream (meets_by meeting side guests stream mine theirs)
+meets_by-keeps BothComplete side guests stream mine theirs h = moves-keeps side guests stream mine theirs _ h refl
+meets_by-keeps WriteCompletes side guests stream mine theirs h = alone-keeps Writing side guests stream mine theirs h
+meets_by-keeps ReadCompletes side guests stream mine theirs h = alone-keeps Reading side guests stream mine theirs h
+
+finds-keeps : (side : Side) (guests : List Guest) (stream : Stream) (mine : Operation) (o : Option Operation) → StreamIsPlaced (sizes_of guests) stream → IsPlaced (sizes_of guests) stream.payload mine → OperationIsPlaced (sizes_of guests) stream.payload o → TurnKeeps guests stream (finds side guests stream mine o)
+finds-keeps side guests stream mine None h p q = waits-keeps side guests stream mine h p
+finds-keeps side guests stream mine (Some theirs) h p q =
+    cond_both (TurnKeeps guests stream) theirs.is_open _ _
+    (meets_by-keeps _ side guests stream mine theirs (record { placed = h; mine_placed = p; theirs_placed = q }))
+    (waits-keeps side guests stream mine h p)
+
+-- a read or write of n items that lie in memory
+pub turn-keeps : (side : Side) (guests : List Guest) (stream : Stream) (mine : Operation) → StreamIsPlaced (sizes_of guests) stream → IsPlaced (sizes_of guests) stream.payload mine → TurnKeeps guests stream (turn side guests stream mine)
+unfolding turn
+turn-keeps side guests stream mine h p =
+    cond_both (TurnKeeps guests stream) (is_gone (end_of (opposite side) stream).owner) _ _
+    (record {
+      guests = all_kept guests;
+      stream = with_end-keeps side (sizes_of guests) stream (record (end_of side stream) { told = true }) h refl (end_placed side (sizes_of guests) stream h);
+    })
+    (finds-keeps side guests stream mine _ h p (end_placed (opposite side) (sizes_of guests) stream h))
+
+-- the first n items that an operation has left lie in its guest's memory
+pub front_inside : (guests : List Guest) (payload : Payload) (operation : Operation) (n : ℕ) → n ≤ operation.left → IsPlaced (sizes_of guests) payload operation → is_out_of_bounds (length (memory_in guests operation.guest)) (scalars_of payload) operation.address n ≡ false
+front_inside guests payload operation n h p =
+    rw (size_in guests operation.guest) at (not_out-front _ (scalars_of payload) operation.address operation.left n h p.inside)

@@ -1,0 +1,91 @@
+-- Which refusal a step gets: the first whose condition holds, in the order of the call. Ours: the order.
+use Rattle.std.specs.Prelude.{ℕ, ◌+◌, Bool, ◌||◌, if◌then◌else◌, List, [], ◌∷◌, ◌++◌, min, length, Option, Some, None}
+use Rattle.strm_codes.specs.declared.codes.TransmitIndex.{TransmitIndex}
+use Rattle.strm_codes.specs.declared.codes.TransmitKind.{TransmitKind}
+use Rattle.strm_codes.specs.declared.codes.TransmitKind.TheVariants.{Stream as AStream, Future}
+use Rattle.strm_codes.specs.declared.refusals.Refusal.{Refusal}
+use Rattle.strm_codes.specs.declared.refusals.Refusal.TheVariants as refusals
+use Rattle.strm_codes.specs.Types.{kind_of}
+use Rattle.strm_handles.specs.Handles.{next_index, inserted}
+use Rattle.strm_machine.specs.State.{State, guest_in, stream_at}
+use Rattle.strm_machine.specs.Tests.{is_unknown_guest, are_guests_full, is_memory_too_big, are_handles_full, are_places_full, are_streams_full, is_no_handle, is_too_big, is_out_of_bounds, is_misaligned, are_bytes_out_of_bounds, named, is_unknown_handle, is_wrong_kind, is_wrong_type, stream_named, is_other_end, is_busy, has_ended, is_within_one_guest}
+use Rattle.strm_machine.specs.Making.{writer_index}
+use Rattle.strm_machine.specs.declared.streams.Side.{Side}
+use Rattle.strm_machine.specs.declared.streams.Side.TheVariants.{Writing, Reading}
+use Rattle.strm_machine.specs.declared.steps.Step.{Step}
+use Rattle.strm_machine.specs.declared.steps.Step.TheVariants as steps
+
+-- a condition, and the refusal that it gives
+pub record Reason : Type 0 where
+  pub holds : Bool
+  pub refusal : Refusal
+
+abbrev pub where_ : Bool → Refusal → Reason
+where_ holds refusal = record { holds = holds; refusal = refusal }
+
+-- the first reason that holds
+abbrev pub first_of : List Reason → Option Refusal
+first_of [] = None
+first_of (reason ∷ more) = if reason.holds then Some reason.refusal else first_of more
+
+-- what a read or write of an end that can't any more is refused with
+abbrev pub ended_refusal : Side → TransmitKind → Refusal
+ended_refusal Writing AStream = refusals.WriteToDroppedStream
+ended_refusal Writing Future = refusals.WriteToDroppedFuture
+ended_refusal Reading AStream = refusals.ReadFromDroppedStream
+ended_refusal Reading Future = refusals.FutureAlreadyRead
+
+-- a read or write: the guest, the count and the region
+abbrev pub region_reasons : State → ℕ → TransmitIndex → ℕ → ℕ → List Reason
+region_reasons state g ty address count =
+    where_ (is_unknown_guest state g) refusals.UnknownGuest
+    ∷ where_ (is_too_big ty count) refusals.StreamOpTooBig
+    ∷ where_ (is_out_of_bounds state g ty address count) refusals.OutOfBounds
+    ∷ where_ (is_misaligned ty address count) refusals.NotAligned
+    ∷ []
+
+-- the handle
+abbrev pub handle_reasons : State → ℕ → TransmitIndex → ℕ → List Reason
+handle_reasons state g ty handle =
+    where_ (is_unknown_handle (named state g ty handle)) refusals.UnknownHandle
+    ∷ where_ (is_wrong_kind (named state g ty handle)) refusals.WrongKind
+    ∷ where_ (is_wrong_type (named state g ty handle)) refusals.WrongType
+    ∷ []
+
+-- the end, and what waits on the other side
+abbrev pub end_reasons : State → Side → ℕ → TransmitIndex → ℕ → List Reason
+end_reasons state side g ty handle =
+    let name = named state g ty handle in
+    let stream = stream_at state (stream_named name) in
+    where_ (is_other_end side name || is_busy side stream) refusals.ConcurrentFutureStreamOp
+    ∷ where_ (has_ended side (kind_of ty) stream) (ended_refusal side (kind_of ty))
+    ∷ where_ (is_within_one_guest g side ty stream) refusals.IntraComponent
+    ∷ []
+
+abbrev pub operation_reasons : State → Side → ℕ → TransmitIndex → ℕ → ℕ → ℕ → List Reason
+operation_reasons state side g ty handle address count =
+    region_reasons state g ty address count ++ handle_reasons state g ty handle ++ end_reasons state side g ty handle
+
+-- the reasons of each step in their order
+abbrev pub reasons : State → Step → List Reason
+reasons state (steps.Guest size) =
+    where_ (is_memory_too_big state size) refusals.MemoryTooBig ∷ where_ (are_guests_full state) refusals.Full ∷ []
+reasons state (steps.Between writer reader ty) =
+    where_ (is_unknown_guest state writer || is_unknown_guest state reader) refusals.UnknownGuest
+    ∷ where_ (is_no_handle (next_index (guest_in state.guests reader).handles) || is_no_handle (writer_index state writer reader ty)) refusals.IndexOverflow
+    ∷ where_ (are_handles_full state 2) refusals.HandleLimit
+    ∷ where_ (are_places_full state 3 || are_streams_full state) refusals.Full
+    ∷ []
+reasons state (steps.Write g ty handle address count) = operation_reasons state Writing g ty handle address count
+reasons state (steps.Read g ty handle address count) = operation_reasons state Reading g ty handle address count
+reasons state (steps.Poke g address bytes) =
+    where_ (is_unknown_guest state g) refusals.UnknownGuest
+    ∷ where_ (are_bytes_out_of_bounds state g address (length bytes)) refusals.OutOfBounds
+    ∷ []
+reasons state (steps.Dump g address len) =
+    where_ (is_unknown_guest state g) refusals.UnknownGuest
+    ∷ where_ (are_bytes_out_of_bounds state g address (min len 64)) refusals.OutOfBounds
+    ∷ []
+
+unfoldable pub refusal : State → Step → Option Refusal
+refusal state step = first_of (reasons state step)

@@ -1,0 +1,84 @@
+-- The state of the machine: guests, each with a memory and a handle table, and the streams
+-- between them.
+-- Component Model, "Stream State" and "Waitable State"; wasmtime, futures_and_streams.rs.
+use Rattle.std.specs.Prelude.{ℕ, ◌+◌, ◌*◌, Bool, false, true, ◌&&◌, not, List, [], length, slice_index_or, slice_set, sum_by, count_by, None, Some}
+use Rattle.strm_codes.specs.declared.codes.TransmitKind.TheVariants.{Stream as AStream}
+use Rattle.strm_codes.specs.declared.payloads.Payload.TheVariants.{Nothing}
+use Rattle.strm_handles.specs.Handles.{Handles, no_handles, live_of}
+use Rattle.strm_machine.specs.declared.limits.Limits.{Limits}
+use Rattle.strm_machine.specs.declared.streams.Owner.{Owner}
+use Rattle.strm_machine.specs.declared.streams.Owner.TheVariants.{Held, Gone}
+use Rattle.strm_machine.specs.declared.streams.End.{End}
+use Rattle.strm_machine.specs.declared.streams.Stream.{Stream}
+
+-- a guest's bytes, and what its handles stand for
+pub record Guest : Type 0 where
+  pub memory : List ℕ
+  pub handles : Handles
+
+-- guests and streams by their numbers; a stream whose both ends are gone keeps its place
+pub record State : Type 0 where
+  pub limits : Limits
+  pub guests : List Guest
+  pub streams : List Stream
+  pub trapped : Bool
+
+-- no guest, no stream, under these limits
+abbrev pub empty : Limits → State
+empty limits = record { limits = limits; guests = []; streams = []; trapped = false }
+
+-- what stands past the last guest
+abbrev pub no_guest : Guest
+no_guest = record { memory = []; handles = no_handles }
+
+abbrev pub guest_in : List Guest → ℕ → Guest
+guest_in guests g = slice_index_or guests g no_guest
+
+abbrev pub memory_in : List Guest → ℕ → List ℕ
+memory_in guests g = (guest_in guests g).memory
+
+-- the guests with another memory for one of them
+abbrev pub with_memory : List Guest → ℕ → List ℕ → List Guest
+with_memory guests g memory = slice_set guests g (record (guest_in guests g) { memory = memory })
+
+-- the guests with other handles for one of them
+abbrev pub with_handles : List Guest → ℕ → Handles → List Guest
+with_handles guests g handles = slice_set guests g (record (guest_in guests g) { handles = handles })
+
+abbrev pub is_gone : Owner → Bool
+is_gone Gone = true
+is_gone (Held guest handle) = false
+
+-- an end that has this owner, was told nothing, and has no operation
+abbrev pub idle_end : Owner → End
+idle_end owner = record { owner = owner; told = false; operation = None }
+
+-- what stands past the last stream
+abbrev pub no_stream : Stream
+no_stream = record {
+  kind = AStream;
+  payload = Nothing;
+  passed = false;
+  writer = idle_end Gone;
+  reader = idle_end Gone;
+  received = 0;
+}
+
+abbrev pub stream_at : State → ℕ → Stream
+stream_at state s = slice_index_or state.streams s no_stream
+
+-- an end is there
+abbrev pub is_live : Stream → Bool
+is_live stream = not (is_gone stream.writer.owner && is_gone stream.reader.owner)
+
+-- live handles of all guests together
+abbrev pub handles_in_use : State → ℕ
+handles_in_use state = sum_by (λ g. live_of g.handles) state.guests
+
+-- a stream takes three places until both ends are gone. Ours: the crate's table of transmits
+abbrev pub places_in_use : State → ℕ
+places_in_use state = 3 * count_by is_live state.streams
+
+-- bytes of all memories together
+abbrev pub bytes_in_use : State → ℕ
+bytes_in_use state = sum_by (λ g. length g.memory) state.guests

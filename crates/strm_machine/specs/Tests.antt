@@ -1,0 +1,131 @@
+-- The conditions of the refusals, each by itself.
+-- wasmtime, futures_and_streams.rs and handle_table.rs; the conditions on guests, places and bytes are ours.
+use Rattle.std.specs.Prelude.{ℕ, ◌+◌, ◌*◌, ◌==◌, Bool, true, false, ◌&&◌, ◌||◌, not, if◌then◌else◌, List, length, nat_lt, nat_le, is_some, Result, Ok, Err, Option, Some, None}
+use Rattle.strm_codes.specs.declared.codes.TransmitIndex.{TransmitIndex}
+use Rattle.strm_codes.specs.declared.codes.TransmitIndex.TheVariants as index
+use Rattle.strm_codes.specs.declared.codes.TransmitKind.{TransmitKind}
+use Rattle.strm_codes.specs.declared.codes.TransmitKind.TheVariants.{Stream as AStream, Future}
+use Rattle.strm_codes.specs.Layout.{scalars_of}
+use Rattle.strm_codes.specs.Types.{kind_of, payload_of}
+use Rattle.strm_memory.specs.Items.{is_number_or_none}
+use Rattle.strm_memory.specs.Region as region
+use Rattle.strm_handles.specs.Handles.{Handles, next_index}
+use Rattle.strm_handles.specs.Lookups.{stream_rep_of, future_rep_of}
+use Rattle.strm_handles.specs.declared.errors.HandleError.{HandleError}
+use Rattle.strm_handles.specs.declared.errors.HandleError.TheVariants as errors
+use Rattle.strm_handles.specs.declared.entries.TransmitLocalState.{TransmitLocalState}
+use Rattle.strm_handles.specs.declared.entries.TransmitLocalState.TheVariants as states
+use Rattle.strm_machine.specs.State.{State, Guest, guest_in, memory_in, stream_at, handles_in_use, places_in_use, bytes_in_use}
+use Rattle.strm_machine.specs.Sides.{opposite, same_side, end_of}
+use Rattle.strm_machine.specs.Turns.{is_future}
+use Rattle.strm_machine.specs.declared.streams.Side.{Side}
+use Rattle.strm_machine.specs.declared.streams.Side.TheVariants.{Writing, Reading}
+use Rattle.strm_machine.specs.declared.streams.Operation.{Operation}
+use Rattle.strm_machine.specs.declared.streams.Stream.{Stream}
+
+-- a named guest isn't there
+abbrev pub is_unknown_guest : State → ℕ → Bool
+is_unknown_guest state g = nat_le (length state.guests) g
+
+-- there are 1,048,576 guests
+abbrev pub are_guests_full : State → Bool
+are_guests_full state = nat_le 1048576 (length state.guests)
+
+-- the memories would pass 268,435,456 bytes together
+abbrev pub is_memory_too_big : State → ℕ → Bool
+is_memory_too_big state size = nat_lt 268435456 (bytes_in_use state + size)
+
+-- the handles that a call makes would pass the limit
+abbrev pub are_handles_full : State → ℕ → Bool
+are_handles_full state needed = nat_lt state.limits.handles (handles_in_use state + needed)
+
+-- the places that a call takes would pass the limit
+abbrev pub are_places_full : State → ℕ → Bool
+are_places_full state needed = nat_lt state.limits.places (places_in_use state + needed)
+
+-- a new stream's number would be 4,294,967,295
+abbrev pub are_streams_full : State → Bool
+are_streams_full state = nat_le 4294967295 (length state.streams)
+
+-- a number that a table would give is no handle
+abbrev pub is_no_handle : ℕ → Bool
+is_no_handle number = nat_le 268435456 number
+
+-- a stream's count is no count of items; a future's is not looked at
+abbrev pub is_too_big : TransmitIndex → ℕ → Bool
+is_too_big (index.Stream payload) count = nat_le 268435456 count
+is_too_big (index.Future payload) count = false
+
+-- the items that a call asks for: a future's is one
+abbrev pub items_asked : TransmitIndex → ℕ → ℕ
+items_asked (index.Stream payload) count = count
+items_asked (index.Future payload) count = 1
+
+-- the items' region passes the end of the guest's memory
+abbrev pub is_out_of_bounds : State → ℕ → TransmitIndex → ℕ → ℕ → Bool
+is_out_of_bounds state g ty address count =
+    region.is_out_of_bounds (length (memory_in state.guests g)) (scalars_of (payload_of ty)) address (items_asked ty count)
+
+-- the address is no multiple of the alignment
+abbrev pub is_misaligned : TransmitIndex → ℕ → ℕ → Bool
+is_misaligned ty address count = region.is_misaligned (scalars_of (payload_of ty)) address (items_asked ty count)
+
+-- bytes pass the end of the guest's memory
+abbrev pub are_bytes_out_of_bounds : State → ℕ → ℕ → ℕ → Bool
+are_bytes_out_of_bounds state g address count =
+    region.bytes_out_of_bounds (length (memory_in state.guests g)) address count
+
+-- what the guest's table answers for a handle of this type: a stream's number, and the end's side
+abbrev pub named_by : TransmitIndex → Handles → ℕ → Result (ℕ × TransmitLocalState) HandleError
+named_by (index.Stream payload) handles handle = stream_rep_of handles payload handle
+named_by (index.Future payload) handles handle = future_rep_of handles payload handle
+
+abbrev pub named : State → ℕ → TransmitIndex → ℕ → Result (ℕ × TransmitLocalState) HandleError
+named state g ty handle = named_by ty (guest_in state.guests g).handles handle
+
+abbrev pub is_unknown_handle : Result (ℕ × TransmitLocalState) HandleError → Bool
+is_unknown_handle (Err errors.UnknownHandle) = true
+is_unknown_handle _ = false
+
+abbrev pub is_wrong_kind : Result (ℕ × TransmitLocalState) HandleError → Bool
+is_wrong_kind (Err errors.WrongKind) = true
+is_wrong_kind _ = false
+
+abbrev pub is_wrong_type : Result (ℕ × TransmitLocalState) HandleError → Bool
+is_wrong_type (Err errors.WrongType) = true
+is_wrong_type _ = false
+
+abbrev pub stream_named : Result (ℕ × TransmitLocalState) HandleError → ℕ
+stream_named (Ok answer) = answer.0
+stream_named (Err error) = 0
+
+abbrev pub side_of : TransmitLocalState → Side
+side_of (states.Write done) = Writing
+side_of (states.Read done) = Reading
+side_of (states.Busy reading) = if reading then Reading else Writing
+
+abbrev pub side_named : Result (ℕ × TransmitLocalState) HandleError → Side
+side_named (Ok answer) = side_of answer.1
+side_named (Err error) = Writing
+
+-- the handle names the other end than the call
+abbrev pub is_other_end : Side → Result (ℕ × TransmitLocalState) HandleError → Bool
+is_other_end side name = not (same_side side (side_named name))
+
+abbrev pub is_busy : Side → Stream → Bool
+is_busy side stream = is_some (end_of side stream).operation
+
+-- a read or write of this end can't be any more: the end was told, or a future's value passed
+abbrev pub has_ended : Side → TransmitKind → Stream → Bool
+has_ended side AStream stream = (end_of side stream).told
+has_ended Writing Future stream = stream.writer.told || stream.passed
+has_ended Reading Future stream = stream.passed
+
+abbrev pub is_open_of : ℕ → Option Operation → Bool
+is_open_of g None = false
+is_open_of g (Some operation) = operation.is_open && (operation.guest == g)
+
+-- an open operation of the same guest waits on the other side, for items that don't move within one guest
+abbrev pub is_within_one_guest : ℕ → Side → TransmitIndex → Stream → Bool
+is_within_one_guest g side ty stream =
+    is_open_of g (end_of (opposite side) stream).operation && not (is_number_or_none (payload_of ty))
