@@ -1,10 +1,10 @@
 -- Chains of free slots: what a write beside them, a write over their first slot, and a push leave.
-use Rattle.std.proofs.Common.{◌≡◌, ◌≢◌, ℕ, zero, suc, ◌+◌, ◌-◌, ◌<◌, ◌≤◌, List, [], ◌∷◌, ◌++◌, length, get_or, set, map, Option, Some, None, refl, sym, ap, ◌∙◌, subst, arith, ⊎_elim}
+use Rattle.std.proofs.Common.{◌≡◌, ◌≢◌, ℕ, zero, suc, ◌+◌, ◌-◌, ◌<◌, ◌≤◌, List, [], ◌∷◌, ◌++◌, length, get_or, set, map, Option, Some, None, refl, sym, ap, ◌∙◌, subst, arith}
 use Rattle.std.proofs.lemmas.List.{get_or-set_other, get_or-set_same, get_or_append_left, get_or_read_under, get_or-map, map-set, length-map}
 use Rattle.std.proofs.lemmas.List.Elements.{All-head, All-tail}
 use Rattle.std.specs.Prelude.{All, IsSome, ◌^◌}
 use Rattle.std.proofs.Common.{add-one}
-use Rattle.strm_handles.specs.Handles.{HandlesOf, next_index, entry_at, entry_in, entries_with, IsFreed, IsSound, inserted, removed, with_entry}
+use Rattle.strm_handles.specs.Handles.{next_index, entry_in, IsFreed, IsSound, inserted, removed, with_entry}
 use Rattle.strm_handles.specs.Chain.{entry_of, before, slot_at, chain, handles_in}
 use Rattle.strm_handles.specs.declared.slots.Slot.{Slot}
 use Rattle.strm_handles.specs.declared.slots.Slot.TheVariants.{Free, Full}

@@ -6,7 +6,7 @@ use Rattle.std.proofs.lemmas.List.Elements.{All-head, All-tail, All-cons}
 use Rattle.std.proofs.lemmas.List.Sums.{sum_by-set, sum_by_push, get_or-le-sum_by}
 use Rattle.std.proofs.lemmas.Bool.{cases_lt}
 use Rattle.std.specs.Prelude.{All}
-use Rattle.strm_handles.specs.Handles.{HandlesOf, AreApart, Handles, no_handles, entry_in, entry_at, next_of, next_index, entries_with, inserted_in, inserted, removed, with_entry, occupied_in, occupied, IsFreed, IsSound, lends_of, lends_in, open_lends, live_of}
+use Rattle.strm_handles.specs.Handles.{HandlesOf, Handles, no_handles, entry_in, entry_at, next_of, next_index, entries_with, inserted_in, inserted, removed, with_entry, occupied_in, occupied, IsFreed, IsSound, lends_of, lends_in, live_of}
 use Rattle.strm_handles.specs.declared.entries.Entry.{Entry}
 
 module _ {E : Type 0} where

@@ -5,7 +5,11 @@
 
 ghost use Rattle.std.specs.Prelude.{◌≡◌};
 
+use crate::errors::HandleError;
 use strm_codes::payloads::Payload;
+
+/// 2^28: the first number that no handle has. Nor has one the number 0.
+pub const MAX_HANDLE: u32 = 268_435_456;
 
 /// The call that a borrowed resource was lent to.
 #[derive(Clone, Copy, Debug, PartialEq, Eq)]
@@ -19,10 +23,22 @@ pub struct TypedResource {
 }
 
 impl TypedResource {
+    ghost use Rattle.strm_handles.specs.Lookups.{typed_rep};
+
     pub fn new(ty: u32, rep: u32) -> TypedResource
         ensures { result ≡ record { ty = ty; rep = rep } }
     {
         TypedResource { ty, rep }
+    }
+
+    pub(crate) fn typed_rep(&self, ty: u32) -> Result<u32, HandleError>
+        ensures { result ≡ typed_rep ty self.now }
+    {
+        if self.ty == ty {
+            Ok(self.rep)
+        } else {
+            Err(HandleError::WrongType)
+        }
     }
 }
 
@@ -59,12 +75,75 @@ pub enum TransmitLocalState {
     Busy { reading: bool },
 }
 
+impl TransmitLocalState {
+    ghost use Rattle.strm_handles.specs.Ends.{readable, writable};
+
+    /// Whether an idle read end is done.
+    pub(crate) fn readable(&self) -> Result<bool, HandleError>
+        ensures { result ≡ readable self.now }
+    {
+        match self {
+            TransmitLocalState::Read { done } => Ok(*done),
+            TransmitLocalState::Busy { reading: true } => Err(HandleError::Busy),
+            _ => Err(HandleError::WrongEnd),
+        }
+    }
+
+    /// Whether an idle write end is done.
+    pub(crate) fn writable(&self) -> Result<bool, HandleError>
+        ensures { result ≡ writable self.now }
+    {
+        match self {
+            TransmitLocalState::Write { done } => Ok(*done),
+            TransmitLocalState::Busy { reading: false } => Err(HandleError::Busy),
+            _ => Err(HandleError::WrongEnd),
+        }
+    }
+}
+
 /// An end of a stream or future, as a table keeps it.
 #[derive(Clone, Copy, Debug)]
 pub struct TransmitEnd {
     pub rep: u32,
     pub ty: Payload,
     pub state: TransmitLocalState,
+}
+
+impl TransmitEnd {
+    ghost use Rattle.strm_handles.specs.Ends.{read_end, write_end};
+    ghost use Rattle.strm_handles.specs.Lookups.{typed};
+
+    /// A new read end.
+    pub(crate) fn read(ty: Payload, rep: u32) -> TransmitEnd
+        ensures { result ≡ read_end ty rep }
+    {
+        TransmitEnd {
+            rep,
+            ty,
+            state: TransmitLocalState::Read { done: false },
+        }
+    }
+
+    /// A new write end.
+    pub(crate) fn write(ty: Payload, rep: u32) -> TransmitEnd
+        ensures { result ≡ write_end ty rep }
+    {
+        TransmitEnd {
+            rep,
+            ty,
+            state: TransmitLocalState::Write { done: false },
+        }
+    }
+
+    pub(crate) fn typed(self, ty: Payload) -> Result<TransmitEnd, HandleError>
+        ensures { result ≡ typed ty self }
+    {
+        if self.ty == ty {
+            Ok(self)
+        } else {
+            Err(HandleError::WrongType)
+        }
+    }
 }
 
 /// What a handle stands for.

@@ -8,5 +8,5 @@ pub mod counters;
 pub mod entries;
 pub mod errors;
 mod slots;
-
-
+pub mod tables;
+pub mod threads;

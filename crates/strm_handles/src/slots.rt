@@ -8,13 +8,10 @@ ghost use Rattle.strm_handles.specs.Changes.{Inserts};
 ghost use Rattle.strm_handles.specs.Counters.{uncounted};
 
 use crate::counters::HandleCounter;
-use crate::entries::Entry;
+use crate::entries::{Entry, MAX_HANDLE};
 use crate::errors::HandleError;
 use std::alloc::Global;
 use std::marker::Model;
-
-/// 2^28: the first number that is never given.
-pub const MAX_HANDLE: u32 = 268_435_456;
 
 #[derive(Clone, Copy)]
 enum Slot<E> {

@@ -12,8 +12,7 @@ returns g c =
     let free = length-chain t.slots.items t.free t.first in
     let slots = length-map t.slots.items entry_of in
     let test = Decides-eqb t.free c.len.result in
-    rw (← c.self.view_is)
-    (
+    rw (← c.self.view_is) (
       (λ e. omega (arith, test.0 e, t.slots.ok)),
       (λ e. test.1 (omega (arith, t.slots.ok))),
     )
