@@ -1,0 +1,7 @@
+pub mod Counters
+pub mod Handles
+pub mod Chain
+pub mod Changes
+pub mod Lookups
+pub mod Ends
+pub mod Lends

@@ -1,0 +1,111 @@
+-- What the look-ups of a table answer: each refusal in its order, else what the entry tells.
+-- wasmtime, `handle_table.rs`, the calls of these names; Canonical ABI, "Table State".
+use Rattle.std.specs.Prelude.{ℕ, ◌==◌, Bool, if◌then◌else◌, Option, Some, None, Result, Ok, Err}
+use Rattle.strm_codes.specs.declared.payloads.Payload.{Payload}
+use Rattle.strm_codes.specs.Sameness.{same_payload}
+use Rattle.strm_handles.specs.declared.entries.Entry.{Entry}
+use Rattle.strm_handles.specs.declared.entries.Entry.TheVariants as entry
+use Rattle.strm_handles.specs.declared.entries.TransmitEnd.{TransmitEnd}
+use Rattle.strm_handles.specs.declared.entries.TransmitLocalState.{TransmitLocalState}
+use Rattle.strm_handles.specs.declared.entries.TypedResource.{TypedResource}
+use Rattle.strm_handles.specs.declared.entries.TypedResourceIndex.{TypedResourceIndex}
+use Rattle.strm_handles.specs.declared.entries.Waitable.{Waitable}
+use Rattle.strm_handles.specs.declared.entries.Waitable.TheVariants as waitable
+use Rattle.strm_handles.specs.declared.errors.HandleError.{HandleError}
+use Rattle.strm_handles.specs.declared.errors.HandleError.TheVariants.{UnknownHandle, WrongKind, WrongType}
+use Rattle.strm_handles.specs.Handles.{HandlesOf, Handles, entry_at}
+
+-- the first refusal stands
+infixl 10 ◌>>=◌
+abbrev pub ◌>>=◌ : {A B : Type 0} → Result A HandleError → (A → Result B HandleError) → Result B HandleError
+Ok x >>= next = next x
+Err e >>= next = Err e
+
+-- the end of a stream or future, where its payload is this one
+abbrev pub typed : Payload → TransmitEnd → Result TransmitEnd HandleError
+typed ty end = if same_payload end.ty ty then Ok end else Err WrongType
+
+-- the end of a stream of this payload
+abbrev pub stream_in : Payload → Option Entry → Result TransmitEnd HandleError
+stream_in ty None = Err UnknownHandle
+stream_in ty (Some (entry.Stream end)) = typed ty end
+stream_in ty (Some _) = Err WrongKind
+
+abbrev pub stream_of : Handles → Payload → ℕ → Result TransmitEnd HandleError
+stream_of h ty idx = stream_in ty (entry_at h idx)
+
+-- the end of a future of this payload
+abbrev pub future_in : Payload → Option Entry → Result TransmitEnd HandleError
+future_in ty None = Err UnknownHandle
+future_in ty (Some (entry.Future end)) = typed ty end
+future_in ty (Some _) = Err WrongKind
+
+abbrev pub future_of : Handles → Payload → ℕ → Result TransmitEnd HandleError
+future_of h ty idx = future_in ty (entry_at h idx)
+
+abbrev pub stream_rep_of : Handles → Payload → ℕ → Result (ℕ × TransmitLocalState) HandleError
+stream_rep_of h ty idx = do
+  end ← stream_of h ty idx
+  Ok (end.rep, end.state)
+
+abbrev pub future_rep_of : Handles → Payload → ℕ → Result (ℕ × TransmitLocalState) HandleError
+future_rep_of h ty idx = do
+  end ← future_of h ty idx
+  Ok (end.rep, end.state)
+
+-- a resource's number, where its type is this one
+abbrev pub typed_rep : ℕ → TypedResource → Result ℕ HandleError
+typed_rep ty resource = if resource.ty == ty then Ok resource.rep else Err WrongType
+
+abbrev pub resource_rep_in : ℕ → Option Entry → Result ℕ HandleError
+resource_rep_in ty None = Err UnknownHandle
+resource_rep_in ty (Some (entry.ResourceOwn resource lend_count)) = typed_rep ty resource
+resource_rep_in ty (Some (entry.ResourceBorrow resource scope)) = typed_rep ty resource
+resource_rep_in ty (Some _) = Err WrongKind
+
+abbrev pub resource_rep_of : Handles → TypedResourceIndex → Result ℕ HandleError
+resource_rep_of h idx = resource_rep_in idx.ty (entry_at h idx.index)
+
+abbrev pub error_context_rep_in : Option Entry → Result ℕ HandleError
+error_context_rep_in None = Err UnknownHandle
+error_context_rep_in (Some (entry.ErrorContext rep)) = Ok rep
+error_context_rep_in (Some _) = Err WrongKind
+
+abbrev pub error_context_rep_of : Handles → ℕ → Result ℕ HandleError
+error_context_rep_of h idx = error_context_rep_in (entry_at h idx)
+
+-- a subtask's number, and whether it is a host task
+abbrev pub subtask_rep_in : Option Entry → Result (ℕ × Bool) HandleError
+subtask_rep_in None = Err UnknownHandle
+subtask_rep_in (Some (entry.Subtask rep is_host)) = Ok (rep, is_host)
+subtask_rep_in (Some _) = Err WrongKind
+
+abbrev pub subtask_rep_of : Handles → ℕ → Result (ℕ × Bool) HandleError
+subtask_rep_of h idx = subtask_rep_in (entry_at h idx)
+
+abbrev pub waitable_set_rep_in : Option Entry → Result ℕ HandleError
+waitable_set_rep_in None = Err UnknownHandle
+waitable_set_rep_in (Some (entry.WaitableSet rep)) = Ok rep
+waitable_set_rep_in (Some _) = Err WrongKind
+
+abbrev pub waitable_set_rep_of : Handles → ℕ → Result ℕ HandleError
+waitable_set_rep_of h idx = waitable_set_rep_in (entry_at h idx)
+
+-- subtasks and the ends of streams and futures may be waited for
+abbrev pub waitable_rep_in : Option Entry → Result (ℕ × Waitable) HandleError
+waitable_rep_in None = Err UnknownHandle
+waitable_rep_in (Some (entry.Subtask rep is_host)) = Ok (rep, waitable.Subtask is_host)
+waitable_rep_in (Some (entry.Future end)) = Ok (end.rep, waitable.Future)
+waitable_rep_in (Some (entry.Stream end)) = Ok (end.rep, waitable.Stream)
+waitable_rep_in (Some _) = Err WrongKind
+
+abbrev pub waitable_rep_of : Handles → ℕ → Result (ℕ × Waitable) HandleError
+waitable_rep_of h idx = waitable_rep_in (entry_at h idx)
+
+-- a thread's number; a table of threads has no other kind
+abbrev pub guest_thread_rep_in : Option ℕ → Result ℕ HandleError
+guest_thread_rep_in None = Err UnknownHandle
+guest_thread_rep_in (Some rep) = Ok rep
+
+abbrev pub guest_thread_rep_of : HandlesOf ℕ → ℕ → Result ℕ HandleError
+guest_thread_rep_of h idx = guest_thread_rep_in (entry_at h idx)

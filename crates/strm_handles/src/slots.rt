@@ -1,0 +1,186 @@
+//! Slots in a row, the free ones threaded from the one freed last.
+//!
+//! Source: wasmtime, `handle_table.rs`, `HandleTable::insert` and `remove`.
+
+ghost use Rattle.std.specs.Prelude.{◌≡◌, ◌+◌, ◌^◌, ◌<◌, ◌≤◌, ◌↔◌, IsTrue, IsSome, OnOk, OnErr, IfErr, Err};
+ghost use Rattle.strm_handles.specs.Handles.{no_handles, next_index, entry_at, inserted, removed, with_entry, occupied, IsSound};
+ghost use Rattle.strm_handles.specs.Changes.{Inserts};
+ghost use Rattle.strm_handles.specs.Counters.{uncounted};
+
+use crate::counters::HandleCounter;
+use crate::entries::{Entry, MAX_HANDLE};
+use crate::errors::HandleError;
+use std::alloc::Global;
+use std::marker::Model;
+
+#[derive(Clone, Copy)]
+enum Slot<E> {
+    /// The index of the slot that was freed before this one.
+    Free(u32),
+    Full(E),
+}
+
+const _: () = prove!(size_of::<Slot<Entry>>() <= 24);
+
+/// Slots, each of which holds an entry or is free. The slot at an index has the number above it.
+#[derive(Drop)]
+pub(crate) struct Slots<E> {
+    slots: Vec<Slot<E>>,
+    /// The index of the slot freed last, where one is free.
+    first: u32,
+    /// How many slots are free.
+    free: u32,
+}
+
+impl<E> Model for Slots<E> {
+    ghost use Rattle.strm_handles.specs.Handles.{TableOf};
+
+    ghost Value = { TableOf E };
+
+    ghost use Rattle.strm_handles.specs.Chain.{table_of, IsThreaded};
+
+    ghost view = { table_of };
+
+    ghost invariant = { IsThreaded };
+}
+
+impl<E: Copy> Slots<E> {
+    pub(crate) fn new(alloc: Global) -> Slots<E>
+        ensures { result.handles ≡ no_handles }
+    {
+        Slots {
+            slots: Vec::new(alloc),
+            first: 0,
+            free: 0,
+        }
+    }
+
+    pub(crate) fn sound(&self)
+        ensures { IsSound self.now.handles }
+    {
+        let _ = &self.free;
+    }
+
+    pub(crate) fn is_empty(&self) -> bool
+        ensures { IsTrue result ↔ (occupied self.now.handles ≡ 0) }
+    {
+        self.free as usize == self.slots.len()
+    }
+
+    /// The number that the next insert gives.
+    pub(crate) fn next_index(&self) -> u32
+        ensures exact { result ≡ next_index self.now.handles }
+        ensures some { 0 < result }
+        ensures most { result ≤ MAX_HANDLE }
+    {
+        if self.free == 0 {
+            self.slots.len() as u32 + 1
+        } else {
+            self.first + 1
+        }
+    }
+
+    /// Room for so many inserts.
+    pub(crate) fn reserve(&mut self, count: u32) -> Result<(), HandleError>
+        ensures ok { OnOk result (count ≤ self.new.room) }
+        ensures handles { self.new.handles ≡ self.old.handles }
+        ensures room { self.old.room ≤ self.new.room }
+        ensures err { OnErr result (self.new ≡ self.old) }
+        ensures memory { OnErr result (self.old.room < count) }
+        ensures errors { IfErr result (λ e. e ≡ HandleError.OutOfMemory) }
+    {
+        if count <= self.free {
+            return Ok(());
+        }
+        match self.slots.reserve((count - self.free) as usize) {
+            Ok(()) => Ok(()),
+            Err(_) => Err(HandleError::OutOfMemory),
+        }
+    }
+
+    /// What a number stands for.
+    pub(crate) fn get(&self, number: u32) -> Option<E>
+        ensures { result ≡ entry_at self.now.handles number }
+    {
+        if number == 0 || number as usize > self.slots.len() {
+            return None;
+        }
+        match self.slots[number as usize - 1] {
+            Slot::Free(_) => None,
+            Slot::Full(entry) => Some(entry),
+        }
+    }
+
+    /// Adds an entry, and counts it.
+    pub(crate) fn insert(
+        &mut self,
+        counter: &mut HandleCounter,
+        entry: E,
+    ) -> Result<u32, HandleError>
+        ensures { Inserts self.old self.new counter.old counter.new entry result }
+    {
+        let number = self.next_index();
+        if number == MAX_HANDLE {
+            return Err(HandleError::IndexOverflow);
+        }
+        if counter.is_full() {
+            return Err(HandleError::HandleLimit);
+        }
+        self.place(entry)?;
+        counter.count();
+        Ok(number)
+    }
+
+    fn place(&mut self, entry: E) -> Result<(), HandleError>
+        requires { next_index self.old.handles < MAX_HANDLE }
+        ensures ok { OnOk result (self.new.handles ≡ inserted self.old.handles entry) }
+        ensures room { self.old.room ≤ self.new.room + 1 }
+        ensures err { OnErr result (self.new ≡ self.old) }
+        ensures memory { OnErr result (self.old.room ≡ 0) }
+        ensures errors { IfErr result (λ e. e ≡ HandleError.OutOfMemory) }
+    {
+        if self.free == 0 {
+            match self.slots.reserve(1) {
+                Ok(()) => {
+                    self.slots.push_reserved(Slot::Full(entry));
+                    Ok(())
+                }
+                Err(_) => Err(HandleError::OutOfMemory),
+            }
+        } else {
+            let at = self.first as usize;
+            match self.slots[at] {
+                Slot::Free(next) => {
+                    self.slots[at] = Slot::Full(entry);
+                    self.first = next;
+                    self.free -= 1;
+                    Ok(())
+                }
+                Slot::Full(_) => unreachable!(),
+            }
+        }
+    }
+
+    /// Puts another entry in a number's place.
+    pub(crate) fn change(&mut self, number: u32, entry: E)
+        requires { IsSome (entry_at self.old.handles number) }
+        ensures handles { self.new.handles ≡ with_entry self.old.handles number entry }
+        ensures room { self.new.room ≡ self.old.room }
+    {
+        self.slots[number as usize - 1] = Slot::Full(entry);
+    }
+
+    /// Frees a number, which is given first from now on.
+    pub(crate) fn remove(&mut self, counter: &mut HandleCounter, number: u32)
+        requires here { IsSome (entry_at self.old.handles number) }
+        requires live { occupied self.old.handles ≤ counter.old.live }
+        ensures handles { self.new.handles ≡ removed self.old.handles number }
+        ensures room { self.new.room ≡ self.old.room + 1 }
+        ensures live { counter.new ≡ uncounted counter.old }
+    {
+        counter.uncount();
+        self.slots[number as usize - 1] = Slot::Free(self.first);
+        self.first = number - 1;
+        self.free += 1;
+    }
+}

@@ -1,0 +1,79 @@
+//! The handle table of a guest.
+//!
+//! Source: wasmtime, `handle_table.rs`, `HandleTable`; Canonical ABI, "Table State".
+
+ghost use Rattle.std.specs.Prelude.{◌≡◌, ◌<◌, ◌≤◌, ◌↔◌, IsTrue, OnOk, OnErr, IfErr};
+ghost use Rattle.strm_handles.specs.Handles.{no_handles, next_index, occupied, IsSound};
+
+use crate::entries::{Entry, MAX_HANDLE};
+use crate::errors::HandleError;
+use crate::slots::Slots;
+use std::alloc::Global;
+use std::marker::Model;
+
+mod ends;
+mod others;
+mod resources;
+
+/// The handles of a guest. Every insert counts its handle in the counter that it is passed, and every
+/// removal counts it off, so that one counter may serve the tables of many guests.
+#[derive(Drop)]
+pub struct HandleTable {
+    slots: Slots<Entry>,
+}
+
+impl Model for HandleTable {
+    ghost use Rattle.strm_handles.specs.Handles.{Table};
+
+    ghost Value = { Table };
+
+    ghost view = { λ t. t.slots };
+}
+
+impl HandleTable {
+    /// An empty table, which takes no memory.
+    pub fn new(alloc: Global) -> HandleTable
+        ensures { result.handles ≡ no_handles }
+    {
+        HandleTable {
+            slots: Slots::new(alloc),
+        }
+    }
+
+    /// The freed numbers are those that were given and stand for nothing, each once. Does nothing.
+    pub fn sound(&self)
+        ensures { IsSound self.now.handles }
+    {
+        self.slots.sound();
+    }
+
+    /// No number stands for anything.
+    pub fn is_empty(&self) -> bool
+        ensures { IsTrue result ↔ (occupied self.now.handles ≡ 0) }
+    {
+        self.slots.is_empty()
+    }
+
+    /// The number that the next insert gives; 2^28 where it gives none.
+    pub fn next_index(&self) -> u32
+        ensures exact { result ≡ next_index self.now.handles }
+        ensures some { 0 < result }
+        ensures most { result ≤ MAX_HANDLE }
+    {
+        self.slots.next_index()
+    }
+
+    /// Takes room for so many inserts, which then take no memory.
+    pub fn reserve(&mut self, count: u32) -> Result<(), HandleError>
+        ensures ok { OnOk result (count ≤ self.new.room) }
+        ensures handles { self.new.handles ≡ self.old.handles }
+        ensures room { self.old.room ≤ self.new.room }
+
+        // It fails only where that room was missing.
+        ensures errors { IfErr result (λ e. e ≡ HandleError.OutOfMemory) }
+        ensures memory { OnErr result (self.old.room < count) }
+        ensures err { OnErr result (self.new ≡ self.old) }
+    {
+        self.slots.reserve(count)
+    }
+}
