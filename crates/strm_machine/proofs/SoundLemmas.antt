@@ -18,11 +18,11 @@ use Rattle.strm_handles.specs.Handles.{Handles, inserted, inserted_in, entries_w
 use Rattle.strm_handles.specs.declared.entries.Entry.{Entry}
 use Rattle.strm_handles.specs.declared.entries.Entry.TheVariants as entries
 use Rattle.strm_handles.specs.declared.entries.TransmitEnd.{TransmitEnd}
-use Rattle.strm_handles.specs.declared.entries.TransmitLocalState.{TransmitLocalState}
+use Rattle.strm_handles.specs.Ends.{read_end, write_end}
 use Rattle.strm_memory.specs.Region.{is_out_of_bounds}
 use Rattle.strm_machine.specs.State.{State, Guest, no_guest, no_stream, guest_in, memory_in, with_memory, with_handles, stream_at, idle_end}
 use Rattle.strm_machine.specs.Turns.{Turn, turn}
-use Rattle.strm_machine.specs.Making.{entry_for, read_entry, write_entry, with_read_end, with_ends, writer_index, made_stream, made_pair, with_stream}
+use Rattle.strm_machine.specs.Making.{read_entry, write_entry, with_read_end, with_ends, writer_index, made_stream, made_pair, with_stream}
 use Rattle.strm_machine.specs.Reactions.{written_back, Reaction}
 use Rattle.strm_machine.specs.Soundness.{sizes_of, handles_of, payloads_of, IsNamed, EntryIsNamed, AreNamed, IsPlaced, OperationIsPlaced, StreamIsPlaced, IsSound}
 use Rattle.strm_machine.specs.declared.streams.Side.{Side}
@@ -115,9 +115,19 @@ inserted_in-named payloads es (n ∷ ns) e p h = entries_with-named payloads es 
 AreNamed-inserted : (payloads : List Payload) (handles : Handles) (e : Entry) → EntryIsNamed payloads (Some e) → AreNamed payloads handles → AreNamed payloads (inserted handles e)
 AreNamed-inserted payloads handles e p h = inserted_in-named payloads handles.entries handles.freed e p h
 
-entry_for-named : (payloads : List Payload) (ty : TransmitIndex) (state : TransmitLocalState) → EntryIsNamed (payloads ++ payload_of ty ∷ []) (Some (entry_for ty (length payloads) state))
-entry_for-named payloads (index.Stream payload) state = record { there = omega (arith, length-append payloads (payload ∷ [])); payload = get_or_push payloads payload Nothing (length payloads) refl }
-entry_for-named payloads (index.Future payload) state = record { there = omega (arith, length-append payloads (payload ∷ [])); payload = get_or_push payloads payload Nothing (length payloads) refl }
+new_end-named : (payloads : List Payload) (p : Payload) (end : TransmitEnd) → end.rep ≡ length payloads → end.ty ≡ p → IsNamed (payloads ++ p ∷ []) end
+new_end-named payloads p end r t = record {
+  there = omega (arith, r, length-append payloads (p ∷ []));
+  payload = get_or_push payloads p Nothing end.rep (sym r) ∙ sym t;
+}
+
+read_entry-named : (payloads : List Payload) (ty : TransmitIndex) → EntryIsNamed (payloads ++ payload_of ty ∷ []) (Some (read_entry ty (length payloads)))
+read_entry-named payloads (index.Stream payload) = new_end-named payloads payload (read_end payload (length payloads)) refl refl
+read_entry-named payloads (index.Future payload) = new_end-named payloads payload (read_end payload (length payloads)) refl refl
+
+write_entry-named : (payloads : List Payload) (ty : TransmitIndex) → EntryIsNamed (payloads ++ payload_of ty ∷ []) (Some (write_entry ty (length payloads)))
+write_entry-named payloads (index.Stream payload) = new_end-named payloads payload (write_end payload (length payloads)) refl refl
+write_entry-named payloads (index.Future payload) = new_end-named payloads payload (write_end payload (length payloads)) refl refl
 
 -- the handles of a guest whose table was changed
 handles_of-with : (guests : List Guest) (g : ℕ) (handles : Handles) → handles_of (with_handles guests g handles) ≡ set (handles_of guests) g handles
@@ -149,8 +159,8 @@ IsSound-with_stream state writer reader ty h =
     let count : length old ≡ s = length-map state.streams (λ st. st.payload) in
     let payloads : payloads_of (state.streams ++ stream ∷ []) ≡ new = map-append (λ st. st.payload) state.streams (stream ∷ []) in
     let before : All (AreNamed new) (handles_of state.guests) = All-weaker (AreNamed old) (AreNamed new) (AreNamed-more old (payload_of ty)) (handles_of state.guests) h.named in
-    let read : EntryIsNamed new (Some (read_entry ty s)) = rw (← count) (entry_for-named old ty _) in
-    let write : EntryIsNamed new (Some (write_entry ty s)) = rw (← count) (entry_for-named old ty _) in
+    let read : EntryIsNamed new (Some (read_entry ty s)) = rw (← count) (read_entry-named old ty) in
+    let write : EntryIsNamed new (Some (write_entry ty s)) = rw (← count) (write_entry-named old ty) in
     let held = with_read_end state.guests reader ty s in
     let named1 = with_handles-named new state.guests reader (read_entry ty s) read before in
     let named2 = with_handles-named new held writer (write_entry ty s) write named1 in

@@ -9,24 +9,22 @@ use Rattle.strm_codes.specs.Types.{kind_of, payload_of}
 use Rattle.strm_handles.specs.Handles.{Handles, next_index, inserted}
 use Rattle.strm_handles.specs.declared.entries.Entry.{Entry}
 use Rattle.strm_handles.specs.declared.entries.Entry.TheVariants as entries
-use Rattle.strm_handles.specs.declared.entries.TransmitLocalState.{TransmitLocalState}
-use Rattle.strm_handles.specs.declared.entries.TransmitLocalState.TheVariants as states
+use Rattle.strm_handles.specs.Ends.{read_end, write_end}
 use Rattle.strm_machine.specs.State.{State, Guest, guest_in, with_handles, idle_end}
 use Rattle.strm_machine.specs.declared.streams.Owner.TheVariants.{Held}
 use Rattle.strm_machine.specs.declared.streams.Stream.{Stream}
 use Rattle.strm_machine.specs.declared.replies.Pair.{Pair}
 
--- what a handle of a stream's end stands for. The table's local state only says which end it is:
--- whether an end is busy or was told is a fact of the stream
-abbrev pub entry_for : TransmitIndex → ℕ → TransmitLocalState → Entry
-entry_for (index.Stream payload) s state = entries.Stream (record { rep = s; ty = payload; state = state })
-entry_for (index.Future payload) s state = entries.Future (record { rep = s; ty = payload; state = state })
-
+-- what the handle of a read end of stream s stands for. The table's local state stays as it is
+-- inserted: whether an end is busy or was told is a fact of the stream
 abbrev pub read_entry : TransmitIndex → ℕ → Entry
-read_entry ty s = entry_for ty s (states.Read false)
+read_entry (index.Stream payload) s = entries.Stream (read_end payload s)
+read_entry (index.Future payload) s = entries.Future (read_end payload s)
 
+-- and of a write end
 abbrev pub write_entry : TransmitIndex → ℕ → Entry
-write_entry ty s = entry_for ty s (states.Write false)
+write_entry (index.Stream payload) s = entries.Stream (write_end payload s)
+write_entry (index.Future payload) s = entries.Future (write_end payload s)
 
 -- the guests with the read end of stream s in the reader's table
 abbrev pub with_read_end : List Guest → ℕ → TransmitIndex → ℕ → List Guest
