@@ -1,5 +1,5 @@
 -- Regions of items: what the test of their bounds says, what is left of one, and what storing into one keeps.
-use Rattle.std.proofs.Common.{◌≡◌, ℕ, ◌+◌, ◌-◌, ◌*◌, ◌<◌, ◌≤◌, ℤ, zero, suc, Some, Bool, true, false, List, length, take, drop, get_or, refl, arith, length-append, length-take, length-drop}
+use Rattle.std.proofs.Common.{◌≡◌, ℕ, ◌+◌, ◌-◌, ◌*◌, ◌<◌, ◌≤◌, ℤ, zero, suc, Some, Bool, true, false, List, [], ◌∷◌, ◌++◌, length, take, drop, get_or, add-zero, refl, arith, length-append, length-take, length-drop}
 use Rattle.std.proofs.lemmas.Bool.Decides.{nat_tests}
 use Rattle.std.proofs.lemmas.List.Sums.{get_or-le-sum_by}
 use Rattle.std.proofs.lemmas.Bool.{cases_lt, ltb-true, lt-ltb, le-ltb}
@@ -7,8 +7,9 @@ use Rattle.std.specs.Prelude.{nat_lt, ◌&&◌, ◌^◌, sum}
 use Rattle.strm_codes.specs.Layout.{item_size}
 use Rattle.strm_codes.specs.declared.scalars.Scalar.{Scalar}
 use Rattle.strm_memory.specs.Items.{items_at, stored_at}
-use Rattle.strm_memory.specs.Region.{is_out_of_bounds}
-use Rattle.strm_memory.proofs.RegionLemmas.{length-items, length-stored}
+use Rattle.strm_memory.specs.Bytes.{put_at}
+use Rattle.strm_memory.specs.Region.{is_out_of_bounds, bytes_out_of_bounds}
+use Rattle.strm_memory.proofs.RegionLemmas.{length-items, length-stored, length-put_at}
 
 out_test : (size : ℕ) (w : ℕ) (address n : ℕ) → nat_lt 0 n && nat_lt 0 w && nat_lt size (address + w * n) ≡ false → 0 < n → 0 < w → address + w * n ≤ size
 out_test size w address n e h k = grind (arith, nat_tests)
@@ -61,3 +62,11 @@ address_room sizes g ss address n l h s a =
     room size zero address n k s a = omega arith
     room size (suc w) address zero k s a = omega arith
     room size (suc w) address (suc n) k s a = omega (arith, k (omega arith) (omega arith))
+
+-- bytes put where they don't pass the end keep the memory's length
+pub length-poked : (memory : List ℕ) (address : ℕ) (bytes : List ℕ) → bytes_out_of_bounds (length memory) address (length bytes) ≡ false → length (put_at memory address bytes) ≡ length memory
+length-poked memory address [] h = let e : length (drop (address + 0) memory) ≡ length memory - address = rw add-zero (length-drop address memory) in omega (arith, e, length-append (take address memory ++ []) (drop (address + 0) memory), length-append (take address memory) [], length-take address memory)
+length-poked memory address (b ∷ bytes) h = length-put_at memory address (b ∷ bytes) (inside (length memory) address (length (b ∷ bytes)) h (omega arith))
+  where
+    inside : (size address count : ℕ) → bytes_out_of_bounds size address count ≡ false → 0 < count → address + count ≤ size
+    inside size address count e h = grind (arith, nat_tests)

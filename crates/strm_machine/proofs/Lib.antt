@@ -3,4 +3,7 @@ pub mod SideLemmas
 pub mod TurnLemmas
 pub mod SoundLemmas
 pub mod StateLemmas
+pub mod RefusalLemmas
+pub mod NameLemmas
+pub mod ReactionLemmas
 pub mod CarryLemmas

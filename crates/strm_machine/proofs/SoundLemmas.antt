@@ -136,7 +136,7 @@ handles_of-with guests g handles = map-set (λ h. h.handles) guests g (record (g
 sizes_of-with_handles : (guests : List Guest) (g : ℕ) (handles : Handles) → sizes_of (with_handles guests g handles) ≡ sizes_of guests
 sizes_of-with_handles guests g handles = map-set_same (λ h. length h.memory) guests g (record (guest_in guests g) { handles = handles }) no_guest refl
 
-AreNamed-at : (payloads : List Payload) (guests : List Guest) (g : ℕ) → All (AreNamed payloads) (handles_of guests) → AreNamed payloads (guest_in guests g).handles
+pub AreNamed-at : (payloads : List Payload) (guests : List Guest) (g : ℕ) → All (AreNamed payloads) (handles_of guests) → AreNamed payloads (guest_in guests g).handles
 AreNamed-at payloads guests g h =
     elim (cases_lt g (length guests)) [
       | inl l ↦ subst (AreNamed payloads) (get_or-map (λ k. k.handles) guests g no_guest) (All-get_or (AreNamed payloads) (handles_of guests) g no_handles (omega (arith, l, length-map guests (λ k. k.handles))) h)

@@ -12,6 +12,7 @@ use Rattle.strm_machine.specs.Tests.{named, stream_named, items_asked}
 use Rattle.strm_machine.specs.Refusals.{refusal}
 use Rattle.strm_machine.specs.Making.{made_pair, with_stream}
 use Rattle.strm_machine.specs.declared.streams.Side.{Side}
+use Rattle.strm_machine.specs.declared.streams.Operation.{Operation}
 use Rattle.strm_machine.specs.declared.streams.Side.TheVariants.{Writing, Reading}
 use Rattle.strm_machine.specs.declared.steps.Step.{Step}
 use Rattle.strm_machine.specs.declared.steps.Step.TheVariants as steps
@@ -26,20 +27,29 @@ pub record Reaction : Type 0 where
 abbrev pub goes : Reply → State → Reaction
 goes reply state = record { reply = reply; state = state }
 
--- the turn of stream s, written back; an item that is none traps the store
+-- the turn of stream s, written back
+abbrev pub written : State → ℕ → Turn → State
+written state s t = record state { guests = t.guests; streams = slice_set state.streams s t.stream }
+
+-- its code is the answer; an item that is none traps the store
 abbrev pub written_back : State → ℕ → Turn → Option ReturnCode → Reaction
-written_back state s t (Some code) =
-    goes (replies.Code code) (record state { guests = t.guests; streams = slice_set state.streams s t.stream })
-written_back state s t None = goes (replies.BadItem s) (record state { trapped = true })
+written_back state s t (Some code) = goes (replies.Code code) (written state s t)
+written_back state s t None = goes (replies.BadItem s) (record (written state s t) { trapped = true })
 
--- a read or write of a guest on stream s
-abbrev pub on_stream : State → ℕ → Side → ℕ → ℕ → ℕ → Reaction
-on_stream state s side g address n =
-    let t = turn side state.guests (stream_at state s) (begun g address n) in written_back state s t t.code
+-- a read or write on stream s, written back
+abbrev pub on_stream : State → ℕ → Side → Operation → Reaction
+on_stream state s side mine =
+    let t = turn side state.guests (stream_at state s) mine in written_back state s t t.code
 
+-- a read or write of a guest, on the stream that its handle names
 abbrev pub operates : State → Side → ℕ → TransmitIndex → ℕ → ℕ → ℕ → Reaction
 operates state side g ty handle address count =
-    on_stream state (stream_named (named state g ty handle)) side g address (items_asked ty count)
+    on_stream state (stream_named (named state g ty handle)) side (begun g address (items_asked ty count))
+
+-- a read or write as a step
+abbrev pub operation_step : Side → ℕ → TransmitIndex → ℕ → ℕ → ℕ → Step
+operation_step Writing = steps.Write
+operation_step Reading = steps.Read
 
 -- a step that nothing refuses
 unfoldable pub performs : State → Step → Reaction

@@ -1,5 +1,5 @@
 -- Which refusal a step gets: the first whose condition holds, in the order of the call. Ours: the order.
-use Rattle.std.specs.Prelude.{ℕ, ◌+◌, Bool, ◌||◌, if◌then◌else◌, List, [], ◌∷◌, ◌++◌, min, length, Option, Some, None}
+use Rattle.std.specs.Prelude.{ℕ, ◌+◌, Bool, not, ◌||◌, if◌then◌else◌, List, [], ◌∷◌, ◌++◌, min, length, Option, Some, None}
 use Rattle.strm_codes.specs.declared.codes.TransmitIndex.{TransmitIndex}
 use Rattle.strm_codes.specs.declared.codes.TransmitKind.{TransmitKind}
 use Rattle.strm_codes.specs.declared.codes.TransmitKind.TheVariants.{Stream as AStream, Future}
@@ -8,8 +8,10 @@ use Rattle.strm_codes.specs.declared.refusals.Refusal.TheVariants as refusals
 use Rattle.strm_codes.specs.Types.{kind_of}
 use Rattle.strm_handles.specs.Handles.{next_index, inserted}
 use Rattle.strm_machine.specs.State.{State, guest_in, stream_at}
-use Rattle.strm_machine.specs.Tests.{is_unknown_guest, are_guests_full, is_memory_too_big, are_handles_full, are_places_full, are_streams_full, is_no_handle, is_too_big, is_out_of_bounds, is_misaligned, are_bytes_out_of_bounds, named, is_unknown_handle, is_wrong_kind, is_wrong_type, stream_named, is_other_end, is_busy, has_ended, is_within_one_guest}
+use Rattle.strm_machine.specs.Tests.{is_unknown_guest, are_guests_full, is_memory_too_big, are_handles_full, are_places_full, are_streams_full, is_no_handle, is_too_big, is_out_of_bounds, is_misaligned, are_bytes_out_of_bounds, Name, named, is_unknown_handle, is_wrong_kind, is_wrong_type, stream_named, side_named, is_busy, has_ended, is_within_one_guest}
+use Rattle.strm_machine.specs.Sides.{same_side}
 use Rattle.strm_machine.specs.Making.{writer_index}
+use Rattle.strm_machine.specs.declared.streams.Stream.{Stream}
 use Rattle.strm_machine.specs.declared.streams.Side.{Side}
 use Rattle.strm_machine.specs.declared.streams.Side.TheVariants.{Writing, Reading}
 use Rattle.strm_machine.specs.declared.steps.Step.{Step}
@@ -44,27 +46,29 @@ region_reasons state g ty address count =
     ∷ where_ (is_misaligned ty address count) refusals.NotAligned
     ∷ []
 
--- the handle
-abbrev pub handle_reasons : State → ℕ → TransmitIndex → ℕ → List Reason
-handle_reasons state g ty handle =
-    where_ (is_unknown_handle (named state g ty handle)) refusals.UnknownHandle
-    ∷ where_ (is_wrong_kind (named state g ty handle)) refusals.WrongKind
-    ∷ where_ (is_wrong_type (named state g ty handle)) refusals.WrongType
+-- the handle, by what the table answers
+abbrev pub handle_reasons : Name → List Reason
+handle_reasons name =
+    where_ (is_unknown_handle name) refusals.UnknownHandle
+    ∷ where_ (is_wrong_kind name) refusals.WrongKind
+    ∷ where_ (is_wrong_type name) refusals.WrongType
     ∷ []
 
--- the end, and what waits on the other side
-abbrev pub end_reasons : State → Side → ℕ → TransmitIndex → ℕ → List Reason
-end_reasons state side g ty handle =
-    let name = named state g ty handle in
-    let stream = stream_at state (stream_named name) in
-    where_ (is_other_end side name || is_busy side stream) refusals.ConcurrentFutureStreamOp
+-- the end that is named, and what waits on the other side
+abbrev pub end_reasons_of : Stream → Side → ℕ → TransmitIndex → Side → List Reason
+end_reasons_of stream side g ty named =
+    where_ (not (same_side side named) || is_busy side stream) refusals.ConcurrentFutureStreamOp
     ∷ where_ (has_ended side (kind_of ty) stream) (ended_refusal side (kind_of ty))
     ∷ where_ (is_within_one_guest g side ty stream) refusals.IntraComponent
     ∷ []
 
+abbrev pub end_reasons : State → Side → ℕ → TransmitIndex → Name → List Reason
+end_reasons state side g ty name = end_reasons_of (stream_at state (stream_named name)) side g ty (side_named name)
+
 abbrev pub operation_reasons : State → Side → ℕ → TransmitIndex → ℕ → ℕ → ℕ → List Reason
 operation_reasons state side g ty handle address count =
-    region_reasons state g ty address count ++ handle_reasons state g ty handle ++ end_reasons state side g ty handle
+    region_reasons state g ty address count
+    ++ (handle_reasons (named state g ty handle) ++ end_reasons state side g ty (named state g ty handle))
 
 -- the reasons of each step in their order
 abbrev pub reasons : State → Step → List Reason

@@ -18,14 +18,16 @@ pub record Guest : Type 0 where
 
 -- guests and streams by their numbers; a stream whose both ends are gone keeps its place
 pub record State : Type 0 where
+  -- the name that the store was made with, which no step changes. Ours
+  pub tag : ℕ
   pub limits : Limits
   pub guests : List Guest
   pub streams : List Stream
   pub trapped : Bool
 
 -- no guest, no stream, under these limits
-abbrev pub empty : Limits → State
-empty limits = record { limits = limits; guests = []; streams = []; trapped = false }
+abbrev pub empty : ℕ → Limits → State
+empty tag limits = record { tag = tag; limits = limits; guests = []; streams = []; trapped = false }
 
 -- what stands past the last guest
 abbrev pub no_guest : Guest

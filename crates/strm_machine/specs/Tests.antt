@@ -75,27 +75,30 @@ abbrev pub are_bytes_out_of_bounds : State → ℕ → ℕ → ℕ → Bool
 are_bytes_out_of_bounds state g address count =
     region.bytes_out_of_bounds (length (memory_in state.guests g)) address count
 
--- what the guest's table answers for a handle of this type: a stream's number, and the end's side
-abbrev pub named_by : TransmitIndex → Handles → ℕ → Result (ℕ × TransmitLocalState) HandleError
+-- what a guest's table answers for a handle of a type: a stream's number, and which end it is
+abbrev pub Name : Type 0
+Name = Result (ℕ × TransmitLocalState) HandleError
+
+abbrev pub named_by : TransmitIndex → Handles → ℕ → Name
 named_by (index.Stream payload) handles handle = stream_rep_of handles payload handle
 named_by (index.Future payload) handles handle = future_rep_of handles payload handle
 
-abbrev pub named : State → ℕ → TransmitIndex → ℕ → Result (ℕ × TransmitLocalState) HandleError
+abbrev pub named : State → ℕ → TransmitIndex → ℕ → Name
 named state g ty handle = named_by ty (guest_in state.guests g).handles handle
 
-abbrev pub is_unknown_handle : Result (ℕ × TransmitLocalState) HandleError → Bool
+abbrev pub is_unknown_handle : Name → Bool
 is_unknown_handle (Err errors.UnknownHandle) = true
 is_unknown_handle _ = false
 
-abbrev pub is_wrong_kind : Result (ℕ × TransmitLocalState) HandleError → Bool
+abbrev pub is_wrong_kind : Name → Bool
 is_wrong_kind (Err errors.WrongKind) = true
 is_wrong_kind _ = false
 
-abbrev pub is_wrong_type : Result (ℕ × TransmitLocalState) HandleError → Bool
+abbrev pub is_wrong_type : Name → Bool
 is_wrong_type (Err errors.WrongType) = true
 is_wrong_type _ = false
 
-abbrev pub stream_named : Result (ℕ × TransmitLocalState) HandleError → ℕ
+abbrev pub stream_named : Name → ℕ
 stream_named (Ok answer) = answer.0
 stream_named (Err error) = 0
 
@@ -104,14 +107,11 @@ side_of (states.Write done) = Writing
 side_of (states.Read done) = Reading
 side_of (states.Busy reading) = if reading then Reading else Writing
 
-abbrev pub side_named : Result (ℕ × TransmitLocalState) HandleError → Side
+abbrev pub side_named : Name → Side
 side_named (Ok answer) = side_of answer.1
 side_named (Err error) = Writing
 
--- the handle names the other end than the call
-abbrev pub is_other_end : Side → Result (ℕ × TransmitLocalState) HandleError → Bool
-is_other_end side name = not (same_side side (side_named name))
-
+-- the end has an operation
 abbrev pub is_busy : Side → Stream → Bool
 is_busy side stream = is_some (end_of side stream).operation
 

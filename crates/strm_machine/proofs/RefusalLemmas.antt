@@ -1,0 +1,118 @@
+-- What is known of a step that nothing refuses.
+use Rattle.std.proofs.Common.{◌≡◌, ℕ, ◌+◌, ◌*◌, ◌^◌, ◌<◌, ◌≤◌, Bool, true, false, cond, min, List, [], ◌∷◌, ◌++◌, length, Option, Some, None, refl, arith}
+use Rattle.std.proofs.lemmas.Bool.Decides.{nat_tests}
+use Rattle.std.proofs.lemmas.List.{length-map}
+use Rattle.std.specs.Prelude.{nat_lt, nat_le, ◌||◌, ◌&&◌, not, IsTrue}
+use Rattle.strm_codes.specs.declared.refusals.Refusal.{Refusal}
+use Rattle.strm_codes.specs.declared.payloads.Payload.{Payload}
+use Rattle.strm_codes.specs.declared.codes.TransmitIndex.{TransmitIndex}
+use Rattle.strm_codes.specs.declared.codes.TransmitIndex.TheVariants as index
+use Rattle.strm_codes.specs.Types.{kind_of, payload_of}
+use Rattle.strm_memory.specs.Items.{is_number_or_none}
+use Rattle.strm_memory.specs.Region.{bytes_out_of_bounds}
+use Rattle.strm_machine.specs.State.{State, bytes_in_use}
+use Rattle.strm_machine.specs.Sides.{opposite, same_side, end_of}
+use Rattle.strm_machine.specs.Meetings.{begun}
+use Rattle.strm_machine.specs.Soundness.{sizes_of, IsPlaced}
+use Rattle.strm_machine.specs.Tests.{is_memory_too_big, are_guests_full, is_unknown_guest, are_bytes_out_of_bounds, is_too_big, items_asked, is_out_of_bounds, is_busy, has_ended, is_open_of, is_within_one_guest}
+use Rattle.strm_machine.specs.Refusals.{Reason, first_of, region_reasons, end_reasons_of, refusal}
+use Rattle.strm_machine.specs.declared.steps.Step.TheVariants as steps
+use Rattle.strm_machine.specs.declared.streams.Side.{Side}
+use Rattle.strm_machine.specs.declared.streams.Stream.{Stream}
+use Rattle.strm_machine.proofs.TurnLemmas.{size_in}
+
+-- no reason holds
+pub not_refused : (b : Bool) (r : Refusal) (o : Option Refusal) → cond b (Some r) o ≡ None → (b ≡ false) × (o ≡ None)
+not_refused true r o e = cc
+not_refused false r o e = (refl, e)
+
+pub not_le : (m n : ℕ) → nat_le m n ≡ false → n < m
+not_le m n e = grind (arith, nat_tests)
+
+pub not_lt : (m n : ℕ) → nat_lt m n ≡ false → n ≤ m
+not_lt m n e = grind (arith, nat_tests)
+
+pub neither : (a b : Bool) → a || b ≡ false → (a ≡ false) × (b ≡ false)
+neither true b e = cc
+neither false b e = (refl, e)
+
+-- a guest that may be added
+pub record GuestFits (state : State) (size : ℕ) : Type 0 where
+  pub bytes : bytes_in_use state + size ≤ 268435456
+  pub count : length state.guests < 1048576
+
+pub guest_fits : (state : State) (size : ℕ) → refusal state (steps.Guest size) ≡ None → GuestFits state size
+unfolding refusal
+guest_fits state size e =
+    let first = not_refused (is_memory_too_big state size) _ _ e in
+    let second = not_refused (are_guests_full state) _ _ first.1 in
+    record { bytes = not_lt 268435456 (bytes_in_use state + size) first.0; count = not_le 1048576 (length state.guests) second.0 }
+
+-- bytes of a guest's memory that may be looked at
+pub record BytesFit (state : State) (g address count : ℕ) : Type 0 where
+  pub there : g < length state.guests
+  pub inside : are_bytes_out_of_bounds state g address count ≡ false
+
+pub poke_fits : (state : State) (g address : ℕ) (bytes : List ℕ) → refusal state (steps.Poke g address bytes) ≡ None → BytesFit state g address (length bytes)
+unfolding refusal
+poke_fits state g address bytes e =
+    let first = not_refused (is_unknown_guest state g) _ _ e in
+    let second = not_refused (are_bytes_out_of_bounds state g address (length bytes)) _ _ first.1 in
+    record { there = not_le (length state.guests) g first.0; inside = second.0 }
+
+pub dump_fits : (state : State) (g address len : ℕ) → refusal state (steps.Dump g address len) ≡ None → BytesFit state g address (min len 64)
+unfolding refusal
+dump_fits state g address len e =
+    let first = not_refused (is_unknown_guest state g) _ _ e in
+    let second = not_refused (are_bytes_out_of_bounds state g address (min len 64)) _ _ first.1 in
+    record { there = not_le (length state.guests) g first.0; inside = second.0 }
+
+-- some bytes that fit don't pass the memory's end
+pub bytes_within : (size address count : ℕ) → bytes_out_of_bounds size address count ≡ false → 0 < count → address + count ≤ size
+bytes_within size address count e h = grind (arith, nat_tests)
+
+-- no reason of two lists holds
+pub none_of_both : (xs ys : List Reason) → first_of (xs ++ ys) ≡ None → (first_of xs ≡ None) × (first_of ys ≡ None)
+none_of_both [] ys e = (refl, e)
+none_of_both (x ∷ xs) ys e = both x.holds (none_of_both xs ys) e
+  where
+    both : (b : Bool) → (first_of (xs ++ ys) ≡ None → (first_of xs ≡ None) × (first_of ys ≡ None)) → cond b (Some x.refusal) (first_of (xs ++ ys)) ≡ None → (cond b (Some x.refusal) (first_of xs) ≡ None) × (first_of ys ≡ None)
+    both true more f = cc
+    both false more f = more f
+
+-- a region that a read or write may ask for
+pub record RegionFits (state : State) (g : ℕ) (ty : TransmitIndex) (address count : ℕ) : Type 0 where
+  pub there : g < length state.guests
+  pub counted : items_asked ty count < 2 ^ 28
+  pub inside : is_out_of_bounds state g ty address count ≡ false
+
+counted_asked : (ty : TransmitIndex) (count : ℕ) → is_too_big ty count ≡ false → items_asked ty count < 2 ^ 28
+counted_asked (index.Stream payload) count e = not_le 268435456 count e
+counted_asked (index.Future payload) count e = omega arith
+
+pub region_fits : (state : State) (g : ℕ) (ty : TransmitIndex) (address count : ℕ) → first_of (region_reasons state g ty address count) ≡ None → RegionFits state g ty address count
+region_fits state g ty address count e =
+    let first = not_refused (is_unknown_guest state g) _ _ e in
+    let second = not_refused (is_too_big ty count) _ _ first.1 in
+    let third = not_refused (is_out_of_bounds state g ty address count) _ _ second.1 in
+    record { there = not_le (length state.guests) g first.0; counted = counted_asked ty count second.0; inside = third.0 }
+
+pub placed_begun : (state : State) (g : ℕ) (ty : TransmitIndex) (address count : ℕ) (payload : Payload) → payload ≡ payload_of ty → RegionFits state g ty address count → IsPlaced (sizes_of state.guests) payload (begun g address (items_asked ty count))
+placed_begun state g ty address count payload e h = record {
+  there = omega (arith, h.there, length-map state.guests (λ x. length x.memory));
+  inside = rw (size_in state.guests g, e) h.inside;
+  counted = omega (arith, h.counted);
+}
+
+and_not : (a b : Bool) → a && not b ≡ false → IsTrue a → IsTrue b
+and_not true true e h = h
+and_not true false e h = cc
+and_not false b e h = cc
+
+-- an end that may read or write moves numbers, or nothing, within its guest
+pub numbers_within : (stream : Stream) (side : Side) (g : ℕ) (ty : TransmitIndex) (named : Side) → first_of (end_reasons_of stream side g ty named) ≡ None → stream.payload ≡ payload_of ty → IsTrue (is_open_of g (end_of (opposite side) stream).operation) → IsTrue (is_number_or_none stream.payload)
+numbers_within stream side g ty named e p h =
+    let first = not_refused (not (same_side side named) || is_busy side stream) _ _ e in
+    let second = not_refused (has_ended side (kind_of ty) stream) _ _ first.1 in
+    let third = not_refused (is_within_one_guest g side ty stream) _ _ second.1 in
+    rw p (and_not (is_open_of g (end_of (opposite side) stream).operation) (is_number_or_none (payload_of ty)) third.0 h)

@@ -1,0 +1,5 @@
+pub mod GuestLemmas
+pub mod CarryingLemmas
+pub mod StepLemmas
+pub mod StoreLemmas
+pub mod OperationLemmas

@@ -1,0 +1,197 @@
+-- The store's counters after each change.
+use Rattle.std.proofs.Common.{◌≡◌, ℕ, Bool, cond, get_or, set, ◌+◌, ◌*◌, ◌<◌, ◌≤◌, List, [], ◌∷◌, ◌++◌, length, map, sum_by, refl, sym, ap, ◌∙◌, subst, None, replicate, arith, length-append}
+use Rattle.std.specs.Prelude.{sum, count_by}
+use Rattle.std.proofs.lemmas.List.{map-append, length-map, length-replicate, length-set, get_or_default}
+use Rattle.std.proofs.lemmas.List.Sums.{sum_by-append, sum-map}
+use Rattle.std.proofs.Math.Seq.{map-set_same}
+use Rattle.strm_machine.specs.Turns.{Turn, turn}
+use Rattle.strm_machine.specs.declared.streams.Side.{Side}
+use Rattle.strm_machine.specs.declared.streams.Stream.{Stream}
+use Rattle.strm_machine.specs.declared.streams.Operation.{Operation}
+use Rattle.strm_handles.specs.Counters.{Counter}
+use Rattle.strm_handles.specs.Handles.{Handles, no_handles, live_of}
+use Rattle.strm_handles.proofs.HandleLemmas.{live_of-no_handles}
+use Rattle.strm_machine.specs.State as machine
+use Rattle.strm_memory.specs.Bytes.{put_at}
+use Rattle.strm_machine.specs.State.{State, no_stream, stream_at, memory_in, with_memory, is_live, handles_in_use, bytes_in_use}
+use Rattle.strm_machine.specs.Soundness.{IsSound, IsPlaced, sizes_of, handles_of}
+use Rattle.strm_machine.specs.Refusals.{refusal}
+use Rattle.strm_machine.specs.Reactions.{Reaction, goes, performs}
+use Rattle.strm_machine.specs.declared.steps.Step.TheVariants as steps
+use Rattle.strm_machine.specs.declared.replies.Reply.TheVariants as replies
+use Rattle.strm_machine.proofs.RefusalLemmas.{guest_fits, poke_fits}
+use Rattle.strm_machine.proofs.SoundLemmas.{IsSound-guest, IsSound-guests, IsSound-turn, placed_at}
+use Rattle.strm_machine.proofs.BoundLemmas.{length-poked}
+use Rattle.strm_machine.proofs.TurnLemmas.{GuestsKeep, TurnKeeps, with_memory-keeps, turn-keeps}
+use Rattle.strm_transmit.specs.Guests.{guest_of, seen}
+use Rattle.strm_transmit.specs.Inside.{state_of, IsStore}
+use Rattle.strm_transmit.specs.declared.guests.Guest.{Guest}
+use Rattle.strm_transmit.specs.declared.store.Store.TheInside.{Inside}
+
+-- fields that a call leaves as they were
+pub record SameBut (old new : Inside) : Type 0 where
+  pub tag : new.tag ≡ old.tag
+  pub limits : new.limits ≡ old.limits
+  pub trapped : new.is_trapped ≡ old.is_trapped
+
+seen-push : (guests : List Guest) (g : Guest) → seen (guests ++ g ∷ []) ≡ seen guests ++ guest_of g ∷ []
+seen-push guests g = map-append guest_of guests (g ∷ [])
+
+sum_by-push : {X : Type 0} (f : X → ℕ) (xs : List X) (x : X) → sum_by f (xs ++ x ∷ []) ≡ sum_by f xs + f x
+sum_by-push f xs x = let e = sum_by-append f xs (x ∷ []) in omega (arith, e)
+
+-- one guest more, of so many zero bytes
+pub record AddsGuest (old new : Inside) (g : Guest) (size : ℕ) : Type 0 where
+  pub same : SameBut old new
+  pub counter : new.counter ≡ old.counter
+  pub streams : new.streams ≡ old.streams
+  pub live_streams : new.live_streams ≡ old.live_streams
+  pub guests : new.guests.items ≡ old.guests.items ++ g ∷ []
+  pub bytes : new.bytes ≡ old.bytes + size
+  pub memory : g.memory ≡ replicate size 0
+  pub handles : g.table.handles ≡ no_handles
+
+state_of-guest : (old new : Inside) (g : Guest) (size : ℕ) → AddsGuest old new g size → state_of new ≡ record (state_of old) { guests = seen old.guests.items ++ guest_of g ∷ [] }
+state_of-guest old new g size h =
+    rw (h.same.tag, h.same.limits, h.same.trapped, h.streams, h.guests, seen-push old.guests.items g) refl
+
+pub IsStore-guest : (old new : Inside) (g : Guest) (size : ℕ) → AddsGuest old new g size → refusal (state_of old) (steps.Guest size) ≡ None → IsStore old → IsStore new
+IsStore-guest old new g size h e s =
+    let fits = guest_fits (state_of old) size e in
+    let many : length g.memory ≡ size = rw h.memory (length-replicate size 0) in
+    let total : sum (sizes_of (seen old.guests.items)) ≡ bytes_in_use (state_of old) = sum-map (λ k. length k.memory) (seen old.guests.items) in
+    let sound = IsSound-guest (state_of old) (guest_of g) h.handles (omega (arith, total, many, fits.bytes)) s.sound in
+    let after = state_of-guest old new g size h in
+    let none : live_of g.table.handles ≡ 0 = rw h.handles live_of-no_handles in
+    let live : handles_in_use (state_of old) ≡ handles_in_use (state_of new) = added _ _ _ (sum_by-push (λ k. live_of k.handles) (seen old.guests.items) (guest_of g)) none ∙ sym (ap handles_in_use after) in
+    let bytes : bytes_in_use (state_of old) + length g.memory ≡ bytes_in_use (state_of new) = sym (sum_by-push (λ k. length k.memory) (seen old.guests.items) (guest_of g)) ∙ sym (ap bytes_in_use after) in
+    record {
+      sound = rw after sound;
+      limit = rw (h.counter, h.same.limits) s.limit;
+      live = ap (λ (c : Counter). c.live) h.counter ∙ s.live ∙ live;
+      streams = rw (h.live_streams, h.streams) s.streams;
+      bytes = omega (arith, h.bytes, s.bytes, bytes, many);
+      few_guests = rw h.guests (omega (arith, fits.count, length-map old.guests.items guest_of, length-append old.guests.items (g ∷ [])));
+      few_streams = rw h.streams s.few_streams;
+    }
+  where
+    added : (n m k : ℕ) → m ≡ n + k → k ≡ 0 → n ≡ m
+    added n m k e z = omega arith
+
+pub performs-guest : (old new : Inside) (g : Guest) (size n : ℕ) → AddsGuest old new g size → n ≡ length old.guests.items → performs (state_of old) (steps.Guest size) ≡ goes (replies.Number n) (state_of new)
+unfolding performs
+performs-guest old new g size n h e =
+    rw (state_of-guest old new g size h, h.memory, h.handles, e, length-map old.guests.items guest_of) refl
+
+map-map : (f : machine.Guest → Handles) (g : Handles → ℕ) (xs : List machine.Guest) → map g (map f xs) ≡ map (λ x. g (f x)) xs
+map-map f g [] = refl
+map-map f g (x ∷ xs) = ap (λ ys. g (f x) ∷ ys) (map-map f g xs)
+
+by_map : (f : machine.Guest → Handles) (g : Handles → ℕ) (xs : List machine.Guest) → sum_by g (map f xs) ≡ sum_by (λ x. g (f x)) xs
+by_map f g xs = sym (sum-map g (map f xs)) ∙ ap sum (map-map f g xs) ∙ sum-map (λ x. g (f x)) xs
+
+-- guests and streams changed, and nothing that is counted
+pub record KeepsCounts (old new : Inside) : Type 0 where
+  pub tag : new.tag ≡ old.tag
+  pub limits : new.limits ≡ old.limits
+  pub counter : new.counter ≡ old.counter
+  pub live_streams : new.live_streams ≡ old.live_streams
+  pub bytes : new.bytes ≡ old.bytes
+  pub guests : GuestsKeep (seen old.guests.items) (seen new.guests.items)
+  pub live : count_by is_live new.streams.items ≡ count_by is_live old.streams.items
+  pub streams : length new.streams.items ≡ length old.streams.items
+
+pub IsStore-keeps : (old new : Inside) → KeepsCounts old new → IsSound (state_of new) → IsStore old → IsStore new
+IsStore-keeps old new k sound s =
+    let handles : handles_in_use (state_of new) ≡ handles_in_use (state_of old) =
+    sym (by_map (λ g. g.handles) live_of (seen new.guests.items)) ∙ ap (sum_by live_of) k.guests.handles ∙ by_map (λ g. g.handles) live_of (seen old.guests.items) in
+    let bytes : bytes_in_use (state_of new) ≡ bytes_in_use (state_of old) =
+    sym (sum-map (λ g. length g.memory) (seen new.guests.items)) ∙ ap sum k.guests.sizes ∙ sum-map (λ g. length g.memory) (seen old.guests.items) in
+    let count : length new.guests.items ≡ length old.guests.items =
+    sym (length-map new.guests.items guest_of) ∙ sym (length-map (seen new.guests.items) (λ g. length g.memory)) ∙ ap length k.guests.sizes ∙ length-map (seen old.guests.items) (λ g. length g.memory) ∙ length-map old.guests.items guest_of in
+    record {
+      sound = sound;
+      limit = rw (k.counter, k.limits) s.limit;
+      live = ap (λ (c : Counter). c.live) k.counter ∙ s.live ∙ sym handles;
+      streams = k.live_streams ∙ s.streams ∙ sym k.live;
+      bytes = k.bytes ∙ s.bytes ∙ sym bytes;
+      few_guests = rw count s.few_guests;
+      few_streams = rw k.streams s.few_streams;
+    }
+
+-- bytes put into a guest's memory
+pub record PutsBytes (old new : Inside) (g address : ℕ) (bytes : List ℕ) : Type 0 where
+  pub same : SameBut old new
+  pub counter : new.counter ≡ old.counter
+  pub streams : new.streams ≡ old.streams
+  pub live_streams : new.live_streams ≡ old.live_streams
+  pub count : new.bytes ≡ old.bytes
+  pub guests : seen new.guests.items ≡ with_memory (seen old.guests.items) g (put_at (memory_in (seen old.guests.items) g) address bytes)
+
+pub performs-poke : (old new : Inside) (g address : ℕ) (bytes : List ℕ) → PutsBytes old new g address bytes → performs (state_of old) (steps.Poke g address bytes) ≡ goes replies.Done (state_of new)
+unfolding performs
+performs-poke old new g address bytes h =
+    rw (h.same.tag, h.same.limits, h.same.trapped, h.streams, h.guests) refl
+
+pub IsStore-poke : (old new : Inside) (g address : ℕ) (bytes : List ℕ) → PutsBytes old new g address bytes → refusal (state_of old) (steps.Poke g address bytes) ≡ None → IsStore old → IsStore new
+IsStore-poke old new g address bytes h e s =
+    let fits = poke_fits (state_of old) g address bytes e in
+    let size = length-poked (memory_in (seen old.guests.items) g) address bytes fits.inside in
+    let keeps = with_memory-keeps (seen old.guests.items) g (put_at (memory_in (seen old.guests.items) g) address bytes) size in
+    let kept : GuestsKeep (seen old.guests.items) (seen new.guests.items) = rw h.guests keeps in
+    let state : state_of new ≡ record (state_of old) { guests = seen new.guests.items } = rw (h.same.tag, h.same.limits, h.same.trapped, h.streams) refl in
+    IsStore-keeps old new
+    (record {
+      tag = h.same.tag;
+      limits = h.same.limits;
+      counter = h.counter;
+      live_streams = h.live_streams;
+      bytes = h.count;
+      guests = kept;
+      live = rw h.streams refl;
+      streams = rw h.streams refl;
+    })
+    (rw state (IsSound-guests (state_of old) (seen new.guests.items) kept s.sound)) s
+
+-- guests and one stream as a turn left them
+pub record TakesTurn (old new : Inside) (s : ℕ) (t : Turn) : Type 0 where
+  pub tag : new.tag ≡ old.tag
+  pub limits : new.limits ≡ old.limits
+  pub counter : new.counter ≡ old.counter
+  pub live_streams : new.live_streams ≡ old.live_streams
+  pub bytes : new.bytes ≡ old.bytes
+  pub guests : seen new.guests.items ≡ t.guests
+  pub streams : new.streams.items ≡ set old.streams.items s t.stream
+
+abbrev live_weight : Stream → ℕ
+live_weight stream = cond (is_live stream) 1 0
+
+live-set : (streams : List Stream) (s : ℕ) (stream : Stream) → is_live stream ≡ is_live (get_or streams s no_stream) → count_by is_live (set streams s stream) ≡ count_by is_live streams
+live-set streams s stream e =
+    sym (sum-map live_weight (set streams s stream)) ∙ ap sum (map-set_same live_weight streams s stream no_stream (ap (λ (b : Bool). cond b 1 0) e)) ∙ sum-map live_weight streams
+
+pub IsStore-turn : (old new : Inside) (s : ℕ) (side : Side) (mine : Operation) → s < length old.streams.items → IsPlaced (sizes_of (seen old.guests.items)) (stream_at (state_of old) s).payload mine → TakesTurn old new s (turn side (seen old.guests.items) (stream_at (state_of old) s) mine) → IsStore old → IsStore new
+IsStore-turn old new s side mine l p h i =
+    let t = turn side (seen old.guests.items) (stream_at (state_of old) s) mine in
+    let keeps : TurnKeeps (seen old.guests.items) (stream_at (state_of old) s) t = turn-keeps side (seen old.guests.items) (stream_at (state_of old) s) mine (placed_at (state_of old) s l i.sound) p in
+    let sound = IsSound-turn (state_of old) s t keeps i.sound in
+    let owners : is_live t.stream ≡ is_live (stream_at (state_of old) s) = rw (keeps.stream.writer, keeps.stream.reader) refl in
+    IsStore-keeps old new
+    (record {
+      tag = h.tag;
+      limits = h.limits;
+      counter = h.counter;
+      live_streams = h.live_streams;
+      bytes = h.bytes;
+      guests = rw h.guests keeps.guests;
+      live = rw h.streams (live-set old.streams.items s t.stream owners);
+      streams = rw h.streams (length-set old.streams.items s t.stream);
+    })
+    (record {
+      named = rw (h.guests, h.streams) sound.named;
+      placed = rw (h.guests, h.streams) sound.placed;
+      small = rw h.guests sound.small;
+    }) i
+
+pub stream_at-there : (s : Inside) (stream : ℕ) (x : Stream) → stream < length s.streams.items → x ≡ get_or s.streams.items stream x → stream_at (state_of s) stream ≡ x
+stream_at-there s stream x l e = get_or_default s.streams.items stream no_stream x l ∙ sym e

@@ -1,0 +1,21 @@
+use Rattle.std.proofs.Common.{◌≡◌, ◌∙◌, List, Result, Ok, Err, false, refl, sym, ap}
+use Rattle.std.specs.Prelude.{is_err, OnOk}
+use Rattle.strm_memory.specs.Bytes.{put_at}
+use Rattle.strm_memory.specs.Region.{bytes_out_of_bounds}
+use Rattle.strm_machine.specs.State.{with_memory}
+use Rattle.strm_transmit.specs.Guests.{seen}
+use Rattle.strm_transmit.proofs.GuestLemmas.{seen-with_memory, memory_in-seen}
+use Rattle.strm_transmit.proofs.guests.write_bytes.Goals as goal
+
+was_ok : {T E : Type 0} (r : Result T E) (P : Type 0) → is_err r ≡ false → OnOk r P → P
+was_ok (Ok v) P e p = p
+was_ok (Err v) P e p = cc
+
+pub returns-clause-guests : goal.returns-clause-guests
+returns-clause-guests c =
+    let x = c.index_mut.result.now in
+    let before = memory_in-seen c.args.guests.now.items c.args.guest x c.requires.there c.index_mut.ensures.value in
+    let inside = rw before at c.requires.inside in
+    let stored = was_ok c.store.result _ (c.store.ensures.out_of_bounds ∙ inside) c.store.ensures.ok in
+    seen-with_memory c.args.guests.now.items c.args.guest x c.store.new.self c.requires.there c.index_mut.ensures.value
+    ∙ ap (with_memory (seen c.args.guests.now.items) c.args.guest) (stored ∙ ap (λ m. put_at m c.args.address c.args.bytes.now) (sym before))

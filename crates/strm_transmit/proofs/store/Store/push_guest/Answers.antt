@@ -1,0 +1,41 @@
+use Rattle.std.proofs.Common.{◌≡◌, ◌+◌, ◌≤◌, ◌∙◌, length, refl, sym, ap, arith}
+use Rattle.strm_transmit.specs.Inside.{state_of}
+use Rattle.strm_machine.proofs.RefusalLemmas.{guest_fits}
+use Rattle.strm_transmit.proofs.StoreLemmas.{IsStore-guest, performs-guest}
+use Rattle.strm_transmit.proofs.store.Store.push_guest.Goals as goal
+
+pub overflow_add-self : goal.overflow_add-self
+overflow_add-self c =
+    let fits = guest_fits (state_of c.self.inside) c.args.size (rw (← c.self.view_is) at c.requires) in
+    omega (arith, fits.bytes, c.self.invariant.bytes)
+
+pub invariant_of-self-2 : goal.invariant_of-self-2
+invariant_of-self-2 c =
+    IsStore-guest c.self.inside _ (record { memory = c.in-Ok.memory; table = c.new-2.result }) c.args.size
+    (record {
+      same = record { tag = refl; limits = refl; trapped = refl };
+      counter = refl;
+      streams = refl;
+      live_streams = refl;
+      guests = c.push_reserved.ensures.items ∙ rw c.in-Ok-reserve.ensures.items refl;
+      bytes = refl;
+      memory = c.in-Ok.ensures;
+      handles = c.new-2.ensures;
+    })
+    (rw (← c.self.view_is) at c.requires) c.self.invariant
+
+pub returns-clause-ok : goal.returns-clause-ok
+returns-clause-ok c =
+    rw (← c.self.view_is)
+    (performs-guest c.self.inside (record c.self.inside { guests = c.push_reserved.new.self; bytes = c.self.inside.bytes + c.args.size }) (record { memory = c.in-Ok.memory; table = c.new-2.result }) c.args.size c.len-number.result
+    (record {
+      same = record { tag = refl; limits = refl; trapped = refl };
+      counter = refl;
+      streams = refl;
+      live_streams = refl;
+      guests = c.push_reserved.ensures.items ∙ rw c.in-Ok-reserve.ensures.items refl;
+      bytes = refl;
+      memory = c.in-Ok.ensures;
+      handles = c.new-2.ensures;
+    })
+    (omega (arith, c.len-number.ensures, c.self.inside.guests.ok)))

@@ -1,0 +1,25 @@
+use Rattle.std.proofs.Common.{ap, ◌∙◌, sym}
+use Rattle.strm_transmit.specs.Guests.{seen}
+use Rattle.strm_transmit.proofs.CarryingLemmas.{Carries, carries_ok, carries_bad, carries_err}
+use Rattle.strm_transmit.proofs.turns.carry_between.Goals as goal
+use Rattle.strm_transmit.proofs.turns.carry_between.Goals.{After-put_memory}
+
+done : (c : After-put_memory) → Carries (seen c.args.guests.now.items) (seen c.take_memory-target.new.guests.items) (seen c.put_memory.new.guests.items) c.args.payload c.args.write.now c.args.read.now c.args.count c.memory-source.result.now c.take_memory-target.result c.receive-moved.new.self c.receive-moved.result
+done c = record {
+  taken = c.take_memory-target.ensures.memory;
+  out = c.take_memory-target.ensures.rest;
+  lent = c.memory-source.ensures;
+  back = c.put_memory.ensures.guests;
+  ok = c.receive-moved.ensures.ok;
+  bad = c.receive-moved.ensures.bad;
+  err = c.receive-moved.ensures.err;
+}
+
+pub returns-clause-ok : goal.returns-clause-ok
+returns-clause-ok c = carries_ok _ _ _ _ _ _ _ _ _ _ _ c.requires.apart (done c)
+
+pub returns-clause-bad : goal.returns-clause-bad
+returns-clause-bad c = carries_bad _ _ _ _ _ _ _ _ _ _ _ c.requires.apart (done c)
+
+pub returns-clause-err : goal.returns-clause-err
+returns-clause-err c = carries_err _ _ _ _ _ _ _ _ _ _ _ (done c)

@@ -1,0 +1,25 @@
+-- The store's fields as the machine's state, and what they keep: counters that agree with it.
+use Rattle.std.specs.Prelude.{◌≡◌, ℕ, ◌≤◌, length, count_by}
+use Rattle.strm_machine.specs.State.{State, is_live, handles_in_use, bytes_in_use}
+use Rattle.strm_machine.specs.Soundness.{IsSound}
+use Rattle.strm_transmit.specs.Guests.{seen}
+use Rattle.strm_transmit.specs.declared.store.Store.TheInside.{Inside}
+
+abbrev pub state_of : Inside → State
+state_of s = record {
+  tag = s.tag;
+  limits = s.limits;
+  guests = seen s.guests.items;
+  streams = s.streams.items;
+  trapped = s.is_trapped;
+}
+
+-- handles name streams and operations lie in memory; what is counted is what is there
+pub record IsStore (s : Inside) : Type 0 where
+  pub sound : IsSound (state_of s)
+  pub limit : s.counter.limit ≡ s.limits.handles
+  pub live : s.counter.live ≡ handles_in_use (state_of s)
+  pub streams : s.live_streams ≡ count_by is_live s.streams.items
+  pub bytes : s.bytes ≡ bytes_in_use (state_of s)
+  pub few_guests : length s.guests.items ≤ 1048576
+  pub few_streams : length s.streams.items ≤ 4294967295

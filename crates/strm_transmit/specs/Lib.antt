@@ -1,0 +1,4 @@
+pub mod Guests
+pub mod Taking
+pub mod Inside
+pub mod Meets

@@ -1,0 +1,16 @@
+-- What a function over guests and a stream did, as a turn of the machine. Ours.
+use Rattle.std.specs.Prelude.{List, Option, Some, None, Result, Ok, Err}
+use Rattle.strm_codes.specs.declared.codes.ReturnCode.{ReturnCode}
+use Rattle.strm_memory.specs.declared.copies.BadItem.{BadItem}
+use Rattle.strm_machine.specs.Turns.{Turn}
+use Rattle.strm_machine.specs.declared.streams.Stream.{Stream}
+use Rattle.strm_transmit.specs.Guests.{seen}
+use Rattle.strm_transmit.specs.declared.guests.Guest.{Guest}
+
+-- a code, or none for a bad item
+abbrev pub code_of : Result ReturnCode BadItem → Option ReturnCode
+code_of (Ok code) = Some code
+code_of (Err error) = None
+
+abbrev pub taken : Result ReturnCode BadItem → List Guest → Stream → Turn
+taken result guests stream = record { code = code_of result; guests = seen guests; stream = stream }

@@ -1,0 +1,48 @@
+//! Why a call of the store did not answer.
+//!
+//! Ours: wasmtime answers with texts and traps.
+
+ghost use Rattle.std.specs.Prelude.{◌≡◌};
+ghost use Rattle.strm_transmit.specs.declared.errors.StoreError.TheVariants.{Refused as IsRefused, OutOfMemory as NoMemory};
+
+use std::alloc::AllocError;
+use strm_codes::counts::OutOfMemory;
+use strm_codes::refusals::Refusal;
+
+/// Why a call did not answer.
+#[derive(Clone, Copy, Debug, PartialEq, Eq)]
+pub enum StoreError {
+    /// What was asked may not be done now. Nothing has changed.
+    Refused(Refusal),
+    /// An item of this stream is no Unicode scalar value. Nothing was moved, and the store is
+    /// trapped from now on.
+    BadItem { stream: u32 },
+    /// An earlier call trapped the store. Nothing has changed.
+    StoreTrapped,
+    /// An allocation was refused. Nothing has changed.
+    OutOfMemory,
+}
+
+impl From<Refusal> for StoreError {
+    ghost from_gives = { λ refusal error. error ≡ IsRefused refusal };
+
+    fn from(refusal: Refusal) -> StoreError {
+        StoreError::Refused(refusal)
+    }
+}
+
+impl From<OutOfMemory> for StoreError {
+    ghost from_gives = { λ _ error. error ≡ NoMemory };
+
+    fn from(_error: OutOfMemory) -> StoreError {
+        StoreError::OutOfMemory
+    }
+}
+
+impl From<AllocError> for StoreError {
+    ghost from_gives = { λ _ error. error ≡ NoMemory };
+
+    fn from(_error: AllocError) -> StoreError {
+        StoreError::OutOfMemory
+    }
+}

@@ -1,0 +1,18 @@
+//! The store: guests, their handle tables and the streams between them, and the calls on it.
+//!
+//! Each call is a step of the machine of `strm_machine`, by one form of clause (`Meets`): its
+//! answer is the machine's, and so is the store afterwards. It stands on the handle tables of
+//! `strm_handles` and the memories of `strm_memory`.
+#![tactic(auto)]
+
+pub mod errors;
+mod guests;
+mod sides;
+pub mod steps;
+pub mod store;
+mod turns;
+
+pub use strm_machine::chunks::Chunk;
+pub use strm_machine::limits::Limits;
+pub use strm_machine::replies::{Pair, Reply};
+pub use strm_machine::steps::Step;

@@ -1,0 +1,129 @@
+//! The store, and what it tells.
+//!
+//! Meaning: `State.antt` of `strm_machine`. Source: wasmtime, `futures_and_streams.rs`,
+//! `ConcurrentState`; the tag and the limits but those on handles are ours.
+
+ghost use Rattle.std.specs.Prelude.{◌≡◌, ◌≢◌, Err, ◌<◌, ◌↔◌, length, slice_get, if◌then◌else◌, Some, None, nat_lt, IsSome, IfSome};
+ghost use Rattle.std.specs.Option.{option_map};
+ghost use Rattle.strm_machine.specs.State.{empty, stream_at, guest_in, memory_in};
+
+mod memories;
+mod operations;
+
+use crate::errors::StoreError;
+use crate::guests::Guest;
+use std::alloc::Global;
+use std::marker::Model;
+use strm_codes::refusals::Refusal;
+use strm_handles::counters::HandleCounter;
+use strm_machine::limits::Limits;
+use strm_machine::streams::Stream;
+
+/// Guests and the streams between them.
+#[derive(Drop)]
+pub struct Store {
+    tag: u64,
+    limits: Limits,
+    counter: HandleCounter,
+    guests: Vec<Guest>,
+    streams: Vec<Stream>,
+    // Streams of which an end is there.
+    live_streams: u32,
+    // The bytes of all memories together.
+    bytes: u32,
+    is_trapped: bool,
+    alloc: Global,
+}
+
+impl Model for Store {
+    ghost use Rattle.strm_machine.specs.State.{State};
+
+    ghost Value = { State };
+
+    ghost use Rattle.strm_transmit.specs.Inside.{state_of, IsStore};
+
+    ghost view = { state_of };
+
+    ghost invariant = { IsStore };
+}
+
+impl Store {
+    ghost use Rattle.strm_transmit.specs.Meets.{admitted};
+
+    /// A store without guests. The tag is its name; it takes no memory.
+    pub fn new(alloc: Global, tag: u64, limits: Limits) -> Store
+        ensures { result ≡ empty tag limits }
+    {
+        Store {
+            tag,
+            limits,
+            counter: HandleCounter::new(limits.handles),
+            guests: Vec::new(alloc),
+            streams: Vec::new(alloc),
+            live_streams: 0,
+            bytes: 0,
+            is_trapped: false,
+            alloc,
+        }
+    }
+
+    /// The name that it was made with.
+    pub fn tag(&self) -> u64
+        ensures { result ≡ self.now.tag }
+    {
+        self.tag
+    }
+
+    /// Whether it answers nothing any more but `StoreTrapped`.
+    pub fn trapped(&self) -> bool
+        ensures { result ≡ self.now.trapped }
+    {
+        self.is_trapped
+    }
+
+    /// How many streams were made so far.
+    pub fn streams(&self) -> u32
+        ensures { result ≡ length self.now.streams }
+    {
+        self.streams.len() as u32
+    }
+
+    /// How many items were received on a stream, from 0 on; it stays at 2^128 - 1 once there.
+    pub fn moved(&self, stream: u32) -> Option<u128>
+        ensures made { IsSome result ↔ (stream < length self.now.streams) }
+        ensures count { IfSome result (λ count. count ≡ (stream_at self.now stream).received) }
+    {
+        if (stream as usize) < self.streams.len() {
+            Some(self.streams[stream as usize].received)
+        } else {
+            None
+        }
+    }
+
+    /// The bytes of a guest's memory.
+    pub fn memory(&self, guest: u32) -> Option<&[u8]>
+        ensures there { IsSome result ↔ (guest < length self.now.guests) }
+        ensures bytes { IfSome result (λ bytes. bytes.now ≡ memory_in self.now.guests guest) }
+    {
+        if (guest as usize) < self.guests.len() {
+            let guest = &self.guests[guest as usize];
+            Some(guest.memory.bytes())
+        } else {
+            None
+        }
+    }
+
+    // Whether a step may be done that the machine refuses so.
+    fn admit(&self, found: Option<Refusal>) -> Result<(), StoreError>
+        ensures exact { result ≡ admitted self.now found }
+        ensures takes_no_memory { result ≢ Err StoreError.OutOfMemory }
+    {
+        if self.is_trapped {
+            return Err(StoreError::StoreTrapped);
+        }
+        match found {
+            Some(refusal) => Err(StoreError::Refused(refusal)),
+            None => Ok(()),
+        }
+    }
+}

@@ -1,0 +1,382 @@
+//! Reads and writes of guests.
+//!
+//! Meaning: the steps Write and Read of `Reactions.antt` of `strm_machine`. Source: Canonical ABI,
+//! `canon stream.{read,write}` and `canon future.{read,write}`; wasmtime, `guest_read` and
+//! `guest_write`.
+
+ghost use Rattle.std.specs.Prelude.{◌≡◌, ◌≢◌, ◌+◌, ◌<◌, ◌≤◌, ◌++◌, length, true, false, Ok, Err, Some, None, IfOk, IfErr, OnOk, IsTrue, IsErr, ◌↔◌};
+ghost use Rattle.strm_codes.specs.Types.{payload_of};
+ghost use Rattle.strm_handles.specs.declared.entries.TransmitLocalState.{TransmitLocalState};
+ghost use Rattle.strm_memory.specs.Items.{is_number_or_none};
+ghost use Rattle.strm_machine.specs.State.{guest_in, stream_at};
+ghost use Rattle.strm_machine.specs.Meetings.{begun};
+ghost use Rattle.strm_machine.specs.Sides.{opposite, end_of};
+ghost use Rattle.strm_machine.specs.Tests.{is_too_big, items_asked, named, named_by, stream_named, side_of, has_ended, is_within_one_guest, is_open_of};
+ghost use Rattle.strm_machine.specs.Refusals.{first_of, ended_refusal, region_reasons, handle_reasons, end_reasons, end_reasons_of, operation_reasons};
+ghost use Rattle.strm_machine.specs.Reactions.{react, on_stream, operation_step};
+ghost use Rattle.strm_machine.specs.Soundness.{sizes_of, IsPlaced};
+ghost use Rattle.strm_machine.proofs.NameLemmas.{IsNameError};
+ghost use Rattle.strm_transmit.specs.Meets.{Meets, replied, or_found};
+ghost use Rattle.strm_codes.specs.declared.codes.TransmitIndex.TheVariants as index;
+ghost use Rattle.strm_machine.specs.declared.steps.Step.TheVariants as steps;
+ghost use Rattle.strm_machine.specs.declared.replies.Reply.TheVariants as replies;
+
+use crate::errors::StoreError;
+use crate::guests::memory;
+use crate::sides::{end, opposite, same_side};
+use crate::store::Store;
+use crate::turns::{begin, take_turn};
+use strm_codes::codes::{ReturnCode, TransmitIndex, TransmitKind};
+use strm_codes::counts::{ItemCount, StreamOpTooBig};
+use strm_codes::payloads::Payload;
+use strm_codes::refusals::Refusal;
+use strm_handles::entries::TransmitLocalState;
+use strm_handles::errors::HandleError;
+use strm_machine::streams::{Operation, Owner, Side, Stream};
+use strm_memory::memories::RegionError;
+
+// The items that a call asks for: a future's is one.
+fn items_asked(ty: TransmitIndex, count: u32) -> Result<ItemCount, StreamOpTooBig>
+    ensures ok { IfOk result (λ items. items ≡ items_asked ty count) }
+    ensures fits { OnOk result (is_too_big ty count ≡ false) }
+    ensures too_big { IsErr result ↔ (is_too_big ty count ≡ true) }
+{
+    match ty {
+        TransmitIndex::Stream(_) => ItemCount::new(count),
+        TransmitIndex::Future(_) => ItemCount::new(1),
+    }
+}
+
+// The side of an end, by a table's state of it.
+fn side_of(state: TransmitLocalState) -> Side
+    ensures { result ≡ side_of state }
+{
+    match state {
+        TransmitLocalState::Write { .. } => Side::Writing,
+        TransmitLocalState::Read { .. } => Side::Reading,
+        TransmitLocalState::Busy { reading } => {
+            if reading {
+                Side::Reading
+            } else {
+                Side::Writing
+            }
+        }
+    }
+}
+
+// Whether a read or write of this end can't be any more.
+fn has_ended(side: Side, kind: TransmitKind, stream: &Stream) -> bool
+    ensures { result ≡ has_ended side kind stream.now }
+{
+    match (kind, side) {
+        (TransmitKind::Stream, _) => end(stream, side).told,
+        (TransmitKind::Future, Side::Writing) => stream.writer.told || stream.passed,
+        (TransmitKind::Future, Side::Reading) => stream.passed,
+    }
+}
+
+fn ended_refusal(side: Side, kind: TransmitKind) -> Refusal
+    ensures { result ≡ ended_refusal side kind }
+{
+    match (side, kind) {
+        (Side::Writing, TransmitKind::Stream) => Refusal::WriteToDroppedStream,
+        (Side::Writing, TransmitKind::Future) => Refusal::WriteToDroppedFuture,
+        (Side::Reading, TransmitKind::Stream) => Refusal::ReadFromDroppedStream,
+        (Side::Reading, TransmitKind::Future) => Refusal::FutureAlreadyRead,
+    }
+}
+
+// Whether any bytes are items of a payload.
+fn is_number_or_none(payload: Payload) -> bool
+    ensures { result ≡ is_number_or_none payload }
+{
+    match payload {
+        Payload::Nothing => true,
+        Payload::One(scalar) => scalar.is_whole_number(),
+        Payload::Tuple(_) => false,
+    }
+}
+
+// Whether an open operation of this guest waits on the other side.
+fn is_within_one_guest(guest: u32, side: Side, ty: TransmitIndex, stream: &Stream) -> bool
+    ensures { result ≡ is_within_one_guest guest side ty stream.now }
+{
+    let is_open_of_guest = match end(stream, opposite(side)).operation {
+        Some(theirs) => theirs.is_open && theirs.guest == guest,
+        None => false,
+    };
+    is_open_of_guest && !is_number_or_none(ty.payload())
+}
+
+// Why an end may not read or write now.
+fn end_refusal(
+    side: Side,
+    guest: u32,
+    ty: TransmitIndex,
+    stream: &Stream,
+    named_side: Side,
+) -> Option<Refusal>
+    ensures { result ≡ first_of (end_reasons_of stream.now side guest ty named_side) }
+{
+    if !same_side(side, named_side) || end(stream, side).operation.is_some() {
+        return Some(Refusal::ConcurrentFutureStreamOp);
+    }
+    if has_ended(side, ty.kind(), stream) {
+        return Some(ended_refusal(side, ty.kind()));
+    }
+    if is_within_one_guest(guest, side, ty, stream) {
+        return Some(Refusal::IntraComponent);
+    }
+    None
+}
+
+impl Store {
+    // The items that a guest asks for, where its region may lie there.
+    fn region(
+        &self,
+        guest: u32,
+        ty: TransmitIndex,
+        address: u32,
+        count: u32,
+    ) -> Result<ItemCount, Refusal>
+        ensures exact { result ≡ or_found (first_of (region_reasons self.now guest ty address count))
+            (items_asked ty count) }
+        ensures there { OnOk result (guest < length self.now.guests) }
+    {
+        if guest as usize >= self.guests.len() {
+            return Err(Refusal::UnknownGuest);
+        }
+        let Ok(items) = items_asked(ty, count) else {
+            return Err(Refusal::StreamOpTooBig);
+        };
+        let memory = memory(&self.guests, guest as usize);
+        match memory.region(ty.payload(), address, items) {
+            Ok(()) => Ok(items),
+            Err(RegionError::OutOfBounds) => Err(Refusal::OutOfBounds),
+            Err(RegionError::NotAligned) => Err(Refusal::NotAligned),
+        }
+    }
+
+    // What a guest's table answers for a handle.
+    fn name(
+        &self,
+        guest: u32,
+        ty: TransmitIndex,
+        handle: u32,
+    ) -> Result<(u32, TransmitLocalState), HandleError>
+        requires { guest < length self.now.guests }
+        ensures exact { result ≡ named self.now guest ty handle }
+        ensures there { IfOk result (λ name. name.0 < length self.now.streams) }
+        ensures payload { IfOk result (λ name. (stream_at self.now name.0).payload ≡ payload_of ty) }
+        ensures others { IfErr result IsNameError }
+    {
+        let guest = &self.guests[guest as usize];
+        match ty {
+            TransmitIndex::Stream(payload) => guest.table.stream_rep(payload, handle),
+            TransmitIndex::Future(payload) => guest.table.future_rep(payload, handle),
+        }
+    }
+
+    // Why an end of a stream may not read or write now.
+    fn end_refusal(
+        &self,
+        side: Side,
+        guest: u32,
+        ty: TransmitIndex,
+        stream: u32,
+        state: TransmitLocalState,
+    ) -> Option<Refusal>
+        requires { stream < length self.now.streams }
+        ensures { result ≡ first_of (end_reasons_of (stream_at self.now stream) side guest ty (side_of state)) }
+    {
+        let stream = &self.streams[stream as usize];
+        end_refusal(side, guest, ty, stream, side_of(state))
+    }
+
+    // What a table answered, as a refusal or the stream that a handle names.
+    fn stream_named(
+        &self,
+        side: Side,
+        guest: u32,
+        ty: TransmitIndex,
+        name: Result<(u32, TransmitLocalState), HandleError>,
+    ) -> Result<u32, Refusal>
+        requires there { IfOk name (λ name. name.0 < length self.now.streams) }
+        requires payload { IfOk name (λ name. (stream_at self.now name.0).payload ≡ payload_of ty) }
+        requires others { IfErr name IsNameError }
+        ensures exact { result ≡ or_found (first_of (handle_reasons name
+            ++ end_reasons self.now side guest ty name)) (stream_named name) }
+        ensures there { IfOk result (λ stream. stream < length self.now.streams) }
+        ensures payload { IfOk result (λ stream. (stream_at self.now stream).payload ≡ payload_of ty) }
+    {
+        match name {
+            Ok((stream, state)) => match self.end_refusal(side, guest, ty, stream, state) {
+                Some(refusal) => Err(refusal),
+                None => Ok(stream),
+            },
+            Err(HandleError::UnknownHandle) => Err(Refusal::UnknownHandle),
+            Err(HandleError::WrongKind) => Err(Refusal::WrongKind),
+            Err(HandleError::WrongType) => Err(Refusal::WrongType),
+            Err(_) => unreachable!(),
+        }
+    }
+
+    // The stream whose end a handle names, where that end may read or write now.
+    fn found(
+        &self,
+        side: Side,
+        guest: u32,
+        ty: TransmitIndex,
+        handle: u32,
+    ) -> Result<u32, Refusal>
+        requires { guest < length self.now.guests }
+        ensures exact { result ≡ or_found (first_of (handle_reasons (named self.now guest ty handle)
+            ++ end_reasons self.now side guest ty (named self.now guest ty handle)))
+            (stream_named (named self.now guest ty handle)) }
+        ensures there { IfOk result (λ stream. stream < length self.now.streams) }
+        ensures payload { IfOk result (λ stream. (stream_at self.now stream).payload ≡ payload_of ty) }
+    {
+        let asked = ty;
+        let name = self.name(guest, ty, handle);
+        self.stream_named(side, guest, asked, name)
+    }
+
+    // The stream and the items of a read or write that nothing refuses.
+    fn operation_found(
+        &self,
+        side: Side,
+        guest: u32,
+        ty: TransmitIndex,
+        handle: u32,
+        address: u32,
+        count: u32,
+    ) -> Result<(u32, ItemCount), Refusal>
+        ensures exact { result ≡ or_found (first_of (operation_reasons self.now side guest ty handle address count))
+            (stream_named (named self.now guest ty handle), items_asked ty count) }
+        ensures there { IfOk result (λ found. found.0 < length self.now.streams) }
+        ensures placed { IfOk result (λ found. IsPlaced (sizes_of self.now.guests)
+            (stream_at self.now found.0).payload (begun guest address found.1)) }
+        ensures numbers { IfOk result (λ found.
+            IsTrue (is_open_of guest (end_of (opposite side) (stream_at self.now found.0)).operation)
+            → IsTrue (is_number_or_none (stream_at self.now found.0).payload)) }
+    {
+        let asked = ty;
+        match self.region(guest, ty, address, count) {
+            Ok(items) => match self.found(side, guest, asked, handle) {
+                Ok(stream) => Ok((stream, items)),
+                Err(refusal) => Err(refusal),
+            },
+            Err(refusal) => Err(refusal),
+        }
+    }
+
+    // A read or write on a stream, done.
+    fn take(&mut self, side: Side, stream: u32, mine: Operation) -> Result<ReturnCode, StoreError>
+        requires there { stream < length self.old.streams }
+        requires mine { IsPlaced (sizes_of self.old.guests) (stream_at self.old stream).payload mine }
+        requires numbers { IsTrue (is_open_of mine.guest (end_of (opposite side) (stream_at self.old stream)).operation)
+            → IsTrue (is_number_or_none (stream_at self.old stream).payload) }
+        requires untrapped { self.old.trapped ≡ false }
+        ensures meets { Meets self.old self.new (replied replies.Code result)
+            (on_stream self.old stream side mine) }
+        ensures takes_no_memory { result ≢ Err StoreError.OutOfMemory }
+    {
+        let meeting = &mut self.streams[stream as usize];
+        match take_turn(self.alloc, &mut self.guests, meeting, side, mine) {
+            Ok(code) => Ok(code),
+            Err(_) => {
+                self.is_trapped = true;
+                Err(StoreError::BadItem { stream })
+            }
+        }
+    }
+
+    // A read or write.
+    fn operate(
+        &mut self,
+        side: Side,
+        guest: u32,
+        ty: TransmitIndex,
+        handle: u32,
+        address: u32,
+        count: u32,
+    ) -> Result<ReturnCode, StoreError>
+        ensures meets { Meets self.old self.new (replied replies.Code result)
+            (react self.old (operation_step side guest ty handle address count)) }
+        ensures takes_no_memory { result ≢ Err StoreError.OutOfMemory }
+    {
+        if self.is_trapped {
+            return Err(StoreError::StoreTrapped);
+        }
+        match self.operation_found(side, guest, ty, handle, address, count) {
+            Ok(found) => self.take(side, found.0, begin(guest, address, found.1)),
+            Err(refusal) => Err(StoreError::Refused(refusal)),
+        }
+    }
+
+    /// Reads items from a stream: `count` items go to `address` on in the guest's memory.
+    pub fn stream_read(
+        &mut self,
+        guest: u32,
+        payload: Payload,
+        handle: u32,
+        address: u32,
+        count: u32,
+    ) -> Result<ReturnCode, StoreError>
+        ensures meets { Meets self.old self.new (replied replies.Code result)
+            (react self.old (steps.Read guest (index.Stream payload) handle address count)) }
+        ensures takes_no_memory { result ≢ Err StoreError.OutOfMemory }
+    {
+        let ty = TransmitIndex::Stream(payload);
+        self.operate(Side::Reading, guest, ty, handle, address, count)
+    }
+
+    /// Writes items to a stream: `count` items from `address` on in the guest's memory.
+    pub fn stream_write(
+        &mut self,
+        guest: u32,
+        payload: Payload,
+        handle: u32,
+        address: u32,
+        count: u32,
+    ) -> Result<ReturnCode, StoreError>
+        ensures meets { Meets self.old self.new (replied replies.Code result)
+            (react self.old (steps.Write guest (index.Stream payload) handle address count)) }
+        ensures takes_no_memory { result ≢ Err StoreError.OutOfMemory }
+    {
+        let ty = TransmitIndex::Stream(payload);
+        self.operate(Side::Writing, guest, ty, handle, address, count)
+    }
+
+    /// Reads a future's value, to `address` in the guest's memory.
+    pub fn future_read(
+        &mut self,
+        guest: u32,
+        payload: Payload,
+        handle: u32,
+        address: u32,
+    ) -> Result<ReturnCode, StoreError>
+        ensures meets { Meets self.old self.new (replied replies.Code result)
+            (react self.old (steps.Read guest (index.Future payload) handle address 1)) }
+        ensures takes_no_memory { result ≢ Err StoreError.OutOfMemory }
+    {
+        let ty = TransmitIndex::Future(payload);
+        self.operate(Side::Reading, guest, ty, handle, address, 1)
+    }
+
+    /// Writes a future's value, from `address` in the guest's memory.
+    pub fn future_write(
+        &mut self,
+        guest: u32,
+        payload: Payload,
+        handle: u32,
+        address: u32,
+    ) -> Result<ReturnCode, StoreError>
+        ensures meets { Meets self.old self.new (replied replies.Code result)
+            (react self.old (steps.Write guest (index.Future payload) handle address 1)) }
+        ensures takes_no_memory { result ≢ Err StoreError.OutOfMemory }
+    {
+        let ty = TransmitIndex::Future(payload);
+        self.operate(Side::Writing, guest, ty, handle, address, 1)
+    }
+}
