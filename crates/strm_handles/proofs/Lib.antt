@@ -1,2 +1,3 @@
 pub mod HandleLemmas
 pub mod ChainLemmas
+pub mod ChangeLemmas
