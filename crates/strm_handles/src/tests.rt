@@ -92,6 +92,9 @@ fn ends(rt: HostRuntime) -> Result<(), Fail> {
     assert_eq!(rt; table.stream_remove_writable(&mut counter, BYTES, 3), Ok(3));
     let answer = table.future_remove_writable(&mut counter, BYTES, 2);
     assert_eq!(rt; answer, Ok((2, false)));
+    assert_eq!(rt; table.future_set_state(BYTES, 1, READ), Ok(()));
+    let answer = table.future_remove_readable(&mut counter, BYTES, 1);
+    assert_eq!(rt; answer, Ok((1, false)));
     Ok(())
 }
 
