@@ -1,12 +1,11 @@
 -- What a look-up of an end says of the number's entry, and back.
 use Rattle.std.proofs.Common.{◌≡◌, ℕ, ◌+◌, Bool, true, false, Option, Some, None, refl, sym, ap, ◌∙◌, arith}
-use Rattle.std.specs.Prelude.{Result, Ok, Err, if◌then◌else◌}
+use Rattle.std.specs.Prelude.{Ok, Err, if◌then◌else◌}
 use Rattle.strm_codes.specs.declared.payloads.Payload.{Payload}
 use Rattle.strm_codes.specs.Sameness.{same_payload, Decides-same_payload}
 use Rattle.strm_handles.specs.declared.entries.Entry.{Entry}
 use Rattle.strm_handles.specs.declared.entries.Entry.TheVariants.{Stream, Future}
 use Rattle.strm_handles.specs.declared.entries.TransmitEnd.{TransmitEnd}
-use Rattle.strm_handles.specs.declared.errors.HandleError.{HandleError}
 use Rattle.strm_handles.specs.declared.errors.HandleError.TheVariants.{WrongType}
 use Rattle.strm_handles.specs.Handles.{Handles, entry_at, removed, live_of}
 use Rattle.strm_handles.specs.Lookups.{typed, stream_in, stream_of, future_in, future_of}

@@ -64,35 +64,39 @@ fn refused_ends_take_no_number(rt: HostRuntime) -> Result<(), Fail> {
     Ok(())
 }
 
-/// Each call once.
 #[test]
-fn ends(rt: HostRuntime) -> Result<(), Fail> {
+fn streams(rt: HostRuntime) -> Result<(), Fail> {
     let mut counter = HandleCounter::new(100);
     let mut table = HandleTable::new(rt.alloc());
     assert_eq!(rt; table.reserve(5), Ok(()));
-    assert_eq!(rt; table.future_insert_read(&mut counter, BYTES, 1), Ok(1));
-    assert_eq!(rt; table.future_insert_write(&mut counter, BYTES, 2), Ok(2));
-    assert_eq!(rt; table.stream_insert_write(&mut counter, BYTES, 3), Ok(3));
-    assert_eq!(rt; table.next_index(), 4);
-    assert_eq!(rt; table.future_rep(BYTES, 1), Ok((1, READ)));
-    let busy = TransmitLocalState::Busy { reading: true };
-    assert_eq!(rt; table.future_set_state(BYTES, 1, busy), Ok(()));
-    let answer = table.future_remove_readable(&mut counter, BYTES, 1);
-    assert_eq!(rt; answer, Err(HandleError::Busy));
-    let answer = table.future_remove_writable(&mut counter, BYTES, 1);
-    assert_eq!(rt; answer, Err(HandleError::WrongEnd));
-    assert_eq!(rt; table.stream_rep(BYTES, 1), Err(HandleError::WrongKind));
+    assert_eq!(rt; table.stream_insert_write(&mut counter, BYTES, 3), Ok(1));
+    assert_eq!(rt; table.next_index(), 2);
+    assert_eq!(rt; table.future_rep(BYTES, 1), Err(HandleError::WrongKind));
     assert_eq!(rt;
-        table.stream_rep(Payload::Nothing, 3),
+        table.stream_rep(Payload::Nothing, 1),
         Err(HandleError::WrongType)
     );
     let done = TransmitLocalState::Write { done: true };
-    assert_eq!(rt; table.stream_set_state(BYTES, 3, done), Ok(()));
-    assert_eq!(rt; table.stream_rep(BYTES, 3), Ok((3, done)));
-    assert_eq!(rt; table.stream_remove_writable(&mut counter, BYTES, 3), Ok(3));
+    assert_eq!(rt; table.stream_set_state(BYTES, 1, done), Ok(()));
+    assert_eq!(rt; table.stream_rep(BYTES, 1), Ok((3, done)));
+    assert_eq!(rt; table.stream_remove_writable(&mut counter, BYTES, 1), Ok(3));
+    Ok(())
+}
+
+#[test]
+fn futures(rt: HostRuntime) -> Result<(), Fail> {
+    let mut counter = HandleCounter::new(100);
+    let mut table = HandleTable::new(rt.alloc());
+    assert_eq!(rt; table.future_insert_read(&mut counter, BYTES, 1), Ok(1));
+    assert_eq!(rt; table.future_insert_write(&mut counter, BYTES, 2), Ok(2));
+    let busy = TransmitLocalState::Busy { reading: true };
+    assert_eq!(rt; table.future_set_state(BYTES, 1, busy), Ok(()));
+    let answer = table.future_remove_writable(&mut counter, BYTES, 1);
+    assert_eq!(rt; answer, Err(HandleError::WrongEnd));
     let answer = table.future_remove_writable(&mut counter, BYTES, 2);
     assert_eq!(rt; answer, Ok((2, false)));
     assert_eq!(rt; table.future_set_state(BYTES, 1, READ), Ok(()));
+    assert_eq!(rt; table.future_rep(BYTES, 1), Ok((1, READ)));
     let answer = table.future_remove_readable(&mut counter, BYTES, 1);
     assert_eq!(rt; answer, Ok((1, false)));
     Ok(())
