@@ -1,2 +1,4 @@
 pub mod HandleLemmas
 pub mod ChainLemmas
+pub mod ChangeLemmas
+pub mod LookupLemmas

@@ -17,18 +17,21 @@ module _ {E : Type 0} where
   before (Free next) = next
   before (Full e) = 0
 
+  -- the slot at an index, and past the end a free one
   abbrev pub slot_at : List (Slot E) → ℕ → Slot E
   slot_at slots i = slice_index_or slots i (Free 0)
 
-  -- the numbers of so many free slots, from the one at an index on
+  -- the numbers of so many free slots, from the one at an index on; a number is the index and 1
   abbrev pub chain : List (Slot E) → ℕ → ℕ → List ℕ
   chain slots zero i = []
   chain slots (suc n) i = suc i ∷ chain slots n (before (slot_at slots i))
 
   -- the handles that the slots keep
+  -- the handles that the slots are
   abbrev pub handles_in : List (Slot E) → ℕ → ℕ → HandlesOf E
   handles_in slots free first = record { entries = map entry_of slots; freed = chain slots free first }
 
+  -- the table that the slots are
   abbrev pub table_of : Inside E → TableOf E
   table_of t = record {
     handles = handles_in t.slots.items t.free t.first;

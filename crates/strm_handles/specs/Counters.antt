@@ -1,5 +1,5 @@
 -- The counter of live handles.
--- wasmtime, `handle_table.rs`; the limit is that of the store's handles there.
+-- wasmtime, `handle_table.rs`, `HandleCounter`.
 use Rattle.std.specs.Prelude.{ℕ, ◌+◌, ◌-◌}
 
 -- how many handles are live, and how many may be

@@ -43,24 +43,28 @@ abbrev pub accepted : {A : Type 0} → Result A HandleError → Result (Unit {0}
 accepted (Ok x) = Ok tt
 accepted (Err e) = Err e
 
+-- what the removal of a stream's read end answers: the stream's number, and whether it is done
 abbrev pub stream_readable_of : Handles → Payload → ℕ → Result (ℕ × Bool) HandleError
 stream_readable_of h ty idx = do
   end ← stream_of h ty idx
   done ← readable end.state
   Ok (end.rep, done)
 
+-- what the removal of a stream's write end answers: the stream's number
 abbrev pub stream_writable_of : Handles → Payload → ℕ → Result ℕ HandleError
 stream_writable_of h ty idx = do
   end ← stream_of h ty idx
   done ← writable end.state
   Ok end.rep
 
+-- what the removal of a future's read end answers: the future's number, and whether it is done
 abbrev pub future_readable_of : Handles → Payload → ℕ → Result (ℕ × Bool) HandleError
 future_readable_of h ty idx = do
   end ← future_of h ty idx
   done ← readable end.state
   Ok (end.rep, done)
 
+-- what the removal of a future's write end answers: the future's number, and whether it is done
 abbrev pub future_writable_of : Handles → Payload → ℕ → Result (ℕ × Bool) HandleError
 future_writable_of h ty idx = do
   end ← future_of h ty idx

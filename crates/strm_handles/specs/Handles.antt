@@ -34,9 +34,11 @@ module _ {E : Type 0} where
   entry_in entries zero = None
   entry_in entries (suc i) = slice_index_or entries i None
 
+  -- what a number of a table stands for
   abbrev pub entry_at : HandlesOf E → ℕ → Option E
   entry_at h n = entry_in h.entries n
 
+  -- the number that the next insert gives
   abbrev pub next_index : HandlesOf E → ℕ
   next_index h = next_of h.freed (length h.entries)
 
@@ -50,6 +52,7 @@ module _ {E : Type 0} where
   inserted_in entries [] e = record { entries = entries ++ Some e ∷ []; freed = [] }
   inserted_in entries (n ∷ ns) e = record { entries = entries_with entries n (Some e); freed = ns }
 
+  -- the handles after an insert
   abbrev pub inserted : HandlesOf E → E → HandlesOf E
   inserted h e = inserted_in h.entries h.freed e
 
@@ -83,10 +86,11 @@ module _ {E : Type 0} where
     pub all : occupied h + length h.freed ≡ length h.entries
     pub small : length h.entries < 2 ^ 28
 
--- of a guest
+-- the handles of a guest
 abbrev pub Handles : Type 0
 Handles = HandlesOf Entry
 
+-- the table of a guest
 abbrev pub Table : Type 0
 Table = TableOf Entry
 
@@ -95,10 +99,12 @@ abbrev pub lends_of : Entry → ℕ
 lends_of (entry.ResourceOwn resource lend_count) = lend_count
 lends_of _ = 0
 
+-- the open lends of what a number stands for
 abbrev pub lends_in : Option Entry → ℕ
 lends_in None = 0
 lends_in (Some e) = lends_of e
 
+-- the open lends of a table
 abbrev pub open_lends : Handles → ℕ
 open_lends h = sum_by lends_in h.entries
 

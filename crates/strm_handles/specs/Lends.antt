@@ -30,15 +30,17 @@ resource_lend_in counter ty (Some (entry.ResourceBorrow resource scope)) = do
   Ok (rep, false)
 resource_lend_in counter ty (Some _) = Err WrongKind
 
+-- what the lend of a number answers
 abbrev pub resource_lend_of : Handles → Counter → TypedResourceIndex → Result (ℕ × Bool) HandleError
 resource_lend_of h counter idx = resource_lend_in counter idx.ty (entry_at h idx.index)
 
+-- only the lend of an own resource can be undone
 abbrev pub resource_undo_lend_in : Option Entry → Result (Unit {0}) HandleError
 resource_undo_lend_in None = Err UnknownHandle
 resource_undo_lend_in (Some (entry.ResourceOwn resource lend_count)) = Ok tt
 resource_undo_lend_in (Some _) = Err WrongKind
 
--- the type that the index names is not looked at
+-- what undoing a lend answers; the type that the index names is not looked at
 abbrev pub resource_undo_lend_of : Handles → TypedResourceIndex → Result (Unit {0}) HandleError
 resource_undo_lend_of h idx = resource_undo_lend_in (entry_at h idx.index)
 
@@ -53,6 +55,7 @@ lent_in h n (Some (entry.ResourceOwn resource lend_count)) =
     with_entry h n (entry.ResourceOwn resource (lend_count + 1))
 lent_in h n _ = h
 
+-- the handles after a lend
 abbrev pub lent : Handles → ℕ → Handles
 lent h n = lent_in h n (entry_at h n)
 
@@ -62,6 +65,7 @@ returned_in h n (Some (entry.ResourceOwn resource lend_count)) =
     with_entry h n (entry.ResourceOwn resource (lend_count - 1))
 returned_in h n _ = h
 
+-- the handles after a lend is undone
 abbrev pub returned : Handles → ℕ → Handles
 returned h n = returned_in h n (entry_at h n)
 
@@ -75,5 +79,6 @@ remove_resource_in ty (Some (entry.ResourceBorrow resource scope)) = do
   Ok (removed.Borrow scope)
 remove_resource_in ty (Some _) = Err WrongKind
 
+-- what the removal of a resource answers
 abbrev pub remove_resource_of : Handles → TypedResourceIndex → Result RemovedResource HandleError
 remove_resource_of h idx = remove_resource_in idx.ty (entry_at h idx.index)

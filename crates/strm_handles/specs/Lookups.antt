@@ -31,6 +31,7 @@ stream_in ty None = Err UnknownHandle
 stream_in ty (Some (entry.Stream end)) = typed ty end
 stream_in ty (Some _) = Err WrongKind
 
+-- the end of a stream of this payload that a number stands for
 abbrev pub stream_of : Handles → Payload → ℕ → Result TransmitEnd HandleError
 stream_of h ty idx = stream_in ty (entry_at h idx)
 
@@ -40,14 +41,17 @@ future_in ty None = Err UnknownHandle
 future_in ty (Some (entry.Future end)) = typed ty end
 future_in ty (Some _) = Err WrongKind
 
+-- the end of a future of this payload that a number stands for
 abbrev pub future_of : Handles → Payload → ℕ → Result TransmitEnd HandleError
 future_of h ty idx = future_in ty (entry_at h idx)
 
+-- a stream's number, and the state of its end
 abbrev pub stream_rep_of : Handles → Payload → ℕ → Result (ℕ × TransmitLocalState) HandleError
 stream_rep_of h ty idx = do
   end ← stream_of h ty idx
   Ok (end.rep, end.state)
 
+-- a future's number, and the state of its end
 abbrev pub future_rep_of : Handles → Payload → ℕ → Result (ℕ × TransmitLocalState) HandleError
 future_rep_of h ty idx = do
   end ← future_of h ty idx
@@ -57,20 +61,24 @@ future_rep_of h ty idx = do
 abbrev pub typed_rep : ℕ → TypedResource → Result ℕ HandleError
 typed_rep ty resource = if resource.ty == ty then Ok resource.rep else Err WrongType
 
+-- the number of a resource of this type, own or borrowed
 abbrev pub resource_rep_in : ℕ → Option Entry → Result ℕ HandleError
 resource_rep_in ty None = Err UnknownHandle
 resource_rep_in ty (Some (entry.ResourceOwn resource lend_count)) = typed_rep ty resource
 resource_rep_in ty (Some (entry.ResourceBorrow resource scope)) = typed_rep ty resource
 resource_rep_in ty (Some _) = Err WrongKind
 
+-- the number of the resource that a number stands for
 abbrev pub resource_rep_of : Handles → TypedResourceIndex → Result ℕ HandleError
 resource_rep_of h idx = resource_rep_in idx.ty (entry_at h idx.index)
 
+-- an error context's number
 abbrev pub error_context_rep_in : Option Entry → Result ℕ HandleError
 error_context_rep_in None = Err UnknownHandle
 error_context_rep_in (Some (entry.ErrorContext rep)) = Ok rep
 error_context_rep_in (Some _) = Err WrongKind
 
+-- the number of the error context that a number stands for
 abbrev pub error_context_rep_of : Handles → ℕ → Result ℕ HandleError
 error_context_rep_of h idx = error_context_rep_in (entry_at h idx)
 
@@ -80,18 +88,21 @@ subtask_rep_in None = Err UnknownHandle
 subtask_rep_in (Some (entry.Subtask rep is_host)) = Ok (rep, is_host)
 subtask_rep_in (Some _) = Err WrongKind
 
+-- the same of the subtask that a number stands for
 abbrev pub subtask_rep_of : Handles → ℕ → Result (ℕ × Bool) HandleError
 subtask_rep_of h idx = subtask_rep_in (entry_at h idx)
 
+-- a waitable set's number
 abbrev pub waitable_set_rep_in : Option Entry → Result ℕ HandleError
 waitable_set_rep_in None = Err UnknownHandle
 waitable_set_rep_in (Some (entry.WaitableSet rep)) = Ok rep
 waitable_set_rep_in (Some _) = Err WrongKind
 
+-- the number of the waitable set that a number stands for
 abbrev pub waitable_set_rep_of : Handles → ℕ → Result ℕ HandleError
 waitable_set_rep_of h idx = waitable_set_rep_in (entry_at h idx)
 
--- subtasks and the ends of streams and futures may be waited for
+-- the number and the kind of what may be waited for: subtasks, and ends of streams and futures
 abbrev pub waitable_rep_in : Option Entry → Result (ℕ × Waitable) HandleError
 waitable_rep_in None = Err UnknownHandle
 waitable_rep_in (Some (entry.Subtask rep is_host)) = Ok (rep, waitable.Subtask is_host)
@@ -99,6 +110,7 @@ waitable_rep_in (Some (entry.Future end)) = Ok (end.rep, waitable.Future)
 waitable_rep_in (Some (entry.Stream end)) = Ok (end.rep, waitable.Stream)
 waitable_rep_in (Some _) = Err WrongKind
 
+-- the same of what a number stands for
 abbrev pub waitable_rep_of : Handles → ℕ → Result (ℕ × Waitable) HandleError
 waitable_rep_of h idx = waitable_rep_in (entry_at h idx)
 
@@ -107,5 +119,6 @@ abbrev pub guest_thread_rep_in : Option ℕ → Result ℕ HandleError
 guest_thread_rep_in None = Err UnknownHandle
 guest_thread_rep_in (Some rep) = Ok rep
 
+-- the number of the thread that a number stands for
 abbrev pub guest_thread_rep_of : HandlesOf ℕ → ℕ → Result ℕ HandleError
 guest_thread_rep_of h idx = guest_thread_rep_in (entry_at h idx)

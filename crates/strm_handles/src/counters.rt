@@ -1,6 +1,6 @@
 //! The counter of live handles, which many tables share.
 //!
-//! Source: wasmtime, `handle_table.rs`; the limit is that of the store's handles there.
+//! Source: wasmtime, `handle_table.rs`, `HandleCounter`.
 
 ghost use Rattle.std.specs.Prelude.{◌≡◌, ◌<◌, ◌≤◌, ◌↔◌, IsTrue};
 ghost use Rattle.std.specs.Bool.{OnFalse};
@@ -39,7 +39,7 @@ impl HandleCounter {
         self.limit
     }
 
-    /// A limit below the live handles ends none of them, and no more are made until enough are gone.
+    /// A limit below the live handles ends none of them, but no more are made.
     pub fn set_limit(&mut self, limit: usize)
         ensures { self.new ≡ record self.old { limit = limit } }
     {

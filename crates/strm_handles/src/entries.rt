@@ -11,7 +11,7 @@ use strm_codes::payloads::Payload;
 /// 2^28: the first number that no handle has. Nor has one the number 0.
 pub const MAX_HANDLE: u32 = 268_435_456;
 
-/// The call that a borrowed resource was lent to.
+/// The call that a resource is lent for.
 #[derive(Clone, Copy, Debug, PartialEq, Eq)]
 pub struct Scope(pub u32);
 
@@ -101,7 +101,7 @@ impl TransmitLocalState {
     }
 }
 
-/// An end of a stream or future, as a table keeps it.
+/// An end of a stream or future, as a table keeps it. `rep` is the stream's or future's number.
 #[derive(Clone, Copy, Debug)]
 pub struct TransmitEnd {
     pub rep: u32,
@@ -146,7 +146,7 @@ impl TransmitEnd {
     }
 }
 
-/// What a handle stands for.
+/// What a handle stands for. A `rep` is the number by which the host knows it.
 #[derive(Clone, Copy, Debug)]
 pub enum Entry {
     /// A resource that the guest owns, and how often it is lent at the moment.
@@ -159,11 +159,14 @@ pub enum Entry {
         resource: TypedResource,
         scope: Scope,
     },
+    /// An end of a stream.
     Stream(TransmitEnd),
+    /// An end of a future.
     Future(TransmitEnd),
     ErrorContext {
         rep: u32,
     },
+    /// A task of a guest or of the host.
     Subtask {
         rep: u32,
         is_host: bool,

@@ -1,7 +1,6 @@
 //! Why a call of a handle table does not answer.
 //!
-//! Source: wasmtime, `handle_table.rs`; `IndexOverflow`, `TooManyLends` and `OutOfMemory` are traps
-//! or panics there.
+//! Source: wasmtime, `handle_table.rs`. The variants' names and the order of the tests are ours.
 
 /// Why a call does not answer. Nothing has changed then.
 #[derive(Clone, Copy, Debug, PartialEq, Eq)]

@@ -9,4 +9,6 @@ pub mod entries;
 pub mod errors;
 mod slots;
 pub mod tables;
+#[cfg(test)]
+mod tests;
 pub mod threads;

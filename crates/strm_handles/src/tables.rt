@@ -15,8 +15,8 @@ mod ends;
 mod others;
 mod resources;
 
-/// The handles of a guest. Every insert counts its handle in the counter that it is passed, and every
-/// removal counts it off, so that one counter may serve the tables of many guests.
+/// The handles of a guest. Every insert counts its handle in the counter that it is passed, and
+/// every removal counts it off, so that one counter may serve the tables of many guests.
 #[derive(Drop)]
 pub struct HandleTable {
     slots: Slots<Entry>,

@@ -45,6 +45,7 @@ impl ThreadHandleTable {
         self.slots.sound();
     }
 
+    /// Adds a thread.
     pub fn guest_thread_insert(
         &mut self,
         counter: &mut HandleCounter,

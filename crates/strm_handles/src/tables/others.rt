@@ -13,12 +13,14 @@ use crate::errors::HandleError;
 use crate::tables::HandleTable;
 
 impl HandleTable {
+    /// Adds a handle of an error context.
     pub fn error_context_insert(
         &mut self,
         counter: &mut HandleCounter,
         rep: u32,
     ) -> Result<u32, HandleError>
-        ensures { Inserts self.old self.new counter.old counter.new (Entry.ErrorContext rep) result }
+        ensures { Inserts self.old self.new counter.old counter.new
+            (Entry.ErrorContext rep) result }
     {
         self.slots.insert(counter, Entry::ErrorContext { rep })
     }
@@ -108,12 +110,14 @@ impl HandleTable {
         Ok(task)
     }
 
+    /// Adds a waitable set.
     pub fn waitable_set_insert(
         &mut self,
         counter: &mut HandleCounter,
         rep: u32,
     ) -> Result<u32, HandleError>
-        ensures { Inserts self.old self.new counter.old counter.new (Entry.WaitableSet rep) result }
+        ensures { Inserts self.old self.new counter.old counter.new
+            (Entry.WaitableSet rep) result }
     {
         self.slots.insert(counter, Entry::WaitableSet { rep })
     }

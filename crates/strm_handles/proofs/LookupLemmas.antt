@@ -1,0 +1,54 @@
+-- What a look-up of an end says of the number's entry, and back.
+use Rattle.std.proofs.Common.{◌≡◌, ℕ, ◌+◌, Bool, true, false, Option, Some, None, refl, sym, ap, ◌∙◌, arith}
+use Rattle.std.specs.Prelude.{Ok, Err, if◌then◌else◌}
+use Rattle.strm_codes.specs.declared.payloads.Payload.{Payload}
+use Rattle.strm_codes.specs.Sameness.{same_payload, Decides-same_payload}
+use Rattle.strm_handles.specs.declared.entries.Entry.{Entry}
+use Rattle.strm_handles.specs.declared.entries.Entry.TheVariants.{Stream, Future}
+use Rattle.strm_handles.specs.declared.entries.TransmitEnd.{TransmitEnd}
+use Rattle.strm_handles.specs.declared.errors.HandleError.TheVariants.{WrongType}
+use Rattle.strm_handles.specs.Handles.{Handles, entry_at, removed, live_of}
+use Rattle.strm_handles.specs.Lookups.{typed, stream_in, stream_of, future_in, future_of}
+use Rattle.strm_handles.proofs.HandleLemmas.{live_of-removed}
+
+typed_cases : (b : Bool) (end found : TransmitEnd) → (if b then Ok end else Err WrongType) ≡ Ok found → (b ≡ true) × (end ≡ found)
+typed_cases true end found is = (refl, cc)
+typed_cases false end found is = cc
+
+typed-ok : (ty : Payload) (end found : TransmitEnd) → typed ty end ≡ Ok found → (end ≡ found) × (found.ty ≡ ty)
+typed-ok ty end found is =
+    let c = typed_cases (same_payload end.ty ty) end found is in
+    (c.1, ap (λ (e : TransmitEnd). e.ty) (sym c.1) ∙ (Decides-same_payload end.ty ty).0 c.0)
+
+stream_in-ok : (ty : Payload) (o : Option Entry) (end : TransmitEnd) → stream_in ty o ≡ Ok end → (o ≡ Some (Stream end)) × (end.ty ≡ ty)
+stream_in-ok ty None end is = cc
+stream_in-ok ty (Some (Stream e)) end is = let t = typed-ok ty e end is in (ap (λ (x : TransmitEnd). Some (Stream x)) t.0, t.1)
+stream_in-ok ty (Some _) end is = cc
+
+future_in-ok : (ty : Payload) (o : Option Entry) (end : TransmitEnd) → future_in ty o ≡ Ok end → (o ≡ Some (Future end)) × (end.ty ≡ ty)
+future_in-ok ty None end is = cc
+future_in-ok ty (Some (Future e)) end is = let t = typed-ok ty e end is in (ap (λ (x : TransmitEnd). Some (Future x)) t.0, t.1)
+future_in-ok ty (Some _) end is = cc
+
+-- an end that was found is the number's entry, and has that payload
+pub entry-stream_of : (h : Handles) (ty : Payload) (idx : ℕ) (end : TransmitEnd) → stream_of h ty idx ≡ Ok end → (entry_at h idx ≡ Some (Stream end)) × (end.ty ≡ ty)
+entry-stream_of h ty idx end is = stream_in-ok ty (entry_at h idx) end is
+
+pub entry-future_of : (h : Handles) (ty : Payload) (idx : ℕ) (end : TransmitEnd) → future_of h ty idx ≡ Ok end → (entry_at h idx ≡ Some (Future end)) × (end.ty ≡ ty)
+entry-future_of h ty idx end is = future_in-ok ty (entry_at h idx) end is
+
+-- and back
+pub stream_of-entry : (h : Handles) (idx : ℕ) (end : TransmitEnd) → entry_at h idx ≡ Some (Stream end) → stream_of h end.ty idx ≡ Ok end
+stream_of-entry h idx end is = rw (is, (Decides-same_payload end.ty end.ty).1 refl) refl
+
+pub future_of-entry : (h : Handles) (idx : ℕ) (end : TransmitEnd) → entry_at h idx ≡ Some (Future end) → future_of h end.ty idx ≡ Ok end
+future_of-entry h idx end is = rw (is, (Decides-same_payload end.ty end.ty).1 refl) refl
+
+-- an end has no lends
+pub live_of-removed-stream : (h : Handles) (ty : Payload) (idx : ℕ) (end : TransmitEnd) → stream_of h ty idx ≡ Ok end → live_of (removed h idx) + 1 ≡ live_of h
+live_of-removed-stream h ty idx end is =
+    omega (arith, live_of-removed h idx (Stream end) (entry-stream_of h ty idx end is).0)
+
+pub live_of-removed-future : (h : Handles) (ty : Payload) (idx : ℕ) (end : TransmitEnd) → future_of h ty idx ≡ Ok end → live_of (removed h idx) + 1 ≡ live_of h
+live_of-removed-future h ty idx end is =
+    omega (arith, live_of-removed h idx (Future end) (entry-future_of h ty idx end is).0)
