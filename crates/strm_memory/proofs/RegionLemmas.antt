@@ -7,13 +7,13 @@
 -- n + m items are n items and then m (`items_at-join`, `items_at-split`, `stored_at-append`). What lies somewhere
 -- are items (`AreItems-items`), as many as were asked for (`length-items`); any bytes are items of a number
 -- (`items-number_or_none`).
-use Rattle.std.proofs.Common.{◌≡◌, ℕ, zero, suc, ◌+◌, ◌*◌, ◌<◌, ◌≤◌, ◌-◌, ℤ, List, [], ◌∷◌, ◌++◌, length, take, drop, Option, Some, None, true, ◌⊎◌, inl, inr, refl, sym, subst, ap, ◌∙◌, append_assoc, arith, length-append, length-drop}
-use Rattle.std.proofs.lemmas.List.{take_at, drop_at, length-take-le, drop-drop, drop-take, take-take, take-append-le, drop-append-le, take-append-drop}
+use Rattle.std.proofs.Common.{◌≡◌, ℕ, zero, suc, ◌+◌, ◌*◌, ◌≤◌, ◌-◌, ℤ, List, [], ◌∷◌, ◌++◌, length, take, drop, Option, Some, None, true, inl, inr, refl, sym, subst, ap, ◌∙◌, append_assoc, arith, length-append, length-drop}
+use Rattle.std.proofs.lemmas.List.{take_at, drop_at, length-take-le, drop-drop, drop-take, take-take}
 use Rattle.std.proofs.lemmas.Option.{option_and_then_some}
 use Rattle.std.proofs.Math.Seq.{take-append-add, drop-append-add}
 use Rattle.std.specs.Option.{option_map}
 use Rattle.std.specs.Prelude.{All, is_some, IsSome, IfSome, IsTrue, option_and_then}
-use Rattle.strm_codes.specs.Scalars.{size_of, is_whole_number, FitsScalar}
+use Rattle.strm_codes.specs.Scalars.{size_of}
 use Rattle.strm_codes.specs.Layout.{scalars_of, gap_before, end_of, item_size}
 use Rattle.strm_codes.specs.Items.{FitsItem, IsNumber}
 use Rattle.strm_codes.specs.declared.scalars.Scalar.{Scalar}

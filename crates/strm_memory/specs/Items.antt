@@ -1,7 +1,7 @@
 -- The items of a region of a memory, and a memory with items stored in a region.
 -- Canonical ABI, "Loading" and "Storing", for records and lists: fields at their alignments, items one
 -- after the other. The padding between fields and behind them is never written.
-use Rattle.std.specs.Prelude.{ℕ, zero, suc, ◌+◌, ◌*◌, ◌<◌, IsSome, IsNone, ℤ, Bool, true, false, List, [], ◌∷◌, ◌++◌, take, drop, slice_index_or, Option, Some, None, option_and_then}
+use Rattle.std.specs.Prelude.{ℕ, zero, suc, ◌+◌, ◌*◌, ◌<◌, IsSome, IsNone, ℤ, Bool, true, false, List, [], ◌∷◌, ◌++◌, take, drop, slice_index_or, Option, Some, option_and_then}
 use Rattle.std.specs.Option.{option_map}
 use Rattle.strm_codes.specs.Scalars.{size_of, is_whole_number}
 use Rattle.strm_codes.specs.Layout.{gap_before, item_size}

@@ -11,3 +11,5 @@ pub mod laws;
 pub mod memories;
 pub mod moves;
 mod numbers;
+#[cfg(test)]
+mod tests;

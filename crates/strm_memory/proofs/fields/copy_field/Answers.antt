@@ -1,4 +1,3 @@
-use Rattle.std.proofs.Common.{arith}
 use Rattle.strm_memory.proofs.FieldLemmas.{flag_copied}
 use Rattle.strm_memory.proofs.fields.copy_field.Goals as goal
 
