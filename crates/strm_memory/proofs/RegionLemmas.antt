@@ -22,9 +22,10 @@ use Rattle.strm_codes.specs.declared.payloads.Payload.TheVariants.{Nothing, One,
 use Rattle.strm_memory.specs.Bytes.{le, to_le, put_at, bytes_at, IsBytes, IsApart}
 use Rattle.strm_memory.specs.Numbers.{lifted, lowered}
 use Rattle.strm_memory.specs.Items.{decode_from, encode_from, decode, encode, items, stored, items_at, stored_at, AreItems, is_number_or_none}
-use Rattle.strm_memory.proofs.ByteLemmas.{length-to_le, le-to_le, le-take-lt, IsBytes-drop}
+use Rattle.strm_memory.proofs.ByteLemmas.{length-to_le, le-to_le, le-take-lt, IsBytes-drop, length-put_at}
 use Rattle.strm_memory.proofs.NumberLemmas.{IsLifted, IsLifted-fits, FitsScalar-lifted}
 use Rattle.strm_memory.proofs.FieldLemmas.{le-end_of, IsNumber-FitsItem}
+use Rattle.strm_memory.proofs.ItemLemmas.{items-add}
 use Rattle.strm_memory.proofs.CopyLemmas.{option_map_some, items-no_char, number_no_char}
 
 -- ## One item
@@ -137,7 +138,7 @@ items-number_or_none payload bytes n t = some (items (scalars_of payload) bytes 
     some (Some x) e = refl
 
     good : (payload : Payload) → IsTrue (is_number_or_none payload) → is_some (items (scalars_of payload) bytes n) ≡ true
-    good Nothing t = items-no_char [] n bytes refl
+    good Nothing t = items-no_char [] n bytes tt
     good (One s) t = items-no_char (s ∷ []) n bytes (number_no_char s t)
     good (Tuple shape) t = cc
 
@@ -152,30 +153,6 @@ items-take ss bytes (suc n) k h =
     let first : decode ss (take k bytes) ≡ decode ss bytes = decode_from-take 0 ss bytes k (omega (arith, room)) in
     let rest : drop w (take k bytes) ≡ take (k - w) (drop w bytes) = subst (λ j. drop w (take j bytes) ≡ take (k - w) (drop w bytes)) a (drop-take w (k - w) bytes) in
     rw (first, rest, items-take ss (drop w bytes) n (k - w) (omega (arith, room))) refl
-
-regroup : {A : Type 0} (o : Option A) (p q : Option (List A)) → option_and_then (λ x. option_map (λ xs. x ∷ xs) (option_and_then (λ xs. option_map (λ ys. xs ++ ys) q) p)) o ≡ option_and_then (λ xs. option_map (λ ys. xs ++ ys) q) (option_and_then (λ x. option_map (λ xs. x ∷ xs) p) o)
-regroup None p q = refl
-regroup (Some x) None q = refl
-regroup (Some x) (Some xs) None = refl
-regroup (Some x) (Some xs) (Some ys) = refl
-
-map_nil : {A : Type 0} (o : Option (List A)) → o ≡ option_map (λ ys. [] ++ ys) o
-map_nil None = refl
-map_nil (Some xs) = refl
-
--- n + m items are n items and then m
-pub items-add : (ss : List Scalar) (bytes : List ℕ) (n m : ℕ) → items ss bytes (n + m) ≡ option_and_then (λ xs. option_map (λ ys. xs ++ ys) (items ss (drop (item_size ss * n) bytes) m)) (items ss bytes n)
-unfolding items
-items-add ss bytes zero m =
-    let e : zero + m ≡ m = omega arith in
-    let z : item_size ss * zero ≡ 0 = omega arith in
-    rw (e, z) (map_nil (items ss bytes m))
-items-add ss bytes (suc n) m =
-    let w = item_size ss in
-    let e : suc n + m ≡ suc (n + m) = omega arith in
-    let f : w * suc n ≡ w + w * n = omega arith in
-    rw (e, f, items-add ss (drop w bytes) n m, drop-drop (w * n) w bytes)
-    (regroup (decode ss bytes) (items ss (drop w bytes) n) (items ss (drop (w + w * n) bytes) m))
 
 pub length-stored : (ss : List Scalar) (bytes : List ℕ) (xs : List (List ℤ)) → item_size ss * length xs ≤ length bytes → length (stored ss bytes xs) ≡ length bytes
 unfolding stored
@@ -331,10 +308,6 @@ bytes_at-stored_at ss memory address xs other n h apart =
 pub items_at-stored_at_apart : (ss : List Scalar) (memory : List ℕ) (address : ℕ) (xs : List (List ℤ)) (ts : List Scalar) (other n : ℕ) → address + item_size ss * length xs ≤ length memory → IsApart address (item_size ss * length xs) other (item_size ts * n) → items_at ts (stored_at ss memory address xs) other n ≡ items_at ts memory other n
 items_at-stored_at_apart ss memory address xs ts other n h apart =
     items_at-same ts memory (stored_at ss memory address xs) other n (bytes_at-stored_at ss memory address xs other (item_size ts * n) h apart)
-
-pub length-put_at : (memory : List ℕ) (address : ℕ) (new : List ℕ) → address + length new ≤ length memory → length (put_at memory address new) ≡ length memory
-length-put_at memory address new h =
-    rw (length-append, length-append, length-take-le address memory (omega arith), length-drop) (omega arith)
 
 -- bytes lie where they were put
 pub bytes_at-put_at : (memory : List ℕ) (address : ℕ) (new : List ℕ) → address + length new ≤ length memory → bytes_at (put_at memory address new) address (length new) ≡ new

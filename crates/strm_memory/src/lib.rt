@@ -4,6 +4,7 @@
 //! what a memory is with items stored in one; every copy here is said by these two alone.
 #![tactic(auto)]
 
+mod columns;
 pub mod copies;
 mod fields;
 pub mod items;
