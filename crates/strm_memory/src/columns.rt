@@ -28,11 +28,34 @@ pub(crate) fn is_good_column(source: &[u8], from: usize, scalar: Scalar, column:
         is_good_column scalar column.start column.size (drop from source.now) column.count }
 {
     match scalar {
-        Scalar::Char => are_scalar_values(source, from, column),
+        Scalar::Char => are_chars(source, from, column),
         _ => true,
     }
 }
 
+// The same of characters. With a constant size the compiler makes vector code of the loop.
+fn are_chars(source: &[u8], from: usize, column: Column) -> bool
+    requires inside { column.start + 4 ≤ column.size }
+    requires holds { from + column.size * column.count ≤ length source.now }
+    ensures { result ≡
+        is_good_column Char column.start column.size (drop from source.now) column.count }
+{
+    let Column { start, size, count } = column;
+    if size == 4 {
+        return are_scalar_values(
+            source,
+            from,
+            Column {
+                start: 0,
+                size: 4,
+                count,
+            },
+        );
+    }
+    are_scalar_values(source, from, Column { start, size, count })
+}
+
+#[inline(always)]
 fn are_scalar_values(source: &[u8], from: usize, column: Column) -> bool
     requires inside { column.start + 4 ≤ column.size }
     requires holds { from + column.size * column.count ≤ length source.now }
@@ -63,10 +86,10 @@ pub(crate) fn copy_column(
     requires destination_holds { to + column.size * column.count ≤ length destination.old }
     ensures { destination.new ≡ take to destination.old
         ++ copied_column (settled scalar) (size_of scalar) column.start column.size
-            (drop from source.now) (drop to destination.old) column.count }
+        (drop from source.now) (drop to destination.old) column.count }
 {
     match scalar {
-        Scalar::Bool => copy_flags(source, from, destination, to, column),
+        Scalar::Bool => copy_bools(source, from, destination, to, column),
         Scalar::S8 | Scalar::U8 => copy_widths(source, from, destination, to, 1, column),
         Scalar::S16 | Scalar::U16 => copy_widths(source, from, destination, to, 2, column),
         Scalar::S32 | Scalar::U32 | Scalar::Char => {
@@ -76,14 +99,41 @@ pub(crate) fn copy_column(
     }
 }
 
-// Copies a flag.
+// Copies a flag. With a constant size the compiler makes vector code of the loop.
+fn copy_bools(source: &[u8], from: usize, destination: &mut [u8], to: usize, column: Column)
+    requires inside { column.start + 1 ≤ column.size }
+    requires source_holds { from + column.size * column.count ≤ length source.now }
+    requires destination_holds { to + column.size * column.count ≤ length destination.old }
+    ensures { destination.new ≡ take to destination.old
+        ++ copied_column (settled Flag) 1 column.start column.size
+        (drop from source.now) (drop to destination.old) column.count }
+{
+    let Column { start, size, count } = column;
+    if size == 1 {
+        copy_flags(
+            source,
+            from,
+            destination,
+            to,
+            Column {
+                start: 0,
+                size: 1,
+                count,
+            },
+        );
+    } else {
+        copy_flags(source, from, destination, to, Column { start, size, count });
+    }
+}
+
+#[inline(always)]
 fn copy_flags(source: &[u8], from: usize, destination: &mut [u8], to: usize, column: Column)
     requires inside { column.start + 1 ≤ column.size }
     requires source_holds { from + column.size * column.count ≤ length source.now }
     requires destination_holds { to + column.size * column.count ≤ length destination.old }
     ensures { destination.new ≡ take to destination.old
         ++ copied_column (settled Flag) 1 column.start column.size
-            (drop from source.now) (drop to destination.old) column.count }
+        (drop from source.now) (drop to destination.old) column.count }
 {
     let Column { start, size, count } = column;
     let mut done = 0;
@@ -108,12 +158,18 @@ fn copy_widths(
     requires destination_holds { to + column.size * column.count ≤ length destination.old }
     ensures { destination.new ≡ take to destination.old
         ++ copied_column (λ bytes. bytes) width column.start column.size
-            (drop from source.now) (drop to destination.old) column.count }
+        (drop from source.now) (drop to destination.old) column.count }
 {
     let Column { start, size, count } = column;
     let mut done = 0;
     for _k in 0..count {
-        copy_bytes(source, from + done + start, destination, to + done + start, width);
+        copy_bytes(
+            source,
+            from + done + start,
+            destination,
+            to + done + start,
+            width,
+        );
         done += size;
     }
 }

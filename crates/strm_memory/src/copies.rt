@@ -164,7 +164,15 @@ fn copy_good_items(
     let mut done = 0;
     while done < count {
         let block = most.min(count - done);
-        copy_block(source, from + size * done, destination, to + size * done, fields, size, block);
+        copy_block(
+            source,
+            from + size * done,
+            destination,
+            to + size * done,
+            fields,
+            size,
+            block,
+        );
         done += block;
     }
 }
@@ -189,7 +197,14 @@ fn copy_block(
     for k in 0..fields.len() {
         let scalar = fields[k];
         let start = field_start(fields, k, at);
-        copy_column(source, from, destination, to, scalar, Column { start, size, count });
+        copy_column(
+            source,
+            from,
+            destination,
+            to,
+            scalar,
+            Column { start, size, count },
+        );
         at = start + scalar.size() as usize;
     }
 }

@@ -1,4 +1,4 @@
-use Rattle.std.proofs.Common.{◌≡◌, ◌+◌, ◌<◌, ◌≤◌, ◌∙◌, length, arith, drop, sym}
+use Rattle.std.proofs.Common.{◌≡◌, ◌+◌, ◌≤◌, ◌∙◌, length, arith, drop, sym}
 use Rattle.strm_codes.specs.declared.scalars.Scalar.TheVariants.{Bool as Flag}
 use Rattle.strm_memory.specs.Copies.{settled}
 use Rattle.strm_memory.proofs.ItemLemmas.{item_fits}

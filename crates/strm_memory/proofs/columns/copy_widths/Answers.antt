@@ -1,4 +1,4 @@
-use Rattle.std.proofs.Common.{◌≡◌, ◌+◌, ◌<◌, ◌≤◌, ◌∙◌, length, arith, drop, sym, List, ℕ}
+use Rattle.std.proofs.Common.{◌≡◌, ◌+◌, ◌≤◌, ◌∙◌, length, arith, drop, sym, List, ℕ}
 use Rattle.strm_memory.proofs.ItemLemmas.{item_fits}
 use Rattle.strm_memory.proofs.ColumnLemmas.{column_more, column_none}
 use Rattle.strm_memory.proofs.columns.copy_widths.Goals as goal

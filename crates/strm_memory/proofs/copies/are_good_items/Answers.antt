@@ -1,4 +1,4 @@
-use Rattle.std.proofs.Common.{arith, ◌≡◌, ◌≤◌, ◌+◌, ◌*◌, ◌-◌, ◌∙◌, sym, drop, true, false}
+use Rattle.std.proofs.Common.{arith, ◌≡◌, ◌+◌, ◌*◌, ◌∙◌, sym, drop, true, false}
 use Rattle.strm_memory.proofs.ItemLemmas.{block_fits, good_block, good_none}
 use Rattle.strm_memory.proofs.copies.are_good_items.Goals as goal
 

@@ -1,6 +1,5 @@
-use Rattle.std.proofs.Common.{arith, ◌≡◌, ◌≤◌, ◌∙◌, ◌*◌, ◌++◌, length, length-drop, refl, sym, ap, drop, take}
+use Rattle.std.proofs.Common.{arith, ◌≤◌, ◌∙◌, ◌*◌, ◌++◌, length, length-drop, refl, sym, ap, drop, take}
 use Rattle.strm_codes.specs.Layout.{item_size}
-use Rattle.strm_memory.specs.Copies.{copied, copied_columns}
 use Rattle.strm_memory.specs.Items.{scalar_at}
 use Rattle.strm_memory.proofs.FieldLemmas.{IsField, end_step}
 use Rattle.strm_memory.proofs.ColumnLemmas.{columns_step, columns_end, columns-copied}

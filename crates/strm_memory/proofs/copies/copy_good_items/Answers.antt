@@ -1,4 +1,4 @@
-use Rattle.std.proofs.Common.{arith, ◌≡◌, ◌≤◌, ◌+◌, ◌*◌, ◌-◌, ◌∙◌, sym, drop, length}
+use Rattle.std.proofs.Common.{arith, ◌≡◌, ◌+◌, ◌*◌, ◌∙◌, sym, drop}
 use Rattle.strm_memory.proofs.ItemLemmas.{block_fits}
 use Rattle.strm_memory.proofs.ColumnLemmas.{block_more, copied_none}
 use Rattle.strm_memory.proofs.copies.copy_good_items.Goals as goal

@@ -1,4 +1,4 @@
-use Rattle.std.proofs.Common.{arith, ◌≡◌, ◌∙◌, refl, sym, drop, true, false}
+use Rattle.std.proofs.Common.{arith, ◌∙◌, refl, sym, drop, true, false}
 use Rattle.strm_codes.specs.Scalars.{size_of}
 use Rattle.strm_memory.specs.Items.{scalar_at}
 use Rattle.strm_memory.proofs.FieldLemmas.{IsField, end_step}
