@@ -1,6 +1,6 @@
--- What a copy of items leaves, by their bytes. Ours: item by item it is the same as lifting all items
--- and then lowering them, and field by field the same as item by item (`CopyLemmas.antt`,
--- `ColumnLemmas.antt`).
+-- What a copy of items leaves, by their bytes. Ours: item by item it is the same as lifting all and
+-- then lowering them (`CopyLemmas.antt`), and field by field the same as item by item
+-- (`ColumnLemmas.antt`).
 use Rattle.std.specs.Prelude.{ℕ, zero, suc, ◌+◌, min, List, [], ◌∷◌, ◌++◌, take, drop, slice_index, Bool, true, ◌&&◌, is_some}
 use Rattle.strm_codes.specs.Scalars.{size_of}
 use Rattle.strm_codes.specs.Layout.{gap_before, item_size}
@@ -19,19 +19,20 @@ unfoldable pub copied_from : ℕ → List Scalar → List ℕ → List ℕ → L
 copied_from at [] source bytes = bytes
 copied_from at (s ∷ ss) source bytes =
     let gap = gap_before at (size_of s) in
+    let behind = gap + size_of s in
     take gap bytes
     ++ settled s (take (size_of s) (drop gap source))
-    ++ copied_from (at + gap + size_of s) ss (drop (gap + size_of s) source) (drop (gap + size_of s) bytes)
+    ++ copied_from (at + gap + size_of s) ss (drop behind source) (drop behind bytes)
 
 -- the bytes with so many items copied from others, from the front on
 unfoldable pub copied : List Scalar → List ℕ → List ℕ → ℕ → List ℕ
 copied ss source bytes zero = bytes
 copied ss source bytes (suc n) =
-    take (item_size ss) (copied_from 0 ss source bytes)
-    ++ copied ss (drop (item_size ss) source) (drop (item_size ss) (copied_from 0 ss source bytes)) n
+    let item = copied_from 0 ss source bytes in
+    take (item_size ss) item ++ copied ss (drop (item_size ss) source) (drop (item_size ss) item) n
 
--- the bytes with one field, so wide and at this offset of items of a size, copied in so many items, by
--- what F makes of its bytes
+-- the bytes with one field of so many items written, so wide and at this offset of items of a size:
+-- what F makes of the field's bytes in others
 unfoldable pub copied_column : (List ℕ → List ℕ) → ℕ → ℕ → ℕ → List ℕ → List ℕ → ℕ → List ℕ
 copied_column F width start size source bytes zero = bytes
 copied_column F width start size source bytes (suc n) =
@@ -43,13 +44,15 @@ unfoldable pub copied_columns : ℕ → List Scalar → ℕ → List ℕ → Lis
 copied_columns at [] size source bytes n = bytes
 copied_columns at (s ∷ ss) size source bytes n =
     let start = at + gap_before at (size_of s) in
-    copied_columns (start + size_of s) ss size source (copied_column (settled s) (size_of s) start size source bytes n) n
+    let first = copied_column (settled s) (size_of s) start size source bytes n in
+    copied_columns (start + size_of s) ss size source first n
 
 -- the bytes of one field at this offset stand for a number in so many items of a size
 unfoldable pub is_good_column : Scalar → ℕ → ℕ → List ℕ → ℕ → Bool
 is_good_column s start size source zero = true
 is_good_column s start size source (suc n) =
-    is_some (lifted s (le (bytes_at source start (size_of s)))) && is_good_column s start size (drop size source) n
+    is_some (lifted s (le (bytes_at source start (size_of s))))
+    && is_good_column s start size (drop size source) n
 
 -- the same for all fields that may begin at an offset
 unfoldable pub are_good_columns : ℕ → List Scalar → ℕ → List ℕ → ℕ → Bool

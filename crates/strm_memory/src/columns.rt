@@ -1,7 +1,7 @@
 //! One field of many items: whether its bytes stand for numbers, and how it is copied.
 //!
-//! Ours: within a few items it is faster to go on with the same field than with the same item, since
-//! what a field needs is decided once.
+//! Ours: it is faster to go on with the same field of the next item than with the next field, since
+//! what a field needs is then decided once.
 
 ghost use Rattle.std.specs.Prelude.{◌≡◌, ◌+◌, ◌*◌, ◌≤◌, ◌++◌, length, take, drop};
 ghost use Rattle.strm_codes.specs.Scalars.{size_of};

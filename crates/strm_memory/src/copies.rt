@@ -1,7 +1,8 @@
 //! Items copied from one memory to another.
 //!
-//! Source: Canonical ABI, "Stream State", where a copy lifts each item and then lowers it. That numbers
-//! move as bytes, and that a bad item is found before any item moves, are ours.
+//! Source: Canonical ABI, `ReadableBufferGuestImpl` and `WritableBufferGuestImpl`, where items are
+//! lifted and then lowered; wasmtime, `futures_and_streams.rs`, `copy`. That numbers move as bytes,
+//! and that a bad item is found before any item moves, are ours.
 
 ghost use Rattle.std.specs.Prelude.{◌≡◌, ◌+◌, ◌*◌, ◌<◌, ◌≤◌, ◌++◌, ◌↔◌, length, take, drop, is_some, IsTrue, IsNone, IsSomeAnd, IsOk, IsErr, OnOk, OnErr};
 ghost use Rattle.strm_codes.specs.Layout.{scalars_of, item_size};
@@ -47,7 +48,7 @@ pub(crate) fn copy_region(
     count: ItemCount,
 ) -> Result<(), BadItem>
     requires source_holds { from + item_size (scalars_of payload) * count ≤ length source.now }
-    requires destination_holds { to + item_size (scalars_of payload) * count ≤ length destination.old }
+    requires room { to + item_size (scalars_of payload) * count ≤ length destination.old }
     ensures ok { OnOk result (IsSomeAnd (items_at (scalars_of payload) source.now from count)
         (λ xs. destination.new ≡ stored_at (scalars_of payload) destination.old to xs)) }
     ensures bad { IsErr result ↔ IsNone (items_at (scalars_of payload) source.now from count) }
@@ -99,7 +100,8 @@ fn copy_fields(
     Ok(())
 }
 
-// The bytes of the items whose fields are gone through one after the other: few enough to stay near.
+// The bytes of a block: of items whose fields are gone through one after the other, and few enough
+// to stay near.
 const BLOCK: usize = 8192;
 
 fn items_in_block(size: usize) -> usize
@@ -157,8 +159,8 @@ fn copy_good_items(
     requires size { size ≡ item_size fields.now }
     requires source_holds { from + size * count ≤ length source.now }
     requires destination_holds { to + size * count ≤ length destination.old }
-    ensures { destination.new ≡
-        take to destination.old ++ copied fields.now (drop from source.now) (drop to destination.old) count }
+    ensures { destination.new ≡ take to destination.old
+        ++ copied fields.now (drop from source.now) (drop to destination.old) count }
 {
     let most = items_in_block(size);
     let mut done = 0;
@@ -190,8 +192,8 @@ fn copy_block(
     requires size { size ≡ item_size fields.now }
     requires source_holds { from + size * count ≤ length source.now }
     requires destination_holds { to + size * count ≤ length destination.old }
-    ensures { destination.new ≡
-        take to destination.old ++ copied fields.now (drop from source.now) (drop to destination.old) count }
+    ensures { destination.new ≡ take to destination.old
+        ++ copied fields.now (drop from source.now) (drop to destination.old) count }
 {
     let mut at = 0;
     for k in 0..fields.len() {

@@ -99,7 +99,8 @@ impl GuestMemory {
 
     /// Writes bytes from an address on. No bytes look at no address. Takes no memory.
     pub fn store(&mut self, address: u32, bytes: &[u8]) -> Result<(), OutOfBounds>
-        ensures out_of_bounds { is_err result ≡ bytes_out_of_bounds (length self.old) address (length bytes.now) }
+        ensures out_of_bounds { is_err result ≡
+            bytes_out_of_bounds (length self.old) address (length bytes.now) }
         ensures ok { OnOk result (self.new ≡ put_at self.old address bytes.now) }
         ensures err { OnErr result (self.new ≡ self.old) }
         ensures no_bytes { length bytes.now ≡ 0 → self.new ≡ self.old }
@@ -210,7 +211,8 @@ impl GuestMemory {
     /// Stores items from an address on, one after the other. Padding stays. Takes no memory.
     pub fn lower(&mut self, address: u32, items: &[Value], payload: Payload)
         requires fit { AreItems (scalars_of payload) items.now }
-        requires holds { address + item_size (scalars_of payload) * length items.now ≤ length self.old }
+        requires holds { address
+            + item_size (scalars_of payload) * length items.now ≤ length self.old }
         ensures { self.new ≡ stored_at (scalars_of payload) self.old address items.now }
     {
         lower_fields(
