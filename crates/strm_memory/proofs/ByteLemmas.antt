@@ -1,6 +1,6 @@
 -- Numbers as bytes.
-use Rattle.std.proofs.Common.{◌≡◌, ℕ, zero, suc, ◌+◌, ◌*◌, ◌^◌, ◌<◌, ◌≤◌, ◌%◌, ◌/◌, ◌-◌, List, [], ◌∷◌, ◌++◌, length, take, drop, get_or, set, refl, sym, ap, add-one, append_assoc, arith, length-drop}
-use Rattle.std.proofs.lemmas.List.{length-take-le, drop-drop, get_or-drop, drop_more, set_split, take_more_set, drop-set-lt}
+use Rattle.std.proofs.Common.{◌≡◌, ℕ, zero, suc, ◌+◌, ◌*◌, ◌^◌, ◌<◌, ◌≤◌, ◌%◌, ◌/◌, ◌-◌, List, [], ◌∷◌, ◌++◌, length, take, drop, get_or, set, refl, sym, ap, add-one, append_assoc, arith, length-drop, length-append}
+use Rattle.std.proofs.lemmas.List.{length-take-le, drop-drop, get_or-drop, drop_more, set_split, take_more_set, drop-set-lt, take-append-le, drop-append-le}
 use Rattle.std.proofs.Math.Seq.{take-add}
 use Rattle.std.proofs.Math.Nat.{pow-suc}
 use Rattle.strm_memory.specs.Bytes.{le, to_le, put_at, IsBytes}
@@ -90,3 +90,18 @@ store_more m at width k n h less =
     let inside : at + k < length m = omega arith in
     let next : at + (k + 1) ≡ at + k + 1 = omega arith in
     rw (to_le-more width k n less, next) (put_at-cons m (at + k) (n % 256) (to_le (width - (k + 1)) (n / 256)) inside)
+
+pub length-put_at : (memory : List ℕ) (address : ℕ) (new : List ℕ) → address + length new ≤ length memory → length (put_at memory address new) ≡ length memory
+length-put_at memory address new h =
+    rw (length-append, length-append, length-take-le address memory (omega arith), length-drop) (omega arith)
+
+-- bytes put behind others
+pub put_at-behind : (m : List ℕ) (to start : ℕ) (new : List ℕ) → put_at m (to + start) new ≡ take to m ++ put_at (drop to m) start new
+put_at-behind m to start new =
+    let e : to + start + length new ≡ to + (start + length new) = omega arith in
+    rw (take-add to start m, drop-drop (start + length new) to m, e) (simp append_assoc)
+
+-- bytes put before others
+pub put_at-append : (xs ys : List ℕ) (start : ℕ) (new : List ℕ) → start + length new ≤ length xs → put_at (xs ++ ys) start new ≡ put_at xs start new ++ ys
+put_at-append xs ys start new h =
+    rw (take-append-le start xs ys (omega arith), drop-append-le (start + length new) xs ys h) (simp append_assoc)

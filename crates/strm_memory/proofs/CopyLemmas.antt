@@ -1,22 +1,20 @@
 -- A copy is the same as lifting all items and then lowering them, and a copy of numbers is one of bytes.
-use Rattle.std.proofs.Common.{◌≡◌, ℕ, zero, suc, ◌+◌, ◌*◌, ◌<◌, ◌≤◌, ◌-◌, ℤ, pos, Bool, true, false, ◌||◌, List, [], ◌∷◌, ◌++◌, length, take, drop, get_or, Option, Some, None, refl, sym, ap, ◌∙◌, append_assoc, arith, length-drop}
+use Rattle.std.proofs.Common.{◌≡◌, ℕ, zero, suc, ◌+◌, ◌*◌, ◌≤◌, ℤ, true, false, List, [], ◌∷◌, ◌++◌, length, take, drop, Option, Some, None, refl, sym, ap, ◌∙◌, append_assoc, arith, length-drop}
 use Rattle.std.proofs.lemmas.Option.{option_and_then_some}
 use Rattle.std.proofs.lemmas.List.{length-take-le, drop-drop, take_at, drop_at, take-append-drop, append-nil}
 use Rattle.std.proofs.Math.Seq.{take-add}
 use Rattle.std.specs.Option.{option_map}
-use Rattle.std.specs.List.{list_any}
 use Rattle.std.specs.Prelude.{is_some, IsNone, IsSomeAnd, IsTrue}
 use Rattle.strm_codes.specs.Scalars.{size_of, is_whole_number}
 use Rattle.strm_codes.specs.declared.payloads.Payload.{Payload}
 use Rattle.strm_codes.specs.declared.payloads.Payload.TheVariants.{Nothing, One, Tuple}
 use Rattle.strm_codes.specs.Layout.{scalars_of, gap_before, end_of, item_size}
-use Rattle.strm_codes.specs.Sameness.{same_scalar}
 use Rattle.strm_codes.specs.declared.scalars.Scalar.{Scalar}
 use Rattle.strm_codes.specs.declared.scalars.Scalar.TheVariants.{Bool as Flag, S8, U8, S16, U16, S32, U32, S64, U64, Char}
 use Rattle.strm_memory.specs.Bytes.{le, to_le, put_at, bytes_at, IsBytes}
 use Rattle.strm_memory.specs.Numbers.{lifted, lowered}
 use Rattle.strm_memory.specs.Items.{decode_from, encode_from, decode, encode, items, stored, items_at, stored_at, is_number_or_none}
-use Rattle.strm_memory.specs.Copies.{settled, copied_from, copied, has_char}
+use Rattle.strm_memory.specs.Copies.{settled, copied_from, copied}
 use Rattle.strm_memory.proofs.ByteLemmas.{IsBytes-drop, IsBytes-take, le-lt}
 use Rattle.strm_memory.proofs.NumberLemmas.{lowered-lifted}
 use Rattle.strm_memory.proofs.FieldLemmas.{le-end_of, is_some-both}
@@ -62,49 +60,43 @@ stored_at_from_copied ss n source m new from to h l e f =
     (λ xs p. f ∙ ap (λ b. take to m ++ b) (copied-items ss n (drop from source) (drop to m) xs (IsBytes-drop source from h) (omega (arith, l, length-drop from source)) p))
 
 -- any bytes are an item of a scalar that is no character
-lifted_no_char : (s : Scalar) (n : ℕ) → same_scalar s Char ≡ false → is_some (lifted s n) ≡ true
-lifted_no_char Flag n e = refl
-lifted_no_char S8 n e = refl
-lifted_no_char U8 n e = refl
-lifted_no_char S16 n e = refl
-lifted_no_char U16 n e = refl
-lifted_no_char S32 n e = refl
-lifted_no_char U32 n e = refl
-lifted_no_char S64 n e = refl
-lifted_no_char U64 n e = refl
-lifted_no_char Char n e = cc
+pub lifted_no_char : (s : Scalar) (n : ℕ) → (s ≡ Char → ⊥) → is_some (lifted s n) ≡ true
+lifted_no_char Flag n h = refl
+lifted_no_char S8 n h = refl
+lifted_no_char U8 n h = refl
+lifted_no_char S16 n h = refl
+lifted_no_char U16 n h = refl
+lifted_no_char S32 n h = refl
+lifted_no_char U32 n h = refl
+lifted_no_char S64 n h = refl
+lifted_no_char U64 n h = refl
+lifted_no_char Char n h = absurd (h refl)
 
-or_false : (a b : Bool) → (a || b) ≡ false → (a ≡ false) × (b ≡ false)
-or_false true b e = cc
-or_false false b e = (refl, e)
+-- no field is a character: the only scalar of which some bytes are no item
+abbrev pub HasNoChar : List Scalar → Type 0
+HasNoChar [] = Unit {0}
+HasNoChar (s ∷ ss) = (s ≡ Char → ⊥) × HasNoChar ss
 
-decode_from-no_char : (at : ℕ) (ss : List Scalar) (bytes : List ℕ) → has_char ss ≡ false → is_some (decode_from at ss bytes) ≡ true
+decode_from-no_char : (at : ℕ) (ss : List Scalar) (bytes : List ℕ) → HasNoChar ss → is_some (decode_from at ss bytes) ≡ true
 unfolding decode_from
-decode_from-no_char at [] bytes e = refl
-decode_from-no_char at (s ∷ ss) bytes e =
+decode_from-no_char at [] bytes h = refl
+decode_from-no_char at (s ∷ ss) bytes h =
     let gap = gap_before at (size_of s) in
-    let both = or_false (same_scalar s Char) (has_char ss) e in
     is_some-both (lifted s (le (take (size_of s) (drop gap bytes)))) (decode_from (at + gap + size_of s) ss (drop (gap + size_of s) bytes)) (λ x xs. x ∷ xs)
-    ∙ rw (lifted_no_char s (le (take (size_of s) (drop gap bytes))) both.0) (decode_from-no_char (at + gap + size_of s) ss (drop (gap + size_of s) bytes) both.1)
+    ∙ rw (lifted_no_char s (le (take (size_of s) (drop gap bytes))) h.0) (decode_from-no_char (at + gap + size_of s) ss (drop (gap + size_of s) bytes) h.1)
 
-pub items-no_char : (ss : List Scalar) (n : ℕ) (bytes : List ℕ) → has_char ss ≡ false → is_some (items ss bytes n) ≡ true
+pub items-no_char : (ss : List Scalar) (n : ℕ) (bytes : List ℕ) → HasNoChar ss → is_some (items ss bytes n) ≡ true
 unfolding items
 items-no_char ss zero bytes e = refl
 items-no_char ss (suc n) bytes e =
     is_some-both (decode ss bytes) (items ss (drop (item_size ss) bytes) n) (λ x xs. x ∷ xs)
     ∙ rw (decode_from-no_char 0 ss bytes e) (items-no_char ss n (drop (item_size ss) bytes) e)
 
-pub number_no_char : (s : Scalar) → is_whole_number s ≡ true → has_char (s ∷ []) ≡ false
-number_no_char Flag e = refl
-number_no_char S8 e = refl
-number_no_char U8 e = refl
-number_no_char S16 e = refl
-number_no_char U16 e = refl
-number_no_char S32 e = refl
-number_no_char U32 e = refl
-number_no_char S64 e = refl
-number_no_char U64 e = refl
-number_no_char Char e = cc
+pub number_no_char : (s : Scalar) → is_whole_number s ≡ true → HasNoChar (s ∷ [])
+number_no_char s e = ((λ c. differ (sym (rw c at e))), tt)
+  where
+    differ : true ≡ false → ⊥
+    differ e = cc
 
 pub item_size-one : (s : Scalar) → item_size (s ∷ []) ≡ size_of s
 item_size-one Flag = refl
@@ -166,7 +158,7 @@ nothing_copied (suc n) source bytes = nothing_copied n source bytes
 
 pub nothing_copied_at : (n : ℕ) (source m : List ℕ) (from to : ℕ) → IsBytes source → from + item_size [] * n ≤ length source → IsSomeAnd (items_at [] source from n) (λ xs. m ≡ stored_at [] m to xs)
 nothing_copied_at n source m from to h l =
-    stored_at_from_copied [] n source m m from to h l (items-no_char [] n (drop from source) refl)
+    stored_at_from_copied [] n source m m from to h l (items-no_char [] n (drop from source) tt)
     (rw (nothing_copied n (drop from source) (drop to m)) (sym (take-append-drop to m)))
 
 -- a call that is Ok, where the items are there

@@ -1,13 +1,14 @@
 -- One item more, in a loop over the items of a region.
-use Rattle.std.proofs.Common.{◌≡◌, ℕ, zero, suc, ◌+◌, ◌*◌, ◌<◌, ◌≤◌, ◌-◌, List, [], ◌∷◌, ◌++◌, length, take, drop, Bool, true, false, cond, refl, ap, arith, append_assoc, append-nil, add-one, sym, ◌∙◌, get_or, ℤ, Option, Some, None}
+use Rattle.std.proofs.Common.{◌≡◌, ℕ, zero, suc, ◌+◌, ◌*◌, ◌<◌, ◌≤◌, ◌-◌, List, [], ◌∷◌, ◌++◌, length, take, drop, Bool, true, false, cond, refl, ap, arith, append_assoc, append-nil, add-one, sym, ◌∙◌, get_or, ℤ, Option, Some, None, ◌&&◌}
 use Rattle.std.proofs.lemmas.List.{length-take-le, drop-drop, take-append-drop, drop_more, drop_all}
+use Rattle.std.proofs.Math.Nat.{mul-le-mul_left}
 use Rattle.std.proofs.Math.Seq.{take-append-add, drop-append-add}
-use Rattle.std.specs.Prelude.{is_some, IsSome, IsNone, IsSomeAnd}
+use Rattle.std.specs.Prelude.{is_some, IsSome, IsNone, IsSomeAnd, option_and_then}
+use Rattle.std.specs.Option.{option_map}
 use Rattle.strm_codes.specs.Layout.{item_size}
 use Rattle.strm_codes.specs.declared.scalars.Scalar.{Scalar}
 use Rattle.strm_codes.specs.Items.{FitsItem}
 use Rattle.strm_memory.specs.Items.{decode, encode, items, stored, AreItems, IsFirstBad}
-use Rattle.strm_memory.specs.Copies.{copied_from, copied}
 use Rattle.strm_memory.proofs.FieldLemmas.{is_some-both, with_front, with_front-more}
 
 pub item_fits : (k n size : ℕ) → k < n → size * k + size ≤ size * n
@@ -21,30 +22,6 @@ sweep_more m at size e F h =
     let t : take (at + size) (take at m ++ e) ≡ take at m ++ take size e = rw s (take-append-add (take at m) e size) in
     let u : drop (at + size) (take at m ++ e) ≡ drop size e = rw s (drop-append-add (take at m) e size) in
     rw (t, u) (append_assoc (take at m) (take size e) (F (drop size e)))
-
--- one item looked at
-pub good_more : (ss : List Scalar) (source : List ℕ) (at k n size : ℕ) (b : Bool) → k < n → size ≡ item_size ss → b ≡ is_some (decode ss (drop at source)) → is_some (items ss (drop at source) (n - k)) ≡ cond b (is_some (items ss (drop (at + size) source) (n - (k + 1)))) false
-unfolding items
-good_more ss source at k n size b h e d =
-    let s : n - k ≡ suc (n - (k + 1)) = omega arith in
-    rw (d, s, e, ← drop-drop (item_size ss) at source)
-    (is_some-both (decode ss (drop at source)) (items ss (drop (item_size ss) (drop at source)) (n - (k + 1))) (λ x xs. x ∷ xs))
-
-pub good_none : (ss : List Scalar) (source : List ℕ) (n : ℕ) → is_some (items ss source (n - n)) ≡ true
-unfolding items
-good_none ss source n = let z : n - n ≡ 0 = omega arith in rw z refl
-
--- one item copied
-pub copied_more : (ss : List Scalar) (source m : List ℕ) (from to k n size : ℕ) → k < n → size ≡ item_size ss → to ≤ length m → take (to + size) (take to m ++ copied_from 0 ss (drop from source) (drop to m)) ++ copied ss (drop (from + size) source) (drop (to + size) (take to m ++ copied_from 0 ss (drop from source) (drop to m))) (n - (k + 1)) ≡ take to m ++ copied ss (drop from source) (drop to m) (n - k)
-unfolding copied
-copied_more ss source m from to k n size h e less =
-    let s : n - k ≡ suc (n - (k + 1)) = omega arith in
-    rw (s, ← e, drop-drop size from source)
-    (sweep_more m to size (copied_from 0 ss (drop from source) (drop to m)) (λ b. copied ss (drop (from + size) source) b (n - (k + 1))) less)
-
-pub copied_none : (ss : List Scalar) (source m : List ℕ) (to n : ℕ) → take to m ++ copied ss source (drop to m) (n - n) ≡ m
-unfolding copied
-copied_none ss source m to n = let z : n - n ≡ 0 = omega arith in rw z (take-append-drop to m)
 
 -- one item lifted
 pub items_step : (ss : List Scalar) (source : List ℕ) (at k n size : ℕ) (front : List (List ℤ)) (x : List ℤ) → k < n → size ≡ item_size ss → Some x ≡ decode ss (drop at source) → with_front (front ++ x ∷ []) (items ss (drop (at + size) source) (n - (k + 1))) ≡ with_front front (items ss (drop at source) (n - k))
@@ -122,3 +99,53 @@ pub AreItems_step : (ss : List Scalar) (k : ℕ) (xs : List (List ℤ)) (x : Lis
 AreItems_step ss k xs x h e f =
     let here : drop k xs ≡ x ∷ drop (k + 1) xs = drop_more xs k x h ∙ ap (λ y. y ∷ drop (k + 1) xs) (sym e) in
     rw here at f
+
+regroup : {A : Type 0} (o : Option A) (p q : Option (List A)) → option_and_then (λ x. option_map (λ xs. x ∷ xs) (option_and_then (λ xs. option_map (λ ys. xs ++ ys) q) p)) o ≡ option_and_then (λ xs. option_map (λ ys. xs ++ ys) q) (option_and_then (λ x. option_map (λ xs. x ∷ xs) p) o)
+regroup None p q = refl
+regroup (Some x) None q = refl
+regroup (Some x) (Some xs) None = refl
+regroup (Some x) (Some xs) (Some ys) = refl
+
+map_nil : {A : Type 0} (o : Option (List A)) → o ≡ option_map (λ ys. [] ++ ys) o
+map_nil None = refl
+map_nil (Some xs) = refl
+
+-- n + m items are n items and then m
+pub items-add : (ss : List Scalar) (bytes : List ℕ) (n m : ℕ) → items ss bytes (n + m) ≡ option_and_then (λ xs. option_map (λ ys. xs ++ ys) (items ss (drop (item_size ss * n) bytes) m)) (items ss bytes n)
+unfolding items
+items-add ss bytes zero m =
+    let e : zero + m ≡ m = omega arith in
+    let z : item_size ss * zero ≡ 0 = omega arith in
+    rw (e, z) (map_nil (items ss bytes m))
+items-add ss bytes (suc n) m =
+    let w = item_size ss in
+    let e : suc n + m ≡ suc (n + m) = omega arith in
+    let f : w * suc n ≡ w + w * n = omega arith in
+    rw (e, f, items-add ss (drop w bytes) n m, drop-drop (w * n) w bytes)
+    (regroup (decode ss bytes) (items ss (drop w bytes) n) (items ss (drop (w + w * n) bytes) m))
+
+pub both-is_some : {A : Type 0} (o p : Option (List A)) → is_some (option_and_then (λ xs. option_map (λ ys. xs ++ ys) p) o) ≡ is_some o && is_some p
+both-is_some None p = refl
+both-is_some (Some xs) None = refl
+both-is_some (Some xs) (Some ys) = refl
+
+-- n + m items are items where the n are and the m are
+pub good_add : (ss : List Scalar) (source : List ℕ) (from n m : ℕ) → is_some (items ss (drop from source) (n + m)) ≡ is_some (items ss (drop from source) n) && is_some (items ss (drop (from + item_size ss * n) source) m)
+good_add ss source from n m =
+    rw (items-add ss (drop from source) n m, drop-drop (item_size ss * n) from source)
+    (both-is_some (items ss (drop from source) n) (items ss (drop (from + item_size ss * n) source) m))
+
+pub block_fits : (size done block n : ℕ) → done + block ≤ n → size * done + size * block ≤ size * n
+block_fits size done block n h = omega (arith, mul-le-mul_left size h)
+
+-- a block of items looked at
+pub good_block : (ss : List Scalar) (source : List ℕ) (from size done block n : ℕ) (b : Bool) → size ≡ item_size ss → done + block ≤ n → b ≡ is_some (items ss (drop (from + size * done) source) block) → is_some (items ss (drop (from + size * done) source) (n - done)) ≡ (b && is_some (items ss (drop (from + size * (done + block)) source) (n - (done + block))))
+good_block ss source from size done block n b e h g =
+    let split : n - done ≡ block + (n - (done + block)) = omega arith in
+    let same : item_size ss * block ≡ size * block = ap (λ x. x * block) (sym e) in
+    let place : from + size * (done + block) ≡ from + size * done + item_size ss * block = omega (arith, same) in
+    rw (g, split, place) (good_add ss source (from + size * done) block (n - (done + block)))
+
+pub good_none : (ss : List Scalar) (source : List ℕ) (n : ℕ) → is_some (items ss source (n - n)) ≡ true
+unfolding items
+good_none ss source n = let z : n - n ≡ 0 = omega arith in rw z refl

@@ -3,4 +3,5 @@ pub mod NumberLemmas
 pub mod FieldLemmas
 pub mod ItemLemmas
 pub mod CopyLemmas
+pub mod ColumnLemmas
 pub mod RegionLemmas

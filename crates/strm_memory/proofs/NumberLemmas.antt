@@ -1,5 +1,5 @@
 -- The items of a scalar and their bytes: each is the other's inverse.
-use Rattle.std.proofs.Common.{◌≡◌, ℕ, zero, suc, ◌+◌, ◌*◌, ◌^◌, ◌<◌, ◌-◌, ◌%◌, ℤ, pos, negsuc, true, false, min, List, [], ◌∷◌, length, Some, None, refl, sym, subst, ap, arith, ⊎_elim}
+use Rattle.std.proofs.Common.{◌≡◌, ℕ, ◌+◌, ◌*◌, ◌^◌, ◌<◌, ◌-◌, ◌%◌, ℤ, pos, negsuc, true, min, List, [], ◌∷◌, length, Some, refl, subst, ap, arith, ⊎_elim}
 use Rattle.std.proofs.lemmas.Int.{ints}
 use Rattle.std.proofs.lemmas.Bool.{lt-ltb, le-ltb, cases_lt}
 use Rattle.std.proofs.lemmas.Option.{cond_some}

@@ -6,14 +6,14 @@
 -- so is what was copied (`items_at-copied`). A region's items depend on its own bytes alone (`items_at-same`);
 -- n + m items are n items and then m (`items_at-join`, `items_at-split`, `stored_at-append`). What lies somewhere
 -- are items (`AreItems-items`), as many as were asked for (`length-items`); any bytes are items of a number
--- (`items-number_or_none`).
-use Rattle.std.proofs.Common.{◌≡◌, ℕ, zero, suc, ◌+◌, ◌*◌, ◌<◌, ◌≤◌, ◌-◌, ℤ, List, [], ◌∷◌, ◌++◌, length, take, drop, Option, Some, None, true, ◌⊎◌, inl, inr, refl, sym, subst, ap, ◌∙◌, append_assoc, arith, length-append, length-drop}
-use Rattle.std.proofs.lemmas.List.{take_at, drop_at, length-take-le, drop-drop, drop-take, take-take, take-append-le, drop-append-le, take-append-drop}
+-- (`items-number_or_none`). `items` and `stored` unfold by `items-zero`, `items-suc`, `stored-nil` and
+-- `stored-cons`.
+use Rattle.std.proofs.Common.{◌≡◌, ℕ, zero, suc, ◌+◌, ◌*◌, ◌≤◌, ◌-◌, ℤ, List, [], ◌∷◌, ◌++◌, length, take, drop, Option, Some, None, true, inl, inr, refl, sym, subst, ap, ◌∙◌, append_assoc, arith, length-append, length-drop}
+use Rattle.std.proofs.lemmas.List.{take_at, drop_at, length-take-le, drop-drop, drop-take, take-take, take-append-drop}
 use Rattle.std.proofs.lemmas.Option.{option_and_then_some}
 use Rattle.std.proofs.Math.Seq.{take-append-add, drop-append-add}
-use Rattle.std.specs.Option.{option_map}
 use Rattle.std.specs.Prelude.{All, is_some, IsSome, IfSome, IsTrue, option_and_then}
-use Rattle.strm_codes.specs.Scalars.{size_of, is_whole_number, FitsScalar}
+use Rattle.strm_codes.specs.Scalars.{size_of}
 use Rattle.strm_codes.specs.Layout.{scalars_of, gap_before, end_of, item_size}
 use Rattle.strm_codes.specs.Items.{FitsItem, IsNumber}
 use Rattle.strm_codes.specs.declared.scalars.Scalar.{Scalar}
@@ -25,6 +25,7 @@ use Rattle.strm_memory.specs.Items.{decode_from, encode_from, decode, encode, it
 use Rattle.strm_memory.proofs.ByteLemmas.{length-to_le, le-to_le, le-take-lt, IsBytes-drop}
 use Rattle.strm_memory.proofs.NumberLemmas.{IsLifted, IsLifted-fits, FitsScalar-lifted}
 use Rattle.strm_memory.proofs.FieldLemmas.{le-end_of, IsNumber-FitsItem}
+use Rattle.strm_memory.proofs.ItemLemmas.{items-add}
 use Rattle.strm_memory.proofs.CopyLemmas.{option_map_some, items-no_char, number_no_char}
 
 -- ## One item
@@ -112,6 +113,22 @@ made_value o ss bytes xs h e few made v = same o (made (few, IsNumber-FitsItem s
 
 -- ## So many items from the front of the bytes
 
+pub items-zero : (ss : List Scalar) (bytes : List ℕ) → items ss bytes 0 ≡ Some []
+unfolding items
+items-zero ss bytes = refl
+
+pub items-suc : (ss : List Scalar) (bytes : List ℕ) (n : ℕ) → items ss bytes (suc n) ≡ option_and_then (λ x. option_map (λ xs. x ∷ xs) (items ss (drop (item_size ss) bytes) n)) (decode ss bytes)
+unfolding items
+items-suc ss bytes n = refl
+
+pub stored-nil : (ss : List Scalar) (bytes : List ℕ) → stored ss bytes [] ≡ bytes
+unfolding stored
+stored-nil ss bytes = refl
+
+pub stored-cons : (ss : List Scalar) (bytes : List ℕ) (x : List ℤ) (xs : List (List ℤ)) → stored ss bytes (x ∷ xs) ≡ take (item_size ss) (encode ss bytes x) ++ stored ss (drop (item_size ss) (encode ss bytes x)) xs
+unfolding stored
+stored-cons ss bytes x xs = refl
+
 pub length-items : (ss : List Scalar) (bytes : List ℕ) (n : ℕ) (xs : List (List ℤ)) → items ss bytes n ≡ Some xs → length xs ≡ n
 unfolding items
 length-items ss bytes zero xs e = let q : [] ≡ xs = cc in rw (← q) refl
@@ -137,7 +154,7 @@ items-number_or_none payload bytes n t = some (items (scalars_of payload) bytes 
     some (Some x) e = refl
 
     good : (payload : Payload) → IsTrue (is_number_or_none payload) → is_some (items (scalars_of payload) bytes n) ≡ true
-    good Nothing t = items-no_char [] n bytes refl
+    good Nothing t = items-no_char [] n bytes tt
     good (One s) t = items-no_char (s ∷ []) n bytes (number_no_char s t)
     good (Tuple shape) t = cc
 
@@ -152,30 +169,6 @@ items-take ss bytes (suc n) k h =
     let first : decode ss (take k bytes) ≡ decode ss bytes = decode_from-take 0 ss bytes k (omega (arith, room)) in
     let rest : drop w (take k bytes) ≡ take (k - w) (drop w bytes) = subst (λ j. drop w (take j bytes) ≡ take (k - w) (drop w bytes)) a (drop-take w (k - w) bytes) in
     rw (first, rest, items-take ss (drop w bytes) n (k - w) (omega (arith, room))) refl
-
-regroup : {A : Type 0} (o : Option A) (p q : Option (List A)) → option_and_then (λ x. option_map (λ xs. x ∷ xs) (option_and_then (λ xs. option_map (λ ys. xs ++ ys) q) p)) o ≡ option_and_then (λ xs. option_map (λ ys. xs ++ ys) q) (option_and_then (λ x. option_map (λ xs. x ∷ xs) p) o)
-regroup None p q = refl
-regroup (Some x) None q = refl
-regroup (Some x) (Some xs) None = refl
-regroup (Some x) (Some xs) (Some ys) = refl
-
-map_nil : {A : Type 0} (o : Option (List A)) → o ≡ option_map (λ ys. [] ++ ys) o
-map_nil None = refl
-map_nil (Some xs) = refl
-
--- n + m items are n items and then m
-pub items-add : (ss : List Scalar) (bytes : List ℕ) (n m : ℕ) → items ss bytes (n + m) ≡ option_and_then (λ xs. option_map (λ ys. xs ++ ys) (items ss (drop (item_size ss * n) bytes) m)) (items ss bytes n)
-unfolding items
-items-add ss bytes zero m =
-    let e : zero + m ≡ m = omega arith in
-    let z : item_size ss * zero ≡ 0 = omega arith in
-    rw (e, z) (map_nil (items ss bytes m))
-items-add ss bytes (suc n) m =
-    let w = item_size ss in
-    let e : suc n + m ≡ suc (n + m) = omega arith in
-    let f : w * suc n ≡ w + w * n = omega arith in
-    rw (e, f, items-add ss (drop w bytes) n m, drop-drop (w * n) w bytes)
-    (regroup (decode ss bytes) (items ss (drop w bytes) n) (items ss (drop (w + w * n) bytes) m))
 
 pub length-stored : (ss : List Scalar) (bytes : List ℕ) (xs : List (List ℤ)) → item_size ss * length xs ≤ length bytes → length (stored ss bytes xs) ≡ length bytes
 unfolding stored
@@ -240,6 +233,12 @@ items-stored ss bytes (x ∷ xs) h l =
     rw (first, drop_at (take w e) (stored ss (drop w e) xs) w size, rest) refl
 
 -- ## At an address
+
+pub items_at-zero : (ss : List Scalar) (memory : List ℕ) (address : ℕ) → items_at ss memory address 0 ≡ Some []
+items_at-zero ss memory address = items-zero ss (drop address memory)
+
+pub stored_at-nil : (ss : List Scalar) (memory : List ℕ) (address : ℕ) → stored_at ss memory address [] ≡ memory
+stored_at-nil ss memory address = rw (stored-nil ss (drop address memory)) (take-append-drop address memory)
 
 -- n + m items are n items and then m
 pub items_at-join : (ss : List Scalar) (memory : List ℕ) (address n m : ℕ) (xs ys : List (List ℤ)) → items_at ss memory address n ≡ Some xs → items_at ss memory (address + item_size ss * n) m ≡ Some ys → items_at ss memory address (n + m) ≡ Some (xs ++ ys)
@@ -331,10 +330,6 @@ bytes_at-stored_at ss memory address xs other n h apart =
 pub items_at-stored_at_apart : (ss : List Scalar) (memory : List ℕ) (address : ℕ) (xs : List (List ℤ)) (ts : List Scalar) (other n : ℕ) → address + item_size ss * length xs ≤ length memory → IsApart address (item_size ss * length xs) other (item_size ts * n) → items_at ts (stored_at ss memory address xs) other n ≡ items_at ts memory other n
 items_at-stored_at_apart ss memory address xs ts other n h apart =
     items_at-same ts memory (stored_at ss memory address xs) other n (bytes_at-stored_at ss memory address xs other (item_size ts * n) h apart)
-
-pub length-put_at : (memory : List ℕ) (address : ℕ) (new : List ℕ) → address + length new ≤ length memory → length (put_at memory address new) ≡ length memory
-length-put_at memory address new h =
-    rw (length-append, length-append, length-take-le address memory (omega arith), length-drop) (omega arith)
 
 -- bytes lie where they were put
 pub bytes_at-put_at : (memory : List ℕ) (address : ℕ) (new : List ℕ) → address + length new ≤ length memory → bytes_at (put_at memory address new) address (length new) ≡ new

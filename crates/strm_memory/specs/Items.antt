@@ -1,7 +1,7 @@
 -- The items of a region of a memory, and a memory with items stored in a region.
--- Canonical ABI, "Loading" and "Storing", for records and lists: fields at their alignments, items one
--- after the other. The padding between fields and behind them is never written.
-use Rattle.std.specs.Prelude.{ℕ, zero, suc, ◌+◌, ◌*◌, ◌<◌, IsSome, IsNone, ℤ, Bool, true, false, List, [], ◌∷◌, ◌++◌, take, drop, slice_index_or, Option, Some, None, option_and_then}
+-- Canonical ABI, "Loading" and "Storing": `load_record` and `store_record`,
+-- `load_list_from_valid_range` and `store_list_into_valid_range`. Padding is never written.
+use Rattle.std.specs.Prelude.{ℕ, zero, suc, ◌+◌, ◌*◌, ◌<◌, IsSome, IsNone, ℤ, Bool, true, false, List, [], ◌∷◌, ◌++◌, take, drop, slice_index_or, Option, Some, option_and_then}
 use Rattle.std.specs.Option.{option_map}
 use Rattle.strm_codes.specs.Scalars.{size_of, is_whole_number}
 use Rattle.strm_codes.specs.Layout.{gap_before, item_size}
@@ -17,15 +17,15 @@ use Rattle.strm_memory.specs.Numbers.{lifted, lowered}
 abbrev pub scalar_at : List Scalar → ℕ → Scalar
 scalar_at ss k = slice_index_or ss k Flag
 
--- the numbers of the fields that may begin at an offset of an item, where the bytes begin there too;
+-- the numbers of the fields that may begin at an offset of an item, from its bytes from there on;
 -- none where a field is none
 unfoldable pub decode_from : ℕ → List Scalar → List ℕ → Option (List ℤ)
 decode_from at [] bytes = Some []
 decode_from at (s ∷ ss) bytes =
     let gap = gap_before at (size_of s) in
-    option_and_then
-    (λ x. option_map (λ xs. x ∷ xs) (decode_from (at + gap + size_of s) ss (drop (gap + size_of s) bytes)))
-    (lifted s (le (take (size_of s) (drop gap bytes))))
+    let number = lifted s (le (take (size_of s) (drop gap bytes))) in
+    let rest = decode_from (at + gap + size_of s) ss (drop (gap + size_of s) bytes) in
+    option_and_then (λ x. option_map (λ xs. x ∷ xs) rest) number
 
 -- the bytes with these numbers in those fields, and all else as it was
 unfoldable pub encode_from : ℕ → List Scalar → List ℕ → List ℤ → List ℕ
@@ -49,13 +49,15 @@ encode ss bytes x = encode_from 0 ss bytes x
 unfoldable pub items : List Scalar → List ℕ → ℕ → Option (List (List ℤ))
 items ss bytes zero = Some []
 items ss bytes (suc n) =
-    option_and_then (λ x. option_map (λ xs. x ∷ xs) (items ss (drop (item_size ss) bytes) n)) (decode ss bytes)
+    let rest = items ss (drop (item_size ss) bytes) n in
+    option_and_then (λ x. option_map (λ xs. x ∷ xs) rest) (decode ss bytes)
 
 -- the bytes with these items from their front on, and all else as it was
 unfoldable pub stored : List Scalar → List ℕ → List (List ℤ) → List ℕ
 stored ss bytes [] = bytes
 stored ss bytes (x ∷ xs) =
-    take (item_size ss) (encode ss bytes x) ++ stored ss (drop (item_size ss) (encode ss bytes x)) xs
+    let item = encode ss bytes x in
+    take (item_size ss) item ++ stored ss (drop (item_size ss) item) xs
 
 -- so many items of a memory from an address on
 abbrev pub items_at : List Scalar → List ℕ → ℕ → ℕ → Option (List (List ℤ))

@@ -6,4 +6,5 @@ use Rattle.strm_memory.specs.contracts.memories.GuestMemory.{the_row}
 
 -- the memory ends as the bytes that were last written behind r
 abbrev pub LendsBytes : MutBor (List ℕ) → MutBor (List ℕ) → Fml
-LendsBytes memory r = Lends the_row (Array u8 0) memory r (λ w. refill (length memory.now) memory.now w)
+LendsBytes memory r =
+    Lends the_row (Array u8 0) memory r (λ w. refill (length memory.now) memory.now w)

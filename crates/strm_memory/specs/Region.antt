@@ -1,7 +1,7 @@
 -- Where a region of a memory may lie.
--- Canonical ABI, "Lifting" and "Lowering" of buffers: the traps of `load_list_from_range`. Ours: the bounds are
--- tested before the alignment, and a region of no bytes may lie anywhere.
-use Rattle.std.specs.Prelude.{ℕ, ◌+◌, ◌*◌, ◌%◌, ◌==◌, Bool, ◌&&◌, nat_lt, if◌then◌else◌, List, Result, Ok, Err}
+-- Canonical ABI, `BufferGuestImpl`; wasmtime, `futures_and_streams.rs`, `check_bounds`. Ours: the
+-- bounds are tested before the alignment.
+use Rattle.std.specs.Prelude.{ℕ, ◌+◌, ◌*◌, ◌%◌, Bool, ◌&&◌, nat_lt, if◌then◌else◌, List, Result, Ok, Err}
 use Rattle.strm_codes.specs.Layout.{item_size, align_of}
 use Rattle.strm_codes.specs.declared.scalars.Scalar.{Scalar}
 use Rattle.strm_memory.specs.declared.memories.RegionError.{RegionError}

@@ -1,14 +1,16 @@
 //! Items copied from one memory to another.
 //!
-//! Source: Canonical ABI, "Stream State", where a copy lifts each item and then lowers it. That numbers
-//! move as bytes, and that a bad item is found before any item moves, are ours.
+//! Source: Canonical ABI, `ReadableBufferGuestImpl` and `WritableBufferGuestImpl`, where items are
+//! lifted and then lowered; wasmtime, `futures_and_streams.rs`, `copy`. That numbers move as bytes,
+//! and that a bad item is found before any item moves, are ours.
 
 ghost use Rattle.std.specs.Prelude.{◌≡◌, ◌+◌, ◌*◌, ◌<◌, ◌≤◌, ◌++◌, ◌↔◌, length, take, drop, is_some, IsTrue, IsNone, IsSomeAnd, IsOk, IsErr, OnOk, OnErr};
-ghost use Rattle.strm_codes.specs.Layout.{scalars_of, end_of, item_size};
-ghost use Rattle.strm_memory.specs.Items.{decode, items, stored, items_at, stored_at, is_number_or_none};
-ghost use Rattle.strm_memory.specs.Copies.{copied_from, copied, has_char};
+ghost use Rattle.strm_codes.specs.Layout.{scalars_of, item_size};
+ghost use Rattle.strm_memory.specs.Items.{items, stored, items_at, stored_at, is_number_or_none};
+ghost use Rattle.strm_memory.specs.Copies.{copied};
 
-use crate::fields::{copy_bytes, copy_field, field_start, is_good_field};
+use crate::columns::{Column, copy_bytes, copy_column, is_good_column};
+use crate::fields::field_start;
 use strm_codes::counts::ItemCount;
 use strm_codes::payloads::Payload;
 use strm_codes::scalars::Scalar;
@@ -46,7 +48,7 @@ pub(crate) fn copy_region(
     count: ItemCount,
 ) -> Result<(), BadItem>
     requires source_holds { from + item_size (scalars_of payload) * count ≤ length source.now }
-    requires destination_holds { to + item_size (scalars_of payload) * count ≤ length destination.old }
+    requires room { to + item_size (scalars_of payload) * count ≤ length destination.old }
     ensures ok { OnOk result (IsSomeAnd (items_at (scalars_of payload) source.now from count)
         (λ xs. destination.new ≡ stored_at (scalars_of payload) destination.old to xs)) }
     ensures bad { IsErr result ↔ IsNone (items_at (scalars_of payload) source.now from count) }
@@ -98,41 +100,45 @@ fn copy_fields(
     Ok(())
 }
 
+// The bytes of a block: of items whose fields are gone through one after the other, and few enough
+// to stay near.
+const BLOCK: usize = 8192;
+
+fn items_in_block(size: usize) -> usize
+    ensures { 0 < result }
+{
+    (BLOCK / size.max(1)).max(1)
+}
+
 // Whether each item's bytes stand for one.
 fn are_good_items(fields: &[Scalar], source: &[u8], from: usize, size: usize, count: usize) -> bool
     requires size { size ≡ item_size fields.now }
     requires holds { from + size * count ≤ length source.now }
     ensures { result ≡ is_some (items_at fields.now source.now from count) }
 {
-    if !has_char(fields) {
-        return true;
-    }
-    let mut at = from;
-    for _k in 0..count {
-        if !is_good_item(fields, source, at) {
+    let most = items_in_block(size);
+    let mut done = 0;
+    while done < count {
+        let block = most.min(count - done);
+        if !is_good_block(fields, source, from + size * done, size, block) {
             return false;
         }
-        at += size;
+        done += block;
     }
     true
 }
 
-fn has_char(fields: &[Scalar]) -> bool
-    ensures { result ≡ has_char fields.now }
-{
-    fields.contains(&Scalar::Char)
-}
-
-// Whether one item's bytes stand for one.
-fn is_good_item(fields: &[Scalar], source: &[u8], from: usize) -> bool
-    requires { from + end_of 0 fields.now ≤ length source.now }
-    ensures { result ≡ is_some (decode fields.now (drop from source.now)) }
+// The same, field by field.
+fn is_good_block(fields: &[Scalar], source: &[u8], from: usize, size: usize, count: usize) -> bool
+    requires size { size ≡ item_size fields.now }
+    requires holds { from + size * count ≤ length source.now }
+    ensures { result ≡ is_some (items_at fields.now source.now from count) }
 {
     let mut at = 0;
     for k in 0..fields.len() {
         let scalar = fields[k];
         let start = field_start(fields, k, at);
-        if !is_good_field(source, from + start, scalar) {
+        if !is_good_column(source, from, scalar, Column { start, size, count }) {
             return false;
         }
         at = start + scalar.size() as usize;
@@ -153,28 +159,54 @@ fn copy_good_items(
     requires size { size ≡ item_size fields.now }
     requires source_holds { from + size * count ≤ length source.now }
     requires destination_holds { to + size * count ≤ length destination.old }
-    ensures { destination.new ≡
-        take to destination.old ++ copied fields.now (drop from source.now) (drop to destination.old) count }
+    ensures { destination.new ≡ take to destination.old
+        ++ copied fields.now (drop from source.now) (drop to destination.old) count }
 {
+    let most = items_in_block(size);
     let mut done = 0;
-    for _k in 0..count {
-        copy_item(source, from + done, destination, to + done, fields);
-        done += size;
+    while done < count {
+        let block = most.min(count - done);
+        copy_block(
+            source,
+            from + size * done,
+            destination,
+            to + size * done,
+            fields,
+            size,
+            block,
+        );
+        done += block;
     }
 }
 
-// Copies one item that is known to be good.
-fn copy_item(source: &[u8], from: usize, destination: &mut [u8], to: usize, fields: &[Scalar])
-    requires source_holds { from + end_of 0 fields.now ≤ length source.now }
-    requires destination_holds { to + end_of 0 fields.now ≤ length destination.old }
-    ensures { destination.new ≡
-        take to destination.old ++ copied_from 0 fields.now (drop from source.now) (drop to destination.old) }
+// The same, field by field.
+fn copy_block(
+    source: &[u8],
+    from: usize,
+    destination: &mut [u8],
+    to: usize,
+    fields: &[Scalar],
+    size: usize,
+    count: usize,
+)
+    requires size { size ≡ item_size fields.now }
+    requires source_holds { from + size * count ≤ length source.now }
+    requires destination_holds { to + size * count ≤ length destination.old }
+    ensures { destination.new ≡ take to destination.old
+        ++ copied fields.now (drop from source.now) (drop to destination.old) count }
 {
     let mut at = 0;
     for k in 0..fields.len() {
         let scalar = fields[k];
         let start = field_start(fields, k, at);
-        copy_field(source, from + start, destination, to + start, scalar);
+        copy_column(
+            source,
+            from,
+            destination,
+            to,
+            scalar,
+            Column { start, size, count },
+        );
         at = start + scalar.size() as usize;
     }
 }

@@ -1,15 +1,13 @@
-//! One field of an item: where it begins, whether its bytes stand for a number, and how it is copied,
-//! lifted and lowered.
+//! One field of an item: where it begins, and how it is lifted and lowered.
 //!
 //! Source: Canonical ABI, "Alignment", "Loading" and "Storing".
 
-ghost use Rattle.std.specs.Prelude.{◌≡◌, ◌+◌, ◌^◌, ◌<◌, ◌≤◌, length, drop, is_some, IfSome};
+ghost use Rattle.std.specs.Prelude.{◌≡◌, ◌+◌, ◌^◌, ◌<◌, ◌≤◌, length, drop, IfSome};
 ghost use Rattle.strm_codes.specs.Scalars.{size_of, IsWithin, FitsScalar};
 ghost use Rattle.strm_codes.specs.Layout.{gap_before, end_of};
 ghost use Rattle.strm_memory.specs.Bytes.{le, to_le, put_at, bytes_at};
 ghost use Rattle.strm_memory.specs.Numbers.{lifted, lowered};
 ghost use Rattle.strm_memory.specs.Items.{scalar_at};
-ghost use Rattle.strm_memory.specs.Copies.{settled};
 
 use crate::numbers::{is_scalar_value, load_1, load_2, load_4, load_8, signed, store, unsigned};
 use strm_codes::scalars::Scalar;
@@ -34,48 +32,6 @@ fn next_start(at: usize, scalar: Scalar) -> usize
         Scalar::S16 | Scalar::U16 => (at + 1) / 2 * 2,
         Scalar::S32 | Scalar::U32 | Scalar::Char => (at + 3) / 4 * 4,
         Scalar::S64 | Scalar::U64 => (at + 7) / 8 * 8,
-    }
-}
-
-// Whether a field's bytes stand for an item.
-pub(crate) fn is_good_field(bytes: &[u8], at: usize, scalar: Scalar) -> bool
-    requires { at + size_of scalar ≤ length bytes.now }
-    ensures { result ≡ is_some (lifted scalar (le (bytes_at bytes.now at (size_of scalar)))) }
-{
-    match scalar {
-        Scalar::Char => is_scalar_value(load_4(bytes, at)),
-        _ => true,
-    }
-}
-
-// So many bytes, as they are.
-pub(crate) fn copy_bytes(source: &[u8], from: usize, destination: &mut [u8], to: usize, len: usize)
-    requires source_holds { from + len ≤ length source.now }
-    requires destination_holds { to + len ≤ length destination.old }
-    ensures { destination.new ≡ put_at destination.old to (bytes_at source.now from len) }
-{
-    destination[to..to + len].copy_from_slice(&source[from..from + len]);
-}
-
-// One field.
-pub(crate) fn copy_field(
-    source: &[u8],
-    from: usize,
-    destination: &mut [u8],
-    to: usize,
-    scalar: Scalar,
-)
-    requires source_holds { from + size_of scalar ≤ length source.now }
-    requires destination_holds { to + size_of scalar ≤ length destination.old }
-    ensures { destination.new ≡
-        put_at destination.old to (settled scalar (bytes_at source.now from (size_of scalar))) }
-{
-    match scalar {
-        Scalar::Bool => destination[to] = source[from].min(1),
-        Scalar::S8 | Scalar::U8 => copy_bytes(source, from, destination, to, 1),
-        Scalar::S16 | Scalar::U16 => copy_bytes(source, from, destination, to, 2),
-        Scalar::S32 | Scalar::U32 | Scalar::Char => copy_bytes(source, from, destination, to, 4),
-        Scalar::S64 | Scalar::U64 => copy_bytes(source, from, destination, to, 8),
     }
 }
 

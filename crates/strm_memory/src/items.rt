@@ -107,7 +107,8 @@ pub(crate) fn lift_item(fields: &[Scalar], bytes: &[u8], from: usize) -> Option<
     Value::new(&numbers[..fields.len()])
 }
 
-/// Stores items from the front of the bytes on, one after the other. Padding stays. Takes no memory.
+/// Stores items from the front of the bytes on, one after the other. Padding stays as it was. Takes
+/// no memory.
 pub fn lower_items(items: &[Value], payload: Payload, bytes: &mut [u8])
     requires fit { AreItems (scalars_of payload) items.now }
     requires holds { item_size (scalars_of payload) * length items.now ≤ length bytes.old }

@@ -21,7 +21,7 @@ pub fn lowered_items_lift()
         IsTrue (is_number_or_none payload) → IsSome (items (scalars_of payload) memory n) }
 {}
 
-/// Items stored in a region leave the memory's length and all bytes outside the region as they were.
+/// Items stored in a region leave the memory's length and all bytes outside the region.
 pub fn stored_items_stay_inside()
     ensures len { (ss : List Scalar) (memory : List ℕ) (address : ℕ) (xs : List (List ℤ)) →
         address + item_size ss * length xs ≤ length memory →

@@ -4,6 +4,7 @@
 //! what a memory is with items stored in one; every copy here is said by these two alone.
 #![tactic(auto)]
 
+mod columns;
 pub mod copies;
 mod fields;
 pub mod items;
@@ -11,3 +12,5 @@ pub mod laws;
 pub mod memories;
 pub mod moves;
 mod numbers;
+#[cfg(test)]
+mod tests;

@@ -2,16 +2,19 @@
 //!
 //! Source: wasmtime, `futures_and_streams.rs`, `check_bounds`; Canonical ABI, the traps of buffers.
 
-ghost use Rattle.std.specs.Prelude.{◌≡◌, ◌+◌, ◌*◌, ◌≤◌, ◌↔◌, [], length, replicate, take, drop, is_err, IsTrue, IsNone, IfOk, OnOk, OnErr, IsOk, IsErr, IsSomeAnd};
+ghost use Rattle.std.specs.Prelude.{◌≡◌, ℕ, ◌+◌, ◌*◌, ◌<◌, ◌≤◌, ◌↔◌, [], ◌++◌, length, replicate, drop, is_err, IsTrue, IsNone, IfOk, OnOk, OnErr, IsOk, IsErr, IsErrOf, IsSomeAnd, vec_len, vec_capacity};
 ghost use Rattle.strm_codes.specs.Layout.{scalars_of, item_size};
 ghost use Rattle.strm_memory.specs.Bytes.{put_at, bytes_at};
-ghost use Rattle.strm_memory.specs.Items.{items_at, stored_at, is_number_or_none};
+ghost use Rattle.strm_memory.specs.Items.{items_at, stored_at, AreItems, IsFirstBad, is_number_or_none};
 
 use crate::copies::{BadItem, copy_region};
+use crate::items::{LiftError, lift_fields, lower_fields};
+use crate::moves::copy_within_items;
 use std::alloc::Global;
 use std::marker::Model;
 use strm_codes::counts::{ItemCount, OutOfMemory};
 use strm_codes::payloads::Payload;
+use strm_codes::values::Value;
 
 /// The bytes of a guest. Addresses begin at 0.
 #[derive(Drop)]
@@ -96,7 +99,8 @@ impl GuestMemory {
 
     /// Writes bytes from an address on. No bytes look at no address. Takes no memory.
     pub fn store(&mut self, address: u32, bytes: &[u8]) -> Result<(), OutOfBounds>
-        ensures out_of_bounds { is_err result ≡ bytes_out_of_bounds (length self.old) address (length bytes.now) }
+        ensures out_of_bounds { is_err result ≡
+            bytes_out_of_bounds (length self.old) address (length bytes.now) }
         ensures ok { OnOk result (self.new ≡ put_at self.old address bytes.now) }
         ensures err { OnErr result (self.new ≡ self.old) }
         ensures no_bytes { length bytes.now ≡ 0 → self.new ≡ self.old }
@@ -163,5 +167,60 @@ impl GuestMemory {
             payload,
             count,
         )
+    }
+
+    /// Copies so many items from one address to another of this memory, as by lifting all of them
+    /// and then lowering them, however the two regions overlap. Takes no memory.
+    pub fn copy_within(&mut self, from: u32, to: u32, payload: Payload, count: ItemCount)
+        requires number_or_none { IsTrue (is_number_or_none payload) }
+        requires from_inside { from + item_size (scalars_of payload) * count ≤ length self.old }
+        requires to_inside { to + item_size (scalars_of payload) * count ≤ length self.old }
+        ensures { IsSomeAnd (items_at (scalars_of payload) self.old from count)
+            (λ xs. self.new ≡ stored_at (scalars_of payload) self.old to xs) }
+    {
+        copy_within_items(self.bytes.as_mut_slice(), from, to, payload, count);
+    }
+
+    /// Appends so many items from an address on.
+    pub fn lift(
+        &self,
+        address: u32,
+        payload: Payload,
+        count: ItemCount,
+        out: &mut Vec<Value>,
+    ) -> Result<(), LiftError>
+        requires { address + item_size (scalars_of payload) * count ≤ length self.now }
+        ensures ok { OnOk result (IsSomeAnd (items_at (scalars_of payload) self.now address count)
+            (λ xs. out.new.items ≡ out.old.items ++ xs)) }
+        ensures bad_item { (index : ℕ) → IsErrOf result (LiftError.BadItem index) →
+            IsFirstBad (scalars_of payload) (drop address self.now) count index }
+        ensures out_of_memory { IsErrOf result LiftError.OutOfMemory →
+            vec_capacity out.old < vec_len out.old + count }
+        ensures err { OnErr result (out.new.items ≡ out.old.items) }
+    {
+        lift_fields(
+            self.bytes.as_slice(),
+            address as usize,
+            payload.scalars(),
+            payload.size() as usize,
+            count.as_u32(),
+            out,
+        )
+    }
+
+    /// Stores items from an address on, one after the other. Padding stays. Takes no memory.
+    pub fn lower(&mut self, address: u32, items: &[Value], payload: Payload)
+        requires fit { AreItems (scalars_of payload) items.now }
+        requires holds { address
+            + item_size (scalars_of payload) * length items.now ≤ length self.old }
+        ensures { self.new ≡ stored_at (scalars_of payload) self.old address items.now }
+    {
+        lower_fields(
+            items,
+            payload.scalars(),
+            payload.size() as usize,
+            self.bytes.as_mut_slice(),
+            address as usize,
+        );
     }
 }

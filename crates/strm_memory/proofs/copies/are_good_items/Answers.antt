@@ -1,23 +1,25 @@
-use Rattle.std.proofs.Common.{arith, ◌≡◌, ◌∙◌, sym, drop, true, false}
-use Rattle.strm_memory.proofs.ItemLemmas.{good_more, good_none}
-use Rattle.strm_memory.proofs.CopyLemmas.{items-no_char}
+use Rattle.std.proofs.Common.{arith, ◌≡◌, ◌+◌, ◌*◌, ◌∙◌, sym, drop, true, false}
+use Rattle.strm_memory.proofs.ItemLemmas.{block_fits, good_block, good_none}
 use Rattle.strm_memory.proofs.copies.are_good_items.Goals as goal
 
-pub returns-then-not-has_char : goal.returns-then-not-has_char
-returns-then-not-has_char c =
-    sym (items-no_char c.args.fields.now c.args.count (drop c.args.from c.args.source.now) (sym c.if-not-has_char.ensures))
+pub is_good_block-requires-clause-holds : goal.is_good_block-requires-clause-holds
+is_good_block-requires-clause-holds c = omega (arith, block_fits c.args.size c.loop-done.done c.min-block.result c.args.count (omega arith))
 
-pub returns-then-not-is_good_item : goal.returns-then-not-is_good_item
-returns-then-not-is_good_item c =
-    sym (good_more c.args.fields.now c.args.source.now c.loop-k.at c.loop-k._k c.args.count c.args.size false (omega arith) c.requires.size c.if-not-is_good_item.ensures) ∙ c.loop-k.invariant.rest
+pub returns-then-not-is_good_block : goal.returns-then-not-is_good_block
+returns-then-not-is_good_block c =
+    sym (good_block c.args.fields.now c.args.source.now c.args.from c.args.size c.loop-done.done c.min-block.result c.args.count false c.requires.size (omega arith) c.if-not-is_good_block.ensures)
+    ∙ c.loop-done.invariant.rest
 
-pub loop-k-preserved : goal.loop-k-preserved
-loop-k-preserved c = record {
-  place = omega arith;
-  rest = sym (good_more c.args.fields.now c.args.source.now c.loop-k.at c.loop-k._k c.args.count c.args.size true (omega arith) c.requires.size c.if-not-is_good_item.ensures) ∙ c.loop-k.invariant.rest;
+pub loop-done-preserved : goal.loop-done-preserved
+loop-done-preserved c = record {
+  some = omega arith;
+  inside = omega arith;
+  rest = sym (good_block c.args.fields.now c.args.source.now c.args.from c.args.size c.loop-done.done c.min-block.result c.args.count true c.requires.size (omega arith) c.if-not-is_good_block.ensures)
+      ∙ c.loop-done.invariant.rest;
 }
 
 pub returns : goal.returns
 returns c =
-    let e : c.loop-k._k ≡ c.args.count = omega arith in
-    sym (good_none c.args.fields.now (drop c.loop-k.at c.args.source.now) c.args.count) ∙ rw e at c.loop-k.invariant.rest
+    let e : c.loop-done.done ≡ c.args.count = omega arith in
+    sym (good_none c.args.fields.now (drop (c.args.from + c.args.size * c.args.count) c.args.source.now) c.args.count)
+    ∙ rw e at c.loop-done.invariant.rest

@@ -7,7 +7,7 @@ returns-in-Nothing-clause-ok c =
     rw c.in-Nothing.is (nothing_copied_at c.args.count c.args.source.now c.args.destination.now c.args.from c.args.to (λ k. omega (arith, c.type_inv.source k)) (rw c.in-Nothing.is at c.requires.source_holds))
 
 pub returns-in-Nothing-clause-bad : goal.returns-in-Nothing-clause-bad
-returns-in-Nothing-clause-bad c = rw c.in-Nothing.is (never_none _ (items-no_char [] c.args.count (drop c.args.from c.args.source.now) refl))
+returns-in-Nothing-clause-bad c = rw c.in-Nothing.is (never_none _ (items-no_char [] c.args.count (drop c.args.from c.args.source.now) tt))
 
 pub returns-in-One-clause-ok : goal.returns-in-One-clause-ok
 returns-in-One-clause-ok c =

@@ -1,4 +1,4 @@
-use Rattle.std.proofs.Common.{◌≡◌, ◌-◌, arith, ◌∙◌, refl, sym}
+use Rattle.std.proofs.Common.{◌≡◌, ◌-◌, arith, ◌∙◌, refl}
 use Rattle.std.proofs.lemmas.Grind.{common_steps}
 use Rattle.strm_memory.specs.Items.{items}
 use Rattle.strm_memory.proofs.ItemLemmas.{items_step, some_more, first_bad, all_lifted}
