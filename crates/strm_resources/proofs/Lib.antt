@@ -1,1 +1,3 @@
 pub mod NodeLemmas
+pub mod SlotLemmas
+pub mod LinkLemmas

@@ -54,12 +54,12 @@ pub lacks-childless : (s : Numbers) (number : ℕ) → is_childless s ≡ true �
 lacks-childless s number none =
     ap (λ t. set.contains t number) (empty_of_len s ((unsigned_Decides (set.len s) 0).0 none)) ∙ contains-empty nat_cmp number
 
-pub childless-empty : is_childless set.empty ≡ true
-childless-empty = ap (λ n. nat_eq n 0) (len-empty nat_cmp)
+pub empty_is_childless : is_childless set.empty ≡ true
+empty_is_childless = ap (λ n. nat_eq n 0) (len-empty nat_cmp)
 
 -- the set of these keys is childless where there is no key
 pub childless-from_list : (keys : List ℕ) → is_childless (from_list keys) ≡ nat_eq (length keys) 0
-childless-from_list [] = childless-empty
+childless-from_list [] = empty_is_childless
 childless-from_list (key ∷ keys) = by _ refl ∙ sym (eqb-suc-zero (length keys))
   where
     by : (b : Bool) → is_childless (from_list (key ∷ keys)) ≡ b → is_childless (from_list (key ∷ keys)) ≡ false

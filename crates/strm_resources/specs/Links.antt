@@ -47,3 +47,8 @@ pub record AreKept (nodes : List (Option Node)) (freed : List ℕ) : Type 0 wher
   pub apart : IsDistinct nat_eq freed
   pub linked : (child parent : ℕ) → set.contains (children_at nodes parent) child
       ≡ is_number (parent_at nodes child) parent
+
+-- the links are kept, and there is room for the freed numbers
+pub record AreHeld (nodes : List (Option Node)) (freed : List ℕ) (capacity : ℕ) : Type 0 where
+  pub kept : AreKept nodes freed
+  pub reserved : length nodes ≤ capacity

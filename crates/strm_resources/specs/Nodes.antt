@@ -1,6 +1,6 @@
 -- Which number is whose child: the node of each number, and what becomes of nodes.
 -- wasmtime, `resource_table.rs`, `TableEntry`, `add_child` and `remove_child`.
-use Rattle.std.specs.Prelude.{ℕ, Bool, nat_eq, List, [], ◌∷◌, ◌++◌, drop, slice_index_or, slice_set, Option, Some, None, option_map, option_and_then, refl}
+use Rattle.std.specs.Prelude.{ℕ, Bool, nat_eq, List, [], ◌∷◌, ◌++◌, length, slice_index_or, slice_set, Option, Some, None, option_map, option_and_then, refl}
 use Rattle.std.specs.Coded.{Coded, code_by, coded×, coded_ℕ, coded_option}
 use Rattle.std.specs.FinSet as set
 use Rattle.std.specs.Ordering.{nat_cmp}
@@ -82,3 +82,7 @@ abbrev pub filled : {X : Type 0} → List ℕ → List (Option X) → X → List
 filled [] slots x = slots ++ Some x ∷ []
 filled (number ∷ freed) slots x = slice_set slots number (Some x)
 
+-- the nodes, with the next number given as a child
+abbrev pub with_new_child : List ℕ → List (Option Node) → ℕ → List (Option Node)
+with_new_child freed nodes parent =
+    filled freed (changed (with_child (next_of freed (length nodes))) nodes parent) (new_node (Some parent))

@@ -1,0 +1,18 @@
+use Rattle.std.proofs.Common.{◌<◌, ◌-◌, ◌+◌, length, reverse, arith}
+use Rattle.std.proofs.lemmas.List.{length-reverse}
+use Rattle.strm_resources.specs.Nodes.{filled}
+use Rattle.strm_resources.proofs.LinkLemmas.{AreKept-filled, next_inside, length-filled, some_reversed}
+use Rattle.strm_resources.proofs.links.Links.insert.Goals as goal
+
+pub fill-requires-clause-inside : goal.fill-requires-clause-inside
+fill-requires-clause-inside c =
+    λ some. let below = next_inside c.self.inside.nodes.items (reverse c.self.inside.freed.items) c.self.invariant.kept (some_reversed _ some) in omega (arith, c.self.inside.nodes.ok)
+
+pub invariant_of-self : goal.invariant_of-self
+invariant_of-self c =
+    let l = c.self.inside in
+    let room = rw (← c.self.view_is) at c.requires.room in
+    rw (c.fill.ensures.nodes, c.fill.ensures.freed, c.fill.ensures.freed_capacity, c.new-node.ensures) (record {
+      kept = AreKept-filled l.nodes.items (reverse l.freed.items) c.self.invariant.kept;
+      reserved = length-filled (reverse l.freed.items) l.nodes.items _ _ (omega (arith, length-reverse l.freed.items, l.nodes.ok, l.freed.ok)) c.self.invariant.reserved;
+    })
