@@ -1,2 +1,6 @@
 pub mod Nodes
 pub mod Links
+pub mod Numbers
+pub mod Errors
+pub mod Entries
+pub mod Refusals

@@ -1,5 +1,8 @@
 //! A table of resources: values under numbers that it gives out, with parents and children.
 #![tactic(auto)]
 
+pub mod errors;
+pub mod kinds;
 mod links;
 mod nodes;
+pub mod walks;
