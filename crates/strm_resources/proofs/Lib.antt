@@ -1,3 +1,4 @@
 pub mod NodeLemmas
 pub mod SlotLemmas
 pub mod LinkLemmas
+pub mod NumberLemmas

@@ -403,5 +403,15 @@ pub length-filled : (freed : List ℕ) (nodes : List (Option Node)) (node : Node
 length-filled [] nodes node capacity room reserved = omega (arith, length_push nodes (Some node))
 length-filled (first ∷ freed) nodes node capacity room reserved = omega (arith, length-set nodes first (Some node))
 
+-- where the next number is a u32, so is each number
+pub length-filled_small : (freed : List ℕ) (nodes : List (Option Node)) (node : Node) → next_of freed (length nodes) ≤ 4294967295 → length nodes ≤ 4294967296 → length (filled freed nodes node) ≤ 4294967296
+length-filled_small [] nodes node next small = omega (arith, length_push nodes (Some node))
+length-filled_small (first ∷ freed) nodes node next small = omega (arith, length-set nodes first (Some node))
+
 pub some_reversed : (xs : List ℕ) → xs ≢ [] → reverse xs ≢ []
 some_reversed xs some none = some (sym (reverse-reverse xs) ∙ ap reverse none)
+
+-- where a number is freed, the next number is a u32
+pub next_small : (nodes : List (Option Node)) (stack : List ℕ) → AreKept nodes (reverse stack) → length nodes ≤ 4294967296 → nat_eq (length stack) 0 ≡ false → next_of (reverse stack) (length nodes) ≤ 4294967295
+next_small nodes stack kept small some =
+    omega (arith, next_inside nodes (reverse stack) kept (some_reversed stack (λ none. true≢false (ap (λ xs. nat_eq (length xs) 0) (sym none) ∙ some))))

@@ -9,6 +9,7 @@ use Rattle.std.specs.FinSet as set
 use Rattle.std.specs.FinSet.{from_list, contains-empty, contains-insert, contains-remove, contains-from_list, len-empty, empty_of_len, same_set, nat_cmp-IsAntisymmetric}
 use Rattle.std.specs.List.{list_any}
 use Rattle.std.specs.Ordering.{eq_by_cmp, nat_cmp}
+use Rattle.strm_resources.specs.Links.{is_among}
 use Rattle.strm_resources.specs.Nodes.{Numbers, is_childless}
 
 or-by_cond : (a b : Bool) → cond a true b ≡ (a || b)
@@ -68,3 +69,9 @@ childless-from_list (key ∷ keys) = by _ refl ∙ sym (eqb-suc-zero (length key
         contains-inserted (from_list keys) key key ∙ ap (λ b. b || set.contains (from_list {R = nat_cmp} keys) key) (nat_eq_equiv.refl key) in
         absurd (true≢false (sym there ∙ lacks-childless (from_list (key ∷ keys)) key e))
     by false e = e
+
+-- the members of the set of a list
+pub is_among-from_list : (keys : List ℕ) (number : ℕ) → is_among keys number ≡ set.contains (from_list {R = nat_cmp} keys) number
+is_among-from_list [] number = sym (contains-empty nat_cmp number)
+is_among-from_list (key ∷ keys) number =
+    ap (λ b. nat_eq number key || b) (is_among-from_list keys number) ∙ sym (contains-inserted (from_list keys) key number)

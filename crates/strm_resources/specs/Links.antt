@@ -48,7 +48,8 @@ pub record AreKept (nodes : List (Option Node)) (freed : List ℕ) : Type 0 wher
   pub linked : (child parent : ℕ) → set.contains (children_at nodes parent) child
       ≡ is_number (parent_at nodes child) parent
 
--- the links are kept, and there is room for the freed numbers
+-- the links are kept, there is room for the freed numbers, and each number is a u32
 pub record AreHeld (nodes : List (Option Node)) (freed : List ℕ) (capacity : ℕ) : Type 0 where
   pub kept : AreKept nodes freed
   pub reserved : length nodes ≤ capacity
+  pub small : length nodes ≤ 4294967296

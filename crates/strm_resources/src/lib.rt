@@ -5,4 +5,5 @@ pub mod errors;
 pub mod kinds;
 mod links;
 mod nodes;
+pub mod tables;
 pub mod walks;

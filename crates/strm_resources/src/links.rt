@@ -3,11 +3,14 @@
 //! Source: wasmtime, `resource_table.rs`, `ResourceTable`, which threads the free entries; here a
 //! stack of their numbers stands beside the entries.
 
-ghost use Rattle.std.specs.Prelude.{◌≡◌, ◌≢◌, ℕ, ◌+◌, ◌<◌, ◌≤◌, [], ◌∷◌, length, drop, reverse, true, is_some, Some, None, OnOk, OnErr, IfOk, IsOk, slice_set, option_copied, vec_len, vec_capacity};
+ghost use Rattle.std.specs.Prelude.{◌≡◌, ◌≢◌, ℕ, ◌+◌, ◌<◌, ◌≤◌, [], ◌∷◌, length, drop, reverse, true, false, is_some, IfSome, Some, None, OnOk, OnErr, IfOk, IsOk, slice_set, option_copied, vec_len, vec_capacity};
 ghost use Rattle.strm_resources.specs.Nodes.{new_node, with_new_child, node_at, parent_at, children_at, is_childless, linked, unlinked, cut, next_of, filled};
-ghost use Rattle.strm_resources.specs.Links.{is_full};
+ghost use Rattle.strm_resources.specs.Links.{none_freed, is_full, AreKept};
+ghost use Rattle.strm_resources.specs.Numbers.{numbers_from, Lists};
+ghost use Rattle.std.specs.List.Sorted.{IsStrictlyIncreasing};
 
 use crate::nodes::{Node, add_child, remove_child, set_parent};
+use crate::walks::{Children, Keys};
 use std::alloc::{AllocError, Global};
 use std::marker::Model;
 
@@ -88,6 +91,13 @@ impl Links {
         })
     }
 
+    /// Freed numbers are those without a node, and each child link has its parent link and back.
+    pub(crate) fn are_kept(&self)
+        ensures { AreKept self.now.nodes self.now.freed }
+    {
+        let _ = &self.nodes;
+    }
+
     fn node(&self, number: u32) -> Option<&Node>
         ensures { option_copied result ≡ node_at self.now.nodes number }
     {
@@ -125,12 +135,42 @@ impl Links {
         }
     }
 
+    /// The children of a number, ascending, if the number is given out.
+    pub(crate) fn children(&self, number: u32) -> Option<Children<'_>>
+        ensures some { is_some result ≡ is_some (node_at self.now.nodes number) }
+        ensures value { IfSome result (Lists (children_at self.now.nodes number)) }
+    {
+        match self.node(number) {
+            Some(node) => Some(node.children()),
+            None => None,
+        }
+    }
+
+    /// The numbers that are given out, ascending.
+    pub(crate) fn keys(&self) -> Keys<'_>
+        ensures exact { result ≡ numbers_from 0 self.now.nodes }
+        ensures ascending { IsStrictlyIncreasing result }
+    {
+        Keys {
+            nodes: self.nodes.as_slice(),
+            number: 0,
+        }
+    }
+
     /// Whether no number can be given where so many may be.
     pub(crate) fn is_full(&self, capacity: usize) -> bool
-        ensures { result ≡ is_full self.now.freed (length self.now.nodes) capacity }
+        ensures exact { result ≡ is_full self.now.freed (length self.now.nodes) capacity }
+        ensures small { result ≡ false → next_of self.now.freed (length self.now.nodes) ≤ 4294967295 }
     {
         self.freed.is_empty()
             && (self.nodes.len() >= capacity || self.nodes.len() > u32::MAX as usize)
+    }
+
+    /// Whether the next number is a new one.
+    pub(crate) fn gives_new(&self) -> bool
+        ensures { result ≡ none_freed self.now.freed }
+    {
+        self.freed.is_empty()
     }
 
     /// Room for a number. Where there is none, nothing changes.
@@ -154,6 +194,7 @@ impl Links {
         requires room { 0 < self.old.room }
         requires small { next_of self.old.freed (length self.old.nodes) ≤ 4294967295 }
         ensures number { result ≡ next_of self.old.freed (length self.old.nodes) }
+        ensures inside { self.old.freed ≢ [] → result < length self.old.nodes }
         ensures nodes { self.new.nodes ≡ filled self.old.freed self.old.nodes (new_node None) }
         ensures freed { self.new.freed ≡ drop 1 self.old.freed }
         ensures room { self.new.room + 1 ≡ self.old.room }
@@ -215,6 +256,7 @@ impl Links {
         requires small { next_of self.old.freed (length self.old.nodes) ≤ 4294967295 }
         requires parent { is_some (node_at self.old.nodes parent) ≡ true }
         ensures number { IfOk result (λ n. n ≡ next_of self.old.freed (length self.old.nodes)) }
+        ensures inside { IfOk result (λ n. self.old.freed ≢ [] → n < length self.old.nodes) }
         ensures nodes { OnOk result (self.new.nodes ≡ with_new_child self.old.freed self.old.nodes parent) }
         ensures freed { OnOk result (self.new.freed ≡ drop 1 self.old.freed) }
         ensures room { OnOk result (self.new.room + 1 ≡ self.old.room) }

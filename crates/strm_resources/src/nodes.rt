@@ -4,7 +4,9 @@
 
 ghost use Rattle.std.specs.Prelude.{◌≡◌, Some, OnOk, OnErr, option_map};
 ghost use Rattle.strm_resources.specs.Nodes.{is_childless, children_of, new_node, with_parent, with_child, without_child};
+ghost use Rattle.strm_resources.specs.Numbers.{Lists};
 
+use crate::walks::Children;
 use std::alloc::{AllocError, Global};
 use std::collections::BTreeSet;
 use std::marker::Model;
@@ -48,6 +50,15 @@ impl Node {
         ensures { result ≡ is_childless self.now.children }
     {
         self.children.is_empty()
+    }
+
+    /// The children, ascending.
+    pub(crate) fn children(&self) -> Children<'_>
+        ensures { Lists self.now.children result }
+    {
+        Children {
+            inner: self.children.iter(),
+        }
     }
 
     fn set_parent(&mut self, parent: Option<u32>)

@@ -3,7 +3,7 @@ use Rattle.std.proofs.lemmas.Grind.{common_steps}
 use Rattle.std.proofs.lemmas.List.{length-reverse, length-set}
 use Rattle.strm_resources.specs.Nodes.{new_node, with_child, changed, next_of, filled}
 use Rattle.strm_resources.proofs.SlotLemmas.{length-changed}
-use Rattle.strm_resources.proofs.LinkLemmas.{AreKept-filled_child, next_inside, length-filled, some_reversed}
+use Rattle.strm_resources.proofs.LinkLemmas.{AreKept-filled_child, next_inside, length-filled, length-filled_small, some_reversed}
 use Rattle.strm_resources.proofs.links.Links.insert_child.Goals as goal
 
 pub fill-requires-clause-inside : goal.fill-requires-clause-inside
@@ -26,4 +26,11 @@ invariant_of-self-2 c =
     rw (c.fill.ensures.nodes, c.fill.ensures.freed, c.fill.ensures.freed_capacity, c.new-node.ensures, written) (record {
       kept = AreKept-filled_child l.nodes.items freed c.self.invariant.kept c.args.parent there;
       reserved = length-filled freed more _ _ (omega (arith, length-reverse l.freed.items, length-changed (with_child next) l.nodes.items c.args.parent, l.nodes.ok, l.freed.ok)) (omega (arith, length-changed (with_child next) l.nodes.items c.args.parent, c.self.invariant.reserved));
+      small = length-filled_small freed more _ (rw (length-changed (with_child next) l.nodes.items c.args.parent) (rw (← c.self.view_is) at c.requires.small)) (omega (arith, length-changed (with_child next) l.nodes.items c.args.parent, c.self.invariant.small));
     })
+
+pub returns-clause-inside : goal.returns-clause-inside
+returns-clause-inside c =
+    let l = c.self.inside in
+    let inside = next_inside l.nodes.items (reverse l.freed.items) c.self.invariant.kept in
+    rw (c.fill.ensures.number, ← c.self.view_is, length-set) inside

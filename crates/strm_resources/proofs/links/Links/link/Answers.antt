@@ -14,4 +14,5 @@ invariant_of-self-2 c =
     rw written (record {
       kept = AreKept-linked l.nodes.items (reverse l.freed.items) c.self.invariant.kept c.args.child c.args.parent child parent loose;
       reserved = omega (arith, length-linked l.nodes.items c.args.child c.args.parent, c.self.invariant.reserved);
+      small = omega (arith, length-linked l.nodes.items c.args.child c.args.parent, c.self.invariant.small);
     })

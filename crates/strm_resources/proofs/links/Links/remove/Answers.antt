@@ -30,4 +30,5 @@ invariant_of-self c =
     rw (c.push_reserved.ensures.items, c.push_reserved.ensures.capacity, reverse-append) (record {
       kept = emptied c.args.self.now.nodes l.nodes.items (reverse l.freed.items) c.args.number is c.self.invariant.kept c.requires.present c.requires.childless;
       reserved = omega (arith, length-set l.nodes.items c.args.number None, c.self.invariant.reserved);
+      small = omega (arith, length-set l.nodes.items c.args.number None, c.self.invariant.small);
     })

@@ -19,4 +19,5 @@ invariant_of-self c =
     rw written (record {
       kept = AreKept-unlinked l.nodes.items (reverse l.freed.items) c.self.invariant.kept c.args.child c.args.parent tied;
       reserved = omega (arith, length-unlinked l.nodes.items c.args.child c.args.parent, c.self.invariant.reserved);
+      small = omega (arith, length-unlinked l.nodes.items c.args.child c.args.parent, c.self.invariant.small);
     })
