@@ -2,3 +2,4 @@ pub mod NodeLemmas
 pub mod SlotLemmas
 pub mod LinkLemmas
 pub mod NumberLemmas
+pub mod TableLemmas

@@ -2,7 +2,7 @@
 //!
 //! Source: wasmtime, `resource_table.rs`, `ResourceTable`.
 
-ghost use Rattle.std.specs.Prelude.{◌≡◌, ◌≢◌, ℕ, ◌+◌, ◌<◌, ◌≤◌, ◌↔◌, [], map, length, true, false, is_some, Some, None, Ok, Err, IsTrue, IsSome, IfSome, IsOk, IfOk, OnOk, OnErr, slice_set, option_copied, vec_len, vec_capacity};
+ghost use Rattle.std.specs.Prelude.{◌≡◌, ◌≢◌, ℕ, ◌+◌, ◌<◌, ◌≤◌, ◌==◌, ◌↔◌, if◌then◌else◌, [], ◌∷◌, ◌++◌, map, length, true, false, is_some, Some, None, Ok, Err, IsTrue, IsSome, IfSome, IsOk, IfOk, OnOk, OnErr, slice_set, option_copied, vec_len, vec_capacity};
 ghost use Rattle.std.specs.Result.{result_err};
 ghost use Rattle.std.specs.List.Sorted.{IsStrictlyIncreasing};
 ghost use Rattle.strm_resources.specs.declared.errors.ResourceTableError.TheVariants.{OutOfMemory};
@@ -126,5 +126,190 @@ impl<V: Resident> ResourceTable<V> {
             Some(value) if value.kind() == T::kind() => Ok(value),
             Some(_) => Err(ResourceTableError::WrongType),
         }
+    }
+
+    fn contains(&self, number: u32) -> bool
+        ensures value { result ≡ is_some (value_at self.now.entries number) }
+        ensures node { result ≡ is_some (node_at self.now.entries.nodes number) }
+    {
+        self.links.contains(number)
+    }
+
+    // Room for one more value.
+    fn reserve(&mut self) -> Result<(), ResourceTableError>
+        ensures refused { refusal_of result ≡ push_refusal self.old }
+        ensures entries { self.new.entries ≡ self.old.entries }
+        ensures capacity { self.new.capacity ≡ self.old.capacity }
+        ensures ok { OnOk result (0 < self.new.room) }
+        ensures small { OnOk result (next_number self.old.entries ≤ 4294967295) }
+        ensures room { self.old.room ≤ self.new.room }
+        ensures err { OnErr result (self.new ≡ self.old) }
+        ensures succeeds { 0 < self.old.room → result ≢ Err OutOfMemory }
+    {
+        if self.links.is_full(self.max_capacity) {
+            return Err(ResourceTableError::Full);
+        }
+        self.links.reserve()?;
+        if self.links.gives_new() {
+            self.values.reserve(1)?;
+        }
+        Ok(())
+    }
+
+    /// Ends the link between a child and its parent. No memory is taken.
+    pub fn remove_child<T, U>(
+        &mut self,
+        child: &Resource<T>,
+        parent: &Resource<U>,
+    ) -> Result<(), ResourceTableError>
+        ensures ok { OnOk result (self.new.entries ≡ child_removed self.old.entries child.now parent.now) }
+        ensures refused { result_err result ≡ remove_child_refusal self.old.entries child.now parent.now }
+        ensures takes_no_memory { result ≢ Err OutOfMemory }
+        ensures capacity { self.new.capacity ≡ self.old.capacity }
+        ensures room { self.new.room ≡ self.old.room }
+        ensures err { OnErr result (self.new ≡ self.old) }
+    {
+        let child = child.rep();
+        let parent = parent.rep();
+        if !self.contains(child) {
+            return Err(ResourceTableError::NotPresent);
+        }
+        match self.links.parent(child) {
+            Some(found) if found == parent => {
+                self.links.unlink(child, parent);
+                Ok(())
+            }
+            _ => Err(ResourceTableError::NotChild),
+        }
+    }
+
+    /// Makes one value the child of another. Whether a value comes to be below itself isn't tested.
+    pub fn add_child<T, U>(
+        &mut self,
+        child: &Resource<T>,
+        parent: &Resource<U>,
+    ) -> Result<(), ResourceTableError>
+        ensures ok { OnOk result (self.new.entries ≡ child_added self.old.entries child.now parent.now) }
+        ensures refused { refusal_of result ≡ add_child_refusal self.old.entries child.now parent.now }
+        ensures capacity { self.new.capacity ≡ self.old.capacity }
+        ensures room { self.new.room ≡ self.old.room }
+        ensures err { OnErr result (self.new ≡ self.old) }
+    {
+        let child = child.rep();
+        let parent = parent.rep();
+        if !self.contains(child) {
+            return Err(ResourceTableError::NotPresent);
+        }
+        if self.links.parent(child).is_some() {
+            return Err(ResourceTableError::HasParent);
+        }
+        if !self.contains(parent) {
+            return Err(ResourceTableError::NotPresent);
+        }
+        self.links.link(child, parent)?;
+        Ok(())
+    }
+
+    /// The children of a value, ascending, each once.
+    pub fn iter_children<T>(&self, parent: &Resource<T>) -> Result<Children<'_>, ResourceTableError>
+        ensures value { IfOk result (Lists (children_of self.now.entries parent.now)) }
+        ensures refused { result_err result ≡ any_refusal self.now.entries parent.now }
+        ensures takes_no_memory { result ≢ Err OutOfMemory }
+    {
+        match self.links.children(parent.rep()) {
+            Some(children) => Ok(children),
+            None => Err(ResourceTableError::NotPresent),
+        }
+    }
+
+    /// Adds a value, under the number freed last, else under a new one. A refused value is dropped.
+    pub fn push<T: Tag>(&mut self, value: V) -> Result<Resource<T>, ResourceTableError>
+    where
+        V: Drop,
+        requires { V.kind value ≡ T.kind }
+        ensures number { IfOk result (λ key. key ≡ next_number self.old.entries) }
+        ensures ok { OnOk result (self.new.entries ≡ pushed self.old.entries value) }
+        ensures refused { refusal_of result ≡ push_refusal self.old }
+        ensures capacity { self.new.capacity ≡ self.old.capacity }
+        ensures err { OnErr result (self.new ≡ self.old) }
+        ensures takes_no_memory { 0 < self.old.room → result ≢ Err OutOfMemory }
+        ensures room { self.old.room ≤ self.new.room + 1 }
+    {
+        self.reserve()?;
+        let number = self.links.insert();
+        put(&mut self.values, number, value);
+        Ok(Resource::new_own(number))
+    }
+
+    /// Adds a value as the child of another. A refused value is dropped.
+    pub fn push_child<T: Tag, U>(
+        &mut self,
+        value: V,
+        parent: &Resource<U>,
+    ) -> Result<Resource<T>, ResourceTableError>
+    where
+        V: Drop,
+        requires { V.kind value ≡ T.kind }
+        ensures number { IfOk result (λ key. key ≡ next_number self.old.entries) }
+        ensures ok { OnOk result (self.new.entries ≡ pushed_child self.old.entries value parent.now) }
+        ensures refused { refusal_of result ≡ push_child_refusal self.old parent.now }
+        ensures capacity { self.new.capacity ≡ self.old.capacity }
+        ensures err { OnErr result (self.new.entries ≡ self.old.entries) }
+        ensures unchanged { IsSome (refusal_of result) → self.new ≡ self.old }
+        ensures room { self.old.room ≤ self.new.room + 1 }
+    {
+        let parent = parent.rep();
+        if !self.contains(parent) {
+            return Err(ResourceTableError::NotPresent);
+        }
+        self.reserve()?;
+        let number = self.links.insert_child(parent)?;
+        put(&mut self.values, number, value);
+        Ok(Resource::new_own(number))
+    }
+
+    /// Takes a value out, which ends the link to its parent. Its number is given first from now on.
+    pub fn delete<T: Tag>(&mut self, key: Resource<T>) -> Result<V, ResourceTableError>
+        ensures value { IfOk result (λ value. value_at self.old.entries key ≡ Some value) }
+        ensures ok { OnOk result (self.new.entries ≡ deleted self.old.entries key) }
+        ensures refused { result_err result ≡ delete_refusal V.kind T.kind self.old.entries key }
+        ensures takes_no_memory { result ≢ Err OutOfMemory }
+        ensures capacity { self.new.capacity ≡ self.old.capacity }
+        ensures room { OnOk result (self.new.room ≡ self.old.room + 1) }
+        ensures err { OnErr result (self.new ≡ self.old) }
+    {
+        let number = key.rep();
+        if !self.contains(number) {
+            return Err(ResourceTableError::NotPresent);
+        }
+        if !self.links.is_childless(number) {
+            return Err(ResourceTableError::HasChildren);
+        }
+        self.get(&key)?;
+        self.links.remove(number);
+        match self.values[number as usize].take() {
+            Some(value) => Ok(value),
+            None => unreachable!(),
+        }
+    }
+}
+
+// Puts a value under a number: at the end, where that is the length.
+fn put<V: Drop>(values: &mut Vec<Option<V>>, number: u32, value: V)
+    requires bound { number ≤ vec_len values.old }
+    requires room { number ≡ vec_len values.old → vec_len values.old < vec_capacity values.old }
+    ensures items { values.new.items ≡ (if number == length values.old.items
+        then values.old.items ++ Some value ∷ []
+        else slice_set values.old.items number (Some value)) }
+    ensures len { vec_len values.new ≡ (if number == length values.old.items
+        then length values.old.items + 1
+        else length values.old.items) }
+    ensures capacity { vec_capacity values.new ≡ vec_capacity values.old }
+{
+    let slot = number as usize;
+    if slot == values.len() {
+        values.push_reserved(Some(value));
+    } else {
+        values[slot] = Some(value);
     }
 }
