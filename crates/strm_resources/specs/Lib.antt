@@ -4,3 +4,5 @@ pub mod Numbers
 pub mod Errors
 pub mod Entries
 pub mod Refusals
+pub mod Lends
+pub mod Slots

@@ -5,5 +5,6 @@ pub mod errors;
 pub mod kinds;
 mod links;
 mod nodes;
+mod slots;
 pub mod tables;
 pub mod walks;

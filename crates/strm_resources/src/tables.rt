@@ -3,6 +3,7 @@
 //! Source: wasmtime, `resource_table.rs`, `ResourceTable`.
 
 ghost use Rattle.std.specs.Prelude.{◌≡◌, ◌≢◌, ℕ, ◌+◌, ◌<◌, ◌≤◌, ◌==◌, ◌↔◌, if◌then◌else◌, [], ◌∷◌, ◌++◌, map, length, true, false, is_some, Some, None, Ok, Err, IsTrue, IsSome, IfSome, IsOk, IfOk, OnOk, OnErr, slice_set, option_copied, vec_len, vec_capacity};
+ghost use Rattle.std.specs.Borrow.{sem};
 ghost use Rattle.std.specs.Result.{result_err};
 ghost use Rattle.std.specs.List.Sorted.{IsStrictlyIncreasing};
 ghost use Rattle.strm_resources.specs.declared.errors.ResourceTableError.TheVariants.{OutOfMemory};
@@ -16,6 +17,7 @@ ghost use Rattle.strm_resources.specs.Refusals.{push_refusal, push_child_refusal
 use crate::errors::ResourceTableError;
 use crate::kinds::{Resident, Tag};
 use crate::links::Links;
+use crate::slots::value_of;
 use crate::walks::{Children, Keys};
 use std::alloc::Global;
 use std::marker::Model;
@@ -48,6 +50,8 @@ impl<V: Resident> Model for ResourceTable<V> {
 }
 
 impl<V: Resident> ResourceTable<V> {
+    ghost use Rattle.strm_resources.specs.Lends.{lends_value, lends_found};
+
     /// An empty table, which may hold 1,000,000 values. It allocates nothing.
     pub fn new(alloc: Global) -> ResourceTable<V>
         ensures empty { result.entries ≡ no_entries }
@@ -113,6 +117,41 @@ impl<V: Resident> ResourceTable<V> {
             Some(Some(value)) => Some(value),
             _ => None,
         }
+    }
+
+    fn value_mut(&mut self, number: u32) -> &mut V
+        requires { is_some (value_at self.old.entries number) ≡ true }
+        ensures* writes_back { sem 𝓛 (lends_value V.row V.Resident self.entry number result) }
+        ensures value { value_at self.old.entries number ≡ Some result.now }
+    {
+        value_of(&mut self.values[number as usize])
+    }
+
+    /// The value under a number, of any kind, for writing.
+    pub fn get_any_mut(&mut self, key: u32) -> Result<&mut V, ResourceTableError>
+        ensures* writes_back { sem 𝓛 (lends_found V.row V.Resident self.entry key result) }
+        ensures value { IfOk result (λ value. value_at self.old.entries key ≡ Some value.now) }
+        ensures refused { result_err result ≡ any_refusal self.old.entries key }
+        ensures takes_no_memory { result ≢ Err OutOfMemory }
+    {
+        if !self.contains(key) {
+            return Err(ResourceTableError::NotPresent);
+        }
+        Ok(self.value_mut(key))
+    }
+
+    /// The value under a key, for writing. A write may change its kind.
+    pub fn get_mut<T: Tag>(&mut self, key: &Resource<T>) -> Result<&mut V, ResourceTableError>
+        ensures* writes_back { sem 𝓛 (lends_found V.row V.Resident self.entry key.now result) }
+        ensures value { IfOk result (λ value. value_at self.old.entries key.now ≡ Some value.now) }
+        ensures refused { result_err result ≡ get_refusal V.kind T.kind self.old.entries key.now }
+        ensures takes_no_memory { result ≢ Err OutOfMemory }
+    {
+        let number = key.rep();
+        if let Err(refusal) = self.get(key) {
+            return Err(refusal);
+        }
+        Ok(self.value_mut(number))
     }
 
     /// The value under a key.
