@@ -6,3 +6,4 @@ pub mod Entries
 pub mod Refusals
 pub mod Lends
 pub mod Slots
+pub mod Text

@@ -5,6 +5,7 @@ pub mod errors;
 pub mod kinds;
 mod links;
 mod nodes;
+mod prints;
 mod slots;
 pub mod tables;
 pub mod walks;
