@@ -3,3 +3,4 @@ pub mod SlotLemmas
 pub mod LinkLemmas
 pub mod NumberLemmas
 pub mod TableLemmas
+pub mod EntryLemmas

@@ -7,3 +7,4 @@ pub mod Refusals
 pub mod Lends
 pub mod Slots
 pub mod Text
+pub mod WellKept

@@ -8,9 +8,11 @@ ghost use Rattle.std.specs.Result.{result_err};
 ghost use Rattle.std.specs.List.Sorted.{IsStrictlyIncreasing};
 ghost use Rattle.strm_resources.specs.declared.errors.ResourceTableError.TheVariants.{OutOfMemory};
 ghost use Rattle.strm_resources.specs.Errors.{refusal_of};
-ghost use Rattle.strm_resources.specs.Links.{is_number, AreKept};
+ghost use Rattle.strm_resources.specs.Links.{is_among};
 ghost use Rattle.strm_resources.specs.Nodes.{node_at};
 ghost use Rattle.strm_resources.specs.Numbers.{Lists};
+ghost use Rattle.strm_resources.specs.WellKept.{IsWellKept};
+ghost use Rattle.std.specs.FinSet as set;
 ghost use Rattle.strm_resources.specs.Entries.{value_at, parent_of, children_of, numbers, next_number, no_entries, pushed, pushed_child, child_added, child_removed, deleted};
 ghost use Rattle.strm_resources.specs.Refusals.{push_refusal, push_child_refusal, add_child_refusal, remove_child_refusal, any_refusal, get_refusal, delete_refusal};
 
@@ -331,6 +333,19 @@ impl<V: Resident> ResourceTable<V> {
             None => unreachable!(),
         }
     }
+}
+
+/// What holds of every table: each child link has its parent link and back, and a number that is
+/// given again has no value.
+pub fn links_have_both_ends<V: Resident>(table: &ResourceTable<V>)
+    ensures well_kept { IsWellKept table.now.entries }
+    ensures links { (child parent : ℕ) → IsTrue (set.contains (children_of table.now.entries parent) child)
+        ↔ (parent_of table.now.entries child ≡ Some parent) }
+    ensures freed { (number : ℕ) → IsTrue (is_among table.now.entries.freed number)
+        → value_at table.now.entries number ≡ None }
+    ensures next { value_at table.now.entries (next_number table.now.entries) ≡ None }
+{
+    table.links.are_kept();
 }
 
 // Puts a value under a number: at the end, where that is the length.
