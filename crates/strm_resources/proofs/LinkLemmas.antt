@@ -53,7 +53,6 @@ none-some (Some x) e = absurd (true≢false (sym e))
 
 -- ---- one node
 
-
 same_parent : (change : Node → Node) → ((node : Node) → (change node).parent ≡ node.parent) → (t : Bool) (o : Option Node) → option_and_then (λ node. node.parent) (cond t (option_map change o) o) ≡ option_and_then (λ (node : Node). node.parent) o
 same_parent change keeps true None = refl
 same_parent change keeps true (Some node) = keeps node
@@ -132,8 +131,8 @@ link_both_ways : (nodes : List (Option Node)) (child parent at number : ℕ) →
 link_both_ways nodes child parent at number loose old =
     by_eq number child (λ t. ((nat_eq at parent && t) || set.contains (children_at nodes at) number) ≡ is_number (cond t (Some parent) (parent_at nodes number)) at)
     (λ same.
-      let none : set.contains (children_at nodes at) number ≡ false = old ∙ ap (λ o. is_number o at) (ap (parent_at nodes) same ∙ loose) in
-      ap (λ b. (nat_eq at parent && true) || b) none ∙ and-alone (nat_eq at parent) ∙ nat_eq_equiv.symm at parent)
+    let none : set.contains (children_at nodes at) number ≡ false = old ∙ ap (λ o. is_number o at) (ap (parent_at nodes) same ∙ loose) in
+    ap (λ b. (nat_eq at parent && true) || b) none ∙ and-alone (nat_eq at parent) ∙ nat_eq_equiv.symm at parent)
     (λ apart. and-none (nat_eq at parent) _ ∙ old)
 
 -- a link less, in both directions
@@ -141,9 +140,9 @@ unlink_both_ways : (nodes : List (Option Node)) (child parent at number : ℕ) �
 unlink_both_ways nodes child parent at number tied old =
     by_eq number child (λ t. (not (nat_eq at parent && t) && set.contains (children_at nodes at) number) ≡ is_number (cond t None (parent_at nodes number)) at)
     (λ same.
-      let here : set.contains (children_at nodes at) number ≡ nat_eq at parent =
-      old ∙ ap (λ o. is_number o at) (ap (parent_at nodes) same ∙ tied) ∙ nat_eq_equiv.symm parent at in
-      ap (λ b. not (nat_eq at parent && true) && b) here ∙ not_and-all (nat_eq at parent))
+    let here : set.contains (children_at nodes at) number ≡ nat_eq at parent =
+    old ∙ ap (λ o. is_number o at) (ap (parent_at nodes) same ∙ tied) ∙ nat_eq_equiv.symm parent at in
+    ap (λ b. not (nat_eq at parent && true) && b) here ∙ not_and-all (nat_eq at parent))
     (λ apart. not_and-none (nat_eq at parent) _ ∙ old)
 
 -- a number with a child has a node
@@ -173,10 +172,10 @@ module _ (nodes : List (Option Node)) (freed : List ℕ) (kept : AreKept nodes f
     vacant = λ number. kept.vacant number ∙ sym (is_vacant-changed (with_parent (Some parent)) _ child number ∙ is_vacant-changed (with_child child) nodes parent number);
     apart = kept.apart;
     linked = λ number at.
-    has-outer (Some parent) _ child at number
-    ∙ has-with_child nodes child parent at number there'
-    ∙ link_both_ways nodes child parent at number loose (kept.linked number at)
-    ∙ ap (λ o. is_number o at) (sym (parent_at-relinked (with_child child) (λ node. refl) (Some parent) nodes child parent number there));
+        has-outer (Some parent) _ child at number
+        ∙ has-with_child nodes child parent at number there'
+        ∙ link_both_ways nodes child parent at number loose (kept.linked number at)
+        ∙ ap (λ o. is_number o at) (sym (parent_at-relinked (with_child child) (λ node. refl) (Some parent) nodes child parent number there));
   }
 
   pub AreKept-unlinked : (child parent : ℕ) → parent_at nodes child ≡ Some parent → AreKept (unlinked nodes child parent) freed
@@ -184,10 +183,10 @@ module _ (nodes : List (Option Node)) (freed : List ℕ) (kept : AreKept nodes f
     vacant = λ number. kept.vacant number ∙ sym (is_vacant-changed (with_parent None) _ child number ∙ is_vacant-changed (without_child child) nodes parent number);
     apart = kept.apart;
     linked = λ number at.
-    has-outer None _ child at number
-    ∙ has-without_child nodes child parent at number
-    ∙ unlink_both_ways nodes child parent at number tied (kept.linked number at)
-    ∙ ap (λ o. is_number o at) (sym (parent_at-relinked (without_child child) (λ node. refl) None nodes child parent number (present-from_parent nodes child parent tied)));
+        has-outer None _ child at number
+        ∙ has-without_child nodes child parent at number
+        ∙ unlink_both_ways nodes child parent at number tied (kept.linked number at)
+        ∙ ap (λ o. is_number o at) (sym (parent_at-relinked (without_child child) (λ node. refl) None nodes child parent number (present-from_parent nodes child parent tied)));
   }
 
 -- ---- a number freed
@@ -241,6 +240,7 @@ cut_is_childless nodes child number none = by (parent_at nodes child)
   where
     lacks : set.contains (children_at nodes child) number ≡ false
     lacks = lacks-childless (children_at nodes child) number none
+
     by : (o : Option ℕ) → set.contains (children_at (cut_from nodes child o) child) number ≡ false
     by None = lacks
     by (Some parent) =
@@ -268,22 +268,22 @@ AreKept-emptied nodes freed number kept there loose childless =
     let inside = present_inside nodes number there in
     record {
       vacant = λ other.
-      by_eq other number (λ t. (t || is_among freed other) ≡ (nat_lt other (length nodes) && is_none (cond t None (node_at nodes other))))
-      (λ same. sym (ap (λ b. b && true) (lt-ltb other (length nodes) (rw same inside))))
-      (λ apart. kept.vacant other)
-      ∙ sym (ap (λ n. nat_lt other n && is_none (node_at (set nodes number None) other)) (length-set nodes number None)
-        ∙ ap (λ o. nat_lt other (length nodes) && is_none o) (slot-set nodes number other None inside));
+          by_eq other number (λ t. (t || is_among freed other) ≡ (nat_lt other (length nodes) && is_none (cond t None (node_at nodes other))))
+          (λ same. sym (ap (λ b. b && true) (lt-ltb other (length nodes) (rw same inside))))
+          (λ apart. kept.vacant other)
+          ∙ sym (ap (λ n. nat_lt other n && is_none (node_at (set nodes number None) other)) (length-set nodes number None)
+          ∙ ap (λ o. nat_lt other (length nodes) && is_none o) (slot-set nodes number other None inside));
       apart = IsDistinct-cons nat_eq number freed (all_apart number freed (present_not_freed nodes freed kept number there)) kept.apart;
       linked = λ child at.
-      ap (λ o. set.contains (children_of o) child) (slot-set nodes number at None inside)
-      ∙ by_eq at number (λ t. set.contains (children_of (cond t None (node_at nodes at))) child ≡ is_number (option_and_then (λ node. node.parent) (cond (nat_eq child number) None (node_at nodes child))) at)
-        (λ same. contains-empty nat_cmp child ∙ by_eq child number (λ t. false ≡ is_number (option_and_then (λ node. node.parent) (cond t None (node_at nodes child))) at)
+          ap (λ o. set.contains (children_of o) child) (slot-set nodes number at None inside)
+          ∙ by_eq at number (λ t. set.contains (children_of (cond t None (node_at nodes at))) child ≡ is_number (option_and_then (λ node. node.parent) (cond (nat_eq child number) None (node_at nodes child))) at)
+          (λ same. contains-empty nat_cmp child ∙ by_eq child number (λ t. false ≡ is_number (option_and_then (λ node. node.parent) (cond t None (node_at nodes child))) at)
           (λ _. refl)
           (λ _. sym (sym (kept.linked child at) ∙ ap (λ n. set.contains (children_at nodes n) child) same ∙ childless child)))
-        (λ apart. by_eq child number (λ t. set.contains (children_at nodes at) child ≡ is_number (option_and_then (λ node. node.parent) (cond t None (node_at nodes child))) at)
+          (λ apart. by_eq child number (λ t. set.contains (children_at nodes at) child ≡ is_number (option_and_then (λ node. node.parent) (cond t None (node_at nodes child))) at)
           (λ same. kept.linked child at ∙ ap (λ o. is_number o at) (ap (parent_at nodes) same ∙ loose))
           (λ _. kept.linked child at))
-      ∙ sym (ap (λ o. is_number (option_and_then (λ node. node.parent) o) at) (slot-set nodes number child None inside));
+          ∙ sym (ap (λ o. is_number (option_and_then (λ node. node.parent) o) at) (slot-set nodes number child None inside));
     }
 
 -- a childless number, freed
@@ -321,13 +321,13 @@ vacant-filled nodes [] node vacant apart inside number =
     (λ same. sym (and-false _))
     (λ other. vacant number ∙ ap (λ b. b && is_none (node_at nodes number)) (sym (lt_more number (length nodes) other)))
     ∙ sym (ap (λ n. nat_lt number n && is_none (node_at (nodes ++ Some node ∷ []) number)) (length_push nodes (Some node))
-      ∙ ap (λ o. nat_lt number (length nodes + 1) && is_none o) (slot-filled [] nodes number node inside))
+    ∙ ap (λ o. nat_lt number (length nodes + 1) && is_none o) (slot-filled [] nodes number node inside))
 vacant-filled nodes (first ∷ freed) node vacant apart inside number =
     by_eq number first (λ t. is_among freed number ≡ (nat_lt number (length nodes) && is_none (cond t (Some node) (node_at nodes number))))
     (λ same. ap (is_among freed) same ∙ not_among first freed (IsDistinct-head nat_eq first freed apart) ∙ sym (and-false _))
     (λ other. ap (λ b. b || is_among freed number) (sym (eq-other number first other)) ∙ vacant number)
     ∙ sym (ap (λ n. nat_lt number n && is_none (node_at (set nodes first (Some node)) number)) (length-set nodes first (Some node))
-      ∙ ap (λ o. nat_lt number (length nodes) && is_none o) (slot-filled (first ∷ freed) nodes number node inside))
+    ∙ ap (λ o. nat_lt number (length nodes) && is_none o) (slot-filled (first ∷ freed) nodes number node inside))
 
 distinct-drop : (freed : List ℕ) → IsDistinct nat_eq freed → IsDistinct nat_eq (drop 1 freed)
 distinct-drop [] apart = apart
@@ -341,15 +341,15 @@ AreKept-given nodes freed parent vacant apart inside lacks links =
       vacant = vacant-filled nodes freed (new_node parent) vacant apart inside;
       apart = distinct-drop freed apart;
       linked = λ child at.
-      ap (λ o. set.contains (children_of o) child) (slot-filled freed nodes at (new_node parent) inside)
-      ∙ by_eq at next (λ t. set.contains (children_of (cond t (Some (new_node parent)) (node_at nodes at))) child ≡ set.contains (children_at nodes at) child)
-        (λ same. sym (ap (λ o. set.contains (children_of o) child) (ap (node_at nodes) same ∙ lacks)))
-        (λ _. refl)
-      ∙ links child at
-      ∙ by_eq child next (λ t. is_number (cond t parent (parent_at nodes child)) at ≡ is_number (option_and_then (λ node. node.parent) (cond t (Some (new_node parent)) (node_at nodes child))) at)
-        (λ _. refl)
-        (λ _. refl)
-      ∙ sym (ap (λ o. is_number (option_and_then (λ node. node.parent) o) at) (slot-filled freed nodes child (new_node parent) inside));
+          ap (λ o. set.contains (children_of o) child) (slot-filled freed nodes at (new_node parent) inside)
+          ∙ by_eq at next (λ t. set.contains (children_of (cond t (Some (new_node parent)) (node_at nodes at))) child ≡ set.contains (children_at nodes at) child)
+          (λ same. sym (ap (λ o. set.contains (children_of o) child) (ap (node_at nodes) same ∙ lacks)))
+          (λ _. refl)
+          ∙ links child at
+          ∙ by_eq child next (λ t. is_number (cond t parent (parent_at nodes child)) at ≡ is_number (option_and_then (λ node. node.parent) (cond t (Some (new_node parent)) (node_at nodes child))) at)
+          (λ _. refl)
+          (λ _. refl)
+          ∙ sym (ap (λ o. is_number (option_and_then (λ node. node.parent) o) at) (slot-filled freed nodes child (new_node parent) inside));
     }
 
 module _ (nodes : List (Option Node)) (freed : List ℕ) (kept : AreKept nodes freed) where
@@ -359,10 +359,10 @@ module _ (nodes : List (Option Node)) (freed : List ℕ) (kept : AreKept nodes f
       let next = next_of freed (length nodes) in
       let lacks = next_vacant nodes freed kept in
       AreKept-given nodes freed None kept.vacant kept.apart (next_inside nodes freed kept) lacks (λ child at.
-        kept.linked child at
-        ∙ by_eq child next (λ t. is_number (parent_at nodes child) at ≡ is_number (cond t None (parent_at nodes child)) at)
-          (λ same. ap (λ o. is_number (option_and_then (λ node. node.parent) o) at) (ap (node_at nodes) same ∙ lacks))
-          (λ _. refl))
+      kept.linked child at
+      ∙ by_eq child next (λ t. is_number (parent_at nodes child) at ≡ is_number (cond t None (parent_at nodes child)) at)
+      (λ same. ap (λ o. is_number (option_and_then (λ node. node.parent) o) at) (ap (node_at nodes) same ∙ lacks))
+      (λ _. refl))
 
   -- a number given as a child
   pub AreKept-filled_child : (parent : ℕ) → is_some (node_at nodes parent) ≡ true → AreKept (filled freed (changed (with_child (next_of freed (length nodes))) nodes parent) (new_node (Some parent))) (drop 1 freed)
@@ -378,10 +378,10 @@ module _ (nodes : List (Option Node)) (freed : List ℕ) (kept : AreKept nodes f
       (λ some. rw (same_next, long) (next_inside nodes freed kept some))
       (ap (node_at more) same_next ∙ none-some (node_at more next) (ap not (is_some-changed (with_child next) nodes parent next) ∙ ap is_none lacks))
       (λ child at.
-        has-with_child nodes next parent at child there
-        ∙ link_both_ways nodes next parent at child (ap (option_and_then (λ node. node.parent)) lacks) (kept.linked child at)
-        ∙ ap (λ o. is_number (cond (nat_eq child next) (Some parent) o) at) (sym (ap (option_and_then (λ node. node.parent)) (node_at-changed (with_child next) nodes parent child) ∙ same_parent (with_child next) (λ node. refl) (nat_eq child parent) (node_at nodes child)))
-        ∙ ap (λ n. is_number (cond (nat_eq child n) (Some parent) (parent_at more child)) at) (sym same_next))
+      has-with_child nodes next parent at child there
+      ∙ link_both_ways nodes next parent at child (ap (option_and_then (λ node. node.parent)) lacks) (kept.linked child at)
+      ∙ ap (λ o. is_number (cond (nat_eq child next) (Some parent) o) at) (sym (ap (option_and_then (λ node. node.parent)) (node_at-changed (with_child next) nodes parent child) ∙ same_parent (with_child next) (λ node. refl) (nat_eq child parent) (node_at nodes child)))
+      ∙ ap (λ n. is_number (cond (nat_eq child n) (Some parent) (parent_at more child)) at) (sym same_next))
 
 -- no numbers at all
 pub AreKept-none : AreKept [] []

@@ -33,22 +33,22 @@ contains-removed s child number = contains-remove nat_cmp_total s child number �
 pub from_list-added : (s n : BTreeSet ℕ) (child : ℕ) → Updates nat_cmp s n child true → from_list {R = nat_cmp} n.keys ≡ set.insert (from_list s.keys) child
 from_list-added s n child updates =
     same_set nat_cmp_total nat_cmp-IsAntisymmetric _ _ (λ q.
-      contains-from_list nat_cmp_total n.keys q
-      ∙ updates.0 q
-      ∙ or-by_cond (eq_by_cmp nat_cmp child q) _
-      ∙ ap (λ b. b || list_any (eq_by_cmp nat_cmp q) s.keys) (turned child q)
-      ∙ ap (λ b. eq_by_cmp nat_cmp q child || b) (sym (contains-from_list nat_cmp_total s.keys q))
-      ∙ sym (contains-insert nat_cmp_total _ child q))
+    contains-from_list nat_cmp_total n.keys q
+    ∙ updates.0 q
+    ∙ or-by_cond (eq_by_cmp nat_cmp child q) _
+    ∙ ap (λ b. b || list_any (eq_by_cmp nat_cmp q) s.keys) (turned child q)
+    ∙ ap (λ b. eq_by_cmp nat_cmp q child || b) (sym (contains-from_list nat_cmp_total s.keys q))
+    ∙ sym (contains-insert nat_cmp_total _ child q))
 
 pub from_list-taken : (s n : BTreeSet ℕ) (child : ℕ) → Updates nat_cmp s n child false → from_list {R = nat_cmp} n.keys ≡ set.remove (from_list s.keys) child
 from_list-taken s n child updates =
     same_set nat_cmp_total nat_cmp-IsAntisymmetric _ _ (λ q.
-      contains-from_list nat_cmp_total n.keys q
-      ∙ updates.0 q
-      ∙ and-by_cond (eq_by_cmp nat_cmp child q) _
-      ∙ ap (λ b. not b && list_any (eq_by_cmp nat_cmp q) s.keys) (turned child q)
-      ∙ ap (λ b. not (eq_by_cmp nat_cmp q child) && b) (sym (contains-from_list nat_cmp_total s.keys q))
-      ∙ sym (contains-remove nat_cmp_total _ child q))
+    contains-from_list nat_cmp_total n.keys q
+    ∙ updates.0 q
+    ∙ and-by_cond (eq_by_cmp nat_cmp child q) _
+    ∙ ap (λ b. not b && list_any (eq_by_cmp nat_cmp q) s.keys) (turned child q)
+    ∙ ap (λ b. not (eq_by_cmp nat_cmp q child) && b) (sym (contains-from_list nat_cmp_total s.keys q))
+    ∙ sym (contains-remove nat_cmp_total _ child q))
 
 -- a set is childless where it has no member
 pub lacks-childless : (s : Numbers) (number : ℕ) → is_childless s ≡ true → set.contains s number ≡ false

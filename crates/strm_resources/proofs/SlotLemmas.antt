@@ -32,9 +32,9 @@ module _ {X : Type 0} where
       by_eq number (length slots) (λ t. get_or (slots ++ Some x ∷ []) number None ≡ cond t (Some x) (get_or slots number None))
       (λ same. rw same (get_or_push slots (Some x) None (length slots) refl))
       (λ apart. ⊎_elim
-        (λ below. get_or_append_left slots (Some x ∷ []) None number below)
-        (λ above. get_or_past (slots ++ Some x ∷ []) number None (omega (arith, length_push slots (Some x))) ∙ sym (get_or_past slots number None above))
-        (cases_lt number (length slots)))
+      (λ below. get_or_append_left slots (Some x ∷ []) None number below)
+      (λ above. get_or_past (slots ++ Some x ∷ []) number None (omega (arith, length_push slots (Some x))) ∙ sym (get_or_past slots number None above))
+      (cases_lt number (length slots)))
 
   -- a number's slot after the next one was filled
   pub slot-filled : (freed : List ℕ) (slots : List (Option X)) (number : ℕ) (x : X) → (freed ≢ [] → next_of freed (length slots) < length slots) → get_or (filled freed slots x) number None ≡ cond (nat_eq number (next_of freed (length slots))) (Some x) (get_or slots number None)
@@ -46,13 +46,13 @@ pub node_at-changed : (change : Node → Node) (nodes : List (Option Node)) (at 
 node_at-changed change nodes at number =
     ⊎_elim
     (λ inside. slot-set nodes at number (option_map change (node_at nodes at)) inside ∙ by_eq number at
-      (λ t. cond t (option_map change (node_at nodes at)) (node_at nodes number) ≡ cond t (option_map change (node_at nodes number)) (node_at nodes number))
-      (λ same. rw same refl)
-      (λ apart. refl))
+    (λ t. cond t (option_map change (node_at nodes at)) (node_at nodes number) ≡ cond t (option_map change (node_at nodes number)) (node_at nodes number))
+    (λ same. rw same refl)
+    (λ apart. refl))
     (λ past. ap (λ xs. node_at xs number) (set_past nodes at (option_map change (node_at nodes at)) past) ∙ by_eq number at
-      (λ t. node_at nodes number ≡ cond t (option_map change (node_at nodes number)) (node_at nodes number))
-      (λ same. rw (same, get_or_past nodes at None past) refl)
-      (λ apart. refl))
+    (λ t. node_at nodes number ≡ cond t (option_map change (node_at nodes number)) (node_at nodes number))
+    (λ same. rw (same, get_or_past nodes at None past) refl)
+    (λ apart. refl))
     (cases_lt at (length nodes))
 
 pub length-changed : (change : Node → Node) (nodes : List (Option Node)) (at : ℕ) → length (changed change nodes at) ≡ length nodes

@@ -57,7 +57,7 @@ module _ {V : Type 0} where
   pushed e value = record {
     values = filled e.freed e.values value;
     nodes = filled e.freed e.nodes (new_node None);
-    freed = drop 1 e.freed
+    freed = drop 1 e.freed;
   }
 
   -- with the value under the next number, as a child
@@ -65,7 +65,7 @@ module _ {V : Type 0} where
   pushed_child e value parent = record {
     values = filled e.freed e.values value;
     nodes = with_new_child e.freed e.nodes parent;
-    freed = drop 1 e.freed
+    freed = drop 1 e.freed;
   }
 
   -- with a link from child to parent, and back
@@ -85,5 +85,5 @@ module _ {V : Type 0} where
   deleted e number = record {
     values = slice_set e.values number None;
     nodes = slice_set (cut e.nodes number) number None;
-    freed = number ∷ e.freed
+    freed = number ∷ e.freed;
   }

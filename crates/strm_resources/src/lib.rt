@@ -8,4 +8,6 @@ mod nodes;
 mod prints;
 mod slots;
 pub mod tables;
+#[cfg(test)]
+mod tests;
 pub mod walks;

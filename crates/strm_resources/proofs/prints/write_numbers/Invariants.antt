@@ -8,7 +8,7 @@ abbrev pub invariant-loop-number : goal.invariant-loop-number
 invariant-loop-number g l =
     IsPlainFormatter l.initial.f
     → ((done : List ℕ) × HasWritten g.W.Write.write_str_gives l.initial.f done l.f
-      × (done ++ cond l.first (items_text l.keys) (more_text l.keys) ≡ items_text l.fn.keys))
+    × (done ++ cond l.first (items_text l.keys) (more_text l.keys) ≡ items_text l.fn.keys))
 
 abbrev pub decreases-loop-number : goal.decreases-loop-number
 decreases-loop-number g l = length l.keys

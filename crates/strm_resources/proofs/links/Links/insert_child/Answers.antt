@@ -9,9 +9,9 @@ use Rattle.strm_resources.proofs.links.Links.insert_child.Goals as goal
 pub fill-requires-clause-inside : goal.fill-requires-clause-inside
 fill-requires-clause-inside c =
     λ some.
-      let l = c.self.inside in
-      let below = next_inside l.nodes.items (reverse l.freed.items) c.self.invariant.kept (some_reversed _ some) in
-      rw length-set (omega (arith, l.nodes.ok))
+    let l = c.self.inside in
+    let below = next_inside l.nodes.items (reverse l.freed.items) c.self.invariant.kept (some_reversed _ some) in
+    rw length-set (omega (arith, l.nodes.ok))
 
 pub invariant_of-self-2 : goal.invariant_of-self-2
 invariant_of-self-2 c =

@@ -6,7 +6,7 @@ use Rattle.strm_resources.proofs.links.Links.is_full.Goals as goal
 pub returns-else-is_empty-clause-small : goal.returns-else-is_empty-clause-small
 returns-else-is_empty-clause-small c =
     λ none.
-      let l = c.self.inside in
-      let long : length l.freed.items ≡ vec_len l.freed = omega (arith, l.freed.ok) in
-      let some = sym c.is_empty.ensures ∙ none in
-      rw (← c.self.view_is) (next_small l.nodes.items l.freed.items c.self.invariant.kept c.self.invariant.small (ap (λ n. nat_eq n 0) long ∙ some))
+    let l = c.self.inside in
+    let long : length l.freed.items ≡ vec_len l.freed = omega (arith, l.freed.ok) in
+    let some = sym c.is_empty.ensures ∙ none in
+    rw (← c.self.view_is) (next_small l.nodes.items l.freed.items c.self.invariant.kept c.self.invariant.small (ap (λ n. nat_eq n 0) long ∙ some))
