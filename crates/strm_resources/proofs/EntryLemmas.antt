@@ -1,6 +1,6 @@
 -- A resource table as a map: what each number has after each change, and that every change keeps
 -- what holds of every table. For this crate and its callers.
-use Rattle.std.proofs.Common.{◌≡◌, ◌≢◌, ℕ, ◌<◌, Bool, true, false, cond, ◌&&◌, List, [], ◌∷◌, length, get_or, set, drop, Option, Some, None, is_some, refl, sym, ap, ◌∙◌, ⊎_elim, not}
+use Rattle.std.proofs.Common.{◌≡◌, ℕ, ◌<◌, true, cond, ◌&&◌, List, length, get_or, Option, Some, None, is_some, refl, sym, ap, ◌∙◌, ⊎_elim, not}
 use Rattle.std.proofs.lemmas.Bool.{true≢false, cases_lt}
 use Rattle.std.proofs.lemmas.List.{get_or_past}
 use Rattle.std.specs.Cmp.{unsigned_Decides, nat_eq_equiv}

@@ -1,6 +1,6 @@
 -- Freed numbers are exactly the vacant ones, and each child link has its parent link and back: after
 -- every change of a table's nodes.
-use Rattle.std.proofs.Common.{◌≡◌, ◌≢◌, ℕ, ◌+◌, ◌-◌, ◌<◌, ◌≤◌, Bool, true, false, cond, not, ◌&&◌, ◌||◌, List, [], ◌∷◌, ◌++◌, length, set, get_or, drop, reverse, Option, Some, None, is_some, refl, sym, ap, ◌∙◌, ⊎_elim, arith}
+use Rattle.std.proofs.Common.{◌≡◌, ◌≢◌, ℕ, ◌+◌, ◌-◌, ◌<◌, ◌≤◌, Bool, true, false, cond, not, ◌&&◌, ◌||◌, List, [], ◌∷◌, ◌++◌, length, set, drop, reverse, Option, Some, None, is_some, refl, sym, ap, ◌∙◌, ⊎_elim, arith}
 use borrow.Author.Tests.{ltb-true, lt-ltb, le-ltb}
 use Rattle.std.proofs.lemmas.Bool.{true≢false, cases_lt}
 use Rattle.std.proofs.lemmas.List.{length-set, length_push, get_or_past, reverse-reverse}
@@ -9,10 +9,10 @@ use Rattle.std.proofs.lemmas.Map.Steps.{length-le_from_distinct_below}
 use Rattle.std.specs.Cmp.{nat_eq_equiv}
 use Rattle.std.specs.FinSet as set
 use Rattle.std.specs.FinSet.{contains-empty}
-use Rattle.std.specs.List.{list_any, IsDistinct, AllByRecursion}
+use Rattle.std.specs.List.{IsDistinct, AllByRecursion}
 use Rattle.std.specs.Ordering.{nat_cmp}
 use Rattle.std.specs.Prelude.{nat_eq, nat_lt, is_none, option_map, option_and_then}
-use Rattle.strm_resources.specs.Nodes.{Node, Numbers, node_at, children_of, parent_at, children_at, is_childless, new_node, with_parent, with_child, without_child, changed, linked, unlinked, cut_from, cut, next_of, filled}
+use Rattle.strm_resources.specs.Nodes.{Node, node_at, children_of, parent_at, children_at, is_childless, new_node, with_parent, with_child, without_child, changed, linked, unlinked, cut_from, cut, next_of, filled}
 use Rattle.strm_resources.specs.Links.{is_among, is_number, is_vacant, AreKept}
 use Rattle.strm_resources.proofs.NodeLemmas.{contains-inserted, contains-removed, lacks-childless}
 use Rattle.strm_resources.proofs.SlotLemmas.{by_eq, eq-other, slot-set, slot-filled, node_at-changed, length-changed}

@@ -1,9 +1,9 @@
 -- The set of a `BTreeSet`'s keys after a change: what the set of children becomes.
-use Rattle.std.proofs.Common.{◌≡◌, ℕ, zero, suc, Bool, true, false, cond, not, ◌&&◌, ◌||◌, List, [], ◌∷◌, length, refl, sym, ap, ◌∙◌}
+use Rattle.std.proofs.Common.{◌≡◌, ℕ, Bool, true, false, cond, not, ◌&&◌, ◌||◌, List, [], ◌∷◌, length, refl, sym, ap, ◌∙◌}
 use Rattle.std.proofs.lemmas.Bool.{true≢false}
 use Rattle.std.proofs.Math.Dec.{eqb-suc-zero}
-use Rattle.std.specs.Prelude.{nat_eq, ◌↔◌, IsTrue}
-use Rattle.std.specs.BTreeSet.{BTreeSet, Updates, btree_set_len}
+use Rattle.std.specs.Prelude.{nat_eq}
+use Rattle.std.specs.BTreeSet.{BTreeSet, Updates}
 use Rattle.std.specs.Cmp.{nat_cmp_total, nat_eq_equiv, unsigned_tied, unsigned_Decides}
 use Rattle.std.specs.FinSet as set
 use Rattle.std.specs.FinSet.{from_list, contains-empty, contains-insert, contains-remove, contains-from_list, len-empty, empty_of_len, same_set, nat_cmp-IsAntisymmetric}

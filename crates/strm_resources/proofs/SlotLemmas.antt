@@ -1,10 +1,9 @@
 -- The node of each number after one slot was changed, filled or emptied.
-use Rattle.std.proofs.Common.{◌≡◌, ◌≢◌, ℕ, zero, suc, ◌+◌, ◌<◌, ◌≤◌, Bool, true, false, cond, not, ◌&&◌, ◌||◌, List, [], ◌∷◌, ◌++◌, length, set, get_or, Option, Some, None, is_some, refl, sym, ap, ◌∙◌, subst, arith, ⊎_elim}
+use Rattle.std.proofs.Common.{◌≡◌, ◌≢◌, ℕ, ◌<◌, Bool, true, false, cond, List, [], ◌∷◌, ◌++◌, length, set, get_or, Option, Some, None, refl, sym, ap, ◌∙◌, arith, ⊎_elim}
 use Rattle.std.proofs.lemmas.List.{get_or-set_same, get_or-set_other, get_or_past, get_or_append_left, get_or_push, set_past, length-set, length_push}
-use Rattle.std.proofs.lemmas.Grind.{common_steps}
-use Rattle.std.proofs.lemmas.Bool.{cases_lt, cases_eq, true≢false}
-use Rattle.std.specs.Prelude.{nat_eq, nat_lt, is_none, option_map}
-use Rattle.std.specs.Cmp.{nat_eq_equiv, unsigned_Decides}
+use Rattle.std.proofs.lemmas.Bool.{cases_lt, true≢false}
+use Rattle.std.specs.Prelude.{nat_eq, option_map}
+use Rattle.std.specs.Cmp.{unsigned_Decides}
 use Rattle.strm_resources.specs.Nodes.{Node, node_at, changed, next_of, filled}
 
 -- a test of two numbers, by cases

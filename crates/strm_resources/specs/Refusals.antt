@@ -1,7 +1,7 @@
 -- Which call of a resource table is refused, and how: the first refusal that applies.
 -- wasmtime, `resource_table.rs`, the errors and assertions of each call; `HasParent` and `NotChild`
 -- are ours, in place of assertions.
-use Rattle.std.specs.Prelude.{ℕ, Bool, not, nat_eq, length, if◌then◌else◌, Option, Some, None, is_some, is_none}
+use Rattle.std.specs.Prelude.{ℕ, nat_eq, length, if◌then◌else◌, Option, Some, None, is_some, is_none}
 use Rattle.strm_resources.specs.Nodes.{is_childless}
 use Rattle.strm_resources.specs.Links.{is_number, is_full}
 use Rattle.strm_resources.specs.Entries.{Entries, Table, value_at, parent_of, children_of}

@@ -1,4 +1,4 @@
-use Rattle.std.proofs.Common.{◌≡◌, List, ℕ, ◌∷◌, ◌++◌, Bool, true, false, cond, ap, ◌∙◌, sym, append_assoc, rules}
+use Rattle.std.proofs.Common.{◌≡◌, List, ℕ, ◌∷◌, ◌++◌, Bool, cond, ap, ◌∙◌, sym, append_assoc, rules}
 use Rattle.std.proofs.Output.{has_written_append}
 use Rattle.std.specs.Prelude.{codes, decimal}
 use Rattle.strm_resources.specs.Text.{items_text, more_text}

@@ -1,4 +1,3 @@
-use Rattle.std.proofs.Common.{◌≡◌, None}
 use Rattle.strm_resources.specs.WellKept.{IsWellKept}
 use Rattle.strm_resources.proofs.EntryLemmas.{parent_where_child, freed_has_none, next_has_none}
 use Rattle.strm_resources.proofs.tables.links_have_both_ends.Goals as goal

@@ -1,6 +1,5 @@
-use Rattle.std.proofs.Common.{◌<◌, ◌-◌, ◌+◌, length, reverse, arith}
+use Rattle.std.proofs.Common.{reverse, arith}
 use Rattle.std.proofs.lemmas.List.{length-reverse}
-use Rattle.strm_resources.specs.Nodes.{filled}
 use Rattle.strm_resources.proofs.LinkLemmas.{AreKept-filled, next_inside, length-filled, length-filled_small, some_reversed}
 use Rattle.strm_resources.proofs.links.Links.insert.Goals as goal
 

@@ -1,7 +1,7 @@
-use Rattle.std.proofs.Common.{◌≡◌, ◌<◌, ◌≤◌, ◌-◌, ◌+◌, Some, length, set, reverse, arith}
+use Rattle.std.proofs.Common.{◌≡◌, length, set, reverse, arith}
 use Rattle.std.proofs.lemmas.Grind.{common_steps}
 use Rattle.std.proofs.lemmas.List.{length-reverse, length-set}
-use Rattle.strm_resources.specs.Nodes.{new_node, with_child, changed, next_of, filled}
+use Rattle.strm_resources.specs.Nodes.{with_child, changed, next_of}
 use Rattle.strm_resources.proofs.SlotLemmas.{length-changed}
 use Rattle.strm_resources.proofs.LinkLemmas.{AreKept-filled_child, next_inside, length-filled, length-filled_small, some_reversed}
 use Rattle.strm_resources.proofs.links.Links.insert_child.Goals as goal

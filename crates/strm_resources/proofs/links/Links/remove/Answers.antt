@@ -1,4 +1,4 @@
-use Rattle.std.proofs.Common.{◌≡◌, ◌<◌, ◌≤◌, ℕ, ◌∷◌, List, Option, None, length, set, reverse, ap, ◌∙◌, arith}
+use Rattle.std.proofs.Common.{◌≡◌, ℕ, ◌∷◌, List, Option, None, set, reverse, ap, ◌∙◌, arith}
 use Rattle.std.proofs.lemmas.List.{length-reverse, length-set, reverse-append}
 use Rattle.std.specs.FinSet as set_of
 use Rattle.strm_resources.specs.Nodes.{Node, node_at, parent_at, children_at, cut}

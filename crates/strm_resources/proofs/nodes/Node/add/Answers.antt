@@ -1,5 +1,3 @@
-use Rattle.std.proofs.Common.{ap}
-use Rattle.strm_resources.specs.Nodes.{Node}
 use Rattle.strm_resources.proofs.NodeLemmas.{from_list-added}
 use Rattle.strm_resources.proofs.nodes.Node.add.Goals as goal
 

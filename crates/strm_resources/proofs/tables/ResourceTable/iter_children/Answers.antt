@@ -1,4 +1,4 @@
-use Rattle.std.proofs.Common.{◌≡◌, true, false, not, Option, Some, None, is_some, get_or, ap, ◌∙◌, sym}
+use Rattle.std.proofs.Common.{◌≡◌, true, false, not, Some, None, is_some, get_or, ap, ◌∙◌, sym}
 use Rattle.std.specs.Prelude.{if◌then◌else◌}
 use Rattle.strm_resources.specs.declared.errors.ResourceTableError.TheVariants.{NotPresent}
 use Rattle.strm_resources.proofs.TableLemmas.{alike_at}

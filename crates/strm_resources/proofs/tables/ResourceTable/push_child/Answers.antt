@@ -1,5 +1,5 @@
-use Rattle.std.proofs.Common.{◌≡◌, ◌+◌, ◌-◌, ◌≤◌, length, vec_len, vec_capacity, None, ap, ◌∙◌, sym, arith}
-use Rattle.strm_resources.specs.Nodes.{new_node, next_of, filled}
+use Rattle.std.proofs.Common.{◌≡◌, length, vec_capacity, ap, ◌∙◌, sym, arith}
+use Rattle.strm_resources.specs.Nodes.{next_of, filled}
 use Rattle.strm_resources.proofs.TableLemmas.{alike_length, alike-new_child, put-filled, room-filled}
 use Rattle.strm_resources.proofs.tables.ResourceTable.push_child.Goals as goal
 

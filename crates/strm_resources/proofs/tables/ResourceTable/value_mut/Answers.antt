@@ -1,5 +1,4 @@
-use Rattle.std.proofs.Common.{◌≡◌, true, Some, is_some, get_or, ◌∙◌, sym}
-use Rattle.strm_resources.specs.Entries.{value_at}
+use Rattle.std.proofs.Common.{Some, ◌∙◌, sym}
 use Rattle.strm_resources.proofs.TableLemmas.{alike-rewritten}
 use Rattle.strm_resources.proofs.tables.ResourceTable.value_mut.Goals as goal
 
