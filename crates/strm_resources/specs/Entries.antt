@@ -21,11 +21,23 @@ pub record Table (V : Type 0) : Type 0 where
 -- both are stored as the tuples of their fields
 abbrev pub entries_code : {V : Type 0} → Coded V → Coded (Entries V)
 entries_code {V} code =
-    code_by (List (Option V) × (List (Option Node) × List ℕ)) (coded× (coded_list (coded_option code)) (coded× (coded_list (coded_option node_code)) (coded_list coded_ℕ))) (λ e. (e.values, (e.nodes, e.freed))) (λ p. record { values = p.0; nodes = p.1.0; freed = p.1.1 }) (λ _. refl)
+    code_by
+    (List (Option V) × (List (Option Node) × List ℕ))
+    (coded×
+    (coded_list (coded_option code))
+    (coded× (coded_list (coded_option node_code)) (coded_list coded_ℕ)))
+    (λ e. (e.values, (e.nodes, e.freed)))
+    (λ p. record { values = p.0; nodes = p.1.0; freed = p.1.1 })
+    (λ _. refl)
 
 abbrev pub table_code : {V : Type 0} → Coded V → Coded (Table V)
 table_code {V} code =
-    code_by (Entries V × (ℕ × ℕ)) (coded× (entries_code code) (coded× coded_ℕ coded_ℕ)) (λ t. (t.entries, (t.capacity, t.room))) (λ p. record { entries = p.0; capacity = p.1.0; room = p.1.1 }) (λ _. refl)
+    code_by
+    (Entries V × (ℕ × ℕ))
+    (coded× (entries_code code) (coded× coded_ℕ coded_ℕ))
+    (λ t. (t.entries, (t.capacity, t.room)))
+    (λ p. record { entries = p.0; capacity = p.1.0; room = p.1.1 })
+    (λ _. refl)
 
 module _ {V : Type 0} where
   -- the value of a number, if it has one

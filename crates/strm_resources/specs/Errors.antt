@@ -4,6 +4,7 @@ use Rattle.std.specs.Prelude.{ℕ, List, codes, Option, Some, None, Result, Ok, 
 use Rattle.strm_resources.specs.declared.errors.ResourceTableError.{ResourceTableError}
 use Rattle.strm_resources.specs.declared.errors.ResourceTableError.TheVariants.{Full, NotPresent, WrongType, HasChildren, HasParent, NotChild, OutOfMemory}
 
+-- the text of an error
 abbrev pub error_text : ResourceTableError → List ℕ
 error_text Full = codes "resource table has no free keys"
 error_text NotPresent = codes "resource not present"

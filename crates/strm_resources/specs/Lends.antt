@@ -10,11 +10,11 @@ module _ {V : Type 0} where
   abbrev pub written : Table V → ℕ → V → Table V
   written t number value = record t { entries = with_value t.entries number value }
 
-module _ (V : RattleType) (resident : Ghosts V.Denot) (s : MutBor (Table V.Denot)) (number : ℕ) where
+module _ (V : RattleType) (kinds : Ghosts V.Denot) (s : MutBor (Table V.Denot)) (number : ℕ) where
   -- once the borrow r ends, the number has the last value written through r, and all else stays
   abbrev pub lends_value : MutBor V.Denot → Fml
-  lends_value r = Lends (the_row V resident) V s r (written s.now number)
+  lends_value r = Lends (the_row V kinds) V s r (written s.now number)
 
   -- the same where the call answers r, and after a refusal the table is as it was
   abbrev pub lends_found : {E : Type 0} → Result (MutBor V.Denot) E → Fml
-  lends_found r = LendsIfOk (the_row V resident) V s r (written s.now number) s.now
+  lends_found r = LendsIfOk (the_row V kinds) V s r (written s.now number) s.now

@@ -16,7 +16,12 @@ pub record Links : Type 0 where
 -- links are stored as the tuple of their fields
 abbrev pub links_code : Coded Links
 links_code =
-    code_by (List (Option Node) × (List ℕ × ℕ)) (coded× (coded_list (coded_option node_code)) (coded× (coded_list coded_ℕ) coded_ℕ)) (λ l. (l.nodes, (l.freed, l.room))) (λ p. record { nodes = p.0; freed = p.1.0; room = p.1.1 }) (λ _. refl)
+    code_by
+    (List (Option Node) × (List ℕ × ℕ))
+    (coded× (coded_list (coded_option node_code)) (coded× (coded_list coded_ℕ) coded_ℕ))
+    (λ l. (l.nodes, (l.freed, l.room)))
+    (λ p. record { nodes = p.0; freed = p.1.0; room = p.1.1 })
+    (λ _. refl)
 
 -- the number is among these
 abbrev pub is_among : List ℕ → ℕ → Bool

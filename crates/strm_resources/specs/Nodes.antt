@@ -17,12 +17,18 @@ pub record Node : Type 0 where
 -- a node is stored as the pair of its fields
 abbrev pub node_code : Coded Node
 node_code =
-    code_by (Option ℕ × Numbers) (coded× (coded_option coded_ℕ) (set.code coded_ℕ)) (λ n. (n.parent, n.children)) (λ p. record { parent = p.0; children = p.1 }) (λ _. refl)
+    code_by
+    (Option ℕ × Numbers)
+    (coded× (coded_option coded_ℕ) (set.code coded_ℕ))
+    (λ n. (n.parent, n.children))
+    (λ p. record { parent = p.0; children = p.1 })
+    (λ _. refl)
 
 -- the node of a number, if it has one
 abbrev pub node_at : List (Option Node) → ℕ → Option Node
 node_at nodes number = slice_index_or nodes number None
 
+-- the children of a node; none where there is no node
 abbrev pub children_of : Option Node → Numbers
 children_of None = set.empty
 children_of (Some node) = node.children
@@ -43,12 +49,15 @@ is_childless children = nat_eq (set.len children) 0
 abbrev pub new_node : Option ℕ → Node
 new_node parent = record { parent = parent; children = set.empty }
 
+-- the node with this parent, or with none
 abbrev pub with_parent : Option ℕ → Node → Node
 with_parent parent node = record node { parent = parent }
 
+-- the node with one child more
 abbrev pub with_child : ℕ → Node → Node
 with_child child node = record node { children = set.insert node.children child }
 
+-- the node with one child less
 abbrev pub without_child : ℕ → Node → Node
 without_child child node = record node { children = set.remove node.children child }
 
@@ -58,17 +67,20 @@ changed change nodes number = slice_set nodes number (option_map change (node_at
 
 -- the child has its parent, and the parent has its child
 abbrev pub linked : List (Option Node) → ℕ → ℕ → List (Option Node)
-linked nodes child parent = changed (with_parent (Some parent)) (changed (with_child child) nodes parent) child
+linked nodes child parent =
+    changed (with_parent (Some parent)) (changed (with_child child) nodes parent) child
 
 -- the child has no parent, and the parent has not this child
 abbrev pub unlinked : List (Option Node) → ℕ → ℕ → List (Option Node)
-unlinked nodes child parent = changed (with_parent None) (changed (without_child child) nodes parent) child
+unlinked nodes child parent =
+    changed (with_parent None) (changed (without_child child) nodes parent) child
 
--- without the link to the parent, where there is one
+-- the nodes without the link from this child to that parent, where there is one
 abbrev pub cut_from : List (Option Node) → ℕ → Option ℕ → List (Option Node)
 cut_from nodes child None = nodes
 cut_from nodes child (Some parent) = unlinked nodes child parent
 
+-- the nodes, with one of them cut off from its parent
 abbrev pub cut : List (Option Node) → ℕ → List (Option Node)
 cut nodes child = cut_from nodes child (parent_at nodes child)
 
@@ -85,4 +97,5 @@ filled (number ∷ freed) slots x = slice_set slots number (Some x)
 -- the nodes, with the next number given as a child
 abbrev pub with_new_child : List ℕ → List (Option Node) → ℕ → List (Option Node)
 with_new_child freed nodes parent =
-    filled freed (changed (with_child (next_of freed (length nodes))) nodes parent) (new_node (Some parent))
+    let next = next_of freed (length nodes) in
+    filled freed (changed (with_child next) nodes parent) (new_node (Some parent))

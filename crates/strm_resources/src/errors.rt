@@ -1,7 +1,7 @@
 //! Why a call of a resource table did not do what was asked.
 //!
-//! Source: wasmtime, `resource_table.rs`, `ResourceTableError`; the last three are ours, in place of
-//! assertions and of an abort.
+//! Source: wasmtime, `resource_table.rs`, `ResourceTableError`. The last three are ours, in place
+//! of assertions and of an abort.
 
 ghost use Rattle.std.specs.Prelude.{◌≡◌, Some};
 ghost use Rattle.strm_resources.specs.Errors.{error_text};
@@ -11,7 +11,7 @@ use std::alloc::AllocError;
 use std::error::Error;
 use std::fmt;
 
-/// An error of a resource table. All but want of memory are refusals, and a refusal changes nothing.
+/// An error of a resource table. All but want of memory are refusals, which change nothing.
 #[derive(Clone, Copy, Debug, PartialEq, Eq)]
 pub enum ResourceTableError {
     /// No number is free, and none can be added.

@@ -3,7 +3,7 @@
 //! Source: wasmtime, `resource_table.rs`, `ResourceTable`, which threads the free entries; here a
 //! stack of their numbers stands beside the entries.
 
-ghost use Rattle.std.specs.Prelude.{◌≡◌, ◌≢◌, ℕ, ◌+◌, ◌<◌, ◌≤◌, [], ◌∷◌, length, drop, reverse, true, false, is_some, IfSome, Some, None, OnOk, OnErr, IfOk, IsOk, slice_set, option_copied, vec_len, vec_capacity};
+ghost use Rattle.std.specs.Prelude.{◌≡◌, ◌≢◌, ◌+◌, ◌<◌, ◌≤◌, [], ◌∷◌, length, drop, reverse, true, false, is_some, IfSome, Some, None, OnOk, OnErr, IfOk, IsOk, slice_set, option_copied, vec_len, vec_capacity};
 ghost use Rattle.strm_resources.specs.Nodes.{new_node, with_new_child, node_at, parent_at, children_at, is_childless, linked, unlinked, cut, next_of, filled};
 ghost use Rattle.strm_resources.specs.Links.{none_freed, is_full, AreKept};
 ghost use Rattle.strm_resources.specs.Numbers.{numbers_from, Lists};
@@ -18,7 +18,7 @@ use std::marker::Model;
 #[derive(Drop)]
 pub(crate) struct Links {
     nodes: Vec<Option<Node>>,
-    // The numbers of the vacant nodes, the one freed last at the end. There is room for all numbers.
+    // The numbers of the vacant nodes, the one freed last at the end. All numbers have room here.
     freed: Vec<u32>,
     alloc: Global,
 }
@@ -42,13 +42,15 @@ impl Model for Links {
 
 // Fills the slot of the number freed last, else a new one.
 fn fill(nodes: &mut Vec<Option<Node>>, freed: &mut Vec<u32>, node: Node) -> u32
-    requires inside { freed.old.items ≢ [] → next_of (reverse freed.old.items) (length nodes.old.items) < vec_len nodes.old }
+    requires inside { freed.old.items ≢ []
+        → next_of (reverse freed.old.items) (length nodes.old.items) < vec_len nodes.old }
     requires small { next_of (reverse freed.old.items) (length nodes.old.items) ≤ 4294967295 }
     requires room { freed.old.items ≡ [] → vec_len nodes.old < vec_capacity nodes.old }
     ensures number { result ≡ next_of (reverse freed.old.items) (length nodes.old.items) }
     ensures nodes { nodes.new.items ≡ filled (reverse freed.old.items) nodes.old.items node }
     ensures freed { reverse freed.new.items ≡ drop 1 (reverse freed.old.items) }
-    ensures count { vec_len nodes.new + vec_len freed.old ≡ vec_len nodes.old + vec_len freed.new + 1 }
+    ensures count { vec_len nodes.new + vec_len freed.old
+        ≡ vec_len nodes.old + vec_len freed.new + 1 }
     ensures capacity { vec_capacity nodes.new ≡ vec_capacity nodes.old }
     ensures freed_capacity { vec_capacity freed.new ≡ vec_capacity freed.old }
 {
@@ -160,7 +162,8 @@ impl Links {
     /// Whether no number can be given where so many may be.
     pub(crate) fn is_full(&self, capacity: usize) -> bool
         ensures exact { result ≡ is_full self.now.freed (length self.now.nodes) capacity }
-        ensures small { result ≡ false → next_of self.now.freed (length self.now.nodes) ≤ 4294967295 }
+        ensures small { result ≡ false
+            → next_of self.now.freed (length self.now.nodes) ≤ 4294967295 }
     {
         self.freed.is_empty()
             && (self.nodes.len() >= capacity || self.nodes.len() > u32::MAX as usize)
@@ -257,7 +260,8 @@ impl Links {
         requires parent { is_some (node_at self.old.nodes parent) ≡ true }
         ensures number { IfOk result (λ n. n ≡ next_of self.old.freed (length self.old.nodes)) }
         ensures inside { IfOk result (λ n. self.old.freed ≢ [] → n < length self.old.nodes) }
-        ensures nodes { OnOk result (self.new.nodes ≡ with_new_child self.old.freed self.old.nodes parent) }
+        ensures nodes { OnOk result
+            (self.new.nodes ≡ with_new_child self.old.freed self.old.nodes parent) }
         ensures freed { OnOk result (self.new.freed ≡ drop 1 self.old.freed) }
         ensures room { OnOk result (self.new.room + 1 ≡ self.old.room) }
         ensures err { OnErr result (self.new ≡ self.old) }

@@ -3,7 +3,7 @@
 //! Source: wasmtime, `resource_table.rs`, `TableEntry`.
 
 ghost use Rattle.std.specs.Prelude.{◌≡◌, Some, OnOk, OnErr, option_map};
-ghost use Rattle.strm_resources.specs.Nodes.{is_childless, children_of, new_node, with_parent, with_child, without_child};
+ghost use Rattle.strm_resources.specs.Nodes.{is_childless, new_node, with_parent, with_child, without_child};
 ghost use Rattle.strm_resources.specs.Numbers.{Lists};
 
 use crate::walks::Children;
@@ -26,7 +26,10 @@ impl Model for Node {
 
     ghost coded = { node_code };
 
-    ghost view = { λ node. record { parent = node.parent; children = from_list node.children.keys } };
+    ghost view = { λ node. record {
+      parent = node.parent;
+      children = from_list node.children.keys;
+    } };
 }
 
 impl Node {

@@ -2,7 +2,7 @@
 //!
 //! Source: wasmtime, `resource_table.rs`, `ResourceTable`.
 
-ghost use Rattle.std.specs.Prelude.{◌≡◌, ◌≢◌, ℕ, ◌+◌, ◌<◌, ◌≤◌, ◌==◌, ◌↔◌, if◌then◌else◌, [], ◌∷◌, ◌++◌, map, length, true, false, is_some, Some, None, Ok, Err, IsTrue, IsSome, IfSome, IsOk, IfOk, OnOk, OnErr, slice_set, option_copied, vec_len, vec_capacity};
+ghost use Rattle.std.specs.Prelude.{◌≡◌, ◌≢◌, ℕ, ◌+◌, ◌<◌, ◌≤◌, ◌==◌, ◌↔◌, if◌then◌else◌, [], ◌∷◌, ◌++◌, map, length, true, is_some, Some, None, Ok, Err, IsTrue, IsSome, IfOk, OnOk, OnErr, slice_set, option_copied, vec_len, vec_capacity};
 ghost use Rattle.std.specs.Borrow.{sem};
 ghost use Rattle.std.specs.Result.{result_err};
 ghost use Rattle.std.specs.List.Sorted.{IsStrictlyIncreasing};
@@ -203,8 +203,10 @@ impl<V: Resident> ResourceTable<V> {
         child: &Resource<T>,
         parent: &Resource<U>,
     ) -> Result<(), ResourceTableError>
-        ensures ok { OnOk result (self.new.entries ≡ child_removed self.old.entries child.now parent.now) }
-        ensures refused { result_err result ≡ remove_child_refusal self.old.entries child.now parent.now }
+        ensures ok { OnOk result
+            (self.new.entries ≡ child_removed self.old.entries child.now parent.now) }
+        ensures refused { result_err result
+            ≡ remove_child_refusal self.old.entries child.now parent.now }
         ensures takes_no_memory { result ≢ Err OutOfMemory }
         ensures capacity { self.new.capacity ≡ self.old.capacity }
         ensures room { self.new.room ≡ self.old.room }
@@ -230,8 +232,10 @@ impl<V: Resident> ResourceTable<V> {
         child: &Resource<T>,
         parent: &Resource<U>,
     ) -> Result<(), ResourceTableError>
-        ensures ok { OnOk result (self.new.entries ≡ child_added self.old.entries child.now parent.now) }
-        ensures refused { refusal_of result ≡ add_child_refusal self.old.entries child.now parent.now }
+        ensures ok { OnOk result
+            (self.new.entries ≡ child_added self.old.entries child.now parent.now) }
+        ensures refused { refusal_of result
+            ≡ add_child_refusal self.old.entries child.now parent.now }
         ensures capacity { self.new.capacity ≡ self.old.capacity }
         ensures room { self.new.room ≡ self.old.room }
         ensures err { OnErr result (self.new ≡ self.old) }
@@ -292,7 +296,8 @@ impl<V: Resident> ResourceTable<V> {
         V: Drop,
         requires { V.kind value ≡ T.kind }
         ensures number { IfOk result (λ key. key ≡ next_number self.old.entries) }
-        ensures ok { OnOk result (self.new.entries ≡ pushed_child self.old.entries value parent.now) }
+        ensures ok { OnOk result
+            (self.new.entries ≡ pushed_child self.old.entries value parent.now) }
         ensures refused { refusal_of result ≡ push_child_refusal self.old parent.now }
         ensures capacity { self.new.capacity ≡ self.old.capacity }
         ensures err { OnErr result (self.new.entries ≡ self.old.entries) }
@@ -339,7 +344,8 @@ impl<V: Resident> ResourceTable<V> {
 /// given again has no value.
 pub fn links_have_both_ends<V: Resident>(table: &ResourceTable<V>)
     ensures well_kept { IsWellKept table.now.entries }
-    ensures links { (child parent : ℕ) → IsTrue (set.contains (children_of table.now.entries parent) child)
+    ensures links { (child parent : ℕ)
+        → IsTrue (set.contains (children_of table.now.entries parent) child)
         ↔ (parent_of table.now.entries child ≡ Some parent) }
     ensures freed { (number : ℕ) → IsTrue (is_among table.now.entries.freed number)
         → value_at table.now.entries number ≡ None }
