@@ -6,3 +6,4 @@ pub mod Items
 pub mod Codes
 pub mod Types
 pub mod Refusals
+pub mod Ids

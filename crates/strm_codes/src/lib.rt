@@ -4,7 +4,9 @@
 
 pub mod codes;
 pub mod counts;
+pub mod ids;
 pub mod payloads;
 pub mod refusals;
 pub mod scalars;
+pub mod vals;
 pub mod values;

@@ -1,0 +1,275 @@
+//! Ids of table entries and of resources, each seen by contracts as its number.
+//!
+//! Source: wasmtime, `table.rs`, `TableId` and `TableDebug`; `resource_table.rs`, `Resource`;
+//! `futures_and_streams.rs`, `TransmitHandle` and `TransmitState`, of which the names remain.
+
+ghost use Rattle.std.specs.Prelude.{◌≡◌, ◌==◌, codes, Some, ⊤};
+ghost use Rattle.std.proofs.Common.{rules};
+ghost use Rattle.std.specs.Hash as fed;
+ghost use Rattle.std.specs.Cmp.{partial_order_from_own_ties};
+ghost use Rattle.std.specs.Cmp.Rules.{comparing, hashing};
+ghost use Rattle.std.specs.Ordering.{nat_cmp, as_partial_cmp};
+ghost use Rattle.strm_codes.specs.Ids.{id_text};
+
+use std::alloc::AllocError;
+use std::cmp::Ordering;
+use std::fmt;
+use std::hash::{Hash, Hasher};
+use std::marker::{Model, PhantomData};
+
+/// A type with a name to print ids of it by.
+pub trait TableDebug {
+    ghost use Rattle.std.specs.Prelude.{List, ℕ};
+
+    // The bytes of `type_name`.
+    ghost name: { List ℕ };
+
+    fn type_name() -> &'static str
+        ensures { result.now ≡ name };
+}
+
+/// The type that the ids of a stream's or future's ends are ids of.
+pub struct TransmitHandle;
+
+impl TableDebug for TransmitHandle {
+    ghost name = { codes "TransmitHandle" };
+
+    fn type_name() -> &'static str {
+        "TransmitHandle"
+    }
+}
+
+/// The type that the ids of streams and futures are ids of.
+pub struct TransmitState;
+
+impl TableDebug for TransmitState {
+    ghost name = { codes "TransmitState" };
+
+    fn type_name() -> &'static str {
+        "TransmitState"
+    }
+}
+
+/// The number of a `T` in a table. It is compared, ordered and hashed by the number alone.
+pub struct TableId<T> {
+    rep: u32,
+    marker: PhantomData<T>,
+}
+
+impl<T> Model for TableId<T> {
+    ghost use Rattle.std.specs.Prelude.{ℕ};
+
+    ghost Value = { ℕ };
+
+    ghost view = { λ id. id.rep };
+
+    ghost inverse = { λ n. record { rep = n; marker = record {} } };
+}
+
+impl<T> TableId<T> {
+    /// The id of this number.
+    pub fn new(rep: u32) -> TableId<T>
+        ensures { result ≡ rep }
+    {
+        TableId {
+            rep,
+            marker: PhantomData,
+        }
+    }
+
+    /// The number.
+    pub fn rep(&self) -> u32
+        ensures { result ≡ self.now }
+    {
+        self.rep
+    }
+}
+
+impl<T> Clone for TableId<T> {
+    ghost is_clone = { λ id copy. copy ≡ id };
+
+    ghost is_infallible = { λ _. ⊤ };
+
+    fn clone(&self) -> Result<TableId<T>, AllocError> {
+        Ok(TableId::new(self.rep))
+    }
+}
+
+impl<T> Copy for TableId<T> {}
+
+impl<T> PartialEq for TableId<T> {
+    ghost eq = { ◌==◌ };
+
+    ghost laws = { Prim.search (comparing, rules) };
+
+    fn eq(&self, other: &TableId<T>) -> bool {
+        self.rep == other.rep
+    }
+}
+
+impl<T> Eq for TableId<T> {
+    ghost laws = { Prim.search (comparing, rules) };
+}
+
+impl<T> PartialOrd for TableId<T> {
+    ghost partial_cmp = { as_partial_cmp nat_cmp };
+
+    ghost laws = { Prim.search (comparing, rules) };
+
+    fn partial_cmp(&self, other: &TableId<T>) -> Option<Ordering> {
+        Some(self.cmp(other))
+    }
+}
+
+impl<T> Ord for TableId<T> {
+    ghost cmp = { nat_cmp };
+
+    ghost total = { Prim.search (comparing, rules) };
+
+    ghost matches_partial_cmp = { Prim.search (comparing, rules) };
+
+    ghost matches_eq = { Prim.search (comparing, rules) };
+
+    fn cmp(&self, other: &TableId<T>) -> Ordering {
+        self.rep.cmp(&other.rep)
+    }
+}
+
+impl<T> Hash for TableId<T> {
+    ghost hash_input = { fed.u32 };
+
+    ghost respects_eq = { Prim.search (hashing, rules) };
+
+    fn hash<H: Hasher>(&self, state: &mut H) {
+        self.rep.hash(state);
+    }
+}
+
+impl<T: TableDebug> fmt::Debug for TableId<T> {
+    ghost debug_output = { λ id. Some (id_text T.name id) };
+
+    fn fmt<W: fmt::Write>(&self, f: &mut fmt::Formatter<W>) -> fmt::Result {
+        let name = T::type_name();
+        let rep = self.rep;
+        write!(f, "{name}({rep})")
+    }
+}
+
+impl<T> From<Resource<T>> for TableId<T> {
+    ghost from_gives = { λ resource id. id ≡ resource };
+
+    fn from(resource: Resource<T>) -> TableId<T> {
+        TableId::new(resource.rep())
+    }
+}
+
+/// An owned resource of type `T`: its number in a resource table.
+pub struct Resource<T> {
+    rep: u32,
+    marker: PhantomData<T>,
+}
+
+impl<T> Model for Resource<T> {
+    ghost use Rattle.std.specs.Prelude.{ℕ};
+
+    ghost Value = { ℕ };
+
+    ghost view = { λ resource. resource.rep };
+
+    ghost inverse = { λ n. record { rep = n; marker = record {} } };
+}
+
+impl<T> Drop for Resource<T> {
+    fn drop(self) {
+        let Resource { rep: _, marker: _ } = self;
+    }
+}
+
+impl<T> Resource<T> {
+    /// The owned resource of this number.
+    pub fn new_own(rep: u32) -> Resource<T>
+        ensures { result ≡ rep }
+    {
+        Resource {
+            rep,
+            marker: PhantomData,
+        }
+    }
+
+    /// The number.
+    pub fn rep(&self) -> u32
+        ensures { result ≡ self.now }
+    {
+        self.rep
+    }
+}
+
+impl<T> From<TableId<T>> for Resource<T> {
+    ghost from_gives = { λ id resource. resource ≡ id };
+
+    fn from(id: TableId<T>) -> Resource<T> {
+        Resource::new_own(id.rep())
+    }
+}
+
+#[cfg(test)]
+mod tests {
+    use super::*;
+    use std::hash::DefaultHasher;
+    use std::test::Fail;
+
+    fn hash_of<T: Hash>(value: &T) -> u64 {
+        let mut state = DefaultHasher::new();
+        value.hash(&mut state);
+        state.finish()
+    }
+
+    fn compare<T: Ord + Copy>(a: &T, b: &T) -> (bool, Option<Ordering>, Ordering) {
+        (a == b, a.partial_cmp(b), a.cmp(b))
+    }
+
+    #[test]
+    fn ids_print_name_and_number(rt: HostRuntime) -> Result<(), Fail> {
+        let handle: TableId<TransmitHandle> = TableId::new(5);
+        let state: TableId<TransmitState> = TableId::new(4294967295);
+        let texts = [
+            (format!(in rt.alloc(); "{handle:?}")?, "TransmitHandle(5)"),
+            (
+                format!(in rt.alloc(); "{state:?}")?,
+                "TransmitState(4294967295)",
+            ),
+        ];
+        for (text, expected) in &texts {
+            assert_eq!(rt; text.as_str(), *expected);
+        }
+        Ok(())
+    }
+
+    // Of a type with no traits at all.
+    struct Bare;
+
+    #[test]
+    fn ids_are_their_numbers(rt: HostRuntime) -> Result<(), Fail> {
+        let two: TableId<Bare> = TableId::new(2);
+        let copy = two;
+        let clone = two.clone()?;
+        let ten: TableId<Bare> = TableId::new(10);
+        assert_eq!(rt; two.rep(), 2);
+        assert_eq!(rt;
+            compare(&copy, &clone),
+            (true, Some(Ordering::Equal), Ordering::Equal)
+        );
+        assert_eq!(rt;
+            compare(&two, &ten),
+            (false, Some(Ordering::Less), Ordering::Less)
+        );
+        assert_eq!(rt; hash_of(&two), hash_of(&TableId::<Bare>::new(2)));
+        assert!(rt; hash_of(&two) != hash_of(&ten));
+
+        let resource: Resource<Bare> = ten.into();
+        assert_eq!(rt; resource.rep(), 10);
+        assert_eq!(rt; TableId::from(resource).rep(), 10);
+        assert_eq!(rt; Resource::<Bare>::new_own(3).rep(), 3);
+        Ok(())
+    }
+}
