@@ -1,0 +1,10 @@
+//! The session: bytes in, lines, a run, text, bytes out.
+//!
+//! A source and a sink count their faults, so that a fault is told only where one rose. Lines are
+//! read as the steps that they spell, and replies are written as lines.
+#![tactic(auto)]
+
+pub mod in_memory;
+pub mod lists;
+pub mod ports;
+pub mod standard;
