@@ -1,2 +1,6 @@
 pub mod Faults
 pub mod InMemory
+pub mod Words
+pub mod Grammar
+pub mod Lines
+pub mod Reading

@@ -5,6 +5,9 @@
 #![tactic(auto)]
 
 pub mod in_memory;
+mod lines;
 pub mod lists;
+pub mod parsing;
 pub mod ports;
 pub mod standard;
+mod words;
