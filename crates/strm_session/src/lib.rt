@@ -10,4 +10,6 @@ pub mod lists;
 pub mod parsing;
 pub mod ports;
 pub mod standard;
+pub mod texts;
+pub mod whole;
 mod words;
