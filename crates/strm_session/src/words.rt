@@ -2,7 +2,7 @@
 //!
 //! Source: ours.
 
-ghost use Rattle.std.specs.Prelude.{◌≡◌, ◌%◌, ◌≤◌, ◌<◌, length, IfSome};
+ghost use Rattle.std.specs.Prelude.{◌≡◌, ◌%◌, ◌≤◌, ◌<◌, length, Some, None};
 ghost use Rattle.std.specs.Option.{option_map};
 ghost use Rattle.strm_session.specs.Reading.{cut_at, leading, number, number_within, nibble, pairs_from, hex, type_of};
 
@@ -92,34 +92,37 @@ pub(crate) fn leading_type(line: &[u8]) -> Option<(TransmitIndex, &[u8])>
     Some((ty, rest))
 }
 
-// What a lower-case hexadecimal digit stands for.
-fn nibble(byte: u8) -> Option<u8>
-    ensures exact { result ≡ nibble byte }
-    ensures small { IfSome result (λ n. n < 16) }
+// What a lower-case hexadecimal digit stands for, and 16 for any other byte.
+fn nibble(byte: u8) -> u8
+    ensures most { result ≤ 16 }
+    ensures digit { result < 16 → nibble byte ≡ Some result }
+    ensures other { 16 ≤ result → nibble byte ≡ None }
 {
     match byte {
-        b'0'..=b'9' => Some(byte - b'0'),
-        b'a'..=b'f' => Some(byte - b'a' + 10),
-        _ => None,
+        b'0'..=b'9' => byte - b'0',
+        b'a'..=b'f' => byte - b'a' + 10,
+        _ => 16,
     }
 }
 
-// The bytes that pairs of lower-case hexadecimal digits stand for.
+// The bytes that pairs of lower-case hexadecimal digits stand for. Other bytes are looked for once,
+// at the end, so that the loop has no branch that depends on the digits.
 fn pairs(word: &[u8]) -> Option<Chunk>
     requires few { length word.now ≤ 128 }
     requires even { length word.now % 2 ≡ 0 }
     ensures { result ≡ pairs_from word.now }
 {
     let mut bytes = [0u8; 64];
+    let mut worst = 0u8;
     let len = word.len() / 2;
     for k in 0..len {
-        let Some(high) = nibble(word[2 * k]) else {
-            return None;
-        };
-        let Some(low) = nibble(word[2 * k + 1]) else {
-            return None;
-        };
-        bytes[k] = 16 * high + low;
+        let high = nibble(word[2 * k]);
+        let low = nibble(word[2 * k + 1]);
+        worst = worst.max(high).max(low);
+        bytes[k] = high % 16 * 16 + low % 16;
+    }
+    if worst > 15 {
+        return None;
     }
     Chunk::new(&bytes[..len])
 }

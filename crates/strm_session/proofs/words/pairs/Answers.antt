@@ -1,21 +1,35 @@
-use Rattle.std.proofs.Common.{◌≡◌, ◌∙◌, ℕ, ◌+◌, ◌*◌, ◌/◌, ◌≤◌, List, length, take, Option, Some, None, IsSome, IfSome, sym, ap, arith, length-set, length-take-le}
+use Rattle.std.proofs.Common.{◌%◌, ◌<◌, inl, inr, ◌≡◌, ◌∙◌, ℕ, ◌+◌, ◌*◌, ◌/◌, ◌≤◌, List, length, take, Option, Some, None, IsSome, IfSome, sym, ap, arith, length-set, length-take-le}
+use Rattle.std.proofs.lemmas.Bool.{cases_lt}
 use Rattle.std.proofs.lemmas.List.{take_more_set}
 use Rattle.strm_session.proofs.HexLemmas.{pairs_more, pairs_bad_high, pairs_bad_low, pairs_end}
 use Rattle.strm_session.proofs.words.pairs.Goals as goal
 
-pub returns-in_default : goal.returns-in_default
-returns-in_default c = sym (pairs_bad_high c.args.word.now c.loop-k.k (take c.loop-k.k c.loop-k.bytes) (omega arith) c.in_default.ensures.exact) ∙ c.loop-k.invariant.rest
-
-pub returns-in_default-nibble : goal.returns-in_default-nibble
-returns-in_default-nibble c = sym (pairs_bad_low c.args.word.now c.loop-k.k (take c.loop-k.k c.loop-k.bytes) c.in-Some.high (omega arith) c.in-Some.ensures.exact c.in_default-nibble.ensures.exact) ∙ c.loop-k.invariant.rest
-
 pub loop-k-preserved : goal.loop-k-preserved
-loop-k-preserved c = record {
-  whole = length-set c.loop-k.bytes c.loop-k.k (16 * c.in-Some.high + c.in-Some-nibble.low) ∙ c.loop-k.invariant.whole;
-  rest =
-      rw (take_more_set c.loop-k.bytes c.loop-k.k (16 * c.in-Some.high + c.in-Some-nibble.low) (omega arith))
-      (pairs_more c.args.word.now c.loop-k.k (take c.loop-k.k c.loop-k.bytes) c.in-Some.high c.in-Some-nibble.low (omega arith) c.in-Some.ensures.exact c.in-Some-nibble.ensures.exact) ∙ c.loop-k.invariant.rest;
-}
+loop-k-preserved c =
+    let word = c.args.word.now in
+    let k = c.loop-k.k in
+    let bytes = c.loop-k.bytes in
+    let high = c.nibble-high.result in
+    let low = c.nibble-low.result in
+    let byte = high % 16 * 16 + low % 16 in
+    let inside : 2 * k + 1 < length word = omega arith in
+    let first = c.nibble-high.ensures in
+    let second = c.nibble-low.ensures in
+    record {
+      whole = length-set bytes k byte ∙ c.loop-k.invariant.whole;
+      good = λ h.
+          let same : byte ≡ 16 * high + low = omega arith in
+          rw (take_more_set bytes k byte (omega arith), same)
+          (pairs_more word k (take k bytes) high low inside (sym (first.digit (omega arith))) (sym (second.digit (omega arith)))) ∙ c.loop-k.invariant.good (omega arith);
+      bad = λ h.
+          elim (cases_lt c.loop-k.worst 16) [
+            | inr w ↦ c.loop-k.invariant.bad w
+            | inl w ↦ elim (cases_lt high 16) [
+              | inr a ↦ sym (c.loop-k.invariant.good w) ∙ pairs_bad_high word k (take k bytes) inside (sym (first.other a))
+              | inl a ↦ sym (c.loop-k.invariant.good w) ∙ pairs_bad_low word k (take k bytes) high inside (sym (first.digit a)) (sym (second.other (omega arith)))
+            ]
+          ];
+    }
 
 -- what holds these bytes, if it can hold them
 made : (o : Option (List ℕ)) (bytes : List ℕ) → (length bytes ≤ 64 → IsSome o) → IfSome o (λ chunk. chunk ≡ bytes) → length bytes ≤ 64 → o ≡ Some bytes
@@ -31,4 +45,4 @@ returns c =
     made c.new.result _ c.new.ensures.some.1 c.new.ensures.value most
     ∙ sym (ap (λ n. Some (take n c.loop-k.bytes)) end)
     ∙ sym (pairs_end word k (take k c.loop-k.bytes) (omega arith))
-    ∙ c.loop-k.invariant.rest
+    ∙ c.loop-k.invariant.good (omega arith)
