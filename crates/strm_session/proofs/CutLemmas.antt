@@ -1,5 +1,5 @@
 -- What is cut off at a byte, in a loop over the bytes and as a whole.
-use Rattle.std.proofs.Common.{◌≡◌, ◌≢◌, ℕ, ◌+◌, ◌<◌, ◌≤◌, List, [], ◌∷◌, ◌++◌, length, take, drop, get_or, Option, Some, None, refl, sym, ap, append_assoc, arith, eq-eqb, inl, inr, length-append}
+use Rattle.std.proofs.Common.{◌≡◌, ◌≢◌, ℕ, zero, suc, ◌+◌, ◌<◌, ◌≤◌, List, [], ◌∷◌, ◌++◌, length, take, drop, get_or, Option, Some, None, refl, sym, ap, append_assoc, arith, eq-eqb, inl, inr, length-append}
 use Rattle.std.specs.Option.{option_map}
 use Rattle.std.proofs.lemmas.List.{drop_more, drop_all, take_more, append-nil}
 use Rattle.std.proofs.lemmas.Bool.{ne_eqb}
@@ -56,3 +56,17 @@ cut_complete c (x ∷ a) b h = rw (ne_eqb x c h.0, cut_complete c a b h.1) refl
 -- what comes after the byte is shorter
 pub cut-shorter : (c : ℕ) (bytes : List ℕ) (p : List ℕ × List ℕ) → cut_at c bytes ≡ Some p → length p.1 < length bytes
 cut-shorter c bytes p e = omega (arith, ap length (cut_sound c bytes p e), length-append p.0 (c ∷ p.1))
+
+-- the first such byte is where the bytes are cut
+pub cut-first : (c : ℕ) (bytes : List ℕ) (k : ℕ) → k < length bytes → get_or bytes k 0 ≡ c → ((j : ℕ) → j < k → get_or bytes j 0 ≢ c) → cut_at c bytes ≡ Some (take k bytes, drop (k + 1) bytes)
+unfolding cut_at
+cut-first c [] k h e f = absurd (omega arith)
+cut-first c (x ∷ bytes) zero h e f = rw (e, eq-eqb c c refl) refl
+cut-first c (x ∷ bytes) (suc k) h e f =
+    let n : suc k + 1 ≡ suc (k + 1) = omega arith in
+    rw (ne_eqb x c (f 0 (omega arith)), cut-first c bytes k (omega arith) e (λ j i. f (suc j) (omega arith)), n) refl
+
+pub cut-nowhere : (c : ℕ) (bytes : List ℕ) → ((j : ℕ) → j < length bytes → get_or bytes j 0 ≢ c) → cut_at c bytes ≡ None
+unfolding cut_at
+cut-nowhere c [] f = refl
+cut-nowhere c (x ∷ bytes) f = rw (ne_eqb x c (f 0 (omega arith)), cut-nowhere c bytes (λ j i. f (suc j) (omega arith))) refl

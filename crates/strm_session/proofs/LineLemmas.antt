@@ -11,7 +11,8 @@ use Rattle.std.proofs.lemmas.Option.{slice_get-get_or}
 use Rattle.strm_machine.specs.declared.steps.Step.{Step}
 use Rattle.strm_session.specs.declared.parsing.ParseError.{ParseError}
 use Rattle.strm_session.specs.declared.parsing.ParseError.TheVariants as error
-use Rattle.strm_session.specs.Grammar.{spelling, HasLine, IsPlain}
+use Rattle.strm_session.specs.Plain.{IsPlain}
+use Rattle.strm_session.specs.Grammar.{spelling, HasLine}
 use Rattle.strm_session.specs.Lines.{on_first, lines_of, Spells, IsFirstBad}
 use Rattle.strm_session.specs.Reading.{cut_at, step_of}
 use Rattle.strm_session.proofs.CutLemmas.{option_map_some}

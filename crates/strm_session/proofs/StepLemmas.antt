@@ -9,7 +9,8 @@ use Rattle.strm_codes.specs.declared.codes.TransmitIndex.{TransmitIndex}
 use Rattle.strm_machine.specs.declared.steps.Step.{Step}
 use Rattle.strm_machine.specs.declared.steps.Step.TheVariants.{Guest, Between, Write, Read, Poke, Dump}
 use Rattle.strm_session.specs.Words.{hex_pairs, type_word}
-use Rattle.strm_session.specs.Grammar.{spelling, HasLine, IsPlain, IsU32, IsWithin, IsLineBytes, IsByteStream}
+use Rattle.strm_session.specs.Plain.{IsPlain}
+use Rattle.strm_session.specs.Grammar.{spelling, HasLine, IsU32, IsWithin, IsLineBytes, IsByteStream}
 use Rattle.strm_session.specs.Reading.{cut_at, followed_by, number, number_within, hex, type_of, operands_of, guest_of, pair_of, write_of, read_of, poke_of, dump_of, step_with, step_of}
 use Rattle.strm_session.proofs.CutLemmas.{IsWithout, option_map_some, cut_sound, cut_complete}
 use Rattle.strm_session.proofs.ReadingLemmas.{IsReading, IsReading-number, IsWord-number, IsReading-within, IsReading-hex, IsReading-type, IsWord-type, IsReading-followed_by}

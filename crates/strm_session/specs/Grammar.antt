@@ -13,14 +13,24 @@ use Rattle.strm_session.specs.Words.{hex_pairs, type_word}
 abbrev pub words : List (List ℕ) → List ℕ
 words = join_with_byte 32
 
+-- the words behind `write` and `read`
+abbrev pub operands : ℕ → TransmitIndex → ℕ → ℕ → ℕ → List (List ℕ)
+operands guest ty handle address count =
+    decimal guest ∷ type_word ty ∷ decimal handle ∷ decimal address ∷ decimal count ∷ []
+
 -- the line of a step, without its line feed; numbers are decimal, without leading zeros
 abbrev pub spelling : Step → List ℕ
 spelling (Guest size) = words (codes "guest" ∷ decimal size ∷ [])
-spelling (Between writer reader ty) = words (codes "pair" ∷ decimal writer ∷ decimal reader ∷ type_word ty ∷ [])
-spelling (Write guest ty handle address count) = words (codes "write" ∷ decimal guest ∷ type_word ty ∷ decimal handle ∷ decimal address ∷ decimal count ∷ [])
-spelling (Read guest ty handle address count) = words (codes "read" ∷ decimal guest ∷ type_word ty ∷ decimal handle ∷ decimal address ∷ decimal count ∷ [])
-spelling (Poke guest address bytes) = words (codes "poke" ∷ decimal guest ∷ decimal address ∷ hex_pairs bytes ∷ [])
-spelling (Dump guest address len) = words (codes "dump" ∷ decimal guest ∷ decimal address ∷ decimal len ∷ [])
+spelling (Between writer reader ty) =
+    words (codes "pair" ∷ decimal writer ∷ decimal reader ∷ type_word ty ∷ [])
+spelling (Write guest ty handle address count) =
+    words (codes "write" ∷ operands guest ty handle address count)
+spelling (Read guest ty handle address count) =
+    words (codes "read" ∷ operands guest ty handle address count)
+spelling (Poke guest address bytes) =
+    words (codes "poke" ∷ decimal guest ∷ decimal address ∷ hex_pairs bytes ∷ [])
+spelling (Dump guest address len) =
+    words (codes "dump" ∷ decimal guest ∷ decimal address ∷ decimal len ∷ [])
 
 -- what a number of a line can be
 abbrev pub IsU32 : ℕ → Type 0
@@ -40,16 +50,17 @@ pub record IsLineBytes (bytes : List ℕ) : Type 0 where
 abbrev pub IsByteStream : TransmitIndex → Type 0
 IsByteStream ty = ty ≡ Stream (One U8)
 
+-- what `write` and `read` can name: 1 to 2^28 - 1 items
+abbrev pub AreOperands : ℕ → TransmitIndex → ℕ → ℕ → ℕ → Type 0
+AreOperands guest ty handle address count =
+    IsU32 guest × (IsByteStream ty × (IsU32 handle × (IsU32 address × IsWithin 1 268435455 count)))
+
 -- the steps that have a line
 abbrev pub HasLine : Step → Type 0
 HasLine (Guest size) = IsU32 size
-HasLine (Between writer reader ty) = (writer ≢ reader) × (IsU32 writer × (IsU32 reader × IsByteStream ty))
-HasLine (Write guest ty handle address count) = IsU32 guest × (IsByteStream ty × (IsU32 handle × (IsU32 address × IsWithin 1 268435455 count)))
-HasLine (Read guest ty handle address count) = IsU32 guest × (IsByteStream ty × (IsU32 handle × (IsU32 address × IsWithin 1 268435455 count)))
+HasLine (Between writer reader ty) =
+    (writer ≢ reader) × (IsU32 writer × (IsU32 reader × IsByteStream ty))
+HasLine (Write guest ty handle address count) = AreOperands guest ty handle address count
+HasLine (Read guest ty handle address count) = AreOperands guest ty handle address count
 HasLine (Poke guest address bytes) = IsU32 guest × (IsU32 address × IsLineBytes bytes)
 HasLine (Dump guest address len) = IsU32 guest × (IsU32 address × IsWithin 1 64 len)
-
--- what every step of a session is: a new stream carries bytes, from one guest to another
-abbrev pub IsPlain : Step → Type 0
-IsPlain (Between writer reader ty) = IsByteStream ty × (writer ≢ reader)
-IsPlain _ = Unit {0}

@@ -17,7 +17,8 @@ o >>= f = option_and_then f o
 -- what comes before and after the first byte c
 unfoldable pub cut_at : ℕ → List ℕ → Option (List ℕ × List ℕ)
 cut_at c [] = None
-cut_at c (b ∷ bytes) = if b == c then Some ([], bytes) else option_map (λ p. (b ∷ p.0, p.1)) (cut_at c bytes)
+cut_at c (b ∷ bytes) =
+    if b == c then Some ([], bytes) else option_map (λ p. (b ∷ p.0, p.1)) (cut_at c bytes)
 
 -- the first word, read in some way, and what follows its space
 unfoldable pub leading : {A : Type 0} → (List ℕ → Option A) → List ℕ → Option (A × List ℕ)
@@ -27,7 +28,8 @@ leading read line = do
   Some (x, parts.1)
 
 -- the first word read in one way, and what follows its space in another
-abbrev pub followed_by : {A B : Type 0} → (List ℕ → Option A) → (List ℕ → Option B) → List ℕ → Option (A × B)
+abbrev pub followed_by : {A B : Type 0} →
+    (List ℕ → Option A) → (List ℕ → Option B) → List ℕ → Option (A × B)
 followed_by first second line = do
   p ← leading first line
   y ← second p.1
@@ -39,7 +41,9 @@ is_digit c = nat_le 48 c && nat_le c 57
 -- the number that begins with n and goes on with these digits, below 2^32
 unfoldable pub digits_from : ℕ → List ℕ → Option ℕ
 digits_from n [] = Some n
-digits_from n (c ∷ cs) = if is_digit c && nat_lt (10 * n + (c - 48)) (2 ^ 32) then digits_from (10 * n + (c - 48)) cs else None
+digits_from n (c ∷ cs) =
+    if is_digit c && nat_lt (10 * n + (c - 48)) (2 ^ 32)
+    then digits_from (10 * n + (c - 48)) cs else None
 
 -- a number in decimal, without leading zeros
 unfoldable pub number : List ℕ → Option ℕ
@@ -54,7 +58,9 @@ number_within low high word = do
 
 -- what a lower-case hexadecimal digit stands for
 abbrev pub nibble : ℕ → Option ℕ
-nibble c = if is_digit c then Some (c - 48) else (if nat_le 97 c && nat_le c 102 then Some (c - 87) else None)
+nibble c =
+    if is_digit c then Some (c - 48)
+    else (if nat_le 97 c && nat_le c 102 then Some (c - 87) else None)
 
 -- the bytes that pairs of digits stand for
 unfoldable pub pairs_from : List ℕ → Option (List ℕ)
@@ -68,7 +74,9 @@ pairs_from (a ∷ b ∷ cs) = do
 
 -- 1 to 64 bytes
 unfoldable pub hex : List ℕ → Option (List ℕ)
-hex word = if (length word == 0) || nat_lt 128 (length word) || not (length word % 2 == 0) then None else pairs_from word
+hex word =
+    if (length word == 0) || nat_lt 128 (length word) || not (length word % 2 == 0)
+    then None else pairs_from word
 
 -- the one type that lines name
 unfoldable pub type_of : List ℕ → Option TransmitIndex
@@ -76,7 +84,9 @@ type_of word = if bytes_eq word (codes "stream:u8") then Some (Stream (One U8)) 
 
 -- the words behind `write` and `read`: guest, type, handle, address and count
 unfoldable pub operands_of : List ℕ → Option (ℕ × (TransmitIndex × (ℕ × (ℕ × ℕ))))
-operands_of rest = followed_by number (followed_by type_of (followed_by number (followed_by number (number_within 1 268435455)))) rest
+operands_of rest =
+    followed_by number (followed_by type_of
+    (followed_by number (followed_by number (number_within 1 268435455)))) rest
 
 unfoldable pub guest_of : List ℕ → Option Step
 guest_of rest = option_map Guest (number rest)
@@ -93,10 +103,13 @@ unfoldable pub read_of : List ℕ → Option Step
 read_of rest = option_map (λ v. Read v.0 v.1.0 v.1.1.0 v.1.1.1.0 v.1.1.1.1) (operands_of rest)
 
 unfoldable pub poke_of : List ℕ → Option Step
-poke_of rest = option_map (λ v. Poke v.0 v.1.0 v.1.1) (followed_by number (followed_by number hex) rest)
+poke_of rest =
+    option_map (λ v. Poke v.0 v.1.0 v.1.1) (followed_by number (followed_by number hex) rest)
 
 unfoldable pub dump_of : List ℕ → Option Step
-dump_of rest = option_map (λ v. Dump v.0 v.1.0 v.1.1) (followed_by number (followed_by number (number_within 1 64)) rest)
+dump_of rest =
+    option_map (λ v. Dump v.0 v.1.0 v.1.1)
+    (followed_by number (followed_by number (number_within 1 64)) rest)
 
 -- the step of a command and its arguments
 unfoldable pub step_with : List ℕ → List ℕ → Option Step

@@ -14,17 +14,22 @@ ended text = text ++ 10 ∷ []
 
 -- a word of 32 bits as eight hexadecimal digits, the highest first
 abbrev pub hex_word : ℕ → List ℕ
-hex_word n = hex_pair (n / 0x1000000) ++ hex_pair (n / 0x10000 % 0x100) ++ hex_pair (n / 0x100 % 0x100) ++ hex_pair (n % 0x100)
+hex_word n =
+    hex_pair (n / 0x1000000) ++ hex_pair (n / 0x10000 % 0x100)
+    ++ hex_pair (n / 0x100 % 0x100) ++ hex_pair (n % 0x100)
 
 -- the text of a reply; a run has no reply of the last two kinds
 abbrev pub reply_text : Reply → List ℕ
 reply_text Done = codes "ok"
 reply_text (Number n) = decimal n
-reply_text (Pair pair) = words (codes "read" ∷ decimal pair.read ∷ codes "write" ∷ decimal pair.write ∷ codes "stream" ∷ decimal pair.stream ∷ [])
+reply_text (Pair pair) =
+    words (codes "read" ∷ decimal pair.read ∷ codes "write" ∷ decimal pair.write
+    ∷ codes "stream" ∷ decimal pair.stream ∷ [])
 reply_text (Code code) = hex_word (word_of code)
 reply_text (Bytes bytes) = hex_pairs bytes
 reply_text (Refused refusal) = words (codes "refused" ∷ refusal_name refusal ∷ [])
-reply_text (BadItem stream) = words (codes "bad-item" ∷ codes "stream" ∷ decimal stream ∷ [])
+reply_text (BadItem stream) =
+    words (codes "bad-item" ∷ codes "stream" ∷ decimal stream ∷ [])
 reply_text StoreTrapped = codes "store-trapped"
 
 -- one line per reply
@@ -33,7 +38,8 @@ reply_lines replies = flat_map (λ reply. ended (reply_text reply)) replies
 
 -- what was received on a stream, in items
 abbrev pub stream_text : ℕ → ℕ → List ℕ
-stream_text stream moved = words (codes "stream" ∷ decimal stream ∷ codes "moved" ∷ decimal moved ∷ [])
+stream_text stream moved =
+    words (codes "stream" ∷ decimal stream ∷ codes "moved" ∷ decimal moved ∷ [])
 
 -- one line per stream, from this number on
 abbrev pub stream_lines : ℕ → List ℕ → List ℕ
@@ -46,7 +52,8 @@ done_text steps = words (codes "done" ∷ decimal steps ∷ [])
 
 -- the text of a run: its replies, what was received on each stream, the number of steps
 abbrev pub transcript_text : List Reply → List ℕ → List ℕ
-transcript_text replies moved = reply_lines replies ++ stream_lines 0 moved ++ ended (done_text (length replies))
+transcript_text replies moved =
+    reply_lines replies ++ stream_lines 0 moved ++ ended (done_text (length replies))
 
 -- what is written where the words of the program are none of its own
 abbrev pub usage_text : List ℕ

@@ -88,7 +88,7 @@ impl Source for BytesSource {
         requires { 0 < length out.old }
         ensures most { ReadsAtMost result out.new }
         ensures bytes { ReadConsumes (Some self.old.left) (Some self.new.left) result out.new }
-        ensures end { IfOk result (λ n. IfSome (Some self.old.left) (λ bytes. (n ≡ 0) ↔ (bytes ≡ []))) }
+        ensures end { IfOk result (λ n. (n ≡ 0) ↔ (self.old.left ≡ [])) }
         ensures later { self.old.faults ≤ self.new.faults }
         ensures failed { OnErr result (Rose self.old.faults self.new.faults) }
 

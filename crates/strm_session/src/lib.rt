@@ -10,6 +10,8 @@ pub mod lists;
 pub mod parsing;
 pub mod ports;
 pub mod standard;
+#[cfg(test)]
+mod tests;
 pub mod texts;
 pub mod whole;
 mod words;

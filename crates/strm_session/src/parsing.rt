@@ -4,13 +4,13 @@
 
 ghost use Rattle.std.specs.Prelude.{◌≡◌, ◌≢◌, ◌∷◌, ◌≤◌, ◌<◌, ◌↔◌, ◌==◌, ℕ, List, length, count_by, All, IfOk, MatchResult, Err};
 ghost use Rattle.strm_machine.specs.declared.steps.Step.{Step};
-ghost use Rattle.strm_session.specs.Grammar.{IsPlain};
+ghost use Rattle.strm_session.specs.Plain.{IsPlain};
 ghost use Rattle.strm_session.specs.Lines.{lines_of, Spells, IsFirstBad, IsTooLong};
 ghost use Rattle.strm_session.specs.declared.parsing.ParseError.TheVariants.{OutOfMemory as WantOfMemory};
 
 use crate::lines::step_of_line;
 use crate::lists::Steps;
-use crate::words::cut;
+use memchr::memchr;
 use std::alloc::Global;
 use strm_codes::counts::OutOfMemory;
 use thiserror::Error;
@@ -53,7 +53,8 @@ pub fn parse(alloc: Global, bytes: &[u8]) -> Result<Steps, ParseError>
         IsFirstBad (lines_of bytes.now) line }
 
     // What the grammar and the limits allow is read, but for want of memory.
-    ensures complete { (steps : List Step) → Spells (lines_of bytes.now) steps → ¬ IsTooLong bytes.now →
+    ensures complete { (steps : List Step) → Spells (lines_of bytes.now) steps →
+        ¬ IsTooLong bytes.now →
         MatchResult result (λ found. found ≡ steps) (λ error. error ≡ ParseError.OutOfMemory) }
 {
     if bytes.len() > MAX_BYTES || count_lines(bytes) > MAX_LINES {
@@ -82,7 +83,13 @@ fn count_feeds(bytes: &[u8]) -> usize
     ensures exact { result ≡ count_by (λ byte. byte == 10) bytes.now }
     ensures most { result ≤ length bytes.now }
 {
-    bytes.iter().filter(|byte| **byte == b'\n').count()
+    let mut feeds = 0;
+    for byte in bytes {
+        if *byte == b'\n' {
+            feeds += 1;
+        }
+    }
+    feeds
 }
 
 // The steps of an input within the limits.
@@ -113,8 +120,12 @@ fn first_line(bytes: &[u8]) -> (&[u8], &[u8])
     ensures lines { lines_of bytes.now ≡ result.0.now ∷ lines_of result.1.now }
     ensures less { length result.1.now < length bytes.now }
 {
-    match cut(bytes, b'\n') {
-        Some((line, after)) => (line, after),
+    match memchr(b'\n', bytes) {
+        Some(at) => {
+            let (line, _) = bytes.split_at(at);
+            let (_, after) = bytes.split_at(at + 1);
+            (line, after)
+        }
         None => {
             let (_, nothing) = bytes.split_at(bytes.len());
             (bytes, nothing)

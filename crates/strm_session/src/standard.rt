@@ -1,4 +1,4 @@
-//! Standard input and output as a source and a sink: they tell no content, and are the trusted edge.
+//! Standard input and output as a source and a sink. They tell no content: the trusted edge.
 //!
 //! Source: ours, over std's `Read` and `Write`.
 

@@ -63,7 +63,8 @@ pub fn read_all<S: Source>(alloc: Global, source: &mut S) -> Result<TextBytes, I
     ensures within { IfOk result (λ text. length text ≤ MAX_BYTES) }
     ensures too_long { result ≡ Err InputError.TooLong →
         IfSome (S.left source.old) (λ bytes. MAX_BYTES < length bytes) }
-    ensures fault { result ≡ Err InputError.Fault → Rose (S.faults source.old) (S.faults source.new) }
+    ensures fault { result ≡ Err InputError.Fault →
+        Rose (S.faults source.old) (S.faults source.new) }
 
     // Whatever is answered: what was read is gone from the front, and no more than that.
     ensures read { (front : List ℕ) × Consumes (S.left source.old) (S.left source.new) front
