@@ -106,46 +106,50 @@ fn lines_of_drive(alloc: Global, count: usize) -> Result<Vec<u8>, Fail> {
 }
 
 #[test]
-fn a_write_meets_a_read_in_seven_lines(rt: HostRuntime) -> Result<(), Fail> {
+fn seven_lines_are_read(rt: HostRuntime) -> Result<(), Fail> {
     let input = b"guest 16\nguest 16\npair 0 1 stream:u8\npoke 0 0 010203\n\
         write 0 stream:u8 1 0 3\nread 1 stream:u8 1 0 3\ndump 1 0 3\n";
     let steps = parse(rt.alloc(), input)?;
-    let bytes = Chunk::new(&[1, 2, 3]).ok_or("a chunk")?;
+    let (guest, ty, handle, address, count) = (0, BYTES, 1, 0, 3);
     let expected = [
         Step::Guest { size: 16 },
         Step::Guest { size: 16 },
         Step::Between {
             writer: 0,
             reader: 1,
-            ty: BYTES,
+            ty,
         },
         Step::Poke {
-            guest: 0,
-            address: 0,
-            bytes,
+            guest,
+            address,
+            bytes: Chunk::new(&[1, 2, 3]).ok_or("a chunk")?,
         },
         Step::Write {
-            guest: 0,
-            ty: BYTES,
-            handle: 1,
-            address: 0,
-            count: 3,
+            guest,
+            ty,
+            handle,
+            address,
+            count,
         },
         Step::Read {
             guest: 1,
-            ty: BYTES,
-            handle: 1,
-            address: 0,
-            count: 3,
+            ty,
+            handle,
+            address,
+            count,
         },
         Step::Dump {
             guest: 1,
-            address: 0,
+            address,
             len: 3,
         },
     ];
     assert!(rt; steps.as_slice() == expected.as_slice());
+    Ok(())
+}
 
+#[test]
+fn seven_replies_are_written(rt: HostRuntime) -> Result<(), Fail> {
     let replies = [
         Reply::Number(0),
         Reply::Number(1),
@@ -157,7 +161,7 @@ fn a_write_meets_a_read_in_seven_lines(rt: HostRuntime) -> Result<(), Fail> {
         Reply::Done,
         Reply::Code(ReturnCode::Blocked),
         Reply::Code(ReturnCode::Completed(ItemCount::new(3)?)),
-        Reply::Bytes(bytes),
+        Reply::Bytes(Chunk::new(&[1, 2, 3]).ok_or("a chunk")?),
     ];
     let mut told = Replies::new(rt.alloc());
     for reply in replies {
