@@ -1,0 +1,8 @@
+pub mod Faults
+pub mod InMemory
+pub mod Words
+pub mod Grammar
+pub mod Plain
+pub mod Lines
+pub mod Reading
+pub mod Text

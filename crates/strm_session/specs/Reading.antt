@@ -1,0 +1,128 @@
+-- How a line is read, word by word: the inverse of `spelling`, as `parse` shows. Ours.
+use Rattle.std.specs.Prelude.{ℕ, ◌+◌, ◌-◌, ◌*◌, ◌%◌, ◌^◌, ◌==◌, ◌&&◌, ◌||◌, not, nat_lt, nat_le, Bool, List, [], ◌∷◌, length, codes, if◌then◌else◌, Option, Some, None, option_and_then}
+use Rattle.std.specs.Option.{option_map}
+use Rattle.std.specs.Str.{bytes_eq}
+use Rattle.strm_codes.specs.declared.scalars.Scalar.TheVariants.{U8}
+use Rattle.strm_codes.specs.declared.payloads.Payload.TheVariants.{One}
+use Rattle.strm_codes.specs.declared.codes.TransmitIndex.{TransmitIndex}
+use Rattle.strm_codes.specs.declared.codes.TransmitIndex.TheVariants.{Stream}
+use Rattle.strm_machine.specs.declared.steps.Step.{Step}
+use Rattle.strm_machine.specs.declared.steps.Step.TheVariants.{Guest, Between, Write, Read, Poke, Dump}
+
+-- a reading, and then another of what it found
+infixl 10 ◌>>=◌
+abbrev pub ◌>>=◌ : {A B : Type 0} → Option A → (A → Option B) → Option B
+o >>= f = option_and_then f o
+
+-- what comes before and after the first byte c
+unfoldable pub cut_at : ℕ → List ℕ → Option (List ℕ × List ℕ)
+cut_at c [] = None
+cut_at c (b ∷ bytes) =
+    if b == c then Some ([], bytes) else option_map (λ p. (b ∷ p.0, p.1)) (cut_at c bytes)
+
+-- the first word, read in some way, and what follows its space
+unfoldable pub leading : {A : Type 0} → (List ℕ → Option A) → List ℕ → Option (A × List ℕ)
+leading read line = do
+  parts ← cut_at 32 line
+  x ← read parts.0
+  Some (x, parts.1)
+
+-- the first word read in one way, and what follows its space in another
+abbrev pub followed_by : {A B : Type 0} →
+    (List ℕ → Option A) → (List ℕ → Option B) → List ℕ → Option (A × B)
+followed_by first second line = do
+  p ← leading first line
+  y ← second p.1
+  Some (p.0, y)
+
+abbrev pub is_digit : ℕ → Bool
+is_digit c = nat_le 48 c && nat_le c 57
+
+-- the number that begins with n and goes on with these digits, below 2^32
+unfoldable pub digits_from : ℕ → List ℕ → Option ℕ
+digits_from n [] = Some n
+digits_from n (c ∷ cs) =
+    if is_digit c && nat_lt (10 * n + (c - 48)) (2 ^ 32)
+    then digits_from (10 * n + (c - 48)) cs else None
+
+-- a number in decimal, without leading zeros
+unfoldable pub number : List ℕ → Option ℕ
+number [] = None
+number (c ∷ cs) = if (c == 48) && nat_lt 0 (length cs) then None else digits_from 0 (c ∷ cs)
+
+-- a number from low to high
+unfoldable pub number_within : ℕ → ℕ → List ℕ → Option ℕ
+number_within low high word = do
+  n ← number word
+  if nat_le low n && nat_le n high then Some n else None
+
+-- what a lower-case hexadecimal digit stands for
+abbrev pub nibble : ℕ → Option ℕ
+nibble c =
+    if is_digit c then Some (c - 48)
+    else (if nat_le 97 c && nat_le c 102 then Some (c - 87) else None)
+
+-- the bytes that pairs of digits stand for
+unfoldable pub pairs_from : List ℕ → Option (List ℕ)
+pairs_from [] = Some []
+pairs_from (a ∷ []) = None
+pairs_from (a ∷ b ∷ cs) = do
+  x ← nibble a
+  y ← nibble b
+  rest ← pairs_from cs
+  Some ((16 * x + y) ∷ rest)
+
+-- 1 to 64 bytes
+unfoldable pub hex : List ℕ → Option (List ℕ)
+hex word =
+    if (length word == 0) || nat_lt 128 (length word) || not (length word % 2 == 0)
+    then None else pairs_from word
+
+-- the one type that lines name
+unfoldable pub type_of : List ℕ → Option TransmitIndex
+type_of word = if bytes_eq word (codes "stream:u8") then Some (Stream (One U8)) else None
+
+-- the words behind `write` and `read`: guest, type, handle, address and count
+unfoldable pub operands_of : List ℕ → Option (ℕ × (TransmitIndex × (ℕ × (ℕ × ℕ))))
+operands_of rest =
+    followed_by number (followed_by type_of
+    (followed_by number (followed_by number (number_within 1 268435455)))) rest
+
+unfoldable pub guest_of : List ℕ → Option Step
+guest_of rest = option_map Guest (number rest)
+
+unfoldable pub pair_of : List ℕ → Option Step
+pair_of rest = do
+  v ← followed_by number (followed_by number type_of) rest
+  if v.0 == v.1.0 then None else Some (Between v.0 v.1.0 v.1.1)
+
+unfoldable pub write_of : List ℕ → Option Step
+write_of rest = option_map (λ v. Write v.0 v.1.0 v.1.1.0 v.1.1.1.0 v.1.1.1.1) (operands_of rest)
+
+unfoldable pub read_of : List ℕ → Option Step
+read_of rest = option_map (λ v. Read v.0 v.1.0 v.1.1.0 v.1.1.1.0 v.1.1.1.1) (operands_of rest)
+
+unfoldable pub poke_of : List ℕ → Option Step
+poke_of rest =
+    option_map (λ v. Poke v.0 v.1.0 v.1.1) (followed_by number (followed_by number hex) rest)
+
+unfoldable pub dump_of : List ℕ → Option Step
+dump_of rest =
+    option_map (λ v. Dump v.0 v.1.0 v.1.1)
+    (followed_by number (followed_by number (number_within 1 64)) rest)
+
+-- the step of a command and its arguments
+unfoldable pub step_with : List ℕ → List ℕ → Option Step
+step_with command rest =
+    if bytes_eq command (codes "guest") then guest_of rest
+    else (if bytes_eq command (codes "pair") then pair_of rest
+    else (if bytes_eq command (codes "write") then write_of rest
+    else (if bytes_eq command (codes "read") then read_of rest
+    else (if bytes_eq command (codes "poke") then poke_of rest
+    else (if bytes_eq command (codes "dump") then dump_of rest else None)))))
+
+-- the step that a line spells, where it spells one
+unfoldable pub step_of : List ℕ → Option Step
+step_of line = do
+  p ← cut_at 32 line
+  step_with p.0 p.1

@@ -1,0 +1,195 @@
+//! Lists of what a session reads and writes, each seen as the list of its elements.
+//!
+//! Source: ours.
+
+ghost use Rattle.std.specs.Prelude.{◌≡◌, ◌∷◌, ◌++◌, [], OnOk, OnErr};
+
+use std::alloc::Global;
+use std::marker::Model;
+use strm_codes::counts::OutOfMemory;
+use strm_machine::replies::Reply;
+use strm_machine::steps::Step;
+
+// Adds an item at the end.
+fn push_item<T: Copy>(items: &mut Vec<T>, item: &T) -> Result<(), OutOfMemory>
+    ensures ok { OnOk result (items.new.items ≡ items.old.items ++ item.now ∷ []) }
+    ensures err { OnErr result (items.new.items ≡ items.old.items) }
+{
+    match items.push(*item) {
+        Ok(()) => Ok(()),
+        Err(_) => Err(OutOfMemory),
+    }
+}
+
+/// A list of steps.
+#[derive(Drop)]
+pub struct Steps {
+    items: Vec<Step>,
+}
+
+impl Model for Steps {
+    ghost use Rattle.std.specs.Prelude.{List};
+    ghost use Rattle.strm_machine.specs.declared.steps.Step.{Step};
+
+    ghost Value = { List Step };
+
+    ghost view = { λ s. s.items.items };
+}
+
+impl Steps {
+    /// An empty list, which takes no memory.
+    pub fn new(alloc: Global) -> Steps
+        ensures { result ≡ [] }
+    {
+        Steps {
+            items: Vec::new(alloc),
+        }
+    }
+
+    /// Adds a step at the end.
+    pub fn push(&mut self, item: Step) -> Result<(), OutOfMemory>
+        ensures ok { OnOk result (self.new ≡ self.old ++ item ∷ []) }
+        ensures err { OnErr result (self.new ≡ self.old) }
+    {
+        push_item(&mut self.items, &item)
+    }
+
+    /// The steps, lent.
+    pub fn as_slice(&self) -> &[Step]
+        ensures { result.now ≡ self.now }
+    {
+        &self.items
+    }
+}
+
+/// A list of replies.
+#[derive(Drop)]
+pub struct Replies {
+    items: Vec<Reply>,
+}
+
+impl Model for Replies {
+    ghost use Rattle.std.specs.Prelude.{List};
+    ghost use Rattle.strm_machine.specs.declared.replies.Reply.{Reply};
+
+    ghost Value = { List Reply };
+
+    ghost view = { λ s. s.items.items };
+}
+
+impl Replies {
+    /// An empty list, which takes no memory.
+    pub fn new(alloc: Global) -> Replies
+        ensures { result ≡ [] }
+    {
+        Replies {
+            items: Vec::new(alloc),
+        }
+    }
+
+    /// Adds a reply at the end.
+    pub fn push(&mut self, item: Reply) -> Result<(), OutOfMemory>
+        ensures ok { OnOk result (self.new ≡ self.old ++ item ∷ []) }
+        ensures err { OnErr result (self.new ≡ self.old) }
+    {
+        push_item(&mut self.items, &item)
+    }
+
+    /// The replies, lent.
+    pub fn as_slice(&self) -> &[Reply]
+        ensures { result.now ≡ self.now }
+    {
+        &self.items
+    }
+}
+
+/// A list of counts of items.
+#[derive(Drop)]
+pub struct Counts {
+    items: Vec<u128>,
+}
+
+impl Model for Counts {
+    ghost use Rattle.std.specs.Prelude.{ℕ, List};
+
+    ghost Value = { List ℕ };
+
+    ghost view = { λ s. s.items.items };
+}
+
+impl Counts {
+    /// An empty list, which takes no memory.
+    pub fn new(alloc: Global) -> Counts
+        ensures { result ≡ [] }
+    {
+        Counts {
+            items: Vec::new(alloc),
+        }
+    }
+
+    /// Adds a count at the end.
+    pub fn push(&mut self, item: u128) -> Result<(), OutOfMemory>
+        ensures ok { OnOk result (self.new ≡ self.old ++ item ∷ []) }
+        ensures err { OnErr result (self.new ≡ self.old) }
+    {
+        push_item(&mut self.items, &item)
+    }
+
+    /// The counts, lent.
+    pub fn as_slice(&self) -> &[u128]
+        ensures { result.now ≡ self.now }
+    {
+        &self.items
+    }
+}
+
+/// A text, as its bytes.
+#[derive(Drop)]
+pub struct TextBytes {
+    items: Vec<u8>,
+}
+
+impl Model for TextBytes {
+    ghost use Rattle.std.specs.Prelude.{ℕ, List};
+
+    ghost Value = { List ℕ };
+
+    ghost view = { λ s. s.items.items };
+}
+
+impl TextBytes {
+    /// An empty text, which takes no memory.
+    pub fn new(alloc: Global) -> TextBytes
+        ensures { result ≡ [] }
+    {
+        TextBytes {
+            items: Vec::new(alloc),
+        }
+    }
+
+    /// Adds a byte at the end.
+    pub fn push(&mut self, item: u8) -> Result<(), OutOfMemory>
+        ensures ok { OnOk result (self.new ≡ self.old ++ item ∷ []) }
+        ensures err { OnErr result (self.new ≡ self.old) }
+    {
+        push_item(&mut self.items, &item)
+    }
+
+    /// Adds bytes at the end.
+    pub fn push_slice(&mut self, bytes: &[u8]) -> Result<(), OutOfMemory>
+        ensures ok { OnOk result (self.new ≡ self.old ++ bytes.now) }
+        ensures err { OnErr result (self.new ≡ self.old) }
+    {
+        match self.items.extend_from_slice(bytes) {
+            Ok(()) => Ok(()),
+            Err(_) => Err(OutOfMemory),
+        }
+    }
+
+    /// The bytes, lent.
+    pub fn as_slice(&self) -> &[u8]
+        ensures { result.now ≡ self.now }
+    {
+        &self.items
+    }
+}
