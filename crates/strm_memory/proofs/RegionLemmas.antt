@@ -13,6 +13,7 @@ use Rattle.std.proofs.lemmas.List.{take_at, drop_at, length-take-le, drop-drop, 
 use Rattle.std.proofs.lemmas.Option.{option_and_then_some}
 use Rattle.std.proofs.Math.Seq.{take-append-add, drop-append-add}
 use Rattle.std.specs.Prelude.{All, is_some, IsSome, IfSome, IsTrue, option_and_then}
+use Rattle.std.specs.Option.{option_map}
 use Rattle.strm_codes.specs.Scalars.{size_of}
 use Rattle.strm_codes.specs.Layout.{scalars_of, gap_before, end_of, item_size}
 use Rattle.strm_codes.specs.Items.{FitsItem, IsNumber}
