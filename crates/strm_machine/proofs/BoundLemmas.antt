@@ -9,7 +9,8 @@ use Rattle.strm_codes.specs.declared.scalars.Scalar.{Scalar}
 use Rattle.strm_memory.specs.Items.{items_at, stored_at}
 use Rattle.strm_memory.specs.Bytes.{put_at}
 use Rattle.strm_memory.specs.Region.{is_out_of_bounds, bytes_out_of_bounds}
-use Rattle.strm_memory.proofs.RegionLemmas.{length-items, length-stored, length-put_at}
+use Rattle.strm_memory.proofs.RegionLemmas.{length-items, length-stored}
+use Rattle.strm_memory.proofs.ByteLemmas.{length-put_at}
 
 out_test : (size : ℕ) (w : ℕ) (address n : ℕ) → nat_lt 0 n && nat_lt 0 w && nat_lt size (address + w * n) ≡ false → 0 < n → 0 < w → address + w * n ≤ size
 out_test size w address n e h k = grind (arith, nat_tests)

@@ -264,7 +264,7 @@ fn exchange(
     requires room { theirs.now.address + item_size (scalars_of stream.old.payload) * min mine.now.left theirs.now.left < 2 ^ 32 }
     ensures { moves side (seen guests.old.items) stream.old mine.now theirs.now (min mine.now.left theirs.now.left)
         (carried (seen guests.old.items) stream.old.payload (write_of side mine.now theirs.now)
-            (read_of side mine.now theirs.now) (min mine.now.left theirs.now.left))
+        (read_of side mine.now theirs.now) (min mine.now.left theirs.now.left))
         ≡ taken result guests.new.items stream.new }
 {
     let count = lesser(mine.left, theirs.left);

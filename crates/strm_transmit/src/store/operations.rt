@@ -222,13 +222,7 @@ impl Store {
     }
 
     // The stream whose end a handle names, where that end may read or write now.
-    fn found(
-        &self,
-        side: Side,
-        guest: u32,
-        ty: TransmitIndex,
-        handle: u32,
-    ) -> Result<u32, Refusal>
+    fn found(&self, side: Side, guest: u32, ty: TransmitIndex, handle: u32) -> Result<u32, Refusal>
         requires { guest < length self.now.guests }
         ensures exact { result ≡ or_found (first_of (handle_reasons (named self.now guest ty handle)
             ++ end_reasons self.now side guest ty (named self.now guest ty handle)))

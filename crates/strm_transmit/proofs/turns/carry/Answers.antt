@@ -6,4 +6,3 @@ use Rattle.strm_transmit.proofs.turns.carry.Goals as goal
 pub returns-then-size-eq0-clause-ok : goal.returns-then-size-eq0-clause-ok
 returns-then-size-eq0-clause-ok c =
     carried-nothing (seen c.args.guests.now.items) c.args.payload c.args.write.now c.args.read.now c.args.count (sym c.size.ensures.exact ∙ c.if-size-eq0.true)
-
