@@ -111,3 +111,23 @@ module _ {E : Type 0} where
 
   pub few_free : (slots : List (Slot E)) (free first : ℕ) → IsSound (handles_in slots free first) → free < 2 ^ 28
   few_free slots free first s = omega (arith, s.all, s.small, length-chain slots free first)
+
+  second_freed : (slots : List (Slot E)) (free first next : ℕ) → 1 < free → slot_at slots first ≡ Free next → IsSound (handles_in slots free first) → IsFreed (map entry_of slots) (suc next)
+  second_freed slots zero first next some is s = absurd (omega arith)
+  second_freed slots (suc zero) first next some is s = absurd (omega arith)
+  second_freed slots (suc (suc m)) first next some is s =
+      let second = before (slot_at slots first) in
+      let rest = All-tail (IsFreed (map entry_of slots)) (suc first) (suc second ∷ chain slots m (before (slot_at slots second))) s.free in
+      subst (λ i. IsFreed (map entry_of slots) (suc i)) (ap before is) (All-head (IsFreed (map entry_of slots)) (suc second) (chain slots m (before (slot_at slots second))) rest)
+
+  second_next : (slots : List (Slot E)) (free first next : ℕ) (e : E) → 1 < free → slot_at slots first ≡ Free next → next + 1 ≡ next_index (inserted (handles_in slots free first) e)
+  second_next slots zero first next e some is = absurd (omega arith)
+  second_next slots (suc zero) first next e some is = absurd (omega arith)
+  second_next slots (suc (suc m)) first next e some is = rw is (add-one next)
+
+  -- the slot that was freed before the one freed last
+  pub second_is : (slots : List (Slot E)) (free first next : ℕ) (x : Slot E) → 1 < free → x ≡ get_or slots first x → x ≡ Free next → IsSound (handles_in slots free first) → ((e : E) → next + 1 ≡ next_index (inserted (handles_in slots free first) e)) × (next + 1 < 2 ^ 28)
+  second_is slots free first next x some read is s =
+      let inside = first_inside slots free first (omega arith) s in
+      let at = slot_read slots first x (Free next) read is inside in
+      (λ e. second_next slots free first next e some at, omega (arith, (second_freed slots free first next some at s).given, s.small))

@@ -80,6 +80,20 @@ impl<E: Copy> Slots<E> {
         }
     }
 
+    /// The number that the insert after the next one gives.
+    pub(crate) fn second_index(&self) -> u32
+        ensures exact { (e : E) → result ≡ next_index (inserted self.now.handles e) }
+        ensures most { result ≤ MAX_HANDLE + 1 }
+    {
+        if self.free < 2 {
+            return self.slots.len() as u32 + 2 - self.free;
+        }
+        match self.slots[self.first as usize] {
+            Slot::Free(next) => next + 1,
+            Slot::Full(_) => unreachable!(),
+        }
+    }
+
     /// Room for so many inserts.
     pub(crate) fn reserve(&mut self, count: u32) -> Result<(), HandleError>
         ensures ok { OnOk result (count ≤ self.new.room) }

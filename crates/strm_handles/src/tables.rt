@@ -2,8 +2,8 @@
 //!
 //! Source: wasmtime, `handle_table.rs`, `HandleTable`; Canonical ABI, "Table State".
 
-ghost use Rattle.std.specs.Prelude.{◌≡◌, ◌<◌, ◌≤◌, ◌↔◌, IsTrue, OnOk, OnErr, IfErr};
-ghost use Rattle.strm_handles.specs.Handles.{no_handles, next_index, occupied, IsSound};
+ghost use Rattle.std.specs.Prelude.{◌≡◌, ◌+◌, ◌<◌, ◌≤◌, ◌↔◌, IsTrue, OnOk, OnErr, IfErr};
+ghost use Rattle.strm_handles.specs.Handles.{no_handles, next_index, inserted, occupied, IsSound};
 
 use crate::entries::{Entry, MAX_HANDLE};
 use crate::errors::HandleError;
@@ -61,6 +61,14 @@ impl HandleTable {
         ensures most { result ≤ MAX_HANDLE }
     {
         self.slots.next_index()
+    }
+
+    /// The number that the insert after the next one gives; 2^28 and above where it gives none.
+    pub fn second_index(&self) -> u32
+        ensures exact { (entry : Entry) → result ≡ next_index (inserted self.now.handles entry) }
+        ensures most { result ≤ MAX_HANDLE + 1 }
+    {
+        self.slots.second_index()
     }
 
     /// Takes room for so many inserts, which then take no memory.
