@@ -6,12 +6,14 @@
 -- so is what was copied (`items_at-copied`). A region's items depend on its own bytes alone (`items_at-same`);
 -- n + m items are n items and then m (`items_at-join`, `items_at-split`, `stored_at-append`). What lies somewhere
 -- are items (`AreItems-items`), as many as were asked for (`length-items`); any bytes are items of a number
--- (`items-number_or_none`).
+-- (`items-number_or_none`). `items` and `stored` unfold by `items-zero`, `items-suc`, `stored-nil` and
+-- `stored-cons`.
 use Rattle.std.proofs.Common.{◌≡◌, ℕ, zero, suc, ◌+◌, ◌*◌, ◌≤◌, ◌-◌, ℤ, List, [], ◌∷◌, ◌++◌, length, take, drop, Option, Some, None, true, inl, inr, refl, sym, subst, ap, ◌∙◌, append_assoc, arith, length-append, length-drop}
-use Rattle.std.proofs.lemmas.List.{take_at, drop_at, length-take-le, drop-drop, drop-take, take-take}
+use Rattle.std.proofs.lemmas.List.{take_at, drop_at, length-take-le, drop-drop, drop-take, take-take, take-append-drop}
 use Rattle.std.proofs.lemmas.Option.{option_and_then_some}
 use Rattle.std.proofs.Math.Seq.{take-append-add, drop-append-add}
-use Rattle.std.specs.Prelude.{All, is_some, IsSome, IfSome, IsTrue}
+use Rattle.std.specs.Prelude.{All, is_some, IsSome, IfSome, IsTrue, option_and_then}
+use Rattle.std.specs.Option.{option_map}
 use Rattle.strm_codes.specs.Scalars.{size_of}
 use Rattle.strm_codes.specs.Layout.{scalars_of, gap_before, end_of, item_size}
 use Rattle.strm_codes.specs.Items.{FitsItem, IsNumber}
@@ -111,6 +113,22 @@ made_value o ss bytes xs h e few made v = same o (made (few, IsNumber-FitsItem s
     same (Some x) i v = ap Some v
 
 -- ## So many items from the front of the bytes
+
+pub items-zero : (ss : List Scalar) (bytes : List ℕ) → items ss bytes 0 ≡ Some []
+unfolding items
+items-zero ss bytes = refl
+
+pub items-suc : (ss : List Scalar) (bytes : List ℕ) (n : ℕ) → items ss bytes (suc n) ≡ option_and_then (λ x. option_map (λ xs. x ∷ xs) (items ss (drop (item_size ss) bytes) n)) (decode ss bytes)
+unfolding items
+items-suc ss bytes n = refl
+
+pub stored-nil : (ss : List Scalar) (bytes : List ℕ) → stored ss bytes [] ≡ bytes
+unfolding stored
+stored-nil ss bytes = refl
+
+pub stored-cons : (ss : List Scalar) (bytes : List ℕ) (x : List ℤ) (xs : List (List ℤ)) → stored ss bytes (x ∷ xs) ≡ take (item_size ss) (encode ss bytes x) ++ stored ss (drop (item_size ss) (encode ss bytes x)) xs
+unfolding stored
+stored-cons ss bytes x xs = refl
 
 pub length-items : (ss : List Scalar) (bytes : List ℕ) (n : ℕ) (xs : List (List ℤ)) → items ss bytes n ≡ Some xs → length xs ≡ n
 unfolding items
@@ -216,6 +234,12 @@ items-stored ss bytes (x ∷ xs) h l =
     rw (first, drop_at (take w e) (stored ss (drop w e) xs) w size, rest) refl
 
 -- ## At an address
+
+pub items_at-zero : (ss : List Scalar) (memory : List ℕ) (address : ℕ) → items_at ss memory address 0 ≡ Some []
+items_at-zero ss memory address = items-zero ss (drop address memory)
+
+pub stored_at-nil : (ss : List Scalar) (memory : List ℕ) (address : ℕ) → stored_at ss memory address [] ≡ memory
+stored_at-nil ss memory address = rw (stored-nil ss (drop address memory)) (take-append-drop address memory)
 
 -- n + m items are n items and then m
 pub items_at-join : (ss : List Scalar) (memory : List ℕ) (address n m : ℕ) (xs ys : List (List ℤ)) → items_at ss memory address n ≡ Some xs → items_at ss memory (address + item_size ss * n) m ≡ Some ys → items_at ss memory address (n + m) ≡ Some (xs ++ ys)

@@ -1,6 +1,6 @@
 //! The memory of a guest, and where regions of items may lie in it.
 //!
-//! Source: wasmtime, `futures_and_streams.rs`, `check_bounds`; Canonical ABI, the traps of buffers.
+//! Source: wasmtime, `futures_and_streams.rs`, `check_bounds`; Canonical ABI, `BufferGuestImpl`.
 
 ghost use Rattle.std.specs.Prelude.{◌≡◌, ℕ, ◌+◌, ◌*◌, ◌<◌, ◌≤◌, ◌↔◌, [], ◌++◌, length, replicate, drop, is_err, IsTrue, IsNone, IfOk, OnOk, OnErr, IsOk, IsErr, IsErrOf, IsSomeAnd, vec_len, vec_capacity};
 ghost use Rattle.strm_codes.specs.Layout.{scalars_of, item_size};
