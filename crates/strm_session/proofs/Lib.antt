@@ -5,3 +5,4 @@ pub mod HexLemmas
 pub mod ReadingLemmas
 pub mod StepLemmas
 pub mod LineLemmas
+pub mod PlayLemmas

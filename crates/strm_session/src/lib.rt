@@ -9,6 +9,7 @@ mod lines;
 pub mod lists;
 pub mod parsing;
 pub mod ports;
+pub mod runs;
 pub mod standard;
 #[cfg(test)]
 mod tests;
