@@ -1,6 +1,6 @@
 -- One step more of a play.
 use Rattle.std.proofs.Math.Seq.{split_at}
-use Rattle.std.proofs.lemmas.List.{append-nil}
+use Rattle.std.proofs.lemmas.List.{take_more, append-nil}
 use Rattle.std.proofs.Common.{◌≡◌, ℕ, ◌+◌, ◌<◌, Bool, true, false, cond, List, [], ◌∷◌, ◌++◌, length, take, drop, get_or, suc, Option, Some, None, refl, sym, ap, ◌∙◌, subst, append_assoc}
 use Rattle.strm_codes.specs.declared.refusals.Refusal.{Refusal}
 use Rattle.strm_codes.specs.declared.codes.ReturnCode.{ReturnCode}
@@ -106,3 +106,9 @@ stops steps k step told told' state (causes.BadItem stream) l g n e so_far bad =
 stops steps k step told told' state causes.OutOfMemory l g n e so_far bad =
     let count : length told' ≡ k = ap length e ∙ n in
     (state, ap (λ m. play [] start (take m steps)) count ∙ ap (play [] start) (sym (append-nil (take k steps))) ∙ so_far [] ∙ ap (λ t. Ends t state) (sym e))
+
+-- one step more
+pub played_more : (steps : List Step) (k : ℕ) (step : Step) (told told' : List Reply) (state state' : State) → k < length steps → get_or steps k step ≡ step → ((more : List Step) → play [] start (take k steps ++ more) ≡ play told state more) → ((more : List Step) → play told state (step ∷ more) ≡ play told' state' more) → (more : List Step) → play [] start (take (k + 1) steps ++ more) ≡ play told' state' more
+played_more steps k step told told' state state' l g so_far goes more =
+    let cut : take (k + 1) steps ++ more ≡ take k steps ++ step ∷ more = ap (λ t. t ++ more) (take_more steps k step l ∙ ap (λ s. take k steps ++ s ∷ []) g) ∙ append_assoc (take k steps) (step ∷ []) more in
+    ap (play [] start) cut ∙ so_far (step ∷ more) ∙ goes more

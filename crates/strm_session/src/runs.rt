@@ -2,12 +2,13 @@
 //!
 //! Source: ours.
 
-ghost use Rattle.std.specs.Prelude.{◌≡◌, ◌≢◌, ◌≤◌, ◌∷◌, ◌++◌, ◌+◌, [], List, ℕ, false, length, IfOk, IfErr, OnOk, OnErr, Err};
+ghost use Rattle.std.specs.Prelude.{◌≡◌, ◌≢◌, ◌≤◌, ◌∷◌, ◌++◌, ◌+◌, [], List, ℕ, false, length, All, IfOk, IfErr, OnOk, OnErr, Err};
 ghost use Rattle.strm_machine.specs.State.{State};
 ghost use Rattle.strm_machine.specs.Reactions.{goes, react};
 ghost use Rattle.strm_machine.specs.Plays.{play, Ends, Halts};
 ghost use Rattle.strm_machine.specs.declared.steps.Step.{Step};
 ghost use Rattle.strm_machine.specs.declared.replies.Reply.TheVariants.{BadItem as IsBadItem};
+ghost use Rattle.strm_session.specs.Plain.{IsPlain};
 ghost use Rattle.strm_session.specs.Runs.{start, received, StopsBy};
 
 use crate::lists::{Counts, Replies};
@@ -64,6 +65,10 @@ pub fn run(alloc: Global, steps: &[Step]) -> Result<Transcript, RunStop>
     ensures moved { IfOk result (λ t. t.moved ≡ received t.store) }
     ensures stop { IfErr result (λ stop. StopsBy steps.now stop.replies stop.cause) }
     ensures at { IfErr result (λ stop. stop.at ≡ length stop.replies) }
+
+    // Streams of bytes have no bad item.
+    ensures plain { All IsPlain steps.now →
+        IfErr result (λ stop. stop.cause ≡ RunCause.OutOfMemory) }
 {
     let mut store = Store::new(alloc, 0, PROGRAM_LIMITS);
     let mut replies = Replies::new(alloc);
@@ -132,6 +137,8 @@ fn play_steps(
     ensures stop { IfErr result (λ cause. StopsBy steps.now replies.new cause) }
     ensures all { OnOk result (length replies.new ≡ length steps.now) }
     ensures count { length replies.new ≤ length steps.now }
+    ensures plain { All IsPlain steps.now →
+        IfErr result (λ cause. cause ≡ RunCause.OutOfMemory) }
 {
     for step in steps {
         if let Err(cause) = step_once(store, replies, step) {
@@ -149,6 +156,9 @@ fn step_once(store: &mut Store, replies: &mut Replies, step: &Step) -> Result<()
     ensures bad_item { (more : List Step) (stream : ℕ) → result ≡ Err (RunCause.BadItem stream) →
         play replies.old store.old (step.now ∷ more) ≡ Halts replies.old (IsBadItem stream) }
     ensures goes_on { OnOk result (store.new.trapped ≡ false) }
+    ensures next { OnOk result (store.new ≡ (react store.old step.now).state) }
+    ensures cause { (stream : ℕ) → result ≡ Err (RunCause.BadItem stream) →
+        (react store.old step.now).reply ≡ IsBadItem stream }
     ensures one { OnOk result (length replies.new ≡ length replies.old + 1) }
     ensures err { OnErr result (replies.new ≡ replies.old) }
 {
