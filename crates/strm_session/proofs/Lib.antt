@@ -7,3 +7,4 @@ pub mod StepLemmas
 pub mod LineLemmas
 pub mod PlayLemmas
 pub mod CalmLemmas
+pub mod ServingLemmas

@@ -7,3 +7,4 @@ pub mod Lines
 pub mod Reading
 pub mod Text
 pub mod Runs
+pub mod Serving

@@ -10,6 +10,7 @@ pub mod lists;
 pub mod parsing;
 pub mod ports;
 pub mod runs;
+pub mod serving;
 pub mod standard;
 #[cfg(test)]
 mod tests;
