@@ -7,6 +7,7 @@ ghost use Rattle.std.specs.Prelude.{◌≡◌, ◌≢◌, Err, ◌<◌, ◌↔�
 ghost use Rattle.std.specs.Option.{option_map};
 ghost use Rattle.strm_machine.specs.State.{empty, stream_at, guest_in, memory_in};
 
+mod making;
 mod memories;
 mod operations;
 
@@ -114,7 +115,7 @@ impl Store {
     }
 
     // Whether a step may be done that the machine refuses so.
-    fn admit(&self, found: Option<Refusal>) -> Result<(), StoreError>
+    pub(crate) fn admit(&self, found: Option<Refusal>) -> Result<(), StoreError>
         ensures exact { result ≡ admitted self.now found }
         ensures takes_no_memory { result ≢ Err StoreError.OutOfMemory }
     {

@@ -1,0 +1,192 @@
+//! The making of streams and futures.
+//!
+//! Meaning: the step Between of `Reactions.antt` of `strm_machine`. Source: Canonical ABI,
+//! `canon stream.new` and `canon future.new`; two guests at once are ours.
+
+ghost use Rattle.std.specs.Prelude.{◌≡◌, ◌≢◌, ◌+◌, ◌^◌, ◌<◌, ◌≤◌, length, Ok, Err, Some, None, IfOk, IfErr, OnErr};
+ghost use Rattle.strm_handles.specs.Handles.{next_index};
+ghost use Rattle.std.specs.Prelude.{false};
+ghost use Rattle.strm_codes.specs.Types.{kind_of, payload_of};
+ghost use Rattle.strm_machine.specs.State.{guest_in, idle_end};
+ghost use Rattle.strm_machine.specs.declared.streams.Owner.TheVariants.{Held};
+ghost use Rattle.strm_machine.specs.Making.{writer_index};
+ghost use Rattle.std.specs.Prelude.{◌||◌, ◌++◌, ◌∷◌, [], vec_len};
+ghost use Rattle.std.specs.Vec.{vec_capacity};
+ghost use Rattle.strm_machine.specs.Tests.{is_no_handle, are_handles_full, are_places_full, are_streams_full};
+ghost use Rattle.strm_machine.specs.Refusals.{refusal};
+ghost use Rattle.strm_machine.specs.Reactions.{react, performs, goes};
+ghost use Rattle.strm_transmit.specs.Meets.{Meets, replied};
+ghost use Rattle.strm_codes.specs.declared.codes.TransmitIndex.{TransmitIndex};
+ghost use Rattle.strm_machine.specs.declared.steps.Step.TheVariants as steps;
+ghost use Rattle.strm_machine.specs.declared.replies.Reply.TheVariants as replies;
+
+use crate::ends::insert_ends;
+use crate::errors::StoreError;
+use crate::store::Store;
+use strm_codes::codes::TransmitIndex;
+use strm_codes::refusals::Refusal;
+use strm_handles::entries::MAX_HANDLE;
+use strm_machine::replies::Pair;
+use strm_machine::streams::{End, Owner, Stream};
+
+/// The streams of a store, at most.
+const MOST_STREAMS: usize = 4_294_967_295;
+
+fn idle_end(guest: u32, handle: u32) -> End
+    ensures { result ≡ idle_end (Held guest handle) }
+{
+    End {
+        owner: Owner::Held { guest, handle },
+        told: false,
+        operation: None,
+    }
+}
+
+// A stream whose ends two guests hold.
+fn made_stream(ty: TransmitIndex, writer: End, reader: End) -> Stream
+    ensures { result ≡ record {
+      kind = kind_of ty;
+      payload = payload_of ty;
+      passed = false;
+      writer = writer;
+      reader = reader;
+      received = 0;
+    } }
+{
+    Stream {
+        kind: ty.kind(),
+        payload: ty.payload(),
+        passed: false,
+        writer,
+        reader,
+        received: 0,
+    }
+}
+
+// One item more, in room that is there.
+fn place<T: Copy>(items: &mut Vec<T>, item: &T)
+    requires { vec_len items.old < vec_capacity items.old }
+    ensures { items.new.items ≡ items.old.items ++ item.now ∷ [] }
+{
+    items.push_reserved(*item);
+}
+
+impl Store {
+    // The number that the write end gets, where the read end's was inserted.
+    fn writer_index(&self, writer: u32, reader: u32) -> u32
+        requires writer { writer < length self.now.guests }
+        requires reader { reader < length self.now.guests }
+        ensures { (ty : TransmitIndex) → result ≡ writer_index self.now writer reader ty }
+    {
+        let table = &self.guests[writer as usize].table;
+        if writer == reader {
+            table.second_index()
+        } else {
+            table.next_index()
+        }
+    }
+
+    // Whether a table would give a number that is no handle.
+    fn is_number_missing(&self, writer: u32, reader: u32) -> bool
+        requires writer { writer < length self.now.guests }
+        requires reader { reader < length self.now.guests }
+        ensures { (ty : TransmitIndex) → result ≡ is_no_handle (next_index (guest_in self.now.guests reader).handles)
+            || is_no_handle (writer_index self.now writer reader ty) }
+    {
+        let read = self.guests[reader as usize].table.next_index();
+        read >= MAX_HANDLE || self.writer_index(writer, reader) >= MAX_HANDLE
+    }
+
+    // Whether so many handles more would pass the limit.
+    fn are_handles_full(&self, needed: u32) -> bool
+        ensures { result ≡ are_handles_full self.now needed }
+    {
+        (self.limits.handles as u128) < self.counter.live() as u128 + u128::from(needed)
+    }
+
+    // Whether a stream more would pass the limit on places, or have no number.
+    fn are_streams_full(&self) -> bool
+        ensures { result ≡ are_places_full self.now 3 || are_streams_full self.now }
+    {
+        u64::from(self.limits.places) < 3 * u64::from(self.live_streams) + 3
+            || self.streams.len() >= MOST_STREAMS
+    }
+
+    #[tactic(auto, unfolding(strm_machine::specs::Refusals::refusal))]
+    fn between_refusal(&self, writer: u32, reader: u32) -> Option<Refusal>
+        ensures { (ty : TransmitIndex) → result ≡ refusal self.now (steps.Between writer reader ty) }
+    {
+        let guests = self.guests.len();
+        if writer as usize >= guests || reader as usize >= guests {
+            return Some(Refusal::UnknownGuest);
+        }
+        if self.is_number_missing(writer, reader) {
+            return Some(Refusal::IndexOverflow);
+        }
+        if self.are_handles_full(2) {
+            return Some(Refusal::HandleLimit);
+        }
+        if self.are_streams_full() {
+            return Some(Refusal::Full);
+        }
+        None
+    }
+
+    // A stream more. After want of memory nothing has changed.
+    fn make(&mut self, writer: u32, reader: u32, ty: TransmitIndex) -> Result<Pair, StoreError>
+        requires { refusal self.old (steps.Between writer reader ty) ≡ None }
+        ensures ok { IfOk result (λ pair.
+            performs self.old (steps.Between writer reader ty) ≡ goes (replies.Pair pair) self.new) }
+        ensures err { OnErr result (self.new ≡ self.old) }
+        ensures memory { IfErr result (λ error. error ≡ StoreError.OutOfMemory) }
+    {
+        let stream = self.streams.len() as u32;
+        let made = ty;
+        match self.streams.reserve(1) {
+            Ok(()) => {}
+            Err(_) => return Err(StoreError::OutOfMemory),
+        }
+        let (guests, counter) = (&mut self.guests, &mut self.counter);
+        match insert_ends(
+            guests,
+            counter,
+            writer as usize,
+            reader as usize,
+            ty,
+            stream,
+        ) {
+            Ok(numbers) => {
+                let (read, write) = numbers;
+                let ends = (idle_end(writer, write), idle_end(reader, read));
+                let joined = made_stream(made, ends.0, ends.1);
+                place(&mut self.streams, &joined);
+                self.live_streams += 1;
+                Ok(Pair {
+                    read,
+                    write,
+                    stream,
+                })
+            }
+            Err(error) => Err(error),
+        }
+    }
+
+    /// A stream or future between two guests, which may be one: the read end's handle goes into the
+    /// reader's table first, and then the write end's into the writer's. Refused, in this order, are
+    /// an unknown guest, a table without a number left, handles past their limit, and a stream past
+    /// the limit on places.
+    pub fn new_between(
+        &mut self,
+        writer: u32,
+        reader: u32,
+        ty: TransmitIndex,
+    ) -> Result<Pair, StoreError>
+        ensures meets { Meets self.old self.new (replied replies.Pair result)
+            (react self.old (steps.Between writer reader ty)) }
+    {
+        match self.admit(self.between_refusal(writer, reader)) {
+            Ok(()) => self.make(writer, reader, ty),
+            Err(error) => Err(error),
+        }
+    }
+}
