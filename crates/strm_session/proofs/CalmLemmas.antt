@@ -1,7 +1,7 @@
 -- Streams of numbers or of nothing never trap a store.
 use Rattle.std.specs.Prelude.{All, IsTrue, IsSome}
 use Rattle.std.specs.Option.{option_map}
-use Rattle.std.proofs.Common.{◌≡◌, ℕ, ◌<◌, min, Bool, true, false, cond, List, [], ◌∷◌, ◌++◌, length, get_or, set, Option, Some, None, refl, sym, ap, ◌∙◌, subst, inl, inr}
+use Rattle.std.proofs.Common.{◌≡◌, ℕ, ◌<◌, min, Bool, true, false, cond, List, length, get_or, Option, Some, None, refl, sym, ap, ◌∙◌, subst, inl, inr}
 use Rattle.std.proofs.lemmas.Bool.{cases_lt}
 use Rattle.std.proofs.lemmas.List.{get_or_past}
 use Rattle.std.proofs.lemmas.List.Elements.{All-set, All-push, All-get_or}
@@ -15,7 +15,7 @@ use Rattle.strm_memory.specs.Items.{items_at, stored_at, is_number_or_none}
 use Rattle.strm_memory.proofs.RegionLemmas.{items-number_or_none}
 use Rattle.strm_machine.specs.State.{State, Guest, memory_in, with_memory, stream_at, no_stream, is_gone}
 use Rattle.strm_machine.specs.Sides.{opposite, same_side, end_of, with_end, with_operation, write_of, read_of}
-use Rattle.strm_machine.specs.Meetings.{meeting_of, advanced, carried, begun}
+use Rattle.strm_machine.specs.Meetings.{advanced, carried, begun}
 use Rattle.strm_machine.specs.Tests.{named, stream_named, items_asked}
 use Rattle.strm_machine.specs.Turns.{Turn, waits, with_received, moves, completes_alone, meets_by, finds, turn}
 use Rattle.strm_machine.specs.Making.{with_stream}

@@ -1,6 +1,6 @@
 -- The words of the program, and what a status tells.
 use Rattle.std.specs.Prelude.{IfSome}
-use Rattle.std.proofs.Common.{◌≡◌, ◌≢◌, ℕ, ◌<◌, ◌≤◌, List, [], ◌∷◌, length, map, get_or, Option, Some, None, refl, sym, ap, ◌∙◌, subst, arith, inl, inr}
+use Rattle.std.proofs.Common.{◌≡◌, ◌≢◌, ℕ, ◌≤◌, List, [], ◌∷◌, length, map, get_or, Option, Some, None, refl, sym, ap, ◌∙◌, subst, arith}
 use Rattle.std.specs.Prelude.{codes}
 use Rattle.strm_machine.specs.declared.steps.Step.{Step}
 use Rattle.strm_session.specs.Faults.{Rose}
@@ -12,9 +12,9 @@ use Rattle.strm_session.proofs.LineLemmas.{spelled_not_bad}
 pub one_word : {X : Type 0} (f : X → List ℕ) (items : List X) (x : X) (word : List ℕ) → length items ≡ 1 → x ≡ get_or items 0 x → (f x ≡ word → map f items ≡ word ∷ []) × (map f items ≡ word ∷ [] → f x ≡ word)
 one_word f [] x word l e = absurd (omega (arith, l))
 one_word f (y ∷ []) x word l e = (
-    (λ q. ap (λ v. v ∷ []) (ap f (sym e) ∙ q)),
-    (λ q. let first : f y ≡ word = cc in ap f e ∙ first),
-  )
+  (λ q. ap (λ v. v ∷ []) (ap f (sym e) ∙ q)),
+  (λ q. let first : f y ≡ word = cc in ap f e ∙ first),
+)
 one_word f (y ∷ z ∷ more) x word l e = absurd (omega (arith, l))
 
 -- what is told of an input that was read is told of its source

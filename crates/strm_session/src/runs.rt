@@ -126,11 +126,7 @@ fn counts(alloc: Global, store: &Store) -> Result<Counts, OutOfMemory>
 }
 
 // Does the steps in order, and keeps their replies.
-fn play_steps(
-    store: &mut Store,
-    replies: &mut Replies,
-    steps: &[Step],
-) -> Result<(), RunCause>
+fn play_steps(store: &mut Store, replies: &mut Replies, steps: &[Step]) -> Result<(), RunCause>
     requires begins { store.old ≡ start }
     requires none { replies.old ≡ [] }
     ensures ok { OnOk result (play [] start steps.now ≡ Ends replies.new store.new) }

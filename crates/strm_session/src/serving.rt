@@ -19,9 +19,7 @@ use crate::lists::TextBytes;
 use crate::parsing::{MAX_BYTES, ParseError, parse};
 use crate::ports::{Sink, Source};
 use crate::runs::{RunCause, run};
-use crate::texts::{
-    bad_line_text, read_fault_text, too_long_text, transcript_text, usage_text,
-};
+use crate::texts::{bad_line_text, read_fault_text, too_long_text, transcript_text, usage_text};
 use crate::whole::{InputError, read_all, write_whole};
 use std::alloc::Global;
 use strm_codes::counts::OutOfMemory;
@@ -29,11 +27,17 @@ use strm_machine::steps::Step;
 
 /// The statuses of the program.
 pub const DONE: u8 = 0;
+
 pub const USAGE: u8 = 1;
+
 pub const BAD_LINE: u8 = 2;
+
 pub const TOO_LONG: u8 = 3;
+
 pub const READ_FAULT: u8 = 4;
+
 pub const WRITE_FAULT: u8 = 5;
+
 pub const OUT_OF_MEMORY: u8 = 9;
 
 // A status, and the text that is written with it.
@@ -54,11 +58,11 @@ pub fn serve<S: Source, K: Sink>(
 ) -> u8
     ensures told { result ≢ WRITE_FAULT → result ≢ OUT_OF_MEMORY → (text : List ℕ)
         × Tells (map string_bytes words.now.items) (S.left source.old)
-          (S.faults source.old) (S.faults source.new) result text
+        (S.faults source.old) (S.faults source.new) result text
         × Appends (K.taken sink.old) (K.taken sink.new) text }
     ensures part { result ≡ WRITE_FAULT → (status : ℕ) × (text : List ℕ)
         × Tells (map string_bytes words.now.items) (S.left source.old)
-          (S.faults source.old) (S.faults source.new) status text
+        (S.faults source.old) (S.faults source.new) status text
         × TakesPart (K.taken sink.old) (K.taken sink.new) text }
     ensures write_fault { result ≡ WRITE_FAULT → Rose (K.faults sink.old) (K.faults sink.new) }
     ensures nothing { result ≡ OUT_OF_MEMORY → sink.new ≡ sink.old }

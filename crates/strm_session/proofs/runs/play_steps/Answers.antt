@@ -1,4 +1,4 @@
-use Rattle.std.proofs.Common.{rules, subst, ◌≡◌, [], Err, length, take, sym, ap, ◌∙◌, arith}
+use Rattle.std.proofs.Common.{rules, subst, [], Err, take, sym, ap, ◌∙◌, arith}
 use Rattle.std.proofs.lemmas.List.{take_all, append-nil}
 use Rattle.strm_machine.specs.State.{State}
 use Rattle.strm_machine.specs.Plays.{play}
@@ -28,8 +28,8 @@ loop-step-preserved c = record {
   so_far = played_more c.args.steps.now c.loop-step.step-index c.step-item.result c.loop-step.replies c.step_once.new.replies c.loop-step.store c.step_once.new.store c.loop-step-test.true (sym c.step-item.is) c.loop-step.invariant.so_far c.in_default.ensures.ok;
   running = search rules;
   calm = λ h.
-    let plain = plain_at c.args.steps.now c.loop-step.step-index _ c.loop-step-test.true (sym c.step-item.is) h in
-    subst (λ (s : State). AreCalm s.streams) (sym c.in_default.ensures.next)
-    (react-calm c.loop-step.store _ c.loop-step.invariant.running plain (c.loop-step.invariant.calm h)).calm;
+      let plain = plain_at c.args.steps.now c.loop-step.step-index _ c.loop-step-test.true (sym c.step-item.is) h in
+      subst (λ (s : State). AreCalm s.streams) (sym c.in_default.ensures.next)
+      (react-calm c.loop-step.store _ c.loop-step.invariant.running plain (c.loop-step.invariant.calm h)).calm;
   count = search rules;
 }
