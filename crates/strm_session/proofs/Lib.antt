@@ -5,3 +5,6 @@ pub mod HexLemmas
 pub mod ReadingLemmas
 pub mod StepLemmas
 pub mod LineLemmas
+pub mod PlayLemmas
+pub mod CalmLemmas
+pub mod ServingLemmas

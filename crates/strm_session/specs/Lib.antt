@@ -6,3 +6,5 @@ pub mod Plain
 pub mod Lines
 pub mod Reading
 pub mod Text
+pub mod Runs
+pub mod Serving

@@ -1,0 +1,155 @@
+-- Streams of numbers or of nothing never trap a store.
+use Rattle.std.specs.Prelude.{All, IsTrue, IsSome}
+use Rattle.std.specs.Option.{option_map}
+use Rattle.std.proofs.Common.{◌≡◌, ℕ, ◌<◌, min, Bool, true, false, cond, List, length, get_or, Option, Some, None, refl, sym, ap, ◌∙◌, subst, inl, inr}
+use Rattle.std.proofs.lemmas.Bool.{cases_lt}
+use Rattle.std.proofs.lemmas.List.{get_or_past}
+use Rattle.std.proofs.lemmas.List.Elements.{All-set, All-push, All-get_or}
+use Rattle.strm_codes.specs.declared.codes.TransmitIndex.{TransmitIndex}
+use Rattle.strm_codes.specs.declared.codes.ReturnCode.{ReturnCode}
+use Rattle.strm_codes.specs.declared.payloads.Payload.{Payload}
+use Rattle.strm_codes.specs.declared.refusals.Refusal.{Refusal}
+use Rattle.strm_codes.specs.Layout.{scalars_of}
+use Rattle.strm_codes.specs.Types.{payload_of}
+use Rattle.strm_memory.specs.Items.{items_at, stored_at, is_number_or_none}
+use Rattle.strm_memory.proofs.RegionLemmas.{items-number_or_none}
+use Rattle.strm_machine.specs.State.{State, Guest, memory_in, with_memory, stream_at, no_stream, is_gone}
+use Rattle.strm_machine.specs.Sides.{opposite, same_side, end_of, with_end, with_operation, write_of, read_of}
+use Rattle.strm_machine.specs.Meetings.{advanced, carried, begun}
+use Rattle.strm_machine.specs.Tests.{named, stream_named, items_asked}
+use Rattle.strm_machine.specs.Turns.{Turn, waits, with_received, moves, completes_alone, meets_by, finds, turn}
+use Rattle.strm_machine.specs.Making.{with_stream}
+use Rattle.strm_machine.specs.Refusals.{refusal}
+use Rattle.strm_machine.specs.Reactions.{Reaction, goes, written_back, operates, performs, unless_refused, react}
+use Rattle.strm_machine.specs.declared.streams.Side.{Side}
+use Rattle.strm_machine.specs.declared.streams.Side.TheVariants.{Writing, Reading}
+use Rattle.strm_machine.specs.declared.streams.Operation.{Operation}
+use Rattle.strm_machine.specs.declared.streams.End.{End}
+use Rattle.strm_machine.specs.declared.streams.Stream.{Stream}
+use Rattle.strm_machine.specs.declared.streams.Meeting.{Meeting}
+use Rattle.strm_machine.specs.declared.streams.Meeting.TheVariants.{BothComplete, WriteCompletes, ReadCompletes}
+use Rattle.strm_machine.specs.declared.steps.Step.{Step}
+use Rattle.strm_machine.specs.declared.steps.Step.TheVariants as steps
+use Rattle.strm_machine.specs.declared.replies.Reply.TheVariants as replies
+use Rattle.strm_session.specs.Plain.{IsPlain}
+use Rattle.strm_session.specs.declared.runs.RunCause.{RunCause}
+use Rattle.strm_session.specs.declared.runs.RunCause.TheVariants as causes
+use Rattle.strm_session.proofs.PlayLemmas.{is_halt}
+
+abbrev pub StreamIsCalm : Stream → Type 0
+StreamIsCalm stream = IsTrue (is_number_or_none stream.payload)
+
+-- all streams carry numbers or nothing
+abbrev pub AreCalm : List Stream → Type 0
+AreCalm streams = All StreamIsCalm streams
+
+-- a turn that answers, and leaves the stream's payload
+record TurnIsCalm (old : Stream) (t : Turn) : Type 0 where
+  pub code : IsSome t.code
+  pub payload : t.stream.payload ≡ old.payload
+
+with_end-payload : (side : Side) (stream : Stream) (end : End) → (with_end side stream end).payload ≡ stream.payload
+with_end-payload Writing stream end = refl
+with_end-payload Reading stream end = refl
+
+waits-calm : (side : Side) (guests : List Guest) (stream : Stream) (mine : Operation) → TurnIsCalm stream (waits side guests stream mine)
+waits-calm side guests stream mine = record { code = refl; payload = with_end-payload side stream _ }
+
+map-some : {A B : Type 0} (f : A → B) (o : Option A) → IsSome o → IsSome (option_map f o)
+map-some f None h = cc
+map-some f (Some x) h = refl
+
+carried-some : (guests : List Guest) (payload : Payload) (write read : Operation) (n : ℕ) → IsTrue (is_number_or_none payload) → IsSome (carried guests payload write read n)
+carried-some guests payload write read n h =
+    map-some (λ xs. with_memory guests read.guest (stored_at (scalars_of payload) (memory_in guests read.guest) read.address xs)) (items_at (scalars_of payload) (memory_in guests write.guest) write.address n) (items-number_or_none payload _ n h)
+
+moves-calm : (side : Side) (guests : List Guest) (stream : Stream) (mine theirs : Operation) (n : ℕ) (o : Option (List Guest)) → IsSome o → TurnIsCalm stream (moves side guests stream mine theirs n o)
+moves-calm side guests stream mine theirs n None h = cc
+moves-calm side guests stream mine theirs n (Some after) h = record { code = refl; payload = with_end-payload (opposite side) (with_received stream n) _ }
+
+cond_both : {A : Type 0} (P : A → Type 0) (b : Bool) (x y : A) → P x → P y → P (cond b x y)
+cond_both P true x y p q = p
+cond_both P false x y p q = q
+
+alone-calm : (who side : Side) (guests : List Guest) (stream : Stream) (mine theirs : Operation) → TurnIsCalm stream (completes_alone who side guests stream mine theirs)
+alone-calm who side guests stream mine theirs =
+    let stopped = with_operation (opposite side) stream (advanced stream.payload theirs 0) in
+    let then : TurnIsCalm stopped (waits side guests stopped mine) = waits-calm side guests stopped mine in
+    cond_both (TurnIsCalm stream) (same_side who side) _ _
+    (record { code = refl; payload = refl })
+    (record { code = then.code; payload = then.payload ∙ with_end-payload (opposite side) stream _ })
+
+meets_by-calm : (meeting : Meeting) (side : Side) (guests : List Guest) (stream : Stream) (mine theirs : Operation) → StreamIsCalm stream → TurnIsCalm stream (meets_by meeting side guests stream mine theirs)
+meets_by-calm BothComplete side guests stream mine theirs h = moves-calm side guests stream mine theirs (min mine.left theirs.left) _ (carried-some guests stream.payload (write_of side mine theirs) (read_of side mine theirs) (min mine.left theirs.left) h)
+meets_by-calm WriteCompletes side guests stream mine theirs h = alone-calm Writing side guests stream mine theirs
+meets_by-calm ReadCompletes side guests stream mine theirs h = alone-calm Reading side guests stream mine theirs
+
+finds-calm : (side : Side) (guests : List Guest) (stream : Stream) (mine : Operation) (o : Option Operation) → StreamIsCalm stream → TurnIsCalm stream (finds side guests stream mine o)
+finds-calm side guests stream mine None h = waits-calm side guests stream mine
+finds-calm side guests stream mine (Some theirs) h =
+    cond_both (TurnIsCalm stream) theirs.is_open _ _
+    (meets_by-calm _ side guests stream mine theirs h)
+    (waits-calm side guests stream mine)
+
+turn-calm : (side : Side) (guests : List Guest) (stream : Stream) (mine : Operation) → StreamIsCalm stream → TurnIsCalm stream (turn side guests stream mine)
+unfolding turn
+turn-calm side guests stream mine h =
+    cond_both (TurnIsCalm stream) (is_gone (end_of (opposite side) stream).owner) _ _
+    (record { code = refl; payload = with_end-payload side stream _ })
+    (finds-calm side guests stream mine _ h)
+
+-- a step that does not halt, and leaves such streams
+pub record ReactsCalmly (reaction : Reaction) : Type 0 where
+  pub goes_on : is_halt reaction.reply ≡ false
+  pub calm : AreCalm reaction.state.streams
+
+calm_at : (state : State) (s : ℕ) → AreCalm state.streams → StreamIsCalm (stream_at state s)
+calm_at state s h =
+    elim (cases_lt s (length state.streams)) [
+      | inl l ↦ All-get_or StreamIsCalm state.streams s no_stream l h
+      | inr l ↦ subst StreamIsCalm (sym (get_or_past state.streams s no_stream l)) refl
+    ]
+
+written-calm : (state : State) (s : ℕ) (t : Turn) (code : Option ReturnCode) → IsSome code → StreamIsCalm t.stream → AreCalm state.streams → ReactsCalmly (written_back state s t code)
+written-calm state s t None c p h = cc
+written-calm state s t (Some code) c p h = record { goes_on = refl; calm = All-set StreamIsCalm state.streams s t.stream p h }
+
+operates-calm : (state : State) (side : Side) (g : ℕ) (ty : TransmitIndex) (handle address count : ℕ) → AreCalm state.streams → ReactsCalmly (operates state side g ty handle address count)
+operates-calm state side g ty handle address count h =
+    let s = stream_named (named state g ty handle) in
+    let mine = begun g address (items_asked ty count) in
+    let t = turn side state.guests (stream_at state s) mine in
+    let here = calm_at state s h in
+    let turned = turn-calm side state.guests (stream_at state s) mine here in
+    written-calm state s t t.code turned.code (rw turned.payload here) h
+
+performs-calm : (state : State) (step : Step) → IsPlain step → AreCalm state.streams → ReactsCalmly (performs state step)
+unfolding performs with_stream
+performs-calm state (steps.Guest size) p h = record { goes_on = refl; calm = h }
+performs-calm state (steps.Between writer reader ty) p h =
+    let number : IsTrue (is_number_or_none (payload_of ty)) = rw p.0 refl in
+    record { goes_on = refl; calm = All-push StreamIsCalm state.streams _ h number }
+performs-calm state (steps.Write g ty handle address count) p h = operates-calm state Writing g ty handle address count h
+performs-calm state (steps.Read g ty handle address count) p h = operates-calm state Reading g ty handle address count h
+performs-calm state (steps.Poke g address bytes) p h = record { goes_on = refl; calm = h }
+performs-calm state (steps.Dump g address len) p h = record { goes_on = refl; calm = h }
+
+unless-calm : (state : State) (step : Step) (o : Option Refusal) → IsPlain step → AreCalm state.streams → ReactsCalmly (unless_refused state step o)
+unless-calm state step (Some r) p h = record { goes_on = refl; calm = h }
+unless-calm state step None p h = performs-calm state step p h
+
+-- a plain step on a store that is not trapped
+pub react-calm : (state : State) (step : Step) → state.trapped ≡ false → IsPlain step → AreCalm state.streams → ReactsCalmly (react state step)
+unfolding react
+react-calm state step t p h =
+    let same : unless_refused state step (refusal state step) ≡ react state step = sym (ap (λ b. cond b (goes replies.StoreTrapped state) (unless_refused state step (refusal state step))) t) in
+    subst ReactsCalmly same (unless-calm state step (refusal state step) p h)
+
+pub plain_at : (list : List Step) (k : ℕ) (step : Step) → k < length list → get_or list k step ≡ step → All IsPlain list → IsPlain step
+plain_at list k step l g h = subst IsPlain g (All-get_or IsPlain list k step l h)
+
+-- then no bad item stops it
+pub calm_cause : (state : State) (step : Step) (cause : RunCause) → state.trapped ≡ false → IsPlain step → AreCalm state.streams → ((stream : ℕ) → cause ≡ causes.BadItem stream → (react state step).reply ≡ replies.BadItem stream) → cause ≡ causes.OutOfMemory
+calm_cause state step causes.OutOfMemory t p h f = refl
+calm_cause state step (causes.BadItem stream) t p h f =
+    let wrong : false ≡ true = sym (react-calm state step t p h).goes_on ∙ ap is_halt (f stream refl) in cc

@@ -1,0 +1,24 @@
+-- Runs of the program: where they begin, where they stop, what was received. Ours.
+use Rattle.std.specs.Prelude.{◌≡◌, ℕ, List, [], length, map, take}
+use Rattle.strm_machine.specs.State.{State, empty}
+use Rattle.strm_machine.specs.Plays.{play, Ends, Halts}
+use Rattle.strm_machine.specs.declared.steps.Step.{Step}
+use Rattle.strm_machine.specs.declared.replies.Reply.{Reply}
+use Rattle.strm_machine.specs.declared.replies.Reply.TheVariants as replies
+use Rattle.strm_session.specs.declared.runs.RunCause.{RunCause}
+use Rattle.strm_session.specs.declared.runs.RunCause.TheVariants as causes
+
+-- a run begins with a store without guests, named 0, under these limits
+abbrev pub start : State
+start = empty 0 (record { handles = 1000000; places = 1000000 })
+
+-- what was received on each stream, in items
+abbrev pub received : State → List ℕ
+received state = map (λ s. s.received) state.streams
+
+-- why a run stops behind these replies, at the step of their number: the machine halts there, or
+-- these are its replies to the steps before
+abbrev pub StopsBy : List Step → List Reply → RunCause → Type 0
+StopsBy steps told (causes.BadItem stream) = play [] start steps ≡ Halts told (replies.BadItem stream)
+StopsBy steps told causes.OutOfMemory =
+    (state : State) × (play [] start (take (length told) steps) ≡ Ends told state)

@@ -1,0 +1,34 @@
+-- What the program writes, and why. Ours.
+use Rattle.std.specs.Prelude.{◌≡◌, ◌≢◌, ◌≤◌, ℕ, List, [], ◌∷◌, codes, Option, IfSome}
+use Rattle.strm_machine.specs.State.{State}
+use Rattle.strm_machine.specs.Plays.{play, Ends}
+use Rattle.strm_machine.specs.declared.steps.Step.{Step}
+use Rattle.strm_machine.specs.declared.replies.Reply.{Reply}
+use Rattle.strm_session.specs.Faults.{Rose}
+use Rattle.strm_session.specs.Lines.{lines_of, Spells, IsFirstBad, IsTooLong}
+use Rattle.strm_session.specs.Runs.{start, received}
+use Rattle.strm_session.specs.Text.{transcript_text, usage_text, bad_line_text, too_long_text, read_fault_text}
+
+-- the words behind the program's name tell it to run
+abbrev pub IsRun : List (List ℕ) → Type 0
+IsRun words = words ≡ codes "run" ∷ []
+
+-- the text of the machine's play on the steps that the lines of an input spell
+pub record IsTranscript (input text : List ℕ) : Type 0 where
+  pub steps : List Step
+  pub spelled : Spells (lines_of input) steps
+  pub replies : List Reply
+  pub state : State
+  pub played : play [] start steps ≡ Ends replies state
+  pub text_is : text ≡ transcript_text replies (received state)
+
+-- a status below 5 and its text, by why they come: from the program's words, the bytes that the
+-- source had left, where these are told, and the source's faults before and after
+pub record Tells (words : List (List ℕ)) (left : Option (List ℕ)) (before after : ℕ) (status : ℕ) (text : List ℕ) : Type 0 where
+  pub known : status ≤ 4
+  pub runs : status ≢ 1 → IsRun words
+  pub done : status ≡ 0 → IfSome left (λ input. IsTranscript input text)
+  pub usage : status ≡ 1 → (¬ IsRun words) × (text ≡ usage_text)
+  pub bad_line : status ≡ 2 → (line : ℕ) × IfSome left (λ input. IsFirstBad (lines_of input) line) × (text ≡ bad_line_text line)
+  pub too_long : status ≡ 3 → IfSome left IsTooLong × (text ≡ too_long_text)
+  pub read_fault : status ≡ 4 → Rose before after × (text ≡ read_fault_text)

@@ -1,0 +1,195 @@
+//! The run of a list of steps on a new store.
+//!
+//! Source: ours.
+
+ghost use Rattle.std.specs.Prelude.{◌≡◌, ◌≢◌, ◌≤◌, ◌∷◌, ◌++◌, ◌+◌, [], List, ℕ, false, length, All, IfOk, IfErr, OnOk, OnErr, Err};
+ghost use Rattle.strm_machine.specs.State.{State};
+ghost use Rattle.strm_machine.specs.Reactions.{goes, react};
+ghost use Rattle.strm_machine.specs.Plays.{play, Ends, Halts};
+ghost use Rattle.strm_machine.specs.declared.steps.Step.{Step};
+ghost use Rattle.strm_machine.specs.declared.replies.Reply.TheVariants.{BadItem as IsBadItem};
+ghost use Rattle.strm_session.specs.Plain.{IsPlain};
+ghost use Rattle.strm_session.specs.Runs.{start, received, StopsBy};
+
+use crate::lists::{Counts, Replies};
+use std::alloc::Global;
+use strm_codes::counts::OutOfMemory;
+use strm_machine::limits::Limits;
+use strm_machine::replies::Reply;
+use strm_machine::steps::Step;
+use strm_transmit::errors::StoreError;
+use strm_transmit::steps::apply;
+use strm_transmit::store::Store;
+
+/// The limits of a run's store.
+pub const PROGRAM_LIMITS: Limits = Limits {
+    handles: 1_000_000,
+    places: 1_000_000,
+};
+
+/// A run that came to its end.
+#[derive(Drop)]
+pub struct Transcript {
+    /// One reply per step.
+    pub replies: Replies,
+    /// How many items were received on each stream.
+    pub moved: Counts,
+    /// The store after the last step.
+    pub store: Store,
+}
+
+/// Why a run stopped.
+#[derive(Clone, Copy, Debug, PartialEq, Eq)]
+pub enum RunCause {
+    /// An item of this stream is no Unicode scalar value.
+    BadItem { stream: u32 },
+    /// An allocation was refused.
+    OutOfMemory,
+}
+
+/// A run that stopped.
+#[derive(Drop)]
+pub struct RunStop {
+    /// The step at which it stopped, counted from 0.
+    pub at: u32,
+    /// Why it stopped there.
+    pub cause: RunCause,
+    /// The replies to the steps before.
+    pub replies: Replies,
+}
+
+/// Runs the steps on a new store.
+pub fn run(alloc: Global, steps: &[Step]) -> Result<Transcript, RunStop>
+    requires few { length steps.now ≤ 4294967295 }
+    ensures ok { IfOk result (λ t. play [] start steps.now ≡ Ends t.replies t.store) }
+    ensures moved { IfOk result (λ t. t.moved ≡ received t.store) }
+    ensures stop { IfErr result (λ stop. StopsBy steps.now stop.replies stop.cause) }
+    ensures at { IfErr result (λ stop. stop.at ≡ length stop.replies) }
+
+    // Streams of bytes have no bad item.
+    ensures plain { All IsPlain steps.now →
+        IfErr result (λ stop. stop.cause ≡ RunCause.OutOfMemory) }
+{
+    let mut store = Store::new(alloc, 0, PROGRAM_LIMITS);
+    let mut replies = Replies::new(alloc);
+    match play_steps(&mut store, &mut replies, steps) {
+        Ok(()) => finished(alloc, store, replies),
+        Err(cause) => Err(stopped(cause, replies)),
+    }
+}
+
+// A run that stopped behind these replies.
+fn stopped(cause: RunCause, replies: Replies) -> RunStop
+    requires few { length replies ≤ 4294967295 }
+    ensures { result ≡ record { at = length replies; cause = cause; replies = replies } }
+{
+    RunStop {
+        at: replies.as_slice().len() as u32,
+        cause,
+        replies,
+    }
+}
+
+// A run that came to its end, with what it received.
+fn finished(alloc: Global, store: Store, replies: Replies) -> Result<Transcript, RunStop>
+    requires few { length replies ≤ 4294967295 }
+    ensures ok { IfOk result (λ t. (t.replies ≡ replies) × (t.store ≡ store)) }
+    ensures moved { IfOk result (λ t. t.moved ≡ received store) }
+    ensures stop { IfErr result (λ stop. stop ≡ record {
+      at = length replies;
+      cause = RunCause.OutOfMemory;
+      replies = replies;
+    }) }
+{
+    match counts(alloc, &store) {
+        Ok(moved) => Ok(Transcript {
+            replies,
+            moved,
+            store,
+        }),
+        Err(_) => Err(stopped(RunCause::OutOfMemory, replies)),
+    }
+}
+
+// What was received on each stream.
+fn counts(alloc: Global, store: &Store) -> Result<Counts, OutOfMemory>
+    ensures { IfOk result (λ counts. counts ≡ received store.now) }
+{
+    let mut counts = Counts::new(alloc);
+    for stream in 0..store.streams() {
+        match store.moved(stream) {
+            Some(count) => counts.push(count)?,
+            None => unreachable!(),
+        }
+    }
+    Ok(counts)
+}
+
+// Does the steps in order, and keeps their replies.
+fn play_steps(store: &mut Store, replies: &mut Replies, steps: &[Step]) -> Result<(), RunCause>
+    requires begins { store.old ≡ start }
+    requires none { replies.old ≡ [] }
+    ensures ok { OnOk result (play [] start steps.now ≡ Ends replies.new store.new) }
+    ensures stop { IfErr result (λ cause. StopsBy steps.now replies.new cause) }
+    ensures all { OnOk result (length replies.new ≡ length steps.now) }
+    ensures count { length replies.new ≤ length steps.now }
+    ensures plain { All IsPlain steps.now →
+        IfErr result (λ cause. cause ≡ RunCause.OutOfMemory) }
+{
+    for step in steps {
+        if let Err(cause) = step_once(store, replies, step) {
+            return Err(cause);
+        }
+    }
+    Ok(())
+}
+
+// Does one step, and keeps its reply.
+fn step_once(store: &mut Store, replies: &mut Replies, step: &Step) -> Result<(), RunCause>
+    requires { store.old.trapped ≡ false }
+    ensures ok { (more : List Step) → OnOk result
+        (play replies.old store.old (step.now ∷ more) ≡ play replies.new store.new more) }
+    ensures bad_item { (more : List Step) (stream : ℕ) → result ≡ Err (RunCause.BadItem stream) →
+        play replies.old store.old (step.now ∷ more) ≡ Halts replies.old (IsBadItem stream) }
+    ensures goes_on { OnOk result (store.new.trapped ≡ false) }
+    ensures next { OnOk result (store.new ≡ (react store.old step.now).state) }
+    ensures cause { (stream : ℕ) → result ≡ Err (RunCause.BadItem stream) →
+        (react store.old step.now).reply ≡ IsBadItem stream }
+    ensures one { OnOk result (length replies.new ≡ length replies.old + 1) }
+    ensures err { OnErr result (replies.new ≡ replies.old) }
+{
+    let reply = match answered(store, step) {
+        Ok(reply) => reply,
+        Err(_) => return Err(RunCause::OutOfMemory),
+    };
+    match &reply {
+        Reply::BadItem { stream } => Err(RunCause::BadItem { stream: *stream }),
+        Reply::StoreTrapped => unreachable!(),
+        _ => keep(replies, &reply),
+    }
+}
+
+// Keeps a reply.
+fn keep(replies: &mut Replies, reply: &Reply) -> Result<(), RunCause>
+    ensures ok { OnOk result (replies.new ≡ replies.old ++ reply.now ∷ []) }
+    ensures err { OnErr result (replies.new ≡ replies.old) }
+    ensures memory { IfErr result (λ cause. cause ≡ RunCause.OutOfMemory) }
+{
+    match replies.push(*reply) {
+        Ok(()) => Ok(()),
+        Err(_) => Err(RunCause::OutOfMemory),
+    }
+}
+
+// The machine's reply to a step.
+fn answered(store: &mut Store, step: &Step) -> Result<Reply, OutOfMemory>
+    ensures { IfOk result (λ reply. react store.old step.now ≡ goes reply store.new) }
+{
+    match apply(store, step) {
+        Ok(reply) => Ok(reply),
+        Err(StoreError::Refused(refusal)) => Ok(Reply::Refused(refusal)),
+        Err(StoreError::BadItem { stream }) => Ok(Reply::BadItem { stream }),
+        Err(StoreError::StoreTrapped) => Ok(Reply::StoreTrapped),
+        Err(StoreError::OutOfMemory) => Err(OutOfMemory),
+    }
+}

@@ -1,0 +1,170 @@
+//! The program's work: words and bytes in, a text and a status out.
+//!
+//! Source: ours.
+
+ghost use Rattle.std.specs.Prelude.{◌≡◌, ◌≢◌, ◌≤◌, ◌+◌, ◌⊎◌, ◌↔◌, ◌∷◌, ℕ, List, [], length, map, codes, All, IfOk, IsTrue, Some, string_bytes};
+ghost use Rattle.std.specs.Io.KnownBytes.{Appends, Consumes};
+ghost use Rattle.strm_machine.specs.declared.steps.Step.{Step};
+ghost use Rattle.strm_machine.specs.Plays.{play, Ends};
+ghost use Rattle.strm_machine.specs.State.{State};
+ghost use Rattle.strm_machine.specs.declared.replies.Reply.{Reply};
+ghost use Rattle.strm_session.specs.Plain.{IsPlain};
+ghost use Rattle.strm_session.specs.Runs.{start, received};
+ghost use Rattle.strm_session.specs.Text.{transcript_text};
+ghost use Rattle.strm_session.specs.Faults.{Rose, TakesPart};
+ghost use Rattle.strm_session.specs.Lines.{lines_of, Spells, IsTooLong};
+ghost use Rattle.strm_session.specs.Serving.{IsRun, Tells};
+
+use crate::lists::TextBytes;
+use crate::parsing::{MAX_BYTES, ParseError, parse};
+use crate::ports::{Sink, Source};
+use crate::runs::{RunCause, run};
+use crate::texts::{bad_line_text, read_fault_text, too_long_text, transcript_text, usage_text};
+use crate::whole::{InputError, read_all, write_whole};
+use std::alloc::Global;
+use strm_codes::counts::OutOfMemory;
+use strm_machine::steps::Step;
+
+/// The statuses of the program.
+pub const DONE: u8 = 0;
+
+pub const USAGE: u8 = 1;
+
+pub const BAD_LINE: u8 = 2;
+
+pub const TOO_LONG: u8 = 3;
+
+pub const READ_FAULT: u8 = 4;
+
+pub const WRITE_FAULT: u8 = 5;
+
+pub const OUT_OF_MEMORY: u8 = 9;
+
+// A status, and the text that is written with it.
+#[derive(Drop)]
+struct Answer {
+    status: u8,
+    text: TextBytes,
+}
+
+/// Does what the words behind the program's name say, and answers the status of the program. The
+/// one word `run` reads the source to its end, runs its lines, and writes the text of the run.
+/// All that is written is made before the first write.
+pub fn serve<S: Source, K: Sink>(
+    alloc: Global,
+    words: &Vec<String>,
+    source: &mut S,
+    sink: &mut K,
+) -> u8
+    ensures told { result ≢ WRITE_FAULT → result ≢ OUT_OF_MEMORY → (text : List ℕ)
+        × Tells (map string_bytes words.now.items) (S.left source.old)
+        (S.faults source.old) (S.faults source.new) result text
+        × Appends (K.taken sink.old) (K.taken sink.new) text }
+    ensures part { result ≡ WRITE_FAULT → (status : ℕ) × (text : List ℕ)
+        × Tells (map string_bytes words.now.items) (S.left source.old)
+        (S.faults source.old) (S.faults source.new) status text
+        × TakesPart (K.taken sink.old) (K.taken sink.new) text }
+    ensures write_fault { result ≡ WRITE_FAULT → Rose (K.faults sink.old) (K.faults sink.new) }
+    ensures nothing { result ≡ OUT_OF_MEMORY → sink.new ≡ sink.old }
+    ensures read { (front : List ℕ) × Consumes (S.left source.old) (S.left source.new) front
+        × (length front ≤ MAX_BYTES + 1) }
+    ensures unread { ¬ IsRun (map string_bytes words.now.items) → source.new ≡ source.old }
+
+    // What is in the grammar and the limits is run and written, but for faults and want of memory.
+    ensures complete { (input : List ℕ) (steps : List Step) →
+        IsRun (map string_bytes words.now.items) → S.left source.old ≡ Some input →
+        Spells (lines_of input) steps → ¬ IsTooLong input →
+        ¬ Rose (S.faults source.old) (S.faults source.new) →
+        ¬ Rose (K.faults sink.old) (K.faults sink.new) →
+        (result ≡ DONE) ⊎ (result ≡ OUT_OF_MEMORY) }
+{
+    match answer_words(alloc, words, source) {
+        Ok(answer) => match write_whole(sink, answer.text.as_slice()) {
+            Ok(()) => answer.status,
+            Err(_) => WRITE_FAULT,
+        },
+        Err(_) => OUT_OF_MEMORY,
+    }
+}
+
+// What is to be written.
+fn answer_words<S: Source>(
+    alloc: Global,
+    words: &Vec<String>,
+    source: &mut S,
+) -> Result<Answer, OutOfMemory>
+    ensures told { IfOk result (λ a.
+        Tells (map string_bytes words.now.items) (S.left source.old)
+        (S.faults source.old) (S.faults source.new) a.status a.text) }
+    ensures read { (front : List ℕ) × Consumes (S.left source.old) (S.left source.new) front
+        × (length front ≤ MAX_BYTES + 1) }
+    ensures unread { ¬ IsRun (map string_bytes words.now.items) → source.new ≡ source.old }
+{
+    if !is_run(words) {
+        return fixed(alloc, USAGE, usage_text());
+    }
+    match read_all(alloc, source) {
+        Ok(input) => answer_input(alloc, input.as_slice()),
+        Err(InputError::TooLong) => fixed(alloc, TOO_LONG, too_long_text()),
+        Err(InputError::Fault) => fixed(alloc, READ_FAULT, read_fault_text()),
+        Err(InputError::OutOfMemory) => Err(OutOfMemory),
+    }
+}
+
+// Whether the words tell the program to run.
+fn is_run(words: &Vec<String>) -> bool
+    ensures { IsTrue result ↔ IsRun (map string_bytes words.now.items) }
+{
+    let words = words.as_slice();
+    words.len() == 1 && words[0].as_bytes() == b"run".as_slice()
+}
+
+// A status with a text that is always the same.
+fn fixed(alloc: Global, status: u8, text: &[u8]) -> Result<Answer, OutOfMemory>
+    ensures { IfOk result (λ a. (a.status ≡ status) × (a.text ≡ text.now)) }
+{
+    let mut copy = TextBytes::new(alloc);
+    copy.push_slice(text)?;
+    Ok(Answer { status, text: copy })
+}
+
+// What is to be written for an input that was read.
+fn answer_input(alloc: Global, input: &[u8]) -> Result<Answer, OutOfMemory>
+    ensures { (before after : ℕ) → IfOk result (λ a.
+        Tells (codes "run" ∷ []) (Some input.now) before after a.status a.text) }
+{
+    match parse(alloc, input) {
+        Ok(steps) => answer_steps(alloc, steps.as_slice()),
+        Err(ParseError::TooLong) => fixed(alloc, TOO_LONG, too_long_text()),
+        Err(ParseError::BadLine { line }) => {
+            let text = bad_line_text(alloc, line)?;
+            Ok(Answer {
+                status: BAD_LINE,
+                text,
+            })
+        }
+        Err(ParseError::OutOfMemory) => Err(OutOfMemory),
+    }
+}
+
+// What is to be written for a list of steps.
+fn answer_steps(alloc: Global, steps: &[Step]) -> Result<Answer, OutOfMemory>
+    requires plain { All IsPlain steps.now }
+    requires few { length steps.now ≤ 4294967295 }
+    ensures status { IfOk result (λ a. a.status ≡ DONE) }
+    ensures text { IfOk result (λ a. (replies : List Reply) × (state : State)
+        × (play [] start steps.now ≡ Ends replies state)
+        × (a.text ≡ transcript_text replies (received state))) }
+{
+    match run(alloc, steps) {
+        Ok(transcript) => {
+            let (replies, moved) = (&transcript.replies, &transcript.moved);
+            let text = transcript_text(alloc, replies.as_slice(), moved.as_slice())?;
+            Ok(Answer { status: DONE, text })
+        }
+        Err(stop) => match stop.cause {
+            RunCause::OutOfMemory => Err(OutOfMemory),
+            RunCause::BadItem { .. } => unreachable!(),
+        },
+    }
+}
