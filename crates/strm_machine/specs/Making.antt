@@ -12,6 +12,8 @@ use Rattle.strm_handles.specs.declared.entries.Entry.TheVariants as entries
 use Rattle.strm_handles.specs.Ends.{read_end, write_end}
 use Rattle.strm_machine.specs.State.{State, Guest, guest_in, with_handles, idle_end}
 use Rattle.strm_machine.specs.declared.streams.Owner.TheVariants.{Held}
+use Rattle.strm_machine.specs.declared.streams.Side.{Side}
+use Rattle.strm_machine.specs.declared.streams.Side.TheVariants.{Writing, Reading}
 use Rattle.strm_machine.specs.declared.streams.Stream.{Stream}
 use Rattle.strm_machine.specs.declared.replies.Pair.{Pair}
 
@@ -25,6 +27,11 @@ read_entry (index.Future payload) s = entries.Future (read_end payload s)
 abbrev pub write_entry : TransmitIndex → ℕ → Entry
 write_entry (index.Stream payload) s = entries.Stream (write_end payload s)
 write_entry (index.Future payload) s = entries.Future (write_end payload s)
+
+-- what the handle of an end of stream s stands for
+abbrev pub end_entry : Side → TransmitIndex → ℕ → Entry
+end_entry Writing = write_entry
+end_entry Reading = read_entry
 
 -- the guests with the read end of stream s in the reader's table
 abbrev pub with_read_end : List Guest → ℕ → TransmitIndex → ℕ → List Guest

@@ -3,3 +3,4 @@ pub mod CarryingLemmas
 pub mod StepLemmas
 pub mod StoreLemmas
 pub mod OperationLemmas
+pub mod EndLemmas

@@ -10,6 +10,7 @@ mod guests;
 mod sides;
 pub mod steps;
 pub mod store;
+mod ends;
 mod turns;
 
 pub use strm_machine::chunks::Chunk;

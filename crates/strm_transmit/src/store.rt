@@ -7,6 +7,7 @@ ghost use Rattle.std.specs.Prelude.{◌≡◌, ◌≢◌, Err, ◌<◌, ◌↔�
 ghost use Rattle.std.specs.Option.{option_map};
 ghost use Rattle.strm_machine.specs.State.{empty, stream_at, guest_in, memory_in};
 
+mod making;
 mod memories;
 mod operations;
 
