@@ -10,11 +10,13 @@ use Rattle.strm_codes.specs.declared.codes.TransmitIndex.TheVariants as index
 use Rattle.strm_codes.specs.Types.{kind_of, payload_of}
 use Rattle.strm_memory.specs.Items.{is_number_or_none}
 use Rattle.strm_memory.specs.Region.{bytes_out_of_bounds}
-use Rattle.strm_machine.specs.State.{State, bytes_in_use}
+use Rattle.strm_machine.specs.State.{State, guest_in, handles_in_use, bytes_in_use}
 use Rattle.strm_machine.specs.Sides.{opposite, same_side, end_of}
 use Rattle.strm_machine.specs.Meetings.{begun}
 use Rattle.strm_machine.specs.Soundness.{sizes_of, IsPlaced}
-use Rattle.strm_machine.specs.Tests.{is_memory_too_big, are_guests_full, is_unknown_guest, are_bytes_out_of_bounds, is_too_big, items_asked, is_out_of_bounds, is_busy, has_ended, is_open_of, is_within_one_guest}
+use Rattle.strm_machine.specs.Tests.{is_no_handle, are_handles_full, are_places_full, are_streams_full, is_memory_too_big, are_guests_full, is_unknown_guest, are_bytes_out_of_bounds, is_too_big, items_asked, is_out_of_bounds, is_busy, has_ended, is_open_of, is_within_one_guest}
+use Rattle.strm_handles.specs.Handles.{next_index}
+use Rattle.strm_machine.specs.Making.{writer_index}
 use Rattle.strm_machine.specs.Refusals.{Reason, first_of, region_reasons, end_reasons_of, refusal}
 use Rattle.strm_machine.specs.declared.steps.Step.TheVariants as steps
 use Rattle.strm_machine.specs.declared.streams.Side.{Side}
@@ -116,3 +118,31 @@ numbers_within stream side g ty named e p h =
     let second = not_refused (has_ended side (kind_of ty) stream) _ _ first.1 in
     let third = not_refused (is_within_one_guest g side ty stream) _ _ second.1 in
     rw p (and_not (is_open_of g (end_of (opposite side) stream).operation) (is_number_or_none (payload_of ty)) third.0 h)
+
+-- two guests that may be joined by a stream
+pub record PairFits (state : State) (writer reader : ℕ) (ty : TransmitIndex) : Type 0 where
+  pub writer_there : writer < length state.guests
+  pub reader_there : reader < length state.guests
+  pub read : next_index (guest_in state.guests reader).handles < 2 ^ 28
+  pub write : writer_index state writer reader ty < 2 ^ 28
+  pub handles : handles_in_use state + 2 ≤ state.limits.handles
+  pub streams : length state.streams < 4294967295
+
+pub pair_fits : (state : State) (writer reader : ℕ) (ty : TransmitIndex) → refusal state (steps.Between writer reader ty) ≡ None → PairFits state writer reader ty
+unfolding refusal
+pair_fits state writer reader ty e =
+    let first = not_refused (is_unknown_guest state writer || is_unknown_guest state reader) _ _ e in
+    let there = neither (is_unknown_guest state writer) (is_unknown_guest state reader) first.0 in
+    let second = not_refused (is_no_handle (next_index (guest_in state.guests reader).handles) || is_no_handle (writer_index state writer reader ty)) _ _ first.1 in
+    let numbers = neither (is_no_handle (next_index (guest_in state.guests reader).handles)) (is_no_handle (writer_index state writer reader ty)) second.0 in
+    let third = not_refused (are_handles_full state 2) _ _ second.1 in
+    let fourth = not_refused (are_places_full state 3 || are_streams_full state) _ _ third.1 in
+    let room = neither (are_places_full state 3) (are_streams_full state) fourth.0 in
+    record {
+      writer_there = not_le (length state.guests) writer there.0;
+      reader_there = not_le (length state.guests) reader there.1;
+      read = not_le 268435456 _ numbers.0;
+      write = not_le 268435456 _ numbers.1;
+      handles = not_lt state.limits.handles (handles_in_use state + 2) third.0;
+      streams = not_le 4294967295 (length state.streams) room.1;
+    }

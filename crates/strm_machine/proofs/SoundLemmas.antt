@@ -133,7 +133,7 @@ write_entry-named payloads (index.Future payload) = new_end-named payloads paylo
 handles_of-with : (guests : List Guest) (g : ℕ) (handles : Handles) → handles_of (with_handles guests g handles) ≡ set (handles_of guests) g handles
 handles_of-with guests g handles = map-set (λ h. h.handles) guests g (record (guest_in guests g) { handles = handles })
 
-sizes_of-with_handles : (guests : List Guest) (g : ℕ) (handles : Handles) → sizes_of (with_handles guests g handles) ≡ sizes_of guests
+pub sizes_of-with_handles : (guests : List Guest) (g : ℕ) (handles : Handles) → sizes_of (with_handles guests g handles) ≡ sizes_of guests
 sizes_of-with_handles guests g handles = map-set_same (λ h. length h.memory) guests g (record (guest_in guests g) { handles = handles }) no_guest refl
 
 pub AreNamed-at : (payloads : List Payload) (guests : List Guest) (g : ℕ) → All (AreNamed payloads) (handles_of guests) → AreNamed payloads (guest_in guests g).handles

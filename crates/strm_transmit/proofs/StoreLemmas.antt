@@ -8,22 +8,25 @@ use Rattle.strm_machine.specs.Turns.{Turn, turn}
 use Rattle.strm_machine.specs.declared.streams.Side.{Side}
 use Rattle.strm_machine.specs.declared.streams.Stream.{Stream}
 use Rattle.strm_machine.specs.declared.streams.Operation.{Operation}
-use Rattle.strm_handles.specs.Counters.{Counter}
-use Rattle.strm_handles.specs.Handles.{Handles, no_handles, live_of}
+use Rattle.strm_handles.specs.Counters.{Counter, counted}
+use Rattle.strm_handles.specs.Handles.{Handles, no_handles, live_of, next_index}
 use Rattle.strm_handles.proofs.HandleLemmas.{live_of-no_handles}
 use Rattle.strm_machine.specs.State as machine
 use Rattle.strm_memory.specs.Bytes.{put_at}
-use Rattle.strm_machine.specs.State.{State, no_stream, stream_at, memory_in, with_memory, is_live, handles_in_use, bytes_in_use}
+use Rattle.strm_machine.specs.State.{State, guest_in, no_stream, stream_at, memory_in, with_memory, is_live, handles_in_use, bytes_in_use}
 use Rattle.strm_machine.specs.Soundness.{IsSound, IsPlaced, sizes_of, handles_of}
 use Rattle.strm_machine.specs.Refusals.{refusal}
 use Rattle.strm_machine.specs.Reactions.{Reaction, goes, performs}
 use Rattle.strm_machine.specs.declared.steps.Step.TheVariants as steps
 use Rattle.strm_machine.specs.declared.replies.Reply.TheVariants as replies
-use Rattle.strm_machine.proofs.RefusalLemmas.{guest_fits, poke_fits}
-use Rattle.strm_machine.proofs.SoundLemmas.{IsSound-guest, IsSound-guests, IsSound-turn, placed_at}
+use Rattle.strm_machine.proofs.RefusalLemmas.{guest_fits, poke_fits, pair_fits}
+use Rattle.strm_machine.proofs.SoundLemmas.{IsSound-guest, IsSound-guests, IsSound-turn, IsSound-with_stream, sizes_of-with_handles, placed_at}
 use Rattle.strm_machine.proofs.BoundLemmas.{length-poked}
 use Rattle.strm_machine.proofs.TurnLemmas.{GuestsKeep, TurnKeeps, with_memory-keeps, turn-keeps}
-use Rattle.strm_transmit.specs.Guests.{guest_of, seen}
+use Rattle.strm_codes.specs.declared.codes.TransmitIndex.{TransmitIndex}
+use Rattle.strm_machine.specs.Making.{with_read_end, with_ends, made_stream, made_pair, with_stream}
+use Rattle.strm_machine.specs.declared.replies.Pair.{Pair}
+use Rattle.strm_transmit.specs.Guests.{guest_of, seen, live_in}
 use Rattle.strm_transmit.specs.Inside.{state_of, IsStore}
 use Rattle.strm_transmit.specs.declared.guests.Guest.{Guest}
 use Rattle.strm_transmit.specs.declared.store.Store.TheInside.{Inside}
@@ -195,3 +198,64 @@ IsStore-turn old new s side mine l p h i =
 
 pub stream_at-there : (s : Inside) (stream : ℕ) (x : Stream) → stream < length s.streams.items → x ≡ get_or s.streams.items stream x → stream_at (state_of s) stream ≡ x
 stream_at-there s stream x l e = get_or_default s.streams.items stream no_stream x l ∙ sym e
+
+-- one stream more, with its two ends in their guests' tables
+pub record MakesStream (old new : Inside) (writer reader : ℕ) (ty : TransmitIndex) : Type 0 where
+  pub same : SameBut old new
+  pub counter : new.counter ≡ counted (counted old.counter)
+  pub live : live_in (seen new.guests.items) ≡ live_in (seen old.guests.items) + 2
+  pub live_streams : new.live_streams ≡ old.live_streams + 1
+  pub bytes : new.bytes ≡ old.bytes
+  pub guests : seen new.guests.items ≡ with_ends (seen old.guests.items) writer reader ty (length old.streams.items)
+  pub streams : new.streams.items ≡ old.streams.items ++ made_stream ty writer (made_pair (state_of old) writer reader ty).write reader (made_pair (state_of old) writer reader ty).read ∷ []
+
+state_of-made : (old new : Inside) (writer reader : ℕ) (ty : TransmitIndex) → MakesStream old new writer reader ty → state_of new ≡ with_stream (state_of old) writer reader ty
+unfolding with_stream
+state_of-made old new writer reader ty h = rw (h.same.tag, h.same.limits, h.same.trapped, h.guests, h.streams) refl
+
+pub performs-made : (old new : Inside) (writer reader : ℕ) (ty : TransmitIndex) (pair : Pair) → MakesStream old new writer reader ty → pair ≡ made_pair (state_of old) writer reader ty → performs (state_of old) (steps.Between writer reader ty) ≡ goes (replies.Pair pair) (state_of new)
+unfolding performs
+performs-made old new writer reader ty pair h e =
+    ap (λ (s : State). goes (replies.Pair (made_pair (state_of old) writer reader ty)) s) (sym (state_of-made old new writer reader ty h))
+    ∙ ap (λ (p : Pair). goes (replies.Pair p) (state_of new)) (sym e)
+
+sizes-made : (guests : List machine.Guest) (writer reader : ℕ) (ty : TransmitIndex) (s : ℕ) → sizes_of (with_ends guests writer reader ty s) ≡ sizes_of guests
+sizes-made guests writer reader ty s =
+    sizes_of-with_handles (with_read_end guests reader ty s) writer _ ∙ sizes_of-with_handles guests reader _
+
+pub IsStore-made : (old new : Inside) (writer reader : ℕ) (ty : TransmitIndex) → MakesStream old new writer reader ty → refusal (state_of old) (steps.Between writer reader ty) ≡ None → IsStore old → IsStore new
+IsStore-made old new writer reader ty h e s =
+    let fits = pair_fits (state_of old) writer reader ty e in
+    let sizes : sizes_of (seen new.guests.items) ≡ sizes_of (seen old.guests.items) = ap sizes_of h.guests ∙ sizes-made (seen old.guests.items) writer reader ty (length old.streams.items) in
+    let bytes : bytes_in_use (state_of new) ≡ bytes_in_use (state_of old) =
+    sym (sum-map (λ g. length g.memory) (seen new.guests.items)) ∙ ap sum sizes ∙ sum-map (λ g. length g.memory) (seen old.guests.items) in
+    let count : length new.guests.items ≡ length old.guests.items =
+    sym (length-map new.guests.items guest_of) ∙ sym (length-map (seen new.guests.items) (λ g. length g.memory)) ∙ ap length sizes ∙ length-map (seen old.guests.items) (λ g. length g.memory) ∙ length-map old.guests.items guest_of in
+    let stream = made_stream ty writer (made_pair (state_of old) writer reader ty).write reader (made_pair (state_of old) writer reader ty).read in
+    let live : count_by is_live new.streams.items ≡ count_by is_live old.streams.items + 1 = ap (count_by is_live) h.streams ∙ sum_by-push live_weight old.streams.items stream in
+    record {
+      sound = subst IsSound (sym (state_of-made old new writer reader ty h)) (IsSound-with_stream (state_of old) writer reader ty s.sound);
+      limit = rw (h.counter, h.same.limits) s.limit;
+      live = omega (arith, ap (λ (c : Counter). c.live) h.counter, s.live, h.live);
+      streams = omega (arith, h.live_streams, s.streams, live);
+      bytes = h.bytes ∙ s.bytes ∙ sym bytes;
+      few_guests = rw count s.few_guests;
+      few_streams = rw h.streams (omega (arith, fits.streams, length-append old.streams.items (stream ∷ [])));
+    }
+
+-- the numbers that the two handles got
+abbrev pub numbers_of : Inside → ℕ → ℕ → TransmitIndex → ℕ → ℕ × ℕ
+numbers_of old writer reader ty stream =
+    (next_index (guest_in (seen old.guests.items) reader).handles, next_index (guest_in (with_read_end (seen old.guests.items) reader ty stream) writer).handles)
+
+pub joined_is : (old : Inside) (writer reader : ℕ) (ty : TransmitIndex) (stream : ℕ) (numbers : ℕ × ℕ) (joined : Stream) → stream ≡ length old.streams.items → numbers ≡ numbers_of old writer reader ty stream → joined ≡ made_stream ty writer numbers.1 reader numbers.0 → joined ≡ made_stream ty writer (made_pair (state_of old) writer reader ty).write reader (made_pair (state_of old) writer reader ty).read
+joined_is old writer reader ty stream numbers joined e n j =
+    j ∙ ap (λ (k : ℕ × ℕ). made_stream ty writer k.1 reader k.0) (n ∙ ap (numbers_of old writer reader ty) e)
+
+abbrev as_pair : ℕ × ℕ → ℕ → Pair
+as_pair numbers stream = record { read = numbers.0; write = numbers.1; stream = stream }
+
+pub pair_is : (old : Inside) (writer reader : ℕ) (ty : TransmitIndex) (stream : ℕ) (numbers : ℕ × ℕ) → stream ≡ length old.streams.items → numbers ≡ numbers_of old writer reader ty stream → as_pair numbers stream ≡ made_pair (state_of old) writer reader ty
+pair_is old writer reader ty stream numbers e n =
+    ap (λ (k : ℕ × ℕ). as_pair k stream) (n ∙ ap (numbers_of old writer reader ty) e)
+    ∙ ap (as_pair (numbers_of old writer reader ty (length old.streams.items))) e

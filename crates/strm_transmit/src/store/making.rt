@@ -10,6 +10,9 @@ ghost use Rattle.strm_codes.specs.Types.{kind_of, payload_of};
 ghost use Rattle.strm_machine.specs.State.{guest_in, idle_end};
 ghost use Rattle.strm_machine.specs.declared.streams.Owner.TheVariants.{Held};
 ghost use Rattle.strm_machine.specs.Making.{writer_index};
+ghost use Rattle.std.specs.Prelude.{◌||◌, ◌++◌, ◌∷◌, [], vec_len};
+ghost use Rattle.std.specs.Vec.{vec_capacity};
+ghost use Rattle.strm_machine.specs.Tests.{is_no_handle, are_handles_full, are_places_full, are_streams_full};
 ghost use Rattle.strm_machine.specs.Refusals.{refusal};
 ghost use Rattle.strm_machine.specs.Reactions.{react, performs, goes};
 ghost use Rattle.strm_transmit.specs.Meets.{Meets, replied};
@@ -54,6 +57,14 @@ fn made_stream(ty: TransmitIndex, writer: End, reader: End) -> Stream
     }
 }
 
+// One item more, in room that is there.
+fn place<T: Copy>(items: &mut Vec<T>, item: &T)
+    requires { vec_len items.old < vec_capacity items.old }
+    ensures { items.new.items ≡ items.old.items ++ item.now ∷ [] }
+{
+    items.push_reserved(*item);
+}
+
 impl Store {
     // The number that the write end gets, where the read end's was inserted.
     fn writer_index(&self, writer: u32, reader: u32) -> u32
@@ -66,6 +77,80 @@ impl Store {
             table.second_index()
         } else {
             table.next_index()
+        }
+    }
+
+    // Whether a table would give a number that is no handle.
+    fn is_number_missing(&self, writer: u32, reader: u32) -> bool
+        requires writer { writer < length self.now.guests }
+        requires reader { reader < length self.now.guests }
+        ensures { (ty : TransmitIndex) → result ≡ is_no_handle (next_index (guest_in self.now.guests reader).handles)
+            || is_no_handle (writer_index self.now writer reader ty) }
+    {
+        let read = self.guests[reader as usize].table.next_index();
+        read >= MAX_HANDLE || self.writer_index(writer, reader) >= MAX_HANDLE
+    }
+
+    // Whether so many handles more would pass the limit.
+    fn are_handles_full(&self, needed: u32) -> bool
+        ensures { result ≡ are_handles_full self.now needed }
+    {
+        (self.limits.handles as u128) < self.counter.live() as u128 + u128::from(needed)
+    }
+
+    // Whether a stream more would pass the limit on places, or have no number.
+    fn are_streams_full(&self) -> bool
+        ensures { result ≡ are_places_full self.now 3 || are_streams_full self.now }
+    {
+        u64::from(self.limits.places) < 3 * u64::from(self.live_streams) + 3
+            || self.streams.len() >= MOST_STREAMS
+    }
+
+    #[tactic(auto, unfolding(strm_machine::specs::Refusals::refusal))]
+    fn between_refusal(&self, writer: u32, reader: u32) -> Option<Refusal>
+        ensures { (ty : TransmitIndex) → result ≡ refusal self.now (steps.Between writer reader ty) }
+    {
+        let guests = self.guests.len();
+        if writer as usize >= guests || reader as usize >= guests {
+            return Some(Refusal::UnknownGuest);
+        }
+        if self.is_number_missing(writer, reader) {
+            return Some(Refusal::IndexOverflow);
+        }
+        if self.are_handles_full(2) {
+            return Some(Refusal::HandleLimit);
+        }
+        if self.are_streams_full() {
+            return Some(Refusal::Full);
+        }
+        None
+    }
+
+    // A stream more. After want of memory nothing has changed.
+    fn make(&mut self, writer: u32, reader: u32, ty: TransmitIndex) -> Result<Pair, StoreError>
+        requires { refusal self.old (steps.Between writer reader ty) ≡ None }
+        ensures ok { IfOk result (λ pair.
+            performs self.old (steps.Between writer reader ty) ≡ goes (replies.Pair pair) self.new) }
+        ensures err { OnErr result (self.new ≡ self.old) }
+        ensures memory { IfErr result (λ error. error ≡ StoreError.OutOfMemory) }
+    {
+        let stream = self.streams.len() as u32;
+        let made = ty;
+        match self.streams.reserve(1) {
+            Ok(()) => {}
+            Err(_) => return Err(StoreError::OutOfMemory),
+        }
+        let (guests, counter) = (&mut self.guests, &mut self.counter);
+        match insert_ends(guests, counter, writer as usize, reader as usize, ty, stream) {
+            Ok(numbers) => {
+                let (read, write) = numbers;
+                let ends = (idle_end(writer, write), idle_end(reader, read));
+                let joined = made_stream(made, ends.0, ends.1);
+                place(&mut self.streams, &joined);
+                self.live_streams += 1;
+                Ok(Pair { read, write, stream })
+            }
+            Err(error) => Err(error),
         }
     }
 }

@@ -1,0 +1,81 @@
+use Rattle.std.proofs.Common.{◌≡◌, subst, ◌+◌, ◌<◌, ◌≤◌, ◌∷◌, [], ◌++◌, length, refl, sym, ap, ◌∙◌, arith}
+use Rattle.std.specs.Prelude.{count_by}
+use Rattle.std.proofs.lemmas.List.{length-map}
+use Rattle.std.proofs.lemmas.List.Sums.{count_by-le-length}
+use Rattle.strm_machine.specs.State.{is_live}
+use Rattle.strm_machine.proofs.RefusalLemmas.{PairFits, pair_fits}
+use Rattle.strm_handles.specs.Handles.{next_index}
+use Rattle.strm_machine.specs.State.{guest_in}
+use Rattle.strm_machine.specs.Making.{with_read_end, with_ends}
+use Rattle.strm_machine.specs.declared.streams.Stream.{Stream}
+use Rattle.strm_transmit.specs.Guests.{guest_of, seen}
+use Rattle.strm_transmit.proofs.StoreLemmas.{MakesStream, IsStore-made, performs-made, joined_is, pair_is}
+use Rattle.strm_transmit.specs.Inside.{state_of}
+use Rattle.strm_transmit.proofs.store.Store.make.Goals as goal
+
+pub insert_ends-requires-clause-writer : goal.insert_ends-requires-clause-writer
+insert_ends-requires-clause-writer c =
+    let fits = pair_fits (state_of c.self.inside) c.args.writer c.args.reader c.args.ty (rw (← c.self.view_is) at c.requires) in
+    omega (arith, fits.writer_there, length-map c.self.inside.guests.items guest_of)
+
+pub insert_ends-requires-clause-reader : goal.insert_ends-requires-clause-reader
+insert_ends-requires-clause-reader c =
+    let fits = pair_fits (state_of c.self.inside) c.args.writer c.args.reader c.args.ty (rw (← c.self.view_is) at c.requires) in
+    omega (arith, fits.reader_there, length-map c.self.inside.guests.items guest_of)
+
+pub insert_ends-requires-clause-read : goal.insert_ends-requires-clause-read
+insert_ends-requires-clause-read c =
+    (pair_fits (state_of c.self.inside) c.args.writer c.args.reader c.args.ty (rw (← c.self.view_is) at c.requires)).read
+
+pub insert_ends-requires-clause-write : goal.insert_ends-requires-clause-write
+insert_ends-requires-clause-write c =
+    let old = c.self.inside in
+    let fits = pair_fits (state_of old) c.args.writer c.args.reader c.args.ty (rw (← c.self.view_is) at c.requires) in
+    let number : c.len-stream.result ≡ length old.streams.items = omega (arith, c.len-stream.ensures, old.streams.ok) in
+    subst (λ s. next_index (guest_in (with_read_end (seen old.guests.items) c.args.reader c.args.ty s) c.args.writer).handles < 268435456) (sym number) fits.write
+
+pub insert_ends-requires-clause-below : goal.insert_ends-requires-clause-below
+insert_ends-requires-clause-below c =
+    let fits = pair_fits (state_of c.self.inside) c.args.writer c.args.reader c.args.ty (rw (← c.self.view_is) at c.requires) in
+    omega (arith, fits.handles, c.self.invariant.limit, c.self.invariant.live)
+
+pub overflow_add-self : goal.overflow_add-self
+overflow_add-self c =
+    let fits = pair_fits (state_of c.self.inside) c.args.writer c.args.reader c.args.ty (rw (← c.self.view_is) at c.requires) in
+    omega (arith, fits.streams, c.self.invariant.streams, count_by-le-length is_live c.self.inside.streams.items)
+
+pub invariant_of-self-in-Ok-insert_ends : goal.invariant_of-self-in-Ok-insert_ends
+invariant_of-self-in-Ok-insert_ends c =
+    let old = c.self.inside in
+    let number : c.len-stream.result ≡ length old.streams.items = omega (arith, c.len-stream.ensures, old.streams.ok) in
+    let joined = joined_is old c.args.writer c.args.reader c.args.ty c.len-stream.result c.in-Ok-insert_ends.numbers c.made_stream-joined.result number c.in-Ok-insert_ends.ensures.numbers
+    (rw (c.made_stream-joined.ensures, c.idle_end.ensures, c.idle_end-in-Ok-insert_ends.ensures) refl) in
+    let made : MakesStream c.self.inside (record c.self.inside { counter = c.insert_ends.new.counter; guests = c.insert_ends.new.guests; streams = c.place.new.items; live_streams = c.self.inside.live_streams + 1 }) c.args.writer c.args.reader c.args.ty = record {
+      same = record { tag = refl; limits = refl; trapped = refl };
+      counter = c.in-Ok-insert_ends.ensures.counter;
+      live = c.in-Ok-insert_ends.ensures.live;
+      live_streams = refl;
+      bytes = refl;
+      guests = c.in-Ok-insert_ends.ensures.guests ∙ ap (with_ends (seen old.guests.items) c.args.writer c.args.reader c.args.ty) number;
+      streams = c.place.ensures ∙ rw c.in-Ok.ensures.items (ap (λ (s : Stream). old.streams.items ++ s ∷ []) joined);
+    } in
+    IsStore-made old _ c.args.writer c.args.reader c.args.ty made (rw (← c.self.view_is) at c.requires) c.self.invariant
+
+pub returns-in-Ok-insert_ends-clause-ok : goal.returns-in-Ok-insert_ends-clause-ok
+returns-in-Ok-insert_ends-clause-ok c =
+    let old = c.self.inside in
+    let number : c.len-stream.result ≡ length old.streams.items = omega (arith, c.len-stream.ensures, old.streams.ok) in
+    let joined = joined_is old c.args.writer c.args.reader c.args.ty c.len-stream.result c.in-Ok-insert_ends.numbers c.made_stream-joined.result number c.in-Ok-insert_ends.ensures.numbers
+    (rw (c.made_stream-joined.ensures, c.idle_end.ensures, c.idle_end-in-Ok-insert_ends.ensures) refl) in
+    let made : MakesStream c.self.inside (record c.self.inside { counter = c.insert_ends.new.counter; guests = c.insert_ends.new.guests; streams = c.place.new.items; live_streams = c.self.inside.live_streams + 1 }) c.args.writer c.args.reader c.args.ty = record {
+      same = record { tag = refl; limits = refl; trapped = refl };
+      counter = c.in-Ok-insert_ends.ensures.counter;
+      live = c.in-Ok-insert_ends.ensures.live;
+      live_streams = refl;
+      bytes = refl;
+      guests = c.in-Ok-insert_ends.ensures.guests ∙ ap (with_ends (seen old.guests.items) c.args.writer c.args.reader c.args.ty) number;
+      streams = c.place.ensures ∙ rw c.in-Ok.ensures.items (ap (λ (s : Stream). old.streams.items ++ s ∷ []) joined);
+    } in
+    rw (← c.self.view_is)
+    (performs-made old _ c.args.writer c.args.reader c.args.ty _ made
+    (pair_is old c.args.writer c.args.reader c.args.ty c.len-stream.result c.in-Ok-insert_ends.numbers number c.in-Ok-insert_ends.ensures.numbers))
