@@ -1,14 +1,17 @@
 -- What one step does, by what is known of the state and the step.
-use Rattle.std.proofs.Common.{◌≡◌, ℕ, Bool, true, false, cond, List, [], ◌∷◌, ◌++◌, Option, Some, None, refl, ap, ◌∙◌}
+use Rattle.std.proofs.Common.{◌≡◌, ℕ, min, take, drop, arith, Bool, true, false, cond, List, [], ◌∷◌, ◌++◌, Option, Some, None, refl, ap, ◌∙◌}
 use Rattle.std.specs.Option.{option_or}
 use Rattle.strm_codes.specs.declared.refusals.Refusal.{Refusal}
 use Rattle.strm_codes.specs.declared.codes.TransmitIndex.{TransmitIndex}
-use Rattle.strm_machine.specs.State.{State}
+use Rattle.strm_codes.specs.declared.refusals.Refusal.TheVariants as refusals
+use Rattle.strm_machine.specs.State.{State, memory_in}
+use Rattle.strm_machine.specs.Tests.{is_unknown_guest, are_bytes_out_of_bounds}
 use Rattle.strm_machine.specs.declared.streams.Side.{Side}
 use Rattle.strm_machine.specs.declared.streams.Side.TheVariants.{Writing, Reading}
-use Rattle.strm_machine.specs.Refusals.{Reason, first_of, operation_reasons, reasons, refusal}
+use Rattle.strm_machine.specs.Refusals.{Reason, where_, first_of, operation_reasons, reasons, refusal}
 use Rattle.strm_machine.specs.Reactions.{Reaction, goes, operates, operation_step, performs, unless_refused, react}
 use Rattle.strm_machine.specs.declared.steps.Step.{Step}
+use Rattle.strm_machine.specs.declared.steps.Step.TheVariants as steps
 use Rattle.strm_machine.specs.declared.replies.Reply.TheVariants as replies
 
 pub react-trapped : (state : State) (step : Step) → state.trapped ≡ true → react state step ≡ goes replies.StoreTrapped state
@@ -46,3 +49,28 @@ pub performs-operation : (state : State) (side : Side) (g : ℕ) (ty : TransmitI
 unfolding performs
 performs-operation state Writing g ty handle address count = refl
 performs-operation state Reading g ty handle address count = refl
+
+least : (len : ℕ) → min (min len 64) 64 ≡ min len 64
+least len = omega arith
+
+refusal-dump : (state : State) (g address len : ℕ) → refusal state (steps.Dump g address (min len 64)) ≡ refusal state (steps.Dump g address len)
+unfolding refusal
+refusal-dump state g address len =
+    ap (λ n. first_of (where_ (is_unknown_guest state g) refusals.UnknownGuest ∷ where_ (are_bytes_out_of_bounds state g address n) refusals.OutOfBounds ∷ [])) (least len)
+
+performs-dump : (state : State) (g address len : ℕ) → performs state (steps.Dump g address (min len 64)) ≡ performs state (steps.Dump g address len)
+unfolding performs
+performs-dump state g address len =
+    ap (λ n. goes (replies.Bytes (take n (drop address (memory_in state.guests g)))) state) (least len)
+
+same_unless : (state : State) (one other : Step) (o : Option Refusal) → performs state one ≡ performs state other → unless_refused state one o ≡ unless_refused state other o
+same_unless state one other None e = e
+same_unless state one other (Some r) e = refl
+
+-- at most 64 bytes are looked at
+pub react-dump : (state : State) (g address len : ℕ) → react state (steps.Dump g address (min len 64)) ≡ react state (steps.Dump g address len)
+unfolding react
+react-dump state g address len =
+    ap (cond state.trapped (goes replies.StoreTrapped state))
+    (ap (unless_refused state (steps.Dump g address (min len 64))) (refusal-dump state g address len)
+    ∙ same_unless state (steps.Dump g address (min len 64)) (steps.Dump g address len) (refusal state (steps.Dump g address len)) (performs-dump state g address len))

@@ -1,11 +1,11 @@
 -- Lines of an input, one more at a time, and their one reading.
-use Rattle.std.proofs.Common.{◌≡◌, ◌≢◌, ℕ, zero, suc, ◌+◌, ◌-◌, ◌<◌, ◌≤◌, List, [], ◌∷◌, ◌++◌, length, length-take-le, map, take, get_or, count_by, cond, eqb, Option, Some, None, Result, Ok, Err, IfOk, MatchResult, refl, sym, ap, ◌∙◌, arith, inl, inr, append_assoc, length-append}
+use Rattle.std.proofs.Common.{◌≡◌, ◌≢◌, ℕ, zero, suc, ◌+◌, ◌-◌, ◌<◌, ◌≤◌, List, [], ◌∷◌, ◌++◌, length, length-take-le, map, take, drop, get_or, cond, eqb, Option, Some, None, Result, Ok, Err, IfOk, MatchResult, refl, sym, ap, ◌∙◌, arith, inl, inr, append_assoc, length-append}
 use Rattle.std.specs.Prelude.{slice_get, All}
 use Rattle.std.specs.Option.{option_map}
 use Rattle.std.proofs.lemmas.Bool.Decides.{eqb_tells}
 use Rattle.std.proofs.lemmas.Bool.{cases_lt, ne_eqb}
-use Rattle.std.proofs.lemmas.List.Recursion.{is_count_by}
-use Rattle.std.proofs.lemmas.List.{append-nil, take_at, length-map, map-append, get_or_at}
+use Rattle.memchr.specs.Find.{is_byte, places_from, places}
+use Rattle.std.proofs.lemmas.List.{drop_more, drop_all, append-nil, take_at, length-map, map-append, get_or_at}
 use Rattle.std.proofs.lemmas.List.Elements.{All-push, All-head, All-tail, All-weaker}
 use Rattle.std.proofs.lemmas.Option.{slice_get-get_or}
 use Rattle.strm_machine.specs.declared.steps.Step.{Step}
@@ -161,9 +161,18 @@ feeds : List ℕ → ℕ
 feeds [] = 0
 feeds (b ∷ bytes) = cond (eqb b 10) (1 + feeds bytes) (feeds bytes)
 
-feeds-count_by : (bytes : List ℕ) → feeds bytes ≡ count_by (λ b. eqb b 10) bytes
-unfolding feeds
-feeds-count_by bytes = is_count_by feeds (λ b. eqb b 10) refl (λ x xs. refl) bytes
+length-places : (bytes : List ℕ) (n k : ℕ) → k + n ≡ length bytes → length (places_from (is_byte 10) bytes k n) ≡ feeds (drop k bytes)
+unfolding places_from feeds
+length-places bytes zero k e = rw (drop_all k bytes (omega arith)) refl
+length-places bytes (suc n) k e =
+    let later : length (places_from (is_byte 10) bytes (k + 1) n) ≡ feeds (drop (k + 1) bytes) = length-places bytes n (k + 1) (omega arith) in
+    elim (eqb_tells (get_or bytes k 0) 10) [
+      | inl t ↦ rw (drop_more bytes k 0 (omega arith), t.0) (omega (arith, later))
+      | inr t ↦ rw (drop_more bytes k 0 (omega arith), t.0) later
+    ]
+
+feeds-places : (bytes : List ℕ) → length (places (is_byte 10) bytes) ≡ feeds bytes
+feeds-places bytes = length-places bytes (length bytes - 0) 0 (omega arith)
 
 length-lines : (bytes : List ℕ) → length (lines_of bytes) ≡ feeds bytes + unended bytes
 unfolding lines_of unended feeds
@@ -189,15 +198,15 @@ unfolding lines_of
 no_lines [] n h e = omega arith
 no_lines (b ∷ bytes) n h e = absurd (omega arith)
 
-pub lines_ended : (bytes : List ℕ) (n : ℕ) → n ≡ count_by (λ b. eqb b 10) bytes → 0 < length bytes → get_or bytes (length bytes - 1) 0 ≡ 10 → n ≡ length (lines_of bytes)
+pub lines_ended : (bytes : List ℕ) (n : ℕ) → n ≡ length (places (is_byte 10) bytes) → 0 < length bytes → get_or bytes (length bytes - 1) 0 ≡ 10 → n ≡ length (lines_of bytes)
 lines_ended bytes n e h f =
     let u : unended bytes ≡ 0 = unended_at bytes h ∙ rw f refl in
-    omega (arith, length-lines bytes, feeds-count_by bytes)
+    omega (arith, length-lines bytes, feeds-places bytes)
 
-pub lines_unended : (bytes : List ℕ) (n : ℕ) → n ≡ count_by (λ b. eqb b 10) bytes → 0 < length bytes → get_or bytes (length bytes - 1) 0 ≢ 10 → n + 1 ≡ length (lines_of bytes)
+pub lines_unended : (bytes : List ℕ) (n : ℕ) → n ≡ length (places (is_byte 10) bytes) → 0 < length bytes → get_or bytes (length bytes - 1) 0 ≢ 10 → n + 1 ≡ length (lines_of bytes)
 lines_unended bytes n e h f =
     let u : unended bytes ≡ 1 = unended_at bytes h ∙ rw (ne_eqb (get_or bytes (length bytes - 1) 0) 10 f) refl in
-    omega (arith, length-lines bytes, feeds-count_by bytes)
+    omega (arith, length-lines bytes, feeds-places bytes)
 
 -- where lines spell steps, those are found, but for want of memory
 pub complete : (lines : List (List ℕ)) (result : Result (List Step) ParseError) → IfOk result (λ found. Spells lines found) → result ≢ Err error.TooLong → ((line : ℕ) → result ≡ Err (error.BadLine line) → IsFirstBad lines line) → (steps : List Step) → Spells lines steps → MatchResult result (λ found. found ≡ steps) (λ e. e ≡ error.OutOfMemory)

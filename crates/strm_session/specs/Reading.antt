@@ -35,6 +35,7 @@ followed_by first second line = do
   y ← second p.1
   Some (p.0, y)
 
+-- a decimal digit
 abbrev pub is_digit : ℕ → Bool
 is_digit c = nat_le 48 c && nat_le c 57
 
@@ -88,24 +89,32 @@ operands_of rest =
     followed_by number (followed_by type_of
     (followed_by number (followed_by number (number_within 1 268435455)))) rest
 
+-- the step behind each command, from its arguments
+
+-- guest N
 unfoldable pub guest_of : List ℕ → Option Step
 guest_of rest = option_map Guest (number rest)
 
+-- pair W R T, of two guests
 unfoldable pub pair_of : List ℕ → Option Step
 pair_of rest = do
   v ← followed_by number (followed_by number type_of) rest
   if v.0 == v.1.0 then None else Some (Between v.0 v.1.0 v.1.1)
 
+-- write G T H A N
 unfoldable pub write_of : List ℕ → Option Step
 write_of rest = option_map (λ v. Write v.0 v.1.0 v.1.1.0 v.1.1.1.0 v.1.1.1.1) (operands_of rest)
 
+-- read G T H A N
 unfoldable pub read_of : List ℕ → Option Step
 read_of rest = option_map (λ v. Read v.0 v.1.0 v.1.1.0 v.1.1.1.0 v.1.1.1.1) (operands_of rest)
 
+-- poke G A HEX
 unfoldable pub poke_of : List ℕ → Option Step
 poke_of rest =
     option_map (λ v. Poke v.0 v.1.0 v.1.1) (followed_by number (followed_by number hex) rest)
 
+-- dump G A N
 unfoldable pub dump_of : List ℕ → Option Step
 dump_of rest =
     option_map (λ v. Dump v.0 v.1.0 v.1.1)

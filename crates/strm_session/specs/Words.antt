@@ -21,6 +21,7 @@ hex_pair byte = hex_digit (byte / 16) ∷ hex_digit (byte % 16) ∷ []
 abbrev pub hex_pairs : List ℕ → List ℕ
 hex_pairs bytes = flat_map hex_pair bytes
 
+-- a scalar's name
 abbrev pub scalar_word : Scalar → List ℕ
 scalar_word Flag = codes "bool"
 scalar_word S8 = codes "s8"
@@ -39,6 +40,7 @@ payload_word Nothing = codes "none"
 payload_word (One scalar) = scalar_word scalar
 payload_word (Tuple shape) = codes "(" ++ join_with_byte 44 (map scalar_word shape) ++ codes ")"
 
+-- the kind, a colon and the payload
 abbrev pub type_word : TransmitIndex → List ℕ
 type_word (Stream payload) = codes "stream:" ++ payload_word payload
 type_word (Future payload) = codes "future:" ++ payload_word payload

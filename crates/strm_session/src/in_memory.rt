@@ -68,12 +68,6 @@ impl BytesSource {
             faults: 0,
         }
     }
-
-    fn rest(&self) -> &[u8]
-        ensures { result.now ≡ self.now.left }
-    {
-        &self.bytes[self.at..]
-    }
 }
 
 impl Source for BytesSource {

@@ -2,7 +2,8 @@
 //!
 //! Source: ours.
 
-ghost use Rattle.std.specs.Prelude.{◌≡◌, ◌≢◌, ◌∷◌, ◌≤◌, ◌<◌, ◌↔◌, ◌==◌, ℕ, List, length, count_by, All, IfOk, MatchResult, Err};
+ghost use Rattle.std.specs.Prelude.{◌≡◌, ◌≢◌, ◌∷◌, ◌≤◌, ◌<◌, ◌↔◌, ℕ, List, length, All, IfOk, MatchResult, Err};
+ghost use Rattle.memchr.specs.Find.{is_byte, places};
 ghost use Rattle.strm_machine.specs.declared.steps.Step.{Step};
 ghost use Rattle.strm_session.specs.Plain.{IsPlain};
 ghost use Rattle.strm_session.specs.Lines.{lines_of, Spells, IsFirstBad, IsTooLong};
@@ -10,7 +11,7 @@ ghost use Rattle.strm_session.specs.declared.parsing.ParseError.TheVariants.{Out
 
 use crate::lines::step_of_line;
 use crate::lists::Steps;
-use memchr::memchr;
+use memchr::{memchr, memchr_iter};
 use std::alloc::Global;
 use strm_codes::counts::OutOfMemory;
 use thiserror::Error;
@@ -80,16 +81,10 @@ fn count_lines(bytes: &[u8]) -> usize
 
 // The number of line feeds.
 fn count_feeds(bytes: &[u8]) -> usize
-    ensures exact { result ≡ count_by (λ byte. byte == 10) bytes.now }
+    ensures exact { result ≡ length (places (is_byte 10) bytes.now) }
     ensures most { result ≤ length bytes.now }
 {
-    let mut feeds = 0;
-    for byte in bytes {
-        if *byte == b'\n' {
-            feeds += 1;
-        }
-    }
-    feeds
+    memchr_iter(b'\n', bytes).count()
 }
 
 // The steps of an input within the limits.

@@ -7,7 +7,7 @@ ghost use Rattle.std.specs.Io.{ReadsAtMost, WritesAtMost};
 ghost use Rattle.std.specs.Io.KnownBytes.{ReadConsumes, WriteAppends};
 ghost use Rattle.strm_session.specs.Faults.{Rose};
 
-/// A read or a write failed, and changed nothing but the count of faults.
+/// A read or a write failed: what is left, or what was taken, is as it was.
 #[derive(Clone, Copy, Debug, PartialEq, Eq)]
 pub struct Failed;
 

@@ -8,7 +8,7 @@ use Rattle.strm_machine.specs.Reactions.{Reaction, goes, performs, react}
 use Rattle.strm_machine.specs.declared.steps.Step.{Step}
 use Rattle.strm_machine.specs.declared.replies.Reply.{Reply}
 use Rattle.strm_machine.proofs.ReactionLemmas.{react-trapped, react-refused, react-performs}
-use Rattle.strm_transmit.specs.Meets.{Meets, replied, unless_found, admitted}
+use Rattle.strm_transmit.specs.Meets.{Meets, replied, unless_found, admitted, refused_too}
 use Rattle.strm_transmit.specs.declared.errors.StoreError.{StoreError}
 use Rattle.strm_transmit.specs.declared.errors.StoreError.TheVariants.{Refused, BadItem, StoreTrapped, OutOfMemory}
 
@@ -45,3 +45,10 @@ is_admitted state found v e = both state.trapped refl e
 pub meets_admitted : {T : Type 0} (f : T → Reply) (old new : State) (step : Step) (result : Result T StoreError) → IsAdmitted old (refusal old step) → IfOk result (λ v. performs old step ≡ goes (f v) new) → OnErr result (new ≡ old) → IfErr result (λ error. error ≡ OutOfMemory) → Meets old new (replied f result) (react old step)
 meets_admitted f old new step (Ok v) a ok err memory = react-performs old step a.untrapped a.none ∙ ok
 meets_admitted f old new step (Err error) a ok err memory = rw memory err
+
+-- a refusal as a reply
+pub meets_refused : (state : State) (reaction : Reaction) (error : StoreError) → Meets state state (Err error) reaction → Meets state state (refused_too (Err error)) reaction
+meets_refused state reaction (Refused refusal) m = m.0
+meets_refused state reaction (BadItem stream) m = m
+meets_refused state reaction StoreTrapped m = m
+meets_refused state reaction OutOfMemory m = m

@@ -34,3 +34,11 @@ admitted state found = if state.trapped then Err StoreTrapped else unless_found 
 abbrev pub or_found : {T : Type 0} → Option Refusal → T → Result T Refusal
 or_found None value = Ok value
 or_found (Some refusal) value = Err refusal
+
+-- an answer in which a refusal is a reply too
+abbrev pub refused_too : Result Reply StoreError → Result Reply StoreError
+refused_too (Err (Refused refusal)) = Ok (replies.Refused refusal)
+refused_too (Err (BadItem stream)) = Err (BadItem stream)
+refused_too (Err StoreTrapped) = Err StoreTrapped
+refused_too (Err OutOfMemory) = Err OutOfMemory
+refused_too (Ok reply) = Ok reply

@@ -120,9 +120,10 @@ pub fn insert_ends(
     requires write { next_index (guest_in (with_read_end (seen guests.old.items) reader ty stream)
         writer).handles < 2 ^ 28 }
     requires below { counter.old.live + 2 ≤ counter.old.limit }
-    ensures numbers { IfOk result (λ numbers. numbers ≡
-        (next_index (guest_in (seen guests.old.items) reader).handles,
-        next_index (guest_in (with_read_end (seen guests.old.items) reader ty stream) writer).handles)) }
+    ensures numbers { IfOk result (λ numbers. numbers ≡ (
+      next_index (guest_in (seen guests.old.items) reader).handles,
+      next_index (guest_in (with_read_end (seen guests.old.items) reader ty stream) writer).handles,
+    )) }
     ensures guests { OnOk result (seen guests.new.items
         ≡ with_ends (seen guests.old.items) writer reader ty stream) }
     ensures counter { OnOk result (counter.new ≡ counted (counted counter.old)) }

@@ -5,12 +5,12 @@
 //! `strm_handles` and the memories of `strm_memory`.
 #![tactic(auto)]
 
+mod ends;
 pub mod errors;
 mod guests;
 mod sides;
 pub mod steps;
 pub mod store;
-mod ends;
 mod turns;
 
 pub use strm_machine::chunks::Chunk;

@@ -115,7 +115,7 @@ impl Store {
     }
 
     // Whether a step may be done that the machine refuses so.
-    fn admit(&self, found: Option<Refusal>) -> Result<(), StoreError>
+    pub(crate) fn admit(&self, found: Option<Refusal>) -> Result<(), StoreError>
         ensures exact { result ≡ admitted self.now found }
         ensures takes_no_memory { result ≢ Err StoreError.OutOfMemory }
     {

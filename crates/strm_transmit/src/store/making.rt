@@ -44,8 +44,14 @@ fn idle_end(guest: u32, handle: u32) -> End
 
 // A stream whose ends two guests hold.
 fn made_stream(ty: TransmitIndex, writer: End, reader: End) -> Stream
-    ensures { result ≡ record { kind = kind_of ty; payload = payload_of ty; passed = false;
-        writer = writer; reader = reader; received = 0 } }
+    ensures { result ≡ record {
+      kind = kind_of ty;
+      payload = payload_of ty;
+      passed = false;
+      writer = writer;
+      reader = reader;
+      received = 0;
+    } }
 {
     Stream {
         kind: ty.kind(),
@@ -141,15 +147,45 @@ impl Store {
             Err(_) => return Err(StoreError::OutOfMemory),
         }
         let (guests, counter) = (&mut self.guests, &mut self.counter);
-        match insert_ends(guests, counter, writer as usize, reader as usize, ty, stream) {
+        match insert_ends(
+            guests,
+            counter,
+            writer as usize,
+            reader as usize,
+            ty,
+            stream,
+        ) {
             Ok(numbers) => {
                 let (read, write) = numbers;
                 let ends = (idle_end(writer, write), idle_end(reader, read));
                 let joined = made_stream(made, ends.0, ends.1);
                 place(&mut self.streams, &joined);
                 self.live_streams += 1;
-                Ok(Pair { read, write, stream })
+                Ok(Pair {
+                    read,
+                    write,
+                    stream,
+                })
             }
+            Err(error) => Err(error),
+        }
+    }
+
+    /// A stream or future between two guests, which may be one: the read end's handle goes into the
+    /// reader's table first, and then the write end's into the writer's. Refused, in this order, are
+    /// an unknown guest, a table without a number left, handles past their limit, and a stream past
+    /// the limit on places.
+    pub fn new_between(
+        &mut self,
+        writer: u32,
+        reader: u32,
+        ty: TransmitIndex,
+    ) -> Result<Pair, StoreError>
+        ensures meets { Meets self.old self.new (replied replies.Pair result)
+            (react self.old (steps.Between writer reader ty)) }
+    {
+        match self.admit(self.between_refusal(writer, reader)) {
+            Ok(()) => self.make(writer, reader, ty),
             Err(error) => Err(error),
         }
     }

@@ -285,8 +285,8 @@ impl Store {
         }
     }
 
-    // A read or write.
-    fn operate(
+    /// A read or write; a future's count is not looked at.
+    pub(crate) fn operate(
         &mut self,
         side: Side,
         guest: u32,
