@@ -19,6 +19,7 @@ received state = map (λ s. s.received) state.streams
 -- why a run stops behind these replies, at the step of their number: the machine halts there, or
 -- these are its replies to the steps before
 abbrev pub StopsBy : List Step → List Reply → RunCause → Type 0
-StopsBy steps told (causes.BadItem stream) = play [] start steps ≡ Halts told (replies.BadItem stream)
+StopsBy steps told (causes.BadItem stream) =
+    play [] start steps ≡ Halts told (replies.BadItem stream)
 StopsBy steps told causes.OutOfMemory =
     (state : State) × (play [] start (take (length told) steps) ≡ Ends told state)

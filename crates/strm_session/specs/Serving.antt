@@ -24,11 +24,13 @@ pub record IsTranscript (input text : List ℕ) : Type 0 where
 
 -- a status below 5 and its text, by why they come: from the program's words, the bytes that the
 -- source had left, where these are told, and the source's faults before and after
-pub record Tells (words : List (List ℕ)) (left : Option (List ℕ)) (before after : ℕ) (status : ℕ) (text : List ℕ) : Type 0 where
+pub record Tells (words : List (List ℕ)) (left : Option (List ℕ)) (before after status : ℕ)
+    (text : List ℕ) : Type 0 where
   pub known : status ≤ 4
   pub runs : status ≢ 1 → IsRun words
   pub done : status ≡ 0 → IfSome left (λ input. IsTranscript input text)
   pub usage : status ≡ 1 → (¬ IsRun words) × (text ≡ usage_text)
-  pub bad_line : status ≡ 2 → (line : ℕ) × IfSome left (λ input. IsFirstBad (lines_of input) line) × (text ≡ bad_line_text line)
+  pub bad_line : status ≡ 2 → (line : ℕ)
+      × IfSome left (λ input. IsFirstBad (lines_of input) line) × (text ≡ bad_line_text line)
   pub too_long : status ≡ 3 → IfSome left IsTooLong × (text ≡ too_long_text)
   pub read_fault : status ≡ 4 → Rose before after × (text ≡ read_fault_text)

@@ -3,6 +3,7 @@
 use crate::in_memory::{BytesSink, BytesSource};
 use crate::lists::{Counts, Replies};
 use crate::parsing::{ParseError, parse};
+use crate::serving::serve;
 use crate::texts;
 use crate::texts::{bad_line_text, transcript_text};
 use crate::whole::{InputError, read_all, write_whole};
@@ -220,5 +221,55 @@ fn a_sink_in_pieces(rt: HostRuntime) -> Result<(), Fail> {
         assert!(rt; sink.taken() == taken.as_bytes(), "{taken}");
         assert_eq!(rt; sink.starved(), 0);
     }
+    Ok(())
+}
+
+// The status and the text for words and an input, where the calls of these numbers fail.
+fn served(
+    alloc: Global,
+    words: &[&str],
+    input: &[u8],
+    failing: (u32, u32),
+) -> Result<(u8, Vec<u8>), Fail> {
+    let mut list = Vec::new(alloc);
+    for word in words {
+        list.push(String::from_str(alloc, word)?)?;
+    }
+    let bytes = input.to_vec(alloc)?;
+    let mut source = BytesSource::new(bytes, 64, vec![in alloc; failing.0]?);
+    let mut sink = BytesSink::new(alloc, 64, vec![in alloc; failing.1]?);
+    let status = serve(alloc, &list, &mut source, &mut sink);
+    Ok((status, sink.taken().to_vec(alloc)?))
+}
+
+#[test]
+fn runs_are_served(rt: HostRuntime) -> Result<(), Fail> {
+    let seven = "guest 16\nguest 16\npair 0 1 stream:u8\npoke 0 0 010203\n\
+        write 0 stream:u8 1 0 3\nread 1 stream:u8 1 0 3\ndump 1 0 3\n";
+    let replies = "0\n1\nread 1 write 1 stream 0\nok\nffffffff\n00000030\n010203\n\
+        stream 0 moved 3\ndone 7\n";
+    for (input, expected) in [("", "done 0\n"), (seven, replies)] {
+        let (status, text) = served(rt.alloc(), &["run"], input.as_bytes(), (9, 9))?;
+        assert_eq!(rt; status, 0);
+        assert!(rt; text.as_slice() == expected.as_bytes(), "{expected}");
+    }
+    Ok(())
+}
+
+#[test]
+fn each_status_has_its_text(rt: HostRuntime) -> Result<(), Fail> {
+    let alloc = rt.alloc();
+    let usage = "usage: strm run | strm gen N SEED\n";
+    let (status, text) = served(alloc, &["gen", "x", "1"], b"", (9, 9))?;
+    assert!(rt; status == 1 && text.as_slice() == usage.as_bytes());
+    let (status, text) = served(alloc, &["run"], b"guest 16\nrea", (9, 9))?;
+    assert!(rt; status == 2 && text.as_slice() == b"bad line 2\n".as_slice());
+    let many = vec![in alloc; b'\n'; 262_145]?;
+    let (status, text) = served(alloc, &["run"], &many, (9999, 9))?;
+    assert!(rt; status == 3 && text.as_slice() == b"too long\n".as_slice());
+    let (status, text) = served(alloc, &["run"], b"guest 16\n", (1, 9))?;
+    assert!(rt; status == 4 && text.as_slice() == b"read fault\n".as_slice());
+    let (status, text) = served(alloc, &["run"], b"guest 16\n", (9, 1))?;
+    assert!(rt; status == 5 && text.is_empty());
     Ok(())
 }
