@@ -148,3 +148,21 @@ fn threads(rt: HostRuntime) -> Result<(), Fail> {
     assert_eq!(rt; table.guest_thread_rep(1), Err(HandleError::UnknownHandle));
     Ok(())
 }
+
+/// The number of a removed read end goes to a set, and the next set gets a new one.
+#[test]
+fn a_freed_number_first(rt: HostRuntime) -> Result<(), Fail> {
+    let mut counter = HandleCounter::new(100);
+    let mut table = HandleTable::new(rt.alloc());
+    assert_eq!(rt; table.second_index(), 2);
+    assert_eq!(rt; table.stream_insert_read(&mut counter, BYTES, 0), Ok(1));
+    assert_eq!(rt; table.stream_insert_write(&mut counter, BYTES, 0), Ok(2));
+    assert_eq!(rt; table.stream_rep(BYTES, 0), Err(HandleError::UnknownHandle));
+    let removed = table.stream_remove_readable(&mut counter, BYTES, 1);
+    assert_eq!(rt; removed, Ok((0, false)));
+    assert_eq!(rt; table.stream_rep(BYTES, 1), Err(HandleError::UnknownHandle));
+    assert_eq!(rt; table.second_index(), 3);
+    assert_eq!(rt; table.waitable_set_insert(&mut counter, 0), Ok(1));
+    assert_eq!(rt; table.waitable_set_insert(&mut counter, 1), Ok(3));
+    Ok(())
+}
