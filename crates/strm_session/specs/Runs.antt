@@ -1,5 +1,5 @@
 -- Runs of the program: where they begin, where they stop, what was received. Ours.
-use Rattle.std.specs.Prelude.{◌≡◌, ℕ, List, [], length, map, take}
+use Rattle.std.specs.Prelude.{◌≡◌, ℕ, ◌+◌, min, List, [], length, map, take}
 use Rattle.strm_machine.specs.State.{State, empty}
 use Rattle.strm_machine.specs.Plays.{play, Ends, Halts}
 use Rattle.strm_machine.specs.declared.steps.Step.{Step}
@@ -15,6 +15,10 @@ start = empty 0 (record { handles = 1000000; places = 1000000 })
 -- what was received on each stream, in items
 abbrev pub received : State → List ℕ
 received state = map (λ s. s.received) state.streams
+
+-- the number of the step behind those that were answered, from 1, and not above the last number
+abbrev pub next_step : List Reply → ℕ
+next_step told = min (length told + 1) 4294967295
 
 -- why a run stops behind these replies, at the step of their number: the machine halts there, or
 -- these are its replies to the steps before

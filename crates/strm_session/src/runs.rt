@@ -9,7 +9,7 @@ ghost use Rattle.strm_machine.specs.Plays.{play, Ends, Halts};
 ghost use Rattle.strm_machine.specs.declared.steps.Step.{Step};
 ghost use Rattle.strm_machine.specs.declared.replies.Reply.TheVariants.{BadItem as IsBadItem};
 ghost use Rattle.strm_session.specs.Plain.{IsPlain};
-ghost use Rattle.strm_session.specs.Runs.{start, received, StopsBy};
+ghost use Rattle.strm_session.specs.Runs.{start, received, next_step, StopsBy};
 
 use crate::lists::{Counts, Replies};
 use std::alloc::Global;
@@ -50,7 +50,8 @@ pub enum RunCause {
 /// A run that stopped.
 #[derive(Drop)]
 pub struct RunStop {
-    /// The step at which it stopped, counted from 0.
+    /// The number of the step at which it stopped, from 1; behind the last step where the counts
+    /// found no memory. No number is above 4,294,967,295.
     pub at: u32,
     /// Why it stopped there.
     pub cause: RunCause,
@@ -64,7 +65,7 @@ pub fn run(alloc: Global, steps: &[Step]) -> Result<Transcript, RunStop>
     ensures ok { IfOk result (λ t. play [] start steps.now ≡ Ends t.replies t.store) }
     ensures moved { IfOk result (λ t. t.moved ≡ received t.store) }
     ensures stop { IfErr result (λ stop. StopsBy steps.now stop.replies stop.cause) }
-    ensures at { IfErr result (λ stop. stop.at ≡ length stop.replies) }
+    ensures at { IfErr result (λ stop. stop.at ≡ next_step stop.replies) }
 
     // Streams of bytes have no bad item.
     ensures plain { All IsPlain steps.now →
@@ -81,10 +82,10 @@ pub fn run(alloc: Global, steps: &[Step]) -> Result<Transcript, RunStop>
 // A run that stopped behind these replies.
 fn stopped(cause: RunCause, replies: Replies) -> RunStop
     requires few { length replies ≤ 4294967295 }
-    ensures { result ≡ record { at = length replies; cause = cause; replies = replies } }
+    ensures { result ≡ record { at = next_step replies; cause = cause; replies = replies } }
 {
     RunStop {
-        at: replies.as_slice().len() as u32,
+        at: (replies.as_slice().len() as u32).saturating_add(1),
         cause,
         replies,
     }
@@ -96,7 +97,7 @@ fn finished(alloc: Global, store: Store, replies: Replies) -> Result<Transcript,
     ensures ok { IfOk result (λ t. (t.replies ≡ replies) × (t.store ≡ store)) }
     ensures moved { IfOk result (λ t. t.moved ≡ received store) }
     ensures stop { IfErr result (λ stop. stop ≡ record {
-      at = length replies;
+      at = next_step replies;
       cause = RunCause.OutOfMemory;
       replies = replies;
     }) }
