@@ -19,7 +19,7 @@ use crate::lists::TextBytes;
 use crate::parsing::{MAX_BYTES, ParseError, parse};
 use crate::ports::{Sink, Source};
 use crate::runs::{RunCause, run};
-use crate::texts::{bad_line_text, read_fault_text, too_long_text, transcript_text, usage_text};
+use crate::texts::{bad_line_text, read_fault_text, text, too_long_text, usage_text};
 use crate::whole::{InputError, read_all, write_whole};
 use std::alloc::Global;
 use strm_codes::counts::OutOfMemory;
@@ -158,8 +158,7 @@ fn answer_steps(alloc: Global, steps: &[Step]) -> Result<Answer, OutOfMemory>
 {
     match run(alloc, steps) {
         Ok(transcript) => {
-            let (replies, moved) = (&transcript.replies, &transcript.moved);
-            let text = transcript_text(alloc, replies.as_slice(), moved.as_slice())?;
+            let text = text(alloc, &transcript)?;
             Ok(Answer { status: DONE, text })
         }
         Err(stop) => match stop.cause {

@@ -7,6 +7,7 @@ ghost use Rattle.strm_session.specs.Words.{hex_digit, hex_pairs};
 ghost use Rattle.strm_session.specs.Text.{ended, hex_word, reply_text, reply_lines, stream_text, stream_lines, done_text, transcript_text, usage_text, bad_line_text, too_long_text, read_fault_text};
 
 use crate::lists::TextBytes;
+use crate::runs::Transcript;
 use itoa::{Buffer, Integer};
 use std::alloc::Global;
 use strm_codes::counts::OutOfMemory;
@@ -154,6 +155,18 @@ pub fn transcript_text(
     push_streams(&mut out, moved)?;
     push_done(&mut out, replies.len())?;
     Ok(out)
+}
+
+/// The text of a run.
+pub fn text(alloc: Global, transcript: &Transcript) -> Result<TextBytes, OutOfMemory>
+    ensures ok { IfOk result (λ bytes.
+        bytes ≡ transcript_text transcript.now.replies transcript.now.moved) }
+{
+    transcript_text(
+        alloc,
+        transcript.replies.as_slice(),
+        transcript.moved.as_slice(),
+    )
 }
 
 /// The text for words of the program that are none of its own.
