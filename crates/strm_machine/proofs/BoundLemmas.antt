@@ -1,8 +1,7 @@
 -- Regions of items: what the test of their bounds says, what is left of one, and what storing into one keeps.
-use Rattle.std.proofs.Common.{◌≡◌, ℕ, ◌+◌, ◌-◌, ◌*◌, ◌<◌, ◌≤◌, ℤ, zero, suc, Some, Bool, true, false, List, [], ◌∷◌, ◌++◌, length, take, drop, get_or, add-zero, refl, arith, length-append, length-take, length-drop}
+use Rattle.std.proofs.Common.{◌≡◌, ℕ, ◌+◌, ◌-◌, ◌*◌, ◌<◌, ◌≤◌, ℤ, zero, suc, Some, false, List, [], ◌∷◌, ◌++◌, length, take, drop, get_or, add-zero, arith, length-append, length-take, length-drop}
 use Rattle.std.proofs.lemmas.Bool.Decides.{nat_tests}
 use Rattle.std.proofs.lemmas.List.Sums.{get_or-le-sum_by}
-use Rattle.std.proofs.lemmas.Bool.{cases_lt, ltb-true, lt-ltb, le-ltb}
 use Rattle.std.specs.Prelude.{nat_lt, ◌&&◌, ◌^◌, sum}
 use Rattle.strm_codes.specs.Layout.{item_size}
 use Rattle.strm_codes.specs.declared.scalars.Scalar.{Scalar}

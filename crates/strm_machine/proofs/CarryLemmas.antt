@@ -1,16 +1,16 @@
 -- Items carried from one memory to another, by what was lifted and lowered.
-use Rattle.std.proofs.Common.{◌≡◌, ◌≢◌, ℕ, ◌+◌, ◌<◌, ◌≤◌, ℤ, List, [], ◌∷◌, length, take, drop, Option, Some, None, false, true, refl, sym, ap, ◌∙◌, inl, inr, arith}
+use Rattle.std.proofs.Common.{◌≡◌, ℕ, ◌+◌, ◌<◌, ℤ, List, [], ◌∷◌, drop, Option, Some, None, refl, sym, ap, inl, inr, arith}
 use Rattle.std.proofs.lemmas.List.{take-append-drop}
 use Rattle.strm_memory.proofs.RegionLemmas.{items-number_or_none}
-use Rattle.std.specs.Prelude.{IsSomeAnd, IsSome, is_some}
+use Rattle.std.specs.Prelude.{IsSomeAnd, IsSome}
 use Rattle.std.specs.Option.{option_map}
 use Rattle.strm_codes.specs.declared.payloads.Payload.{Payload}
-use Rattle.strm_codes.specs.declared.payloads.Payload.TheVariants.{Nothing, One, Tuple}
+use Rattle.strm_codes.specs.declared.payloads.Payload.TheVariants.{Nothing}
 use Rattle.strm_codes.specs.declared.scalars.Scalar.{Scalar}
 use Rattle.strm_codes.specs.Scalars.{size_of}
-use Rattle.strm_codes.specs.Layout.{scalars_of, item_size, end_of, gap_before}
+use Rattle.strm_codes.specs.Layout.{scalars_of, item_size, gap_before}
 use Rattle.strm_codes.proofs.LayoutLemmas.{IsWidth-size_of}
-use Rattle.strm_memory.specs.Items.{items, items_at, stored, stored_at, decode_from, encode_from}
+use Rattle.strm_memory.specs.Items.{items_at, stored, stored_at, encode_from}
 use Rattle.strm_memory.proofs.FieldLemmas.{le-end_of}
 use Rattle.strm_machine.specs.State.{Guest, memory_in, with_memory}
 use Rattle.strm_machine.specs.Meetings.{carried}

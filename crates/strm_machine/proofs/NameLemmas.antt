@@ -1,5 +1,5 @@
 -- In a sound state a handle names a stream that was made, of the handle's payload.
-use Rattle.std.proofs.Common.{◌≡◌, ℕ, zero, suc, ◌<◌, Bool, true, false, cond, List, length, get_or, Option, Some, None, Result, Ok, Err, refl, sym, ap, ◌∙◌, inl, inr, arith}
+use Rattle.std.proofs.Common.{◌≡◌, ℕ, zero, suc, ◌<◌, Bool, true, false, cond, List, length, get_or, Option, Some, None, Result, Ok, Err, refl, sym, ◌∙◌, inl, inr, arith}
 use Rattle.std.specs.Prelude.{All, IfOk, IfErr}
 use Rattle.std.proofs.lemmas.Bool.{cases_lt}
 use Rattle.std.proofs.Math.ListN.{get_or-map}
@@ -19,9 +19,9 @@ use Rattle.strm_handles.specs.declared.entries.TransmitEnd.{TransmitEnd}
 use Rattle.strm_handles.specs.declared.entries.TransmitLocalState.{TransmitLocalState}
 use Rattle.strm_handles.specs.declared.errors.HandleError.{HandleError}
 use Rattle.strm_handles.specs.declared.errors.HandleError.TheVariants as errors
-use Rattle.strm_machine.specs.State.{State, no_stream, guest_in, stream_at}
+use Rattle.strm_machine.specs.State.{State, no_stream, stream_at}
 use Rattle.strm_machine.specs.Tests.{Name, named, named_by}
-use Rattle.strm_machine.specs.Soundness.{payloads_of, IsNamed, EntryIsNamed, AreNamed, IsSound}
+use Rattle.strm_machine.specs.Soundness.{payloads_of, IsNamed, EntryIsNamed, IsSound}
 use Rattle.strm_machine.proofs.SoundLemmas.{AreNamed-at}
 
 entry_named : (payloads : List Payload) (es : List (Option Entry)) (n : ℕ) → All (EntryIsNamed payloads) es → EntryIsNamed payloads (entry_in es n)

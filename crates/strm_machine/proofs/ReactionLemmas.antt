@@ -8,8 +8,8 @@ use Rattle.strm_machine.specs.State.{State, memory_in}
 use Rattle.strm_machine.specs.Tests.{is_unknown_guest, are_bytes_out_of_bounds}
 use Rattle.strm_machine.specs.declared.streams.Side.{Side}
 use Rattle.strm_machine.specs.declared.streams.Side.TheVariants.{Writing, Reading}
-use Rattle.strm_machine.specs.Refusals.{Reason, where_, first_of, operation_reasons, reasons, refusal}
-use Rattle.strm_machine.specs.Reactions.{Reaction, goes, operates, operation_step, performs, unless_refused, react}
+use Rattle.strm_machine.specs.Refusals.{Reason, where_, first_of, operation_reasons, refusal}
+use Rattle.strm_machine.specs.Reactions.{goes, operates, operation_step, performs, unless_refused, react}
 use Rattle.strm_machine.specs.declared.steps.Step.{Step}
 use Rattle.strm_machine.specs.declared.steps.Step.TheVariants as steps
 use Rattle.strm_machine.specs.declared.replies.Reply.TheVariants as replies

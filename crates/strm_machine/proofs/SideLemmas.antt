@@ -1,14 +1,12 @@
 -- A stream after a change on one side: its type and owners stay, and its operations lie in memory.
-use Rattle.std.proofs.Common.{◌≡◌, ℕ, ◌+◌, ◌-◌, ◌*◌, ◌<◌, ◌≤◌, Bool, true, false, List, length, Option, Some, None, refl, ◌∙◌, arith}
+use Rattle.std.proofs.Common.{◌≡◌, ℕ, ◌≤◌, List, Some, refl, ◌∙◌, arith}
 use Rattle.strm_codes.specs.declared.payloads.Payload.{Payload}
-use Rattle.strm_codes.specs.declared.codes.TransmitKind.{TransmitKind}
-use Rattle.strm_codes.specs.Layout.{scalars_of, item_size}
-use Rattle.strm_machine.specs.Sides.{opposite, end_of, with_end, with_operation, write_of, read_of}
+use Rattle.strm_codes.specs.Layout.{scalars_of}
+use Rattle.strm_machine.specs.Sides.{end_of, with_end, with_operation, write_of, read_of}
 use Rattle.strm_machine.specs.Meetings.{advanced}
 use Rattle.strm_machine.specs.Soundness.{IsPlaced, OperationIsPlaced, StreamIsPlaced}
 use Rattle.strm_machine.specs.declared.streams.Side.{Side}
 use Rattle.strm_machine.specs.declared.streams.Side.TheVariants.{Writing, Reading}
-use Rattle.strm_machine.specs.declared.streams.Owner.{Owner}
 use Rattle.strm_machine.specs.declared.streams.Operation.{Operation}
 use Rattle.strm_machine.specs.declared.streams.End.{End}
 use Rattle.strm_machine.specs.declared.streams.Stream.{Stream}

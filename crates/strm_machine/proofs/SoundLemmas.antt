@@ -1,34 +1,29 @@
 -- Each change of the machine leaves a sound state.
-use Rattle.std.proofs.Common.{◌≡◌, ℕ, zero, suc, ◌+◌, ◌-◌, ◌*◌, ◌<◌, ◌≤◌, min, Bool, true, false, List, [], ◌∷◌, ◌++◌, length, map, get_or, set, drop, take, replicate, Option, Some, None, refl, sym, ap, ◌∙◌, subst, inl, inr, arith, length-append}
+use Rattle.std.proofs.Common.{◌≡◌, ℕ, zero, suc, ◌+◌, ◌<◌, ◌≤◌, List, [], ◌∷◌, ◌++◌, length, set, Option, Some, None, refl, sym, ◌∙◌, subst, inl, inr, arith, length-append}
 use Rattle.std.specs.Prelude.{All, sum}
-use Rattle.std.proofs.Math.Seq.{map-set_same, get_or-append_seam}
+use Rattle.std.proofs.Math.Seq.{map-set_same}
 use Rattle.std.proofs.Math.ListN.{get_or-map}
 use Rattle.std.proofs.lemmas.Bool.{cases_lt}
-use Rattle.std.proofs.lemmas.List.{get_or_past, length-map, map-append, get_or_append_left, length-replicate, map-set, get_or_push}
+use Rattle.std.proofs.lemmas.List.{get_or_past, length-map, map-append, get_or_append_left, map-set, get_or_push}
 use Rattle.std.proofs.lemmas.List.Elements.{All-set, All-push, All-weaker, All-get_or, All-nil}
-use Rattle.std.proofs.lemmas.List.Sums.{sum_by-append, sum-map}
+use Rattle.std.proofs.lemmas.List.Sums.{sum_by-append}
 use Rattle.strm_codes.specs.declared.codes.TransmitIndex.{TransmitIndex}
 use Rattle.strm_codes.specs.declared.codes.TransmitIndex.TheVariants as index
 use Rattle.strm_codes.specs.declared.payloads.Payload.{Payload}
 use Rattle.strm_codes.specs.declared.payloads.Payload.TheVariants.{Nothing}
-use Rattle.strm_codes.specs.declared.codes.ReturnCode.{ReturnCode}
-use Rattle.strm_codes.specs.Layout.{scalars_of}
 use Rattle.strm_codes.specs.Types.{payload_of}
 use Rattle.strm_handles.specs.Handles.{Handles, inserted, inserted_in, entries_with, no_handles}
 use Rattle.strm_handles.specs.declared.entries.Entry.{Entry}
 use Rattle.strm_handles.specs.declared.entries.Entry.TheVariants as entries
 use Rattle.strm_handles.specs.declared.entries.TransmitEnd.{TransmitEnd}
 use Rattle.strm_handles.specs.Ends.{read_end, write_end}
-use Rattle.strm_memory.specs.Region.{is_out_of_bounds}
-use Rattle.strm_machine.specs.State.{State, Guest, no_guest, no_stream, guest_in, memory_in, with_memory, with_handles, stream_at, idle_end}
-use Rattle.strm_machine.specs.Turns.{Turn, turn}
-use Rattle.strm_machine.specs.Making.{read_entry, write_entry, with_read_end, with_ends, writer_index, made_stream, made_pair, with_stream}
-use Rattle.strm_machine.specs.Reactions.{written_back, Reaction}
+use Rattle.strm_machine.specs.State.{State, Guest, no_guest, no_stream, guest_in, with_handles, stream_at}
+use Rattle.strm_machine.specs.Turns.{Turn}
+use Rattle.strm_machine.specs.Making.{read_entry, write_entry, with_read_end, with_ends, made_stream, made_pair, with_stream}
 use Rattle.strm_machine.specs.Soundness.{sizes_of, handles_of, payloads_of, IsNamed, EntryIsNamed, AreNamed, IsPlaced, OperationIsPlaced, StreamIsPlaced, IsSound}
-use Rattle.strm_machine.specs.declared.streams.Side.{Side}
 use Rattle.strm_machine.specs.declared.streams.Operation.{Operation}
 use Rattle.strm_machine.specs.declared.streams.Stream.{Stream}
-use Rattle.strm_machine.proofs.TurnLemmas.{GuestsKeep, TurnKeeps, turn-keeps, with_memory-keeps}
+use Rattle.strm_machine.proofs.TurnLemmas.{GuestsKeep, TurnKeeps}
 
 -- guests with the handles and memory lengths of those before
 pub IsSound-guests : (state : State) (guests : List Guest) → GuestsKeep state.guests guests → IsSound state → IsSound (record state { guests = guests })

@@ -1,20 +1,18 @@
 -- What a read or write leaves as it was: the guests' handles, the lengths of their memories, the
 -- stream's type and owners.
-use Rattle.std.proofs.Common.{◌≡◌, ℕ, ◌+◌, ◌-◌, ◌*◌, ◌<◌, ◌≤◌, min, Bool, true, false, cond, List, [], length, map, get_or, set, drop, take, ℤ, Option, Some, None, refl, sym, ap, ◌∙◌, arith, length-append, length-drop}
+use Rattle.std.proofs.Common.{◌≡◌, ℕ, ◌≤◌, min, Bool, true, false, cond, List, length, get_or, ℤ, Option, Some, None, refl, arith}
 use Rattle.std.proofs.Math.Seq.{map-set_same}
-use Rattle.std.proofs.lemmas.List.{length-take-le}
 use Rattle.std.proofs.Math.ListN.{get_or-map}
 use Rattle.std.specs.Option.{option_map}
 use Rattle.strm_codes.specs.declared.payloads.Payload.{Payload}
-use Rattle.strm_codes.specs.declared.codes.ReturnCode.{ReturnCode}
 use Rattle.strm_codes.specs.declared.scalars.Scalar.{Scalar}
-use Rattle.strm_codes.specs.Layout.{scalars_of, item_size}
+use Rattle.strm_codes.specs.Layout.{scalars_of}
 use Rattle.strm_memory.specs.Items.{items_at, stored_at}
 use Rattle.strm_memory.specs.Region.{is_out_of_bounds}
 use Rattle.strm_machine.specs.State.{Guest, no_guest, guest_in, memory_in, with_memory, is_gone}
-use Rattle.strm_machine.specs.Sides.{opposite, same_side, end_of, with_end, with_operation, write_of, read_of}
-use Rattle.strm_machine.specs.Meetings.{meeting_of, advanced, carried}
-use Rattle.strm_machine.specs.Turns.{Turn, answers, waits, with_received, moves, completes_alone, meets_by, meets, learns, finds, turn}
+use Rattle.strm_machine.specs.Sides.{opposite, same_side, end_of, with_operation, write_of, read_of}
+use Rattle.strm_machine.specs.Meetings.{advanced, carried}
+use Rattle.strm_machine.specs.Turns.{Turn, waits, with_received, moves, completes_alone, meets_by, finds, turn}
 use Rattle.strm_machine.specs.Soundness.{sizes_of, handles_of, IsPlaced, OperationIsPlaced, StreamIsPlaced}
 use Rattle.strm_machine.specs.declared.streams.Side.{Side}
 use Rattle.strm_machine.specs.declared.streams.Side.TheVariants.{Writing, Reading}
@@ -23,7 +21,7 @@ use Rattle.strm_machine.specs.declared.streams.Stream.{Stream}
 use Rattle.strm_machine.specs.declared.streams.Meeting.{Meeting}
 use Rattle.strm_machine.specs.declared.streams.Meeting.TheVariants.{BothComplete, WriteCompletes, ReadCompletes}
 use Rattle.strm_machine.proofs.BoundLemmas.{not_out-front, length-stored_region}
-use Rattle.strm_machine.proofs.SideLemmas.{StreamKeeps, kept, kept_on, end_placed, with_end-keeps, with_operation-keeps, IsPlaced-advanced, write_of-placed, read_of-placed}
+use Rattle.strm_machine.proofs.SideLemmas.{StreamKeeps, kept, kept_on, end_placed, with_end-keeps, with_operation-keeps, IsPlaced-advanced, read_of-placed}
 
 -- guests with the handles and the memory lengths of others
 pub record GuestsKeep (old new : List Guest) : Type 0 where

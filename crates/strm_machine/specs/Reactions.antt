@@ -1,11 +1,11 @@
 -- One step of the machine.
-use Rattle.std.specs.Prelude.{ℕ, ◌+◌, Bool, true, false, if◌then◌else◌, List, [], ◌∷◌, ◌++◌, length, min, take, drop, replicate, slice_set, Option, Some, None}
+use Rattle.std.specs.Prelude.{ℕ, true, if◌then◌else◌, [], ◌∷◌, ◌++◌, length, min, take, drop, replicate, slice_set, Option, Some, None}
 use Rattle.strm_codes.specs.declared.codes.TransmitIndex.{TransmitIndex}
 use Rattle.strm_codes.specs.declared.codes.ReturnCode.{ReturnCode}
 use Rattle.strm_codes.specs.declared.refusals.Refusal.{Refusal}
 use Rattle.strm_handles.specs.Handles.{no_handles}
 use Rattle.strm_memory.specs.Bytes.{put_at}
-use Rattle.strm_machine.specs.State.{State, Guest, memory_in, with_memory, stream_at}
+use Rattle.strm_machine.specs.State.{State, memory_in, with_memory, stream_at}
 use Rattle.strm_machine.specs.Meetings.{begun}
 use Rattle.strm_machine.specs.Turns.{Turn, turn}
 use Rattle.strm_machine.specs.Tests.{named, stream_named, items_asked}

@@ -1,7 +1,7 @@
 -- The state of the machine: guests, each with a memory and a handle table, and the streams
 -- between them.
 -- Component Model, "Stream State" and "Waitable State"; wasmtime, futures_and_streams.rs.
-use Rattle.std.specs.Prelude.{ℕ, ◌+◌, ◌*◌, Bool, false, true, ◌&&◌, not, List, [], length, slice_index_or, slice_set, sum_by, count_by, None, Some}
+use Rattle.std.specs.Prelude.{ℕ, ◌*◌, Bool, false, true, ◌&&◌, not, List, [], length, slice_index_or, slice_set, sum_by, count_by, None}
 use Rattle.strm_codes.specs.declared.codes.TransmitKind.TheVariants.{Stream as AStream}
 use Rattle.strm_codes.specs.declared.payloads.Payload.TheVariants.{Nothing}
 use Rattle.strm_handles.specs.Handles.{Handles, no_handles, live_of}

@@ -1,23 +1,22 @@
 -- The conditions of the refusals, each by itself.
 -- wasmtime, futures_and_streams.rs and handle_table.rs; the conditions on guests, places and bytes are ours.
-use Rattle.std.specs.Prelude.{ℕ, ◌+◌, ◌*◌, ◌==◌, Bool, true, false, ◌&&◌, ◌||◌, not, if◌then◌else◌, List, length, nat_lt, nat_le, is_some, Result, Ok, Err, Option, Some, None}
+use Rattle.std.specs.Prelude.{ℕ, ◌+◌, ◌==◌, Bool, true, false, ◌&&◌, ◌||◌, not, if◌then◌else◌, length, nat_lt, nat_le, is_some, Result, Ok, Err, Option, Some, None}
 use Rattle.strm_codes.specs.declared.codes.TransmitIndex.{TransmitIndex}
 use Rattle.strm_codes.specs.declared.codes.TransmitIndex.TheVariants as index
 use Rattle.strm_codes.specs.declared.codes.TransmitKind.{TransmitKind}
 use Rattle.strm_codes.specs.declared.codes.TransmitKind.TheVariants.{Stream as AStream, Future}
 use Rattle.strm_codes.specs.Layout.{scalars_of}
-use Rattle.strm_codes.specs.Types.{kind_of, payload_of}
+use Rattle.strm_codes.specs.Types.{payload_of}
 use Rattle.strm_memory.specs.Items.{is_number_or_none}
 use Rattle.strm_memory.specs.Region as region
-use Rattle.strm_handles.specs.Handles.{Handles, next_index}
+use Rattle.strm_handles.specs.Handles.{Handles}
 use Rattle.strm_handles.specs.Lookups.{stream_rep_of, future_rep_of}
 use Rattle.strm_handles.specs.declared.errors.HandleError.{HandleError}
 use Rattle.strm_handles.specs.declared.errors.HandleError.TheVariants as errors
 use Rattle.strm_handles.specs.declared.entries.TransmitLocalState.{TransmitLocalState}
 use Rattle.strm_handles.specs.declared.entries.TransmitLocalState.TheVariants as states
-use Rattle.strm_machine.specs.State.{State, Guest, guest_in, memory_in, stream_at, handles_in_use, places_in_use, bytes_in_use}
-use Rattle.strm_machine.specs.Sides.{opposite, same_side, end_of}
-use Rattle.strm_machine.specs.Turns.{is_future}
+use Rattle.strm_machine.specs.State.{State, guest_in, memory_in, handles_in_use, places_in_use, bytes_in_use}
+use Rattle.strm_machine.specs.Sides.{opposite, end_of}
 use Rattle.strm_machine.specs.declared.streams.Side.{Side}
 use Rattle.strm_machine.specs.declared.streams.Side.TheVariants.{Writing, Reading}
 use Rattle.strm_machine.specs.declared.streams.Operation.{Operation}

@@ -1,5 +1,5 @@
 -- The room and the live handles of guests' tables after an insert or a reservation.
-use Rattle.std.proofs.Common.{◌≡◌, ℕ, zero, suc, ◌+◌, ◌<◌, ◌≤◌, List, [], ◌∷◌, length, map, get_or, set, sum_by, refl, sym, ap, ◌∙◌, subst, arith}
+use Rattle.std.proofs.Common.{◌≡◌, ℕ, zero, suc, ◌+◌, ◌<◌, ◌≤◌, List, [], ◌∷◌, length, map, get_or, set, refl, sym, ap, ◌∙◌, arith}
 use Rattle.std.proofs.lemmas.List.{get_or-map, get_or-set_same, map-set, set-get_or, length-map}
 use Rattle.std.proofs.lemmas.List.Sums.{sum_by-set}
 use Rattle.strm_codes.specs.declared.codes.TransmitIndex.{TransmitIndex}
@@ -12,7 +12,7 @@ use Rattle.strm_machine.specs.declared.streams.Side.{Side}
 use Rattle.strm_machine.specs.declared.streams.Side.TheVariants.{Writing, Reading}
 use Rattle.strm_transmit.specs.Guests.{guest_of, seen, room_in, live_in}
 use Rattle.strm_transmit.specs.declared.guests.Guest.{Guest}
-use Rattle.strm_transmit.proofs.GuestLemmas.{guest_in-seen, seen-with_handles}
+use Rattle.strm_transmit.proofs.GuestLemmas.{guest_in-seen}
 
 -- an end has no lends
 pub lends-end_entry : (side : Side) (ty : TransmitIndex) (s : ℕ) → lends_of (end_entry side ty s) ≡ 0

@@ -1,5 +1,5 @@
 -- The store's guests as the machine's: one of them read, or changed.
-use Rattle.std.proofs.Common.{◌≡◌, ℕ, ◌<◌, List, length, map, get_or, set, refl, sym, ap, ◌∙◌}
+use Rattle.std.proofs.Common.{◌≡◌, ℕ, ◌<◌, List, length, get_or, set, sym, ap, ◌∙◌}
 use Rattle.std.proofs.lemmas.List.{get_or-map, map-set}
 use Rattle.strm_handles.specs.Handles.{Table}
 use Rattle.strm_machine.specs.State as machine

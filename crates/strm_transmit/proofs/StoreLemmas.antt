@@ -1,5 +1,5 @@
 -- The store's counters after each change.
-use Rattle.std.proofs.Common.{◌≡◌, ℕ, Bool, cond, get_or, set, ◌+◌, ◌*◌, ◌<◌, ◌≤◌, List, [], ◌∷◌, ◌++◌, length, map, sum_by, refl, sym, ap, ◌∙◌, subst, None, replicate, arith, length-append}
+use Rattle.std.proofs.Common.{◌≡◌, ℕ, Bool, cond, get_or, set, ◌+◌, ◌<◌, List, [], ◌∷◌, ◌++◌, length, map, sum_by, refl, sym, ap, ◌∙◌, subst, None, replicate, arith, length-append}
 use Rattle.std.specs.Prelude.{sum, count_by}
 use Rattle.std.proofs.lemmas.List.{map-append, length-map, length-replicate, length-set, get_or_default}
 use Rattle.std.proofs.lemmas.List.Sums.{sum_by-append, sum-map}
@@ -14,9 +14,9 @@ use Rattle.strm_handles.proofs.HandleLemmas.{live_of-no_handles}
 use Rattle.strm_machine.specs.State as machine
 use Rattle.strm_memory.specs.Bytes.{put_at}
 use Rattle.strm_machine.specs.State.{State, guest_in, no_stream, stream_at, memory_in, with_memory, is_live, handles_in_use, bytes_in_use}
-use Rattle.strm_machine.specs.Soundness.{IsSound, IsPlaced, sizes_of, handles_of}
+use Rattle.strm_machine.specs.Soundness.{IsSound, IsPlaced, sizes_of}
 use Rattle.strm_machine.specs.Refusals.{refusal}
-use Rattle.strm_machine.specs.Reactions.{Reaction, goes, performs}
+use Rattle.strm_machine.specs.Reactions.{goes, performs}
 use Rattle.strm_machine.specs.declared.steps.Step.TheVariants as steps
 use Rattle.strm_machine.specs.declared.replies.Reply.TheVariants as replies
 use Rattle.strm_machine.proofs.RefusalLemmas.{guest_fits, poke_fits, pair_fits}

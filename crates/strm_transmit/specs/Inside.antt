@@ -1,5 +1,5 @@
 -- The store's fields as the machine's state, and what they keep: counters that agree with it.
-use Rattle.std.specs.Prelude.{◌≡◌, ℕ, ◌≤◌, length, count_by}
+use Rattle.std.specs.Prelude.{◌≡◌, ◌≤◌, length, count_by}
 use Rattle.strm_machine.specs.State.{State, is_live, handles_in_use, bytes_in_use}
 use Rattle.strm_machine.specs.Soundness.{IsSound}
 use Rattle.strm_transmit.specs.Guests.{seen}

@@ -3,7 +3,7 @@
 //! Meaning: `Making.antt` of `strm_machine`. Source: Canonical ABI, `canon stream.new`; the room
 //! that is taken before the first insert is ours.
 
-ghost use Rattle.std.specs.Prelude.{◌≡◌, ◌+◌, ◌^◌, ◌<◌, ◌≤◌, ℕ, length, sum_by, IfOk, IfErr, OnOk, OnErr};
+ghost use Rattle.std.specs.Prelude.{◌≡◌, ◌+◌, ◌^◌, ◌<◌, ◌≤◌, ℕ, length, IfOk, IfErr, OnOk, OnErr};
 ghost use Rattle.strm_handles.specs.Handles.{next_index, inserted, live_of};
 ghost use Rattle.strm_handles.specs.Changes.{Inserts};
 ghost use Rattle.strm_handles.specs.Counters.{counted};
@@ -127,7 +127,8 @@ pub fn insert_ends(
     ensures guests { OnOk result (seen guests.new.items
         ≡ with_ends (seen guests.old.items) writer reader ty stream) }
     ensures counter { OnOk result (counter.new ≡ counted (counted counter.old)) }
-    ensures live { OnOk result (live_in (seen guests.new.items) ≡ live_in (seen guests.old.items) + 2) }
+    ensures live { OnOk result
+        (live_in (seen guests.new.items) ≡ live_in (seen guests.old.items) + 2) }
     ensures err { OnErr result (seen guests.new.items ≡ seen guests.old.items) }
     ensures kept { OnErr result (counter.new ≡ counter.old) }
     ensures memory { IfErr result (λ error. error ≡ StoreError.OutOfMemory) }

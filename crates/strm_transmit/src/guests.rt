@@ -63,7 +63,8 @@ pub fn write_bytes(guests: &mut Vec<Guest>, guest: usize, address: u32, bytes: &
 /// So many bytes of a guest's memory.
 pub fn read_bytes(guests: &Vec<Guest>, guest: usize, address: u32, len: u32) -> &[u8]
     requires there { guest < length guests.now.items }
-    requires inside { bytes_out_of_bounds (length (memory_in (seen guests.now.items) guest)) address len ≡ false }
+    requires inside { bytes_out_of_bounds (length (memory_in (seen guests.now.items) guest)) address
+        len ≡ false }
     ensures exact { result.now ≡ take len (drop address (memory_in (seen guests.now.items) guest)) }
     ensures most { length result.now ≤ len }
 {

@@ -3,9 +3,8 @@
 //! Meaning: `State.antt` of `strm_machine`. Source: wasmtime, `futures_and_streams.rs`,
 //! `ConcurrentState`; the tag and the limits but those on handles are ours.
 
-ghost use Rattle.std.specs.Prelude.{◌≡◌, ◌≢◌, Err, ◌<◌, ◌↔◌, length, slice_get, if◌then◌else◌, Some, None, nat_lt, IsSome, IfSome};
-ghost use Rattle.std.specs.Option.{option_map};
-ghost use Rattle.strm_machine.specs.State.{empty, stream_at, guest_in, memory_in};
+ghost use Rattle.std.specs.Prelude.{◌≡◌, ◌≢◌, Err, ◌<◌, ◌↔◌, length, Some, None, IsSome, IfSome};
+ghost use Rattle.strm_machine.specs.State.{empty, stream_at, memory_in};
 
 mod making;
 mod memories;

@@ -3,7 +3,7 @@
 //! Meaning: `Turns.antt` and `Meetings.antt` of `strm_machine`. Source: Component Model, "Stream
 //! Readiness"; wasmtime, `guest_write` and `guest_read`, which are one function here.
 
-ghost use Rattle.std.specs.Prelude.{◌≡◌, ◌≢◌, ℕ, ◌+◌, ◌*◌, ◌^◌, ◌<◌, ◌≤◌, List, true, sum, length, min, Some, None, Ok, OnOk, OnErr, is_some};
+ghost use Rattle.std.specs.Prelude.{◌≡◌, ◌≢◌, ◌+◌, ◌*◌, ◌^◌, ◌<◌, ◌≤◌, List, true, sum, length, min, Some, None, Ok, OnOk, OnErr};
 ghost use Rattle.strm_codes.specs.Layout.{scalars_of, item_size};
 ghost use Rattle.strm_machine.specs.Sides.{opposite, end_of, with_end, write_of, read_of};
 ghost use Rattle.strm_machine.specs.Tests.{is_open_of};
@@ -14,7 +14,7 @@ ghost use Rattle.strm_memory.specs.Items.{items_at, stored_at, is_number_or_none
 ghost use Rattle.std.specs.Prelude.{IsTrue, IsSomeAnd};
 ghost use Rattle.std.specs.Prelude.{false};
 ghost use Rattle.strm_machine.specs.Meetings.{begun, advanced, meeting_of, carried};
-ghost use Rattle.strm_machine.specs.Turns.{with_received, answers, waits, completes_alone, moves, meets, turn};
+ghost use Rattle.strm_machine.specs.Turns.{with_received, answers, completes_alone, moves, meets, turn};
 ghost use Rattle.strm_machine.specs.Soundness.{sizes_of, IsPlaced, StreamIsPlaced};
 ghost use Rattle.strm_transmit.specs.Guests.{seen};
 ghost use Rattle.strm_transmit.specs.Taking.{taken};
@@ -85,7 +85,8 @@ fn receive(stream: &mut Stream, count: ItemCount)
 
 // The other end is gone, which this end learns.
 fn learn(stream: &mut Stream, side: Side)
-    ensures { stream.new ≡ with_end side stream.old (record (end_of side stream.old) { told = true }) }
+    ensures { stream.new ≡ with_end side stream.old
+        (record (end_of side stream.old) { told = true }) }
 {
     let mut mine = end(stream, side);
     mine.told = true;
@@ -140,7 +141,8 @@ fn carry_within(
         ≤ length (memory_in (seen guests.old.items) read.now.guest) }
     requires target { read.now.address + item_size (scalars_of payload) * count
         ≤ length (memory_in (seen guests.old.items) read.now.guest) }
-    ensures carried { carried (seen guests.old.items) payload write.now read.now count ≡ Some (seen guests.new.items) }
+    ensures carried { carried (seen guests.old.items) payload write.now read.now count
+        ≡ Some (seen guests.new.items) }
     ensures length { length guests.new.items ≡ length guests.old.items }
 {
     let to = read.guest as usize;
@@ -175,8 +177,10 @@ fn carry_between(
         ≤ length (memory_in (seen guests.old.items) write.now.guest) }
     requires target { read.now.address + item_size (scalars_of payload) * count
         ≤ length (memory_in (seen guests.old.items) read.now.guest) }
-    ensures ok { OnOk result (carried (seen guests.old.items) payload write.now read.now count ≡ Some (seen guests.new.items)) }
-    ensures bad { OnErr result (carried (seen guests.old.items) payload write.now read.now count ≡ None) }
+    ensures ok { OnOk result (carried (seen guests.old.items) payload write.now read.now count
+        ≡ Some (seen guests.new.items)) }
+    ensures bad { OnErr result (carried (seen guests.old.items) payload write.now read.now count
+        ≡ None) }
     ensures err { OnErr result (seen guests.new.items ≡ seen guests.old.items) }
     ensures length { length guests.new.items ≡ length guests.old.items }
 {
@@ -205,8 +209,10 @@ fn carry(
     requires target { is_out_of_bounds (length (memory_in (seen guests.old.items) read.now.guest))
         (scalars_of payload) read.now.address count ≡ false }
     requires some { 0 < count }
-    ensures ok { OnOk result (carried (seen guests.old.items) payload write.now read.now count ≡ Some (seen guests.new.items)) }
-    ensures bad { OnErr result (carried (seen guests.old.items) payload write.now read.now count ≡ None) }
+    ensures ok { OnOk result (carried (seen guests.old.items) payload write.now read.now count
+        ≡ Some (seen guests.new.items)) }
+    ensures bad { OnErr result (carried (seen guests.old.items) payload write.now read.now count
+        ≡ None) }
     ensures err { OnErr result (seen guests.new.items ≡ seen guests.old.items) }
     ensures length { length guests.new.items ≡ length guests.old.items }
 {
@@ -259,10 +265,13 @@ fn exchange(
 ) -> Result<ReturnCode, BadItem>
     requires mine { IsPlaced (sizes_of (seen guests.old.items)) stream.old.payload mine.now }
     requires theirs { IsPlaced (sizes_of (seen guests.old.items)) stream.old.payload theirs.now }
-    requires numbers { mine.now.guest ≡ theirs.now.guest → IsTrue (is_number_or_none stream.old.payload) }
+    requires numbers { mine.now.guest ≡ theirs.now.guest
+        → IsTrue (is_number_or_none stream.old.payload) }
     requires some { 0 < min mine.now.left theirs.now.left }
-    requires room { theirs.now.address + item_size (scalars_of stream.old.payload) * min mine.now.left theirs.now.left < 2 ^ 32 }
-    ensures { moves side (seen guests.old.items) stream.old mine.now theirs.now (min mine.now.left theirs.now.left)
+    requires room { theirs.now.address
+        + item_size (scalars_of stream.old.payload) * min mine.now.left theirs.now.left < 2 ^ 32 }
+    ensures { moves side (seen guests.old.items) stream.old mine.now theirs.now
+        (min mine.now.left theirs.now.left)
         (carried (seen guests.old.items) stream.old.payload (write_of side mine.now theirs.now)
         (read_of side mine.now theirs.now) (min mine.now.left theirs.now.left))
         ≡ taken result guests.new.items stream.new }
@@ -321,7 +330,8 @@ pub fn take_turn(
     requires sizes { sum (sizes_of (seen guests.old.items)) ≤ 268435456 }
     requires numbers { IsTrue (is_open_of mine.guest (end_of (opposite side) stream.old).operation)
         → IsTrue (is_number_or_none stream.old.payload) }
-    ensures { turn side (seen guests.old.items) stream.old mine ≡ taken result guests.new.items stream.new }
+    ensures { turn side (seen guests.old.items) stream.old mine
+        ≡ taken result guests.new.items stream.new }
 {
     let other = end(stream, opposite(side));
     if other.owner == Owner::Gone {

@@ -3,7 +3,7 @@
 //! Meaning: the step Between of `Reactions.antt` of `strm_machine`. Source: Canonical ABI,
 //! `canon stream.new` and `canon future.new`; two guests at once are ours.
 
-ghost use Rattle.std.specs.Prelude.{◌≡◌, ◌≢◌, ◌+◌, ◌^◌, ◌<◌, ◌≤◌, length, Ok, Err, Some, None, IfOk, IfErr, OnErr};
+ghost use Rattle.std.specs.Prelude.{◌≡◌, ◌+◌, ◌<◌, length, Ok, Err, Some, None, IfOk, IfErr, OnErr};
 ghost use Rattle.strm_handles.specs.Handles.{next_index};
 ghost use Rattle.std.specs.Prelude.{false};
 ghost use Rattle.strm_codes.specs.Types.{kind_of, payload_of};
@@ -90,7 +90,8 @@ impl Store {
     fn is_number_missing(&self, writer: u32, reader: u32) -> bool
         requires writer { writer < length self.now.guests }
         requires reader { reader < length self.now.guests }
-        ensures { (ty : TransmitIndex) → result ≡ is_no_handle (next_index (guest_in self.now.guests reader).handles)
+        ensures { (ty : TransmitIndex) → result ≡
+            is_no_handle (next_index (guest_in self.now.guests reader).handles)
             || is_no_handle (writer_index self.now writer reader ty) }
     {
         let read = self.guests[reader as usize].table.next_index();

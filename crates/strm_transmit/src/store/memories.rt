@@ -2,7 +2,7 @@
 //!
 //! Meaning: the steps Guest, Poke and Dump of `Reactions.antt` of `strm_machine`. Ours.
 
-ghost use Rattle.std.specs.Prelude.{◌≡◌, ◌≢◌, ◌+◌, ◌<◌, ◌≤◌, [], ◌∷◌, length, Ok, Err, Some, None, IfOk, IfErr, OnErr};
+ghost use Rattle.std.specs.Prelude.{◌≡◌, ◌≢◌, ◌+◌, ◌<◌, ◌≤◌, [], ◌∷◌, Ok, Err, Some, None, IfOk, IfErr, OnErr};
 ghost use Rattle.strm_machine.specs.Refusals.{refusal, first_of, where_};
 ghost use Rattle.strm_machine.specs.Tests.{is_unknown_guest, are_bytes_out_of_bounds};
 ghost use Rattle.strm_machine.specs.Reactions.{react, performs, goes};
@@ -42,7 +42,8 @@ impl Store {
     // One guest more. After want of memory nothing has changed.
     fn push_guest(&mut self, size: u32) -> Result<u32, StoreError>
         requires { refusal self.old (steps.Guest size) ≡ None }
-        ensures ok { IfOk result (λ number. performs self.old (steps.Guest size) ≡ goes (replies.Number number) self.new) }
+        ensures ok { IfOk result (λ number.
+            performs self.old (steps.Guest size) ≡ goes (replies.Number number) self.new) }
         ensures err { OnErr result (self.new ≡ self.old) }
         ensures memory { IfErr result (λ error. error ≡ StoreError.OutOfMemory) }
     {
@@ -65,7 +66,8 @@ impl Store {
 
     /// A guest with a memory of so many zero bytes. Answers its number; the first is 0.
     pub fn add_guest(&mut self, size: u32) -> Result<u32, StoreError>
-        ensures meets { Meets self.old self.new (replied replies.Number result) (react self.old (steps.Guest size)) }
+        ensures meets { Meets self.old self.new (replied replies.Number result)
+            (react self.old (steps.Guest size)) }
     {
         match self.admit(self.guest_refusal(size)) {
             Ok(()) => self.push_guest(size),
@@ -115,7 +117,8 @@ impl Store {
     fn bytes(&self, guest: u32, address: u32, len: u32) -> Chunk
         requires few { len ≤ 64 }
         requires may { refusal self.now (steps.Dump guest address len) ≡ None }
-        ensures { performs self.now (steps.Dump guest address len) ≡ goes (replies.Bytes result) self.now }
+        ensures { performs self.now (steps.Dump guest address len)
+            ≡ goes (replies.Bytes result) self.now }
     {
         Chunk::new(read_bytes(&self.guests, guest as usize, address, len)).unwrap()
     }

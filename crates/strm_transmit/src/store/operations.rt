@@ -4,14 +4,14 @@
 //! `canon stream.{read,write}` and `canon future.{read,write}`; wasmtime, `guest_read` and
 //! `guest_write`.
 
-ghost use Rattle.std.specs.Prelude.{◌≡◌, ◌≢◌, ◌+◌, ◌<◌, ◌≤◌, ◌++◌, length, true, false, Ok, Err, Some, None, IfOk, IfErr, OnOk, IsTrue, IsErr, ◌↔◌};
+ghost use Rattle.std.specs.Prelude.{◌≡◌, ◌≢◌, ◌+◌, ◌<◌, ◌++◌, length, true, false, Ok, Err, Some, None, IfOk, IfErr, OnOk, IsTrue, IsErr, ◌↔◌};
 ghost use Rattle.strm_codes.specs.Types.{payload_of};
 ghost use Rattle.strm_handles.specs.declared.entries.TransmitLocalState.{TransmitLocalState};
 ghost use Rattle.strm_memory.specs.Items.{is_number_or_none};
-ghost use Rattle.strm_machine.specs.State.{guest_in, stream_at};
+ghost use Rattle.strm_machine.specs.State.{stream_at};
 ghost use Rattle.strm_machine.specs.Meetings.{begun};
 ghost use Rattle.strm_machine.specs.Sides.{opposite, end_of};
-ghost use Rattle.strm_machine.specs.Tests.{is_too_big, items_asked, named, named_by, stream_named, side_of, has_ended, is_within_one_guest, is_open_of};
+ghost use Rattle.strm_machine.specs.Tests.{is_too_big, items_asked, named, stream_named, side_of, has_ended, is_within_one_guest, is_open_of};
 ghost use Rattle.strm_machine.specs.Refusals.{first_of, ended_refusal, region_reasons, handle_reasons, end_reasons, end_reasons_of, operation_reasons};
 ghost use Rattle.strm_machine.specs.Reactions.{react, on_stream, operation_step};
 ghost use Rattle.strm_machine.specs.Soundness.{sizes_of, IsPlaced};
@@ -187,7 +187,8 @@ impl Store {
         state: TransmitLocalState,
     ) -> Option<Refusal>
         requires { stream < length self.now.streams }
-        ensures { result ≡ first_of (end_reasons_of (stream_at self.now stream) side guest ty (side_of state)) }
+        ensures { result ≡ first_of (end_reasons_of (stream_at self.now stream) side guest ty
+            (side_of state)) }
     {
         let stream = &self.streams[stream as usize];
         end_refusal(side, guest, ty, stream, side_of(state))
@@ -245,7 +246,8 @@ impl Store {
         address: u32,
         count: u32,
     ) -> Result<(u32, ItemCount), Refusal>
-        ensures exact { result ≡ or_found (first_of (operation_reasons self.now side guest ty handle address count))
+        ensures exact { result ≡
+            or_found (first_of (operation_reasons self.now side guest ty handle address count))
             (stream_named (named self.now guest ty handle), items_asked ty count) }
         ensures there { IfOk result (λ found. found.0 < length self.now.streams) }
         ensures placed { IfOk result (λ found. IsPlaced (sizes_of self.now.guests)

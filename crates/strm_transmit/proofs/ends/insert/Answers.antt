@@ -1,4 +1,4 @@
-use Rattle.std.proofs.Common.{◌≡◌, ◌+◌, arith, ap, ◌∙◌}
+use Rattle.std.proofs.Common.{arith, ap}
 use Rattle.strm_handles.specs.Handles.{live_of}
 use Rattle.strm_handles.proofs.HandleLemmas.{live_of-inserted}
 use Rattle.strm_handles.proofs.ChangeLemmas.{insert_gives}

@@ -1,4 +1,4 @@
-use Rattle.std.proofs.Common.{◌≡◌, ◌+◌, ◌≤◌, arith, ap, sym, subst, ◌∙◌}
+use Rattle.std.proofs.Common.{arith, ap, sym, ◌∙◌}
 use Rattle.strm_handles.specs.Handles.{live_of, inserted}
 use Rattle.strm_machine.specs.State as machine
 use Rattle.strm_machine.specs.State.{with_handles, guest_in}

@@ -1,5 +1,4 @@
-use Rattle.std.proofs.Common.{◌≡◌, ◌+◌, ◌≤◌, arith}
-use Rattle.strm_transmit.specs.Guests.{room_in}
+use Rattle.std.proofs.Common.{arith}
 use Rattle.strm_transmit.proofs.EndLemmas.{rooms_after, room_after, seen-same}
 use Rattle.strm_transmit.proofs.ends.reserve_two.Goals as goal
 

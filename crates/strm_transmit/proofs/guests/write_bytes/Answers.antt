@@ -1,7 +1,6 @@
-use Rattle.std.proofs.Common.{◌≡◌, ◌∙◌, List, Result, Ok, Err, false, refl, sym, ap}
+use Rattle.std.proofs.Common.{◌≡◌, ◌∙◌, Result, Ok, Err, false, sym, ap}
 use Rattle.std.specs.Prelude.{is_err, OnOk}
 use Rattle.strm_memory.specs.Bytes.{put_at}
-use Rattle.strm_memory.specs.Region.{bytes_out_of_bounds}
 use Rattle.strm_machine.specs.State.{with_memory}
 use Rattle.strm_transmit.specs.Guests.{seen}
 use Rattle.strm_transmit.proofs.GuestLemmas.{seen-with_memory, memory_in-seen}

@@ -1,4 +1,4 @@
-use Rattle.std.proofs.Common.{ap, ◌∙◌, sym}
+use Rattle.std.proofs.Common.{◌∙◌, sym}
 use Rattle.strm_transmit.specs.Guests.{seen}
 use Rattle.strm_machine.proofs.CarryLemmas.{carried-nothing}
 use Rattle.strm_transmit.proofs.turns.carry.Goals as goal

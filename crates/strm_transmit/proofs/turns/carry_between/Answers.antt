@@ -1,4 +1,3 @@
-use Rattle.std.proofs.Common.{ap, ◌∙◌, sym}
 use Rattle.strm_transmit.specs.Guests.{seen}
 use Rattle.strm_transmit.proofs.CarryingLemmas.{Carries, carries_ok, carries_bad, carries_err}
 use Rattle.strm_transmit.proofs.turns.carry_between.Goals as goal

@@ -1,8 +1,6 @@
-use Rattle.std.proofs.Common.{◌≡◌, ◌<◌, ◌∙◌, min, false, length, refl, sym, ap, arith}
+use Rattle.std.proofs.Common.{◌≡◌, ◌∙◌, min, sym, ap, arith}
 use Rattle.std.proofs.lemmas.List.{length-map}
-use Rattle.strm_memory.specs.Region.{bytes_out_of_bounds}
-use Rattle.strm_machine.specs.State.{memory_in}
-use Rattle.strm_transmit.specs.Guests.{guest_of, seen}
+use Rattle.strm_transmit.specs.Guests.{guest_of}
 use Rattle.strm_transmit.specs.Inside.{state_of}
 use Rattle.strm_machine.specs.Reactions.{performs, goes}
 use Rattle.strm_machine.specs.declared.replies.Reply.TheVariants as replies

@@ -1,4 +1,4 @@
-use Rattle.std.proofs.Common.{ap, ◌∙◌, sym, refl}
+use Rattle.std.proofs.Common.{sym}
 use Rattle.strm_transmit.proofs.StepLemmas.{meets_not_admitted, is_admitted, meets_admitted}
 use Rattle.strm_transmit.proofs.store.Store.new_between.Goals as goal
 

@@ -1,6 +1,5 @@
-use Rattle.std.proofs.Common.{◌≡◌, ℕ, ◌++◌, refl, sym, ap, ◌∙◌}
+use Rattle.std.proofs.Common.{◌++◌}
 use Rattle.strm_machine.specs.State.{stream_at}
-use Rattle.strm_machine.specs.Sides.{opposite, end_of}
 use Rattle.strm_machine.specs.Tests.{items_asked, named, stream_named, side_named}
 use Rattle.strm_machine.specs.Refusals.{region_reasons, handle_reasons, end_reasons, first_of}
 use Rattle.strm_machine.proofs.RefusalLemmas.{none_of_both, numbers_within}

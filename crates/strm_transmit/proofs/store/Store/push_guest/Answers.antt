@@ -1,4 +1,4 @@
-use Rattle.std.proofs.Common.{◌≡◌, ◌+◌, ◌≤◌, ◌∙◌, length, refl, sym, ap, arith}
+use Rattle.std.proofs.Common.{◌+◌, ◌∙◌, refl, arith}
 use Rattle.strm_transmit.specs.Inside.{state_of}
 use Rattle.strm_machine.proofs.RefusalLemmas.{guest_fits}
 use Rattle.strm_transmit.proofs.StoreLemmas.{IsStore-guest, performs-guest}

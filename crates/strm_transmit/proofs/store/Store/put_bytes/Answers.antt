@@ -1,9 +1,9 @@
-use Rattle.std.proofs.Common.{◌<◌, ◌∙◌, length, refl, arith}
+use Rattle.std.proofs.Common.{refl, arith}
 use Rattle.std.proofs.lemmas.List.{length-map}
 use Rattle.strm_transmit.specs.Guests.{guest_of}
 use Rattle.strm_transmit.specs.Inside.{state_of}
 use Rattle.strm_machine.proofs.RefusalLemmas.{poke_fits}
-use Rattle.strm_transmit.proofs.StoreLemmas.{PutsBytes, performs-poke, IsStore-poke}
+use Rattle.strm_transmit.proofs.StoreLemmas.{performs-poke, IsStore-poke}
 use Rattle.strm_transmit.proofs.store.Store.put_bytes.Goals as goal
 
 pub write_bytes-requires : goal.write_bytes-requires

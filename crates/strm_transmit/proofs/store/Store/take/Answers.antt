@@ -1,4 +1,4 @@
-use Rattle.std.proofs.Common.{◌≡◌, ap, sym, refl, ◌∙◌, set}
+use Rattle.std.proofs.Common.{ap, sym, refl, ◌∙◌, set}
 use Rattle.strm_machine.specs.Turns.{Turn, turn}
 use Rattle.strm_transmit.specs.Guests.{seen}
 use Rattle.strm_transmit.proofs.StoreLemmas.{IsStore-turn, stream_at-there}
