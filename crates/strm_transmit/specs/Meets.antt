@@ -1,8 +1,10 @@
 -- How a call of the store is a step of the machine.
-use Rattle.std.specs.Prelude.{◌≡◌, true, Option, Some, None, Result, Ok, Err, if◌then◌else◌}
+use Rattle.std.specs.Prelude.{Bool, false, ◌≡◌, true, Option, Some, None, Result, Ok, Err, if◌then◌else◌}
 use Rattle.strm_codes.specs.declared.refusals.Refusal.{Refusal}
 use Rattle.strm_machine.specs.State.{State}
 use Rattle.strm_machine.specs.Reactions.{Reaction, goes}
+use Rattle.strm_machine.specs.declared.steps.Step.{Step}
+use Rattle.strm_machine.specs.declared.steps.Step.TheVariants as steps
 use Rattle.strm_machine.specs.declared.replies.Reply.{Reply}
 use Rattle.strm_machine.specs.declared.replies.Reply.TheVariants as replies
 use Rattle.strm_transmit.specs.declared.errors.StoreError.{StoreError}
@@ -42,3 +44,12 @@ refused_too (Err (BadItem stream)) = Err (BadItem stream)
 refused_too (Err StoreTrapped) = Err StoreTrapped
 refused_too (Err OutOfMemory) = Err OutOfMemory
 refused_too (Ok reply) = Ok reply
+
+-- a step that takes memory: it makes a guest, or a stream between two
+abbrev pub takes_memory : Step → Bool
+takes_memory (steps.Guest size) = true
+takes_memory (steps.Between writer reader ty) = true
+takes_memory (steps.Write guest ty handle address count) = false
+takes_memory (steps.Read guest ty handle address count) = false
+takes_memory (steps.Poke guest address bytes) = false
+takes_memory (steps.Dump guest address len) = false

@@ -2,11 +2,10 @@
 //!
 //! Meaning: `react` of `Reactions.antt` of `strm_machine`. Ours.
 
-ghost use Rattle.std.specs.Prelude.{◌≡◌, ◌≢◌, Ok, Err};
+ghost use Rattle.std.specs.Prelude.{◌≡◌, false, ◌≢◌, Ok, Err};
 ghost use Rattle.strm_codes.specs.declared.refusals.Refusal.{Refusal};
 ghost use Rattle.strm_machine.specs.Reactions.{react};
-ghost use Rattle.strm_machine.specs.declared.steps.Step.TheVariants as steps;
-ghost use Rattle.strm_transmit.specs.Meets.{Meets, refused_too};
+ghost use Rattle.strm_transmit.specs.Meets.{Meets, refused_too, takes_memory};
 
 use crate::errors::StoreError;
 use crate::store::Store;
@@ -28,6 +27,7 @@ fn refused(error: StoreError) -> Result<Reply, StoreError>
 pub fn apply(store: &mut Store, step: &Step) -> Result<Reply, StoreError>
     ensures meets { Meets store.old store.new result (react store.old step.now) }
     ensures refused { (refusal : Refusal) → result ≢ Err (StoreError.Refused refusal) }
+    ensures takes_no_memory { takes_memory step.now ≡ false → result ≢ Err StoreError.OutOfMemory }
 {
     match *step {
         Step::Guest { size } => match store.add_guest(size) {
