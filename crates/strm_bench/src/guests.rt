@@ -1,7 +1,12 @@
 //! A handle table with its counter.
 
-ghost use Rattle.std.specs.Prelude.{◌≤◌};
-ghost use Rattle.strm_handles.specs.Handles.{live_of};
+ghost use Rattle.std.specs.Prelude.{◌≡◌, ◌≤◌};
+ghost use Rattle.strm_handles.specs.Handles.{live_of, no_handles};
+ghost use Rattle.strm_handles.specs.Changes.{Inserts, Removes};
+ghost use Rattle.strm_handles.specs.Ends.{read_end, stream_readable_of};
+ghost use Rattle.strm_codes.specs.declared.payloads.Payload.TheVariants.{One};
+ghost use Rattle.strm_codes.specs.declared.scalars.Scalar.TheVariants.{U8};
+ghost use Rattle.strm_handles.specs.declared.entries.Entry.TheVariants as Entry;
 
 use std::alloc::Global;
 use strm_codes::payloads::Payload;
@@ -21,28 +26,40 @@ pub struct Guest {
 }
 
 impl Guest {
-    pub fn new(alloc: Global, limit: usize) -> Guest {
+    /// An empty table, which may hold so many handles.
+    pub fn new(alloc: Global, limit: usize) -> Guest
+        ensures table { result.table.handles ≡ no_handles }
+        ensures counter { result.counter ≡ record { limit = limit; live = 0 } }
+    {
         Guest {
             table: HandleTable::new(alloc),
             counter: HandleCounter::new(limit),
         }
     }
 
-    pub fn live(&self) -> usize {
+    /// How many handles are live.
+    pub fn live(&self) -> usize
+        ensures { result ≡ self.now.counter.live }
+    {
         self.counter.live()
     }
 
     /// Adds the read end of a stream: its handle.
-    pub fn insert(&mut self, rep: u32) -> Result<u32, HandleError> {
+    pub fn insert(&mut self, rep: u32) -> Result<u32, HandleError>
+        ensures { Inserts self.old.table self.new.table self.old.counter self.new.counter
+            (Entry.Stream (read_end (One U8) rep)) result }
+    {
         self.table.sound();
         self.table.stream_insert_read(&mut self.counter, BYTES, rep)
     }
 
-    /// Removes the read end of a stream: the stream's number.
-    pub fn remove(&mut self, handle: u32) -> Result<u32, HandleError> {
-        let (rep, _) = self
-            .table
-            .stream_remove_readable(&mut self.counter, BYTES, handle)?;
-        Ok(rep)
+    /// Removes the read end of a stream: the stream's number, and whether the end is done.
+    pub fn remove(&mut self, handle: u32) -> Result<(u32, bool), HandleError>
+        ensures answer { result ≡ stream_readable_of self.old.table.handles (One U8) handle }
+        ensures removes { Removes self.old.table self.new.table self.old.counter self.new.counter
+            handle result }
+    {
+        self.table
+            .stream_remove_readable(&mut self.counter, BYTES, handle)
     }
 }
