@@ -57,6 +57,17 @@ future_rep_of h ty idx = do
   end ← future_of h ty idx
   Ok (end.rep, end.state)
 
+-- the number of a stream or future, whatever its payload, and the state of its end
+abbrev pub end_rep_in : Option Entry → Result (ℕ × TransmitLocalState) HandleError
+end_rep_in None = Err UnknownHandle
+end_rep_in (Some (entry.Stream end)) = Ok (end.rep, end.state)
+end_rep_in (Some (entry.Future end)) = Ok (end.rep, end.state)
+end_rep_in (Some _) = Err WrongKind
+
+-- the same of what a number stands for
+abbrev pub end_rep_of : Handles → ℕ → Result (ℕ × TransmitLocalState) HandleError
+end_rep_of h idx = end_rep_in (entry_at h idx)
+
 -- a resource's number, where its type is this one
 abbrev pub typed_rep : ℕ → TypedResource → Result ℕ HandleError
 typed_rep ty resource = if resource.ty == ty then Ok resource.rep else Err WrongType

@@ -6,7 +6,7 @@ ghost use Rattle.std.specs.Prelude.{◌≡◌, ◌≤◌, IsSome, IfOk, OnOk, On
 ghost use Rattle.std.specs.Result.{ForOk};
 ghost use Rattle.strm_handles.specs.Handles.{entry_at, with_entry, live_of};
 ghost use Rattle.strm_handles.specs.Changes.{Inserts, Removes};
-ghost use Rattle.strm_handles.specs.Lookups.{stream_of, future_of, stream_rep_of, future_rep_of};
+ghost use Rattle.strm_handles.specs.Lookups.{stream_of, future_of, stream_rep_of, future_rep_of, end_rep_of};
 ghost use Rattle.strm_handles.specs.Ends.{read_end, write_end, is_reading, accepted, stream_readable_of, stream_writable_of, future_readable_of, future_writable_of};
 
 use crate::counters::HandleCounter;
@@ -116,6 +116,18 @@ impl HandleTable {
     {
         let end = self.future(ty, idx)?;
         Ok((end.rep, end.state))
+    }
+
+    /// The number of a stream or future, whatever its payload, and the state of its end. Ours.
+    pub fn end_rep(&self, idx: u32) -> Result<(u32, TransmitLocalState), HandleError>
+        ensures { result ≡ end_rep_of self.now.handles idx }
+    {
+        match self.slots.get(idx) {
+            Some(Entry::Stream(end)) => Ok((end.rep, end.state)),
+            Some(Entry::Future(end)) => Ok((end.rep, end.state)),
+            Some(_) => Err(HandleError::WrongKind),
+            None => Err(HandleError::UnknownHandle),
+        }
     }
 
     /// Sets the state of a stream's end. Ours.
