@@ -32,7 +32,7 @@ one_byte : (s : Scalar) → 0 < size_of s
 one_byte s = elim (IsWidth-size_of s) [ inl e ↦ omega arith | inr v ↦ elim v [ inl e ↦ omega arith | inr u ↦ elim u [ inl e ↦ omega arith | inr e ↦ omega arith ] ] ]
 
 -- only an item of no scalars takes no bytes
-no_scalars : (ss : List Scalar) → item_size ss ≡ 0 → ss ≡ []
+pub no_scalars : (ss : List Scalar) → item_size ss ≡ 0 → ss ≡ []
 no_scalars [] e = refl
 no_scalars (s ∷ ss) e = absurd (omega (arith, one_byte s, le-end_of (0 + gap_before 0 (size_of s) + size_of s) ss))
 

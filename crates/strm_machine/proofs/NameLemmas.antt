@@ -1,5 +1,5 @@
--- In a sound state a handle names a stream that was made, of the handle's payload.
-use Rattle.std.proofs.Common.{◌≡◌, ℕ, zero, suc, ◌<◌, Bool, true, false, cond, List, length, get_or, Option, Some, None, Result, Ok, Err, refl, sym, ◌∙◌, inl, inr, arith}
+-- In a sound state a handle names a stream that was made, of the handle's type.
+use Rattle.std.proofs.Common.{◌≡◌, ℕ, zero, suc, ◌<◌, Bool, true, false, cond, List, length, get_or, Option, Some, None, Result, Ok, Err, refl, sym, ap, ◌∙◌, inl, inr, arith}
 use Rattle.std.specs.Prelude.{All, IfOk, IfErr}
 use Rattle.std.proofs.lemmas.Bool.{cases_lt}
 use Rattle.std.proofs.Math.ListN.{get_or-map}
@@ -10,65 +10,68 @@ use Rattle.strm_codes.specs.declared.codes.TransmitIndex.TheVariants as index
 use Rattle.strm_codes.specs.declared.payloads.Payload.{Payload}
 use Rattle.strm_codes.specs.declared.payloads.Payload.TheVariants.{Nothing}
 use Rattle.strm_codes.specs.Sameness.{same_payload, Decides-same_payload}
-use Rattle.strm_codes.specs.Types.{payload_of}
+use Rattle.strm_codes.specs.Types.{kind_of, payload_of}
+use Rattle.strm_codes.specs.declared.codes.TransmitKind.{TransmitKind}
+use Rattle.strm_codes.specs.declared.codes.TransmitKind.TheVariants.{Stream as AStream, Future}
 use Rattle.strm_handles.specs.Handles.{Handles, entry_in, entry_at}
-use Rattle.strm_handles.specs.Lookups.{typed, stream_in, future_in, ◌>>=◌}
+use Rattle.strm_handles.specs.Lookups.{typed, stream_in, future_in, end_rep_in, ◌>>=◌}
 use Rattle.strm_handles.specs.declared.entries.Entry.{Entry}
 use Rattle.strm_handles.specs.declared.entries.Entry.TheVariants as entries
 use Rattle.strm_handles.specs.declared.entries.TransmitEnd.{TransmitEnd}
 use Rattle.strm_handles.specs.declared.entries.TransmitLocalState.{TransmitLocalState}
 use Rattle.strm_handles.specs.declared.errors.HandleError.{HandleError}
 use Rattle.strm_handles.specs.declared.errors.HandleError.TheVariants as errors
-use Rattle.strm_machine.specs.State.{State, no_stream, stream_at}
-use Rattle.strm_machine.specs.Tests.{Name, named, named_by}
-use Rattle.strm_machine.specs.Soundness.{payloads_of, IsNamed, EntryIsNamed, IsSound}
+use Rattle.strm_machine.specs.State.{State, guest_in, no_stream, stream_at}
+use Rattle.strm_machine.specs.Tests.{Name, named, end_named, named_by}
+use Rattle.strm_machine.specs.Soundness.{type_with, type_of, types_of, is_idle_state, IsNamed, EntryIsNamed, IsSound}
 use Rattle.strm_machine.proofs.SoundLemmas.{AreNamed-at}
 
-entry_named : (payloads : List Payload) (es : List (Option Entry)) (n : ℕ) → All (EntryIsNamed payloads) es → EntryIsNamed payloads (entry_in es n)
-entry_named payloads es zero h = tt
-entry_named payloads es (suc i) h =
+pub entry_named : (types : List TransmitIndex) (es : List (Option Entry)) (n : ℕ) → All (EntryIsNamed types) es → EntryIsNamed types (entry_in es n)
+entry_named types es zero h = tt
+entry_named types es (suc i) h =
     elim (cases_lt i (length es)) [
-      | inl l ↦ All-get_or (EntryIsNamed payloads) es i None l h
+      | inl l ↦ All-get_or (EntryIsNamed types) es i None l h
       | inr l ↦ rw (get_or_past es i None l) tt
     ]
 
--- a stream that was made, of this payload
-pub record NamesStream (payloads : List Payload) (p : Payload) (name : ℕ × TransmitLocalState) : Type 0 where
-  pub there : name.0 < length payloads
-  pub payload : get_or payloads name.0 Nothing ≡ p
+-- a stream that was made, of this type
+pub record NamesStream (types : List TransmitIndex) (ty : TransmitIndex) (name : ℕ × TransmitLocalState) : Type 0 where
+  pub there : name.0 < length types
+  pub typed : get_or types name.0 (index.Stream Nothing) ≡ ty
+  pub idle : is_idle_state name.1 ≡ true
 
-typed_names : (payloads : List Payload) (p : Payload) (end : TransmitEnd) → IsNamed payloads end → IfOk (typed p end >>= (λ e. Ok (e.rep, e.state))) (NamesStream payloads p)
-typed_names payloads p end h = both (same_payload end.ty p) refl
+typed_names : (types : List TransmitIndex) (of : Payload → TransmitIndex) (p : Payload) (end : TransmitEnd) → IsNamed types (of end.ty) end → IfOk (typed p end >>= (λ e. Ok (e.rep, e.state))) (NamesStream types (of p))
+typed_names types of p end h = both (same_payload end.ty p) refl
   where
-    both : (b : Bool) → same_payload end.ty p ≡ b → IfOk (cond b (Ok end) (Err errors.WrongType) >>= (λ e. Ok (e.rep, e.state))) (NamesStream payloads p)
-    both true e = record { there = h.there; payload = h.payload ∙ (Decides-same_payload end.ty p).0 e }
+    both : (b : Bool) → same_payload end.ty p ≡ b → IfOk (cond b (Ok end) (Err errors.WrongType) >>= (λ e. Ok (e.rep, e.state))) (NamesStream types (of p))
+    both true e = record { there = h.there; typed = h.typed ∙ ap of ((Decides-same_payload end.ty p).0 e); idle = h.idle }
     both false e = tt
 
-stream_names : (payloads : List Payload) (p : Payload) (o : Option Entry) → EntryIsNamed payloads o → IfOk (stream_in p o >>= (λ e. Ok (e.rep, e.state))) (NamesStream payloads p)
-stream_names payloads p None h = tt
-stream_names payloads p (Some (entries.Stream end)) h = typed_names payloads p end h
-stream_names payloads p (Some (entries.Future end)) h = tt
-stream_names payloads p (Some (entries.ResourceOwn resource lends)) h = tt
-stream_names payloads p (Some (entries.ResourceBorrow resource scope)) h = tt
-stream_names payloads p (Some (entries.ErrorContext rep)) h = tt
-stream_names payloads p (Some (entries.Subtask rep is_host)) h = tt
-stream_names payloads p (Some (entries.WaitableSet rep)) h = tt
+stream_names : (types : List TransmitIndex) (p : Payload) (o : Option Entry) → EntryIsNamed types o → IfOk (stream_in p o >>= (λ e. Ok (e.rep, e.state))) (NamesStream types (index.Stream p))
+stream_names types p None h = tt
+stream_names types p (Some (entries.Stream end)) h = typed_names types index.Stream p end h
+stream_names types p (Some (entries.Future end)) h = tt
+stream_names types p (Some (entries.ResourceOwn resource lends)) h = tt
+stream_names types p (Some (entries.ResourceBorrow resource scope)) h = tt
+stream_names types p (Some (entries.ErrorContext rep)) h = tt
+stream_names types p (Some (entries.Subtask rep is_host)) h = tt
+stream_names types p (Some (entries.WaitableSet rep)) h = tt
 
-future_names : (payloads : List Payload) (p : Payload) (o : Option Entry) → EntryIsNamed payloads o → IfOk (future_in p o >>= (λ e. Ok (e.rep, e.state))) (NamesStream payloads p)
-future_names payloads p None h = tt
-future_names payloads p (Some (entries.Stream end)) h = tt
-future_names payloads p (Some (entries.Future end)) h = typed_names payloads p end h
-future_names payloads p (Some (entries.ResourceOwn resource lends)) h = tt
-future_names payloads p (Some (entries.ResourceBorrow resource scope)) h = tt
-future_names payloads p (Some (entries.ErrorContext rep)) h = tt
-future_names payloads p (Some (entries.Subtask rep is_host)) h = tt
-future_names payloads p (Some (entries.WaitableSet rep)) h = tt
+future_names : (types : List TransmitIndex) (p : Payload) (o : Option Entry) → EntryIsNamed types o → IfOk (future_in p o >>= (λ e. Ok (e.rep, e.state))) (NamesStream types (index.Future p))
+future_names types p None h = tt
+future_names types p (Some (entries.Stream end)) h = tt
+future_names types p (Some (entries.Future end)) h = typed_names types index.Future p end h
+future_names types p (Some (entries.ResourceOwn resource lends)) h = tt
+future_names types p (Some (entries.ResourceBorrow resource scope)) h = tt
+future_names types p (Some (entries.ErrorContext rep)) h = tt
+future_names types p (Some (entries.Subtask rep is_host)) h = tt
+future_names types p (Some (entries.WaitableSet rep)) h = tt
 
-named-names : (state : State) (g : ℕ) (ty : TransmitIndex) (handle : ℕ) → IsSound state → IfOk (named state g ty handle) (NamesStream (payloads_of state.streams) (payload_of ty))
+named-names : (state : State) (g : ℕ) (ty : TransmitIndex) (handle : ℕ) → IsSound state → IfOk (named state g ty handle) (NamesStream (types_of state.streams) ty)
 named-names state g (index.Stream payload) handle h =
-    stream_names (payloads_of state.streams) payload _ (entry_named (payloads_of state.streams) _ handle (AreNamed-at (payloads_of state.streams) state.guests g h.named))
+    stream_names (types_of state.streams) payload _ (entry_named (types_of state.streams) _ handle (AreNamed-at (types_of state.streams) state.guests g h.named))
 named-names state g (index.Future payload) handle h =
-    future_names (payloads_of state.streams) payload _ (entry_named (payloads_of state.streams) _ handle (AreNamed-at (payloads_of state.streams) state.guests g h.named))
+    future_names (types_of state.streams) payload _ (entry_named (types_of state.streams) _ handle (AreNamed-at (types_of state.streams) state.guests g h.named))
 
 if_ok : {T : Type 0} (P Q : T → Type 0) (r : Result T HandleError) → ((x : T) → P x → Q x) → IfOk r P → IfOk r Q
 if_ok P Q (Ok x) f p = f x p
@@ -76,11 +79,74 @@ if_ok P Q (Err e) f p = tt
 
 pub named_there : (state : State) (g : ℕ) (ty : TransmitIndex) (handle : ℕ) (r : Name) → IsSound state → r ≡ named state g ty handle → IfOk r (λ name. name.0 < length state.streams)
 named_there state g ty handle r h e =
-    rw e (if_ok (NamesStream (payloads_of state.streams) (payload_of ty)) (λ name. name.0 < length state.streams) (named state g ty handle) (λ name n. omega (arith, n.there, length-map state.streams (λ s. s.payload))) (named-names state g ty handle h))
+    rw e (if_ok (NamesStream (types_of state.streams) ty) (λ name. name.0 < length state.streams) (named state g ty handle) (λ name n. omega (arith, n.there, length-map state.streams type_of)) (named-names state g ty handle h))
+
+payload_of-type : (kind : TransmitKind) (p : Payload) → payload_of (type_with kind p) ≡ p
+payload_of-type AStream p = refl
+payload_of-type Future p = refl
+
+kind_of-type : (kind : TransmitKind) (p : Payload) → kind_of (type_with kind p) ≡ kind
+kind_of-type AStream p = refl
+kind_of-type Future p = refl
+
+-- the type of the stream that a handle names
+pub named_type : (state : State) (g : ℕ) (ty : TransmitIndex) (handle : ℕ) (r : Name) → IsSound state → r ≡ named state g ty handle → IfOk r (λ name. type_of (stream_at state name.0) ≡ ty)
+named_type state g ty handle r h e =
+    rw e (if_ok (NamesStream (types_of state.streams) ty) (λ name. type_of (stream_at state name.0) ≡ ty) (named state g ty handle) (λ name n. sym (get_or-map type_of state.streams name.0 no_stream) ∙ n.typed) (named-names state g ty handle h))
 
 pub named_payload : (state : State) (g : ℕ) (ty : TransmitIndex) (handle : ℕ) (r : Name) → IsSound state → r ≡ named state g ty handle → IfOk r (λ name. (stream_at state name.0).payload ≡ payload_of ty)
 named_payload state g ty handle r h e =
-    rw e (if_ok (NamesStream (payloads_of state.streams) (payload_of ty)) (λ name. (stream_at state name.0).payload ≡ payload_of ty) (named state g ty handle) (λ name n. sym (get_or-map (λ s. s.payload) state.streams name.0 no_stream) ∙ n.payload) (named-names state g ty handle h))
+    if_ok (λ name. type_of (stream_at state name.0) ≡ ty) (λ name. (stream_at state name.0).payload ≡ payload_of ty) r
+    (λ name n. sym (payload_of-type (stream_at state name.0).kind (stream_at state name.0).payload) ∙ ap payload_of n) (named_type state g ty handle r h e)
+
+pub named_kind : (state : State) (g : ℕ) (ty : TransmitIndex) (handle : ℕ) (r : Name) → IsSound state → r ≡ named state g ty handle → IfOk r (λ name. (stream_at state name.0).kind ≡ kind_of ty)
+named_kind state g ty handle r h e =
+    if_ok (λ name. type_of (stream_at state name.0) ≡ ty) (λ name. (stream_at state name.0).kind ≡ kind_of ty) r
+    (λ name n. sym (kind_of-type (stream_at state name.0).kind (stream_at state name.0).payload) ∙ ap kind_of n) (named_type state g ty handle r h e)
+
+pub named_idle : (state : State) (g : ℕ) (ty : TransmitIndex) (handle : ℕ) (r : Name) → IsSound state → r ≡ named state g ty handle → IfOk r (λ name. is_idle_state name.1 ≡ true)
+named_idle state g ty handle r h e =
+    rw e (if_ok (NamesStream (types_of state.streams) ty) (λ name. is_idle_state name.1 ≡ true) (named state g ty handle) (λ name n. n.idle) (named-names state g ty handle h))
+
+end_there : (types : List TransmitIndex) (o : Option Entry) → EntryIsNamed types o → IfOk (end_rep_in o) (λ name. name.0 < length types)
+end_there types None h = tt
+end_there types (Some (entries.Stream end)) h = h.there
+end_there types (Some (entries.Future end)) h = h.there
+end_there types (Some (entries.ResourceOwn resource lends)) h = tt
+end_there types (Some (entries.ResourceBorrow resource scope)) h = tt
+end_there types (Some (entries.ErrorContext rep)) h = tt
+end_there types (Some (entries.Subtask rep is_host)) h = tt
+end_there types (Some (entries.WaitableSet rep)) h = tt
+
+-- the stream whose end a handle names, whatever its type, was made
+pub end_named_there : (state : State) (g handle : ℕ) (r : Name) → IsSound state → r ≡ end_named state g handle → IfOk r (λ name. name.0 < length state.streams)
+end_named_there state g handle r h e =
+    rw (e, ← length-map state.streams type_of)
+    (end_there (types_of state.streams) (entry_at (guest_in state.guests g).handles handle)
+    (entry_named (types_of state.streams) _ handle (AreNamed-at (types_of state.streams) state.guests g h.named)))
+
+-- the refusals of a look-up that asks for no type
+abbrev pub IsEndError : HandleError → Type 0
+IsEndError errors.UnknownHandle = Unit {0}
+IsEndError errors.WrongKind = Unit {0}
+IsEndError errors.WrongType = ⊥
+IsEndError errors.IndexOverflow = ⊥
+IsEndError errors.HandleLimit = ⊥
+IsEndError errors.WrongEnd = ⊥
+IsEndError errors.Busy = ⊥
+IsEndError errors.Lent = ⊥
+IsEndError errors.TooManyLends = ⊥
+IsEndError errors.OutOfMemory = ⊥
+
+pub end_rep_in-error : (o : Option Entry) → IfErr (end_rep_in o) IsEndError
+end_rep_in-error None = tt
+end_rep_in-error (Some (entries.Stream end)) = tt
+end_rep_in-error (Some (entries.Future end)) = tt
+end_rep_in-error (Some (entries.ResourceOwn resource lends)) = tt
+end_rep_in-error (Some (entries.ResourceBorrow resource scope)) = tt
+end_rep_in-error (Some (entries.ErrorContext rep)) = tt
+end_rep_in-error (Some (entries.Subtask rep is_host)) = tt
+end_rep_in-error (Some (entries.WaitableSet rep)) = tt
 
 -- the refusals that a look-up of an end has
 abbrev pub IsNameError : HandleError → Type 0

@@ -5,11 +5,11 @@ use Rattle.strm_codes.specs.declared.refusals.Refusal.{Refusal}
 use Rattle.strm_codes.specs.declared.codes.TransmitIndex.{TransmitIndex}
 use Rattle.strm_codes.specs.declared.refusals.Refusal.TheVariants as refusals
 use Rattle.strm_machine.specs.State.{State, memory_in}
-use Rattle.strm_machine.specs.Tests.{is_unknown_guest, are_bytes_out_of_bounds}
+use Rattle.strm_machine.specs.Tests.{is_unknown_guest, are_bytes_out_of_bounds, named, stream_named}
 use Rattle.strm_machine.specs.declared.streams.Side.{Side}
 use Rattle.strm_machine.specs.declared.streams.Side.TheVariants.{Writing, Reading}
-use Rattle.strm_machine.specs.Refusals.{Reason, where_, first_of, operation_reasons, refusal}
-use Rattle.strm_machine.specs.Reactions.{goes, operates, operation_step, performs, unless_refused, react}
+use Rattle.strm_machine.specs.Refusals.{Reason, where_, first_of, operation_reasons, dropping_reasons, refusal}
+use Rattle.strm_machine.specs.Reactions.{goes, operates, operation_step, drops, drop_step, performs, unless_refused, react}
 use Rattle.strm_machine.specs.declared.steps.Step.{Step}
 use Rattle.strm_machine.specs.declared.steps.Step.TheVariants as steps
 use Rattle.strm_machine.specs.declared.replies.Reply.TheVariants as replies
@@ -49,6 +49,17 @@ pub performs-operation : (state : State) (side : Side) (g : ℕ) (ty : TransmitI
 unfolding performs
 performs-operation state Writing g ty handle address count = refl
 performs-operation state Reading g ty handle address count = refl
+
+-- a drop, of whichever end
+pub refusal-drop : (state : State) (side : Side) (g : ℕ) (ty : TransmitIndex) (handle : ℕ) → refusal state (drop_step side g ty handle) ≡ first_of (dropping_reasons state side g ty handle)
+unfolding refusal
+refusal-drop state Writing g ty handle = refl
+refusal-drop state Reading g ty handle = refl
+
+pub performs-drop : (state : State) (side : Side) (g : ℕ) (ty : TransmitIndex) (handle : ℕ) → performs state (drop_step side g ty handle) ≡ drops state (stream_named (named state g ty handle)) side g handle
+unfolding performs
+performs-drop state Writing g ty handle = refl
+performs-drop state Reading g ty handle = refl
 
 least : (len : ℕ) → min (min len 64) 64 ≡ min len 64
 least len = omega arith

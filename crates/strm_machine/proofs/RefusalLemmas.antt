@@ -1,27 +1,28 @@
 -- What is known of a step that nothing refuses.
-use Rattle.std.proofs.Common.{◌≡◌, ℕ, ◌+◌, ◌^◌, ◌<◌, ◌≤◌, Bool, true, false, cond, min, List, [], ◌∷◌, ◌++◌, length, Option, Some, None, refl, arith}
+use Rattle.std.proofs.Common.{◌≡◌, ℕ, ◌+◌, ◌^◌, ◌<◌, ◌≤◌, Bool, true, false, cond, min, List, [], ◌∷◌, ◌++◌, length, Option, Some, None, Result, Ok, Err, refl, arith}
 use Rattle.std.proofs.lemmas.Bool.Decides.{nat_tests}
 use Rattle.std.proofs.lemmas.List.{length-map}
-use Rattle.std.specs.Prelude.{nat_lt, nat_le, ◌||◌, ◌&&◌, not, IsTrue}
+use Rattle.std.specs.Prelude.{IfErr, IsOk, nat_lt, nat_le, ◌||◌, ◌&&◌, not, IsTrue}
 use Rattle.strm_codes.specs.declared.refusals.Refusal.{Refusal}
 use Rattle.strm_codes.specs.declared.payloads.Payload.{Payload}
 use Rattle.strm_codes.specs.declared.codes.TransmitIndex.{TransmitIndex}
 use Rattle.strm_codes.specs.declared.codes.TransmitIndex.TheVariants as index
 use Rattle.strm_codes.specs.Types.{kind_of, payload_of}
 use Rattle.strm_memory.specs.Items.{is_number_or_none}
-use Rattle.strm_memory.specs.Region.{bytes_out_of_bounds}
-use Rattle.strm_machine.specs.State.{State, guest_in, handles_in_use, bytes_in_use}
+use Rattle.strm_machine.specs.State.{State, guest_in, stream_at, handles_in_use, bytes_in_use}
 use Rattle.strm_machine.specs.Sides.{opposite, same_side, end_of}
 use Rattle.strm_machine.specs.Meetings.{begun}
 use Rattle.strm_machine.specs.Soundness.{sizes_of, IsPlaced}
-use Rattle.strm_machine.specs.Tests.{is_no_handle, are_handles_full, are_places_full, are_streams_full, is_memory_too_big, are_guests_full, is_unknown_guest, are_bytes_out_of_bounds, is_too_big, items_asked, is_out_of_bounds, is_busy, has_ended, is_open_of, is_within_one_guest}
+use Rattle.strm_machine.specs.Tests.{Name, is_no_handle, are_handles_full, are_places_full, are_streams_full, is_memory_too_big, are_guests_full, is_unknown_guest, are_bytes_out_of_bounds, named, end_named, stream_named, side_named, is_too_big, items_asked, is_out_of_bounds, is_busy, has_ended, is_open_of, is_within_one_guest}
 use Rattle.strm_handles.specs.Handles.{next_index}
 use Rattle.strm_machine.specs.Making.{writer_index}
-use Rattle.strm_machine.specs.Refusals.{Reason, first_of, region_reasons, end_reasons_of, refusal}
+use Rattle.strm_machine.specs.Refusals.{Reason, first_of, region_reasons, handle_reasons, end_reasons_of, event_reasons, drop_reasons, dropping_reasons, refusal}
 use Rattle.strm_machine.specs.declared.steps.Step.TheVariants as steps
 use Rattle.strm_machine.specs.declared.streams.Side.{Side}
 use Rattle.strm_machine.specs.declared.streams.Stream.{Stream}
 use Rattle.strm_machine.proofs.TurnLemmas.{size_in}
+use Rattle.strm_machine.proofs.NameLemmas.{IsNameError, named_by-error}
+use Rattle.strm_handles.specs.declared.errors.HandleError.TheVariants as errors
 
 -- no reason holds
 pub not_refused : (b : Bool) (r : Refusal) (o : Option Refusal) → cond b (Some r) o ≡ None → (b ≡ false) × (o ≡ None)
@@ -68,10 +69,6 @@ dump_fits state g address len e =
     let first = not_refused (is_unknown_guest state g) _ _ e in
     let second = not_refused (are_bytes_out_of_bounds state g address (min len 64)) _ _ first.1 in
     record { there = not_le (length state.guests) g first.0; inside = second.0 }
-
--- some bytes that fit don't pass the memory's end
-pub bytes_within : (size address count : ℕ) → bytes_out_of_bounds size address count ≡ false → 0 < count → address + count ≤ size
-bytes_within size address count e h = grind (arith, nat_tests)
 
 -- no reason of two lists holds
 pub none_of_both : (xs ys : List Reason) → first_of (xs ++ ys) ≡ None → (first_of xs ≡ None) × (first_of ys ≡ None)
@@ -146,3 +143,52 @@ pair_fits state writer reader ty e =
       handles = not_lt state.limits.handles (handles_in_use state + 2) third.0;
       streams = not_le 4294967295 (length state.streams) room.1;
     }
+
+-- a name that no reason of the handle refuses is one
+pub name_ok : (r : Name) → IfErr r IsNameError → first_of (handle_reasons r) ≡ None → IsOk r
+name_ok (Ok name) h e = refl
+name_ok (Err errors.UnknownHandle) h e = cc
+name_ok (Err errors.WrongKind) h e = cc
+name_ok (Err errors.WrongType) h e = cc
+name_ok (Err errors.IndexOverflow) h e = absurd h
+name_ok (Err errors.HandleLimit) h e = absurd h
+name_ok (Err errors.WrongEnd) h e = absurd h
+name_ok (Err errors.Busy) h e = absurd h
+name_ok (Err errors.Lent) h e = absurd h
+name_ok (Err errors.TooManyLends) h e = absurd h
+name_ok (Err errors.OutOfMemory) h e = absurd h
+
+pub named_ok : (state : State) (g : ℕ) (ty : TransmitIndex) (handle : ℕ) → first_of (handle_reasons (named state g ty handle)) ≡ None → IsOk (named state g ty handle)
+named_ok state g ty handle e = name_ok (named state g ty handle) (named_by-error ty (guest_in state.guests g).handles handle) e
+
+-- an event that may be asked for
+pub record EventFits (state : State) (g handle : ℕ) : Type 0 where
+  pub there : g < length state.guests
+  pub found : first_of (event_reasons (end_named state g handle)) ≡ None
+
+pub event_fits : (state : State) (g handle : ℕ) → refusal state (steps.Event g handle) ≡ None → EventFits state g handle
+unfolding refusal
+event_fits state g handle e =
+    let first = not_refused (is_unknown_guest state g) _ _ e in
+    record { there = not_le (length state.guests) g first.0; found = first.1 }
+
+-- an end that may be dropped
+pub record DropFits (state : State) (side : Side) (g : ℕ) (ty : TransmitIndex) (handle : ℕ) : Type 0 where
+  pub there : g < length state.guests
+  pub found : first_of (handle_reasons (named state g ty handle)) ≡ None
+  pub same : same_side side (side_named (named state g ty handle)) ≡ true
+  pub idle : is_busy side (stream_at state (stream_named (named state g ty handle))) ≡ false
+
+pub drop_fits : (state : State) (side : Side) (g : ℕ) (ty : TransmitIndex) (handle : ℕ) → first_of (dropping_reasons state side g ty handle) ≡ None → DropFits state side g ty handle
+drop_fits state side g ty handle e =
+    let name = named state g ty handle in
+    let stream = stream_at state (stream_named name) in
+    let first = not_refused (is_unknown_guest state g) _ _ e in
+    let both = none_of_both (handle_reasons name) (drop_reasons state side ty name) first.1 in
+    let end = not_refused (not (same_side side (side_named name))) _ _ both.1 in
+    let idle = not_refused (is_busy side stream) _ _ end.1 in
+    record { there = not_le (length state.guests) g first.0; found = both.0; same = not_not (same_side side (side_named name)) end.0; idle = idle.0 }
+  where
+    not_not : (b : Bool) → not b ≡ false → b ≡ true
+    not_not true f = refl
+    not_not false f = cc

@@ -1,16 +1,30 @@
 -- A stream after a change on one side: its type and owners stay, and its operations lie in memory.
-use Rattle.std.proofs.Common.{◌≡◌, ℕ, ◌≤◌, List, Some, refl, ◌∙◌, arith}
+use Rattle.std.proofs.Common.{true, ◌≡◌, ℕ, ◌≤◌, List, Option, Some, None, refl, ◌∙◌, arith}
 use Rattle.strm_codes.specs.declared.payloads.Payload.{Payload}
 use Rattle.strm_codes.specs.Layout.{scalars_of}
-use Rattle.strm_machine.specs.Sides.{end_of, with_end, with_operation, write_of, read_of}
+use Rattle.strm_machine.specs.Sides.{same_side, end_of, with_end, with_operation, read_of}
 use Rattle.strm_machine.specs.Meetings.{advanced}
-use Rattle.strm_machine.specs.Soundness.{IsPlaced, OperationIsPlaced, StreamIsPlaced}
+use Rattle.strm_machine.specs.Endings.{report_on, told_end, delivered, dropped}
+use Rattle.strm_events.specs.Reports.{left_pending}
+use Rattle.strm_codes.specs.declared.codes.ReturnCode.{ReturnCode}
+use Rattle.strm_machine.specs.Soundness.{type_of, IsPlaced, OperationIsPlaced, StreamIsPlaced}
 use Rattle.strm_machine.specs.declared.streams.Side.{Side}
 use Rattle.strm_machine.specs.declared.streams.Side.TheVariants.{Writing, Reading}
 use Rattle.strm_machine.specs.declared.streams.Operation.{Operation}
 use Rattle.strm_machine.specs.declared.streams.End.{End}
 use Rattle.strm_machine.specs.declared.streams.Stream.{Stream}
 use Rattle.strm_machine.proofs.BoundLemmas.{not_out-rest}
+
+-- a side is the same as itself, and as no other
+pub same_side-itself : (side : Side) → same_side side side ≡ true
+same_side-itself Writing = refl
+same_side-itself Reading = refl
+
+pub same_side_is : (one other : Side) → same_side one other ≡ true → other ≡ one
+same_side_is Writing Writing e = refl
+same_side_is Reading Reading e = refl
+same_side_is Writing Reading e = cc
+same_side_is Reading Writing e = cc
 
 -- what a read or write leaves of its stream as it was
 pub record StreamKeeps (sizes : List ℕ) (old new : Stream) : Type 0 where
@@ -54,11 +68,24 @@ IsPlaced-advanced sizes payload operation n h p = record {
   counted = omega (arith, p.counted);
 }
 
--- of two operations, one of each side, each is mine or theirs
-pub write_of-placed : (side : Side) (sizes : List ℕ) (payload : Payload) (mine theirs : Operation) → IsPlaced sizes payload mine → IsPlaced sizes payload theirs → IsPlaced sizes payload (write_of side mine theirs)
-write_of-placed Writing sizes payload mine theirs p q = p
-write_of-placed Reading sizes payload mine theirs p q = q
-
+-- of two operations, one of each side, the read is mine or theirs
 pub read_of-placed : (side : Side) (sizes : List ℕ) (payload : Payload) (mine theirs : Operation) → IsPlaced sizes payload mine → IsPlaced sizes payload theirs → IsPlaced sizes payload (read_of side mine theirs)
 read_of-placed Writing sizes payload mine theirs p q = q
 read_of-placed Reading sizes payload mine theirs p q = p
+
+left_placed : (sizes : List ℕ) (payload : Payload) (code : Option ReturnCode) (o : Option Operation) → OperationIsPlaced sizes payload o → OperationIsPlaced sizes payload (left_pending code o)
+left_placed sizes payload None o p = p
+left_placed sizes payload (Some code) o p = tt
+
+-- an end that was told its report
+pub delivered-keeps : (side : Side) (sizes : List ℕ) (stream : Stream) → StreamIsPlaced sizes stream → StreamKeeps sizes stream (delivered side stream)
+unfolding delivered
+delivered-keeps side sizes stream h =
+    with_end-keeps side sizes stream (told_end (report_on side stream) (end_of side stream)) h refl
+    (left_placed sizes stream.payload (report_on side stream) (end_of side stream).operation (end_placed side sizes stream h))
+
+-- an end that was dropped
+pub dropped-placed : (side : Side) (sizes : List ℕ) (stream : Stream) → StreamIsPlaced sizes stream → (type_of (dropped side stream) ≡ type_of stream) × StreamIsPlaced sizes (dropped side stream)
+unfolding dropped
+dropped-placed Writing sizes stream h = (refl, record { writer = h.writer; reader = h.reader })
+dropped-placed Reading sizes stream h = (refl, record { writer = h.writer; reader = h.reader })

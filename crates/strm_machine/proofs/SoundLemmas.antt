@@ -1,5 +1,5 @@
 -- Each change of the machine leaves a sound state.
-use Rattle.std.proofs.Common.{◌≡◌, ℕ, zero, suc, ◌+◌, ◌<◌, ◌≤◌, List, [], ◌∷◌, ◌++◌, length, set, Option, Some, None, refl, sym, ◌∙◌, subst, inl, inr, arith, length-append}
+use Rattle.std.proofs.Common.{true, ◌≡◌, ℕ, zero, suc, ◌+◌, ◌<◌, ◌≤◌, List, [], ◌∷◌, ◌++◌, length, set, Option, Some, None, refl, sym, ap, ◌∙◌, subst, inl, inr, arith, length-append}
 use Rattle.std.specs.Prelude.{All, sum}
 use Rattle.std.proofs.Math.Seq.{map-set_same}
 use Rattle.std.proofs.Math.ListN.{get_or-map}
@@ -11,19 +11,22 @@ use Rattle.strm_codes.specs.declared.codes.TransmitIndex.{TransmitIndex}
 use Rattle.strm_codes.specs.declared.codes.TransmitIndex.TheVariants as index
 use Rattle.strm_codes.specs.declared.payloads.Payload.{Payload}
 use Rattle.strm_codes.specs.declared.payloads.Payload.TheVariants.{Nothing}
-use Rattle.strm_codes.specs.Types.{payload_of}
-use Rattle.strm_handles.specs.Handles.{Handles, inserted, inserted_in, entries_with, no_handles}
+use Rattle.strm_codes.specs.Types.{kind_of, payload_of}
+use Rattle.strm_handles.specs.Handles.{Handles, inserted, inserted_in, entries_with, removed, no_handles}
 use Rattle.strm_handles.specs.declared.entries.Entry.{Entry}
 use Rattle.strm_handles.specs.declared.entries.Entry.TheVariants as entries
 use Rattle.strm_handles.specs.declared.entries.TransmitEnd.{TransmitEnd}
 use Rattle.strm_handles.specs.Ends.{read_end, write_end}
 use Rattle.strm_machine.specs.State.{State, Guest, no_guest, no_stream, guest_in, with_handles, stream_at}
 use Rattle.strm_machine.specs.Turns.{Turn}
+use Rattle.strm_machine.specs.Endings.{delivered, dropped}
+use Rattle.strm_machine.specs.declared.streams.Side.{Side}
 use Rattle.strm_machine.specs.Making.{read_entry, write_entry, with_read_end, with_ends, made_stream, made_pair, with_stream}
-use Rattle.strm_machine.specs.Soundness.{sizes_of, handles_of, payloads_of, IsNamed, EntryIsNamed, AreNamed, IsPlaced, OperationIsPlaced, StreamIsPlaced, IsSound}
+use Rattle.strm_machine.specs.Soundness.{sizes_of, handles_of, type_with, type_of, types_of, is_idle_state, IsNamed, EntryIsNamed, AreNamed, IsPlaced, OperationIsPlaced, StreamIsPlaced, IsSound}
 use Rattle.strm_machine.specs.declared.streams.Operation.{Operation}
 use Rattle.strm_machine.specs.declared.streams.Stream.{Stream}
 use Rattle.strm_machine.proofs.TurnLemmas.{GuestsKeep, TurnKeeps}
+use Rattle.strm_machine.proofs.SideLemmas.{delivered-keeps, dropped-placed}
 
 -- guests with the handles and memory lengths of those before
 pub IsSound-guests : (state : State) (guests : List Guest) → GuestsKeep state.guests guests → IsSound state → IsSound (record state { guests = guests })
@@ -33,10 +36,13 @@ IsSound-guests state guests k h = record {
   small = rw k.sizes h.small;
 }
 
--- a stream of the same payload, whose operations lie in memory
-pub IsSound-stream : (state : State) (s : ℕ) (stream : Stream) → stream.payload ≡ (stream_at state s).payload → StreamIsPlaced (sizes_of state.guests) stream → IsSound state → IsSound (record state { streams = set state.streams s stream })
+type_of-same : (a b : Stream) → a.payload ≡ b.payload → a.kind ≡ b.kind → type_of a ≡ type_of b
+type_of-same a b e f = rw (e, f) refl
+
+-- a stream of the same type, whose operations lie in memory
+pub IsSound-stream : (state : State) (s : ℕ) (stream : Stream) → type_of stream ≡ type_of (stream_at state s) → StreamIsPlaced (sizes_of state.guests) stream → IsSound state → IsSound (record state { streams = set state.streams s stream })
 IsSound-stream state s stream e p h = record {
-  named = rw (map-set_same (λ st. st.payload) state.streams s stream no_stream e) h.named;
+  named = rw (map-set_same type_of state.streams s stream no_stream e) h.named;
   placed = All-set (StreamIsPlaced (sizes_of state.guests)) state.streams s stream p h.placed;
   small = h.small;
 }
@@ -45,7 +51,7 @@ IsSound-stream state s stream e p h = record {
 pub IsSound-turn : (state : State) (s : ℕ) (t : Turn) → TurnKeeps state.guests (stream_at state s) t → IsSound state → IsSound (record state { guests = t.guests; streams = set state.streams s t.stream })
 IsSound-turn state s t k h =
     IsSound-guests (record state { streams = set state.streams s t.stream }) t.guests k.guests
-    (IsSound-stream state s t.stream k.stream.payload k.stream.placed h)
+    (IsSound-stream state s t.stream (type_of-same t.stream (stream_at state s) k.stream.payload k.stream.kind) k.stream.placed h)
 
 pub placed_at : (state : State) (s : ℕ) → s < length state.streams → IsSound state → StreamIsPlaced (sizes_of state.guests) (stream_at state s)
 placed_at state s l h = All-get_or (StreamIsPlaced (sizes_of state.guests)) state.streams s no_stream l h.placed
@@ -75,54 +81,60 @@ IsSound-guest state guest e l h =
     let handles : handles_of (state.guests ++ guest ∷ []) ≡ handles_of state.guests ++ guest.handles ∷ [] = map-append (λ g. g.handles) state.guests (guest ∷ []) in
     let total = sum_by-append (λ n. n) (sizes_of state.guests) (length guest.memory ∷ []) in
     record {
-      named = rw (handles, e) (All-push (AreNamed (payloads_of state.streams)) (handles_of state.guests) no_handles h.named (All-nil (EntryIsNamed (payloads_of state.streams))));
+      named = rw (handles, e) (All-push (AreNamed (types_of state.streams)) (handles_of state.guests) no_handles h.named (All-nil (EntryIsNamed (types_of state.streams))));
       placed = rw sizes (All-weaker (StreamIsPlaced (sizes_of state.guests)) (StreamIsPlaced (sizes_of state.guests ++ length guest.memory ∷ [])) (StreamIsPlaced-more (sizes_of state.guests) (length guest.memory)) state.streams h.placed);
       small = rw sizes (omega (arith, l, total));
     }
 
-IsNamed-more : (payloads : List Payload) (p : Payload) (end : TransmitEnd) → IsNamed payloads end → IsNamed (payloads ++ p ∷ []) end
-IsNamed-more payloads p end h = record {
-  there = omega (arith, h.there, length-append payloads (p ∷ []));
-  payload = get_or_append_left payloads (p ∷ []) Nothing end.rep h.there ∙ h.payload;
+IsNamed-more : (types : List TransmitIndex) (p ty : TransmitIndex) (end : TransmitEnd) → IsNamed types ty end → IsNamed (types ++ p ∷ []) ty end
+IsNamed-more types p ty end h = record {
+  there = omega (arith, h.there, length-append types (p ∷ []));
+  typed = get_or_append_left types (p ∷ []) (index.Stream Nothing) end.rep h.there ∙ h.typed;
+  idle = h.idle;
 }
 
-EntryIsNamed-more : (payloads : List Payload) (p : Payload) (o : Option Entry) → EntryIsNamed payloads o → EntryIsNamed (payloads ++ p ∷ []) o
-EntryIsNamed-more payloads p None h = tt
-EntryIsNamed-more payloads p (Some (entries.Stream end)) h = IsNamed-more payloads p end h
-EntryIsNamed-more payloads p (Some (entries.Future end)) h = IsNamed-more payloads p end h
-EntryIsNamed-more payloads p (Some (entries.ResourceOwn resource lends)) h = tt
-EntryIsNamed-more payloads p (Some (entries.ResourceBorrow resource scope)) h = tt
-EntryIsNamed-more payloads p (Some (entries.ErrorContext rep)) h = tt
-EntryIsNamed-more payloads p (Some (entries.Subtask rep is_host)) h = tt
-EntryIsNamed-more payloads p (Some (entries.WaitableSet rep)) h = tt
+EntryIsNamed-more : (types : List TransmitIndex) (p : TransmitIndex) (o : Option Entry) → EntryIsNamed types o → EntryIsNamed (types ++ p ∷ []) o
+EntryIsNamed-more types p None h = tt
+EntryIsNamed-more types p (Some (entries.Stream end)) h = IsNamed-more types p (index.Stream end.ty) end h
+EntryIsNamed-more types p (Some (entries.Future end)) h = IsNamed-more types p (index.Future end.ty) end h
+EntryIsNamed-more types p (Some (entries.ResourceOwn resource lends)) h = tt
+EntryIsNamed-more types p (Some (entries.ResourceBorrow resource scope)) h = tt
+EntryIsNamed-more types p (Some (entries.ErrorContext rep)) h = tt
+EntryIsNamed-more types p (Some (entries.Subtask rep is_host)) h = tt
+EntryIsNamed-more types p (Some (entries.WaitableSet rep)) h = tt
 
-AreNamed-more : (payloads : List Payload) (p : Payload) (handles : Handles) → AreNamed payloads handles → AreNamed (payloads ++ p ∷ []) handles
-AreNamed-more payloads p handles h = All-weaker (EntryIsNamed payloads) (EntryIsNamed (payloads ++ p ∷ [])) (EntryIsNamed-more payloads p) handles.entries h
+AreNamed-more : (types : List TransmitIndex) (p : TransmitIndex) (handles : Handles) → AreNamed types handles → AreNamed (types ++ p ∷ []) handles
+AreNamed-more types p handles h = All-weaker (EntryIsNamed types) (EntryIsNamed (types ++ p ∷ [])) (EntryIsNamed-more types p) handles.entries h
 
-entries_with-named : (payloads : List Payload) (es : List (Option Entry)) (n : ℕ) (e : Entry) → EntryIsNamed payloads (Some e) → All (EntryIsNamed payloads) es → All (EntryIsNamed payloads) (entries_with es n (Some e))
-entries_with-named payloads es zero e p h = h
-entries_with-named payloads es (suc i) e p h = All-set (EntryIsNamed payloads) es i (Some e) p h
+entries_with-named : (types : List TransmitIndex) (es : List (Option Entry)) (n : ℕ) (e : Entry) → EntryIsNamed types (Some e) → All (EntryIsNamed types) es → All (EntryIsNamed types) (entries_with es n (Some e))
+entries_with-named types es zero e p h = h
+entries_with-named types es (suc i) e p h = All-set (EntryIsNamed types) es i (Some e) p h
 
-inserted_in-named : (payloads : List Payload) (es : List (Option Entry)) (freed : List ℕ) (e : Entry) → EntryIsNamed payloads (Some e) → All (EntryIsNamed payloads) es → AreNamed payloads (inserted_in es freed e)
-inserted_in-named payloads es [] e p h = All-push (EntryIsNamed payloads) es (Some e) h p
-inserted_in-named payloads es (n ∷ ns) e p h = entries_with-named payloads es n e p h
+inserted_in-named : (types : List TransmitIndex) (es : List (Option Entry)) (freed : List ℕ) (e : Entry) → EntryIsNamed types (Some e) → All (EntryIsNamed types) es → AreNamed types (inserted_in es freed e)
+inserted_in-named types es [] e p h = All-push (EntryIsNamed types) es (Some e) h p
+inserted_in-named types es (n ∷ ns) e p h = entries_with-named types es n e p h
 
-AreNamed-inserted : (payloads : List Payload) (handles : Handles) (e : Entry) → EntryIsNamed payloads (Some e) → AreNamed payloads handles → AreNamed payloads (inserted handles e)
-AreNamed-inserted payloads handles e p h = inserted_in-named payloads handles.entries handles.freed e p h
+AreNamed-inserted : (types : List TransmitIndex) (handles : Handles) (e : Entry) → EntryIsNamed types (Some e) → AreNamed types handles → AreNamed types (inserted handles e)
+AreNamed-inserted types handles e p h = inserted_in-named types handles.entries handles.freed e p h
 
-new_end-named : (payloads : List Payload) (p : Payload) (end : TransmitEnd) → end.rep ≡ length payloads → end.ty ≡ p → IsNamed (payloads ++ p ∷ []) end
-new_end-named payloads p end r t = record {
-  there = omega (arith, r, length-append payloads (p ∷ []));
-  payload = get_or_push payloads p Nothing end.rep (sym r) ∙ sym t;
+new_end-named : (types : List TransmitIndex) (ty : TransmitIndex) (end : TransmitEnd) → end.rep ≡ length types → is_idle_state end.state ≡ true → IsNamed (types ++ ty ∷ []) ty end
+new_end-named types ty end r i = record {
+  there = omega (arith, r, length-append types (ty ∷ []));
+  typed = get_or_push types ty (index.Stream Nothing) end.rep (sym r);
+  idle = i;
 }
 
-read_entry-named : (payloads : List Payload) (ty : TransmitIndex) → EntryIsNamed (payloads ++ payload_of ty ∷ []) (Some (read_entry ty (length payloads)))
-read_entry-named payloads (index.Stream payload) = new_end-named payloads payload (read_end payload (length payloads)) refl refl
-read_entry-named payloads (index.Future payload) = new_end-named payloads payload (read_end payload (length payloads)) refl refl
+read_entry-named : (types : List TransmitIndex) (ty : TransmitIndex) → EntryIsNamed (types ++ ty ∷ []) (Some (read_entry ty (length types)))
+read_entry-named types (index.Stream payload) = new_end-named types (index.Stream payload) (read_end payload (length types)) refl refl
+read_entry-named types (index.Future payload) = new_end-named types (index.Future payload) (read_end payload (length types)) refl refl
 
-write_entry-named : (payloads : List Payload) (ty : TransmitIndex) → EntryIsNamed (payloads ++ payload_of ty ∷ []) (Some (write_entry ty (length payloads)))
-write_entry-named payloads (index.Stream payload) = new_end-named payloads payload (write_end payload (length payloads)) refl refl
-write_entry-named payloads (index.Future payload) = new_end-named payloads payload (write_end payload (length payloads)) refl refl
+write_entry-named : (types : List TransmitIndex) (ty : TransmitIndex) → EntryIsNamed (types ++ ty ∷ []) (Some (write_entry ty (length types)))
+write_entry-named types (index.Stream payload) = new_end-named types (index.Stream payload) (write_end payload (length types)) refl refl
+write_entry-named types (index.Future payload) = new_end-named types (index.Future payload) (write_end payload (length types)) refl refl
+
+type_with-of : (ty : TransmitIndex) → type_with (kind_of ty) (payload_of ty) ≡ ty
+type_with-of (index.Stream payload) = refl
+type_with-of (index.Future payload) = refl
 
 -- the handles of a guest whose table was changed
 handles_of-with : (guests : List Guest) (g : ℕ) (handles : Handles) → handles_of (with_handles guests g handles) ≡ set (handles_of guests) g handles
@@ -131,17 +143,21 @@ handles_of-with guests g handles = map-set (λ h. h.handles) guests g (record (g
 pub sizes_of-with_handles : (guests : List Guest) (g : ℕ) (handles : Handles) → sizes_of (with_handles guests g handles) ≡ sizes_of guests
 sizes_of-with_handles guests g handles = map-set_same (λ h. length h.memory) guests g (record (guest_in guests g) { handles = handles }) no_guest refl
 
-pub AreNamed-at : (payloads : List Payload) (guests : List Guest) (g : ℕ) → All (AreNamed payloads) (handles_of guests) → AreNamed payloads (guest_in guests g).handles
-AreNamed-at payloads guests g h =
+pub AreNamed-at : (types : List TransmitIndex) (guests : List Guest) (g : ℕ) → All (AreNamed types) (handles_of guests) → AreNamed types (guest_in guests g).handles
+AreNamed-at types guests g h =
     elim (cases_lt g (length guests)) [
-      | inl l ↦ subst (AreNamed payloads) (get_or-map (λ k. k.handles) guests g no_guest) (All-get_or (AreNamed payloads) (handles_of guests) g no_handles (omega (arith, l, length-map guests (λ k. k.handles))) h)
-      | inr l ↦ subst (λ (k : Guest). AreNamed payloads k.handles) (sym (get_or_past guests g no_guest l)) (All-nil (EntryIsNamed payloads))
+      | inl l ↦ subst (AreNamed types) (get_or-map (λ k. k.handles) guests g no_guest) (All-get_or (AreNamed types) (handles_of guests) g no_handles (omega (arith, l, length-map guests (λ k. k.handles))) h)
+      | inr l ↦ subst (λ (k : Guest). AreNamed types k.handles) (sym (get_or_past guests g no_guest l)) (All-nil (EntryIsNamed types))
     ]
 
-with_handles-named : (payloads : List Payload) (guests : List Guest) (g : ℕ) (e : Entry) → EntryIsNamed payloads (Some e) → All (AreNamed payloads) (handles_of guests) → All (AreNamed payloads) (handles_of (with_handles guests g (inserted (guest_in guests g).handles e)))
-with_handles-named payloads guests g e p h =
+pub AreNamed-removed : (types : List TransmitIndex) (handles : Handles) (n : ℕ) → AreNamed types handles → AreNamed types (removed handles n)
+AreNamed-removed types handles zero h = h
+AreNamed-removed types handles (suc i) h = All-set (EntryIsNamed types) handles.entries i None tt h
+
+with_handles-named : (types : List TransmitIndex) (guests : List Guest) (g : ℕ) (e : Entry) → EntryIsNamed types (Some e) → All (AreNamed types) (handles_of guests) → All (AreNamed types) (handles_of (with_handles guests g (inserted (guest_in guests g).handles e)))
+with_handles-named types guests g e p h =
     rw (handles_of-with guests g (inserted (guest_in guests g).handles e))
-    (All-set (AreNamed payloads) (handles_of guests) g (inserted (guest_in guests g).handles e) (AreNamed-inserted payloads (guest_in guests g).handles e p (AreNamed-at payloads guests g h)) h)
+    (All-set (AreNamed types) (handles_of guests) g (inserted (guest_in guests g).handles e) (AreNamed-inserted types (guest_in guests g).handles e p (AreNamed-at types guests g h)) h)
 
 -- one stream more, with its two ends in their tables
 pub IsSound-with_stream : (state : State) (writer reader : ℕ) (ty : TransmitIndex) → IsSound state → IsSound (with_stream state writer reader ty)
@@ -149,11 +165,11 @@ unfolding with_stream
 IsSound-with_stream state writer reader ty h =
     let s = length state.streams in
     let stream = made_stream ty writer (made_pair state writer reader ty).write reader (made_pair state writer reader ty).read in
-    let old = payloads_of state.streams in
-    let new = old ++ payload_of ty ∷ [] in
-    let count : length old ≡ s = length-map state.streams (λ st. st.payload) in
-    let payloads : payloads_of (state.streams ++ stream ∷ []) ≡ new = map-append (λ st. st.payload) state.streams (stream ∷ []) in
-    let before : All (AreNamed new) (handles_of state.guests) = All-weaker (AreNamed old) (AreNamed new) (AreNamed-more old (payload_of ty)) (handles_of state.guests) h.named in
+    let old = types_of state.streams in
+    let new = old ++ ty ∷ [] in
+    let count : length old ≡ s = length-map state.streams type_of in
+    let types : types_of (state.streams ++ stream ∷ []) ≡ new = map-append type_of state.streams (stream ∷ []) ∙ ap (λ t. old ++ t ∷ []) (type_with-of ty) in
+    let before : All (AreNamed new) (handles_of state.guests) = All-weaker (AreNamed old) (AreNamed new) (AreNamed-more old ty) (handles_of state.guests) h.named in
     let read : EntryIsNamed new (Some (read_entry ty s)) = rw (← count) (read_entry-named old ty) in
     let write : EntryIsNamed new (Some (write_entry ty s)) = rw (← count) (write_entry-named old ty) in
     let held = with_read_end state.guests reader ty s in
@@ -161,7 +177,31 @@ IsSound-with_stream state writer reader ty h =
     let named2 = with_handles-named new held writer (write_entry ty s) write named1 in
     let sizes : sizes_of (with_ends state.guests writer reader ty s) ≡ sizes_of state.guests = sizes_of-with_handles held writer _ ∙ sizes_of-with_handles state.guests reader _ in
     record {
-      named = rw payloads named2;
+      named = rw types named2;
       placed = rw sizes (All-push (StreamIsPlaced (sizes_of state.guests)) state.streams stream h.placed (record { writer = tt; reader = tt }));
+      small = rw sizes h.small;
+    }
+
+-- an end was told its report
+pub IsSound-delivered : (state : State) (s : ℕ) (side : Side) → s < length state.streams → IsSound state → IsSound (record state { streams = set state.streams s (delivered side (stream_at state s)) })
+IsSound-delivered state s side l h =
+    let keeps = delivered-keeps side (sizes_of state.guests) (stream_at state s) (placed_at state s l h) in
+    IsSound-stream state s (delivered side (stream_at state s)) (type_of-same (delivered side (stream_at state s)) (stream_at state s) keeps.payload keeps.kind) keeps.placed h
+
+-- an end was dropped, and its handle freed
+pub IsSound-dropped : (state : State) (s : ℕ) (side : Side) (g handle : ℕ) → s < length state.streams → IsSound state → IsSound (record state { guests = with_handles state.guests g (removed (guest_in state.guests g).handles handle); streams = set state.streams s (dropped side (stream_at state s)) })
+IsSound-dropped state s side g handle l h =
+    let types = types_of state.streams in
+    let handles = removed (guest_in state.guests g).handles handle in
+    let placed = dropped-placed side (sizes_of state.guests) (stream_at state s) (placed_at state s l h) in
+    let stream = IsSound-stream state s (dropped side (stream_at state s)) placed.0 placed.1 h in
+    let named : All (AreNamed types) (handles_of (with_handles state.guests g handles)) =
+    rw (handles_of-with state.guests g handles)
+    (All-set (AreNamed types) (handles_of state.guests) g handles (AreNamed-removed types (guest_in state.guests g).handles handle (AreNamed-at types state.guests g h.named)) h.named) in
+    let same : types_of (set state.streams s (dropped side (stream_at state s))) ≡ types = map-set_same type_of state.streams s (dropped side (stream_at state s)) no_stream placed.0 in
+    let sizes = sizes_of-with_handles state.guests g handles in
+    record {
+      named = rw same named;
+      placed = rw sizes stream.placed;
       small = rw sizes h.small;
     }

@@ -1,7 +1,7 @@
 -- Memories of guests, read and changed.
 use Rattle.std.proofs.Common.{◌≡◌, ◌≢◌, ℕ, ◌<◌, List, length, refl, ap, inl, inr}
 use Rattle.std.proofs.lemmas.Bool.{cases_lt}
-use Rattle.std.proofs.lemmas.List.{get_or-set_same, get_or-set_other, set-set, set-get_or, set_past, length-set}
+use Rattle.std.proofs.lemmas.List.{get_or-set_same, get_or-set_other, set-set, set-get_or, set_past}
 use Rattle.strm_machine.specs.State.{Guest, no_guest, guest_in, memory_in, with_memory}
 
 -- a memory written back as it was
@@ -22,6 +22,3 @@ memory_in-with_memory_other guests g h a e = ap (λ (k : Guest). k.memory) (get_
 
 pub memory_in-with_memory : (guests : List Guest) (g : ℕ) (a : List ℕ) → g < length guests → memory_in (with_memory guests g a) g ≡ a
 memory_in-with_memory guests g a l = ap (λ (k : Guest). k.memory) (get_or-set_same guests g (record (guest_in guests g) { memory = a }) no_guest l)
-
-pub length-with_memory : (guests : List Guest) (g : ℕ) (a : List ℕ) → length (with_memory guests g a) ≡ length guests
-length-with_memory guests g a = length-set guests g (record (guest_in guests g) { memory = a })

@@ -2,6 +2,7 @@ pub mod State
 pub mod Sides
 pub mod Meetings
 pub mod Turns
+pub mod Endings
 pub mod Tests
 pub mod Refusals
 pub mod Making

@@ -3,12 +3,13 @@ use Rattle.std.specs.Prelude.{ℕ, true, if◌then◌else◌, [], ◌∷◌, ◌
 use Rattle.strm_codes.specs.declared.codes.TransmitIndex.{TransmitIndex}
 use Rattle.strm_codes.specs.declared.codes.ReturnCode.{ReturnCode}
 use Rattle.strm_codes.specs.declared.refusals.Refusal.{Refusal}
-use Rattle.strm_handles.specs.Handles.{no_handles}
+use Rattle.strm_handles.specs.Handles.{no_handles, removed}
 use Rattle.strm_memory.specs.Bytes.{put_at}
-use Rattle.strm_machine.specs.State.{State, memory_in, with_memory, stream_at}
+use Rattle.strm_machine.specs.State.{State, guest_in, memory_in, with_memory, with_handles, stream_at}
 use Rattle.strm_machine.specs.Meetings.{begun}
 use Rattle.strm_machine.specs.Turns.{Turn, turn}
-use Rattle.strm_machine.specs.Tests.{named, stream_named, items_asked}
+use Rattle.strm_machine.specs.Endings.{report_on, delivered, dropped}
+use Rattle.strm_machine.specs.Tests.{named, end_named, stream_named, side_named, items_asked}
 use Rattle.strm_machine.specs.Refusals.{refusal}
 use Rattle.strm_machine.specs.Making.{made_pair, with_stream}
 use Rattle.strm_machine.specs.declared.streams.Side.{Side}
@@ -51,6 +52,27 @@ abbrev pub operation_step : Side → ℕ → TransmitIndex → ℕ → ℕ → �
 operation_step Writing = steps.Write
 operation_step Reading = steps.Read
 
+-- the end that a handle names is told its report, if it has one
+abbrev pub tells : State → ℕ → Side → Reaction
+tells state s side =
+    let stream = stream_at state s in
+    goes (replies.Event (report_on side stream))
+    (record state { streams = slice_set state.streams s (delivered side stream) })
+
+-- a guest's handle is freed, and the end that it named is gone
+abbrev pub drops : State → ℕ → Side → ℕ → ℕ → Reaction
+drops state s side g handle =
+    goes replies.Done
+    (record state {
+      guests = with_handles state.guests g (removed (guest_in state.guests g).handles handle);
+      streams = slice_set state.streams s (dropped side (stream_at state s));
+    })
+
+-- a drop as a step
+abbrev pub drop_step : Side → ℕ → TransmitIndex → ℕ → Step
+drop_step Writing = steps.DropWrite
+drop_step Reading = steps.DropRead
+
 -- a step that nothing refuses
 unfoldable pub performs : State → Step → Reaction
 performs state (steps.Guest size) =
@@ -60,6 +82,10 @@ performs state (steps.Between writer reader ty) =
     goes (replies.Pair (made_pair state writer reader ty)) (with_stream state writer reader ty)
 performs state (steps.Write g ty handle address count) = operates state Writing g ty handle address count
 performs state (steps.Read g ty handle address count) = operates state Reading g ty handle address count
+performs state (steps.DropWrite g ty handle) = drops state (stream_named (named state g ty handle)) Writing g handle
+performs state (steps.DropRead g ty handle) = drops state (stream_named (named state g ty handle)) Reading g handle
+performs state (steps.Event g handle) =
+    tells state (stream_named (end_named state g handle)) (side_named (end_named state g handle))
 performs state (steps.Poke g address bytes) =
     goes replies.Done (record state { guests = with_memory state.guests g (put_at (memory_in state.guests g) address bytes) })
 performs state (steps.Dump g address len) =

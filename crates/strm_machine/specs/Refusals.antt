@@ -8,7 +8,7 @@ use Rattle.strm_codes.specs.declared.refusals.Refusal.TheVariants as refusals
 use Rattle.strm_codes.specs.Types.{kind_of}
 use Rattle.strm_handles.specs.Handles.{next_index}
 use Rattle.strm_machine.specs.State.{State, guest_in, stream_at}
-use Rattle.strm_machine.specs.Tests.{is_unknown_guest, are_guests_full, is_memory_too_big, are_handles_full, are_places_full, are_streams_full, is_no_handle, is_too_big, is_out_of_bounds, is_misaligned, are_bytes_out_of_bounds, Name, named, is_unknown_handle, is_wrong_kind, is_wrong_type, stream_named, side_named, is_busy, has_ended, is_within_one_guest}
+use Rattle.strm_machine.specs.Tests.{is_unknown_guest, are_guests_full, is_memory_too_big, are_handles_full, are_places_full, are_streams_full, is_no_handle, is_too_big, is_out_of_bounds, is_misaligned, are_bytes_out_of_bounds, Name, named, end_named, is_unknown_handle, is_wrong_kind, is_wrong_type, stream_named, side_named, is_busy, has_ended, owes_value, is_within_one_guest}
 use Rattle.strm_machine.specs.Sides.{same_side}
 use Rattle.strm_machine.specs.Making.{writer_index}
 use Rattle.strm_machine.specs.declared.streams.Stream.{Stream}
@@ -70,6 +70,29 @@ operation_reasons state side g ty handle address count =
     region_reasons state g ty address count
     ++ (handle_reasons (named state g ty handle) ++ end_reasons state side g ty (named state g ty handle))
 
+-- the end that is named in a drop
+abbrev pub drop_reasons_of : Stream → Side → TransmitIndex → Side → List Reason
+drop_reasons_of stream side ty named =
+    where_ (not (same_side side named)) refusals.WrongEnd
+    ∷ where_ (is_busy side stream) refusals.Busy
+    ∷ where_ (owes_value side (kind_of ty) stream) refusals.FutureWithoutValue
+    ∷ []
+
+abbrev pub drop_reasons : State → Side → TransmitIndex → Name → List Reason
+drop_reasons state side ty name = drop_reasons_of (stream_at state (stream_named name)) side ty (side_named name)
+
+abbrev pub dropping_reasons : State → Side → ℕ → TransmitIndex → ℕ → List Reason
+dropping_reasons state side g ty handle =
+    where_ (is_unknown_guest state g) refusals.UnknownGuest
+    ∷ (handle_reasons (named state g ty handle) ++ drop_reasons state side ty (named state g ty handle))
+
+-- the end that an event is asked of
+abbrev pub event_reasons : Name → List Reason
+event_reasons name =
+    where_ (is_unknown_handle name) refusals.UnknownHandle
+    ∷ where_ (is_wrong_kind name) refusals.WrongKind
+    ∷ []
+
 -- the reasons of each step in their order
 abbrev pub reasons : State → Step → List Reason
 reasons state (steps.Guest size) =
@@ -82,6 +105,10 @@ reasons state (steps.Between writer reader ty) =
     ∷ []
 reasons state (steps.Write g ty handle address count) = operation_reasons state Writing g ty handle address count
 reasons state (steps.Read g ty handle address count) = operation_reasons state Reading g ty handle address count
+reasons state (steps.DropWrite g ty handle) = dropping_reasons state Writing g ty handle
+reasons state (steps.DropRead g ty handle) = dropping_reasons state Reading g ty handle
+reasons state (steps.Event g handle) =
+    where_ (is_unknown_guest state g) refusals.UnknownGuest ∷ event_reasons (end_named state g handle)
 reasons state (steps.Poke g address bytes) =
     where_ (is_unknown_guest state g) refusals.UnknownGuest
     ∷ where_ (are_bytes_out_of_bounds state g address (length bytes)) refusals.OutOfBounds

@@ -10,7 +10,7 @@ use Rattle.strm_codes.specs.Types.{payload_of}
 use Rattle.strm_memory.specs.Items.{is_number_or_none}
 use Rattle.strm_memory.specs.Region as region
 use Rattle.strm_handles.specs.Handles.{Handles}
-use Rattle.strm_handles.specs.Lookups.{stream_rep_of, future_rep_of}
+use Rattle.strm_handles.specs.Lookups.{stream_rep_of, future_rep_of, end_rep_of}
 use Rattle.strm_handles.specs.declared.errors.HandleError.{HandleError}
 use Rattle.strm_handles.specs.declared.errors.HandleError.TheVariants as errors
 use Rattle.strm_handles.specs.declared.entries.TransmitLocalState.{TransmitLocalState}
@@ -85,6 +85,10 @@ named_by (index.Future payload) handles handle = future_rep_of handles payload h
 abbrev pub named : State → ℕ → TransmitIndex → ℕ → Name
 named state g ty handle = named_by ty (guest_in state.guests g).handles handle
 
+-- the same whatever the type
+abbrev pub end_named : State → ℕ → ℕ → Name
+end_named state g handle = end_rep_of (guest_in state.guests g).handles handle
+
 abbrev pub is_unknown_handle : Name → Bool
 is_unknown_handle (Err errors.UnknownHandle) = true
 is_unknown_handle _ = false
@@ -119,6 +123,12 @@ abbrev pub has_ended : Side → TransmitKind → Stream → Bool
 has_ended side AStream stream = (end_of side stream).told
 has_ended Writing Future stream = stream.writer.told || stream.passed
 has_ended Reading Future stream = stream.passed
+
+-- a future's write end may not go before the value passed or it was told that nobody reads it
+abbrev pub owes_value : Side → TransmitKind → Stream → Bool
+owes_value side AStream stream = false
+owes_value Writing Future stream = not (stream.passed || stream.writer.told)
+owes_value Reading Future stream = false
 
 abbrev pub is_open_of : ℕ → Option Operation → Bool
 is_open_of g None = false

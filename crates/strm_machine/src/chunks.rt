@@ -3,8 +3,14 @@
 //! Ours: what one line pokes or dumps.
 
 ghost use Rattle.std.specs.Prelude.{◌≡◌, ◌≤◌, ◌↔◌, length, IsSome, IfSome};
+ghost use Rattle.strm_memory.specs.Bytes.{IsBytes};
 
 use std::marker::Model;
+
+// What lies behind a slice of bytes is bytes.
+fn hold_bytes(bytes: &[u8])
+    ensures { IsBytes bytes.now }
+{}
 
 /// At most 64 bytes.
 #[derive(Clone, Copy, Debug, PartialEq, Eq)]
@@ -48,6 +54,13 @@ impl Chunk {
             bytes: array,
             len: len as u8,
         })
+    }
+
+    /// Each is a byte: what a caller may have to know of it. It does nothing.
+    pub fn sound(&self)
+        ensures { IsBytes self.now }
+    {
+        hold_bytes(self.as_slice());
     }
 
     /// The bytes, lent.

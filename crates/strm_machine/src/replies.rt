@@ -26,6 +26,8 @@ pub enum Reply {
     Pair(Pair),
     /// A read or write answered this code.
     Code(ReturnCode),
+    /// What an end was told, if anything.
+    Event(Option<ReturnCode>),
     /// The bytes that were asked for.
     Bytes(Chunk),
     /// It may not be done now, and nothing has changed.

@@ -35,6 +35,23 @@ pub enum Step {
         address: u32,
         count: u32,
     },
+    /// `canon stream.drop-writable` or `canon future.drop-writable`.
+    DropWrite {
+        guest: u32,
+        ty: TransmitIndex,
+        handle: u32,
+    },
+    /// `canon stream.drop-readable` or `canon future.drop-readable`.
+    DropRead {
+        guest: u32,
+        ty: TransmitIndex,
+        handle: u32,
+    },
+    /// What an end is to be told, whatever its type: an event of `canon waitable-set.poll`.
+    Event {
+        guest: u32,
+        handle: u32,
+    },
     /// Bytes put into a guest's memory. Ours.
     Poke {
         guest: u32,
