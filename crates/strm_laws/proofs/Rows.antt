@@ -1,0 +1,227 @@
+-- Worked runs, computed: what was answered, written, read, received and handed over, as worked out by
+-- hand.
+use Rattle.std.proofs.Common.{◌≡◌, ℕ, List, [], ◌∷◌, Option, Some, None, refl}
+use Rattle.std.specs.Prelude.{ℤ, pos, map}
+use Rattle.strm_codes.specs.declared.codes.ReturnCode.{ReturnCode}
+use Rattle.strm_codes.specs.declared.codes.ReturnCode.TheVariants.{Blocked, Completed, Dropped}
+use Rattle.strm_codes.specs.declared.codes.TransmitIndex.{TransmitIndex}
+use Rattle.strm_codes.specs.declared.codes.TransmitIndex.TheVariants as index
+use Rattle.strm_codes.specs.declared.payloads.Payload.TheVariants.{One}
+use Rattle.strm_codes.specs.declared.scalars.Scalar.TheVariants.{U8, U16}
+use Rattle.strm_memory.specs.Items.{decode_from, encode_from, items, stored}
+use Rattle.strm_machine.specs.State.{State, empty, stream_at}
+use Rattle.strm_machine.specs.Turns.{turn}
+use Rattle.strm_machine.specs.Endings.{delivered, dropped}
+use Rattle.strm_machine.specs.Refusals.{refusal}
+use Rattle.strm_machine.specs.Making.{with_stream}
+use Rattle.strm_machine.specs.Reactions.{performs, react}
+use Rattle.strm_machine.specs.declared.streams.Side.TheVariants.{Writing}
+use Rattle.strm_machine.specs.declared.steps.Step.{Step}
+use Rattle.strm_machine.specs.declared.steps.Step.TheVariants as steps
+use Rattle.strm_machine.specs.declared.replies.Reply.{Reply}
+use Rattle.strm_machine.specs.declared.replies.Reply.TheVariants as replies
+use Rattle.strm_laws.specs.Conservation.{Call, moments, last, received, decoded, got, handed, all_handed, writes, reads}
+use Rattle.strm_laws.specs.Laws.{moved_at}
+
+abbrev bytes : TransmitIndex
+bytes = index.Stream (One U8)
+
+abbrev words : TransmitIndex
+words = index.Stream (One U16)
+
+abbrev start : State
+start = empty 0 (record { handles = 8; places = 8 })
+
+abbrev item : ℕ → Option (List ℤ)
+item n = Some (pos n ∷ [])
+
+abbrev call : ℕ → ℕ → ℕ → Option ReturnCode → Call
+call guest address asked report = record { guest = guest; address = address; asked = asked; report = report }
+
+abbrev replies_to : List Step → List Reply
+replies_to run = map (λ m. m.reply) (moments start run)
+
+-- what the law speaks of, of one stream of a run
+record Account : Type 0 where
+  written : List Call
+  read : List Call
+  count : ℕ
+  taken : List (Option (List ℤ))
+  given : List (Option (List ℤ))
+
+abbrev account : ℕ → List Step → Account
+account s run =
+    let all = moments start run in
+    let end = last start run in
+    record {
+      written = writes s all;
+      read = reads s all;
+      count = received s end;
+      taken = got s all;
+      given = all_handed (stream_at end s).kind s all (moved_at s Writing end) 0 (writes s all);
+    }
+
+-- a write that is read in parts, with a poke between them, and that is told with an item left; then
+-- one whose read end is dropped after a part of it
+abbrev parts : List Step
+parts =
+    steps.Guest 8
+    ∷ steps.Guest 4
+    ∷ steps.Between 0 1 bytes
+    ∷ steps.Poke 0 0 (1 ∷ 2 ∷ 3 ∷ 4 ∷ 5 ∷ 6 ∷ 7 ∷ 8 ∷ [])
+    ∷ steps.Write 0 bytes 1 0 4
+    ∷ steps.Read 1 bytes 1 0 2
+    ∷ steps.Poke 0 1 (99 ∷ 33 ∷ [])
+    ∷ steps.Read 1 bytes 1 2 1
+    ∷ steps.Event 0 1
+    ∷ steps.Write 0 bytes 1 4 3
+    ∷ steps.Read 1 bytes 1 3 1
+    ∷ steps.DropRead 1 bytes 1
+    ∷ steps.Event 0 1
+    ∷ []
+
+replies_to-parts : replies_to parts ≡
+    replies.Number 0
+    ∷ replies.Number 1
+    ∷ replies.Pair (record { read = 1; write = 1; stream = 0 })
+    ∷ replies.Done
+    ∷ replies.Code Blocked
+    ∷ replies.Code (Completed 2)
+    ∷ replies.Done
+    ∷ replies.Code (Completed 1)
+    ∷ replies.Event (Some (Completed 3))
+    ∷ replies.Code Blocked
+    ∷ replies.Code (Completed 1)
+    ∷ replies.Done
+    ∷ replies.Event (Some (Dropped 1))
+    ∷ []
+unfolding react refusal performs with_stream turn delivered dropped decode_from encode_from items stored
+replies_to-parts = refl
+
+account-parts : account 0 parts ≡ record {
+  written = call 0 0 4 (Some (Completed 3)) ∷ call 0 4 3 (Some (Dropped 1)) ∷ [];
+  read = call 1 0 2 (Some (Completed 2)) ∷ call 1 2 1 (Some (Completed 1)) ∷ call 1 3 1 (Some (Completed 1)) ∷ [];
+  count = 4;
+  taken = item 1 ∷ item 2 ∷ item 33 ∷ item 5 ∷ [];
+  given = item 1 ∷ item 2 ∷ item 33 ∷ item 5 ∷ [];
+}
+unfolding react refusal performs with_stream turn delivered dropped decode_from encode_from items stored decoded handed all_handed
+account-parts = refl
+
+-- a read that waits, meets a write of no items, is filled by two writes, and is told; a read of no
+-- items; and a write that is read in part and has no report yet
+abbrev filled : List Step
+filled =
+    steps.Guest 4
+    ∷ steps.Guest 4
+    ∷ steps.Between 0 1 bytes
+    ∷ steps.Poke 0 0 (11 ∷ 12 ∷ 13 ∷ 14 ∷ [])
+    ∷ steps.Read 1 bytes 1 0 3
+    ∷ steps.Write 0 bytes 1 0 0
+    ∷ steps.Write 0 bytes 1 0 2
+    ∷ steps.Poke 0 0 (21 ∷ [])
+    ∷ steps.Write 0 bytes 1 0 1
+    ∷ steps.Write 0 bytes 1 2 2
+    ∷ steps.Event 1 1
+    ∷ steps.Read 1 bytes 1 3 0
+    ∷ steps.Read 1 bytes 1 3 1
+    ∷ steps.Dump 1 0 4
+    ∷ []
+
+replies_to-filled : replies_to filled ≡
+    replies.Number 0
+    ∷ replies.Number 1
+    ∷ replies.Pair (record { read = 1; write = 1; stream = 0 })
+    ∷ replies.Done
+    ∷ replies.Code Blocked
+    ∷ replies.Code (Completed 0)
+    ∷ replies.Code (Completed 2)
+    ∷ replies.Done
+    ∷ replies.Code (Completed 1)
+    ∷ replies.Code Blocked
+    ∷ replies.Event (Some (Completed 3))
+    ∷ replies.Code (Completed 0)
+    ∷ replies.Code (Completed 1)
+    ∷ replies.Bytes (11 ∷ 12 ∷ 21 ∷ 13 ∷ [])
+    ∷ []
+unfolding react refusal performs with_stream turn delivered dropped decode_from encode_from items stored
+replies_to-filled = refl
+
+account-filled : account 0 filled ≡ record {
+  written = call 0 0 0 (Some (Completed 0)) ∷ call 0 0 2 (Some (Completed 2)) ∷ call 0 0 1 (Some (Completed 1)) ∷ call 0 2 2 None ∷ [];
+  read = call 1 0 3 (Some (Completed 3)) ∷ call 1 3 0 (Some (Completed 0)) ∷ call 1 3 1 (Some (Completed 1)) ∷ [];
+  count = 4;
+  taken = item 11 ∷ item 12 ∷ item 21 ∷ item 13 ∷ [];
+  given = item 11 ∷ item 12 ∷ item 21 ∷ item 13 ∷ [];
+}
+unfolding react refusal performs with_stream turn delivered dropped decode_from encode_from items stored decoded handed all_handed
+account-filled = refl
+
+-- two streams in opposite directions: an item of one is put into the region of a write that waits on
+-- the other, whose items are words. Before that, a read completes a write of no items, and a write
+-- of three gives it the one that it has room for
+abbrev crossed : List Step
+crossed =
+    steps.Guest 6
+    ∷ steps.Guest 6
+    ∷ steps.Between 0 1 words
+    ∷ steps.Between 1 0 bytes
+    ∷ steps.Poke 0 0 (1 ∷ 2 ∷ 3 ∷ 4 ∷ 5 ∷ 6 ∷ [])
+    ∷ steps.Write 0 words 1 0 0
+    ∷ steps.Read 1 words 1 0 1
+    ∷ steps.Event 0 1
+    ∷ steps.Write 0 words 1 0 3
+    ∷ steps.Event 1 1
+    ∷ steps.Write 0 words 1 2 2
+    ∷ steps.Poke 1 4 (77 ∷ 78 ∷ [])
+    ∷ steps.Write 1 bytes 2 4 2
+    ∷ steps.Read 0 bytes 2 2 1
+    ∷ steps.Read 1 words 1 2 2
+    ∷ steps.DropRead 1 words 1
+    ∷ steps.Event 0 1
+    ∷ steps.Event 0 1
+    ∷ []
+
+replies_to-crossed : replies_to crossed ≡
+    replies.Number 0
+    ∷ replies.Number 1
+    ∷ replies.Pair (record { read = 1; write = 1; stream = 0 })
+    ∷ replies.Pair (record { read = 2; write = 2; stream = 1 })
+    ∷ replies.Done
+    ∷ replies.Code Blocked
+    ∷ replies.Code Blocked
+    ∷ replies.Event (Some (Completed 0))
+    ∷ replies.Code (Completed 1)
+    ∷ replies.Event (Some (Completed 1))
+    ∷ replies.Code Blocked
+    ∷ replies.Done
+    ∷ replies.Code Blocked
+    ∷ replies.Code (Completed 1)
+    ∷ replies.Code (Completed 2)
+    ∷ replies.Done
+    ∷ replies.Event (Some (Dropped 2))
+    ∷ replies.Event None
+    ∷ []
+unfolding react refusal performs with_stream turn delivered dropped decode_from encode_from items stored
+replies_to-crossed = refl
+
+-- the words are 1 + 256 * 2, 77 + 256 * 4 and 5 + 256 * 6
+account-crossed : account 0 crossed ≡ record {
+  written = call 0 0 0 (Some (Completed 0)) ∷ call 0 0 3 (Some (Completed 1)) ∷ call 0 2 2 (Some (Dropped 2)) ∷ [];
+  read = call 1 0 1 (Some (Completed 1)) ∷ call 1 2 2 (Some (Completed 2)) ∷ [];
+  count = 3;
+  taken = item 513 ∷ item 1101 ∷ item 1541 ∷ [];
+  given = item 513 ∷ item 1101 ∷ item 1541 ∷ [];
+}
+unfolding react refusal performs with_stream turn delivered dropped decode_from encode_from items stored decoded handed all_handed
+account-crossed = refl
+
+account-crossed_back : account 1 crossed ≡ record {
+  written = call 1 4 2 None ∷ [];
+  read = call 0 2 1 (Some (Completed 1)) ∷ [];
+  count = 1;
+  taken = item 77 ∷ [];
+  given = item 77 ∷ [];
+}
+unfolding react refusal performs with_stream turn delivered dropped decode_from encode_from items stored decoded handed all_handed
+account-crossed_back = refl

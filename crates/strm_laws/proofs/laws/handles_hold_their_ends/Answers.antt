@@ -1,0 +1,9 @@
+-- Handles and ends agree after whichever steps, as each step keeps it so.
+use Rattle.strm_laws.proofs.Holding.{handles_hold, handles_are_single}
+use Rattle.strm_laws.proofs.laws.handles_hold_their_ends.Goals as goal
+
+pub returns-clause-holds : goal.returns-clause-holds
+returns-clause-holds c tag limits run = handles_hold tag limits run
+
+pub returns-clause-single : goal.returns-clause-single
+returns-clause-single c tag limits run = handles_are_single tag limits run

@@ -1,0 +1,3 @@
+pub mod Conservation
+pub mod Laws
+pub mod Untouched

@@ -1,0 +1,65 @@
+//! The laws, for whichever steps; most speak of at most 4,294,967,295 (`AreSteps`).
+//!
+//! Meaning: `Laws.antt`, `Conservation.antt` and `Untouched.antt`. Ours.
+
+ghost use Rattle.std.specs.Prelude.{◌≡◌, ℕ, ◌≤◌, List, [], ◌∷◌, ◌++◌, length, false};
+ghost use Rattle.strm_codes.specs.declared.codes.TransmitKind.TheVariants.{Future};
+ghost use Rattle.strm_machine.specs.State.{empty, stream_at};
+ghost use Rattle.strm_machine.specs.declared.limits.Limits.{Limits};
+ghost use Rattle.strm_machine.specs.declared.streams.Side.{Side};
+ghost use Rattle.strm_machine.specs.declared.steps.Step.{Step};
+ghost use Rattle.strm_laws.specs.Conservation.{moment_of, moments, last, calls, got};
+ghost use Rattle.strm_laws.specs.Laws.{AreSteps, Conserves, waiting, Stands, both_open, AreCounted, HandlesHold, HandlesAreSingle};
+ghost use Rattle.strm_laws.specs.Untouched.{StaysAside};
+
+/// On each stream, what was received is, in order, exactly the first k items of each accepted
+/// write, k the count reported, each as the writer's memory held it just before it was copied. The
+/// reports of the reads speak of exactly as many items, those of either end count once each, and
+/// none speaks of more than its call asked for. What carries it: a read or write that has no report
+/// yet has moved what its operation says, and its next item lies behind that. A future's Completed
+/// counts one item, and no other report of it any.
+pub fn conservation()
+    ensures conserves { (tag : ℕ) (limits : Limits) (run : List Step) (s : ℕ) → AreSteps run →
+        Conserves s (moments (empty tag limits) run) (last (empty tag limits) run) }
+    ensures stands { (tag : ℕ) (limits : Limits) (run : List Step) (s : ℕ) (side : Side) →
+        AreSteps run → Stands (stream_at (last (empty tag limits) run) s).payload
+        (waiting s side (last (empty tag limits) run))
+        (calls s side (moments (empty tag limits) run)) }
+{}
+
+/// On a future one item is received at most.
+pub fn futures_pass_one()
+    ensures { (tag : ℕ) (limits : Limits) (run : List Step) (s : ℕ) → AreSteps run →
+        (stream_at (last (empty tag limits) run) s).kind ≡ Future →
+        length (got s (moments (empty tag limits) run)) ≤ 1 }
+{}
+
+/// No stream or future has both an open write and an open read, after at most 4,294,967,295 steps.
+pub fn never_two_open()
+    ensures { (tag : ℕ) (limits : Limits) (run : List Step) (s : ℕ) → AreSteps run →
+        both_open (stream_at (last (empty tag limits) run) s) ≡ false }
+{}
+
+/// The items of an operation, those that it moved and those that it has left, are below 2^28
+/// together.
+pub fn totals_are_counts()
+    ensures { (tag : ℕ) (limits : Limits) (run : List Step) (s : ℕ) → AreSteps run →
+        AreCounted (stream_at (last (empty tag limits) run) s) }
+{}
+
+/// An end that a handle names is held under that handle, and an end that is held is named by its
+/// handle, after whichever steps. So an end has one handle at most, and none once it is gone: no
+/// handle names a stream whose both ends are gone.
+pub fn handles_hold_their_ends()
+    ensures holds { (tag : ℕ) (limits : Limits) (run : List Step) →
+        HandlesHold (last (empty tag limits) run) }
+    ensures single { (tag : ℕ) (limits : Limits) (run : List Step) →
+        HandlesAreSingle (last (empty tag limits) run) }
+{}
+
+/// Nothing but a poke and the items received changes a memory: in each step of a run all other bytes
+/// of each guest stay as they were, no guest goes, and no memory changes its length.
+pub fn other_bytes_stay()
+    ensures { (tag : ℕ) (limits : Limits) (run : List Step) (step : Step) →
+        AreSteps (run ++ step ∷ []) → StaysAside (moment_of (last (empty tag limits) run) step) }
+{}
