@@ -1,16 +1,23 @@
 -- The room and the live handles of guests' tables after an insert or a reservation.
-use Rattle.std.proofs.Common.{◌≡◌, ℕ, zero, suc, ◌+◌, ◌<◌, ◌≤◌, List, [], ◌∷◌, length, map, get_or, set, refl, sym, ap, ◌∙◌, arith}
+use Rattle.std.proofs.Common.{◌≡◌, ℕ, zero, suc, ◌+◌, ◌<◌, ◌≤◌, List, [], ◌∷◌, length, map, get_or, set, Result, Ok, Err, refl, sym, ap, ◌∙◌, arith}
+use Rattle.std.specs.Prelude.{IsOk}
 use Rattle.std.proofs.lemmas.List.{get_or-map, get_or-set_same, map-set, set-get_or, length-map}
 use Rattle.std.proofs.lemmas.List.Sums.{sum_by-set}
 use Rattle.strm_codes.specs.declared.codes.TransmitIndex.{TransmitIndex}
 use Rattle.strm_codes.specs.declared.codes.TransmitIndex.TheVariants as index
-use Rattle.strm_handles.specs.Handles.{Handles, Table, lends_of, live_of}
+use Rattle.strm_codes.specs.declared.payloads.Payload.{Payload}
+use Rattle.strm_handles.specs.Handles.{Handles, Table, lends_of, live_of, removed}
+use Rattle.strm_handles.specs.Ends.{accepted}
+use Rattle.strm_handles.specs.Lookups.{◌>>=◌, stream_of, future_of}
+use Rattle.strm_handles.specs.declared.entries.TransmitEnd.{TransmitEnd}
+use Rattle.strm_handles.specs.declared.errors.HandleError.{HandleError}
+use Rattle.strm_handles.proofs.LookupLemmas.{live_of-removed-stream, live_of-removed-future}
 use Rattle.strm_machine.specs.State as machine
 use Rattle.strm_machine.specs.State.{no_guest, guest_in, with_handles}
 use Rattle.strm_machine.specs.Making.{end_entry}
 use Rattle.strm_machine.specs.declared.streams.Side.{Side}
 use Rattle.strm_machine.specs.declared.streams.Side.TheVariants.{Writing, Reading}
-use Rattle.strm_transmit.specs.Guests.{guest_of, seen, room_in, live_in}
+use Rattle.strm_transmit.specs.Guests.{guest_of, seen, room_in, live_in, removable}
 use Rattle.strm_transmit.specs.declared.guests.Guest.{Guest}
 use Rattle.strm_transmit.proofs.GuestLemmas.{guest_in-seen}
 
@@ -57,3 +64,27 @@ seen-same guests g x table l e h =
 pub live_after : (guests : List machine.Guest) (g : ℕ) (handles : Handles) → g < length guests → live_of handles ≡ live_of (guest_in guests g).handles + 1 → live_in (with_handles guests g handles) ≡ live_in guests + 1
 live_after guests g handles l h =
     omega (arith, h, sum_by-set (λ (k : machine.Guest). live_of k.handles) guests g (record (guest_in guests g) { handles = handles }) no_guest l)
+
+-- one live handle less in one table is one less in all
+pub live_less : (guests : List machine.Guest) (g : ℕ) (handles : Handles) → g < length guests → live_of handles + 1 ≡ live_of (guest_in guests g).handles → live_in (with_handles guests g handles) + 1 ≡ live_in guests
+live_less guests g handles l h =
+    omega (arith, h, sum_by-set (λ (k : machine.Guest). live_of k.handles) guests g (record (guest_in guests g) { handles = handles }) no_guest l)
+
+first_ok : {A B : Type 0} (r : Result A HandleError) (next : A → Result B HandleError) → accepted (r >>= next) ≡ Ok tt → IsOk r
+first_ok (Ok x) next e = refl
+first_ok (Err x) next e = cc
+
+stream_live : (handles : Handles) (payload : Payload) (n : ℕ) (r : Result TransmitEnd HandleError) → stream_of handles payload n ≡ r → IsOk r → live_of (removed handles n) + 1 ≡ live_of handles
+stream_live handles payload n (Ok end) e k = live_of-removed-stream handles payload n end e
+stream_live handles payload n (Err x) e k = cc
+
+future_live : (handles : Handles) (payload : Payload) (n : ℕ) (r : Result TransmitEnd HandleError) → future_of handles payload n ≡ r → IsOk r → live_of (removed handles n) + 1 ≡ live_of handles
+future_live handles payload n (Ok end) e k = live_of-removed-future handles payload n end e
+future_live handles payload n (Err x) e k = cc
+
+-- the removal of an end is one live handle less
+pub removable_live : (side : Side) (ty : TransmitIndex) (handles : Handles) (n : ℕ) → removable side ty handles n ≡ Ok tt → live_of (removed handles n) + 1 ≡ live_of handles
+removable_live Writing (index.Stream payload) handles n e = stream_live handles payload n _ refl (first_ok (stream_of handles payload n) _ e)
+removable_live Reading (index.Stream payload) handles n e = stream_live handles payload n _ refl (first_ok (stream_of handles payload n) _ e)
+removable_live Writing (index.Future payload) handles n e = future_live handles payload n _ refl (first_ok (future_of handles payload n) _ e)
+removable_live Reading (index.Future payload) handles n e = future_live handles payload n _ refl (first_ok (future_of handles payload n) _ e)

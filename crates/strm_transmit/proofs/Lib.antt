@@ -4,3 +4,4 @@ pub mod StepLemmas
 pub mod StoreLemmas
 pub mod OperationLemmas
 pub mod EndLemmas
+pub mod EndingLemmas

@@ -1,16 +1,18 @@
 -- A call that was admitted or not, as a step of the machine.
-use Rattle.std.proofs.Common.{◌≡◌, Bool, true, false, cond, Option, Some, None, Result, Ok, Err, refl, ◌∙◌}
+use Rattle.std.proofs.Common.{◌≡◌, ℕ, ap, Bool, true, false, cond, Option, Some, None, Result, Ok, Err, refl, ◌∙◌}
 use Rattle.std.specs.Prelude.{IfOk, IfErr, OnErr}
 use Rattle.strm_codes.specs.declared.refusals.Refusal.{Refusal}
 use Rattle.strm_machine.specs.State.{State}
 use Rattle.strm_machine.specs.Refusals.{refusal}
 use Rattle.strm_machine.specs.Reactions.{Reaction, goes, performs, react}
 use Rattle.strm_machine.specs.declared.steps.Step.{Step}
+use Rattle.strm_machine.specs.declared.steps.Step.TheVariants as steps
+use Rattle.strm_codes.specs.declared.codes.TransmitIndex.{TransmitIndex}
 use Rattle.strm_machine.specs.declared.replies.Reply.{Reply}
 use Rattle.strm_machine.proofs.ReactionLemmas.{react-trapped, react-refused, react-performs}
-use Rattle.strm_transmit.specs.Meets.{Meets, replied, unless_found, admitted, refused_too}
+use Rattle.strm_transmit.specs.Meets.{Meets, is_done, replied, unless_found, admitted}
 use Rattle.strm_transmit.specs.declared.errors.StoreError.{StoreError}
-use Rattle.strm_transmit.specs.declared.errors.StoreError.TheVariants.{Refused, BadItem, StoreTrapped, OutOfMemory}
+use Rattle.strm_transmit.specs.declared.errors.StoreError.TheVariants.{Refused, StoreTrapped, OutOfMemory}
 
 -- why a step was not admitted, as the machine's answer
 pub meets_not_admitted : (state : State) (step : Step) (error : StoreError) → admitted state (refusal state step) ≡ Err error → Meets state state (Err error) (react state step)
@@ -42,13 +44,16 @@ is_admitted state found v e = both state.trapped refl e
     both false t f = record { untrapped = t; none = none_found found f }
 
 -- a step that was admitted, and done but for want of memory
-pub meets_admitted : {T : Type 0} (f : T → Reply) (old new : State) (step : Step) (result : Result T StoreError) → IsAdmitted old (refusal old step) → IfOk result (λ v. performs old step ≡ goes (f v) new) → OnErr result (new ≡ old) → IfErr result (λ error. error ≡ OutOfMemory) → Meets old new (replied f result) (react old step)
-meets_admitted f old new step (Ok v) a ok err memory = react-performs old step a.untrapped a.none ∙ ok
-meets_admitted f old new step (Err error) a ok err memory = rw memory err
+pub meets_admitted : {T : Type 0} (f : T → Reply) (old new : State) (step : Step) (result : Result T StoreError) → IsAdmitted old (refusal old step) → is_done (performs old step).reply ≡ true → IfOk result (λ v. performs old step ≡ goes (f v) new) → OnErr result (new ≡ old) → IfErr result (λ error. error ≡ OutOfMemory) → Meets old new (replied f result) (react old step)
+meets_admitted f old new step (Ok v) a done ok err memory = react-performs old step a.untrapped a.none ∙ ok
+meets_admitted f old new step (Err error) a done ok err memory =
+    rw memory (ap (λ (r : Reaction). is_done r.reply) (react-performs old step a.untrapped a.none) ∙ done, err)
 
--- a refusal as a reply
-pub meets_refused : (state : State) (reaction : Reaction) (error : StoreError) → Meets state state (Err error) reaction → Meets state state (refused_too (Err error)) reaction
-meets_refused state reaction (Refused refusal) m = m.0
-meets_refused state reaction (BadItem stream) m = m
-meets_refused state reaction StoreTrapped m = m
-meets_refused state reaction OutOfMemory m = m
+-- what the machine makes is done
+pub done-guest : (state : State) (size : ℕ) → is_done (performs state (steps.Guest size)).reply ≡ true
+unfolding performs
+done-guest state size = refl
+
+pub done-between : (state : State) (writer reader : ℕ) (ty : TransmitIndex) → is_done (performs state (steps.Between writer reader ty)).reply ≡ true
+unfolding performs
+done-between state writer reader ty = refl

@@ -166,10 +166,10 @@ pub record TakesTurn (old new : Inside) (s : ℕ) (t : Turn) : Type 0 where
   pub guests : seen new.guests.items ≡ t.guests
   pub streams : new.streams.items ≡ set old.streams.items s t.stream
 
-abbrev live_weight : Stream → ℕ
+abbrev pub live_weight : Stream → ℕ
 live_weight stream = cond (is_live stream) 1 0
 
-live-set : (streams : List Stream) (s : ℕ) (stream : Stream) → is_live stream ≡ is_live (get_or streams s no_stream) → count_by is_live (set streams s stream) ≡ count_by is_live streams
+pub live-set : (streams : List Stream) (s : ℕ) (stream : Stream) → is_live stream ≡ is_live (get_or streams s no_stream) → count_by is_live (set streams s stream) ≡ count_by is_live streams
 live-set streams s stream e =
     sym (sum-map live_weight (set streams s stream)) ∙ ap sum (map-set_same live_weight streams s stream no_stream (ap (λ (b : Bool). cond b 1 0) e)) ∙ sum-map live_weight streams
 

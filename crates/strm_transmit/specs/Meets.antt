@@ -10,14 +10,22 @@ use Rattle.strm_machine.specs.declared.replies.Reply.TheVariants as replies
 use Rattle.strm_transmit.specs.declared.errors.StoreError.{StoreError}
 use Rattle.strm_transmit.specs.declared.errors.StoreError.TheVariants.{Refused, BadItem, StoreTrapped, OutOfMemory}
 
+-- a reply of a step that is done
+abbrev pub is_done : Reply → Bool
+is_done (replies.Refused refusal) = false
+is_done (replies.BadItem stream) = false
+is_done replies.StoreTrapped = false
+is_done _ = true
+
 -- the store's answer and the state after it are the machine's. A refusal, a store that was trapped
--- and want of memory leave the state as it was
+-- and want of memory leave the state as it was; want of memory comes only where the machine does the
+-- step, so never in place of a refusal
 abbrev pub Meets : State → State → Result Reply StoreError → Reaction → Type 0
 Meets old new (Ok reply) reaction = reaction ≡ goes reply new
 Meets old new (Err (Refused refusal)) reaction = (reaction ≡ goes (replies.Refused refusal) new) × (new ≡ old)
 Meets old new (Err (BadItem stream)) reaction = (reaction ≡ goes (replies.BadItem stream) new) × (new.trapped ≡ true)
 Meets old new (Err StoreTrapped) reaction = (reaction ≡ goes replies.StoreTrapped new) × (new ≡ old)
-Meets old new (Err OutOfMemory) reaction = new ≡ old
+Meets old new (Err OutOfMemory) reaction = (is_done reaction.reply ≡ true) × (new ≡ old)
 
 -- an answer as the reply that it is
 abbrev pub replied : {T : Type 0} → (T → Reply) → Result T StoreError → Result Reply StoreError
@@ -51,5 +59,8 @@ takes_memory (steps.Guest size) = true
 takes_memory (steps.Between writer reader ty) = true
 takes_memory (steps.Write guest ty handle address count) = false
 takes_memory (steps.Read guest ty handle address count) = false
+takes_memory (steps.DropWrite guest ty handle) = false
+takes_memory (steps.DropRead guest ty handle) = false
+takes_memory (steps.Event guest handle) = false
 takes_memory (steps.Poke guest address bytes) = false
 takes_memory (steps.Dump guest address len) = false

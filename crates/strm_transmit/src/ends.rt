@@ -1,15 +1,15 @@
-//! The handles of a new stream's ends.
+//! The handles of a stream's ends, given and freed.
 //!
 //! Meaning: `Making.antt` of `strm_machine`. Source: Canonical ABI, `canon stream.new`; the room
 //! that is taken before the first insert is ours.
 
-ghost use Rattle.std.specs.Prelude.{◌≡◌, ◌+◌, ◌^◌, ◌<◌, ◌≤◌, ℕ, length, IfOk, IfErr, OnOk, OnErr};
-ghost use Rattle.strm_handles.specs.Handles.{next_index, inserted, live_of};
-ghost use Rattle.strm_handles.specs.Changes.{Inserts};
-ghost use Rattle.strm_handles.specs.Counters.{counted};
+ghost use Rattle.std.specs.Prelude.{◌≡◌, Ok, ◌+◌, ◌^◌, ◌<◌, ◌≤◌, ℕ, length, IfOk, IfErr, OnOk, OnErr};
+ghost use Rattle.strm_handles.specs.Handles.{next_index, inserted, removed, live_of};
+ghost use Rattle.strm_handles.specs.Changes.{Inserts, Removes};
+ghost use Rattle.strm_handles.specs.Counters.{counted, uncounted};
 ghost use Rattle.strm_machine.specs.State.{guest_in, with_handles};
 ghost use Rattle.strm_machine.specs.Making.{end_entry, with_read_end, with_ends};
-ghost use Rattle.strm_transmit.specs.Guests.{seen, room_in, live_in};
+ghost use Rattle.strm_transmit.specs.Guests.{seen, room_in, live_in, removable};
 
 use crate::errors::StoreError;
 use crate::guests::Guest;
@@ -146,4 +146,54 @@ pub fn insert_ends(
     let read = insert_end(guests, counter, reader, Side::Reading, ty, stream);
     let write = insert_end(guests, counter, writer, Side::Writing, same, stream);
     Ok((read, write))
+}
+
+fn try_remove(
+    table: &mut HandleTable,
+    counter: &mut HandleCounter,
+    side: Side,
+    ty: TransmitIndex,
+    handle: u32,
+) -> Result<(), HandleError>
+    requires { live_of table.old.handles ≤ counter.old.live }
+    ensures answer { result ≡ removable side ty table.old.handles handle }
+    ensures removes { Removes table.old table.new counter.old counter.new handle result }
+{
+    match (side, ty) {
+        (Side::Writing, TransmitIndex::Stream(payload)) => {
+            table.stream_remove_writable(counter, payload, handle)?;
+        }
+        (Side::Reading, TransmitIndex::Stream(payload)) => {
+            table.stream_remove_readable(counter, payload, handle)?;
+        }
+        (Side::Writing, TransmitIndex::Future(payload)) => {
+            table.future_remove_writable(counter, payload, handle)?;
+        }
+        (Side::Reading, TransmitIndex::Future(payload)) => {
+            table.future_remove_readable(counter, payload, handle)?;
+        }
+    }
+    Ok(())
+}
+
+/// Frees the handle of an end that the table shows idle, in a guest's table.
+pub fn remove_end(
+    guests: &mut Vec<Guest>,
+    counter: &mut HandleCounter,
+    guest: usize,
+    side: Side,
+    ty: TransmitIndex,
+    handle: u32,
+)
+    requires there { guest < length guests.old.items }
+    requires idle { removable side ty (guest_in (seen guests.old.items) guest).handles handle
+        ≡ Ok tt }
+    requires live { live_in (seen guests.old.items) ≤ counter.old.live }
+    ensures guests { seen guests.new.items ≡ with_handles (seen guests.old.items) guest
+        (removed (guest_in (seen guests.old.items) guest).handles handle) }
+    ensures counter { counter.new ≡ uncounted counter.old }
+    ensures live { live_in (seen guests.new.items) + 1 ≡ live_in (seen guests.old.items) }
+    ensures count { length guests.new.items ≡ length guests.old.items }
+{
+    try_remove(&mut guests[guest].table, counter, side, ty, handle).unwrap()
 }

@@ -5,6 +5,7 @@
 //! `strm_handles` and the memories of `strm_memory`.
 #![tactic(auto)]
 
+mod endings;
 mod ends;
 pub mod errors;
 mod guests;

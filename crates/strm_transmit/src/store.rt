@@ -3,17 +3,21 @@
 //! Meaning: `State.antt` of `strm_machine`. Source: wasmtime, `futures_and_streams.rs`,
 //! `ConcurrentState`; the tag and the limits but those on handles are ours.
 
-ghost use Rattle.std.specs.Prelude.{◌≡◌, ◌≢◌, Err, ◌<◌, ◌↔◌, length, Some, None, IsSome, IfSome};
-ghost use Rattle.strm_machine.specs.State.{empty, stream_at, memory_in};
+ghost use Rattle.std.specs.Prelude.{◌≡◌, ◌≢◌, Err, ◌<◌, ◌↔◌, length, Some, None, IsSome, IfSome, IsTrue};
+ghost use Rattle.strm_codes.specs.Types.{kind_of, payload_of};
+ghost use Rattle.strm_machine.specs.State.{empty, is_live, stream_at, memory_in};
 
+mod endings;
 mod making;
 mod memories;
 mod operations;
 
+use crate::endings::is_live;
 use crate::errors::StoreError;
 use crate::guests::Guest;
 use std::alloc::Global;
 use std::marker::Model;
+use strm_codes::codes::{TransmitIndex, TransmitKind};
 use strm_codes::refusals::Refusal;
 use strm_handles::counters::HandleCounter;
 use strm_machine::limits::Limits;
@@ -98,6 +102,23 @@ impl Store {
         } else {
             None
         }
+    }
+
+    /// The type of a stream of which an end is there.
+    pub fn transmit_index(&self, stream: u32) -> Option<TransmitIndex>
+        ensures live { IsSome result ↔ IsTrue (is_live (stream_at self.now stream)) }
+        ensures ty { IfSome result (λ ty.
+            (kind_of ty ≡ (stream_at self.now stream).kind)
+            × (payload_of ty ≡ (stream_at self.now stream).payload)) }
+    {
+        if stream as usize >= self.streams.len() || !is_live(&self.streams[stream as usize]) {
+            return None;
+        }
+        let stream = &self.streams[stream as usize];
+        Some(match stream.kind {
+            TransmitKind::Stream => TransmitIndex::Stream(stream.payload),
+            TransmitKind::Future => TransmitIndex::Future(stream.payload),
+        })
     }
 
     /// The bytes of a guest's memory.

@@ -25,6 +25,11 @@ const LIMITS: Limits = Limits {
     places: 6,
 };
 
+const ONE_STREAM: Limits = Limits {
+    handles: 2,
+    places: 3,
+};
+
 fn completed(count: u32) -> Result<ReturnCode, StoreError> {
     match ItemCount::new(count) {
         Ok(items) => Ok(ReturnCode::Completed(items)),
@@ -121,6 +126,41 @@ fn futures_and_bad_items(rt: HostRuntime) -> Result<(), Fail> {
     assert_eq!(rt; store.stream_read(1, CHARS, 2, 0, 1), bad);
     assert!(rt; store.trapped());
     assert_eq!(rt; store.add_guest(16), Err(StoreError::StoreTrapped));
+    Ok(())
+}
+
+/// A future that nobody reads: its write end may go once it was told. The future is removed then,
+/// and its handles and places are free.
+#[test]
+fn ends_that_are_dropped(rt: HostRuntime) -> Result<(), Fail> {
+    let mut store = Store::new(rt.alloc(), 0, ONE_STREAM);
+    assert_eq!(rt; store.add_guest(16), Ok(0));
+    assert_eq!(rt; store.add_guest(16), Ok(1));
+    assert!(rt;
+        store
+            .new_between(0, 1, TransmitIndex::Future(WORDS))
+            .is_ok()
+    );
+    let ty = Some(TransmitIndex::Future(WORDS));
+    assert_eq!(rt; store.transmit_index(0), ty);
+    let owes = Err(StoreError::Refused(Refusal::FutureWithoutValue));
+    assert_eq!(rt; store.future_drop_writable(0, WORDS, 1), owes);
+    assert_eq!(rt; store.future_drop_readable(1, WORDS, 1), Ok(()));
+    let dropped = Ok(Some(ReturnCode::Dropped(ItemCount::ZERO)));
+    assert_eq!(rt; store.take_event(0, 1), dropped);
+    assert_eq!(rt; store.take_event(0, 1), Ok(None));
+    assert_eq!(rt; store.future_drop_writable(0, WORDS, 1), Ok(()));
+    assert_eq!(rt; store.transmit_index(0), None);
+    assert_eq!(rt; store.moved(0), Some(0));
+    assert!(rt;
+        store
+            .new_between(0, 1, TransmitIndex::Stream(BYTES))
+            .is_ok()
+    );
+    assert_eq!(rt; store.stream_drop_writable(0, BYTES, 1), Ok(()));
+    assert_eq!(rt; store.stream_drop_readable(1, BYTES, 1), Ok(()));
+    let unknown = Err(StoreError::Refused(Refusal::UnknownHandle));
+    assert_eq!(rt; store.take_event(1, 1), unknown);
     Ok(())
 }
 

@@ -11,7 +11,7 @@ ghost use Rattle.strm_memory.specs.Items.{is_number_or_none};
 ghost use Rattle.strm_machine.specs.State.{stream_at};
 ghost use Rattle.strm_machine.specs.Meetings.{begun};
 ghost use Rattle.strm_machine.specs.Sides.{opposite, end_of};
-ghost use Rattle.strm_machine.specs.Tests.{is_too_big, items_asked, named, stream_named, side_of, has_ended, is_within_one_guest, is_open_of};
+ghost use Rattle.strm_machine.specs.Tests.{is_too_big, items_asked, named, stream_named, side_named, side_of, has_ended, is_within_one_guest, is_open_of};
 ghost use Rattle.strm_machine.specs.Refusals.{first_of, ended_refusal, region_reasons, handle_reasons, end_reasons, end_reasons_of, operation_reasons};
 ghost use Rattle.strm_machine.specs.Reactions.{react, on_stream, operation_step};
 ghost use Rattle.strm_machine.specs.Soundness.{sizes_of, IsPlaced};
@@ -48,7 +48,7 @@ fn items_asked(ty: TransmitIndex, count: u32) -> Result<ItemCount, StreamOpTooBi
 }
 
 // The side of an end, by a table's state of it.
-fn side_of(state: TransmitLocalState) -> Side
+pub(crate) fn side_of(state: TransmitLocalState) -> Side
     ensures { result ≡ side_of state }
 {
     match state {
@@ -184,37 +184,31 @@ impl Store {
         guest: u32,
         ty: TransmitIndex,
         stream: u32,
-        state: TransmitLocalState,
+        named_side: Side,
     ) -> Option<Refusal>
         requires { stream < length self.now.streams }
         ensures { result ≡ first_of (end_reasons_of (stream_at self.now stream) side guest ty
-            (side_of state)) }
+            named_side) }
     {
-        let stream = &self.streams[stream as usize];
-        end_refusal(side, guest, ty, stream, side_of(state))
+        end_refusal(side, guest, ty, &self.streams[stream as usize], named_side)
     }
 
-    // What a table answered, as a refusal or the stream that a handle names.
-    fn stream_named(
+    // The stream and the side of the end that a handle of a type names.
+    pub(crate) fn handle_found(
         &self,
-        side: Side,
         guest: u32,
         ty: TransmitIndex,
-        name: Result<(u32, TransmitLocalState), HandleError>,
-    ) -> Result<u32, Refusal>
-        requires there { IfOk name (λ name. name.0 < length self.now.streams) }
-        requires payload { IfOk name (λ name. (stream_at self.now name.0).payload ≡ payload_of ty) }
-        requires others { IfErr name IsNameError }
-        ensures exact { result ≡ or_found (first_of (handle_reasons name
-            ++ end_reasons self.now side guest ty name)) (stream_named name) }
-        ensures there { IfOk result (λ stream. stream < length self.now.streams) }
-        ensures payload { IfOk result (λ stream. (stream_at self.now stream).payload ≡ payload_of ty) }
+        handle: u32,
+    ) -> Result<(u32, Side), Refusal>
+        requires { guest < length self.now.guests }
+        ensures exact { result ≡ or_found (first_of (handle_reasons (named self.now guest ty handle)))
+            (stream_named (named self.now guest ty handle), side_named (named self.now guest ty handle)) }
+        ensures there { IfOk result (λ found. found.0 < length self.now.streams) }
+        ensures payload { IfOk result (λ found.
+            (stream_at self.now found.0).payload ≡ payload_of ty) }
     {
-        match name {
-            Ok((stream, state)) => match self.end_refusal(side, guest, ty, stream, state) {
-                Some(refusal) => Err(refusal),
-                None => Ok(stream),
-            },
+        match self.name(guest, ty, handle) {
+            Ok(name) => Ok((name.0, side_of(name.1))),
             Err(HandleError::UnknownHandle) => Err(Refusal::UnknownHandle),
             Err(HandleError::WrongKind) => Err(Refusal::WrongKind),
             Err(HandleError::WrongType) => Err(Refusal::WrongType),
@@ -232,8 +226,13 @@ impl Store {
         ensures payload { IfOk result (λ stream. (stream_at self.now stream).payload ≡ payload_of ty) }
     {
         let asked = ty;
-        let name = self.name(guest, ty, handle);
-        self.stream_named(side, guest, asked, name)
+        match self.handle_found(guest, ty, handle) {
+            Ok(named) => match self.end_refusal(side, guest, asked, named.0, named.1) {
+                Some(refusal) => Err(refusal),
+                None => Ok(named.0),
+            },
+            Err(refusal) => Err(refusal),
+        }
     }
 
     // The stream and the items of a read or write that nothing refuses.

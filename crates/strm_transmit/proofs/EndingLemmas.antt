@@ -1,0 +1,211 @@
+-- The store after an end was told its report, or dropped and its handle freed.
+use Rattle.std.proofs.Common.{◌≡◌, ℕ, ◌+◌, ◌-◌, ◌<◌, ◌≤◌, Bool, true, false, cond, List, length, get_or, set, Result, Ok, Err, None, refl, sym, ap, ◌∙◌, subst, arith}
+use Rattle.std.specs.Prelude.{sum, sum_by, ◌&&◌, not, count_by, IsOk, IfOk}
+use Rattle.std.proofs.lemmas.List.{length-map, length-set}
+use Rattle.std.proofs.lemmas.List.Sums.{sum_by-set, sum-map}
+use mir.Val.{bool_byte}
+use Rattle.strm_codes.specs.declared.codes.TransmitIndex.{TransmitIndex}
+use Rattle.strm_codes.specs.declared.codes.TransmitIndex.TheVariants as index
+use Rattle.strm_handles.specs.Counters.{Counter, uncounted}
+use Rattle.strm_handles.specs.Handles.{Handles, removed}
+use Rattle.strm_handles.specs.Ends.{accepted, readable, writable}
+use Rattle.strm_handles.specs.Lookups.{◌>>=◌, stream_of, future_of}
+use Rattle.strm_handles.specs.declared.entries.TransmitEnd.{TransmitEnd}
+use Rattle.strm_handles.specs.declared.entries.TransmitLocalState.{TransmitLocalState}
+use Rattle.strm_handles.specs.declared.entries.TransmitLocalState.TheVariants as states
+use Rattle.strm_handles.specs.declared.errors.HandleError.{HandleError}
+use Rattle.strm_machine.specs.State as machine
+use Rattle.strm_machine.specs.State.{State, no_stream, guest_in, with_handles, stream_at, is_gone, is_live}
+use Rattle.strm_machine.specs.Endings.{delivered, dropped}
+use Rattle.strm_machine.specs.Tests.{Name, named, named_by, stream_named, side_named, side_of}
+use Rattle.strm_machine.specs.Refusals.{first_of, dropping_reasons}
+use Rattle.strm_machine.specs.Soundness.{sizes_of, is_idle_state, IsSound}
+use Rattle.strm_machine.specs.Sides.{same_side}
+use Rattle.strm_machine.specs.declared.streams.Side.{Side}
+use Rattle.strm_machine.specs.declared.streams.Side.TheVariants.{Writing, Reading}
+use Rattle.strm_machine.specs.declared.streams.Stream.{Stream}
+use Rattle.strm_machine.proofs.NameLemmas.{named_there, named_idle}
+use Rattle.strm_machine.proofs.RefusalLemmas.{named_ok, drop_fits}
+use Rattle.strm_machine.proofs.SideLemmas.{same_side_is, delivered-keeps}
+use Rattle.strm_machine.proofs.SoundLemmas.{IsSound-delivered, IsSound-dropped, sizes_of-with_handles, placed_at}
+use Rattle.strm_transmit.specs.Guests.{guest_of, seen, live_in, removable}
+use Rattle.strm_transmit.specs.Inside.{state_of, IsStore}
+use Rattle.strm_transmit.specs.declared.store.Store.TheInside.{Inside}
+use Rattle.strm_transmit.proofs.StoreLemmas.{SameBut, IsStore-keeps, live-set, live_weight, stream_at-there}
+use Rattle.strm_machine.proofs.TurnLemmas.{all_kept}
+
+-- an end was told its report
+pub record TellsEnd (old new : Inside) (s : ℕ) (side : Side) : Type 0 where
+  pub same : SameBut old new
+  pub counter : new.counter ≡ old.counter
+  pub guests : new.guests ≡ old.guests
+  pub live_streams : new.live_streams ≡ old.live_streams
+  pub bytes : new.bytes ≡ old.bytes
+  pub streams : new.streams.items ≡ set old.streams.items s (delivered side (stream_at (state_of old) s))
+
+pub IsStore-told : (old new : Inside) (s : ℕ) (side : Side) → s < length old.streams.items → TellsEnd old new s side → IsStore old → IsStore new
+IsStore-told old new s side l h i =
+    let stream = stream_at (state_of old) s in
+    let keeps = delivered-keeps side (sizes_of (seen old.guests.items)) stream (placed_at (state_of old) s l i.sound) in
+    let sound = IsSound-delivered (state_of old) s side l i.sound in
+    let owners : is_live (delivered side stream) ≡ is_live stream = rw (keeps.writer, keeps.reader) refl in
+    IsStore-keeps old new
+    (record {
+      tag = h.same.tag;
+      limits = h.same.limits;
+      counter = h.counter;
+      live_streams = h.live_streams;
+      bytes = h.bytes;
+      guests = rw h.guests (all_kept (seen old.guests.items));
+      live = rw h.streams (live-set old.streams.items s (delivered side stream) owners);
+      streams = rw h.streams (length-set old.streams.items s (delivered side stream));
+    })
+    (record {
+      named = rw (h.guests, h.streams) sound.named;
+      placed = rw (h.guests, h.streams) sound.placed;
+      small = rw h.guests sound.small;
+    }) i
+
+-- a number of streams that are there, after one of them changed
+live_changed : (a b : Bool) (n m : ℕ) → (b ≡ true → a ≡ true) → n + cond a 1 0 ≡ m + cond b 1 0 → n ≡ m - bool_byte (a && not b)
+live_changed true true n m h e = omega (arith, e)
+live_changed true false n m h e = omega (arith, e)
+live_changed false true n m h e = let no = h refl in cc
+live_changed false false n m h e = omega (arith, e)
+
+live_least : (a b : Bool) (n m : ℕ) → n + cond a 1 0 ≡ m + cond b 1 0 → bool_byte (a && not b) ≤ m
+live_least true true n m e = omega arith
+live_least true false n m e = omega (arith, e)
+live_least false b n m e = omega arith
+
+not_gone : (a b : Bool) → not b ≡ true → not (a && b) ≡ true
+not_gone true b e = e
+not_gone false b e = refl
+
+not_gone-right : (a b : Bool) → not a ≡ true → not (a && b) ≡ true
+not_gone-right true b e = cc
+not_gone-right false b e = refl
+
+with_true : (b : Bool) → not (b && true) ≡ true → not b ≡ true
+with_true true e = e
+with_true false e = refl
+
+-- a stream that is there after a drop was there before it
+live_before : (side : Side) (stream : Stream) → is_live (dropped side stream) ≡ true → is_live stream ≡ true
+unfolding dropped
+live_before Writing stream e = not_gone (is_gone stream.writer.owner) (is_gone stream.reader.owner) e
+live_before Reading stream e = not_gone-right (is_gone stream.writer.owner) (is_gone stream.reader.owner) (with_true (is_gone stream.writer.owner) e)
+
+-- an end was dropped, and its handle freed
+pub record DropsEnd (old new : Inside) (s : ℕ) (side : Side) (g handle lost : ℕ) : Type 0 where
+  pub same : SameBut old new
+  pub counter : new.counter ≡ uncounted old.counter
+  pub live : live_in (seen new.guests.items) + 1 ≡ live_in (seen old.guests.items)
+  pub guests : seen new.guests.items ≡ with_handles (seen old.guests.items) g (removed (guest_in (seen old.guests.items) g).handles handle)
+  pub streams : new.streams.items ≡ set old.streams.items s (dropped side (stream_at (state_of old) s))
+  pub lost_is : lost ≡ bool_byte (is_live (stream_at (state_of old) s) && not (is_live (dropped side (stream_at (state_of old) s))))
+  pub live_streams : new.live_streams ≡ old.live_streams - lost
+  pub bytes : new.bytes ≡ old.bytes
+
+same_bytes : (old new : List machine.Guest) → sizes_of new ≡ sizes_of old → sum_by (λ (g : machine.Guest). length g.memory) new ≡ sum_by (λ (g : machine.Guest). length g.memory) old
+same_bytes old new e = sym (sum-map (λ (g : machine.Guest). length g.memory) new) ∙ ap sum e ∙ sum-map (λ (g : machine.Guest). length g.memory) old
+
+live_sum : (streams : List Stream) (s : ℕ) (stream : Stream) → s < length streams → count_by is_live (set streams s stream) + cond (is_live (get_or streams s no_stream)) 1 0 ≡ count_by is_live streams + cond (is_live stream) 1 0
+live_sum streams s stream l = sum_by-set live_weight streams s stream no_stream l
+
+pub lost_fits : (old : Inside) (s : ℕ) (side : Side) (lost : ℕ) → s < length old.streams.items → lost ≡ bool_byte (is_live (stream_at (state_of old) s) && not (is_live (dropped side (stream_at (state_of old) s)))) → IsStore old → lost ≤ old.live_streams
+lost_fits old s side lost l e i =
+    let stream = stream_at (state_of old) s in
+    let sum = live_sum old.streams.items s (dropped side stream) l in
+    let least = live_least (is_live stream) (is_live (dropped side stream)) _ _ sum in
+    rw (e, i.streams) least
+
+pub IsStore-dropped : (old new : Inside) (s : ℕ) (side : Side) (g handle lost : ℕ) → s < length old.streams.items → DropsEnd old new s side g handle lost → IsStore old → IsStore new
+IsStore-dropped old new s side g handle lost l h i =
+    let stream = stream_at (state_of old) s in
+    let sound = IsSound-dropped (state_of old) s side g handle l i.sound in
+    let sum = live_sum old.streams.items s (dropped side stream) l in
+    let live = live_changed (is_live stream) (is_live (dropped side stream)) _ _ (live_before side stream) sum in
+    let sizes : sizes_of (seen new.guests.items) ≡ sizes_of (seen old.guests.items) = ap sizes_of h.guests ∙ sizes_of-with_handles (seen old.guests.items) g _ in
+    let count : length new.guests.items ≡ length old.guests.items =
+    sym (length-map new.guests.items guest_of) ∙ ap length h.guests ∙ length-set (seen old.guests.items) g _ ∙ length-map old.guests.items guest_of in
+    let bytes : machine.bytes_in_use (state_of new) ≡ machine.bytes_in_use (state_of old) = same_bytes (seen old.guests.items) (seen new.guests.items) sizes in
+    record {
+      sound = record {
+        named = rw (h.guests, h.streams) sound.named;
+        placed = rw (h.guests, h.streams) sound.placed;
+        small = rw h.guests sound.small;
+      };
+      limit = rw (h.counter, h.same.limits) i.limit;
+      live = ap (λ (c : Counter). c.live) h.counter ∙ fewer _ _ _ i.live h.live;
+      streams = rw (h.live_streams, h.streams, h.lost_is, i.streams) (sym live);
+      bytes = h.bytes ∙ i.bytes ∙ sym bytes;
+      few_guests = rw count i.few_guests;
+      few_streams = rw (h.streams, length-set old.streams.items s (dropped side stream)) i.few_streams;
+    }
+  where
+    fewer : (c n m : ℕ) → c ≡ n → m + 1 ≡ n → c - 1 ≡ m
+    fewer c n m e f = omega (arith, e, f)
+
+idle_writable : (state : TransmitLocalState) → is_idle_state state ≡ true → side_of state ≡ Writing → IsOk (writable state)
+idle_writable (states.Write done) i e = refl
+idle_writable (states.Read done) i e = cc
+idle_writable (states.Busy reading) i e = cc
+
+idle_readable : (state : TransmitLocalState) → is_idle_state state ≡ true → side_of state ≡ Reading → IsOk (readable state)
+idle_readable (states.Read done) i e = refl
+idle_readable (states.Write done) i e = cc
+idle_readable (states.Busy reading) i e = cc
+
+told_ok : {A B : Type 0} (x : Result A HandleError) (told : A → B) → IsOk x → accepted (x >>= (λ v. Ok (told v))) ≡ Ok tt
+told_ok (Ok v) told h = refl
+told_ok (Err v) told h = cc
+
+same_name : (end : TransmitEnd) (name : ℕ × TransmitLocalState) → ◌≡◌ {A = Name} (Ok (end.rep, end.state)) (Ok name) → ◌≡◌ {A = ℕ × TransmitLocalState} name (end.rep, end.state)
+same_name end name e = cc
+
+-- an end that was found, and is then found to be removable
+found_removable : {A B : Type 0} (r : Result TransmitEnd HandleError) (first : TransmitLocalState → Result A HandleError) (told : TransmitEnd → A → B) (name : ℕ × TransmitLocalState) → (r >>= (λ e. Ok (e.rep, e.state))) ≡ Ok name → IsOk (first name.1) → accepted (r >>= (λ e. first e.state >>= (λ x. Ok (told e x)))) ≡ Ok tt
+found_removable (Err e) first told name f k = cc
+found_removable (Ok end) first told name f k =
+    told_ok (first end.state) (told end) (subst (λ (n : ℕ × TransmitLocalState). IsOk (first n.1)) (same_name end name f) k)
+
+-- what a table answers to the removal of an idle end of a side
+removable_idle : (side : Side) (ty : TransmitIndex) (handles : Handles) (handle : ℕ) (name : ℕ × TransmitLocalState) → named_by ty handles handle ≡ Ok name → is_idle_state name.1 ≡ true → side_of name.1 ≡ side → removable side ty handles handle ≡ Ok tt
+removable_idle Writing (index.Stream payload) handles handle name e i s = found_removable (stream_of handles payload handle) writable (λ end done. end.rep) name e (idle_writable name.1 i s)
+removable_idle Reading (index.Stream payload) handles handle name e i s = found_removable (stream_of handles payload handle) readable (λ end done. (end.rep, done)) name e (idle_readable name.1 i s)
+removable_idle Writing (index.Future payload) handles handle name e i s = found_removable (future_of handles payload handle) writable (λ end done. (end.rep, done)) name e (idle_writable name.1 i s)
+removable_idle Reading (index.Future payload) handles handle name e i s = found_removable (future_of handles payload handle) readable (λ end done. (end.rep, done)) name e (idle_readable name.1 i s)
+
+-- an end that may be dropped can be removed from its table
+pub removable_named : (state : State) (side : Side) (g : ℕ) (ty : TransmitIndex) (handle : ℕ) → IsSound state → first_of (dropping_reasons state side g ty handle) ≡ None → removable side ty (guest_in state.guests g).handles handle ≡ Ok tt
+removable_named state side g ty handle h e =
+    let fits = drop_fits state side g ty handle e in
+    by_name (named state g ty handle) refl (named_idle state g ty handle (named state g ty handle) h refl) (named_ok state g ty handle fits.found) fits.same
+  where
+    by_name : (r : Name) → named state g ty handle ≡ r → IfOk r (λ name. is_idle_state name.1 ≡ true) → IsOk r → same_side side (side_named r) ≡ true → removable side ty (guest_in state.guests g).handles handle ≡ Ok tt
+    by_name (Ok name) f i k s = removable_idle side ty (guest_in state.guests g).handles handle name f i (same_side_is side (side_of name.1) s)
+    by_name (Err error) f i k s = cc
+
+-- its stream was made
+pub dropped_there : (state : State) (side : Side) (g : ℕ) (ty : TransmitIndex) (handle : ℕ) → IsSound state → first_of (dropping_reasons state side g ty handle) ≡ None → stream_named (named state g ty handle) < length state.streams
+dropped_there state side g ty handle h e =
+    let fits = drop_fits state side g ty handle e in
+    by_name (named state g ty handle) (named_there state g ty handle (named state g ty handle) h refl) (named_ok state g ty handle fits.found)
+  where
+    by_name : (r : Name) → IfOk r (λ name. name.0 < length state.streams) → IsOk r → stream_named r < length state.streams
+    by_name (Ok name) l k = l
+    by_name (Err error) l k = cc
+
+pub drop_there : (old : Inside) (side : Side) (g : ℕ) (ty : TransmitIndex) (handle s : ℕ) → IsStore old → first_of (dropping_reasons (state_of old) side g ty handle) ≡ None → s ≡ stream_named (named (state_of old) g ty handle) → s < length old.streams.items
+drop_there old side g ty handle s i e same = rw same (dropped_there (state_of old) side g ty handle i.sound e)
+
+-- the stream that an index read, dropped on a side
+pub record DropIs (old : Inside) (s : ℕ) (side : Side) (after : Stream) (lost : ℕ) : Type 0 where
+  pub stream : after ≡ dropped side (stream_at (state_of old) s)
+  pub lost_is : lost ≡ bool_byte (is_live (stream_at (state_of old) s) && not (is_live (dropped side (stream_at (state_of old) s))))
+
+pub drop_is : (old : Inside) (s : ℕ) (side : Side) (x after : Stream) (removed : Bool) (lost : ℕ) → s < length old.streams.items → x ≡ get_or old.streams.items s x → after ≡ dropped side x → removed ≡ (is_live x && not (is_live after)) → lost ≡ bool_byte removed → DropIs old s side after lost
+drop_is old s side x after removed lost l e a r n =
+    let here = stream_at-there old s x l e in
+    record { stream = rw here a; lost_is = rw (here, ← a, ← r) n }

@@ -1,0 +1,44 @@
+use Rattle.std.proofs.Common.{refl, ap, set, arith}
+use Rattle.strm_transmit.specs.Inside.{state_of}
+use Rattle.strm_transmit.proofs.EndingLemmas.{removable_named, drop_there, drop_is, lost_fits, IsStore-dropped}
+use Rattle.strm_transmit.proofs.store.Store.drop_named.Goals as goal
+
+pub remove_end-requires-clause-idle : goal.remove_end-requires-clause-idle
+remove_end-requires-clause-idle c =
+    removable_named (state_of c.self.inside) c.args.side c.args.guest c.args.ty c.args.handle c.self.invariant.sound (rw (← c.self.view_is) at c.requires.may)
+
+pub index_mut-requires : goal.index_mut-requires
+index_mut-requires c =
+    omega (
+      arith,
+      c.self.inside.streams.ok,
+      drop_there c.self.inside c.args.side c.args.guest c.args.ty c.args.handle c.args.stream c.self.invariant
+          (rw (← c.self.view_is) at c.requires.may) (rw (← c.self.view_is) at c.requires.stream),
+    )
+
+pub overflow_sub-self : goal.overflow_sub-self
+overflow_sub-self c =
+    let there = drop_there c.self.inside c.args.side c.args.guest c.args.ty c.args.handle c.args.stream c.self.invariant
+    (rw (← c.self.view_is) at c.requires.may) (rw (← c.self.view_is) at c.requires.stream) in
+    let drop = drop_is c.self.inside c.args.stream c.args.side c.index_mut.result.now c.drop_end-is_removed.new.stream c.drop_end-is_removed.result c.from.result
+    there c.index_mut.ensures.value c.drop_end-is_removed.ensures.stream c.drop_end-is_removed.ensures.removed c.from.ensures in
+    lost_fits c.self.inside c.args.stream c.args.side c.from.result there drop.lost_is c.self.invariant
+
+pub invariant_of-self : goal.invariant_of-self
+invariant_of-self c =
+    let there = drop_there c.self.inside c.args.side c.args.guest c.args.ty c.args.handle c.args.stream c.self.invariant
+    (rw (← c.self.view_is) at c.requires.may) (rw (← c.self.view_is) at c.requires.stream) in
+    let drop = drop_is c.self.inside c.args.stream c.args.side c.index_mut.result.now c.drop_end-is_removed.new.stream c.drop_end-is_removed.result c.from.result
+    there c.index_mut.ensures.value c.drop_end-is_removed.ensures.stream c.drop_end-is_removed.ensures.removed c.from.ensures in
+    IsStore-dropped c.self.inside _ c.args.stream c.args.side c.args.guest c.args.handle c.from.result there
+    (record {
+      same = record { tag = refl; limits = refl; trapped = refl };
+      counter = c.remove_end.ensures.counter;
+      live = c.remove_end.ensures.live;
+      guests = c.remove_end.ensures.guests;
+      streams = ap (set c.self.inside.streams.items c.args.stream) drop.stream;
+      lost_is = drop.lost_is;
+      live_streams = refl;
+      bytes = refl;
+    })
+    c.self.invariant

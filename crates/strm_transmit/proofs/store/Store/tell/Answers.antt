@@ -1,0 +1,21 @@
+use Rattle.std.proofs.Common.{refl, ap, ◌∙◌, sym, set}
+use Rattle.strm_machine.specs.Endings.{delivered}
+use Rattle.strm_machine.specs.declared.streams.Stream.{Stream}
+use Rattle.strm_transmit.proofs.StoreLemmas.{stream_at-there}
+use Rattle.strm_transmit.proofs.EndingLemmas.{IsStore-told}
+use Rattle.strm_transmit.proofs.store.Store.tell.Goals as goal
+
+pub invariant_of-self : goal.invariant_of-self
+invariant_of-self c =
+    let there = rw (← c.self.view_is) at c.requires in
+    let here = stream_at-there c.self.inside c.args.stream c.index_mut.result.now there c.index_mut.ensures.value in
+    IsStore-told c.self.inside _ c.args.stream c.args.side there
+    (record {
+      same = record { tag = refl; limits = refl; trapped = refl };
+      counter = refl;
+      guests = refl;
+      live_streams = refl;
+      bytes = refl;
+      streams = ap (set c.self.inside.streams.items c.args.stream) (c.tell.ensures.stream ∙ ap (λ (s : Stream). delivered c.args.side s) (sym here));
+    })
+    c.self.invariant
