@@ -1,5 +1,5 @@
 -- Streams of numbers or of nothing never trap a store.
-use Rattle.std.specs.Prelude.{All, IsTrue, IsSome}
+use Rattle.std.specs.Prelude.{All, IsTrue, IsSome, slice_set}
 use Rattle.std.specs.Option.{option_map}
 use Rattle.std.proofs.Common.{◌≡◌, ℕ, ◌<◌, min, Bool, true, false, cond, List, length, get_or, Option, Some, None, refl, sym, ap, ◌∙◌, subst, inl, inr}
 use Rattle.std.proofs.lemmas.Bool.{cases_lt}
@@ -16,11 +16,12 @@ use Rattle.strm_memory.proofs.RegionLemmas.{items-number_or_none}
 use Rattle.strm_machine.specs.State.{State, Guest, memory_in, with_memory, stream_at, no_stream, is_gone}
 use Rattle.strm_machine.specs.Sides.{opposite, same_side, end_of, with_end, with_operation, write_of, read_of}
 use Rattle.strm_machine.specs.Meetings.{advanced, carried, begun}
-use Rattle.strm_machine.specs.Tests.{named, stream_named, items_asked}
+use Rattle.strm_machine.specs.Tests.{named, end_named, stream_named, side_named, items_asked}
 use Rattle.strm_machine.specs.Turns.{Turn, waits, with_received, moves, completes_alone, meets_by, finds, turn}
+use Rattle.strm_machine.specs.Endings.{delivered, dropped}
 use Rattle.strm_machine.specs.Making.{with_stream}
 use Rattle.strm_machine.specs.Refusals.{refusal}
-use Rattle.strm_machine.specs.Reactions.{Reaction, goes, written_back, operates, performs, unless_refused, react}
+use Rattle.strm_machine.specs.Reactions.{Reaction, goes, written_back, operates, tells, drops, performs, unless_refused, react}
 use Rattle.strm_machine.specs.declared.streams.Side.{Side}
 use Rattle.strm_machine.specs.declared.streams.Side.TheVariants.{Writing, Reading}
 use Rattle.strm_machine.specs.declared.streams.Operation.{Operation}
@@ -123,6 +124,18 @@ operates-calm state side g ty handle address count h =
     let turned = turn-calm side state.guests (stream_at state s) mine here in
     written-calm state s t t.code turned.code (rw turned.payload here) h
 
+-- a stream at its number again, with the payload that it had
+again-calm : (state : State) (s : ℕ) (stream : Stream) → stream.payload ≡ (stream_at state s).payload → AreCalm state.streams → AreCalm (slice_set state.streams s stream)
+again-calm state s stream e h = All-set StreamIsCalm state.streams s stream (rw e (calm_at state s h)) h
+
+tells-calm : (state : State) (s : ℕ) (side : Side) → AreCalm state.streams → ReactsCalmly (tells state s side)
+unfolding delivered
+tells-calm state s side h = record { goes_on = refl; calm = again-calm state s _ (with_end-payload side (stream_at state s) _) h }
+
+drops-calm : (state : State) (s : ℕ) (side : Side) (g handle : ℕ) → AreCalm state.streams → ReactsCalmly (drops state s side g handle)
+unfolding dropped
+drops-calm state s side g handle h = record { goes_on = refl; calm = again-calm state s _ (with_end-payload side (stream_at state s) _) h }
+
 performs-calm : (state : State) (step : Step) → IsPlain step → AreCalm state.streams → ReactsCalmly (performs state step)
 unfolding performs with_stream
 performs-calm state (steps.Guest size) p h = record { goes_on = refl; calm = h }
@@ -131,6 +144,10 @@ performs-calm state (steps.Between writer reader ty) p h =
     record { goes_on = refl; calm = All-push StreamIsCalm state.streams _ h number }
 performs-calm state (steps.Write g ty handle address count) p h = operates-calm state Writing g ty handle address count h
 performs-calm state (steps.Read g ty handle address count) p h = operates-calm state Reading g ty handle address count h
+performs-calm state (steps.DropWrite g ty handle) p h = drops-calm state (stream_named (named state g ty handle)) Writing g handle h
+performs-calm state (steps.DropRead g ty handle) p h = drops-calm state (stream_named (named state g ty handle)) Reading g handle h
+performs-calm state (steps.Event g handle) p h =
+    let name = end_named state g handle in tells-calm state (stream_named name) (side_named name) h
 performs-calm state (steps.Poke g address bytes) p h = record { goes_on = refl; calm = h }
 performs-calm state (steps.Dump g address len) p h = record { goes_on = refl; calm = h }
 

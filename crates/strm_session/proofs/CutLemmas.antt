@@ -1,8 +1,8 @@
 -- What is cut off at a byte, in a loop over the bytes and as a whole.
-use Rattle.std.proofs.Common.{◌≡◌, ◌≢◌, ℕ, zero, suc, ◌+◌, ◌<◌, ◌≤◌, List, [], ◌∷◌, ◌++◌, length, take, drop, get_or, Option, Some, None, refl, sym, ap, append_assoc, arith, eq-eqb, inl, inr, length-append}
+use Rattle.std.proofs.Common.{◌≡◌, ◌≢◌, ℕ, zero, suc, ◌+◌, ◌<◌, ◌≤◌, Bool, true, false, not, ◌&&◌, eqb, List, [], ◌∷◌, ◌++◌, length, take, drop, get_or, Option, Some, None, refl, sym, ap, append_assoc, arith, eq-eqb, inl, inr, length-append}
 use Rattle.std.specs.Option.{option_map}
 use Rattle.std.proofs.lemmas.List.{drop_more, drop_all, take_more, append-nil}
-use Rattle.std.proofs.lemmas.Bool.{ne_eqb}
+use Rattle.std.proofs.lemmas.Bool.{ne_eqb, eqb-false}
 use Rattle.std.proofs.lemmas.Bool.Decides.{eqb_tells}
 use Rattle.strm_session.specs.Reading.{cut_at}
 
@@ -47,6 +47,20 @@ cut_sound c (x ∷ bytes) p e =
 abbrev pub IsWithout : ℕ → List ℕ → Type 0
 IsWithout c [] = Unit {0}
 IsWithout c (x ∷ xs) = (x ≢ c) × IsWithout c xs
+
+-- the same as a test, for words that are spelled out
+abbrev pub is_without : ℕ → List ℕ → Bool
+is_without c [] = true
+is_without c (x ∷ xs) = not (eqb x c) && is_without c xs
+
+pub without : (c : ℕ) (word : List ℕ) → is_without c word ≡ true → IsWithout c word
+without c [] e = tt
+without c (x ∷ xs) e =
+    let both = parts (eqb x c) (is_without c xs) e in (eqb-false x c both.0, without c xs both.1)
+  where
+    parts : (a b : Bool) → not a && b ≡ true → (a ≡ false) × (b ≡ true)
+    parts true b e = cc
+    parts false b e = (refl, e)
 
 pub cut_complete : (c : ℕ) (a b : List ℕ) → IsWithout c a → cut_at c (a ++ c ∷ b) ≡ Some (a, b)
 unfolding cut_at

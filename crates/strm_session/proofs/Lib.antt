@@ -8,3 +8,4 @@ pub mod LineLemmas
 pub mod PlayLemmas
 pub mod CalmLemmas
 pub mod ServingLemmas
+pub mod LawLemmas

@@ -34,6 +34,7 @@ after-goes told replies.Done state next h = refl
 after-goes told (replies.Number n) state next h = refl
 after-goes told (replies.Pair pair) state next h = refl
 after-goes told (replies.Code code) state next h = refl
+after-goes told (replies.Event code) state next h = refl
 after-goes told (replies.Bytes bytes) state next h = refl
 after-goes told (replies.Refused r) state next h = refl
 after-goes told (replies.BadItem s) state next h = cc
@@ -71,6 +72,9 @@ performs-runs state (steps.Guest size) h = record { trapped = λ e. cc; goes_on 
 performs-runs state (steps.Between writer reader ty) h = record { trapped = λ e. cc; goes_on = λ e. h }
 performs-runs state (steps.Write g ty handle address count) h = operates-runs state Writing g ty handle address count h
 performs-runs state (steps.Read g ty handle address count) h = operates-runs state Reading g ty handle address count h
+performs-runs state (steps.DropWrite g ty handle) h = record { trapped = λ e. cc; goes_on = λ e. h }
+performs-runs state (steps.DropRead g ty handle) h = record { trapped = λ e. cc; goes_on = λ e. h }
+performs-runs state (steps.Event g handle) h = record { trapped = λ e. cc; goes_on = λ e. h }
 performs-runs state (steps.Poke g address bytes) h = record { trapped = λ e. cc; goes_on = λ e. h }
 performs-runs state (steps.Dump g address len) h = record { trapped = λ e. cc; goes_on = λ e. h }
 
@@ -93,6 +97,7 @@ not_halt replies.Done b t = refl
 not_halt (replies.Number n) b t = refl
 not_halt (replies.Pair pair) b t = refl
 not_halt (replies.Code code) b t = refl
+not_halt (replies.Event code) b t = refl
 not_halt (replies.Bytes bytes) b t = refl
 not_halt (replies.Refused r) b t = refl
 not_halt (replies.BadItem s) b t = absurd (b s refl)

@@ -12,7 +12,7 @@ use Rattle.strm_codes.specs.declared.codes.TransmitIndex.TheVariants.{Stream}
 use Rattle.strm_session.specs.Words.{hex_pairs, type_word}
 use Rattle.strm_session.specs.Grammar.{IsU32, IsWithin, IsLineBytes, IsByteStream}
 use Rattle.strm_session.specs.Reading.{cut_at, leading, followed_by, number, number_within, hex, type_of}
-use Rattle.strm_session.proofs.CutLemmas.{IsWithout, cut_sound, cut_complete}
+use Rattle.strm_session.proofs.CutLemmas.{IsWithout, without, cut_sound, cut_complete}
 use Rattle.strm_session.proofs.NumberLemmas.{number_sound, number_complete, IsWithout-decimal}
 use Rattle.strm_session.proofs.HexLemmas.{hex_sound, hex_complete}
 
@@ -78,7 +78,7 @@ pub IsReading-type : IsReading type_of type_word IsByteStream
 IsReading-type = record { sound = type_sound; complete = type_complete }
 
 type_spaceless : (x : TransmitIndex) → IsByteStream x → IsWithout 32 (type_word x)
-type_spaceless x f = rw f (omega arith, (omega arith, (omega arith, (omega arith, (omega arith, (omega arith, (omega arith, (omega arith, (omega arith, tt)))))))))
+type_spaceless x f = rw f (without 32 (codes "stream:u8") refl)
 
 pub IsWord-type : IsWord type_word IsByteStream
 IsWord-type = record { spaceless = type_spaceless }

@@ -1,5 +1,5 @@
 -- A line is read as a step exactly where it spells it.
-use Rattle.std.proofs.Common.{◌≡◌, ◌≢◌, ℕ, List, [], ◌∷◌, ◌++◌, codes, Option, Some, None, Bool, true, false, cond, eqb, refl, ap, arith, inl, inr, ◌⊎◌}
+use Rattle.std.proofs.Common.{◌≡◌, ℕ, List, ◌∷◌, ◌++◌, codes, Option, Some, None, Bool, true, false, cond, eqb, refl, ap, arith, inl, inr, ◌⊎◌}
 use Rattle.std.specs.Fmt.{decimal}
 use Rattle.std.specs.Str.{bytes_eq}
 use Rattle.std.proofs.lemmas.Bool.{ne_eqb, eqb-false}
@@ -7,12 +7,12 @@ use Rattle.std.proofs.lemmas.Option.{option_and_then_some}
 use Rattle.std.proofs.lemmas.Slice.Eq.{bytes_eq-Decides}
 use Rattle.strm_codes.specs.declared.codes.TransmitIndex.{TransmitIndex}
 use Rattle.strm_machine.specs.declared.steps.Step.{Step}
-use Rattle.strm_machine.specs.declared.steps.Step.TheVariants.{Guest, Between, Write, Read, Poke, Dump}
+use Rattle.strm_machine.specs.declared.steps.Step.TheVariants.{Guest, Between, Write, Read, DropWrite, DropRead, Event, Poke, Dump}
 use Rattle.strm_session.specs.Words.{hex_pairs, type_word}
 use Rattle.strm_session.specs.Plain.{IsPlain}
 use Rattle.strm_session.specs.Grammar.{spelling, HasLine, IsU32, IsWithin, IsLineBytes, IsByteStream}
-use Rattle.strm_session.specs.Reading.{cut_at, followed_by, number, number_within, hex, type_of, operands_of, guest_of, pair_of, write_of, read_of, poke_of, dump_of, step_with, step_of}
-use Rattle.strm_session.proofs.CutLemmas.{IsWithout, option_map_some, cut_sound, cut_complete}
+use Rattle.strm_session.specs.Reading.{cut_at, followed_by, number, number_within, hex, type_of, operands_of, named_end_of, guest_of, pair_of, write_of, read_of, drop_write_of, drop_read_of, event_of, poke_of, dump_of, end_step_with, step_with, step_of}
+use Rattle.strm_session.proofs.CutLemmas.{without, option_map_some, cut_sound, cut_complete}
 use Rattle.strm_session.proofs.ReadingLemmas.{IsReading, IsReading-number, IsWord-number, IsReading-within, IsReading-hex, IsReading-type, IsWord-type, IsReading-followed_by}
 
 some_same : {A : Type 0} (x y : A) → Some x ≡ Some y → x ≡ y
@@ -31,14 +31,27 @@ abbrev operands_word : Operands → List ℕ
 operands_word v = decimal v.0 ++ 32 ∷ (type_word v.1.0 ++ 32 ∷ (decimal v.1.1.0 ++ 32 ∷ (decimal v.1.1.1.0 ++ 32 ∷ decimal v.1.1.1.1)))
 
 abbrev IsFitOperands : Operands → Type 0
-IsFitOperands v = IsU32 v.0 × (IsByteStream v.1.0 × (IsU32 v.1.1.0 × (IsU32 v.1.1.1.0 × IsWithin 1 268435455 v.1.1.1.1)))
-
-IsReading-count : IsReading (number_within 1 268435455) decimal (IsWithin 1 268435455)
-IsReading-count = IsReading-within 1 268435455 (omega arith)
+IsFitOperands v = IsU32 v.0 × (IsByteStream v.1.0 × (IsU32 v.1.1.0 × (IsU32 v.1.1.1.0 × IsU32 v.1.1.1.1)))
 
 IsReading-operands : IsReading operands_of operands_word IsFitOperands
 unfolding operands_of
-IsReading-operands = IsReading-followed_by IsReading-number IsWord-number (IsReading-followed_by IsReading-type IsWord-type (IsReading-followed_by IsReading-number IsWord-number (IsReading-followed_by IsReading-number IsWord-number IsReading-count)))
+IsReading-operands = IsReading-followed_by IsReading-number IsWord-number (IsReading-followed_by IsReading-type IsWord-type (IsReading-followed_by IsReading-number IsWord-number (IsReading-followed_by IsReading-number IsWord-number IsReading-number)))
+
+abbrev NamedEnd : Type 0
+NamedEnd = ℕ × (TransmitIndex × ℕ)
+
+abbrev named_end_word : NamedEnd → List ℕ
+named_end_word v = decimal v.0 ++ 32 ∷ (type_word v.1.0 ++ 32 ∷ decimal v.1.1)
+
+abbrev IsFitEnd : NamedEnd → Type 0
+IsFitEnd v = IsU32 v.0 × (IsByteStream v.1.0 × IsU32 v.1.1)
+
+IsReading-named_end : IsReading named_end_of named_end_word IsFitEnd
+unfolding named_end_of
+IsReading-named_end = IsReading-followed_by IsReading-number IsWord-number (IsReading-followed_by IsReading-type IsWord-type IsReading-number)
+
+IsReading-event : IsReading (followed_by number number) (λ v. decimal v.0 ++ 32 ∷ decimal v.1) (λ v. IsU32 v.0 × IsU32 v.1)
+IsReading-event = IsReading-followed_by IsReading-number IsWord-number IsReading-number
 
 IsReading-pair : IsReading (followed_by number (followed_by number type_of)) (λ v. decimal v.0 ++ 32 ∷ (decimal v.1.0 ++ 32 ∷ type_word v.1.1)) (λ v. IsU32 v.0 × (IsU32 v.1.0 × IsByteStream v.1.1))
 IsReading-pair = IsReading-followed_by IsReading-number IsWord-number (IsReading-followed_by IsReading-number IsWord-number IsReading-type)
@@ -71,6 +84,27 @@ read_sound rest s e =
     option_map_some _ (operands_of rest) s e (λ v f g.
     let r = IsReading-operands.sound rest v f in
     rw (← g) (ap (λ w. codes "read" ++ 32 ∷ w) r.0, r.1))
+
+drop_write_sound : (rest : List ℕ) (s : Step) → drop_write_of rest ≡ Some s → IsStepOf (codes "drop-write") rest s
+unfolding drop_write_of
+drop_write_sound rest s e =
+    option_map_some _ (named_end_of rest) s e (λ v f g.
+    let r = IsReading-named_end.sound rest v f in
+    rw (← g) (ap (λ w. codes "drop-write" ++ 32 ∷ w) r.0, r.1))
+
+drop_read_sound : (rest : List ℕ) (s : Step) → drop_read_of rest ≡ Some s → IsStepOf (codes "drop-read") rest s
+unfolding drop_read_of
+drop_read_sound rest s e =
+    option_map_some _ (named_end_of rest) s e (λ v f g.
+    let r = IsReading-named_end.sound rest v f in
+    rw (← g) (ap (λ w. codes "drop-read" ++ 32 ∷ w) r.0, r.1))
+
+event_sound : (rest : List ℕ) (s : Step) → event_of rest ≡ Some s → IsStepOf (codes "event") rest s
+unfolding event_of
+event_sound rest s e =
+    option_map_some _ (followed_by number number rest) s e (λ v f g.
+    let r = IsReading-event.sound rest v f in
+    rw (← g) (ap (λ w. codes "event" ++ 32 ∷ w) r.0, r.1))
 
 poke_sound : (rest : List ℕ) (s : Step) → poke_of rest ≡ Some s → IsStepOf (codes "poke") rest s
 unfolding poke_of
@@ -114,15 +148,22 @@ one_command command word rest s o p e here other =
       | inr t ↦ other t.1
     ]
 
+end_with_sound : (command rest : List ℕ) (s : Step) → end_step_with command rest ≡ Some s → IsStepOf command rest s
+unfolding end_step_with
+end_with_sound command rest s e =
+    one_command command (codes "write") rest s (write_of rest) _ e (write_sound rest s) (λ e.
+    one_command command (codes "read") rest s (read_of rest) _ e (read_sound rest s) (λ e.
+    one_command command (codes "event") rest s (event_of rest) _ e (event_sound rest s) (λ e.
+    one_command command (codes "drop-write") rest s (drop_write_of rest) _ e (drop_write_sound rest s) (λ e.
+    one_command command (codes "drop-read") rest s (drop_read_of rest) None e (drop_read_sound rest s) (λ e. cc)))))
+
 with_sound : (command rest : List ℕ) (s : Step) → step_with command rest ≡ Some s → IsStepOf command rest s
 unfolding step_with
 with_sound command rest s e =
     one_command command (codes "guest") rest s (guest_of rest) _ e (guest_sound rest s) (λ e.
     one_command command (codes "pair") rest s (pair_of rest) _ e (pair_sound rest s) (λ e.
-    one_command command (codes "write") rest s (write_of rest) _ e (write_sound rest s) (λ e.
-    one_command command (codes "read") rest s (read_of rest) _ e (read_sound rest s) (λ e.
     one_command command (codes "poke") rest s (poke_of rest) _ e (poke_sound rest s) (λ e.
-    one_command command (codes "dump") rest s (dump_of rest) None e (dump_sound rest s) (λ e. cc))))))
+    one_command command (codes "dump") rest s (dump_of rest) _ e (dump_sound rest s) (end_with_sound command rest s))))
 
 pub step_sound : (line : List ℕ) (s : Step) → step_of line ≡ Some s → (spelling s ≡ line) × HasLine s
 unfolding step_of
@@ -132,28 +173,30 @@ step_sound line s e =
 
 -- what is spelled is read as the step
 
-short_word : (a b c d : ℕ) → a ≢ 32 → b ≢ 32 → c ≢ 32 → d ≢ 32 → IsWithout 32 (a ∷ b ∷ c ∷ d ∷ [])
-short_word a b c d h i j k = (h, (i, (j, (k, tt))))
-
-long_word : (a b c d e : ℕ) → a ≢ 32 → b ≢ 32 → c ≢ 32 → d ≢ 32 → e ≢ 32 → IsWithout 32 (a ∷ b ∷ c ∷ d ∷ e ∷ [])
-long_word a b c d e h i j k l = (h, (i, (j, (k, (l, tt)))))
-
 pub step_complete : (s : Step) → HasLine s → step_of (spelling s) ≡ Some s
-unfolding step_of step_with guest_of pair_of write_of read_of poke_of dump_of
+unfolding step_of step_with end_step_with guest_of pair_of write_of read_of drop_write_of drop_read_of event_of poke_of dump_of
 step_complete (Guest size) h =
-    rw (cut_complete 32 (codes "guest") (decimal size) (long_word _ _ _ _ _ (omega arith) (omega arith) (omega arith) (omega arith) (omega arith)), IsReading-number.complete size h) refl
+    rw (cut_complete 32 (codes "guest") (decimal size) (without 32 (codes "guest") refl), IsReading-number.complete size h) refl
 step_complete (Between writer reader ty) h =
-    rw (cut_complete 32 (codes "pair") (decimal writer ++ 32 ∷ (decimal reader ++ 32 ∷ type_word ty)) (short_word _ _ _ _ (omega arith) (omega arith) (omega arith) (omega arith)), IsReading-pair.complete (writer, (reader, ty)) h.1, ne_eqb writer reader h.0) refl
+    rw (cut_complete 32 (codes "pair") (decimal writer ++ 32 ∷ (decimal reader ++ 32 ∷ type_word ty)) (without 32 (codes "pair") refl), IsReading-pair.complete (writer, (reader, ty)) h.1, ne_eqb writer reader h.0) refl
 step_complete (Write guest ty handle address count) h =
     let v : Operands = (guest, (ty, (handle, (address, count)))) in
-    rw (cut_complete 32 (codes "write") (operands_word v) (long_word _ _ _ _ _ (omega arith) (omega arith) (omega arith) (omega arith) (omega arith)), IsReading-operands.complete v h) refl
+    rw (cut_complete 32 (codes "write") (operands_word v) (without 32 (codes "write") refl), IsReading-operands.complete v h) refl
 step_complete (Read guest ty handle address count) h =
     let v : Operands = (guest, (ty, (handle, (address, count)))) in
-    rw (cut_complete 32 (codes "read") (operands_word v) (short_word _ _ _ _ (omega arith) (omega arith) (omega arith) (omega arith)), IsReading-operands.complete v h) refl
+    rw (cut_complete 32 (codes "read") (operands_word v) (without 32 (codes "read") refl), IsReading-operands.complete v h) refl
+step_complete (DropWrite guest ty handle) h =
+    let v : NamedEnd = (guest, (ty, handle)) in
+    rw (cut_complete 32 (codes "drop-write") (named_end_word v) (without 32 (codes "drop-write") refl), IsReading-named_end.complete v h) refl
+step_complete (DropRead guest ty handle) h =
+    let v : NamedEnd = (guest, (ty, handle)) in
+    rw (cut_complete 32 (codes "drop-read") (named_end_word v) (without 32 (codes "drop-read") refl), IsReading-named_end.complete v h) refl
+step_complete (Event guest handle) h =
+    rw (cut_complete 32 (codes "event") (decimal guest ++ 32 ∷ decimal handle) (without 32 (codes "event") refl), IsReading-event.complete (guest, handle) h) refl
 step_complete (Poke guest address bytes) h =
-    rw (cut_complete 32 (codes "poke") (decimal guest ++ 32 ∷ (decimal address ++ 32 ∷ hex_pairs bytes)) (short_word _ _ _ _ (omega arith) (omega arith) (omega arith) (omega arith)), IsReading-poke.complete (guest, (address, bytes)) h) refl
+    rw (cut_complete 32 (codes "poke") (decimal guest ++ 32 ∷ (decimal address ++ 32 ∷ hex_pairs bytes)) (without 32 (codes "poke") refl), IsReading-poke.complete (guest, (address, bytes)) h) refl
 step_complete (Dump guest address len) h =
-    rw (cut_complete 32 (codes "dump") (decimal guest ++ 32 ∷ (decimal address ++ 32 ∷ decimal len)) (short_word _ _ _ _ (omega arith) (omega arith) (omega arith) (omega arith)), IsReading-dump.complete (guest, (address, len)) h) refl
+    rw (cut_complete 32 (codes "dump") (decimal guest ++ 32 ∷ (decimal address ++ 32 ∷ decimal len)) (without 32 (codes "dump") refl), IsReading-dump.complete (guest, (address, len)) h) refl
 
 -- each step that has a line is plain
 pub plain : (s : Step) → HasLine s → IsPlain s
@@ -161,5 +204,8 @@ plain (Guest size) h = tt
 plain (Between writer reader ty) h = (h.1.1.1, h.0)
 plain (Write guest ty handle address count) h = tt
 plain (Read guest ty handle address count) h = tt
+plain (DropWrite guest ty handle) h = tt
+plain (DropRead guest ty handle) h = tt
+plain (Event guest handle) h = tt
 plain (Poke guest address bytes) h = tt
 plain (Dump guest address len) h = tt

@@ -7,7 +7,7 @@ use Rattle.strm_codes.specs.declared.payloads.Payload.TheVariants.{One}
 use Rattle.strm_codes.specs.declared.codes.TransmitIndex.{TransmitIndex}
 use Rattle.strm_codes.specs.declared.codes.TransmitIndex.TheVariants.{Stream}
 use Rattle.strm_machine.specs.declared.steps.Step.{Step}
-use Rattle.strm_machine.specs.declared.steps.Step.TheVariants.{Guest, Between, Write, Read, Poke, Dump}
+use Rattle.strm_machine.specs.declared.steps.Step.TheVariants.{Guest, Between, Write, Read, DropWrite, DropRead, Event, Poke, Dump}
 
 -- a reading, and then another of what it found
 infixl 10 ◌>>=◌
@@ -87,7 +87,11 @@ type_of word = if bytes_eq word (codes "stream:u8") then Some (Stream (One U8)) 
 unfoldable pub operands_of : List ℕ → Option (ℕ × (TransmitIndex × (ℕ × (ℕ × ℕ))))
 operands_of rest =
     followed_by number (followed_by type_of
-    (followed_by number (followed_by number (number_within 1 268435455)))) rest
+    (followed_by number (followed_by number number))) rest
+
+-- the words behind `drop-write` and `drop-read`: guest, type and handle
+unfoldable pub named_end_of : List ℕ → Option (ℕ × (TransmitIndex × ℕ))
+named_end_of rest = followed_by number (followed_by type_of number) rest
 
 -- the step behind each command, from its arguments
 
@@ -109,6 +113,18 @@ write_of rest = option_map (λ v. Write v.0 v.1.0 v.1.1.0 v.1.1.1.0 v.1.1.1.1) (
 unfoldable pub read_of : List ℕ → Option Step
 read_of rest = option_map (λ v. Read v.0 v.1.0 v.1.1.0 v.1.1.1.0 v.1.1.1.1) (operands_of rest)
 
+-- drop-write G T H
+unfoldable pub drop_write_of : List ℕ → Option Step
+drop_write_of rest = option_map (λ v. DropWrite v.0 v.1.0 v.1.1) (named_end_of rest)
+
+-- drop-read G T H
+unfoldable pub drop_read_of : List ℕ → Option Step
+drop_read_of rest = option_map (λ v. DropRead v.0 v.1.0 v.1.1) (named_end_of rest)
+
+-- event G H
+unfoldable pub event_of : List ℕ → Option Step
+event_of rest = option_map (λ v. Event v.0 v.1) (followed_by number number rest)
+
 -- poke G A HEX
 unfoldable pub poke_of : List ℕ → Option Step
 poke_of rest =
@@ -120,15 +136,23 @@ dump_of rest =
     option_map (λ v. Dump v.0 v.1.0 v.1.1)
     (followed_by number (followed_by number (number_within 1 64)) rest)
 
+-- the step of a command on an end, and its arguments
+unfoldable pub end_step_with : List ℕ → List ℕ → Option Step
+end_step_with command rest =
+    if bytes_eq command (codes "write") then write_of rest
+    else (if bytes_eq command (codes "read") then read_of rest
+    else (if bytes_eq command (codes "event") then event_of rest
+    else (if bytes_eq command (codes "drop-write") then drop_write_of rest
+    else (if bytes_eq command (codes "drop-read") then drop_read_of rest else None))))
+
 -- the step of a command and its arguments
 unfoldable pub step_with : List ℕ → List ℕ → Option Step
 step_with command rest =
     if bytes_eq command (codes "guest") then guest_of rest
     else (if bytes_eq command (codes "pair") then pair_of rest
-    else (if bytes_eq command (codes "write") then write_of rest
-    else (if bytes_eq command (codes "read") then read_of rest
     else (if bytes_eq command (codes "poke") then poke_of rest
-    else (if bytes_eq command (codes "dump") then dump_of rest else None)))))
+    else (if bytes_eq command (codes "dump") then dump_of rest
+    else end_step_with command rest)))
 
 -- the step that a line spells, where it spells one
 unfoldable pub step_of : List ℕ → Option Step

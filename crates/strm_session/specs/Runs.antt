@@ -1,10 +1,13 @@
 -- Runs of the program: where they begin, where they stop, what was received. Ours.
-use Rattle.std.specs.Prelude.{◌≡◌, ℕ, ◌+◌, min, List, [], length, map, take}
-use Rattle.strm_machine.specs.State.{State, empty}
+use Rattle.std.specs.Prelude.{◌≡◌, ℕ, ◌+◌, min, false, List, [], length, map, take}
+use Rattle.strm_machine.specs.State.{State, empty, stream_at}
 use Rattle.strm_machine.specs.Plays.{play, Ends, Halts}
+use Rattle.strm_machine.specs.declared.streams.Side.{Side}
 use Rattle.strm_machine.specs.declared.steps.Step.{Step}
 use Rattle.strm_machine.specs.declared.replies.Reply.{Reply}
 use Rattle.strm_machine.specs.declared.replies.Reply.TheVariants as replies
+use Rattle.strm_laws.specs.Conservation.{moments, replies_of, calls}
+use Rattle.strm_laws.specs.Laws.{Conserves, waiting, Stands, both_open, AreCounted}
 use Rattle.strm_session.specs.declared.runs.RunCause.{RunCause}
 use Rattle.strm_session.specs.declared.runs.RunCause.TheVariants as causes
 
@@ -27,3 +30,14 @@ StopsBy steps told (causes.BadItem stream) =
     play [] start steps ≡ Halts told (replies.BadItem stream)
 StopsBy steps told causes.OutOfMemory =
     (state : State) × (play [] start (take (length told) steps) ≡ Ends told state)
+
+-- the laws of a run, on each stream: the replies are those of its moments, of which the account
+-- speaks; what was received is what was handed over, and what both ends report; a read or write that
+-- waits has moved what it says; never are two sides open; the items of each operation are a count
+pub record IsKept (steps : List Step) (replies : List Reply) (end : State) : Type 0 where
+  pub told : replies ≡ replies_of (moments start steps)
+  pub conserves : (s : ℕ) → Conserves s (moments start steps) end
+  pub stands : (s : ℕ) (side : Side) →
+      Stands (stream_at end s).payload (waiting s side end) (calls s side (moments start steps))
+  pub apart : (s : ℕ) → both_open (stream_at end s) ≡ false
+  pub counted : (s : ℕ) → AreCounted (stream_at end s)

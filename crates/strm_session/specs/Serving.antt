@@ -1,25 +1,28 @@
 -- What the program writes, and why. Ours.
-use Rattle.std.specs.Prelude.{◌≡◌, ◌≢◌, ◌≤◌, ℕ, List, [], ◌∷◌, codes, Option, IfSome}
+use Rattle.std.specs.Prelude.{◌≡◌, ◌≢◌, ◌≤◌, ℕ, List, [], ◌∷◌, codes, Option, Some, IfSome}
 use Rattle.strm_machine.specs.State.{State}
 use Rattle.strm_machine.specs.Plays.{play, Ends}
 use Rattle.strm_machine.specs.declared.steps.Step.{Step}
 use Rattle.strm_machine.specs.declared.replies.Reply.{Reply}
 use Rattle.strm_session.specs.Faults.{Rose}
 use Rattle.strm_session.specs.Lines.{lines_of, Spells, IsFirstBad, IsTooLong}
-use Rattle.strm_session.specs.Runs.{start, received}
+use Rattle.strm_session.specs.Runs.{start, received, IsKept}
 use Rattle.strm_session.specs.Text.{transcript_text, usage_text, bad_line_text, too_long_text, read_fault_text}
 
 -- the words behind the program's name tell it to run
 abbrev pub IsRun : List (List ℕ) → Type 0
 IsRun words = words ≡ codes "run" ∷ []
 
--- the text of the machine's play on the steps that the lines of an input spell
+-- the text of the machine's play on the steps that the lines of an input spell; on each stream what
+-- was received in it is, in order, the first k items of each accepted write, k the count reported,
+-- each as it lay in the writer's memory just before it was copied, and as many as the reads report
 pub record IsTranscript (input text : List ℕ) : Type 0 where
   pub steps : List Step
   pub spelled : Spells (lines_of input) steps
   pub replies : List Reply
   pub state : State
   pub played : play [] start steps ≡ Ends replies state
+  pub kept : IsKept steps replies state
   pub text_is : text ≡ transcript_text replies (received state)
 
 -- a status below 5 and its text, by why they come: from the program's words, the bytes that the
@@ -34,3 +37,13 @@ pub record Tells (words : List (List ℕ)) (left : Option (List ℕ)) (before af
       × IfSome left (λ input. IsFirstBad (lines_of input) line) × (text ≡ bad_line_text line)
   pub too_long : status ≡ 3 → IfSome left IsTooLong × (text ≡ too_long_text)
   pub read_fault : status ≡ 4 → Rose before after × (text ≡ read_fault_text)
+  -- the limits are tested before the lines
+  pub within : status ≢ 1 → status ≢ 3 → status ≢ 4 → IfSome left (λ input. ¬ IsTooLong input)
+
+-- the program is told to run, the source has this input left, and neither source nor sink fails
+pub record IsFaultless (words : List (List ℕ)) (left : Option (List ℕ)) (input : List ℕ)
+    (source_before source_after sink_before sink_after : ℕ) : Type 0 where
+  pub run : IsRun words
+  pub input_is : left ≡ Some input
+  pub source : ¬ Rose source_before source_after
+  pub sink : ¬ Rose sink_before sink_after

@@ -1,10 +1,11 @@
 -- The text of replies, and of a whole run. Ours.
-use Rattle.std.specs.Prelude.{ℕ, ◌+◌, ◌/◌, ◌%◌, List, [], ◌∷◌, ◌++◌, length, codes, decimal}
+use Rattle.std.specs.Prelude.{ℕ, ◌+◌, ◌/◌, ◌%◌, List, [], ◌∷◌, ◌++◌, length, codes, decimal, Option, Some, None}
 use Rattle.std.specs.List.{flat_map}
 use Rattle.strm_codes.specs.Codes.{word_of}
+use Rattle.strm_codes.specs.declared.codes.ReturnCode.{ReturnCode}
 use Rattle.strm_codes.specs.Refusals.{refusal_name}
 use Rattle.strm_machine.specs.declared.replies.Reply.{Reply}
-use Rattle.strm_machine.specs.declared.replies.Reply.TheVariants.{Done, Number, Pair, Code, Bytes, Refused, BadItem, StoreTrapped}
+use Rattle.strm_machine.specs.declared.replies.Reply.TheVariants.{Done, Number, Pair, Code, Event, Bytes, Refused, BadItem, StoreTrapped}
 use Rattle.strm_session.specs.Words.{hex_pair, hex_pairs}
 use Rattle.strm_session.specs.Grammar.{words}
 
@@ -18,6 +19,15 @@ hex_word n =
     hex_pair (n / 0x1000000) ++ hex_pair (n / 0x10000 % 0x100)
     ++ hex_pair (n / 0x100 % 0x100) ++ hex_pair (n % 0x100)
 
+-- a code as its word
+abbrev pub code_text : ReturnCode → List ℕ
+code_text code = hex_word (word_of code)
+
+-- what an end was told, or that there was nothing to tell
+abbrev pub event_text : Option ReturnCode → List ℕ
+event_text (Some code) = code_text code
+event_text None = codes "none"
+
 -- the text of a reply; a run has no reply of the last two kinds
 abbrev pub reply_text : Reply → List ℕ
 reply_text Done = codes "ok"
@@ -25,7 +35,8 @@ reply_text (Number n) = decimal n
 reply_text (Pair pair) =
     words (codes "read" ∷ decimal pair.read ∷ codes "write" ∷ decimal pair.write
     ∷ codes "stream" ∷ decimal pair.stream ∷ [])
-reply_text (Code code) = hex_word (word_of code)
+reply_text (Code code) = code_text code
+reply_text (Event told) = event_text told
 reply_text (Bytes bytes) = hex_pairs bytes
 reply_text (Refused refusal) = words (codes "refused" ∷ refusal_name refusal ∷ [])
 reply_text (BadItem stream) =

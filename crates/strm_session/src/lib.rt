@@ -9,6 +9,8 @@ mod lines;
 pub mod lists;
 pub mod parsing;
 pub mod ports;
+#[cfg(test)]
+mod run_tests;
 pub mod runs;
 pub mod serving;
 pub mod standard;

@@ -3,13 +3,15 @@
 //! Source: ours.
 
 ghost use Rattle.std.specs.Prelude.{◌≡◌, ◌≢◌, ◌≤◌, ◌∷◌, ◌++◌, ◌+◌, [], List, ℕ, false, length, All, IfOk, IfErr, OnOk, OnErr, Err};
-ghost use Rattle.strm_machine.specs.State.{State};
+ghost use Rattle.strm_machine.specs.State.{State, stream_at};
 ghost use Rattle.strm_machine.specs.Reactions.{goes, react};
 ghost use Rattle.strm_machine.specs.Plays.{play, Ends, Halts};
+ghost use Rattle.strm_machine.specs.declared.streams.Side.{Side};
 ghost use Rattle.strm_machine.specs.declared.steps.Step.{Step};
 ghost use Rattle.strm_machine.specs.declared.replies.Reply.TheVariants.{BadItem as IsBadItem};
+ghost use Rattle.strm_laws.specs.Laws.{HasBytes};
 ghost use Rattle.strm_session.specs.Plain.{IsPlain};
-ghost use Rattle.strm_session.specs.Runs.{start, received, next_step, StopsBy};
+ghost use Rattle.strm_session.specs.Runs.{start, received, next_step, StopsBy, IsKept};
 
 use crate::lists::{Counts, Replies};
 use std::alloc::Global;
@@ -66,6 +68,11 @@ pub fn run(alloc: Global, steps: &[Step]) -> Result<Transcript, RunStop>
     ensures moved { IfOk result (λ t. t.moved ≡ received t.store) }
     ensures stop { IfErr result (λ stop. StopsBy steps.now stop.replies stop.cause) }
     ensures at { IfErr result (λ stop. stop.at ≡ next_step stop.replies) }
+
+    // On each stream, what was received is, in order, the first k items of each accepted write, k
+    // the count reported, each as it lay in the writer's memory just before it was copied; and the
+    // reads report as many.
+    ensures kept { IfOk result (λ t. IsKept steps.now t.replies t.store) }
 
     // Streams of bytes have no bad item.
     ensures plain { All IsPlain steps.now →
@@ -134,15 +141,26 @@ fn play_steps(store: &mut Store, replies: &mut Replies, steps: &[Step]) -> Resul
     ensures stop { IfErr result (λ cause. StopsBy steps.now replies.new cause) }
     ensures all { OnOk result (length replies.new ≡ length steps.now) }
     ensures count { length replies.new ≤ length steps.now }
+    ensures bytes { OnOk result (All HasBytes steps.now) }
     ensures plain { All IsPlain steps.now →
         IfErr result (λ cause. cause ≡ RunCause.OutOfMemory) }
 {
     for step in steps {
+        sound(step);
         if let Err(cause) = step_once(store, replies, step) {
             return Err(cause);
         }
     }
     Ok(())
+}
+
+// What a step puts into a memory is bytes. It does nothing.
+fn sound(step: &Step)
+    ensures { HasBytes step.now }
+{
+    if let Step::Poke { bytes, .. } = step {
+        bytes.sound();
+    }
 }
 
 // Does one step, and keeps its reply.

@@ -9,11 +9,11 @@ ghost use Rattle.strm_machine.specs.Plays.{play, Ends};
 ghost use Rattle.strm_machine.specs.State.{State};
 ghost use Rattle.strm_machine.specs.declared.replies.Reply.{Reply};
 ghost use Rattle.strm_session.specs.Plain.{IsPlain};
-ghost use Rattle.strm_session.specs.Runs.{start, received};
+ghost use Rattle.strm_session.specs.Runs.{start, received, IsKept};
 ghost use Rattle.strm_session.specs.Text.{transcript_text};
 ghost use Rattle.strm_session.specs.Faults.{Rose, TakesPart};
-ghost use Rattle.strm_session.specs.Lines.{lines_of, Spells, IsTooLong};
-ghost use Rattle.strm_session.specs.Serving.{IsRun, Tells};
+ghost use Rattle.strm_session.specs.Lines.{lines_of, Spells, IsFirstBad, IsTooLong};
+ghost use Rattle.strm_session.specs.Serving.{IsRun, Tells, IsFaultless};
 
 use crate::lists::TextBytes;
 use crate::parsing::{MAX_BYTES, ParseError, parse};
@@ -70,13 +70,25 @@ pub fn serve<S: Source, K: Sink>(
         × (length front ≤ MAX_BYTES + 1) }
     ensures unread { ¬ IsRun (map string_bytes words.now.items) → source.new ≡ source.old }
 
-    // What is in the grammar and the limits is run and written, but for faults and want of memory.
+    // What is in the grammar and the limits is run and written, but for faults and want of memory;
+    // else the first bad line is told, or that the input is over the limits, or how to call it.
     ensures complete { (input : List ℕ) (steps : List Step) →
-        IsRun (map string_bytes words.now.items) → S.left source.old ≡ Some input →
+        IsFaultless (map string_bytes words.now.items) (S.left source.old) input
+        (S.faults source.old) (S.faults source.new) (K.faults sink.old) (K.faults sink.new) →
         Spells (lines_of input) steps → ¬ IsTooLong input →
-        ¬ Rose (S.faults source.old) (S.faults source.new) →
-        ¬ Rose (K.faults sink.old) (K.faults sink.new) →
         (result ≡ DONE) ⊎ (result ≡ OUT_OF_MEMORY) }
+    ensures bad_line { (input : List ℕ) (line : ℕ) →
+        IsFaultless (map string_bytes words.now.items) (S.left source.old) input
+        (S.faults source.old) (S.faults source.new) (K.faults sink.old) (K.faults sink.new) →
+        IsFirstBad (lines_of input) line → ¬ IsTooLong input →
+        (result ≡ BAD_LINE) ⊎ (result ≡ OUT_OF_MEMORY) }
+    ensures too_long { (input : List ℕ) →
+        IsFaultless (map string_bytes words.now.items) (S.left source.old) input
+        (S.faults source.old) (S.faults source.new) (K.faults sink.old) (K.faults sink.new) →
+        IsTooLong input → (result ≡ TOO_LONG) ⊎ (result ≡ OUT_OF_MEMORY) }
+    ensures usage { ¬ IsRun (map string_bytes words.now.items) →
+        ¬ Rose (K.faults sink.old) (K.faults sink.new) →
+        (result ≡ USAGE) ⊎ (result ≡ OUT_OF_MEMORY) }
 {
     match answer_words(alloc, words, source) {
         Ok(answer) => match write_whole(sink, answer.text.as_slice()) {
@@ -154,6 +166,7 @@ fn answer_steps(alloc: Global, steps: &[Step]) -> Result<Answer, OutOfMemory>
     ensures status { IfOk result (λ a. a.status ≡ DONE) }
     ensures text { IfOk result (λ a. (replies : List Reply) × (state : State)
         × (play [] start steps.now ≡ Ends replies state)
+        × IsKept steps.now replies state
         × (a.text ≡ transcript_text replies (received state))) }
 {
     match run(alloc, steps) {

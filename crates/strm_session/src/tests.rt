@@ -37,7 +37,12 @@ fn good_lines(rt: HostRuntime) -> Result<(), Fail> {
         "guest 4294967295",
         "pair 0 1 stream:u8\n",
         "write 0 stream:u8 1 4294967295 268435455\n",
-        "read 0 stream:u8 0 0 1\n",
+        "write 0 stream:u8 1 0 268435456\n",
+        "read 0 stream:u8 0 0 0\n",
+        "read 0 stream:u8 1 0 4294967295\n",
+        "event 0 1\nevent 4294967295 4294967295",
+        "drop-write 0 stream:u8 1\n",
+        "drop-read 0 stream:u8 4294967295\n",
         "poke 0 0 00\n",
         "dump 0 0 1\ndump 0 0 64\n",
     ];
@@ -68,9 +73,15 @@ fn bad_lines(rt: HostRuntime) -> Result<(), Fail> {
         "pair 0 1 stream:u16",
         "pair 0 1 future:u8",
         "pair 0 1 Stream:u8",
-        "write 0 stream:u8 1 0 0",
-        "write 0 stream:u8 1 0 268435456",
+        "write 0 stream:u8 1 0 4294967296",
         "read 0 stream:u8 1 0",
+        "event 0",
+        "event 0 1 2",
+        "event 0 stream:u8 1",
+        "drop-write 0 1",
+        "drop-write 0 stream:u8 1 0",
+        "drop-read 0 stream:u16 1",
+        "drop 0 stream:u8 1",
         "poke 0 0 ",
         "poke 0 0 0",
         "poke 0 0 0A",
@@ -225,7 +236,7 @@ fn a_sink_in_pieces(rt: HostRuntime) -> Result<(), Fail> {
 }
 
 // The status and the text for words and an input, where the calls of these numbers fail.
-fn served(
+pub(crate) fn served(
     alloc: Global,
     words: &[&str],
     input: &[u8],

@@ -87,6 +87,8 @@ fn push_reply(out: &mut TextBytes, reply: &Reply) -> Result<(), OutOfMemory>
         Reply::Number(number) => push_number(out, *number),
         Reply::Pair(pair) => push_pair(out, pair),
         Reply::Code(code) => out.push_slice(&hex_word(code.encode())),
+        Reply::Event(Some(code)) => out.push_slice(&hex_word(code.encode())),
+        Reply::Event(None) => out.push_slice(b"none"),
         Reply::Bytes(bytes) => push_hex(out, bytes.as_slice()),
         Reply::Refused(refusal) => {
             out.push_slice(b"refused ")?;

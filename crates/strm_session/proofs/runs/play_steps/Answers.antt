@@ -1,5 +1,8 @@
 use Rattle.std.proofs.Common.{rules, subst, [], Err, take, sym, ap, ◌∙◌, arith}
-use Rattle.std.proofs.lemmas.List.{take_all, append-nil}
+use Rattle.std.specs.Prelude.{All}
+use Rattle.std.proofs.lemmas.List.{take_all, take_more, append-nil}
+use Rattle.std.proofs.lemmas.List.Elements.{All-push}
+use Rattle.strm_laws.specs.Laws.{HasBytes}
 use Rattle.strm_machine.specs.State.{State}
 use Rattle.strm_machine.specs.Plays.{play}
 use Rattle.strm_session.specs.Runs.{start}
@@ -32,4 +35,10 @@ loop-step-preserved c = record {
       subst (λ (s : State). AreCalm s.streams) (sym c.in_default.ensures.next)
       (react-calm c.loop-step.store _ c.loop-step.invariant.running plain (c.loop-step.invariant.calm h)).calm;
   count = search rules;
+  bytes = subst (All HasBytes) (sym (take_more c.args.steps.now c.loop-step.step-index _ c.loop-step-test.true))
+      (All-push HasBytes (take c.loop-step.step-index c.args.steps.now) _ c.loop-step.invariant.bytes (subst HasBytes c.step-item.is c.sound.ensures));
 }
+
+pub returns-clause-bytes : goal.returns-clause-bytes
+returns-clause-bytes c =
+    subst (All HasBytes) (take_all c.loop-step.step-index c.args.steps.now (omega (arith, c.loop-step-test.false))) c.loop-step.invariant.bytes

@@ -2,6 +2,7 @@ use Rattle.std.proofs.Common.{◌≡◌, ◌++◌, List, [], false, length, take
 use Rattle.strm_machine.specs.Plays.{play}
 use Rattle.strm_machine.specs.declared.steps.Step.{Step}
 use Rattle.std.specs.Prelude.{All}
+use Rattle.strm_laws.specs.Laws.{HasBytes}
 use Rattle.strm_session.specs.Plain.{IsPlain}
 use Rattle.strm_session.proofs.CalmLemmas.{AreCalm}
 use Rattle.strm_session.specs.Runs.{start}
@@ -13,4 +14,5 @@ invariant-loop-step l = record {
   running : l.store.trapped ≡ false;
   calm : All IsPlain l.steps → AreCalm l.store.streams;
   count : length l.replies ≡ l.step-index;
+  bytes : All HasBytes (take l.step-index l.steps);
 }

@@ -1,7 +1,19 @@
 use Rattle.std.proofs.Common.{inl}
-use Rattle.strm_session.proofs.ServingLemmas.{told_done}
+use Rattle.strm_session.proofs.ServingLemmas.{told_done, told_bad_line, told_too_long, told_usage}
 use Rattle.strm_session.proofs.serving.serve.Goals as goal
 
 pub returns-in-Ok-write_whole-clause-complete : goal.returns-in-Ok-write_whole-clause-complete
-returns-in-Ok-write_whole-clause-complete g c = λ input steps r e s long rose _.
-    inl (told_done _ (g.S.Source.left c.args.source.now) _ _ c.in-Ok.answer.status c.in-Ok.answer.text input steps c.in-Ok.ensures.told r e s long rose)
+returns-in-Ok-write_whole-clause-complete g c = λ input steps f s long.
+    inl (told_done _ (g.S.Source.left c.args.source.now) _ _ c.in-Ok.answer.status c.in-Ok.answer.text input steps c.in-Ok.ensures.told f.run f.input_is f.source s long)
+
+pub returns-in-Ok-write_whole-clause-bad_line : goal.returns-in-Ok-write_whole-clause-bad_line
+returns-in-Ok-write_whole-clause-bad_line g c = λ input line f bad long.
+    inl (told_bad_line _ (g.S.Source.left c.args.source.now) _ _ c.in-Ok.answer.status c.in-Ok.answer.text input line c.in-Ok.ensures.told f.run f.input_is f.source bad long)
+
+pub returns-in-Ok-write_whole-clause-too_long : goal.returns-in-Ok-write_whole-clause-too_long
+returns-in-Ok-write_whole-clause-too_long g c = λ input f long.
+    inl (told_too_long _ (g.S.Source.left c.args.source.now) _ _ c.in-Ok.answer.status c.in-Ok.answer.text input c.in-Ok.ensures.told f.run f.input_is f.source long)
+
+pub returns-in-Ok-write_whole-clause-usage : goal.returns-in-Ok-write_whole-clause-usage
+returns-in-Ok-write_whole-clause-usage g c = λ r _.
+    inl (told_usage _ (g.S.Source.left c.args.source.now) _ _ c.in-Ok.answer.status c.in-Ok.answer.text c.in-Ok.ensures.told r)

@@ -1,0 +1,27 @@
+-- What the laws of every run say of one that came to its end.
+use Rattle.std.proofs.Common.{◌≡◌, ◌≤◌, List, [], length, sym, subst}
+use Rattle.std.specs.Prelude.{All}
+use Rattle.strm_machine.specs.State.{State}
+use Rattle.strm_machine.specs.Plays.{play, Ends}
+use Rattle.strm_machine.specs.declared.steps.Step.{Step}
+use Rattle.strm_machine.specs.declared.replies.Reply.{Reply}
+use Rattle.strm_laws.specs.Conservation.{moments, last, replies_of}
+use Rattle.strm_laws.specs.Laws.{HasBytes, AreSteps}
+use Rattle.strm_laws.proofs.Running.{play-ends}
+use Rattle.strm_laws.proofs.EveryRun as laws
+use Rattle.strm_laws.proofs.Steps.{reacts}
+use Rattle.strm_session.specs.Runs.{start, IsKept}
+
+last_kept : (steps : List Step) (replies : List Reply) → AreSteps steps → replies ≡ replies_of (moments start steps) → IsKept steps replies (last start steps)
+last_kept steps replies a e = record {
+  told = e;
+  conserves = λ s. laws.conserves reacts 0 _ steps s a;
+  stands = λ s. laws.stands reacts 0 _ steps s a;
+  apart = λ s. laws.apart reacts 0 _ steps s a;
+  counted = λ s. laws.counted reacts 0 _ steps s a;
+}
+
+pub run_kept : (steps : List Step) (replies : List Reply) (state : State) → length steps ≤ 4294967295 → All HasBytes steps → play [] start steps ≡ Ends replies state → IsKept steps replies state
+run_kept steps replies state few bytes e =
+    let p = play-ends [] start steps replies state e in
+    subst (IsKept steps replies) (sym p.0) (last_kept steps replies (record { few = few; bytes = bytes }) p.1)
