@@ -9,13 +9,13 @@ use Rattle.strm_codes.specs.declared.codes.TransmitIndex.{TransmitIndex}
 use Rattle.strm_codes.specs.declared.codes.TransmitIndex.TheVariants as index
 use Rattle.strm_codes.specs.declared.payloads.Payload.{Payload}
 use Rattle.strm_codes.specs.declared.refusals.Refusal.{Refusal}
-use Rattle.strm_handles.specs.Handles.{Handles, no_handles, entry_at, next_index, inserted, removed, IsSound}
+use Rattle.strm_handles.specs.Handles.{Handles, no_handles, entry_at, next_index, inserted, removed, IsTable}
 use Rattle.strm_handles.specs.Lookups.{◌>>=◌, stream_in, future_in, end_rep_in, end_rep_of}
 use Rattle.strm_handles.specs.declared.entries.Entry.{Entry}
 use Rattle.strm_handles.specs.declared.entries.Entry.TheVariants as entries
 use Rattle.strm_handles.specs.declared.entries.TransmitEnd.{TransmitEnd}
 use Rattle.strm_handles.specs.declared.errors.HandleError.TheVariants as errors
-use Rattle.strm_handles.proofs.HandleLemmas.{IsSound-no_handles, IsSound-inserted, IsSound-removed, entry_at-next_index, entry_at-inserted-same, entry_at-inserted-other, entry_at-removed-same, entry_at-removed-other}
+use Rattle.strm_handles.proofs.HandleLemmas.{IsTable-no_handles, IsTable-inserted, IsTable-removed, entry_at-next_index, entry_at-inserted-same, entry_at-inserted-other, entry_at-removed-same, entry_at-removed-other}
 use Rattle.strm_machine.specs.State.{State, Guest, no_stream, guest_in, with_handles, idle_end, empty, stream_at}
 use Rattle.strm_machine.specs.Sides.{end_of, same_side}
 use Rattle.strm_machine.specs.Meetings.{begun}
@@ -47,7 +47,7 @@ names_in guests g handle = end_rep_of (guest_in guests g).handles handle
 
 -- each table is sound, so that a number given next stood for nothing; and handles and ends agree
 pub record IsHeld (guests : List Guest) (streams : List Stream) : Type 0 where
-  pub tables : (g : ℕ) → IsSound (guest_in guests g).handles
+  pub tables : (g : ℕ) → IsTable (guest_in guests g).handles
   pub agree : Agree (names_in guests) (owner_in streams)
 
 abbrev pub StateIsHeld : State → Type 0
@@ -58,7 +58,7 @@ StateIsHeld state = IsHeld state.guests state.streams
 -- handles and owners are as they were
 IsHeld-same : (guests others : List Guest) (streams more : List Stream) → ((g : ℕ) → (guest_in others g).handles ≡ (guest_in guests g).handles) → ((s : ℕ) (side : Side) → owner_in more s side ≡ owner_in streams s side) → IsHeld guests streams → IsHeld others more
 IsHeld-same guests others streams more e f h = record {
-  tables = λ g. subst (λ k. IsSound k) (sym (e g)) (h.tables g);
+  tables = λ g. subst (λ k. IsTable k) (sym (e g)) (h.tables g);
   agree = Agree-same (names_in guests) (names_in others) (owner_in streams) (owner_in more) h.agree (λ g handle. ap (λ k. end_rep_of k handle) (e g)) f;
 }
 
@@ -87,9 +87,9 @@ IsHeld-inserted guests streams more g e s side l small is gone owned rest h =
     let old = (guest_in guests g).handles in
     let n = next_index old in
     let new = inserted old e in
-    let sound : IsSound old = h.tables g in
+    let sound : IsTable old = h.tables g in
     record {
-      tables = tables-with guests g new l (IsSound-inserted old e sound small) h.tables;
+      tables = tables-with guests g new l (IsTable-inserted old e sound small) h.tables;
       agree = Agree-more (names_in guests) (names_in (with_handles guests g new)) (owner_in streams) (owner_in more) h.agree g n s side
           (names-with guests g new n l (λ i ne. entry_at-inserted-other old e i ne)) rest
           (λ k other. ap (λ o. is_end k other (end_rep_in o)) (entry_at-next_index old sound))
@@ -111,7 +111,7 @@ IsHeld-removed guests streams more g handle s side l is gone rest h =
     let new = removed old handle in
     let found = entry_there s side (entry_at old handle) is in
     record {
-      tables = tables-with guests g new l (IsSound-removed old handle found.0 found.1 (h.tables g)) h.tables;
+      tables = tables-with guests g new l (IsTable-removed old handle found.0 found.1 (h.tables g)) h.tables;
       agree = Agree-less (names_in guests) (names_in (with_handles guests g new)) (owner_in streams) (owner_in more) h.agree g handle s side
           (names-with guests g new handle l (λ i ne. entry_at-removed-other old handle i ne)) rest is
           (λ k other. ap (is_end k other) (names-here guests g new handle None l (entry_at-removed-same old handle)))
@@ -302,7 +302,7 @@ none_is_held Reading g handle is = cc
 
 empty_held : (tag : ℕ) (limits : Limits) → StateIsHeld (empty tag limits)
 empty_held tag limits = record {
-  tables = λ g. IsSound-no_handles;
+  tables = λ g. IsTable-no_handles;
   agree = record {
     named = λ g handle s side is. absurd (no_handle_names handle s side is);
     held = λ g handle s side is. absurd (none_is_held side g handle is);
