@@ -1,11 +1,10 @@
 -- What a future keeps: its operations are of one item, which has moved just where they have met, and
 -- it passes one item.
-use Rattle.std.proofs.Common.{◌≡◌, ℕ, ◌+◌, ◌-◌, ◌≤◌, Bool, true, false, Option, None, Some, refl, sym, subst, arith}
+use Rattle.std.proofs.Common.{◌≡◌, ℕ, ◌+◌, ◌-◌, ◌≤◌, Bool, true, false, Option, None, Some, refl, sym, subst, ⊎_elim, arith}
 use Rattle.std.specs.Prelude.{if◌then◌else◌, ◌||◌}
 use Rattle.std.proofs.lemmas.Bool.{le-ltb}
 use Rattle.strm_codes.specs.Codes.{completed_code}
 use Rattle.strm_codes.specs.Types.{kind_of}
-use Rattle.strm_codes.specs.declared.codes.ReturnCode.{ReturnCode}
 use Rattle.strm_codes.specs.declared.codes.ReturnCode.TheVariants as codes
 use Rattle.strm_codes.specs.declared.codes.StreamResult.TheVariants.{Completed}
 use Rattle.strm_codes.specs.declared.codes.TransmitIndex.{TransmitIndex}
@@ -13,18 +12,18 @@ use Rattle.strm_codes.specs.declared.codes.TransmitIndex.TheVariants as index
 use Rattle.strm_codes.specs.declared.codes.TransmitKind.{TransmitKind}
 use Rattle.strm_codes.specs.declared.codes.TransmitKind.TheVariants.{Stream as AStream, Future}
 use Rattle.strm_codes.specs.declared.payloads.Payload.{Payload}
-use Rattle.strm_events.specs.Reports.{left_pending}
-use Rattle.strm_machine.specs.Sides.{opposite, end_of}
+use Rattle.strm_machine.specs.Sides.{opposite, end_of, with_end}
 use Rattle.strm_machine.specs.Meetings.{begun, advanced}
 use Rattle.strm_machine.specs.Turns.{is_future}
 use Rattle.strm_machine.specs.Tests.{items_asked, has_ended}
-use Rattle.strm_machine.specs.Endings.{report_on, delivered, dropped}
 use Rattle.strm_machine.specs.declared.streams.Side.{Side}
 use Rattle.strm_machine.specs.declared.streams.Side.TheVariants.{Writing, Reading}
 use Rattle.strm_machine.specs.declared.streams.Operation.{Operation}
 use Rattle.strm_machine.specs.declared.streams.Stream.{Stream}
+use Rattle.strm_machine.specs.declared.streams.End.{End}
+use Rattle.strm_machine.proofs.EndLemmas.{IsLeft}
 use Rattle.strm_machine.proofs.RefusalLemmas.{neither}
-use Rattle.strm_laws.specs.Conservation.{count_reported}
+use Rattle.strm_machine.specs.Moments.{count_reported}
 
 -- ## Operations of one item
 
@@ -128,18 +127,11 @@ pub count_reported-dropped : (kind : TransmitKind) → count_reported kind (code
 count_reported-dropped AStream = refl
 count_reported-dropped Future = refl
 
--- ## Events and drops
+-- ## A stream with another end
 
-left_one : (code : Option ReturnCode) (o : Option Operation) → AreOne o → AreOne (left_pending code o)
-left_one None o h = h
-left_one (Some code) o h = tt
+left_one : (o q : Option Operation) → IsLeft o q → AreOne o → AreOne q
+left_one o q left h = ⊎_elim (λ e. subst AreOne (sym e) h) (λ e. none_one q e) left
 
-pub IsSingle-delivered : (side : Side) (stream : Stream) → IsSingle stream → IsSingle (delivered side stream)
-unfolding delivered
-IsSingle-delivered Writing stream h k = let p = h k in record { writing = left_one (report_on Writing stream) stream.writer.operation p.writing; reading = p.reading; count = p.count }
-IsSingle-delivered Reading stream h k = let p = h k in record { writing = p.writing; reading = left_one (report_on Reading stream) stream.reader.operation p.reading; count = p.count }
-
-pub IsSingle-dropped : (side : Side) (stream : Stream) → IsSingle stream → IsSingle (dropped side stream)
-unfolding dropped
-IsSingle-dropped Writing stream h k = let p = h k in record { writing = p.writing; reading = p.reading; count = p.count }
-IsSingle-dropped Reading stream h k = let p = h k in record { writing = p.writing; reading = p.reading; count = p.count }
+pub IsSingle-with_end : (side : Side) (stream : Stream) (e : End) → IsLeft (end_of side stream).operation e.operation → IsSingle stream → IsSingle (with_end side stream e)
+IsSingle-with_end Writing stream e left h k = let p = h k in record { writing = left_one stream.writer.operation e.operation left p.writing; reading = p.reading; count = p.count }
+IsSingle-with_end Reading stream e left h k = let p = h k in record { writing = p.writing; reading = left_one stream.reader.operation e.operation left p.reading; count = p.count }

@@ -14,7 +14,7 @@ use Rattle.strm_codes.specs.declared.payloads.Payload.{Payload}
 use Rattle.strm_machine.specs.State.{Guest, is_gone}
 use Rattle.strm_machine.specs.Sides.{opposite, same_side, end_of, with_end, with_operation, write_of, read_of}
 use Rattle.strm_machine.specs.Meetings.{advanced, carried}
-use Rattle.strm_machine.specs.Turns.{Turn, answers, waits, with_received, moves, completes_alone, meets_by, meets, finds, turn}
+use Rattle.strm_machine.specs.Turns.{Turn, answers, waits, with_received, moves, completes_alone, rendezvous_by, rendezvous, finds, turn}
 use Rattle.strm_machine.specs.Soundness.{sizes_of, IsPlaced, OperationIsPlaced}
 use Rattle.strm_machine.specs.declared.streams.Side.{Side}
 use Rattle.strm_machine.specs.declared.streams.Side.TheVariants.{Writing, Reading}
@@ -22,12 +22,12 @@ use Rattle.strm_machine.specs.declared.streams.Operation.{Operation}
 use Rattle.strm_machine.specs.declared.streams.Stream.{Stream}
 use Rattle.strm_machine.specs.declared.streams.Meeting.{Meeting}
 use Rattle.strm_machine.proofs.SideLemmas.{read_of-placed}
-use Rattle.strm_laws.specs.Conservation.{Call, Place, as_report, count_reported, k_of, place_of, items_in}
-use Rattle.strm_laws.specs.Laws.{both_open, is_opened}
-use Rattle.strm_laws.proofs.Changes.{Scene, Change, ByRest, ByGoing, ByOpening, ByServing}
-use Rattle.strm_laws.proofs.Ends.{each_side, apart_by, write_mine, write_theirs, read_fits, write_none, read_none, IsTurned, turned_not, turned_end, turned_both, turned_moves}
-use Rattle.strm_laws.proofs.Singles.{AreOne, IsOne-advanced, one_at, none_one, IsSingle, one_on, PassesOne-by, count_passed, Begins, count_reported-completed, count_reported-dropped}
-use Rattle.strm_laws.proofs.Copying.{AreBytes, decoded-zero, carried_arrives}
+use Rattle.strm_machine.specs.Moments.{Call, Place, as_report, count_reported, k_of, place_of, items_in}
+use Rattle.strm_machine.specs.Soundness.{both_open, is_opened}
+use Rattle.strm_machine.proofs.Changes.{Scene, Change, ByRest, ByGoing, ByOpening, ByServing}
+use Rattle.strm_machine.proofs.EndLemmas.{each_side, apart_by, write_mine, write_theirs, read_fits, write_none, read_none, IsTurned, turned_not, turned_end, turned_both, turned_moves}
+use Rattle.strm_machine.proofs.FutureLemmas.{AreOne, IsOne-advanced, one_at, none_one, IsSingle, one_on, PassesOne-by, count_passed, Begins, count_reported-completed, count_reported-dropped}
+use Rattle.strm_machine.proofs.ArrivalLemmas.{AreBytes, decoded-zero, carried_arrives}
 
 -- ## What is seen
 
@@ -310,12 +310,12 @@ module _ (side : Side) (guests : List Guest) (stream : Stream) (mine : Operation
       (λ e. answered (completed_code stream.kind 0) stream (turned_not side stream None idle) (count_reported-completed stream.kind 0 (λ k. omega (arith, none.0 e, (begins k).left))) (report-completed stream.kind 0))
       (λ e. waits_met theirs is (none.1 e) left)
 
-  meet : (theirs : Operation) → found ≡ Some theirs → IsPlaced (sizes_of guests) stream.payload theirs → theirs.is_open ≡ true → DoesBy side guests stream mine (meets side guests stream mine theirs) (meets side guests stream mine theirs).code
+  meet : (theirs : Operation) → found ≡ Some theirs → IsPlaced (sizes_of guests) stream.payload theirs → theirs.is_open ≡ true → DoesBy side guests stream mine (rendezvous side guests stream mine theirs) (rendezvous side guests stream mine theirs).code
   meet theirs is held ready =
       let write = write_of side mine theirs in
       let read = read_of side mine theirs in
       let left : stream.kind ≡ Future → theirs.left ≡ 1 = λ k. (one_at found theirs is (one_on (opposite side) stream (single k))).ready ready in
-      let P : Meeting → Type 0 = λ m. DoesBy side guests stream mine (meets_by m side guests stream mine theirs) (meets_by m side guests stream mine theirs).code in
+      let P : Meeting → Type 0 = λ m. DoesBy side guests stream mine (rendezvous_by m side guests stream mine theirs) (rendezvous_by m side guests stream mine theirs).code in
       cond_both (write.left == 0) _ _ P
       (λ e. alone Writing theirs is left (write_none mine theirs side (eqb-true write.left 0 e)))
       (λ e. cond_both (read.left == 0) _ _ P

@@ -4,14 +4,14 @@ use Rattle.std.proofs.Math.Seq.{map-set_same}
 use Rattle.std.proofs.Math.ListN.{get_or-map}
 use Rattle.std.proofs.lemmas.Bool.{cases_eq}
 use Rattle.std.proofs.lemmas.List.{get_or-set_same, get_or-set_other}
-use Rattle.strm_handles.specs.Handles.{Handles, no_handles, IsSound}
+use Rattle.strm_handles.specs.Handles.{Handles, no_handles, IsSound as IsTable}
 use Rattle.strm_machine.specs.State.{Guest, no_guest, no_stream, guest_in, with_handles}
 use Rattle.strm_machine.specs.Sides.{end_of}
 use Rattle.strm_machine.specs.Soundness.{handles_of}
 use Rattle.strm_machine.specs.declared.streams.Owner.{Owner}
 use Rattle.strm_machine.specs.declared.streams.Side.{Side}
 use Rattle.strm_machine.specs.declared.streams.Stream.{Stream}
-use Rattle.strm_laws.proofs.Owning.{OwnersStay, owner_stays}
+use Rattle.strm_machine.proofs.OwnerLemmas.{OwnersStay, owner_stays}
 
 -- ## Guests
 
@@ -34,7 +34,7 @@ module _ (guests : List Guest) (g : ℕ) (handles : Handles) where
   handles-with_other k ne = ap (λ (h : Guest). h.handles) (get_or-set_other guests g k (record (guest_in guests g) { handles = handles }) no_guest ne)
 
   -- a sound table in place of one leaves all sound
-  pub tables-with : g < length guests → IsSound handles → ((k : ℕ) → IsSound (guest_in guests k).handles) → (k : ℕ) → IsSound (guest_in (with_handles guests g handles) k).handles
+  pub tables-with : g < length guests → IsTable handles → ((k : ℕ) → IsTable (guest_in guests k).handles) → (k : ℕ) → IsTable (guest_in (with_handles guests g handles) k).handles
   tables-with l sound all k =
       ⊎_elim
       (λ e. let same : (guest_in (with_handles guests g handles) k).handles ≡ handles = ap (λ i. (guest_in (with_handles guests g handles) i).handles) e ∙ handles-with_same l in rw same sound)
