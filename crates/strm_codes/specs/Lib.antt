@@ -3,6 +3,7 @@ pub mod Scalars
 pub mod Layout
 pub mod Sameness
 pub mod Items
+pub mod Counts
 pub mod Codes
 pub mod Types
 pub mod Refusals

@@ -2,7 +2,7 @@
 use Rattle.std.proofs.Common.{◌≡◌, ℕ, zero, suc, true, List, [], ◌∷◌}
 use Rattle.strm_handles.specs.Handles.{no_handles}
 use Rattle.strm_handles.specs.Lookups.{end_rep_of}
-use Rattle.strm_handles.proofs.HandleLemmas.{IsSound-no_handles}
+use Rattle.strm_handles.proofs.HandleLemmas.{IsTable-no_handles}
 use Rattle.strm_machine.specs.Acts.{act_of}
 use Rattle.strm_machine.specs.State.{State, no_stream, empty}
 use Rattle.strm_machine.specs.Sides.{end_of}
@@ -37,7 +37,7 @@ none_is_held Reading g handle is = cc
 
 empty_held : (tag : ℕ) (limits : Limits) → StateIsHeld (empty tag limits)
 empty_held tag limits = record {
-  tables = λ g. IsSound-no_handles;
+  tables = λ g. IsTable-no_handles;
   agree = record {
     named = λ g handle s side is. absurd (no_handle_names handle s side is);
     held = λ g handle s side is. absurd (none_is_held side g handle is);

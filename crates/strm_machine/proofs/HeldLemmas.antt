@@ -6,10 +6,10 @@ use Rattle.std.proofs.lemmas.List.{get_or-set_same, get_or_push, get_or_past}
 use Rattle.strm_codes.specs.declared.codes.ReturnCode.{ReturnCode}
 use Rattle.strm_codes.specs.declared.codes.TransmitIndex.{TransmitIndex}
 use Rattle.strm_codes.specs.declared.codes.TransmitIndex.TheVariants as index
-use Rattle.strm_handles.specs.Handles.{Handles, entry_at, next_index, inserted, removed, IsSound as IsTable}
+use Rattle.strm_handles.specs.Handles.{Handles, entry_at, next_index, inserted, removed, IsTable}
 use Rattle.strm_handles.specs.Lookups.{end_rep_in, end_rep_of}
 use Rattle.strm_handles.specs.declared.entries.Entry.{Entry}
-use Rattle.strm_handles.proofs.HandleLemmas.{IsSound-inserted, IsSound-removed, entry_at-next_index, entry_at-inserted-same, entry_at-inserted-other, entry_at-removed-same, entry_at-removed-other}
+use Rattle.strm_handles.proofs.HandleLemmas.{IsTable-inserted, IsTable-removed, entry_at-next_index, entry_at-inserted-same, entry_at-inserted-other, entry_at-removed-same, entry_at-removed-other}
 use Rattle.strm_machine.specs.State.{State, Guest, no_stream, guest_in, with_handles, idle_end, stream_at}
 use Rattle.strm_machine.specs.Sides.{end_of, with_end}
 use Rattle.strm_machine.specs.Turns.{Turn}
@@ -82,7 +82,7 @@ IsHeld-inserted guests streams more g e s side l small is gone owned rest h =
     let new = inserted old e in
     let sound : IsTable old = h.tables g in
     record {
-      tables = tables-with guests g new l (IsSound-inserted old e sound small) h.tables;
+      tables = tables-with guests g new l (IsTable-inserted old e sound small) h.tables;
       agree = Agree-more (names_in guests) (names_in (with_handles guests g new)) (owner_in streams) (owner_in more) h.agree g n s side
           (names-with guests g new n l (λ i ne. entry_at-inserted-other old e i ne)) rest
           (λ k other. ap (λ o. is_end k other (end_rep_in o)) (entry_at-next_index old sound))
@@ -104,7 +104,7 @@ IsHeld-removed guests streams more g handle s side l is gone rest h =
     let new = removed old handle in
     let found = entry_there s side (entry_at old handle) is in
     record {
-      tables = tables-with guests g new l (IsSound-removed old handle found.0 found.1 (h.tables g)) h.tables;
+      tables = tables-with guests g new l (IsTable-removed old handle found.0 found.1 (h.tables g)) h.tables;
       agree = Agree-less (names_in guests) (names_in (with_handles guests g new)) (owner_in streams) (owner_in more) h.agree g handle s side
           (names-with guests g new handle l (λ i ne. entry_at-removed-other old handle i ne)) rest is
           (λ k other. ap (is_end k other) (names-here guests g new handle None l (entry_at-removed-same old handle)))

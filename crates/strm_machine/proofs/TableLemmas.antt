@@ -4,7 +4,7 @@ use Rattle.std.proofs.Math.Seq.{map-set_same}
 use Rattle.std.proofs.Math.ListN.{get_or-map}
 use Rattle.std.proofs.lemmas.Bool.{cases_eq}
 use Rattle.std.proofs.lemmas.List.{get_or-set_same, get_or-set_other}
-use Rattle.strm_handles.specs.Handles.{Handles, no_handles, IsSound as IsTable}
+use Rattle.strm_handles.specs.Handles.{Handles, no_handles, IsTable}
 use Rattle.strm_machine.specs.State.{Guest, no_guest, no_stream, guest_in, with_handles}
 use Rattle.strm_machine.specs.Sides.{end_of}
 use Rattle.strm_machine.specs.Soundness.{handles_of}
