@@ -16,7 +16,7 @@ use Rattle.strm_machine.specs.declared.limits.Limits.{Limits}
 use Rattle.strm_machine.specs.declared.streams.Side.{Side}
 use Rattle.strm_machine.specs.declared.streams.Side.TheVariants.{Writing, Reading}
 use Rattle.strm_machine.specs.declared.steps.Step.{Step}
-use Rattle.strm_machine.proofs.FutureLemmas.{received_one}
+use Rattle.strm_machine.proofs.TallyLemmas.{received_one}
 use Rattle.strm_machine.proofs.Lawful.{Reacts}
 use Rattle.strm_machine.proofs.MomentLemmas.{unnamed}
 use Rattle.strm_machine.proofs.NamedEndLemmas.{names-unmade}
@@ -130,4 +130,4 @@ module _ (tag : ℕ) (limits : Limits) (run : List Step) (s : ℕ) (a : AreSteps
 
   -- a future passes at most one item
   pub one : (stream_at (last (empty tag limits) run) s).kind ≡ Future → length (got s (moments (empty tag limits) run)) ≤ 1
-  one k = omega (arith, conserves.count, received_one (stream_at (last (empty tag limits) run) s) ((lawful tag limits run a).single s k))
+  one k = omega (arith, conserves.count, received_one (stream_at (last (empty tag limits) run) s) (((lawful tag limits run a).tallies s).one k))

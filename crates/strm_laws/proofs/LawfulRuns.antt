@@ -49,7 +49,7 @@ IsLawful-empty tag limits = record {
   sound = record { named = All-nil (AreNamed []); placed = All-nil (StreamIsPlaced []); small = omega arith };
   bytes = All-nil _;
   apart = λ s. refl;
-  single = λ s k. cc;
+  tallies = λ s. record { writing = tt; reading = tt; one = λ k. cc };
 }
 
 pub IsReady-empty : (tag : ℕ) (limits : Limits) (run : List Step) → AreSteps run → IsReady (empty tag limits) run

@@ -21,7 +21,7 @@ use Rattle.strm_machine.specs.declared.streams.End.{End}
 use Rattle.strm_machine.specs.declared.streams.Stream.{Stream}
 use Rattle.strm_machine.proofs.EndLemmas.{IsLeft}
 use Rattle.strm_machine.proofs.SoundLemmas.{left_told}
-use Rattle.strm_machine.proofs.FutureLemmas.{AreOne, IsSingle, one_on, count_reported-dropped}
+use Rattle.strm_machine.proofs.TallyLemmas.{AreOne, Tallies, one_on, count_reported-dropped}
 
 -- ## What is known of an end that becomes another
 
@@ -37,7 +37,7 @@ IsTold kind report (Some o) (Some q) = (report ≡ None) × (q ≡ o)
 -- gone
 pub record Becomes (side : Side) (stream : Stream) (e : End) (code : Option ReturnCode) (frees : Bool) : Type 0 where
   pub left : IsLeft (end_of side stream).operation e.operation
-  pub told : IsSingle stream → IsTold stream.kind (as_report code) (end_of side stream).operation e.operation
+  pub told : Tallies stream → IsTold stream.kind (as_report code) (end_of side stream).operation e.operation
   pub owner : e.owner ≡ (if frees then Gone else (end_of side stream).owner)
 
 -- ## An end is told its report
@@ -68,7 +68,7 @@ report_told Future (Some o) gone told passed one =
 pub told-becomes : (side : Side) (stream : Stream) → Becomes side stream (told_end (report_on side stream) (end_of side stream)) (report_on side stream) false
 told-becomes side stream = record {
   left = left_told (report_on side stream) (end_of side stream).operation;
-  told = λ single. report_told stream.kind (end_of side stream).operation (is_other_gone side stream) (end_of side stream).told stream.passed (λ k. one_on side stream (single k));
+  told = λ tallies. report_told stream.kind (end_of side stream).operation (is_other_gone side stream) (end_of side stream).told stream.passed (λ k. one_on side stream (tallies.one k));
   owner = refl;
 }
 
@@ -81,6 +81,6 @@ idle_told kind (Some o) e = cc
 pub gone-becomes : (side : Side) (stream : Stream) → is_busy side stream ≡ false → Becomes side stream (record (end_of side stream) { owner = Gone }) None true
 gone-becomes side stream e = record {
   left = inl refl;
-  told = λ single. idle_told stream.kind (end_of side stream).operation e;
+  told = λ tallies. idle_told stream.kind (end_of side stream).operation e;
   owner = refl;
 }

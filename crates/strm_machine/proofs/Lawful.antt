@@ -10,7 +10,7 @@ use Rattle.strm_machine.specs.declared.acts.Act.{Act}
 use Rattle.strm_machine.specs.Moments.{Moment, received, got_in}
 use Rattle.strm_machine.specs.Soundness.{both_open}
 use Rattle.strm_machine.proofs.Changes.{scene, Change}
-use Rattle.strm_machine.proofs.FutureLemmas.{IsSingle}
+use Rattle.strm_machine.proofs.TallyLemmas.{Tallies}
 
 -- what the laws need of a state: what it keeps by itself, memories of bytes, no two open sides, and
 -- futures that pass one item
@@ -18,7 +18,7 @@ pub record IsLawful (state : State) : Type 0 where
   pub sound : IsSound state
   pub bytes : All (λ g. IsBytes g.memory) state.guests
   pub apart : (s : ℕ) → both_open (stream_at state s) ≡ false
-  pub single : (s : ℕ) → IsSingle (stream_at state s)
+  pub tallies : (s : ℕ) → Tallies (stream_at state s)
 
 -- a count that has room for the items of one more step
 abbrev pub HasRoom : State → Type 0

@@ -39,7 +39,7 @@ use Rattle.strm_machine.proofs.ArrivalLemmas.{AreBytes, memory_bytes, AreBytes-w
 use Rattle.strm_machine.proofs.NamedEndLemmas.{IsFound, named_itself}
 use Rattle.strm_machine.proofs.EndLemmas.{each_side, same_side-opposite, IsReplaced, with_end-replaces, with_end-apart}
 use Rattle.strm_machine.proofs.EndingLemmas.{IsTold}
-use Rattle.strm_machine.proofs.FutureLemmas.{IsSingle, begins_by, IsSingle-with_end}
+use Rattle.strm_machine.proofs.TallyLemmas.{Tallies, begins_by, Tallies-with_end}
 use Rattle.strm_machine.proofs.MomentLemmas.{Seen, seen_reacts, Untold, unnamed, untold, nothing_got, seen_counted, end_still, seen_same, quiet_reacts, set_reacts}
 use Rattle.strm_machine.proofs.TurnChangeLemmas.{scene_of, Does, Unturned, DoesBy, turn_does, still}
 use Rattle.strm_machine.proofs.Lawful.{IsLawful, HasRoom, as_moment, Reacts}
@@ -85,7 +85,7 @@ answered_reacts state side end address count s t code h found keeps d =
       whole = subst (All IsSome) (sym (ap (λ v. v.got) (same Reading))) d.whole;
       most = subst (λ st. st.received ≤ stream.received + 2 ^ 28) (sym after) d.most;
       apart = ap both_open after ∙ d.apart;
-      single = subst IsSingle (sym after) d.single;
+      tallies = subst Tallies (sym after) d.tallies;
     })
     (IsSound-turn state s t keeps h.sound) d.bytes
 
@@ -112,7 +112,7 @@ operates_reacts state side end address count h room o =
     let begins = begins_by side end.ty stream end.guest address count o.kind o.unended in
     turn_reacts state side end address count s t t.code h o.found
     (operate-keeps state side end address count o)
-    (turn_does side state.guests stream mine h.bytes (room s) refl o.placed (h.single s) begins o.idle (end_placed (opposite side) (sizes_of state.guests) stream o.streams))
+    (turn_does side state.guests stream mine h.bytes (room s) refl o.placed (h.tallies s) begins o.idle (end_placed (opposite side) (sizes_of state.guests) stream o.streams))
 
 -- ## A stream set to another
 
@@ -150,11 +150,11 @@ setting_seen state act reply x h set =
     (each_side (λ other. Change other (scene s other m)) side
     (told_change side (scene s side m) (as_report (code_told reply)) (end_of side stream).operation x.end.operation report
     (none_either (names s side state act) _ (set.untaken (report_in s side m)))
-    (nothing_got s m replaced.count).0 replaced.payload replaced.count refl (ap (λ (e : End). e.operation) replaced.here) (becomes.told (h.single s)))
+    (nothing_got s m replaced.count).0 replaced.payload replaced.count refl (ap (λ (e : End). e.operation) replaced.here) (becomes.told (h.tallies s)))
     (end_still s (opposite side) m untold (record { operation = ap (λ (e : End). e.operation) replaced.other; payload = replaced.payload; kind = replaced.kind; count = replaced.count })))
     replaced.count
     (ap both_open after ∙ with_end-apart side stream x.end becomes.left (h.apart s))
-    (subst IsSingle (sym after) (IsSingle-with_end side stream x.end becomes.left (h.single s)))
+    (subst Tallies (sym after) (Tallies-with_end side stream x.end becomes.left (h.tallies s)))
 
 AreBytes-with_handles : (guests : List Guest) (g : ℕ) (handles : Handles) → AreBytes guests → AreBytes (with_handles guests g handles)
 AreBytes-with_handles guests g handles h = All-set (λ (k : Guest). IsBytes k.memory) guests g (record (guest_in guests g) { handles = handles }) (memory_bytes guests g h) h
@@ -195,7 +195,7 @@ new_seen s m ty writer write reader read u was is =
     }))
     count
     (ap both_open is)
-    (subst IsSingle (sym is) (λ k. record { writing = tt; reading = tt; count = refl }))
+    (subst Tallies (sym is) (record { writing = tt; reading = tt; one = λ k. record { writing = tt; reading = tt; count = refl } }))
   where
     no_operation : (side : Side) → (end_of side no_stream).operation ≡ None
     no_operation Writing = refl
@@ -215,7 +215,7 @@ between_reacts state writer reader ty h =
     seen_reacts state act r
     (λ s. let m = as_moment state act r in
     ⊎_elim
-    (λ same. seen_same s m (λ side. untold s side m refl) same (h.apart s) (h.single s))
+    (λ same. seen_same s m (λ side. untold s side m refl) same (h.apart s) (h.tallies s))
     (λ new. new_seen s m ty writer pair.write reader pair.read (λ side. untold s side m refl) new.0 new.1)
     (made_at state.streams x s))
     (λ s l. record { there = omega (arith, l, length-append state.streams (x ∷ [])); kind = ap (λ (st : Stream). st.kind) (get_or_append_left state.streams (x ∷ []) no_stream s l) })

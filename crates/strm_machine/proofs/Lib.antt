@@ -9,7 +9,7 @@ pub mod ReactionLemmas
 pub mod CarryLemmas
 pub mod Changes
 pub mod EndLemmas
-pub mod FutureLemmas
+pub mod TallyLemmas
 pub mod ArrivalLemmas
 pub mod NamedEndLemmas
 pub mod EndingLemmas

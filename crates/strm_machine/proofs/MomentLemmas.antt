@@ -20,7 +20,7 @@ use Rattle.strm_machine.proofs.ArrivalLemmas.{AreBytes}
 use Rattle.strm_machine.proofs.EndLemmas.{Stays, stays_same}
 use Rattle.strm_machine.proofs.NamedEndLemmas.{NamesEnd}
 use Rattle.strm_machine.proofs.Lawful.{IsLawful, as_moment, StaysMade, Reacts}
-use Rattle.strm_machine.proofs.FutureLemmas.{IsSingle}
+use Rattle.strm_machine.proofs.TallyLemmas.{Tallies}
 use Rattle.strm_machine.proofs.TurnChangeLemmas.{still, none_got, none_whole}
 
 -- what is known of one moment on one stream
@@ -29,7 +29,7 @@ pub record Seen (s : ℕ) (m : Moment) : Type 0 where
   pub whole : All IsSome (got_in s m)
   pub most : received s m.after ≤ received s m.before + 2 ^ 28
   pub apart : both_open (stream_at m.after s) ≡ false
-  pub single : IsSingle (stream_at m.after s)
+  pub tallies : Tallies (stream_at m.after s)
 
 pub seen_reacts : (state : State) (act : Act) (r : Reaction) → ((s : ℕ) → Seen s (as_moment state act r)) → ((s : ℕ) → s < length state.streams → StaysMade s state r.state) → IsSound r.state → AreBytes r.state.guests → Reacts state act r
 seen_reacts state act r seen made sound bytes = record {
@@ -37,7 +37,7 @@ seen_reacts state act r seen made sound bytes = record {
   made = made;
   whole = λ s. (seen s).whole;
   most = λ s. (seen s).most;
-  lawful = record { sound = sound; bytes = bytes; apart = λ s. (seen s).apart; single = λ s. (seen s).single };
+  lawful = record { sound = sound; bytes = bytes; apart = λ s. (seen s).apart; tallies = λ s. (seen s).tallies };
 }
 
 -- nothing is told to this end of stream s, and no call is taken there
@@ -81,22 +81,22 @@ nothing_got s m e = (
 )
 
 -- where the count stays
-pub seen_counted : (s : ℕ) (m : Moment) → ((side : Side) → Change side (scene s side m)) → received s m.after ≡ received s m.before → both_open (stream_at m.after s) ≡ false → IsSingle (stream_at m.after s) → Seen s m
-seen_counted s m change count apart single = record { change = change; whole = (nothing_got s m count).1; most = omega (arith, count); apart = apart; single = single }
+pub seen_counted : (s : ℕ) (m : Moment) → ((side : Side) → Change side (scene s side m)) → received s m.after ≡ received s m.before → both_open (stream_at m.after s) ≡ false → Tallies (stream_at m.after s) → Seen s m
+seen_counted s m change count apart tallies = record { change = change; whole = (nothing_got s m count).1; most = omega (arith, count); apart = apart; tallies = tallies }
 
 -- an end that stays
 pub end_still : (s : ℕ) (side : Side) (m : Moment) → Untold s side m → Stays side (stream_at m.before s) (stream_at m.after s) → Change side (scene s side m)
 end_still s side m u k = still side (scene s side m) u.takes u.reports (nothing_got s m k.count).0 k.payload k.count k.operation
 
-pub seen_same : (s : ℕ) (m : Moment) → ((side : Side) → Untold s side m) → stream_at m.after s ≡ stream_at m.before s → both_open (stream_at m.before s) ≡ false → IsSingle (stream_at m.before s) → Seen s m
-seen_same s m u e apart single =
-    seen_counted s m (λ side. end_still s side m (u side) (stays_same side (stream_at m.before s) (stream_at m.after s) e)) (ap (λ st. st.received) e) (ap both_open e ∙ apart) (subst IsSingle (sym e) single)
+pub seen_same : (s : ℕ) (m : Moment) → ((side : Side) → Untold s side m) → stream_at m.after s ≡ stream_at m.before s → both_open (stream_at m.before s) ≡ false → Tallies (stream_at m.before s) → Seen s m
+seen_same s m u e apart tallies =
+    seen_counted s m (λ side. end_still s side m (u side) (stays_same side (stream_at m.before s) (stream_at m.after s) e)) (ap (λ st. st.received) e) (ap both_open e ∙ apart) (subst Tallies (sym e) tallies)
 
 -- a step that leaves all streams as they are, and tells no code
 pub quiet_reacts : (state : State) (act : Act) (reply : Reply) (after : State) → after.streams ≡ state.streams → code_told reply ≡ None → IsLawful state → IsSound after → AreBytes after.guests → Reacts state act (goes reply after)
 quiet_reacts state act reply after e t h sound bytes =
     seen_reacts state act (goes reply after)
-    (λ s. seen_same s (as_moment state act (goes reply after)) (λ side. untold s side (as_moment state act (goes reply after)) t) (ap (λ xs. get_or xs s no_stream) e) (h.apart s) (h.single s))
+    (λ s. seen_same s (as_moment state act (goes reply after)) (λ side. untold s side (as_moment state act (goes reply after)) t) (ap (λ xs. get_or xs s no_stream) e) (h.apart s) (h.tallies s))
     (λ s l. record { there = subst (λ xs. s < length xs) (sym e) l; kind = ap (λ xs. (get_or xs s no_stream).kind) e })
     sound bytes
 
@@ -120,7 +120,7 @@ set_reacts state act reply guests s side stream named h kind seen sound bytes =
       | inl e ↦ subst (λ j. Seen j (as_moment state act r)) (sym e) seen
       | inr ne ↦ (let other : s == k ≡ false = ne_eqb s k (λ q. ne (sym q)) in
           let quiet : (end : Side) → names k end state act ≡ false = λ end. named k end ∙ ap (λ b. b && same_side side end) other in
-          seen_same k (as_moment state act r) (λ end. unnamed k end (as_moment state act r) (quiet end)) (get_or-set_other state.streams s k stream no_stream ne) (h.apart k) (h.single k))
+          seen_same k (as_moment state act r) (λ end. unnamed k end (as_moment state act r) (quiet end)) (get_or-set_other state.streams s k stream no_stream ne) (h.apart k) (h.tallies k))
     ])
     (λ k l. record { there = omega (arith, l, length-set state.streams s stream); kind = set_kind state.streams s k stream kind l })
     sound bytes
