@@ -21,8 +21,8 @@ use Rattle.strm_machine.specs.declared.replies.Reply.TheVariants as replies
 use Rattle.strm_machine.specs.declared.streams.Owner.TheVariants.{Gone}
 use Rattle.strm_machine.specs.declared.streams.Side.{Side}
 use Rattle.strm_machine.proofs.ReactionLemmas.{reaction-by}
-use Rattle.strm_machine.proofs.RefusalLemmas.{none_of_both, named_ok, region_fits, placed_begun, event_fits, drop_fits, pair_fits, guest_fits, poke_fits}
-use Rattle.strm_machine.proofs.NamedEndLemmas.{end_fits, found_payload, found_kind, on_end-found, event-found}
+use Rattle.strm_machine.proofs.RefusalLemmas.{none_of_both, NamedFits, named_ok, region_fits, placed_begun, event_fits, drop_fits, pair_fits, guest_fits, poke_fits}
+use Rattle.strm_machine.proofs.NamedEndLemmas.{IsFound, end_fits, found_payload, found_kind, on_end-found, event-found}
 use Rattle.strm_machine.proofs.SideLemmas.{same_side_is}
 use Rattle.strm_machine.proofs.SoundLemmas.{placed_at}
 use Rattle.strm_machine.proofs.EndingLemmas.{told-becomes, gone-becomes}
@@ -49,19 +49,18 @@ operate-fits state side end address count h e =
       streams = placed_at state (stream_named name) found.made h;
     }
 
+-- the end that is named, where nothing speaks against its guest, its handle and its side
+named-found : (state : State) (side : Side) (end : NamedEnd) (act : EndAct) → IsSound state → NamedFits state side end → IsFound state (OnEnd side end act) end.guest end.handle (stream_named (named state end)) side
+named-found state side end act h fits = on_end-found state side end act h fits.there (named_ok state end fits.found) (same_side_is side (side_named (named state end)) fits.same)
+
 drop-shape : (state : State) (side : Side) (end : NamedEnd) → IsSound state → first_of (dropping_reasons state side end) ≡ None → Shape state (OnEnd side end Drop) (drops state (stream_named (named state end)) side end)
 unfolding dropped
 drop-shape state side end h e =
-    let name = named state end in
-    let s = stream_named name in
+    let s = stream_named (named state end) in
     let stream = stream_at state s in
     let fits = drop_fits state side end e in
     BySetting replies.Done (record { guest = end.guest; handle = end.handle; stream = s; side = side; end = record (end_of side stream) { owner = Gone }; frees = true }) refl
-    (record {
-      found = on_end-found state side end Drop h fits.there (named_ok state end fits.found) (same_side_is side (side_named name) fits.same);
-      becomes = gone-becomes side stream fits.idle;
-      untaken = λ report. refl;
-    })
+    (record { found = named-found state side end Drop h (record { there = fits.there; found = fits.found; same = fits.same }); becomes = gone-becomes side stream fits.idle; untaken = λ report. refl })
 
 on_end-shape : (state : State) (side : Side) (end : NamedEnd) (act : EndAct) → IsSound state → refusal state (OnEnd side end act) ≡ None → Shape state (OnEnd side end act) (on_end state side end act)
 unfolding refusal
