@@ -21,6 +21,7 @@ use Rattle.strm_handles.specs.declared.entries.TransmitEnd.{TransmitEnd}
 use Rattle.strm_handles.specs.declared.entries.TransmitLocalState.{TransmitLocalState}
 use Rattle.strm_handles.specs.declared.errors.HandleError.{HandleError}
 use Rattle.strm_handles.specs.declared.errors.HandleError.TheVariants as errors
+use Rattle.strm_machine.specs.declared.acts.NamedEnd.{NamedEnd}
 use Rattle.strm_machine.specs.State.{State, guest_in, no_stream, stream_at}
 use Rattle.strm_machine.specs.Tests.{Name, named, end_named, named_by}
 use Rattle.strm_machine.specs.Soundness.{type_with, type_of, types_of, is_idle_state, IsNamed, EntryIsNamed, IsSound}
@@ -67,19 +68,22 @@ future_names types p (Some (entries.ErrorContext rep)) h = tt
 future_names types p (Some (entries.Subtask rep is_host)) h = tt
 future_names types p (Some (entries.WaitableSet rep)) h = tt
 
-named-names : (state : State) (g : ℕ) (ty : TransmitIndex) (handle : ℕ) → IsSound state → IfOk (named state g ty handle) (NamesStream (types_of state.streams) ty)
-named-names state g (index.Stream payload) handle h =
+named_by-names : (state : State) (g : ℕ) (ty : TransmitIndex) (handle : ℕ) → IsSound state → IfOk (named_by ty (guest_in state.guests g).handles handle) (NamesStream (types_of state.streams) ty)
+named_by-names state g (index.Stream payload) handle h =
     stream_names (types_of state.streams) payload _ (entry_named (types_of state.streams) _ handle (AreNamed-at (types_of state.streams) state.guests g h.named))
-named-names state g (index.Future payload) handle h =
+named_by-names state g (index.Future payload) handle h =
     future_names (types_of state.streams) payload _ (entry_named (types_of state.streams) _ handle (AreNamed-at (types_of state.streams) state.guests g h.named))
+
+named-names : (state : State) (end : NamedEnd) → IsSound state → IfOk (named state end) (NamesStream (types_of state.streams) end.ty)
+named-names state end h = named_by-names state end.guest end.ty end.handle h
 
 if_ok : {T : Type 0} (P Q : T → Type 0) (r : Result T HandleError) → ((x : T) → P x → Q x) → IfOk r P → IfOk r Q
 if_ok P Q (Ok x) f p = f x p
 if_ok P Q (Err e) f p = tt
 
-pub named_there : (state : State) (g : ℕ) (ty : TransmitIndex) (handle : ℕ) (r : Name) → IsSound state → r ≡ named state g ty handle → IfOk r (λ name. name.0 < length state.streams)
-named_there state g ty handle r h e =
-    rw e (if_ok (NamesStream (types_of state.streams) ty) (λ name. name.0 < length state.streams) (named state g ty handle) (λ name n. omega (arith, n.there, length-map state.streams type_of)) (named-names state g ty handle h))
+pub named_there : (state : State) (end : NamedEnd) (r : Name) → IsSound state → r ≡ named state end → IfOk r (λ name. name.0 < length state.streams)
+named_there state end r h e =
+    rw e (if_ok (NamesStream (types_of state.streams) end.ty) (λ name. name.0 < length state.streams) (named state end) (λ name n. omega (arith, n.there, length-map state.streams type_of)) (named-names state end h))
 
 payload_of-type : (kind : TransmitKind) (p : Payload) → payload_of (type_with kind p) ≡ p
 payload_of-type AStream p = refl
@@ -90,23 +94,23 @@ kind_of-type AStream p = refl
 kind_of-type Future p = refl
 
 -- the type of the stream that a handle names
-pub named_type : (state : State) (g : ℕ) (ty : TransmitIndex) (handle : ℕ) (r : Name) → IsSound state → r ≡ named state g ty handle → IfOk r (λ name. type_of (stream_at state name.0) ≡ ty)
-named_type state g ty handle r h e =
-    rw e (if_ok (NamesStream (types_of state.streams) ty) (λ name. type_of (stream_at state name.0) ≡ ty) (named state g ty handle) (λ name n. sym (get_or-map type_of state.streams name.0 no_stream) ∙ n.typed) (named-names state g ty handle h))
+pub named_type : (state : State) (end : NamedEnd) (r : Name) → IsSound state → r ≡ named state end → IfOk r (λ name. type_of (stream_at state name.0) ≡ end.ty)
+named_type state end r h e =
+    rw e (if_ok (NamesStream (types_of state.streams) end.ty) (λ name. type_of (stream_at state name.0) ≡ end.ty) (named state end) (λ name n. sym (get_or-map type_of state.streams name.0 no_stream) ∙ n.typed) (named-names state end h))
 
-pub named_payload : (state : State) (g : ℕ) (ty : TransmitIndex) (handle : ℕ) (r : Name) → IsSound state → r ≡ named state g ty handle → IfOk r (λ name. (stream_at state name.0).payload ≡ payload_of ty)
-named_payload state g ty handle r h e =
-    if_ok (λ name. type_of (stream_at state name.0) ≡ ty) (λ name. (stream_at state name.0).payload ≡ payload_of ty) r
-    (λ name n. sym (payload_of-type (stream_at state name.0).kind (stream_at state name.0).payload) ∙ ap payload_of n) (named_type state g ty handle r h e)
+pub named_payload : (state : State) (end : NamedEnd) (r : Name) → IsSound state → r ≡ named state end → IfOk r (λ name. (stream_at state name.0).payload ≡ payload_of end.ty)
+named_payload state end r h e =
+    if_ok (λ name. type_of (stream_at state name.0) ≡ end.ty) (λ name. (stream_at state name.0).payload ≡ payload_of end.ty) r
+    (λ name n. sym (payload_of-type (stream_at state name.0).kind (stream_at state name.0).payload) ∙ ap payload_of n) (named_type state end r h e)
 
-pub named_kind : (state : State) (g : ℕ) (ty : TransmitIndex) (handle : ℕ) (r : Name) → IsSound state → r ≡ named state g ty handle → IfOk r (λ name. (stream_at state name.0).kind ≡ kind_of ty)
-named_kind state g ty handle r h e =
-    if_ok (λ name. type_of (stream_at state name.0) ≡ ty) (λ name. (stream_at state name.0).kind ≡ kind_of ty) r
-    (λ name n. sym (kind_of-type (stream_at state name.0).kind (stream_at state name.0).payload) ∙ ap kind_of n) (named_type state g ty handle r h e)
+pub named_kind : (state : State) (end : NamedEnd) (r : Name) → IsSound state → r ≡ named state end → IfOk r (λ name. (stream_at state name.0).kind ≡ kind_of end.ty)
+named_kind state end r h e =
+    if_ok (λ name. type_of (stream_at state name.0) ≡ end.ty) (λ name. (stream_at state name.0).kind ≡ kind_of end.ty) r
+    (λ name n. sym (kind_of-type (stream_at state name.0).kind (stream_at state name.0).payload) ∙ ap kind_of n) (named_type state end r h e)
 
-pub named_idle : (state : State) (g : ℕ) (ty : TransmitIndex) (handle : ℕ) (r : Name) → IsSound state → r ≡ named state g ty handle → IfOk r (λ name. is_idle_state name.1 ≡ true)
-named_idle state g ty handle r h e =
-    rw e (if_ok (NamesStream (types_of state.streams) ty) (λ name. is_idle_state name.1 ≡ true) (named state g ty handle) (λ name n. n.idle) (named-names state g ty handle h))
+pub named_idle : (state : State) (end : NamedEnd) (r : Name) → IsSound state → r ≡ named state end → IfOk r (λ name. is_idle_state name.1 ≡ true)
+named_idle state end r h e =
+    rw e (if_ok (NamesStream (types_of state.streams) end.ty) (λ name. is_idle_state name.1 ≡ true) (named state end) (λ name n. n.idle) (named-names state end h))
 
 end_there : (types : List TransmitIndex) (o : Option Entry) → EntryIsNamed types o → IfOk (end_rep_in o) (λ name. name.0 < length types)
 end_there types None h = tt

@@ -1,9 +1,11 @@
 -- What is known of a step that nothing refuses.
-use Rattle.std.proofs.Common.{◌≡◌, ℕ, ◌+◌, ◌^◌, ◌<◌, ◌≤◌, Bool, true, false, cond, min, List, [], ◌∷◌, ◌++◌, length, Option, Some, None, Result, Ok, Err, refl, arith}
+use Rattle.std.proofs.Common.{◌≡◌, ℕ, ◌+◌, ◌^◌, ◌<◌, ◌≤◌, Bool, true, false, cond, min, List, [], ◌∷◌, ◌++◌, length, Option, Some, None, Ok, Err, refl, arith}
+use Rattle.std.proofs.lemmas.Bool.{not-false}
 use Rattle.std.proofs.lemmas.Bool.Decides.{nat_tests}
 use Rattle.std.proofs.lemmas.List.{length-map}
 use Rattle.std.specs.Prelude.{IfErr, IsOk, nat_lt, nat_le, ◌||◌, ◌&&◌, not, IsTrue}
 use Rattle.strm_codes.specs.declared.refusals.Refusal.{Refusal}
+use Rattle.strm_codes.specs.declared.refusals.Refusal.TheVariants as refusals
 use Rattle.strm_codes.specs.declared.payloads.Payload.{Payload}
 use Rattle.strm_codes.specs.declared.codes.TransmitIndex.{TransmitIndex}
 use Rattle.strm_codes.specs.declared.codes.TransmitIndex.TheVariants as index
@@ -13,11 +15,14 @@ use Rattle.strm_machine.specs.State.{State, guest_in, stream_at, handles_in_use,
 use Rattle.strm_machine.specs.Sides.{opposite, same_side, end_of}
 use Rattle.strm_machine.specs.Meetings.{begun}
 use Rattle.strm_machine.specs.Soundness.{sizes_of, IsPlaced}
-use Rattle.strm_machine.specs.Tests.{Name, is_no_handle, are_handles_full, are_places_full, are_streams_full, is_memory_too_big, are_guests_full, is_unknown_guest, are_bytes_out_of_bounds, named, end_named, stream_named, side_named, is_too_big, items_asked, is_out_of_bounds, is_busy, has_ended, is_open_of, is_within_one_guest}
+use Rattle.strm_machine.specs.Tests.{Name, is_no_handle, are_handles_full, are_places_full, are_streams_full, is_memory_too_big, are_guests_full, is_unknown_guest, are_bytes_out_of_bounds, named, end_named, stream_named, side_named, is_too_big, items_asked, is_out_of_bounds, is_busy, has_ended, owes_value, is_open_of, is_within_one_guest}
 use Rattle.strm_handles.specs.Handles.{next_index}
 use Rattle.strm_machine.specs.Making.{writer_index}
-use Rattle.strm_machine.specs.Refusals.{Reason, first_of, region_reasons, handle_reasons, end_reasons_of, event_reasons, drop_reasons, dropping_reasons, refusal}
-use Rattle.strm_machine.specs.declared.steps.Step.TheVariants as steps
+use Rattle.strm_machine.specs.Refusals.{Reason, first_of, region_reasons, handle_reasons, end_reasons_of, event_reasons, where_, named_reasons, side_reasons, dropping_reasons, bytes_reasons, refusal}
+use Rattle.strm_machine.specs.declared.acts.NamedEnd.{NamedEnd}
+use Rattle.strm_machine.specs.declared.acts.Making.TheVariants.{Guest, Between}
+use Rattle.strm_machine.specs.declared.acts.MemoryAct.TheVariants.{Poke, Dump}
+use Rattle.strm_machine.specs.declared.acts.Act.TheVariants.{Make, Event, OnMemory}
 use Rattle.strm_machine.specs.declared.streams.Side.{Side}
 use Rattle.strm_machine.specs.declared.streams.Stream.{Stream}
 use Rattle.strm_machine.proofs.TurnLemmas.{size_in}
@@ -44,7 +49,7 @@ pub record GuestFits (state : State) (size : ℕ) : Type 0 where
   pub bytes : bytes_in_use state + size ≤ 268435456
   pub count : length state.guests < 1048576
 
-pub guest_fits : (state : State) (size : ℕ) → refusal state (steps.Guest size) ≡ None → GuestFits state size
+pub guest_fits : (state : State) (size : ℕ) → refusal state (Make (Guest size)) ≡ None → GuestFits state size
 unfolding refusal
 guest_fits state size e =
     let first = not_refused (is_memory_too_big state size) _ _ e in
@@ -56,19 +61,19 @@ pub record BytesFit (state : State) (g address count : ℕ) : Type 0 where
   pub there : g < length state.guests
   pub inside : are_bytes_out_of_bounds state g address count ≡ false
 
-pub poke_fits : (state : State) (g address : ℕ) (bytes : List ℕ) → refusal state (steps.Poke g address bytes) ≡ None → BytesFit state g address (length bytes)
-unfolding refusal
-poke_fits state g address bytes e =
+pub bytes_fit : (state : State) (g address count : ℕ) → first_of (bytes_reasons state g address count) ≡ None → BytesFit state g address count
+bytes_fit state g address count e =
     let first = not_refused (is_unknown_guest state g) _ _ e in
-    let second = not_refused (are_bytes_out_of_bounds state g address (length bytes)) _ _ first.1 in
+    let second = not_refused (are_bytes_out_of_bounds state g address count) _ _ first.1 in
     record { there = not_le (length state.guests) g first.0; inside = second.0 }
 
-pub dump_fits : (state : State) (g address len : ℕ) → refusal state (steps.Dump g address len) ≡ None → BytesFit state g address (min len 64)
+pub poke_fits : (state : State) (g address : ℕ) (bytes : List ℕ) → refusal state (OnMemory g (Poke address bytes)) ≡ None → BytesFit state g address (length bytes)
 unfolding refusal
-dump_fits state g address len e =
-    let first = not_refused (is_unknown_guest state g) _ _ e in
-    let second = not_refused (are_bytes_out_of_bounds state g address (min len 64)) _ _ first.1 in
-    record { there = not_le (length state.guests) g first.0; inside = second.0 }
+poke_fits state g address bytes e = bytes_fit state g address (length bytes) e
+
+pub dump_fits : (state : State) (g address len : ℕ) → refusal state (OnMemory g (Dump address len)) ≡ None → BytesFit state g address (min len 64)
+unfolding refusal
+dump_fits state g address len e = bytes_fit state g address (min len 64) e
 
 -- no reason of two lists holds
 pub none_of_both : (xs ys : List Reason) → first_of (xs ++ ys) ≡ None → (first_of xs ≡ None) × (first_of ys ≡ None)
@@ -125,7 +130,7 @@ pub record PairFits (state : State) (writer reader : ℕ) (ty : TransmitIndex) :
   pub handles : handles_in_use state + 2 ≤ state.limits.handles
   pub streams : length state.streams < 4294967295
 
-pub pair_fits : (state : State) (writer reader : ℕ) (ty : TransmitIndex) → refusal state (steps.Between writer reader ty) ≡ None → PairFits state writer reader ty
+pub pair_fits : (state : State) (writer reader : ℕ) (ty : TransmitIndex) → refusal state (Make (Between writer reader ty)) ≡ None → PairFits state writer reader ty
 unfolding refusal
 pair_fits state writer reader ty e =
     let first = not_refused (is_unknown_guest state writer || is_unknown_guest state reader) _ _ e in
@@ -158,37 +163,45 @@ name_ok (Err errors.Lent) h e = absurd h
 name_ok (Err errors.TooManyLends) h e = absurd h
 name_ok (Err errors.OutOfMemory) h e = absurd h
 
-pub named_ok : (state : State) (g : ℕ) (ty : TransmitIndex) (handle : ℕ) → first_of (handle_reasons (named state g ty handle)) ≡ None → IsOk (named state g ty handle)
-named_ok state g ty handle e = name_ok (named state g ty handle) (named_by-error ty (guest_in state.guests g).handles handle) e
+pub named_ok : (state : State) (end : NamedEnd) → first_of (handle_reasons (named state end)) ≡ None → IsOk (named state end)
+named_ok state end e = name_ok (named state end) (named_by-error end.ty (guest_in state.guests end.guest).handles end.handle) e
 
 -- an event that may be asked for
 pub record EventFits (state : State) (g handle : ℕ) : Type 0 where
   pub there : g < length state.guests
   pub found : first_of (event_reasons (end_named state g handle)) ≡ None
 
-pub event_fits : (state : State) (g handle : ℕ) → refusal state (steps.Event g handle) ≡ None → EventFits state g handle
+pub event_fits : (state : State) (g handle : ℕ) → refusal state (Event g handle) ≡ None → EventFits state g handle
 unfolding refusal
 event_fits state g handle e =
     let first = not_refused (is_unknown_guest state g) _ _ e in
     record { there = not_le (length state.guests) g first.0; found = first.1 }
 
--- an end that may be dropped
-pub record DropFits (state : State) (side : Side) (g : ℕ) (ty : TransmitIndex) (handle : ℕ) : Type 0 where
-  pub there : g < length state.guests
-  pub found : first_of (handle_reasons (named state g ty handle)) ≡ None
-  pub same : same_side side (side_named (named state g ty handle)) ≡ true
-  pub idle : is_busy side (stream_at state (stream_named (named state g ty handle))) ≡ false
+-- something may be done to the end that is named, as far as its guest, its handle and its side go
+pub record NamedFits (state : State) (side : Side) (end : NamedEnd) : Type 0 where
+  pub there : end.guest < length state.guests
+  pub found : first_of (handle_reasons (named state end)) ≡ None
+  pub same : same_side side (side_named (named state end)) ≡ true
 
-pub drop_fits : (state : State) (side : Side) (g : ℕ) (ty : TransmitIndex) (handle : ℕ) → first_of (dropping_reasons state side g ty handle) ≡ None → DropFits state side g ty handle
-drop_fits state side g ty handle e =
-    let name = named state g ty handle in
+pub named_fits : (state : State) (side : Side) (end : NamedEnd) (more : List Reason) → first_of (named_reasons state end (side_reasons side (side_named (named state end)) more)) ≡ None → NamedFits state side end × (first_of more ≡ None)
+named_fits state side end more e =
+    let name = named state end in
+    let first = not_refused (is_unknown_guest state end.guest) _ _ e in
+    let both = none_of_both (handle_reasons name) (side_reasons side (side_named name) more) first.1 in
+    let same = not_refused (not (same_side side (side_named name))) _ _ both.1 in
+    (record { there = not_le (length state.guests) end.guest first.0; found = both.0; same = not-false (same_side side (side_named name)) same.0 }, same.1)
+
+-- an end that may be dropped
+pub record DropFits (state : State) (side : Side) (end : NamedEnd) : Type 0 where
+  pub there : end.guest < length state.guests
+  pub found : first_of (handle_reasons (named state end)) ≡ None
+  pub same : same_side side (side_named (named state end)) ≡ true
+  pub idle : is_busy side (stream_at state (stream_named (named state end))) ≡ false
+
+pub drop_fits : (state : State) (side : Side) (end : NamedEnd) → first_of (dropping_reasons state side end) ≡ None → DropFits state side end
+drop_fits state side end e =
+    let name = named state end in
     let stream = stream_at state (stream_named name) in
-    let first = not_refused (is_unknown_guest state g) _ _ e in
-    let both = none_of_both (handle_reasons name) (drop_reasons state side ty name) first.1 in
-    let end = not_refused (not (same_side side (side_named name))) _ _ both.1 in
-    let idle = not_refused (is_busy side stream) _ _ end.1 in
-    record { there = not_le (length state.guests) g first.0; found = both.0; same = not_not (same_side side (side_named name)) end.0; idle = idle.0 }
-  where
-    not_not : (b : Bool) → not b ≡ false → b ≡ true
-    not_not true f = refl
-    not_not false f = cc
+    let fits = named_fits state side end (where_ (is_busy side stream) refusals.Busy ∷ where_ (owes_value side (kind_of end.ty) stream) refusals.FutureWithoutValue ∷ []) e in
+    let idle = not_refused (is_busy side stream) _ _ fits.1 in
+    record { there = fits.0.there; found = fits.0.found; same = fits.0.same; idle = idle.0 }

@@ -12,7 +12,7 @@ use Rattle.strm_memory.specs.Region.{is_out_of_bounds}
 use Rattle.strm_machine.specs.State.{Guest, no_guest, guest_in, memory_in, with_memory, is_gone}
 use Rattle.strm_machine.specs.Sides.{opposite, same_side, end_of, with_operation, write_of, read_of}
 use Rattle.strm_machine.specs.Meetings.{advanced, carried}
-use Rattle.strm_machine.specs.Turns.{Turn, waits, with_received, moves, completes_alone, meets_by, finds, turn}
+use Rattle.strm_machine.specs.Turns.{Turn, waits, with_received, moves, completes_alone, rendezvous_by, finds, turn}
 use Rattle.strm_machine.specs.Soundness.{sizes_of, handles_of, IsPlaced, OperationIsPlaced, StreamIsPlaced}
 use Rattle.strm_machine.specs.declared.streams.Side.{Side}
 use Rattle.strm_machine.specs.declared.streams.Side.TheVariants.{Writing, Reading}
@@ -102,16 +102,16 @@ alone-keeps who side guests stream mine theirs h =
     (record { guests = all_kept guests; stream = kept (sizes_of guests) stream h.placed })
     (record { guests = second.guests; stream = kept_on (sizes_of guests) stream stopped _ first second.stream })
 
-meets_by-keeps : (meeting : Meeting) (side : Side) (guests : List Guest) (stream : Stream) (mine theirs : Operation) → AreReady guests stream mine theirs → TurnKeeps guests stream (meets_by meeting side guests stream mine theirs)
-meets_by-keeps BothComplete side guests stream mine theirs h = moves-keeps side guests stream mine theirs _ h refl
-meets_by-keeps WriteCompletes side guests stream mine theirs h = alone-keeps Writing side guests stream mine theirs h
-meets_by-keeps ReadCompletes side guests stream mine theirs h = alone-keeps Reading side guests stream mine theirs h
+rendezvous_by-keeps : (meeting : Meeting) (side : Side) (guests : List Guest) (stream : Stream) (mine theirs : Operation) → AreReady guests stream mine theirs → TurnKeeps guests stream (rendezvous_by meeting side guests stream mine theirs)
+rendezvous_by-keeps BothComplete side guests stream mine theirs h = moves-keeps side guests stream mine theirs _ h refl
+rendezvous_by-keeps WriteCompletes side guests stream mine theirs h = alone-keeps Writing side guests stream mine theirs h
+rendezvous_by-keeps ReadCompletes side guests stream mine theirs h = alone-keeps Reading side guests stream mine theirs h
 
 finds-keeps : (side : Side) (guests : List Guest) (stream : Stream) (mine : Operation) (o : Option Operation) → StreamIsPlaced (sizes_of guests) stream → IsPlaced (sizes_of guests) stream.payload mine → OperationIsPlaced (sizes_of guests) stream.payload o → TurnKeeps guests stream (finds side guests stream mine o)
 finds-keeps side guests stream mine None h p q = waits-keeps side guests stream mine h p
 finds-keeps side guests stream mine (Some theirs) h p q =
     cond_both (TurnKeeps guests stream) theirs.is_open _ _
-    (meets_by-keeps _ side guests stream mine theirs (record { placed = h; mine_placed = p; theirs_placed = q }))
+    (rendezvous_by-keeps _ side guests stream mine theirs (record { placed = h; mine_placed = p; theirs_placed = q }))
     (waits-keeps side guests stream mine h p)
 
 -- a read or write of n items that lie in memory

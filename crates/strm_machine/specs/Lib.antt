@@ -1,3 +1,4 @@
+pub mod Acts
 pub mod State
 pub mod Sides
 pub mod Meetings
@@ -9,3 +10,5 @@ pub mod Making
 pub mod Reactions
 pub mod Plays
 pub mod Soundness
+pub mod Moments
+pub mod Untouched

@@ -1,6 +1,5 @@
 -- One step of the machine.
 use Rattle.std.specs.Prelude.{ℕ, true, if◌then◌else◌, [], ◌∷◌, ◌++◌, length, min, take, drop, replicate, slice_set, Option, Some, None}
-use Rattle.strm_codes.specs.declared.codes.TransmitIndex.{TransmitIndex}
 use Rattle.strm_codes.specs.declared.codes.ReturnCode.{ReturnCode}
 use Rattle.strm_codes.specs.declared.refusals.Refusal.{Refusal}
 use Rattle.strm_handles.specs.Handles.{no_handles, removed}
@@ -14,9 +13,18 @@ use Rattle.strm_machine.specs.Refusals.{refusal}
 use Rattle.strm_machine.specs.Making.{made_pair, with_stream}
 use Rattle.strm_machine.specs.declared.streams.Side.{Side}
 use Rattle.strm_machine.specs.declared.streams.Operation.{Operation}
-use Rattle.strm_machine.specs.declared.streams.Side.TheVariants.{Writing, Reading}
+use Rattle.strm_machine.specs.declared.streams.Stream.{Stream}
+use Rattle.strm_machine.specs.Acts.{act_of}
+use Rattle.strm_machine.specs.declared.acts.NamedEnd.{NamedEnd}
+use Rattle.strm_machine.specs.declared.acts.Making.{Making}
+use Rattle.strm_machine.specs.declared.acts.Making.TheVariants.{Guest, Between}
+use Rattle.strm_machine.specs.declared.acts.EndAct.{EndAct}
+use Rattle.strm_machine.specs.declared.acts.EndAct.TheVariants.{Operate, Drop}
+use Rattle.strm_machine.specs.declared.acts.MemoryAct.{MemoryAct}
+use Rattle.strm_machine.specs.declared.acts.MemoryAct.TheVariants.{Poke, Dump}
+use Rattle.strm_machine.specs.declared.acts.Act.{Act}
+use Rattle.strm_machine.specs.declared.acts.Act.TheVariants.{Make, OnEnd, Event, OnMemory}
 use Rattle.strm_machine.specs.declared.steps.Step.{Step}
-use Rattle.strm_machine.specs.declared.steps.Step.TheVariants as steps
 use Rattle.strm_machine.specs.declared.replies.Reply.{Reply}
 use Rattle.strm_machine.specs.declared.replies.Reply.TheVariants as replies
 
@@ -42,60 +50,79 @@ abbrev pub on_stream : State → ℕ → Side → Operation → Reaction
 on_stream state s side mine =
     let t = turn side state.guests (stream_at state s) mine in written_back state s t t.code
 
--- a read or write of a guest, on the stream that its handle names
-abbrev pub operates : State → Side → ℕ → TransmitIndex → ℕ → ℕ → ℕ → Reaction
-operates state side g ty handle address count =
-    on_stream state (stream_named (named state g ty handle)) side (begun g address (items_asked ty count))
+-- a read or write of the end that is named
+abbrev pub operates : State → Side → NamedEnd → ℕ → ℕ → Reaction
+operates state side end address count =
+    on_stream state (stream_named (named state end)) side
+    (begun end.guest address (items_asked end.ty count))
 
--- a read or write as a step
-abbrev pub operation_step : Side → ℕ → TransmitIndex → ℕ → ℕ → ℕ → Step
-operation_step Writing = steps.Write
-operation_step Reading = steps.Read
+-- the state with another stream of a number
+abbrev pub with_stream_at : State → ℕ → Stream → State
+with_stream_at state s stream = record state { streams = slice_set state.streams s stream }
 
 -- the end that a handle names is told its report, if it has one
 abbrev pub tells : State → ℕ → Side → Reaction
 tells state s side =
     let stream = stream_at state s in
-    goes (replies.Event (report_on side stream))
-    (record state { streams = slice_set state.streams s (delivered side stream) })
+    goes (replies.Event (report_on side stream)) (with_stream_at state s (delivered side stream))
 
--- a guest's handle is freed, and the end that it named is gone
-abbrev pub drops : State → ℕ → Side → ℕ → ℕ → Reaction
-drops state s side g handle =
+-- the state without a handle of a guest
+abbrev pub without_handle : State → ℕ → ℕ → State
+without_handle state g handle = record state {
+  guests = with_handles state.guests g (removed (guest_in state.guests g).handles handle);
+}
+
+-- the end of stream s that is named is gone, and its handle freed
+abbrev pub drops : State → ℕ → Side → NamedEnd → Reaction
+drops state s side end =
+    goes replies.Done
+    (with_stream_at (without_handle state end.guest end.handle) s (dropped side (stream_at state s)))
+
+-- what is done to the end that is named
+abbrev pub on_end : State → Side → NamedEnd → EndAct → Reaction
+on_end state side end (Operate address count) = operates state side end address count
+on_end state side end Drop = drops state (stream_named (named state end)) side end
+
+-- what is made
+abbrev pub makes : State → Making → Reaction
+makes state (Guest size) =
+    goes (replies.Number (length state.guests))
+    (record state {
+      guests = state.guests ++ (record { memory = replicate size 0; handles = no_handles }) ∷ [];
+    })
+makes state (Between writer reader ty) =
+    goes (replies.Pair (made_pair state writer reader ty)) (with_stream state writer reader ty)
+
+-- what is done to a guest's memory
+abbrev pub on_memory : State → ℕ → MemoryAct → Reaction
+on_memory state g (Poke address bytes) =
     goes replies.Done
     (record state {
-      guests = with_handles state.guests g (removed (guest_in state.guests g).handles handle);
-      streams = slice_set state.streams s (dropped side (stream_at state s));
+      guests = with_memory state.guests g (put_at (memory_in state.guests g) address bytes);
     })
-
--- a drop as a step
-abbrev pub drop_step : Side → ℕ → TransmitIndex → ℕ → Step
-drop_step Writing = steps.DropWrite
-drop_step Reading = steps.DropRead
-
--- a step that nothing refuses
-unfoldable pub performs : State → Step → Reaction
-performs state (steps.Guest size) =
-    goes (replies.Number (length state.guests))
-    (record state { guests = state.guests ++ (record { memory = replicate size 0; handles = no_handles }) ∷ [] })
-performs state (steps.Between writer reader ty) =
-    goes (replies.Pair (made_pair state writer reader ty)) (with_stream state writer reader ty)
-performs state (steps.Write g ty handle address count) = operates state Writing g ty handle address count
-performs state (steps.Read g ty handle address count) = operates state Reading g ty handle address count
-performs state (steps.DropWrite g ty handle) = drops state (stream_named (named state g ty handle)) Writing g handle
-performs state (steps.DropRead g ty handle) = drops state (stream_named (named state g ty handle)) Reading g handle
-performs state (steps.Event g handle) =
-    tells state (stream_named (end_named state g handle)) (side_named (end_named state g handle))
-performs state (steps.Poke g address bytes) =
-    goes replies.Done (record state { guests = with_memory state.guests g (put_at (memory_in state.guests g) address bytes) })
-performs state (steps.Dump g address len) =
+on_memory state g (Dump address len) =
     goes (replies.Bytes (take (min len 64) (drop address (memory_in state.guests g)))) state
 
--- a refused step changes nothing
-abbrev pub unless_refused : State → Step → Option Refusal → Reaction
-unless_refused state step (Some r) = goes (replies.Refused r) state
-unless_refused state step None = performs state step
+-- what a step does where nothing refuses it
+unfoldable pub performs : State → Act → Reaction
+performs state (Make making) = makes state making
+performs state (OnEnd side end act) = on_end state side end act
+performs state (Event g handle) =
+    tells state (stream_named (end_named state g handle)) (side_named (end_named state g handle))
+performs state (OnMemory g act) = on_memory state g act
 
--- one step: a trapped store answers nothing else any more
-unfoldable pub react : State → Step → Reaction
-react state step = if state.trapped then goes replies.StoreTrapped state else unless_refused state step (refusal state step)
+-- a refused step changes nothing
+abbrev pub unless_refused : State → Act → Option Refusal → Reaction
+unless_refused state act (Some r) = goes (replies.Refused r) state
+unless_refused state act None = performs state act
+
+-- what a step does: a trapped store answers nothing else any more
+unfoldable pub reaction : State → Act → Reaction
+reaction state act =
+    if state.trapped
+    then goes replies.StoreTrapped state
+    else unless_refused state act (refusal state act)
+
+-- one step
+abbrev pub react : State → Step → Reaction
+react state step = reaction state (act_of step)

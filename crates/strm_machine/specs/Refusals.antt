@@ -1,4 +1,4 @@
--- Which refusal a step gets: the first whose condition holds, in the order of the call. Ours: the order.
+-- Why a step is refused: the first whose condition holds, in the order of the call. Ours: the order.
 use Rattle.std.specs.Prelude.{ℕ, Bool, not, ◌||◌, if◌then◌else◌, List, [], ◌∷◌, ◌++◌, min, length, Option, Some, None}
 use Rattle.strm_codes.specs.declared.codes.TransmitIndex.{TransmitIndex}
 use Rattle.strm_codes.specs.declared.codes.TransmitKind.{TransmitKind}
@@ -14,8 +14,15 @@ use Rattle.strm_machine.specs.Making.{writer_index}
 use Rattle.strm_machine.specs.declared.streams.Stream.{Stream}
 use Rattle.strm_machine.specs.declared.streams.Side.{Side}
 use Rattle.strm_machine.specs.declared.streams.Side.TheVariants.{Writing, Reading}
-use Rattle.strm_machine.specs.declared.steps.Step.{Step}
-use Rattle.strm_machine.specs.declared.steps.Step.TheVariants as steps
+use Rattle.strm_machine.specs.declared.acts.NamedEnd.{NamedEnd}
+use Rattle.strm_machine.specs.declared.acts.Making.{Making}
+use Rattle.strm_machine.specs.declared.acts.Making.TheVariants.{Guest, Between}
+use Rattle.strm_machine.specs.declared.acts.EndAct.{EndAct}
+use Rattle.strm_machine.specs.declared.acts.EndAct.TheVariants.{Operate, Drop}
+use Rattle.strm_machine.specs.declared.acts.MemoryAct.{MemoryAct}
+use Rattle.strm_machine.specs.declared.acts.MemoryAct.TheVariants.{Poke, Dump}
+use Rattle.strm_machine.specs.declared.acts.Act.{Act}
+use Rattle.strm_machine.specs.declared.acts.Act.TheVariants.{Make, OnEnd, Event, OnMemory}
 
 -- a condition, and the refusal that it gives
 pub record Reason : Type 0 where
@@ -65,26 +72,43 @@ end_reasons_of stream side g ty named =
 abbrev pub end_reasons : State → Side → ℕ → TransmitIndex → Name → List Reason
 end_reasons state side g ty name = end_reasons_of (stream_at state (stream_named name)) side g ty (side_named name)
 
-abbrev pub operation_reasons : State → Side → ℕ → TransmitIndex → ℕ → ℕ → ℕ → List Reason
-operation_reasons state side g ty handle address count =
-    region_reasons state g ty address count
-    ++ (handle_reasons (named state g ty handle) ++ end_reasons state side g ty (named state g ty handle))
+-- a read or write of the end that is named
+abbrev pub operation_reasons : State → Side → NamedEnd → ℕ → ℕ → List Reason
+operation_reasons state side end address count =
+    region_reasons state end.guest end.ty address count
+    ++ (handle_reasons (named state end) ++ end_reasons state side end.guest end.ty (named state end))
+
+-- of what is done to the end that is named, but a read or write: the guest, the handle, and then the
+-- reasons of its own
+abbrev pub named_reasons : State → NamedEnd → List Reason → List Reason
+named_reasons state end more =
+    where_ (is_unknown_guest state end.guest) refusals.UnknownGuest
+    ∷ (handle_reasons (named state end) ++ more)
+
+-- the first of these: the handle is the other end
+abbrev pub side_reasons : Side → Side → List Reason → List Reason
+side_reasons side named more = where_ (not (same_side side named)) refusals.WrongEnd ∷ more
 
 -- the end that is named in a drop
 abbrev pub drop_reasons_of : Stream → Side → TransmitIndex → Side → List Reason
 drop_reasons_of stream side ty named =
-    where_ (not (same_side side named)) refusals.WrongEnd
-    ∷ where_ (is_busy side stream) refusals.Busy
+    side_reasons side named
+    (where_ (is_busy side stream) refusals.Busy
     ∷ where_ (owes_value side (kind_of ty) stream) refusals.FutureWithoutValue
-    ∷ []
+    ∷ [])
 
 abbrev pub drop_reasons : State → Side → TransmitIndex → Name → List Reason
 drop_reasons state side ty name = drop_reasons_of (stream_at state (stream_named name)) side ty (side_named name)
 
-abbrev pub dropping_reasons : State → Side → ℕ → TransmitIndex → ℕ → List Reason
-dropping_reasons state side g ty handle =
-    where_ (is_unknown_guest state g) refusals.UnknownGuest
-    ∷ (handle_reasons (named state g ty handle) ++ drop_reasons state side ty (named state g ty handle))
+-- a drop of the end that is named
+abbrev pub dropping_reasons : State → Side → NamedEnd → List Reason
+dropping_reasons state side end =
+    named_reasons state end (drop_reasons state side end.ty (named state end))
+
+-- whatever is done to the end that is named
+abbrev pub on_end_reasons : State → Side → NamedEnd → EndAct → List Reason
+on_end_reasons state side end (Operate address count) = operation_reasons state side end address count
+on_end_reasons state side end Drop = dropping_reasons state side end
 
 -- the end that an event is asked of
 abbrev pub event_reasons : Name → List Reason
@@ -93,30 +117,40 @@ event_reasons name =
     ∷ where_ (is_wrong_kind name) refusals.WrongKind
     ∷ []
 
--- the reasons of each step in their order
-abbrev pub reasons : State → Step → List Reason
-reasons state (steps.Guest size) =
-    where_ (is_memory_too_big state size) refusals.MemoryTooBig ∷ where_ (are_guests_full state) refusals.Full ∷ []
-reasons state (steps.Between writer reader ty) =
+-- what is made
+abbrev pub making_reasons : State → Making → List Reason
+making_reasons state (Guest size) =
+    where_ (is_memory_too_big state size) refusals.MemoryTooBig
+    ∷ where_ (are_guests_full state) refusals.Full
+    ∷ []
+making_reasons state (Between writer reader ty) =
     where_ (is_unknown_guest state writer || is_unknown_guest state reader) refusals.UnknownGuest
-    ∷ where_ (is_no_handle (next_index (guest_in state.guests reader).handles) || is_no_handle (writer_index state writer reader ty)) refusals.IndexOverflow
+    ∷ where_ (is_no_handle (next_index (guest_in state.guests reader).handles)
+    || is_no_handle (writer_index state writer reader ty)) refusals.IndexOverflow
     ∷ where_ (are_handles_full state 2) refusals.HandleLimit
     ∷ where_ (are_places_full state 3 || are_streams_full state) refusals.Full
     ∷ []
-reasons state (steps.Write g ty handle address count) = operation_reasons state Writing g ty handle address count
-reasons state (steps.Read g ty handle address count) = operation_reasons state Reading g ty handle address count
-reasons state (steps.DropWrite g ty handle) = dropping_reasons state Writing g ty handle
-reasons state (steps.DropRead g ty handle) = dropping_reasons state Reading g ty handle
-reasons state (steps.Event g handle) =
-    where_ (is_unknown_guest state g) refusals.UnknownGuest ∷ event_reasons (end_named state g handle)
-reasons state (steps.Poke g address bytes) =
+
+-- bytes of a guest's memory from an address on, so many
+abbrev pub bytes_reasons : State → ℕ → ℕ → ℕ → List Reason
+bytes_reasons state g address count =
     where_ (is_unknown_guest state g) refusals.UnknownGuest
-    ∷ where_ (are_bytes_out_of_bounds state g address (length bytes)) refusals.OutOfBounds
-    ∷ []
-reasons state (steps.Dump g address len) =
-    where_ (is_unknown_guest state g) refusals.UnknownGuest
-    ∷ where_ (are_bytes_out_of_bounds state g address (min len 64)) refusals.OutOfBounds
+    ∷ where_ (are_bytes_out_of_bounds state g address count) refusals.OutOfBounds
     ∷ []
 
-unfoldable pub refusal : State → Step → Option Refusal
-refusal state step = first_of (reasons state step)
+-- what is done to a guest's memory
+abbrev pub memory_reasons : State → ℕ → MemoryAct → List Reason
+memory_reasons state g (Poke address bytes) = bytes_reasons state g address (length bytes)
+memory_reasons state g (Dump address len) = bytes_reasons state g address (min len 64)
+
+-- the reasons of what a step does, in their order
+abbrev pub reasons : State → Act → List Reason
+reasons state (Make making) = making_reasons state making
+reasons state (OnEnd side end act) = on_end_reasons state side end act
+reasons state (Event g handle) =
+    where_ (is_unknown_guest state g) refusals.UnknownGuest ∷ event_reasons (end_named state g handle)
+reasons state (OnMemory g act) = memory_reasons state g act
+
+-- why it is refused, if it is
+unfoldable pub refusal : State → Act → Option Refusal
+refusal state act = first_of (reasons state act)

@@ -29,6 +29,18 @@ pub record State : Type 0 where
 abbrev pub empty : ℕ → Limits → State
 empty tag limits = record { tag = tag; limits = limits; guests = []; streams = []; trapped = false }
 
+-- the bytes of all memories together, at most. Ours
+abbrev pub memory_limit : ℕ
+memory_limit = 268435456
+
+-- the guests, at most. Ours
+abbrev pub guest_limit : ℕ
+guest_limit = 1048576
+
+-- the streams ever made, at most: their numbers stay below 2^32 - 1. Ours
+abbrev pub stream_limit : ℕ
+stream_limit = 4294967295
+
 -- what stands past the last guest
 abbrev pub no_guest : Guest
 no_guest = record { memory = []; handles = no_handles }

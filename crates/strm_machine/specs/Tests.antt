@@ -16,7 +16,8 @@ use Rattle.strm_handles.specs.declared.errors.HandleError.{HandleError}
 use Rattle.strm_handles.specs.declared.errors.HandleError.TheVariants as errors
 use Rattle.strm_handles.specs.declared.entries.TransmitLocalState.{TransmitLocalState}
 use Rattle.strm_handles.specs.declared.entries.TransmitLocalState.TheVariants as states
-use Rattle.strm_machine.specs.State.{State, guest_in, memory_in, handles_in_use, places_in_use, bytes_in_use}
+use Rattle.strm_machine.specs.declared.acts.NamedEnd.{NamedEnd}
+use Rattle.strm_machine.specs.State.{State, guest_in, memory_in, handles_in_use, places_in_use, bytes_in_use, guest_limit, memory_limit, stream_limit}
 use Rattle.strm_machine.specs.Sides.{opposite, end_of}
 use Rattle.strm_machine.specs.declared.streams.Side.{Side}
 use Rattle.strm_machine.specs.declared.streams.Side.TheVariants.{Writing, Reading}
@@ -27,13 +28,13 @@ use Rattle.strm_machine.specs.declared.streams.Stream.{Stream}
 abbrev pub is_unknown_guest : State → ℕ → Bool
 is_unknown_guest state g = nat_le (length state.guests) g
 
--- there are 1,048,576 guests
+-- there are as many guests as there can be
 abbrev pub are_guests_full : State → Bool
-are_guests_full state = nat_le 1048576 (length state.guests)
+are_guests_full state = nat_le guest_limit (length state.guests)
 
--- the memories would pass 268,435,456 bytes together
+-- the memories would pass their limit together
 abbrev pub is_memory_too_big : State → ℕ → Bool
-is_memory_too_big state size = nat_lt 268435456 (bytes_in_use state + size)
+is_memory_too_big state size = nat_lt memory_limit (bytes_in_use state + size)
 
 -- the handles that a call makes would pass the limit
 abbrev pub are_handles_full : State → ℕ → Bool
@@ -43,9 +44,9 @@ are_handles_full state needed = nat_lt state.limits.handles (handles_in_use stat
 abbrev pub are_places_full : State → ℕ → Bool
 are_places_full state needed = nat_lt state.limits.places (places_in_use state + needed)
 
--- a new stream's number would be 4,294,967,295
+-- there are as many streams as there can be
 abbrev pub are_streams_full : State → Bool
-are_streams_full state = nat_le 4294967295 (length state.streams)
+are_streams_full state = nat_le stream_limit (length state.streams)
 
 -- a number that a table would give is no handle
 abbrev pub is_no_handle : ℕ → Bool
@@ -83,8 +84,8 @@ abbrev pub named_by : TransmitIndex → Handles → ℕ → Name
 named_by (index.Stream payload) handles handle = stream_rep_of handles payload handle
 named_by (index.Future payload) handles handle = future_rep_of handles payload handle
 
-abbrev pub named : State → ℕ → TransmitIndex → ℕ → Name
-named state g ty handle = named_by ty (guest_in state.guests g).handles handle
+abbrev pub named : State → NamedEnd → Name
+named state end = named_by end.ty (guest_in state.guests end.guest).handles end.handle
 
 -- the same whatever the type
 abbrev pub end_named : State → ℕ → ℕ → Name

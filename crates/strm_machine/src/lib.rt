@@ -5,6 +5,7 @@
 //! steps. `proofs/` has the facts about it that the crates above share.
 #![tactic(auto)]
 
+pub mod acts;
 pub mod chunks;
 pub mod limits;
 pub mod replies;

@@ -3,17 +3,19 @@ use Rattle.std.specs.Prelude.{◌≡◌, ℕ, ◌*◌, ◌<◌, ◌≤◌, List,
 use Rattle.strm_codes.specs.Layout.{scalars_of, item_size}
 use Rattle.strm_memory.specs.Bytes.{bytes_at, IsApart}
 use Rattle.strm_machine.specs.State.{Guest, memory_in, stream_at}
-use Rattle.strm_machine.specs.declared.steps.Step.{Step}
-use Rattle.strm_machine.specs.declared.steps.Step.TheVariants as steps
+use Rattle.strm_machine.specs.declared.acts.MemoryAct.TheVariants.{Poke}
+use Rattle.strm_machine.specs.declared.acts.Act.{Act}
+use Rattle.strm_machine.specs.declared.acts.Act.TheVariants.{OnMemory}
 use Rattle.strm_machine.specs.declared.replies.Reply.{Reply}
 use Rattle.strm_machine.specs.declared.replies.Reply.TheVariants as replies
-use Rattle.strm_laws.specs.Conservation.{Moment, Place, rise, target}
+use Rattle.strm_machine.specs.Moments.{Moment, Place, rise, target}
 
 -- so many bytes of a guest's memory from a place on
 pub record Region : Type 0 where
   pub place : Place
   pub size : ℕ
 
+-- its bytes
 abbrev pub bytes_of : List Guest → Region → List ℕ
 bytes_of guests r = bytes_at (memory_in guests r.place.guest) r.place.address r.size
 
@@ -24,8 +26,8 @@ LiesApart r other =
     IsApart other.place.address other.size r.place.address r.size
 
 -- where the bytes of a poke are put, once it is done; no byte where there is none
-abbrev pub poked_by : Step → Reply → Region
-poked_by (steps.Poke g address bytes) replies.Done =
+abbrev pub poked_by : Act → Reply → Region
+poked_by (OnMemory g (Poke address bytes)) replies.Done =
     record { place = record { guest = g; address = address }; size = length bytes }
 poked_by _ _ = record { place = record { guest = 0; address = 0 }; size = 0 }
 
@@ -38,8 +40,8 @@ received_by s m = record {
 
 -- no byte of the region is poked in a moment, and on no stream an item is received there
 pub record IsUntouched (m : Moment) (r : Region) : Type 0 where
-  pub poked : LiesApart r (poked_by m.step m.reply)
-  pub received : (s : ℕ) → LiesApart r (received_by s m)
+  pub poked : LiesApart r (poked_by m.act m.reply)
+  pub got : (s : ℕ) → LiesApart r (received_by s m)
 
 -- guests stay, each with a memory of the same length, and what isn't touched of it is as it was
 pub record StaysAside (m : Moment) : Type 0 where

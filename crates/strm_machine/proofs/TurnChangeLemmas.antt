@@ -14,7 +14,7 @@ use Rattle.strm_codes.specs.declared.payloads.Payload.{Payload}
 use Rattle.strm_machine.specs.State.{Guest, is_gone}
 use Rattle.strm_machine.specs.Sides.{opposite, same_side, end_of, with_end, with_operation, write_of, read_of}
 use Rattle.strm_machine.specs.Meetings.{advanced, carried}
-use Rattle.strm_machine.specs.Turns.{Turn, answers, waits, with_received, moves, completes_alone, meets_by, meets, finds, turn}
+use Rattle.strm_machine.specs.Turns.{Turn, answers, waits, with_received, moves, completes_alone, rendezvous_by, rendezvous, finds, turn}
 use Rattle.strm_machine.specs.Soundness.{sizes_of, IsPlaced, OperationIsPlaced}
 use Rattle.strm_machine.specs.declared.streams.Side.{Side}
 use Rattle.strm_machine.specs.declared.streams.Side.TheVariants.{Writing, Reading}
@@ -22,12 +22,12 @@ use Rattle.strm_machine.specs.declared.streams.Operation.{Operation}
 use Rattle.strm_machine.specs.declared.streams.Stream.{Stream}
 use Rattle.strm_machine.specs.declared.streams.Meeting.{Meeting}
 use Rattle.strm_machine.proofs.SideLemmas.{read_of-placed}
-use Rattle.strm_laws.specs.Conservation.{Call, Place, as_report, count_reported, k_of, place_of, items_in}
-use Rattle.strm_laws.specs.Laws.{both_open, is_opened}
-use Rattle.strm_laws.proofs.Changes.{Scene, Change, ByRest, ByGoing, ByOpening, ByServing}
-use Rattle.strm_laws.proofs.Ends.{each_side, apart_by, write_mine, write_theirs, read_fits, write_none, read_none, IsTurned, turned_not, turned_end, turned_both, turned_moves}
-use Rattle.strm_laws.proofs.Singles.{AreOne, IsOne-advanced, one_at, none_one, IsSingle, one_on, PassesOne-by, count_passed, Begins, count_reported-completed, count_reported-dropped}
-use Rattle.strm_laws.proofs.Copying.{AreBytes, decoded-zero, carried_arrives}
+use Rattle.strm_machine.specs.Moments.{Call, Place, as_report, count_reported, k_of, place_of, items_in}
+use Rattle.strm_machine.specs.Soundness.{both_open, is_opened}
+use Rattle.strm_machine.proofs.Changes.{Scene, Change, ByRest, ByGoing, ByOpening, ByServing}
+use Rattle.strm_machine.proofs.EndLemmas.{each_side, apart_by, write_mine, write_theirs, read_fits, write_none, read_none, IsTurned, turned_not, turned_end, turned_both, turned_moves}
+use Rattle.strm_machine.proofs.TallyLemmas.{AreOne, IsUnmoved, none_unmoved, unmoved_on, Tallies-by, IsOne-advanced, one_at, none_one, Tallies, one_on, PassesOne-by, count_passed, Begins, count_reported-completed, count_reported-dropped}
+use Rattle.strm_machine.proofs.ArrivalLemmas.{AreBytes, decoded-zero, carried_arrives}
 
 -- ## What is seen
 
@@ -64,7 +64,7 @@ pub record Does (side : Side) (guests : List Guest) (stream : Stream) (mine : Op
   pub most : t.stream.received ≤ stream.received + 2 ^ 28
   pub apart : both_open t.stream ≡ false
   pub bytes : AreBytes t.guests
-  pub single : IsSingle t.stream
+  pub tallies : Tallies t.stream
 
 pub record Unturned (guests : List Guest) (stream : Stream) (t : Turn) : Type 0 where
   pub same_guests : t.guests ≡ guests
@@ -155,7 +155,7 @@ there guests payload o h = omega (arith, h.there, length-map guests (λ g. lengt
 
 -- ## One read or write
 
-module _ (side : Side) (guests : List Guest) (stream : Stream) (mine : Operation) (bytes : AreBytes guests) (room : stream.received + 2 ^ 28 < 2 ^ 128) (start : mine.moved ≡ 0) (placed : IsPlaced (sizes_of guests) stream.payload mine) (single : IsSingle stream) (begins : stream.kind ≡ Future → Begins stream mine) (idle : (end_of side stream).operation ≡ None) where
+module _ (side : Side) (guests : List Guest) (stream : Stream) (mine : Operation) (bytes : AreBytes guests) (room : stream.received + 2 ^ 28 < 2 ^ 128) (start : mine.moved ≡ 0) (placed : IsPlaced (sizes_of guests) stream.payload mine) (tallies : Tallies stream) (begins : stream.kind ≡ Future → Begins stream mine) (idle : (end_of side stream).operation ≡ None) where
   abbrev found : Option Operation
   found = (end_of (opposite side) stream).operation
 
@@ -180,13 +180,14 @@ module _ (side : Side) (guests : List Guest) (stream : Stream) (mine : Operation
         most = omega (arith, t.count);
         apart = apart_by side new (ap is_opened t.mine_is);
         bytes = bytes;
-        single = λ k. let p = single (sym t.kind ∙ k) in PassesOne-by side new (none_one (end_of side new).operation t.mine_is) (subst AreOne (sym t.theirs_is) (one_on (opposite side) stream p)) (rw (t.count, t.pass) p.count);
+        tallies = Tallies-by side new (none_unmoved (end_of side new).operation t.mine_is) (subst IsUnmoved (sym t.theirs_is) (unmoved_on (opposite side) stream tallies))
+            (λ k. let p = tallies.one (sym t.kind ∙ k) in PassesOne-by side new (none_one (end_of side new).operation t.mine_is) (subst AreOne (sym t.theirs_is) (one_on (opposite side) stream p)) (rw (t.count, t.pass) p.count));
       }
 
   -- a call that waits, where the opposite end, as it is then, isn't open
-  opens : (new : Stream) (theirs : Option Operation) → IsTurned side stream new (Some mine) theirs stream.passed stream.received → is_opened theirs ≡ false → (stream.kind ≡ Future → AreOne theirs)
+  opens : (new : Stream) (theirs : Option Operation) → IsTurned side stream new (Some mine) theirs stream.passed stream.received → is_opened theirs ≡ false → IsUnmoved theirs → (stream.kind ≡ Future → AreOne theirs)
       → Change (opposite side) (scene_of side (opposite side) guests stream mine codes.Blocked (answers codes.Blocked guests new)) → Does side guests stream mine codes.Blocked (answers codes.Blocked guests new)
-  opens new theirs t closed one change =
+  opens new theirs t closed unmoved one change =
       let place = place_by side stream mine in
       record {
         change = each_side (λ other. Change other (scene_of side other guests stream mine codes.Blocked (answers codes.Blocked guests new))) side
@@ -208,8 +209,9 @@ module _ (side : Side) (guests : List Guest) (stream : Stream) (mine : Operation
         most = omega (arith, t.count);
         apart = apart_by (opposite side) new (ap is_opened t.theirs_is ∙ closed);
         bytes = bytes;
-        single = λ k. let f : stream.kind ≡ Future = sym t.kind ∙ k in
-            PassesOne-by side new (subst AreOne (sym t.mine_is) (begins f).one) (subst AreOne (sym t.theirs_is) (one f)) (rw (t.count, t.pass) (single f).count);
+        tallies = Tallies-by side new (subst IsUnmoved (sym t.mine_is) (λ e. start)) (subst IsUnmoved (sym t.theirs_is) unmoved)
+            (λ k. let f : stream.kind ≡ Future = sym t.kind ∙ k in
+            PassesOne-by side new (subst AreOne (sym t.mine_is) (begins f).one) (subst AreOne (sym t.theirs_is) (one f)) (rw (t.count, t.pass) (tallies.one f).count));
       }
 
   -- where the opposite end stays as it is
@@ -218,7 +220,7 @@ module _ (side : Side) (guests : List Guest) (stream : Stream) (mine : Operation
       let new = with_operation side stream mine in
       let t = turned_end side stream (record (end_of side stream) { operation = Some mine }) in
       let place = place_by side stream mine in
-      opens new found t closed (λ k. one_on (opposite side) stream (single k))
+      opens new found t closed (unmoved_on (opposite side) stream tallies) (λ k. one_on (opposite side) stream (tallies.one k))
       (still (opposite side) (scene_of side (opposite side) guests stream mine codes.Blocked (answers codes.Blocked guests new)) (taken-theirs side mine codes.Blocked) (report-theirs side codes.Blocked) (none_got stream.payload guests place.guest place.address new.received stream.received t.count) t.payload t.count t.theirs_is)
 
   -- where its operation has met, with nothing moved
@@ -229,7 +231,7 @@ module _ (side : Side) (guests : List Guest) (stream : Stream) (mine : Operation
       let t = turned_both side stream mine p in
       let place = place_by side stream mine in
       let closed : theirs.left - 0 ≤ 0 = omega (arith, none) in
-      opens new (Some p) t (le-ltb 0 (theirs.left - 0) closed) (λ k. absurd (omega (arith, none, left k)))
+      opens new (Some p) t (le-ltb 0 (theirs.left - 0) closed) (λ e. cc) (λ k. absurd (omega (arith, none, left k)))
       (ByGoing theirs p 0 (record {
         was = is;
         is = t.theirs_is;
@@ -290,11 +292,12 @@ module _ (side : Side) (guests : List Guest) (stream : Stream) (mine : Operation
         most = omega (arith, more, t.count);
         apart = apart_by side new (ap is_opened t.mine_is);
         bytes = arrives.bytes;
-        single = λ k. let f : stream.kind ≡ Future = sym t.kind ∙ k in
-            let was = single f in
+        tallies = Tallies-by side new (none_unmoved (end_of side new).operation t.mine_is) (subst IsUnmoved (sym t.theirs_is) (λ g. cc))
+            (λ k. let f : stream.kind ≡ Future = sym t.kind ∙ k in
+            let was = tallies.one f in
             PassesOne-by side new (none_one (end_of side new).operation t.mine_is)
             (subst AreOne (sym t.theirs_is) (IsOne-advanced stream.payload theirs n ready (one f) (one_at found theirs is (one_on (opposite side) stream was))))
-            (rw t.pass (count_passed stream.received n new.received stream.passed stream.kind f (begins f).unpassed was.count (one f) (t.count ∙ more)));
+            (rw t.pass (count_passed stream.received n new.received stream.passed stream.kind f (begins f).unpassed was.count (one f) (t.count ∙ more))));
       }
 
   carries : (theirs : Operation) (n : ℕ) (o : Option (List Guest)) → found ≡ Some theirs → IsPlaced (sizes_of guests) stream.payload theirs → n ≤ mine.left → n ≤ theirs.left → theirs.is_open ≡ true → (stream.kind ≡ Future → n ≡ 1) → carried guests stream.payload (write_of side mine theirs) (read_of side mine theirs) n ≡ o
@@ -310,12 +313,12 @@ module _ (side : Side) (guests : List Guest) (stream : Stream) (mine : Operation
       (λ e. answered (completed_code stream.kind 0) stream (turned_not side stream None idle) (count_reported-completed stream.kind 0 (λ k. omega (arith, none.0 e, (begins k).left))) (report-completed stream.kind 0))
       (λ e. waits_met theirs is (none.1 e) left)
 
-  meet : (theirs : Operation) → found ≡ Some theirs → IsPlaced (sizes_of guests) stream.payload theirs → theirs.is_open ≡ true → DoesBy side guests stream mine (meets side guests stream mine theirs) (meets side guests stream mine theirs).code
+  meet : (theirs : Operation) → found ≡ Some theirs → IsPlaced (sizes_of guests) stream.payload theirs → theirs.is_open ≡ true → DoesBy side guests stream mine (rendezvous side guests stream mine theirs) (rendezvous side guests stream mine theirs).code
   meet theirs is held ready =
       let write = write_of side mine theirs in
       let read = read_of side mine theirs in
-      let left : stream.kind ≡ Future → theirs.left ≡ 1 = λ k. (one_at found theirs is (one_on (opposite side) stream (single k))).ready ready in
-      let P : Meeting → Type 0 = λ m. DoesBy side guests stream mine (meets_by m side guests stream mine theirs) (meets_by m side guests stream mine theirs).code in
+      let left : stream.kind ≡ Future → theirs.left ≡ 1 = λ k. (one_at found theirs is (one_on (opposite side) stream (tallies.one k))).ready ready in
+      let P : Meeting → Type 0 = λ m. DoesBy side guests stream mine (rendezvous_by m side guests stream mine theirs) (rendezvous_by m side guests stream mine theirs).code in
       cond_both (write.left == 0) _ _ P
       (λ e. alone Writing theirs is left (write_none mine theirs side (eqb-true write.left 0 e)))
       (λ e. cond_both (read.left == 0) _ _ P

@@ -23,7 +23,7 @@ use Rattle.strm_machine.proofs.BoundLemmas.{within}
 use Rattle.strm_machine.proofs.CarryLemmas.{no_scalars}
 use Rattle.strm_machine.proofs.StateLemmas.{memory_in-with_memory}
 use Rattle.strm_machine.proofs.TurnLemmas.{front_inside}
-use Rattle.strm_laws.specs.Conservation.{decoded, items_in}
+use Rattle.strm_machine.specs.Moments.{decoded, items_in}
 
 -- ## Bytes
 

@@ -1,5 +1,5 @@
 -- What each step leaves of memories: all bytes but those that it pokes or receives items at.
-use Rattle.std.proofs.Common.{Bool, List, None, Option, Some, [], ap, arith, cond, drop, false, get_or, inl, inr, length, length-append, length-set, min, refl, set, subst, suc, sym, take, zero, ℕ, ℤ, ◌*◌, ◌++◌, ◌+◌, ◌-◌, ◌<◌, ◌^◌, ◌∙◌, ◌∷◌, ◌≡◌, ◌≤◌}
+use Rattle.std.proofs.Common.{true, Bool, List, None, Option, Some, [], ap, arith, cond, drop, false, get_or, inl, inr, length, length-append, length-set, min, refl, set, subst, suc, sym, take, zero, ℕ, ℤ, ◌*◌, ◌++◌, ◌+◌, ◌-◌, ◌<◌, ◌^◌, ◌∙◌, ◌∷◌, ◌≡◌, ◌≤◌}
 use Rattle.std.proofs.Math.ListN.{get_or-map}
 use Rattle.std.proofs.Math.Seq.{map-set_same}
 use Rattle.std.proofs.lemmas.Bool.{cases_eq, cases_lt, cond_both}
@@ -9,39 +9,32 @@ use Rattle.strm_codes.specs.Layout.{item_size, scalars_of}
 use Rattle.strm_codes.specs.declared.codes.ReturnCode.{ReturnCode}
 use Rattle.strm_codes.specs.declared.codes.TransmitIndex.{TransmitIndex}
 use Rattle.strm_codes.specs.declared.payloads.Payload.{Payload}
-use Rattle.strm_codes.specs.declared.refusals.Refusal.{Refusal}
 use Rattle.strm_codes.specs.declared.scalars.Scalar.{Scalar}
-use Rattle.strm_handles.specs.Handles.{Handles, inserted}
-use Rattle.strm_laws.proofs.Ends.{read_fits}
-use Rattle.strm_laws.proofs.EveryRun.{IsReady-empty, ready_after}
-use Rattle.strm_laws.proofs.Naming.{end_fits, found_payload, found_there, is_end_on}
-use Rattle.strm_laws.proofs.Reacting.{HasRoom, as_moment}
-use Rattle.strm_laws.proofs.Seeing.{NamesEnd}
-use Rattle.strm_laws.proofs.Steps.{named_itself, names-operation, reacts}
-use Rattle.strm_laws.proofs.Turning.{place_by, rose, there}
-use Rattle.strm_laws.specs.Conservation.{Moment, Place, last, moment_of, names, place_of, read_place, received, target}
-use Rattle.strm_laws.specs.Laws.{AreSteps}
-use Rattle.strm_laws.specs.Untouched.{LiesApart, Region, StaysAside, bytes_of, poked_by, received_by}
-use Rattle.strm_machine.proofs.BoundLemmas.{length-poked, within}
+use Rattle.strm_handles.specs.Handles.{Handles, inserted, removed, no_handles}
+use Rattle.strm_machine.proofs.EndLemmas.{read_fits}
+use Rattle.strm_machine.proofs.Lawful.{HasRoom, as_moment}
+use Rattle.strm_machine.proofs.NamedEndLemmas.{named_itself}
+use Rattle.strm_machine.proofs.RefusalLemmas.{BytesFit}
+use Rattle.strm_machine.proofs.SoundStepLemmas.{operate-keeps, poke-keeps}
+use Rattle.strm_machine.proofs.Shapes.{stream_on, begun_on, turn_on, Operates, set_by, Shape, ByTurn, BySetting, ByPair, ByGuest, ByPoke, ByRest}
+use Rattle.strm_machine.proofs.ShapeLemmas.{reaction-shape}
+use Rattle.strm_machine.proofs.TurnChangeLemmas.{place_by, rose, there}
+use Rattle.strm_machine.specs.Moments.{Moment, Place, names, place_of, read_place, received, target}
+use Rattle.strm_machine.specs.Untouched.{LiesApart, Region, StaysAside, bytes_of, poked_by, received_by}
+use Rattle.strm_machine.proofs.BoundLemmas.{within}
 use Rattle.strm_machine.proofs.CarryLemmas.{carried-nothing}
-use Rattle.strm_machine.proofs.ReactionLemmas.{refusal-operation}
-use Rattle.strm_machine.proofs.RefusalLemmas.{named_ok, none_of_both, placed_begun, poke_fits, region_fits}
 use Rattle.strm_machine.proofs.SideLemmas.{end_placed, read_of-placed}
-use Rattle.strm_machine.proofs.SoundLemmas.{placed_at}
+use Rattle.strm_machine.proofs.SoundLemmas.{guests_after}
 use Rattle.strm_machine.proofs.StateLemmas.{memory_in-with_memory, memory_in-with_memory_other}
-use Rattle.strm_machine.proofs.TurnLemmas.{TurnKeeps, front_inside, size_in, turn-keeps, with_memory-keeps}
-use Rattle.strm_machine.specs.Making.{made_pair, read_entry, with_stream}
-use Rattle.strm_machine.specs.Meetings.{advanced, begun, carried}
-use Rattle.strm_machine.specs.Reactions.{Reaction, goes, operates, operation_step, performs, react, unless_refused, written_back}
-use Rattle.strm_machine.specs.Refusals.{end_reasons, first_of, handle_reasons, operation_reasons, refusal, region_reasons}
+use Rattle.strm_machine.proofs.TurnLemmas.{front_inside, size_in}
+use Rattle.strm_machine.specs.Making.{read_entry, with_stream}
+use Rattle.strm_machine.specs.Meetings.{advanced, carried}
+use Rattle.strm_machine.specs.Reactions.{Reaction, goes, operates, makes, on_memory, reaction, written_back}
 use Rattle.strm_machine.specs.Sides.{end_of, opposite, read_of, same_side, with_operation, write_of}
 use Rattle.strm_machine.specs.Soundness.{IsPlaced, IsSound, OperationIsPlaced, sizes_of}
-use Rattle.strm_machine.specs.State.{Guest, State, empty, guest_in, is_gone, memory_in, no_guest, no_stream, stream_at, with_handles, with_memory}
-use Rattle.strm_machine.specs.Tests.{named, items_asked, side_named, stream_named}
-use Rattle.strm_machine.specs.Turns.{Turn, completes_alone, finds, meets_by, moves, turn, with_received}
-use Rattle.strm_machine.specs.declared.limits.Limits.{Limits}
-use Rattle.strm_machine.specs.declared.replies.Reply.{Reply}
-use Rattle.strm_machine.specs.declared.steps.Step.{Step}
+use Rattle.strm_machine.specs.State.{Guest, State, guest_in, is_gone, memory_in, no_guest, no_stream, stream_at, with_handles, with_memory}
+use Rattle.strm_machine.specs.Tests.{named, stream_named}
+use Rattle.strm_machine.specs.Turns.{Turn, completes_alone, finds, rendezvous_by, moves, turn, with_received}
 use Rattle.strm_machine.specs.declared.streams.Meeting.{Meeting}
 use Rattle.strm_machine.specs.declared.streams.Meeting.TheVariants.{BothComplete, ReadCompletes, WriteCompletes}
 use Rattle.strm_machine.specs.declared.streams.Operation.{Operation}
@@ -53,8 +46,13 @@ use Rattle.strm_memory.proofs.RegionLemmas.{bytes_at-put_at_apart, bytes_at-stor
 use Rattle.strm_memory.specs.Bytes.{IsApart, bytes_at, put_at}
 use Rattle.strm_memory.specs.Items.{items_at, stored_at}
 use Rattle.strm_memory.specs.Region.{bytes_out_of_bounds}
-use Rattle.strm_machine.specs.declared.steps.Step.TheVariants as steps
-use Rattle.strm_machine.specs.declared.replies.Reply.TheVariants as replies
+use Rattle.strm_machine.specs.declared.acts.NamedEnd.{NamedEnd}
+use Rattle.strm_machine.specs.declared.acts.Making.TheVariants as makings
+use Rattle.strm_machine.specs.declared.acts.EndAct.TheVariants.{Operate}
+use Rattle.strm_machine.specs.declared.acts.MemoryAct.TheVariants.{Poke}
+use Rattle.strm_machine.specs.declared.acts.Act.{Act}
+use Rattle.strm_machine.specs.declared.acts.Act.TheVariants.{Make, OnEnd, OnMemory}
+use Rattle.std.specs.Prelude.{replicate}
 
 -- ## Memories
 
@@ -74,11 +72,11 @@ SizesStay-kept before after e = record {
 }
 
 -- only what is poked is touched, or only what is received on one stream
-stays_poked : (m : Moment) → SizesStay m.before.guests m.after.guests → BytesStay m.before.guests m.after.guests (poked_by m.step m.reply) → StaysAside m
+stays_poked : (m : Moment) → SizesStay m.before.guests m.after.guests → BytesStay m.before.guests m.after.guests (poked_by m.act m.reply) → StaysAside m
 stays_poked m s b = record { guests = s.guests; size = s.size; bytes = λ r l u. b r l u.poked }
 
 stays_received : (s : ℕ) (m : Moment) → SizesStay m.before.guests m.after.guests → BytesStay m.before.guests m.after.guests (received_by s m) → StaysAside m
-stays_received s m k b = record { guests = k.guests; size = k.size; bytes = λ r l u. b r l (u.received s) }
+stays_received s m k b = record { guests = k.guests; size = k.size; bytes = λ r l u. b r l (u.got s) }
 
 -- all memories are as they were
 stays_all : (m : Moment) → length m.before.guests ≤ length m.after.guests → ((g : ℕ) → g < length m.before.guests → memory_in m.after.guests g ≡ memory_in m.before.guests g) → StaysAside m
@@ -189,7 +187,7 @@ module _ (side : Side) (guests : List Guest) (stream : Stream) (mine : Operation
   alone_stays : (who : Side) (theirs : Operation) → Stays (completes_alone who side guests stream mine theirs)
   alone_stays who theirs = cond_both (same_side who side) _ _ Stays (λ e r l apart. refl) (λ e r l apart. refl)
 
-  meets_stay : (meeting : Meeting) (theirs : Operation) → (end_of (opposite side) stream).operation ≡ Some theirs → IsPlaced (sizes_of guests) stream.payload theirs → Stays (meets_by meeting side guests stream mine theirs)
+  meets_stay : (meeting : Meeting) (theirs : Operation) → (end_of (opposite side) stream).operation ≡ Some theirs → IsPlaced (sizes_of guests) stream.payload theirs → Stays (rendezvous_by meeting side guests stream mine theirs)
   meets_stay BothComplete theirs is held = carries_stay theirs (min mine.left theirs.left) _ is held (omega arith) (omega arith) refl
   meets_stay WriteCompletes theirs is held = alone_stays Writing theirs
   meets_stay ReadCompletes theirs is held = alone_stays Reading theirs
@@ -208,10 +206,10 @@ module _ (side : Side) (guests : List Guest) (stream : Stream) (mine : Operation
       (λ e r l apart. refl)
       (λ e. finds_stay (end_of (opposite side) stream).operation refl held)
 
--- where the step of a call has its items, by whether it names the read end
-target_by : (side : Side) (b : Bool) (g : ℕ) (ty : TransmitIndex) (handle address count : ℕ) (stream : Stream) → b ≡ same_side side Reading → cond b (read_place (operation_step side g ty handle address count) (place_of stream.reader.operation)) (place_of stream.reader.operation) ≡ place_by side stream (begun g address (items_asked ty count))
-target_by Writing b g ty handle address count stream e = rw e refl
-target_by Reading b g ty handle address count stream e = rw e refl
+-- where the act of a call has its items, by whether it names the read end
+target_by : (side : Side) (b : Bool) (end : NamedEnd) (address count : ℕ) (stream : Stream) → b ≡ same_side side Reading → cond b (read_place (OnEnd side end (Operate address count)) (place_of stream.reader.operation)) (place_of stream.reader.operation) ≡ place_by side stream (begun_on end address count)
+target_by Writing b end address count stream e = rw e refl
+target_by Reading b end address count stream e = rw e refl
 
 back_guests : (state : State) (s : ℕ) (t : Turn) (code : Option ReturnCode) → (written_back state s t code).state.guests ≡ t.guests
 back_guests state s t None = refl
@@ -221,55 +219,38 @@ back_stream : (state : State) (s : ℕ) (t : Turn) (code : Option ReturnCode) �
 back_stream state s t None l = get_or-set_same state.streams s t.stream no_stream l
 back_stream state s t (Some code) l = get_or-set_same state.streams s t.stream no_stream l
 
-written_stays : (state : State) (side : Side) (g : ℕ) (ty : TransmitIndex) (handle address count : ℕ) (s : ℕ) (t : Turn) (code : Option ReturnCode) → s < length state.streams → NamesEnd state (operation_step side g ty handle address count) s side → TurnKeeps state.guests (stream_at state s) t → BytesStay state.guests t.guests (region_by side (stream_at state s) (begun g address (items_asked ty count)) t)
-    → StaysAside (as_moment state (operation_step side g ty handle address count) (written_back state s t code))
-written_stays state side g ty handle address count s t code l named keeps b =
-    let step = operation_step side g ty handle address count in
-    let m = as_moment state step (written_back state s t code) in
-    let stream = stream_at state s in
-    let mine = begun g address (items_asked ty count) in
-    let guests : m.after.guests ≡ t.guests = back_guests state s t code in
-    let rises : received s m.after ≡ t.stream.received = ap (λ (st : Stream). st.received) (back_stream state s t code l) in
-    let place : target s m ≡ place_by side stream mine = target_by side (names s Reading state step) g ty handle address count stream (named_itself state step s side Reading named) in
+operates_stays : (state : State) (side : Side) (end : NamedEnd) (address count : ℕ) → HasRoom state → Operates state side end address count → StaysAside (as_moment state (OnEnd side end (Operate address count)) (operates state side end address count))
+operates_stays state side end address count room o =
+    let s = stream_named (named state end) in
+    let act = OnEnd side end (Operate address count) in
+    let stream = stream_on state end in
+    let mine = begun_on end address count in
+    let t = turn_on state side end address count in
+    let m = as_moment state act (operates state side end address count) in
+    let guests : m.after.guests ≡ t.guests = back_guests state s t t.code in
+    let rises : received s m.after ≡ t.stream.received = ap (λ (st : Stream). st.received) (back_stream state s t t.code o.found.made) in
+    let place : target s m ≡ place_by side stream mine = target_by side (names s Reading state act) end address count stream (named_itself state act s side Reading o.found.named) in
     let here : received_by s m ≡ region_by side stream mine t = region_same (target s m) (place_by side stream mine) _ _ place (ap (λ k. item_size (scalars_of stream.payload) * (k - stream.received)) rises) in
+    let stay = turn_stays side state.guests stream mine (room s) o.placed (end_placed (opposite side) (sizes_of state.guests) stream o.streams) in
     stays_received s m
-    (subst (SizesStay state.guests) (sym guests) (SizesStay-kept state.guests t.guests keeps.guests.sizes))
-    (λ r k apart. ap (λ gs. bytes_of gs r) guests ∙ b r k (subst (LiesApart r) here apart))
-
-operates_stays : (state : State) (side : Side) (g : ℕ) (ty : TransmitIndex) (handle address count : ℕ) → IsSound state → HasRoom state → first_of (operation_reasons state side g ty handle address count) ≡ None → StaysAside (as_moment state (operation_step side g ty handle address count) (operates state side g ty handle address count))
-operates_stays state side g ty handle address count sound room e =
-    let name = named state g ty handle in
-    let s = stream_named name in
-    let stream = stream_at state s in
-    let mine = begun g address (items_asked ty count) in
-    let first = none_of_both (region_reasons state g ty address count) (handle_reasons name ++ end_reasons state side g ty name) e in
-    let second = none_of_both (handle_reasons name) (end_reasons state side g ty name) first.1 in
-    let found = named_ok state g ty handle second.0 in
-    let end = end_fits stream side g ty (side_named name) second.1 in
-    let made = found_there state g ty handle sound found in
-    let placed = placed_begun state g ty address count stream.payload (found_payload state g ty handle sound found) (region_fits state g ty address count first.0) in
-    let streams = placed_at state s made sound in
-    written_stays state side g ty handle address count s (turn side state.guests stream mine) (turn side state.guests stream mine).code made
-    (λ k other. names-operation k other state side g ty handle address count ∙ is_end_on k side other name found end.same)
-    (turn-keeps side state.guests stream mine streams placed)
-    (turn_stays side state.guests stream mine (room s) placed (end_placed (opposite side) (sizes_of state.guests) stream streams))
+    (subst (SizesStay state.guests) (sym guests) (SizesStay-kept state.guests t.guests (operate-keeps state side end address count o).guests.sizes))
+    (λ r k apart. ap (λ gs. bytes_of gs r) guests ∙ stay r k (subst (LiesApart r) here apart))
 
 -- ## Every step
 
-poke_stays : (state : State) (g address : ℕ) (bytes : List ℕ) → refusal state (steps.Poke g address bytes) ≡ None → StaysAside (as_moment state (steps.Poke g address bytes) (goes replies.Done (record state { guests = with_memory state.guests g (put_at (memory_in state.guests g) address bytes) })))
-poke_stays state g address bytes e =
+poke_stays : (state : State) (g address : ℕ) (bytes : List ℕ) → BytesFit state g address (length bytes) → StaysAside (as_moment state (OnMemory g (Poke address bytes)) (on_memory state g (Poke address bytes)))
+poke_stays state g address bytes fits =
     let memory = memory_in state.guests g in
-    let new = put_at memory address bytes in
-    let m = as_moment state (steps.Poke g address bytes) (goes replies.Done (record state { guests = with_memory state.guests g new })) in
-    let fits = poke_fits state g address bytes e in
+    let m = as_moment state (OnMemory g (Poke address bytes)) (on_memory state g (Poke address bytes)) in
     stays_poked m
-    (SizesStay-kept state.guests m.after.guests (with_memory-keeps state.guests g new (length-poked memory address bytes fits.inside)).sizes)
-    (λ r l apart. bytes_with state.guests g new r fits.there (λ f. put_stays memory address bytes r.place.address r.size fits.inside (apart f)))
+    (SizesStay-kept state.guests m.after.guests (poke-keeps state g address bytes fits).sizes)
+    (λ r l apart. bytes_with state.guests g (put_at memory address bytes) r fits.there (λ f. put_stays memory address bytes r.place.address r.size fits.inside (apart f)))
 
 -- a guest behind the others
-guest_stays : (state : State) (size : ℕ) (guest : Guest) (reply : Reply) → StaysAside (as_moment state (steps.Guest size) (goes reply (record state { guests = state.guests ++ guest ∷ [] })))
-guest_stays state size guest reply =
-    stays_all (as_moment state (steps.Guest size) (goes reply (record state { guests = state.guests ++ guest ∷ [] })))
+guest_stays : (state : State) (size : ℕ) → StaysAside (as_moment state (Make (makings.Guest size)) (makes state (makings.Guest size)))
+guest_stays state size =
+    let guest : Guest = record { memory = replicate size 0; handles = no_handles } in
+    stays_all (as_moment state (Make (makings.Guest size)) (makes state (makings.Guest size)))
     (omega (arith, length-append state.guests (guest ∷ [])))
     (λ g l. ap (λ (k : Guest). k.memory) (get_or_append_left state.guests (guest ∷ []) no_guest g l))
 
@@ -279,41 +260,27 @@ handles_stay m guests g handles n same e =
     (omega (arith, n, ap length e, length-set guests g (record (guest_in guests g) { handles = handles })))
     (λ k l. ap (λ gs. memory_in gs k) e ∙ memory_in-with_handles guests g handles k ∙ same k)
 
-between_stays : (state : State) (writer reader : ℕ) (ty : TransmitIndex) → StaysAside (as_moment state (steps.Between writer reader ty) (goes (replies.Pair (made_pair state writer reader ty)) (with_stream state writer reader ty)))
+-- a handle that is freed, or none is
+after_stays : (m : Moment) (frees : Bool) (g handle : ℕ) → m.after.guests ≡ guests_after frees m.before.guests g handle → StaysAside m
+after_stays m true g handle e = handles_stay m m.before.guests g (removed (guest_in m.before.guests g).handles handle) (omega arith) (λ k. refl) e
+after_stays m false g handle e = stays_same m e
+
+pair_stays : (state : State) (writer reader : ℕ) (ty : TransmitIndex) → StaysAside (as_moment state (Make (makings.Between writer reader ty)) (makes state (makings.Between writer reader ty)))
 unfolding with_stream
-between_stays state writer reader ty =
-    let m = as_moment state (steps.Between writer reader ty) (goes (replies.Pair (made_pair state writer reader ty)) (with_stream state writer reader ty)) in
+pair_stays state writer reader ty =
+    let m = as_moment state (Make (makings.Between writer reader ty)) (makes state (makings.Between writer reader ty)) in
     let new = inserted (guest_in state.guests reader).handles (read_entry ty (length state.streams)) in
     handles_stay m (with_handles state.guests reader new) writer _
     (omega (arith, length-set state.guests reader (record (guest_in state.guests reader) { handles = new })))
     (memory_in-with_handles state.guests reader new) refl
 
-performs_stays : (state : State) (step : Step) → IsSound state → HasRoom state → refusal state step ≡ None → StaysAside (as_moment state step (performs state step))
-unfolding performs
-performs_stays state (steps.Guest size) h room e = guest_stays state size _ _
-performs_stays state (steps.Between writer reader ty) h room e = between_stays state writer reader ty
-performs_stays state (steps.Write g ty handle address count) h room e = operates_stays state Writing g ty handle address count h room (sym (refusal-operation state Writing g ty handle address count) ∙ e)
-performs_stays state (steps.Read g ty handle address count) h room e = operates_stays state Reading g ty handle address count h room (sym (refusal-operation state Reading g ty handle address count) ∙ e)
-performs_stays state (steps.DropWrite g ty handle) h room e = handles_stay (as_moment state (steps.DropWrite g ty handle) _) state.guests g _ (omega arith) (λ k. refl) refl
-performs_stays state (steps.DropRead g ty handle) h room e = handles_stay (as_moment state (steps.DropRead g ty handle) _) state.guests g _ (omega arith) (λ k. refl) refl
-performs_stays state (steps.Event g handle) h room e = stays_same (as_moment state (steps.Event g handle) _) refl
-performs_stays state (steps.Poke g address bytes) h room e = poke_stays state g address bytes e
-performs_stays state (steps.Dump g address len) h room e = stays_same (as_moment state (steps.Dump g address len) _) refl
+shape-stays : (state : State) (act : Act) (r : Reaction) → HasRoom state → Shape state act r → StaysAside (as_moment state act r)
+shape-stays state act r room (ByTurn side end address count a e o) = rw (a, e) (operates_stays state side end address count room o)
+shape-stays state act r room (BySetting reply x e set) = rw e (after_stays (as_moment state act (goes reply (set_by state x))) x.frees x.guest x.handle refl)
+shape-stays state act r room (ByPair writer reader ty a e fits) = rw (a, e) (pair_stays state writer reader ty)
+shape-stays state act r room (ByGuest size a e fits) = rw (a, e) (guest_stays state size)
+shape-stays state act r room (ByPoke g address bytes a e fits) = rw (a, e) (poke_stays state g address bytes fits)
+shape-stays state act r room (ByRest reply e none) = rw e (stays_same (as_moment state act (goes reply state)) refl)
 
-unless_stays : (state : State) (step : Step) (o : Option Refusal) → refusal state step ≡ o → IsSound state → HasRoom state → StaysAside (as_moment state step (unless_refused state step o))
-unless_stays state step None e h room = performs_stays state step h room e
-unless_stays state step (Some r) e h room = stays_same (as_moment state step (goes (replies.Refused r) state)) refl
-
-react_stays : (state : State) (step : Step) → IsSound state → HasRoom state → StaysAside (moment_of state step)
-unfolding react
-react_stays state step h room =
-    cond_both state.trapped _ _ (λ (r : Reaction). StaysAside (as_moment state step r))
-    (λ e. stays_same (as_moment state step (goes replies.StoreTrapped state)) refl)
-    (λ e. unless_stays state step (refusal state step) refl h room)
-
--- after any run
-pub other_bytes_stay : (tag : ℕ) (limits : Limits) (run : List Step) (step : Step) → AreSteps (run ++ step ∷ []) → StaysAside (moment_of (last (empty tag limits) run) step)
-other_bytes_stay tag limits run step a =
-    let end = last (empty tag limits) run in
-    let ready = ready_after reacts (empty tag limits) run (step ∷ []) (IsReady-empty tag limits (run ++ step ∷ []) a) in
-    react_stays end step ready.lawful.sound (λ s. omega (arith, ready.room s))
+pub reaction-stays : (state : State) (act : Act) → IsSound state → HasRoom state → StaysAside (as_moment state act (reaction state act))
+reaction-stays state act h room = shape-stays state act (reaction state act) room (reaction-shape state act h)

@@ -8,7 +8,7 @@ use Rattle.strm_machine.specs.declared.streams.Side.{Side}
 use Rattle.strm_machine.specs.declared.streams.Side.TheVariants.{Writing}
 use Rattle.strm_machine.specs.declared.streams.Stream.{Stream}
 use Rattle.strm_machine.specs.declared.streams.Operation.{Operation}
-use Rattle.strm_laws.specs.Conservation.{Moment, Call, report_in, accepted_in, count_reported, k_of, items_in, got_in}
+use Rattle.strm_machine.specs.Moments.{Moment, Call, report_in, accepted_in, count_reported, k_of, items_in, got_in}
 
 -- what the law sees of one moment on one end of a stream
 pub record Scene : Type 0 where

@@ -6,11 +6,15 @@ use Rattle.std.specs.Prelude.{is_some}
 use Rattle.strm_codes.specs.declared.codes.ReturnCode.{ReturnCode}
 use Rattle.strm_codes.specs.declared.codes.TransmitKind.{TransmitKind}
 use Rattle.strm_machine.specs.declared.streams.Side.{Side}
-use Rattle.strm_machine.specs.declared.steps.Step.{Step}
-use Rattle.strm_machine.specs.declared.steps.Step.TheVariants as steps
+use Rattle.strm_machine.specs.declared.acts.NamedEnd.{NamedEnd}
+use Rattle.strm_machine.specs.declared.acts.EndAct.{EndAct}
+use Rattle.strm_machine.specs.declared.acts.EndAct.TheVariants.{Operate}
+use Rattle.strm_machine.specs.declared.acts.Act.{Act}
+use Rattle.strm_machine.specs.declared.acts.Act.TheVariants.{OnEnd}
 use Rattle.strm_machine.specs.declared.replies.Reply.{Reply}
 use Rattle.strm_machine.specs.declared.replies.Reply.TheVariants as replies
-use Rattle.strm_laws.specs.Conservation.{Moment, Call, is_named, report_in, first_report, call_of, accepted, accepted_in, calls, k_of, all_reported, got, got_in}
+use Rattle.strm_machine.specs.Moments.{Moment, Call, is_named, report_in, call_on, call_of, accepted, accepted_in, k_of, got_in}
+use Rattle.strm_laws.specs.Conservation.{first_report, calls, all_reported, got}
 use Rattle.strm_laws.specs.Laws.{AreReported}
 
 option_or-none : (a : Option ReturnCode) → option_or a None ≡ a
@@ -43,34 +47,31 @@ pub settled-none : (ws : List Call) → settled None ws ≡ ws
 settled-none [] = refl
 settled-none (w ∷ ws) = rw (option_or-none w.report, settled-none ws) refl
 
-call_of-settled : (step : Step) (a r : Option ReturnCode) → call_of step (option_or a r) ≡ settled r (call_of step a)
-call_of-settled (steps.Guest size) a r = refl
-call_of-settled (steps.Between writer reader ty) a r = refl
-call_of-settled (steps.Write g ty handle address count) a r = refl
-call_of-settled (steps.Read g ty handle address count) a r = refl
-call_of-settled (steps.DropWrite g ty handle) a r = refl
-call_of-settled (steps.DropRead g ty handle) a r = refl
-call_of-settled (steps.Event g handle) a r = refl
-call_of-settled (steps.Poke g address bytes) a r = refl
-call_of-settled (steps.Dump g address len) a r = refl
+call_on-settled : (end : NamedEnd) (act : EndAct) (a r : Option ReturnCode) → call_on end act (option_or a r) ≡ settled r (call_on end act a)
+call_on-settled end (Operate address count) a r = refl
+call_on-settled end _ a r = refl
 
-accepted-settled : (step : Step) (reply : Reply) (a r : Option ReturnCode) → accepted step reply (option_or a r) ≡ settled r (accepted step reply a)
-accepted-settled step (replies.Code code) a r = call_of-settled step a r
-accepted-settled step replies.Done a r = refl
-accepted-settled step (replies.Number n) a r = refl
-accepted-settled step (replies.Pair pair) a r = refl
-accepted-settled step (replies.Event code) a r = refl
-accepted-settled step (replies.Bytes bytes) a r = refl
-accepted-settled step (replies.Refused refusal) a r = refl
-accepted-settled step (replies.BadItem stream) a r = refl
-accepted-settled step replies.StoreTrapped a r = refl
+call_of-settled : (act : Act) (a r : Option ReturnCode) → call_of act (option_or a r) ≡ settled r (call_of act a)
+call_of-settled (OnEnd side end act) a r = call_on-settled end act a r
+call_of-settled _ a r = refl
+
+accepted-settled : (act : Act) (reply : Reply) (a r : Option ReturnCode) → accepted act reply (option_or a r) ≡ settled r (accepted act reply a)
+accepted-settled act (replies.Code code) a r = call_of-settled act a r
+accepted-settled act replies.Done a r = refl
+accepted-settled act (replies.Number n) a r = refl
+accepted-settled act (replies.Pair pair) a r = refl
+accepted-settled act (replies.Event code) a r = refl
+accepted-settled act (replies.Bytes bytes) a r = refl
+accepted-settled act (replies.Refused refusal) a r = refl
+accepted-settled act (replies.BadItem stream) a r = refl
+accepted-settled act replies.StoreTrapped a r = refl
 
 cond-settled : (b : Bool) (r : Option ReturnCode) (xs ys : List Call) → xs ≡ settled r ys → cond b xs [] ≡ settled r (cond b ys [])
 cond-settled true r xs ys e = e
 cond-settled false r xs ys e = refl
 
 accepted_in-settled : (s : ℕ) (side : Side) (m : Moment) (a r : Option ReturnCode) → accepted_in s side m (option_or a r) ≡ settled r (accepted_in s side m a)
-accepted_in-settled s side m a r = cond-settled (is_named s side m) r _ (accepted m.step m.reply a) (accepted-settled m.step m.reply a r)
+accepted_in-settled s side m a r = cond-settled (is_named s side m) r _ (accepted m.act m.reply a) (accepted-settled m.act m.reply a r)
 
 first_report-push : (s : ℕ) (side : Side) (all : List Moment) (m : Moment) → first_report s side (all ++ m ∷ []) ≡ option_or (first_report s side all) (report_in s side m)
 first_report-push s side [] m = option_or-none (report_in s side m)

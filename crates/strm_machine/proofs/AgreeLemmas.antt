@@ -9,7 +9,7 @@ use Rattle.strm_machine.specs.declared.streams.Owner.{Owner}
 use Rattle.strm_machine.specs.declared.streams.Owner.TheVariants.{Held, Gone}
 use Rattle.strm_machine.specs.declared.streams.Side.{Side}
 use Rattle.strm_machine.specs.declared.streams.Side.TheVariants.{Writing, Reading}
-use Rattle.strm_laws.specs.Conservation.{is_end}
+use Rattle.strm_machine.specs.Moments.{is_end}
 
 -- ## One end or another
 

@@ -1,11 +1,10 @@
--- What a future keeps: its operations are of one item, which has moved just where they have met, and
--- it passes one item.
+-- What a stream keeps of its operations: one that has not met has moved nothing, and those of a future are
+-- of one item, which has moved just where they have met and passes once.
 use Rattle.std.proofs.Common.{◌≡◌, ℕ, ◌+◌, ◌-◌, ◌≤◌, Bool, true, false, Option, None, Some, refl, sym, subst, arith}
 use Rattle.std.specs.Prelude.{if◌then◌else◌, ◌||◌}
 use Rattle.std.proofs.lemmas.Bool.{le-ltb}
 use Rattle.strm_codes.specs.Codes.{completed_code}
 use Rattle.strm_codes.specs.Types.{kind_of}
-use Rattle.strm_codes.specs.declared.codes.ReturnCode.{ReturnCode}
 use Rattle.strm_codes.specs.declared.codes.ReturnCode.TheVariants as codes
 use Rattle.strm_codes.specs.declared.codes.StreamResult.TheVariants.{Completed}
 use Rattle.strm_codes.specs.declared.codes.TransmitIndex.{TransmitIndex}
@@ -13,18 +12,18 @@ use Rattle.strm_codes.specs.declared.codes.TransmitIndex.TheVariants as index
 use Rattle.strm_codes.specs.declared.codes.TransmitKind.{TransmitKind}
 use Rattle.strm_codes.specs.declared.codes.TransmitKind.TheVariants.{Stream as AStream, Future}
 use Rattle.strm_codes.specs.declared.payloads.Payload.{Payload}
-use Rattle.strm_events.specs.Reports.{left_pending}
-use Rattle.strm_machine.specs.Sides.{opposite, end_of}
+use Rattle.strm_machine.specs.Sides.{opposite, end_of, with_end}
 use Rattle.strm_machine.specs.Meetings.{begun, advanced}
 use Rattle.strm_machine.specs.Turns.{is_future}
 use Rattle.strm_machine.specs.Tests.{items_asked, has_ended}
-use Rattle.strm_machine.specs.Endings.{report_on, delivered, dropped}
 use Rattle.strm_machine.specs.declared.streams.Side.{Side}
 use Rattle.strm_machine.specs.declared.streams.Side.TheVariants.{Writing, Reading}
 use Rattle.strm_machine.specs.declared.streams.Operation.{Operation}
 use Rattle.strm_machine.specs.declared.streams.Stream.{Stream}
+use Rattle.strm_machine.specs.declared.streams.End.{End}
+use Rattle.strm_machine.proofs.EndLemmas.{IsLeft, left_by}
 use Rattle.strm_machine.proofs.RefusalLemmas.{neither}
-use Rattle.strm_laws.specs.Conservation.{count_reported}
+use Rattle.strm_machine.specs.Moments.{count_reported}
 
 -- ## Operations of one item
 
@@ -83,9 +82,29 @@ pub PassesOne-by : (side : Side) (stream : Stream) → AreOne (end_of side strea
 PassesOne-by Writing stream h k e = record { writing = h; reading = k; count = e }
 PassesOne-by Reading stream h k e = record { writing = k; reading = h; count = e }
 
--- a stream that passes one item if it is a future
-abbrev pub IsSingle : Stream → Type 0
-IsSingle stream = stream.kind ≡ Future → PassesOne stream
+-- ## Any stream
+
+-- an operation that has not met has moved nothing
+abbrev pub IsUnmoved : Option Operation → Type 0
+IsUnmoved None = Unit {0}
+IsUnmoved (Some o) = o.met ≡ false → o.moved ≡ 0
+
+pub none_unmoved : (q : Option Operation) → q ≡ None → IsUnmoved q
+none_unmoved q e = subst IsUnmoved (sym e) tt
+
+-- the operations of a stream tally with what it received
+pub record Tallies (stream : Stream) : Type 0 where
+  pub writing : IsUnmoved stream.writer.operation
+  pub reading : IsUnmoved stream.reader.operation
+  pub one : stream.kind ≡ Future → PassesOne stream
+
+pub unmoved_on : (side : Side) (stream : Stream) → Tallies stream → IsUnmoved (end_of side stream).operation
+unmoved_on Writing stream h = h.writing
+unmoved_on Reading stream h = h.reading
+
+pub Tallies-by : (side : Side) (stream : Stream) → IsUnmoved (end_of side stream).operation → IsUnmoved (end_of (opposite side) stream).operation → (stream.kind ≡ Future → PassesOne stream) → Tallies stream
+Tallies-by Writing stream h k one = record { writing = h; reading = k; one = one }
+Tallies-by Reading stream h k one = record { writing = k; reading = h; one = one }
 
 -- at most one item was received
 pub received_one : (stream : Stream) → PassesOne stream → stream.received ≤ 1
@@ -128,18 +147,16 @@ pub count_reported-dropped : (kind : TransmitKind) → count_reported kind (code
 count_reported-dropped AStream = refl
 count_reported-dropped Future = refl
 
--- ## Events and drops
+-- ## A stream with another end
 
-left_one : (code : Option ReturnCode) (o : Option Operation) → AreOne o → AreOne (left_pending code o)
-left_one None o h = h
-left_one (Some code) o h = tt
-
-pub IsSingle-delivered : (side : Side) (stream : Stream) → IsSingle stream → IsSingle (delivered side stream)
-unfolding delivered
-IsSingle-delivered Writing stream h k = let p = h k in record { writing = left_one (report_on Writing stream) stream.writer.operation p.writing; reading = p.reading; count = p.count }
-IsSingle-delivered Reading stream h k = let p = h k in record { writing = p.writing; reading = left_one (report_on Reading stream) stream.reader.operation p.reading; count = p.count }
-
-pub IsSingle-dropped : (side : Side) (stream : Stream) → IsSingle stream → IsSingle (dropped side stream)
-unfolding dropped
-IsSingle-dropped Writing stream h k = let p = h k in record { writing = p.writing; reading = p.reading; count = p.count }
-IsSingle-dropped Reading stream h k = let p = h k in record { writing = p.writing; reading = p.reading; count = p.count }
+pub Tallies-with_end : (side : Side) (stream : Stream) (e : End) → IsLeft (end_of side stream).operation e.operation → Tallies stream → Tallies (with_end side stream e)
+Tallies-with_end Writing stream e left h = record {
+  writing = left_by IsUnmoved stream.writer.operation e.operation left h.writing tt;
+  reading = h.reading;
+  one = λ k. let p = h.one k in record { writing = left_by AreOne stream.writer.operation e.operation left p.writing tt; reading = p.reading; count = p.count };
+}
+Tallies-with_end Reading stream e left h = record {
+  writing = h.writing;
+  reading = left_by IsUnmoved stream.reader.operation e.operation left h.reading tt;
+  one = λ k. let p = h.one k in record { writing = p.writing; reading = left_by AreOne stream.reader.operation e.operation left p.reading tt; count = p.count };
+}

@@ -11,7 +11,7 @@ use Rattle.strm_machine.specs.Soundness.{handles_of}
 use Rattle.strm_machine.specs.declared.streams.Owner.{Owner}
 use Rattle.strm_machine.specs.declared.streams.Side.{Side}
 use Rattle.strm_machine.specs.declared.streams.Stream.{Stream}
-use Rattle.strm_laws.proofs.Owning.{OwnersStay, owner_stays}
+use Rattle.strm_machine.proofs.OwnerLemmas.{OwnersStay, owner_stays}
 
 -- ## Guests
 

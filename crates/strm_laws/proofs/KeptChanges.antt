@@ -10,12 +10,13 @@ use Rattle.strm_machine.specs.State.{State, Guest}
 use Rattle.strm_machine.specs.declared.streams.Side.{Side}
 use Rattle.strm_machine.specs.declared.streams.Side.TheVariants.{Writing}
 use Rattle.strm_machine.specs.declared.streams.Operation.{Operation}
-use Rattle.strm_laws.specs.Conservation.{Moment, Call, report_in, count_reported, k_of, moved_of, items_in, received, calls, all_reported, got, handed, all_handed}
-use Rattle.strm_laws.specs.Laws.{total, waiting, moved_at, IsWithin, AreReported, Carries}
-use Rattle.strm_laws.proofs.Writing.{all_reported-push, got-push}
-use Rattle.strm_laws.proofs.Handing.{decoded-none, total-append, total-reported, handed-none, handed-place, all_handed-reported, all_handed-append, all_handed-old, all_handed-one}
-use Rattle.strm_laws.proofs.Changes.{scene, Rests, GoesOn, Settles, Opens, Serves, Change, ByRest, ByGoing, BySettling, ByOpening, ByServing}
-use Rattle.strm_laws.proofs.More.{kind_at, payload_at, Kept, reached_more, within_reported, within_front, none_reported, some_carries, from_none, from_some, calls-same, calls-unreported, calls-taken, calls-settled, kept_from}
+use Rattle.strm_machine.specs.Moments.{Moment, Call, report_in, count_reported, k_of, moved_of, items_in, received}
+use Rattle.strm_laws.specs.Conservation.{calls, all_reported, got, handed, all_handed}
+use Rattle.strm_laws.specs.Laws.{total, waiting, moved_at, IsAsked, AreReported, Carries}
+use Rattle.strm_laws.proofs.Calls.{all_reported-push, got-push}
+use Rattle.strm_laws.proofs.Handed.{decoded-none, total-append, total-reported, handed-none, handed-place, all_handed-reported, all_handed-append, all_handed-old, all_handed-one}
+use Rattle.strm_machine.proofs.Changes.{scene, Rests, GoesOn, Settles, Opens, Serves, Change, ByRest, ByGoing, BySettling, ByOpening, ByServing}
+use Rattle.strm_laws.proofs.Kept.{kind_at, payload_at, Kept, reached_more, within_reported, within_front, none_reported, some_carries, from_none, from_some, calls-same, calls-unreported, calls-taken, calls-settled, kept_from}
 
 moved_none : (o : Option Operation) → o ≡ None → moved_of o ≡ 0
 moved_none o e = ap moved_of e
@@ -49,7 +50,7 @@ record IsIdle (kind : TransmitKind) (s : ℕ) (side : Side) (all : List Moment) 
   reported : AreReported (calls s side all)
   items : side ≡ Writing → got s all ≡ all_handed kind s all 0 0 (calls s side all)
   count : received s state ≡ total kind 0 (calls s side all)
-  within : All (IsWithin kind 0) (calls s side all)
+  within : All (IsAsked kind 0) (calls s side all)
   told : all_reported kind s side all + 0 ≡ received s state
 
 is_idle : (kind : TransmitKind) (s : ℕ) (side : Side) (all : List Moment) (state : State) → Kept kind s side all state → waiting s side state ≡ None → IsIdle kind s side all state
@@ -59,7 +60,7 @@ is_idle kind s side all state k e =
       reported = none_reported (payload_at s state) (waiting s side state) (calls s side all) e k.stands;
       items = λ w. k.items w ∙ ap (λ n. all_handed kind s all n 0 (calls s side all)) none;
       count = k.count ∙ ap (λ n. total kind n (calls s side all)) none;
-      within = subst (λ n. All (IsWithin kind n) (calls s side all)) none k.within;
+      within = subst (λ n. All (IsAsked kind n) (calls s side all)) none k.within;
       told = ap (λ n. all_reported kind s side all + n) (sym none) ∙ k.told;
     }
 
@@ -67,7 +68,7 @@ is_idle kind s side all state k e =
 record IsBusy (kind : TransmitKind) (s : ℕ) (side : Side) (all : List Moment) (state : State) (o : Operation) (earlier : List Call) (w : Call) (moved : ℕ) : Type 0 where
   items : side ≡ Writing → got s all ≡ all_handed kind s all moved 0 earlier ++ handed s all (total kind moved earlier) w 0 o.moved
   count : received s state ≡ total kind moved earlier + o.moved
-  within : All (IsWithin kind moved) earlier
+  within : All (IsAsked kind moved) earlier
   told : all_reported kind s side all + o.moved ≡ received s state
 
 is_busy : (kind : TransmitKind) (s : ℕ) (side : Side) (all : List Moment) (state : State) (o : Operation) (earlier : List Call) (w : Call) (moved : ℕ) → Kept kind s side all state → waiting s side state ≡ Some o → calls s side all ≡ earlier ++ w ∷ [] → AreReported earlier → w.report ≡ None → IsBusy kind s side all state o earlier w moved
@@ -77,7 +78,7 @@ is_busy kind s side all state o earlier w moved k e split h u =
     let b : k_of kind o.moved w.report ≡ o.moved = rw u refl in
     let z : 0 + total kind moved earlier ≡ total kind moved earlier = omega arith in
     let now : all_handed kind s all (moved_at s side state) 0 (calls s side all) ≡ all_handed kind s all o.moved 0 (earlier ++ w ∷ []) = rw (some, split) refl in
-    let within : All (IsWithin kind o.moved) (earlier ++ w ∷ []) = rw (some, split) at k.within in
+    let within : All (IsAsked kind o.moved) (earlier ++ w ∷ []) = rw (some, split) at k.within in
     record {
       items = λ i. k.items i ∙ now ∙ (rw (all_handed-append kind s all o.moved 0 earlier (w ∷ []), total-reported kind o.moved moved earlier h, all_handed-reported kind s all o.moved moved 0 earlier h, z, all_handed-one kind s all o.moved (total kind moved earlier) w, b) refl);
       count = a ∙ (rw (total-append kind o.moved earlier (w ∷ []), total-reported kind o.moved moved earlier h, b) (omega arith));

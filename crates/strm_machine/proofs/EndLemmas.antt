@@ -1,6 +1,6 @@
 -- The two ends of a stream, mine and the opposite one, after a change of mine or of both.
-use Rattle.std.proofs.Common.{◌≡◌, ℕ, ◌+◌, ◌-◌, ◌^◌, ◌≤◌, Bool, true, false, min, Option, Some, refl, sym, subst, ap}
-use Rattle.std.specs.Prelude.{◌&&◌, ◌||◌}
+use Rattle.std.proofs.Common.{◌≡◌, ℕ, ◌+◌, ◌-◌, ◌^◌, ◌≤◌, Bool, true, false, min, Option, Some, None, refl, sym, subst, ap, ⊎_elim}
+use Rattle.std.specs.Prelude.{◌&&◌, ◌||◌, ◌⊎◌}
 use Rattle.std.proofs.lemmas.Bool.{and_right}
 use Rattle.strm_machine.specs.Sides.{opposite, same_side, end_of, with_end, with_operation, write_of, read_of}
 use Rattle.strm_machine.specs.Turns.{is_future, with_received}
@@ -9,7 +9,7 @@ use Rattle.strm_machine.specs.declared.streams.Side.TheVariants.{Writing, Readin
 use Rattle.strm_machine.specs.declared.streams.Operation.{Operation}
 use Rattle.strm_machine.specs.declared.streams.End.{End}
 use Rattle.strm_machine.specs.declared.streams.Stream.{Stream}
-use Rattle.strm_laws.specs.Laws.{both_open, is_opened}
+use Rattle.strm_machine.specs.Soundness.{type_of, both_open, is_opened}
 
 -- what holds of a side and of the opposite one holds of each
 pub each_side : (P : Side → Type 0) (side : Side) → P side → P (opposite side) → (other : Side) → P other
@@ -97,3 +97,33 @@ stays_same side old new e = record {
 
 pub stays_by : (side : Side) (old new other : Stream) → other ≡ new → Stays side old new → Stays side old other
 stays_by side old new other e h = subst (Stays side old) (sym e) h
+
+-- ## A stream with another end
+
+-- what becomes of an operation whose end is set to another: it stays, or ends
+abbrev pub IsLeft : Option Operation → Option Operation → Type 0
+IsLeft o q = (q ≡ o) ⊎ (q ≡ None)
+
+-- what holds of an operation and of none holds of what it becomes
+pub left_by : (P : Option Operation → Type 0) (o q : Option Operation) → IsLeft o q → P o → P None → P q
+left_by P o q left h n = ⊎_elim (λ e. subst P (sym e) h) (λ e. subst P (sym e) n) left
+
+pub with_end-apart : (side : Side) (stream : Stream) (e : End) → IsLeft (end_of side stream).operation e.operation → both_open stream ≡ false → both_open (with_end side stream e) ≡ false
+with_end-apart Writing stream e left h = left_by (λ q. is_opened q && is_opened stream.reader.operation ≡ false) stream.writer.operation e.operation left h refl
+with_end-apart Reading stream e left h = left_by (λ q. is_opened stream.writer.operation && is_opened q ≡ false) stream.reader.operation e.operation left h (and_right (is_opened stream.writer.operation) false refl)
+
+pub with_end-type : (side : Side) (stream : Stream) (e : End) → type_of (with_end side stream e) ≡ type_of stream
+with_end-type Writing stream e = refl
+with_end-type Reading stream e = refl
+
+-- the end is another, and all else stays
+pub record IsReplaced (side : Side) (old new : Stream) (e : End) : Type 0 where
+  pub here : end_of side new ≡ e
+  pub other : end_of (opposite side) new ≡ end_of (opposite side) old
+  pub payload : new.payload ≡ old.payload
+  pub kind : new.kind ≡ old.kind
+  pub count : new.received ≡ old.received
+
+pub with_end-replaces : (side : Side) (stream : Stream) (e : End) → IsReplaced side stream (with_end side stream e) e
+with_end-replaces Writing stream e = record { here = refl; other = refl; payload = refl; kind = refl; count = refl }
+with_end-replaces Reading stream e = record { here = refl; other = refl; payload = refl; kind = refl; count = refl }

@@ -13,10 +13,11 @@ use Rattle.strm_machine.specs.State.{State, stream_at}
 use Rattle.strm_machine.specs.declared.streams.Side.{Side}
 use Rattle.strm_machine.specs.declared.streams.Side.TheVariants.{Writing}
 use Rattle.strm_machine.specs.declared.streams.Operation.{Operation}
-use Rattle.strm_laws.specs.Conservation.{Moment, Call, k_of, items_in, received, report_in, accepted_in, calls, all_reported, got, got_in, handed, all_handed}
-use Rattle.strm_laws.specs.Laws.{total, waiting, moved_at, IsWithin, AreReported, Carries, Stands}
-use Rattle.strm_laws.proofs.Writing.{settled-append, settled-reported, settled-none, calls-push, all_reported-push, got-push}
-use Rattle.strm_laws.proofs.Handing.{IsReached, reaches-push, k_of-reported, total-append, handed-old, handed-new, handed-add, all_handed-append, all_handed-old, all_handed-one}
+use Rattle.strm_machine.specs.Moments.{Moment, Call, k_of, items_in, received, report_in, accepted_in, got_in}
+use Rattle.strm_laws.specs.Conservation.{calls, all_reported, got, handed, all_handed}
+use Rattle.strm_laws.specs.Laws.{total, waiting, moved_at, IsAsked, AreReported, Carries, Stands}
+use Rattle.strm_laws.proofs.Calls.{settled-append, settled-reported, settled-none, calls-push, all_reported-push, got-push}
+use Rattle.strm_laws.proofs.Handed.{IsReached, reaches-push, k_of-reported, total-append, handed-old, handed-new, handed-add, all_handed-append, all_handed-old, all_handed-one}
 
 abbrev pub kind_at : ℕ → State → TransmitKind
 kind_at s state = (stream_at state s).kind
@@ -29,7 +30,7 @@ pub record Kept (kind : TransmitKind) (s : ℕ) (side : Side) (all : List Moment
   pub stands : Stands (payload_at s state) (waiting s side state) (calls s side all)
   pub items : side ≡ Writing → got s all ≡ all_handed kind s all (moved_at s side state) 0 (calls s side all)
   pub count : received s state ≡ total kind (moved_at s side state) (calls s side all)
-  pub within : All (IsWithin kind (moved_at s side state)) (calls s side all)
+  pub within : All (IsAsked kind (moved_at s side state)) (calls s side all)
   pub told : all_reported kind s side all + moved_at s side state ≡ received s state
   pub reached : IsReached s all (received s state)
 
@@ -40,16 +41,16 @@ pub reached_more : (s : ℕ) (all : List Moment) (m : Moment) (r t : ℕ) → Is
 reached_more s all m r t h e le n = rw (reaches-push s all m n, h n, e) (or-ltb n r t le)
 
 -- where all have their reports, what the operation moved doesn't count
-pub within_reported : (kind : TransmitKind) (a b : ℕ) (cs : List Call) → AreReported cs → All (IsWithin kind a) cs → All (IsWithin kind b) cs
-within_reported kind a b [] h w = All-nil (IsWithin kind b)
+pub within_reported : (kind : TransmitKind) (a b : ℕ) (cs : List Call) → AreReported cs → All (IsAsked kind a) cs → All (IsAsked kind b) cs
+within_reported kind a b [] h w = All-nil (IsAsked kind b)
 within_reported kind a b (c ∷ cs) h w =
     let here : k_of kind a c.report ≡ k_of kind b c.report = k_of-reported kind a b c.report h.0 in
-    let within : k_of kind a c.report ≤ c.asked = All-head (IsWithin kind a) c cs w in
-    All-cons (IsWithin kind b) c cs (omega (arith, here, within)) (within_reported kind a b cs h.1 (All-tail (IsWithin kind a) c cs w))
+    let within : k_of kind a c.report ≤ c.asked = All-head (IsAsked kind a) c cs w in
+    All-cons (IsAsked kind b) c cs (omega (arith, here, within)) (within_reported kind a b cs h.1 (All-tail (IsAsked kind a) c cs w))
 
-pub within_front : (kind : TransmitKind) (a : ℕ) (cs ds : List Call) → All (IsWithin kind a) (cs ++ ds) → All (IsWithin kind a) cs
-within_front kind a [] ds w = All-nil (IsWithin kind a)
-within_front kind a (c ∷ cs) ds w = All-cons (IsWithin kind a) c cs (All-head (IsWithin kind a) c (cs ++ ds) w) (within_front kind a cs ds (All-tail (IsWithin kind a) c (cs ++ ds) w))
+pub within_front : (kind : TransmitKind) (a : ℕ) (cs ds : List Call) → All (IsAsked kind a) (cs ++ ds) → All (IsAsked kind a) cs
+within_front kind a [] ds w = All-nil (IsAsked kind a)
+within_front kind a (c ∷ cs) ds w = All-cons (IsAsked kind a) c cs (All-head (IsAsked kind a) c (cs ++ ds) w) (within_front kind a cs ds (All-tail (IsAsked kind a) c (cs ++ ds) w))
 
 pub none_reported : (payload : Payload) (o : Option Operation) (ws : List Call) → o ≡ None → Stands payload o ws → AreReported ws
 none_reported payload None ws e h = h
@@ -105,7 +106,7 @@ module _ (kind : TransmitKind) (s : ℕ) (side : Side) (all : List Moment) (m : 
   -- the account is kept where the last call moves n items after x others
   pub kept_from : (earlier : List Call) (w : Call) (moved r x n : ℕ) → Stands (payload_at s m.after) (waiting s side m.after) (earlier ++ w ∷ []) → calls s side (all ++ m ∷ []) ≡ earlier ++ w ∷ []
       → moved_at s side m.after ≡ moved → IsReached s all r → r ≡ total kind moved earlier + x → received s m.after ≡ r + n → k_of kind moved w.report ≡ x + n
-      → All (IsWithin kind moved) earlier → x + n ≤ w.asked
+      → All (IsAsked kind moved) earlier → x + n ≤ w.asked
       → all_reported kind s side all + x ≡ r → k_of kind 0 (report_in s side m) + moved ≡ x + n
       → (side ≡ Writing → got s all ≡ all_handed kind s all moved 0 earlier ++ handed s all (total kind moved earlier) w 0 x)
       → (side ≡ Writing → got_in s m ≡ items_in (payload_at s m.before) m.before.guests w.guest (w.address + item_size (scalars_of (payload_at s m.before)) * x) n)
@@ -114,7 +115,7 @@ module _ (kind : TransmitKind) (s : ℕ) (side : Side) (all : List Moment) (m : 
     stands = rw calls_are stands;
     items = λ e. rw (got-push s all m, here e, before e, calls_are, now) (sym (all_handed-more earlier w moved r x n reached count more k));
     count = rw (calls_are, now, total-append kind moved earlier (w ∷ []), more, k) (omega arith);
-    within = rw (calls_are, now) (All-push (IsWithin kind moved) earlier w within (omega arith));
+    within = rw (calls_are, now) (All-push (IsAsked kind moved) earlier w within (omega arith));
     told = rw (all_reported-push kind s side all m, now, more) (omega arith);
     reached = reached_more s all m r (received s m.after) reached refl (omega arith);
   }

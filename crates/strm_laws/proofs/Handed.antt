@@ -10,7 +10,8 @@ use Rattle.strm_codes.specs.declared.payloads.Payload.{Payload}
 use Rattle.strm_codes.specs.declared.scalars.Scalar.{Scalar}
 use Rattle.strm_memory.specs.Items.{decode}
 use Rattle.strm_machine.specs.State.{memory_in, stream_at}
-use Rattle.strm_laws.specs.Conservation.{Moment, Call, k_of, decoded, items_in, received, before_passing, item_handed, handed, all_handed}
+use Rattle.strm_machine.specs.Moments.{Moment, Call, k_of, decoded, items_in, received}
+use Rattle.strm_laws.specs.Conservation.{before_passing, item_handed, handed, all_handed}
 use Rattle.strm_laws.specs.Laws.{total, AreReported}
 
 -- whether the number received passed n in one of these moments

@@ -10,7 +10,7 @@ use Rattle.strm_memory.specs.Items.{items_at, stored_at}
 use Rattle.strm_machine.specs.State.{Guest, no_guest, guest_in, memory_in, with_memory, is_gone}
 use Rattle.strm_machine.specs.Sides.{opposite, same_side, end_of, with_end, write_of, read_of}
 use Rattle.strm_machine.specs.Meetings.{advanced, carried}
-use Rattle.strm_machine.specs.Turns.{Turn, waits, with_received, moves, completes_alone, meets_by, finds, turn}
+use Rattle.strm_machine.specs.Turns.{Turn, waits, with_received, moves, completes_alone, rendezvous_by, finds, turn}
 use Rattle.strm_machine.specs.Endings.{report_on, told_end, delivered}
 use Rattle.strm_machine.specs.Soundness.{handles_of}
 use Rattle.strm_machine.specs.declared.streams.Side.{Side}
@@ -89,16 +89,16 @@ alone-owns who side guests stream mine theirs =
     (λ e. record { handles = refl; owners = stay stream })
     (λ e. record { handles = refl; owners = stay_on stream met _ (operation-owners (opposite side) stream (advanced stream.payload theirs 0)) waiting.owners })
 
-meets_by-owns : (meeting : Meeting) (side : Side) (guests : List Guest) (stream : Stream) (mine theirs : Operation) → TurnOwns guests stream (meets_by meeting side guests stream mine theirs)
-meets_by-owns BothComplete side guests stream mine theirs = moves-owns side guests stream mine theirs (min mine.left theirs.left) _ refl
-meets_by-owns WriteCompletes side guests stream mine theirs = alone-owns Writing side guests stream mine theirs
-meets_by-owns ReadCompletes side guests stream mine theirs = alone-owns Reading side guests stream mine theirs
+rendezvous_by-owns : (meeting : Meeting) (side : Side) (guests : List Guest) (stream : Stream) (mine theirs : Operation) → TurnOwns guests stream (rendezvous_by meeting side guests stream mine theirs)
+rendezvous_by-owns BothComplete side guests stream mine theirs = moves-owns side guests stream mine theirs (min mine.left theirs.left) _ refl
+rendezvous_by-owns WriteCompletes side guests stream mine theirs = alone-owns Writing side guests stream mine theirs
+rendezvous_by-owns ReadCompletes side guests stream mine theirs = alone-owns Reading side guests stream mine theirs
 
 finds-owns : (side : Side) (guests : List Guest) (stream : Stream) (mine : Operation) (o : Option Operation) → TurnOwns guests stream (finds side guests stream mine o)
 finds-owns side guests stream mine None = waits-owns side guests stream mine
 finds-owns side guests stream mine (Some theirs) =
     cond_both theirs.is_open _ _ (TurnOwns guests stream)
-    (λ e. meets_by-owns _ side guests stream mine theirs)
+    (λ e. rendezvous_by-owns _ side guests stream mine theirs)
     (λ e. waits-owns side guests stream mine)
 
 -- any read or write

@@ -1,0 +1,30 @@
+-- A step seen by what it does: the one place where the machine looks at the kinds of steps. Ours.
+use Rattle.std.specs.Prelude.{ℕ}
+use Rattle.strm_codes.specs.declared.codes.TransmitIndex.{TransmitIndex}
+use Rattle.strm_machine.specs.declared.acts.NamedEnd.{NamedEnd}
+use Rattle.strm_machine.specs.declared.acts.Making.TheVariants.{Guest, Between}
+use Rattle.strm_machine.specs.declared.acts.EndAct.TheVariants.{Operate, Drop}
+use Rattle.strm_machine.specs.declared.acts.MemoryAct.TheVariants.{Poke, Dump}
+use Rattle.strm_machine.specs.declared.acts.Act.{Act}
+use Rattle.strm_machine.specs.declared.acts.Act.TheVariants.{Make, OnEnd, Event, OnMemory}
+use Rattle.strm_machine.specs.declared.steps.Step.{Step}
+use Rattle.strm_machine.specs.declared.steps.Step.TheVariants as steps
+use Rattle.strm_machine.specs.declared.streams.Side.TheVariants.{Writing, Reading}
+
+-- the end that a handle of a guest names, for an end of a type
+abbrev pub end_named_by : ℕ → TransmitIndex → ℕ → NamedEnd
+end_named_by guest ty handle = record { guest = guest; ty = ty; handle = handle }
+
+-- what a step does
+abbrev pub act_of : Step → Act
+act_of (steps.Guest size) = Make (Guest size)
+act_of (steps.Between writer reader ty) = Make (Between writer reader ty)
+act_of (steps.Write guest ty handle address count) =
+    OnEnd Writing (end_named_by guest ty handle) (Operate address count)
+act_of (steps.Read guest ty handle address count) =
+    OnEnd Reading (end_named_by guest ty handle) (Operate address count)
+act_of (steps.DropWrite guest ty handle) = OnEnd Writing (end_named_by guest ty handle) Drop
+act_of (steps.DropRead guest ty handle) = OnEnd Reading (end_named_by guest ty handle) Drop
+act_of (steps.Event guest handle) = Event guest handle
+act_of (steps.Poke guest address bytes) = OnMemory guest (Poke address bytes)
+act_of (steps.Dump guest address len) = OnMemory guest (Dump address len)

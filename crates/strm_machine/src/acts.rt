@@ -1,0 +1,144 @@
+//! A step, seen by what it does: below this view nothing looks at the kinds of steps.
+//!
+//! Ours. Steps come in pairs, one for each end of a stream, and in groups that name the same things.
+
+ghost use Rattle.std.specs.Prelude.{◌≡◌};
+ghost use Rattle.strm_machine.specs.Acts.{act_of};
+
+use crate::chunks::Chunk;
+use crate::steps::Step;
+use crate::streams::Side;
+use strm_codes::codes::TransmitIndex;
+
+/// The end that a step names: a guest's handle for an end of a type.
+#[derive(Clone, Copy, Debug, PartialEq, Eq)]
+pub struct NamedEnd {
+    pub guest: u32,
+    pub ty: TransmitIndex,
+    pub handle: u32,
+}
+
+/// What is made.
+#[derive(Clone, Copy, Debug, PartialEq, Eq)]
+pub enum Making {
+    /// A guest with a memory of so many zero bytes.
+    Guest {
+        size: u32,
+    },
+    /// A stream or future from one guest to another.
+    Between {
+        writer: u32,
+        reader: u32,
+        ty: TransmitIndex,
+    },
+}
+
+/// What is done to the end that is named.
+#[derive(Clone, Copy, Debug, PartialEq, Eq)]
+pub enum EndAct {
+    /// It reads or writes so many items, from `address` on in its guest's memory; a future's count
+    /// is not looked at.
+    Operate { address: u32, count: u32 },
+    /// It is dropped.
+    Drop,
+}
+
+/// What is done to the bytes of a guest's memory, from `address` on.
+#[derive(Clone, Copy, Debug, PartialEq, Eq)]
+pub enum MemoryAct {
+    /// They are put there.
+    Poke { address: u32, bytes: Chunk },
+    /// They are read, at most 64.
+    Dump { address: u32, len: u32 },
+}
+
+/// What a step does.
+#[derive(Clone, Copy, Debug, PartialEq, Eq)]
+pub enum Act {
+    /// It makes a guest or a stream.
+    Make {
+        making: Making,
+    },
+    /// It does something to the end on a side of a stream, which a guest's handle names.
+    OnEnd {
+        side: Side,
+        end: NamedEnd,
+        act: EndAct,
+    },
+    /// It asks what the end that a handle names is to be told, whatever its type.
+    Event {
+        guest: u32,
+        handle: u32,
+    },
+    /// It does something to a guest's memory alone.
+    OnMemory {
+        guest: u32,
+        act: MemoryAct,
+    },
+}
+
+impl Act {
+    /// What a step does.
+    #[inline(always)]
+    pub fn of(step: &Step) -> Act
+        ensures { result ≡ act_of step.now }
+    {
+        match *step {
+            Step::Guest { size } => Act::Make {
+                making: Making::Guest { size },
+            },
+            Step::Between { writer, reader, ty } => Act::Make {
+                making: Making::Between { writer, reader, ty },
+            },
+            Step::Write {
+                guest,
+                ty,
+                handle,
+                address,
+                count,
+            } => Act::OnEnd {
+                side: Side::Writing,
+                end: NamedEnd { guest, ty, handle },
+                act: EndAct::Operate { address, count },
+            },
+            Step::Read {
+                guest,
+                ty,
+                handle,
+                address,
+                count,
+            } => Act::OnEnd {
+                side: Side::Reading,
+                end: NamedEnd { guest, ty, handle },
+                act: EndAct::Operate { address, count },
+            },
+            Step::DropWrite { guest, ty, handle } => Act::OnEnd {
+                side: Side::Writing,
+                end: NamedEnd { guest, ty, handle },
+                act: EndAct::Drop,
+            },
+            Step::DropRead { guest, ty, handle } => Act::OnEnd {
+                side: Side::Reading,
+                end: NamedEnd { guest, ty, handle },
+                act: EndAct::Drop,
+            },
+            Step::Event { guest, handle } => Act::Event { guest, handle },
+            Step::Poke {
+                guest,
+                address,
+                bytes,
+            } => Act::OnMemory {
+                guest,
+                act: MemoryAct::Poke { address, bytes },
+            },
+            Step::Dump {
+                guest,
+                address,
+                len,
+            } => Act::OnMemory {
+                guest,
+                act: MemoryAct::Dump { address, len },
+            },
+        }
+    }
+}
