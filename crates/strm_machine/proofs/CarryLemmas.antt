@@ -9,9 +9,8 @@ use Rattle.strm_codes.specs.declared.payloads.Payload.TheVariants.{Nothing}
 use Rattle.strm_codes.specs.declared.scalars.Scalar.{Scalar}
 use Rattle.strm_codes.specs.Scalars.{size_of}
 use Rattle.strm_codes.specs.Layout.{scalars_of, item_size, gap_before}
-use Rattle.strm_codes.proofs.LayoutLemmas.{IsWidth-size_of}
+use Rattle.strm_codes.proofs.LayoutLemmas.{IsWidth-size_of, le-end_offset}
 use Rattle.strm_memory.specs.Items.{items_at, stored, stored_at, encode_from}
-use Rattle.strm_memory.proofs.FieldLemmas.{le-end_offset}
 use Rattle.strm_machine.specs.State.{Guest, memory_in, with_memory}
 use Rattle.strm_machine.specs.Meetings.{carried}
 use Rattle.strm_machine.specs.declared.streams.Operation.{Operation}
