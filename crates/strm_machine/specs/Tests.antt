@@ -10,7 +10,7 @@ use Rattle.strm_codes.specs.Counts.{count_limit}
 use Rattle.strm_codes.specs.Types.{payload_of}
 use Rattle.strm_memory.specs.Items.{is_number_or_none}
 use Rattle.strm_memory.specs.Region as region
-use Rattle.strm_handles.specs.Handles.{Handles}
+use Rattle.strm_handles.specs.Handles.{handle_limit, Handles}
 use Rattle.strm_handles.specs.Lookups.{stream_rep_of, future_rep_of, end_rep_of}
 use Rattle.strm_handles.specs.declared.errors.HandleError.{HandleError}
 use Rattle.strm_handles.specs.declared.errors.HandleError.TheVariants as errors
@@ -50,7 +50,7 @@ are_streams_full state = nat_le stream_limit (length state.streams)
 
 -- a number that a table would give is no handle
 abbrev pub is_no_handle : ℕ → Bool
-is_no_handle number = nat_le 268435456 number
+is_no_handle number = nat_le handle_limit number
 
 -- a stream's count is no count of items; a future's is not looked at
 abbrev pub is_too_big : TransmitIndex → ℕ → Bool
