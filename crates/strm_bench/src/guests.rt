@@ -3,6 +3,7 @@
 ghost use Rattle.std.specs.Prelude.{◌≡◌, ◌≤◌};
 ghost use Rattle.strm_handles.specs.Handles.{live_of, no_handles};
 ghost use Rattle.strm_handles.specs.Changes.{Inserts, Removes};
+ghost use Rattle.strm_handles.specs.Lookups.{stream_rep_of};
 ghost use Rattle.strm_handles.specs.Ends.{read_end, stream_readable_of};
 ghost use Rattle.strm_codes.specs.declared.payloads.Payload.TheVariants.{One};
 ghost use Rattle.strm_codes.specs.declared.scalars.Scalar.TheVariants.{U8};
@@ -12,6 +13,7 @@ use std::alloc::Global;
 use strm_codes::payloads::Payload;
 use strm_codes::scalars::Scalar;
 use strm_handles::counters::HandleCounter;
+use strm_handles::entries::TransmitLocalState;
 use strm_handles::errors::HandleError;
 use strm_handles::tables::HandleTable;
 
@@ -51,6 +53,13 @@ impl Guest {
     {
         self.table.sound();
         self.table.stream_insert_read(&mut self.counter, BYTES, rep)
+    }
+
+    /// The number of a stream, and the state of the end that a handle is.
+    pub fn find(&self, handle: u32) -> Result<(u32, TransmitLocalState), HandleError>
+        ensures { result ≡ stream_rep_of self.now.table.handles (One U8) handle }
+    {
+        self.table.stream_rep(BYTES, handle)
     }
 
     /// Removes the read end of a stream: the stream's number, and whether the end is done.

@@ -2,7 +2,7 @@
 //!
 //! Source: wasmtime, `handle_table.rs`, `HandleTable::insert` and `remove`.
 
-ghost use Rattle.std.specs.Prelude.{◌≡◌, ◌+◌, ◌^◌, ◌<◌, ◌≤◌, ◌↔◌, IsTrue, IsSome, OnOk, OnErr, IfErr, Err};
+ghost use Rattle.std.specs.Prelude.{◌≡◌, ◌+◌, ◌^◌, ◌<◌, ◌≤◌, ◌↔◌, IsTrue, IsSome, OnOk, OnErr, IfErr, Err, option_copied};
 ghost use Rattle.strm_handles.specs.Handles.{no_handles, next_index, entry_at, inserted, removed, with_entry, occupied, IsTable};
 ghost use Rattle.strm_handles.specs.Changes.{Inserts};
 ghost use Rattle.strm_handles.specs.Counters.{uncounted};
@@ -68,6 +68,7 @@ impl<E: Copy> Slots<E> {
     }
 
     /// The number that the next insert gives.
+    #[inline(always)]
     pub(crate) fn next_index(&self) -> u32
         ensures exact { result ≡ next_index self.now.handles }
         ensures some { 0 < result }
@@ -113,19 +114,21 @@ impl<E: Copy> Slots<E> {
     }
 
     /// What a number stands for.
-    pub(crate) fn get(&self, number: u32) -> Option<E>
-        ensures { result ≡ entry_at self.now.handles number }
+    #[inline(always)]
+    pub(crate) fn get(&self, number: u32) -> Option<&E>
+        ensures { option_copied result ≡ entry_at self.now.handles number }
     {
         if number == 0 || number as usize > self.slots.len() {
             return None;
         }
-        match self.slots[number as usize - 1] {
+        match &self.slots[number as usize - 1] {
             Slot::Free(_) => None,
             Slot::Full(entry) => Some(entry),
         }
     }
 
     /// Adds an entry, and counts it.
+    #[inline(always)]
     pub(crate) fn insert(
         &mut self,
         counter: &mut HandleCounter,
@@ -145,6 +148,7 @@ impl<E: Copy> Slots<E> {
         Ok(number)
     }
 
+    #[inline(always)]
     fn place(&mut self, entry: E) -> Result<(), HandleError>
         requires { next_index self.old.handles < MAX_HANDLE }
         ensures ok { OnOk result (self.new.handles ≡ inserted self.old.handles entry) }
@@ -176,6 +180,7 @@ impl<E: Copy> Slots<E> {
     }
 
     /// Puts another entry in a number's place.
+    #[inline(always)]
     pub(crate) fn change(&mut self, number: u32, entry: E)
         requires { IsSome (entry_at self.old.handles number) }
         ensures handles { self.new.handles ≡ with_entry self.old.handles number entry }
@@ -185,6 +190,7 @@ impl<E: Copy> Slots<E> {
     }
 
     /// Frees a number, which is given first from now on.
+    #[inline(always)]
     pub(crate) fn remove(&mut self, counter: &mut HandleCounter, number: u32)
         requires here { IsSome (entry_at self.old.handles number) }
         requires live { occupied self.old.handles ≤ counter.old.live }

@@ -61,7 +61,10 @@ impl ThreadHandleTable {
         ensures answer { result ≡ guest_thread_rep_of self.now.handles idx }
         ensures here { OnOk result (IsSome (entry_at self.now.handles idx)) }
     {
-        self.slots.get(idx).ok_or(HandleError::UnknownHandle)
+        match self.slots.get(idx) {
+            Some(rep) => Ok(*rep),
+            None => Err(HandleError::UnknownHandle),
+        }
     }
 
     /// Removes a thread: its number.
