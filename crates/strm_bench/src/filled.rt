@@ -5,6 +5,7 @@ ghost use Rattle.std.specs.Prelude.{◌≡◌, vec_len};
 use crate::draws::Draws;
 use crate::guests::Guest;
 use std::alloc::Global;
+use strm_codes::payloads::Payload;
 use strm_handles::errors::HandleError;
 
 /// How many handles the table holds.
@@ -20,8 +21,8 @@ pub struct Filled {
 
 impl Filled {
     /// The read ends of so many streams, numbered from 0.
-    pub fn new(alloc: Global) -> Result<Filled, HandleError> {
-        let mut guest = Guest::new(alloc, COUNT);
+    pub fn new(alloc: Global, ty: Payload) -> Result<Filled, HandleError> {
+        let mut guest = Guest::new(alloc, COUNT, ty);
         let mut handles = match vec![in alloc; 0u32; COUNT] {
             Ok(handles) => handles,
             Err(_) => return Err(HandleError::OutOfMemory),
@@ -33,6 +34,7 @@ impl Filled {
     }
 
     /// Finds every handle, so many times: the sum of the streams' numbers.
+    #[inline(never)]
     pub fn look_up(&self, rounds: u32) -> Result<u64, HandleError> {
         let mut sum = 0u64;
         for _ in 0..rounds {
@@ -45,6 +47,7 @@ impl Filled {
     }
 
     /// Removes a drawn handle and inserts another, so many times: the sum of the streams removed.
+    #[inline(never)]
     pub fn renew(&mut self, turns: u32) -> Result<u64, HandleError> {
         let mut draws = Draws::new();
         let mut sum = 0u64;

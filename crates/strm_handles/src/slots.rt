@@ -2,7 +2,7 @@
 //!
 //! Source: wasmtime, `handle_table.rs`, `HandleTable::insert` and `remove`.
 
-ghost use Rattle.std.specs.Prelude.{◌≡◌, ◌+◌, ◌^◌, ◌<◌, ◌≤◌, ◌↔◌, IsTrue, IsSome, OnOk, OnErr, IfErr, Err, option_copied};
+ghost use Rattle.std.specs.Prelude.{◌≡◌, ◌+◌, ◌^◌, ◌<◌, ◌≤◌, ◌↔◌, IsTrue, IsSome, OnOk, OnErr, IfErr, Err, option_copied, length};
 ghost use Rattle.strm_handles.specs.Handles.{no_handles, next_index, entry_at, inserted, removed, with_entry, occupied, IsTable};
 ghost use Rattle.strm_handles.specs.Changes.{Inserts};
 ghost use Rattle.strm_handles.specs.Counters.{uncounted};
@@ -118,10 +118,12 @@ impl<E: Copy> Slots<E> {
     pub(crate) fn get(&self, number: u32) -> Option<&E>
         ensures { option_copied result ≡ entry_at self.now.handles number }
     {
-        if number == 0 || number as usize > self.slots.len() {
+        // One test for both: 0 leads past every slot.
+        let index = number.wrapping_sub(1) as usize;
+        if index >= self.slots.len() {
             return None;
         }
-        match &self.slots[number as usize - 1] {
+        match &self.slots[index] {
             Slot::Free(_) => None,
             Slot::Full(entry) => Some(entry),
         }
@@ -136,6 +138,25 @@ impl<E: Copy> Slots<E> {
     ) -> Result<u32, HandleError>
         ensures { Inserts self.old self.new counter.old counter.new entry result }
     {
+        if self.free == 0 {
+            // A copy, so that the entry goes through memory here alone.
+            let copy = entry;
+            return self.append(counter, copy);
+        }
+        if counter.is_full() {
+            return Err(HandleError::HandleLimit);
+        }
+        let number = self.refill(entry);
+        counter.count();
+        Ok(number)
+    }
+
+    // Adds an entry in a new slot, apart from the code of an insert in a freed one.
+    #[inline(never)]
+    fn append(&mut self, counter: &mut HandleCounter, entry: E) -> Result<u32, HandleError>
+        requires { length self.old.handles.freed ≡ 0 }
+        ensures { Inserts self.old self.new counter.old counter.new entry result }
+    {
         let number = self.next_index();
         if number == MAX_HANDLE {
             return Err(HandleError::IndexOverflow);
@@ -143,39 +164,33 @@ impl<E: Copy> Slots<E> {
         if counter.is_full() {
             return Err(HandleError::HandleLimit);
         }
-        self.place(entry)?;
+        if self.slots.reserve(1).is_err() {
+            return Err(HandleError::OutOfMemory);
+        }
+        self.slots.push_reserved(Slot::Full(entry));
         counter.count();
         Ok(number)
     }
 
+    // Puts an entry in the slot that was freed last: its number.
     #[inline(always)]
-    fn place(&mut self, entry: E) -> Result<(), HandleError>
-        requires { next_index self.old.handles < MAX_HANDLE }
-        ensures ok { OnOk result (self.new.handles ≡ inserted self.old.handles entry) }
-        ensures room { self.old.room ≤ self.new.room + 1 }
-        ensures err { OnErr result (self.new ≡ self.old) }
-        ensures memory { OnErr result (self.old.room ≡ 0) }
-        ensures errors { IfErr result (λ e. e ≡ HandleError.OutOfMemory) }
+    fn refill(&mut self, entry: E) -> u32
+        requires { 0 < length self.old.handles.freed }
+        ensures number { result ≡ next_index self.old.handles }
+        ensures some { 0 < result }
+        ensures small { result < MAX_HANDLE }
+        ensures handles { self.new.handles ≡ inserted self.old.handles entry }
+        ensures room { self.old.room ≡ self.new.room + 1 }
     {
-        if self.free == 0 {
-            match self.slots.reserve(1) {
-                Ok(()) => {
-                    self.slots.push_reserved(Slot::Full(entry));
-                    Ok(())
-                }
-                Err(_) => Err(HandleError::OutOfMemory),
+        let at = self.first;
+        match self.slots[at as usize] {
+            Slot::Free(next) => {
+                self.slots[at as usize] = Slot::Full(entry);
+                self.first = next;
+                self.free -= 1;
+                at + 1
             }
-        } else {
-            let at = self.first as usize;
-            match self.slots[at] {
-                Slot::Free(next) => {
-                    self.slots[at] = Slot::Full(entry);
-                    self.first = next;
-                    self.free -= 1;
-                    Ok(())
-                }
-                Slot::Full(_) => unreachable!(),
-            }
+            Slot::Full(_) => unreachable!(),
         }
     }
 

@@ -154,7 +154,10 @@ impl HandleTable {
         ensures { result ≡ waitable_rep_of self.now.handles idx }
     {
         match self.slots.get(idx) {
-            Some(Entry::Subtask { rep, is_host }) => Ok((*rep, Waitable::Subtask { is_host: *is_host })),
+            Some(Entry::Subtask { rep, is_host }) => Ok((
+                *rep,
+                Waitable::Subtask { is_host: *is_host },
+            )),
             Some(Entry::Future(end)) => Ok((end.rep, Waitable::Future)),
             Some(Entry::Stream(end)) => Ok((end.rep, Waitable::Stream)),
             Some(_) => Err(HandleError::WrongKind),
