@@ -42,9 +42,6 @@ entry-future_of h ty idx end is = future_in-ok ty (entry_at h idx) end is
 pub stream_of-entry : (h : Handles) (idx : ℕ) (end : TransmitEnd) → entry_at h idx ≡ Some (Stream end) → stream_of h end.ty idx ≡ Ok end
 stream_of-entry h idx end is = rw (is, (Decides-same_payload end.ty end.ty).1 refl) refl
 
-pub future_of-entry : (h : Handles) (idx : ℕ) (end : TransmitEnd) → entry_at h idx ≡ Some (Future end) → future_of h end.ty idx ≡ Ok end
-future_of-entry h idx end is = rw (is, (Decides-same_payload end.ty end.ty).1 refl) refl
-
 -- an end has no lends
 pub live_of-removed-stream : (h : Handles) (ty : Payload) (idx : ℕ) (end : TransmitEnd) → stream_of h ty idx ≡ Ok end → live_of (removed h idx) + 1 ≡ live_of h
 live_of-removed-stream h ty idx end is =

@@ -46,7 +46,8 @@ impl<E> Model for Slots<E> {
 
 impl<E: Copy> Slots<E> {
     pub(crate) fn new(alloc: Global) -> Slots<E>
-        ensures { result.handles ≡ no_handles }
+        ensures handles { result.handles ≡ no_handles }
+        ensures room { result.room ≡ 0 }
     {
         Slots {
             slots: Vec::new(alloc),

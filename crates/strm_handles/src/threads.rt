@@ -31,7 +31,8 @@ impl Model for ThreadHandleTable {
 impl ThreadHandleTable {
     /// An empty table, which takes no memory.
     pub fn new(alloc: Global) -> ThreadHandleTable
-        ensures { result.handles ≡ no_handles }
+        ensures empty { result.handles ≡ no_handles }
+        ensures room { result.room ≡ 0 }
     {
         ThreadHandleTable {
             slots: Slots::new(alloc),
