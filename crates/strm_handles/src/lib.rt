@@ -10,6 +10,4 @@ pub mod errors;
 pub mod laws;
 mod slots;
 pub mod tables;
-#[cfg(test)]
-mod tests;
 pub mod threads;
