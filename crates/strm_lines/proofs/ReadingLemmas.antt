@@ -10,8 +10,8 @@ use Rattle.strm_codes.specs.declared.payloads.Payload.TheVariants.{One}
 use Rattle.strm_codes.specs.declared.codes.TransmitIndex.{TransmitIndex}
 use Rattle.strm_codes.specs.declared.codes.TransmitIndex.TheVariants.{Stream}
 use Rattle.strm_lines.specs.Words.{hex_pairs, type_word}
-use Rattle.strm_lines.specs.Grammar.{IsU32, IsWithin, IsLineBytes, IsByteStream}
-use Rattle.strm_lines.specs.Reading.{cut_at, leading, followed_by, number, number_within, hex, type_of}
+use Rattle.strm_lines.specs.Grammar.{IsU32, IsBetween, IsLineBytes, IsByteStream}
+use Rattle.strm_lines.specs.Reading.{cut_at, leading, followed_by, number, number_within, hex, type_read}
 use Rattle.strm_lines.proofs.CutLemmas.{IsWithout, without, cut_sound, cut_complete}
 use Rattle.strm_lines.proofs.NumberLemmas.{number_sound, number_complete, IsWithout-decimal}
 use Rattle.strm_lines.proofs.HexLemmas.{hex_sound, hex_complete}
@@ -46,7 +46,7 @@ both_true false b e = cc
 some_same : {A : Type 0} (x y : A) → Some x ≡ Some y → x ≡ y
 some_same x y e = cc
 
-within_sound : (low high : ℕ) (word : List ℕ) (x : ℕ) → number_within low high word ≡ Some x → (decimal x ≡ word) × IsWithin low high x
+within_sound : (low high : ℕ) (word : List ℕ) (x : ℕ) → number_within low high word ≡ Some x → (decimal x ≡ word) × IsBetween low high x
 unfolding number_within
 within_sound low high word x e =
     option_and_then_some _ (number word) x e (λ n p q.
@@ -55,26 +55,26 @@ within_sound low high word x e =
     let same : n ≡ x = some_same n x a.1 in
     rw (← same) ((number_sound word n p).0, (leb-true low n b.0, leb-true n high b.1)))
 
-within_complete : (low high : ℕ) → high < 2 ^ 32 → (x : ℕ) → IsWithin low high x → number_within low high (decimal x) ≡ Some x
+within_complete : (low high : ℕ) → high < 2 ^ 32 → (x : ℕ) → IsBetween low high x → number_within low high (decimal x) ≡ Some x
 unfolding number_within
 within_complete low high h x f = rw (number_complete x (omega (arith, f.1)), le-leb low x f.0, le-leb x high f.1) refl
 
-pub IsReading-within : (low high : ℕ) → high < 2 ^ 32 → IsReading (number_within low high) decimal (IsWithin low high)
+pub IsReading-within : (low high : ℕ) → high < 2 ^ 32 → IsReading (number_within low high) decimal (IsBetween low high)
 IsReading-within low high h = record { sound = within_sound low high; complete = within_complete low high h }
 
-type_sound : (word : List ℕ) (x : TransmitIndex) → type_of word ≡ Some x → (type_word x ≡ word) × IsByteStream x
-unfolding type_of
+type_sound : (word : List ℕ) (x : TransmitIndex) → type_read word ≡ Some x → (type_word x ≡ word) × IsByteStream x
+unfolding type_read
 type_sound word x e =
     let a : (bytes_eq word (codes "stream:u8") ≡ true) × (Some (Stream (One U8)) ≡ Some x) = chosen (bytes_eq word (codes "stream:u8")) (Some (Stream (One U8))) x e in
     let is : word ≡ codes "stream:u8" = (bytes_eq-Decides word (codes "stream:u8")).0 a.0 in
     let same : Stream (One U8) ≡ x = some_same (Stream (One U8)) x a.1 in
     rw (← same) (sym is, refl)
 
-type_complete : (x : TransmitIndex) → IsByteStream x → type_of (type_word x) ≡ Some x
-unfolding type_of
+type_complete : (x : TransmitIndex) → IsByteStream x → type_read (type_word x) ≡ Some x
+unfolding type_read
 type_complete x f = rw f refl
 
-pub IsReading-type : IsReading type_of type_word IsByteStream
+pub IsReading-type : IsReading type_read type_word IsByteStream
 IsReading-type = record { sound = type_sound; complete = type_complete }
 
 type_spaceless : (x : TransmitIndex) → IsByteStream x → IsWithout 32 (type_word x)

@@ -10,8 +10,8 @@ use Rattle.strm_machine.specs.declared.steps.Step.{Step}
 use Rattle.strm_machine.specs.declared.steps.Step.TheVariants.{Guest, Between, Write, Read, DropWrite, DropRead, Event, Poke, Dump}
 use Rattle.strm_lines.specs.Words.{hex_pairs, type_word}
 use Rattle.strm_lines.specs.Plain.{IsPlain}
-use Rattle.strm_lines.specs.Grammar.{spelling, HasLine, IsU32, IsWithin, IsLineBytes, IsByteStream}
-use Rattle.strm_lines.specs.Reading.{cut_at, followed_by, number, number_within, hex, type_of, operands_of, named_end_of, guest_of, pair_of, write_of, read_of, drop_write_of, drop_read_of, event_of, poke_of, dump_of, end_step_with, step_with, step_of}
+use Rattle.strm_lines.specs.Grammar.{spelling, HasLine, IsU32, IsBetween, IsLineBytes, IsByteStream}
+use Rattle.strm_lines.specs.Reading.{cut_at, followed_by, number, number_within, hex, type_read, operands_of, named_end_of, guest_of, pair_of, write_of, read_of, drop_write_of, drop_read_of, event_of, poke_of, dump_of, end_step_with, step_with, step_of}
 use Rattle.strm_lines.proofs.CutLemmas.{without, option_map_some, cut_sound, cut_complete}
 use Rattle.strm_lines.proofs.ReadingLemmas.{IsReading, IsReading-number, IsWord-number, IsReading-within, IsReading-hex, IsReading-type, IsWord-type, IsReading-followed_by}
 
@@ -53,13 +53,13 @@ IsReading-named_end = IsReading-followed_by IsReading-number IsWord-number (IsRe
 IsReading-event : IsReading (followed_by number number) (λ v. decimal v.0 ++ 32 ∷ decimal v.1) (λ v. IsU32 v.0 × IsU32 v.1)
 IsReading-event = IsReading-followed_by IsReading-number IsWord-number IsReading-number
 
-IsReading-pair : IsReading (followed_by number (followed_by number type_of)) (λ v. decimal v.0 ++ 32 ∷ (decimal v.1.0 ++ 32 ∷ type_word v.1.1)) (λ v. IsU32 v.0 × (IsU32 v.1.0 × IsByteStream v.1.1))
+IsReading-pair : IsReading (followed_by number (followed_by number type_read)) (λ v. decimal v.0 ++ 32 ∷ (decimal v.1.0 ++ 32 ∷ type_word v.1.1)) (λ v. IsU32 v.0 × (IsU32 v.1.0 × IsByteStream v.1.1))
 IsReading-pair = IsReading-followed_by IsReading-number IsWord-number (IsReading-followed_by IsReading-number IsWord-number IsReading-type)
 
 IsReading-poke : IsReading (followed_by number (followed_by number hex)) (λ v. decimal v.0 ++ 32 ∷ (decimal v.1.0 ++ 32 ∷ hex_pairs v.1.1)) (λ v. IsU32 v.0 × (IsU32 v.1.0 × IsLineBytes v.1.1))
 IsReading-poke = IsReading-followed_by IsReading-number IsWord-number (IsReading-followed_by IsReading-number IsWord-number IsReading-hex)
 
-IsReading-dump : IsReading (followed_by number (followed_by number (number_within 1 64))) (λ v. decimal v.0 ++ 32 ∷ (decimal v.1.0 ++ 32 ∷ decimal v.1.1)) (λ v. IsU32 v.0 × (IsU32 v.1.0 × IsWithin 1 64 v.1.1))
+IsReading-dump : IsReading (followed_by number (followed_by number (number_within 1 64))) (λ v. decimal v.0 ++ 32 ∷ (decimal v.1.0 ++ 32 ∷ decimal v.1.1)) (λ v. IsU32 v.0 × (IsU32 v.1.0 × IsBetween 1 64 v.1.1))
 IsReading-dump = IsReading-followed_by IsReading-number IsWord-number (IsReading-followed_by IsReading-number IsWord-number (IsReading-within 1 64 (omega arith)))
 
 -- what is read is the step that is spelled
@@ -127,7 +127,7 @@ skipped false o x e = (refl, e)
 pair_sound : (rest : List ℕ) (s : Step) → pair_of rest ≡ Some s → IsStepOf (codes "pair") rest s
 unfolding pair_of
 pair_sound rest s e =
-    option_and_then_some _ (followed_by number (followed_by number type_of) rest) s e (λ v f g.
+    option_and_then_some _ (followed_by number (followed_by number type_read) rest) s e (λ v f g.
     let r = IsReading-pair.sound rest v f in
     let a : (eqb v.0 v.1.0 ≡ false) × (Some (Between v.0 v.1.0 v.1.1) ≡ Some s) = skipped (eqb v.0 v.1.0) (Some (Between v.0 v.1.0 v.1.1)) s g in
     let same : Between v.0 v.1.0 v.1.1 ≡ s = some_same _ s a.1 in

@@ -80,18 +80,18 @@ hex word =
     then None else pairs_from word
 
 -- the one type that lines name
-unfoldable pub type_of : List ℕ → Option TransmitIndex
-type_of word = if bytes_eq word (codes "stream:u8") then Some (Stream (One U8)) else None
+unfoldable pub type_read : List ℕ → Option TransmitIndex
+type_read word = if bytes_eq word (codes "stream:u8") then Some (Stream (One U8)) else None
 
 -- the words behind `write` and `read`: guest, type, handle, address and count
 unfoldable pub operands_of : List ℕ → Option (ℕ × (TransmitIndex × (ℕ × (ℕ × ℕ))))
 operands_of rest =
-    followed_by number (followed_by type_of
+    followed_by number (followed_by type_read
     (followed_by number (followed_by number number))) rest
 
 -- the words behind `drop-write` and `drop-read`: guest, type and handle
 unfoldable pub named_end_of : List ℕ → Option (ℕ × (TransmitIndex × ℕ))
-named_end_of rest = followed_by number (followed_by type_of number) rest
+named_end_of rest = followed_by number (followed_by type_read number) rest
 
 -- the step behind each command, from its arguments
 
@@ -102,7 +102,7 @@ guest_of rest = option_map Guest (number rest)
 -- pair W R T, of two guests
 unfoldable pub pair_of : List ℕ → Option Step
 pair_of rest = do
-  v ← followed_by number (followed_by number type_of) rest
+  v ← followed_by number (followed_by number type_read) rest
   if v.0 == v.1.0 then None else Some (Between v.0 v.1.0 v.1.1)
 
 -- write G T H A N

@@ -4,7 +4,7 @@
 
 ghost use Rattle.std.specs.Prelude.{◌≡◌, ◌%◌, ◌≤◌, ◌<◌, length, Some, None};
 ghost use Rattle.std.specs.Option.{option_map};
-ghost use Rattle.strm_lines.specs.Reading.{cut_at, leading, number, number_within, nibble, pairs_from, hex, type_of};
+ghost use Rattle.strm_lines.specs.Reading.{cut_at, leading, number, number_within, nibble, pairs_from, hex, type_read};
 
 use strm_codes::codes::TransmitIndex;
 use strm_codes::payloads::Payload;
@@ -71,9 +71,9 @@ pub(crate) fn leading_number(line: &[u8]) -> Option<(u32, &[u8])>
 }
 
 // The type of a stream or future.
-#[tactic(auto, unfolding(crate::specs::Reading::type_of))]
+#[tactic(auto, unfolding(crate::specs::Reading::type_read))]
 pub(crate) fn transmit_type(word: &[u8]) -> Option<TransmitIndex>
-    ensures { result ≡ type_of word.now }
+    ensures { result ≡ type_read word.now }
 {
     if word == b"stream:u8".as_slice() {
         Some(TransmitIndex::Stream(Payload::One(Scalar::U8)))
@@ -85,7 +85,7 @@ pub(crate) fn transmit_type(word: &[u8]) -> Option<TransmitIndex>
 // The type before the first space, and what follows it.
 #[tactic(auto, unfolding(crate::specs::Reading::leading))]
 pub(crate) fn leading_type(line: &[u8]) -> Option<(TransmitIndex, &[u8])>
-    ensures { option_map (λ p. (p.0, p.1.now)) result ≡ leading type_of line.now }
+    ensures { option_map (λ p. (p.0, p.1.now)) result ≡ leading type_read line.now }
 {
     let (word, rest) = cut(line, b' ')?;
     let ty = transmit_type(word)?;

@@ -19,7 +19,8 @@ use Rattle.strm_machine.specs.declared.steps.Step.{Step}
 use Rattle.strm_machine.specs.declared.steps.Step.TheVariants as steps
 use Rattle.strm_machine.specs.declared.replies.Reply.{Reply}
 use Rattle.strm_machine.specs.declared.replies.Reply.TheVariants as replies
-use Rattle.strm_session.specs.Runs.{start, StopsBy}
+use Rattle.strm_transmit.specs.Meets.{is_done}
+use Rattle.strm_session.specs.Runs.{start, StopsAt}
 use Rattle.strm_session.specs.declared.runs.RunCause.{RunCause}
 use Rattle.strm_session.specs.declared.runs.RunCause.TheVariants as causes
 
@@ -103,14 +104,44 @@ not_halt (replies.Refused r) b t = refl
 not_halt (replies.BadItem s) b t = absurd (b s refl)
 not_halt replies.StoreTrapped b t = absurd (t refl)
 
+-- a reply of a step that is done
+done_goes : (reply : Reply) → is_done reply ≡ true → is_halt reply ≡ false
+done_goes replies.Done e = refl
+done_goes (replies.Number n) e = refl
+done_goes (replies.Pair pair) e = refl
+done_goes (replies.Code code) e = refl
+done_goes (replies.Event code) e = refl
+done_goes (replies.Bytes bytes) e = refl
+done_goes (replies.Refused r) e = cc
+done_goes (replies.BadItem s) e = cc
+done_goes replies.StoreTrapped e = cc
+
+-- the machine goes on from a step
+abbrev pub GoesOn : List Reply → State → Step → Type 0
+GoesOn told state step = (reply : Reply) × (next : State) × (play told state (step ∷ []) ≡ Ends (told ++ reply ∷ []) next)
+
+pub goes_on_to : (told : List Reply) (state next : State) (step : Step) (reply : Reply) → is_halt reply ≡ false → react state step ≡ goes reply next → GoesOn told state step
+goes_on_to told state next step reply h e = (reply, next, play-goes told state next step [] reply h e)
+
+pub goes_on_done : (told : List Reply) (state : State) (step : Step) → is_done (react state step).reply ≡ true → GoesOn told state step
+goes_on_done told state step h = goes_on_to told state (react state step).state step (react state step).reply (done_goes (react state step).reply h) refl
+
 -- where the step of number k stops a run
-pub stops : (steps : List Step) (k : ℕ) (step : Step) (told told' : List Reply) (state : State) (cause : RunCause) → k < length steps → get_or steps k step ≡ step → length told ≡ k → told' ≡ told → ((more : List Step) → play [] start (take k steps ++ more) ≡ play told state more) → ((more : List Step) (stream : ℕ) → cause ≡ causes.BadItem stream → play told state (step ∷ more) ≡ Halts told (replies.BadItem stream)) → StopsBy steps told' cause
-stops steps k step told told' state (causes.BadItem stream) l g n e so_far bad =
+pub stops : (steps : List Step) (k : ℕ) (step : Step) (told told' : List Reply) (state : State) (cause : RunCause) → k < length steps → get_or steps k step ≡ step → length told ≡ k → told' ≡ told → ((more : List Step) → play [] start (take k steps ++ more) ≡ play told state more) → ((more : List Step) (stream : ℕ) → cause ≡ causes.BadItem stream → play told state (step ∷ more) ≡ Halts told (replies.BadItem stream)) → (cause ≡ causes.OutOfMemory → GoesOn told state step) → StopsAt steps told' cause
+stops steps k step told told' state (causes.BadItem stream) l g n e so_far bad memory =
     let cut : steps ≡ take k steps ++ step ∷ drop (suc k) steps = split_at steps k step l ∙ ap (λ s. take k steps ++ s ∷ drop (suc k) steps) g in
     ap (play [] start) cut ∙ so_far (step ∷ drop (suc k) steps) ∙ bad (drop (suc k) steps) stream refl ∙ ap (λ t. Halts t (replies.BadItem stream)) (sym e)
-stops steps k step told told' state causes.OutOfMemory l g n e so_far bad =
+stops steps k step told told' state causes.OutOfMemory l g n e so_far bad memory =
+    let count : length told' + 1 ≡ k + 1 = ap (λ m. m + 1) (ap length e ∙ n) in
+    let w = memory refl in
+    let cut : take (k + 1) steps ≡ take k steps ++ step ∷ [] = take_more steps k step l ∙ ap (λ s. take k steps ++ s ∷ []) g in
+    (w.0 ∷ [], w.1, ap (λ m. play [] start (take m steps)) count ∙ ap (play [] start) cut ∙ so_far (step ∷ []) ∙ w.2 ∙ ap (λ t. Ends (t ++ w.0 ∷ []) w.1) (sym e))
+
+-- the replies so far are those to the steps before
+pub stopped_before : (steps : List Step) (k : ℕ) (told told' : List Reply) (state : State) → length told ≡ k → told' ≡ told → ((more : List Step) → play [] start (take k steps ++ more) ≡ play told state more) → play [] start (take (length told') steps) ≡ Ends told' state
+stopped_before steps k told told' state n e so_far =
     let count : length told' ≡ k = ap length e ∙ n in
-    (state, ap (λ m. play [] start (take m steps)) count ∙ ap (play [] start) (sym (append-nil (take k steps))) ∙ so_far [] ∙ ap (λ t. Ends t state) (sym e))
+    ap (λ m. play [] start (take m steps)) count ∙ ap (play [] start) (sym (append-nil (take k steps))) ∙ so_far [] ∙ ap (λ t. Ends t state) (sym e)
 
 -- one step more
 pub played_more : (steps : List Step) (k : ℕ) (step : Step) (told told' : List Reply) (state state' : State) → k < length steps → get_or steps k step ≡ step → ((more : List Step) → play [] start (take k steps ++ more) ≡ play told state more) → ((more : List Step) → play told state (step ∷ more) ≡ play told' state' more) → (more : List Step) → play [] start (take (k + 1) steps ++ more) ≡ play told' state' more
