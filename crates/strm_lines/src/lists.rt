@@ -56,6 +56,13 @@ impl Steps {
         }
     }
 
+    // These steps.
+    pub(crate) fn from_vec(items: Vec<Step>) -> Steps
+        ensures { result ≡ items.items }
+    {
+        Steps { items }
+    }
+
     /// Asks at once for room for so many steps more.
     pub fn reserve(&mut self, additional: usize) -> Result<(), OutOfMemory>
         ensures { self.new ≡ self.old }
