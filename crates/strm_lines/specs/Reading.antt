@@ -153,6 +153,7 @@ pub record Command : Type 0 where
   pub front : List ℕ
   pub read : List ℕ → Option Step
 
+-- a command by what its lines begin with, its space included
 abbrev pub command : List ℕ → (List ℕ → Option Step) → Command
 command front read = record { front = front; read = read }
 

@@ -8,9 +8,10 @@ use Rattle.strm_machine.specs.Reactions.{react}
 use Rattle.strm_machine.specs.Plays.{play, Ends}
 use Rattle.strm_machine.specs.declared.steps.Step.{Step}
 use Rattle.strm_machine.specs.declared.replies.Reply.{Reply}
-use Rattle.strm_laws.specs.Conservation.{moment_of, moments, last}
+use Rattle.strm_machine.specs.Moments.{moment_of}
+use Rattle.strm_laws.specs.Conservation.{moments, last}
 use Rattle.strm_laws.specs.Laws.{HasBytes, AreSteps}
-use Rattle.strm_laws.specs.Untouched.{StaysAside}
+use Rattle.strm_machine.specs.Untouched.{StaysAside}
 use Rattle.strm_laws.proofs.Replies.{play-ends}
 use Rattle.strm_session.specs.Runs.{start, HasLaws, IsKept}
 

@@ -11,7 +11,7 @@ use Rattle.strm_machine.specs.declared.replies.Reply.{Reply}
 use Rattle.strm_machine.specs.declared.replies.Reply.TheVariants as replies
 use Rattle.strm_laws.specs.Conservation.{moments, last, replies_of, calls, got}
 use Rattle.strm_laws.specs.Laws.{Conserves, waiting, Stands, AreCounted, HandlesHold, HandlesAreSingle}
-use Rattle.strm_laws.specs.Untouched.{StaysAside}
+use Rattle.strm_machine.specs.Untouched.{StaysAside}
 use Rattle.strm_session.specs.declared.runs.RunCause.{RunCause}
 use Rattle.strm_session.specs.declared.runs.RunCause.TheVariants as causes
 

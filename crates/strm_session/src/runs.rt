@@ -3,17 +3,18 @@
 //! Source: ours.
 
 ghost use Rattle.std.specs.Prelude.{◌≡◌, ◌≢◌, ◌≤◌, ◌∷◌, ◌++◌, ◌+◌, [], List, ℕ, true, false, length, take, All, IfOk, IfErr, OnOk, OnErr, Err};
+ghost use Rattle.strm_codes.specs.declared.refusals.Refusal.{Refusal};
 ghost use Rattle.strm_machine.specs.State.{State, stream_at};
-ghost use Rattle.strm_machine.specs.Reactions.{goes, react};
+ghost use Rattle.strm_machine.specs.Reactions.{react};
 ghost use Rattle.strm_machine.specs.Plays.{play, Ends, Halts};
 ghost use Rattle.strm_machine.specs.declared.streams.Side.{Side};
 ghost use Rattle.strm_machine.specs.declared.steps.Step.{Step};
 ghost use Rattle.strm_machine.specs.declared.replies.Reply.TheVariants.{BadItem as IsBadItem};
 ghost use Rattle.strm_machine.specs.declared.replies.Reply.{Reply};
-ghost use Rattle.strm_transmit.specs.Meets.{is_done};
-ghost use Rattle.strm_laws.specs.Conservation.{moment_of, moments, last};
+ghost use Rattle.strm_machine.specs.Moments.{moment_of};
+ghost use Rattle.strm_laws.specs.Conservation.{moments, last};
 ghost use Rattle.strm_laws.specs.Laws.{HasBytes, AreSteps};
-ghost use Rattle.strm_laws.specs.Untouched.{StaysAside};
+ghost use Rattle.strm_machine.specs.Untouched.{StaysAside};
 ghost use Rattle.strm_lines.specs.Plain.{IsPlain};
 ghost use Rattle.strm_session.specs.Runs.{start, counts_of, next_step, HasLaws, IsKept, StopsAt, StopsBy};
 
@@ -21,7 +22,7 @@ use std::alloc::Global;
 use strm_codes::counts::OutOfMemory;
 use strm_laws::laws::{
     conservation, futures_pass_one, handles_hold_their_ends, never_two_open, other_bytes_stay,
-    totals_are_counts,
+    states_are_sound, totals_are_counts,
 };
 use strm_lines::lists::{Counts, Replies};
 use strm_machine::limits::Limits;
@@ -108,6 +109,7 @@ fn laws_hold()
     futures_pass_one();
     never_two_open();
     totals_are_counts();
+    states_are_sound();
     handles_hold_their_ends();
     other_bytes_stay();
 }
@@ -209,14 +211,26 @@ fn step_once(store: &mut Store, replies: &mut Replies, step: &Step) -> Result<()
     ensures one { OnOk result (length replies.new ≡ length replies.old + 1) }
     ensures err { OnErr result (replies.new ≡ replies.old) }
 {
-    let reply = match answered(store, step) {
-        Ok(reply) => reply,
-        Err(_) => return Err(RunCause::OutOfMemory),
-    };
-    match &reply {
-        Reply::BadItem { stream } => Err(RunCause::BadItem { stream: *stream }),
-        Reply::StoreTrapped => unreachable!(),
-        _ => keep(replies, &reply),
+    let answer = apply(store, step);
+    match &answer {
+        Ok(reply) => keep(replies, reply),
+        Err(error) => Err(cause_of(*error)),
+    }
+}
+
+// Why a run stops where the store did not do a step.
+fn cause_of(error: StoreError) -> RunCause
+    requires refused { (refusal : Refusal) → error ≢ StoreError.Refused refusal }
+    requires trapped { error ≢ StoreError.StoreTrapped }
+    ensures bad_item { (stream : ℕ) → result ≡ RunCause.BadItem stream →
+        error ≡ StoreError.BadItem stream }
+    ensures memory { result ≡ RunCause.OutOfMemory → error ≡ StoreError.OutOfMemory }
+{
+    match error {
+        StoreError::BadItem { stream } => RunCause::BadItem { stream },
+        StoreError::OutOfMemory => RunCause::OutOfMemory,
+        StoreError::Refused(_) => unreachable!(),
+        StoreError::StoreTrapped => unreachable!(),
     }
 }
 
@@ -229,19 +243,5 @@ fn keep(replies: &mut Replies, reply: &Reply) -> Result<(), RunCause>
     match replies.push(*reply) {
         Ok(()) => Ok(()),
         Err(_) => Err(RunCause::OutOfMemory),
-    }
-}
-
-// The machine's reply to a step.
-fn answered(store: &mut Store, step: &Step) -> Result<Reply, OutOfMemory>
-    ensures reply { IfOk result (λ reply. react store.old step.now ≡ goes reply store.new) }
-    ensures memory { OnErr result (is_done (react store.old step.now).reply ≡ true) }
-{
-    match apply(store, step) {
-        Ok(reply) => Ok(reply),
-        Err(StoreError::Refused(refusal)) => Ok(Reply::Refused(refusal)),
-        Err(StoreError::BadItem { stream }) => Ok(Reply::BadItem { stream }),
-        Err(StoreError::StoreTrapped) => Ok(Reply::StoreTrapped),
-        Err(StoreError::OutOfMemory) => Err(OutOfMemory),
     }
 }

@@ -1,5 +1,3 @@
-use Rattle.strm_laws.proofs.EveryRun.{lawful}
-use Rattle.strm_laws.proofs.Steps.{reacts}
 use Rattle.strm_session.proofs.runs.laws_hold.Goals as goal
 
 pub returns-clause-laws : goal.returns-clause-laws
@@ -11,7 +9,7 @@ returns-clause-laws c = λ steps a. record {
   counted = λ s. c.totals_are_counts.ensures 0 _ steps s a;
   hold = c.handles_hold_their_ends.ensures.holds 0 _ steps;
   single = c.handles_hold_their_ends.ensures.single 0 _ steps;
-  sound = (lawful reacts 0 _ steps 0 a).sound;
+  sound = c.states_are_sound.ensures 0 _ steps;
 }
 
 pub returns-clause-aside : goal.returns-clause-aside
