@@ -1,5 +1,5 @@
 -- Pairs of hexadecimal digits: what is read is what is written, and the other way round.
-use Rattle.std.proofs.Common.{◌≡◌, ℕ, ◌+◌, ◌*◌, ◌/◌, ◌%◌, ◌<◌, ◌≤◌, ◌^◌, List, [], ◌∷◌, ◌++◌, length, drop, get_or, Option, Some, None, Bool, true, false, cond, eqb, ltb, ◌||◌, not, refl, sym, ap, append_assoc, arith}
+use Rattle.std.proofs.Common.{◌≡◌, ℕ, ◌+◌, ◌*◌, ◌/◌, ◌%◌, ◌<◌, ◌≤◌, ◌^◌, List, [], ◌∷◌, ◌++◌, length, drop, get_or, Option, Some, None, false, eqb, ltb, ◌||◌, not, refl, sym, ap, append_assoc, arith}
 use Rattle.std.specs.Prelude.{option_and_then, All}
 use Rattle.std.specs.Option.{option_map}
 use Rattle.std.proofs.lemmas.Option.{option_and_then_some}
@@ -9,6 +9,7 @@ use Rattle.std.proofs.lemmas.List.Elements.{All-nil, All-cons, All-head, All-tai
 use Rattle.strm_lines.specs.Words.{hex_digit, hex_pairs}
 use Rattle.strm_lines.specs.Grammar.{IsLineBytes}
 use Rattle.strm_lines.specs.Reading.{nibble, pairs_from, hex}
+use Rattle.strm_lines.proofs.ChoiceLemmas.{skipped}
 
 -- the list that is read has this front more
 abbrev pub with_front : {A : Type 0} → List A → Option (List A) → Option (List A)
@@ -91,10 +92,6 @@ pairs_complete (b ∷ bytes) h =
 length-hex_pairs : (bytes : List ℕ) → length (hex_pairs bytes) ≡ 2 * length bytes
 length-hex_pairs [] = refl
 length-hex_pairs (b ∷ bytes) = omega (arith, length-hex_pairs bytes)
-
-skipped : {A : Type 0} (b : Bool) (o : Option A) (x : A) → cond b None o ≡ Some x → (b ≡ false) × (o ≡ Some x)
-skipped true o x e = cc
-skipped false o x e = (refl, e)
 
 sized : (n : ℕ) → (eqb n 0 || ltb 128 n || not (eqb (n % 2) 0)) ≡ false → (0 < n) × (n ≤ 128)
 sized n e = grind (arith, nat_tests)

@@ -6,7 +6,8 @@ use Rattle.std.specs.Prelude.{codes}
 use Rattle.strm_machine.specs.declared.steps.Step.{Step}
 use Rattle.strm_session.specs.Faults.{Rose}
 use Rattle.strm_lines.specs.Lines.{lines_of, Spells, IsFirstBad, IsTooLong}
-use Rattle.strm_session.specs.Serving.{IsRun, Tells}
+use Rattle.strm_session.specs.Serving.{IsRun, IsAnswer}
+use Rattle.std.specs.Io.KnownBytes.{IsAtEnd}
 use Rattle.strm_lines.proofs.LineLemmas.{spelled_not_bad}
 
 -- of one word, which it is
@@ -18,9 +19,9 @@ one_word f (y ∷ []) x word l e = (
 )
 one_word f (y ∷ z ∷ more) x word l e = absurd (omega (arith, l))
 
--- what is told of an input that was read is told of its source
-pub told_of_source : (words : List (List ℕ)) (left : Option (List ℕ)) (before after : ℕ) (input : List ℕ) (status : ℕ) (text : List ℕ) → IsRun words → IfSome left (λ bytes. input ≡ bytes) → Tells (codes "run" ∷ []) (Some input) before after status text → Tells words left before after status text
-told_of_source words None before after input status text r e h = record {
+-- what is told of an input that was read is told of its source, which is at its end then
+pub told_of_source : (words : List (List ℕ)) (left rest : Option (List ℕ)) (before after : ℕ) (input : List ℕ) (status : ℕ) (text : List ℕ) → IsRun words → IfSome left (λ bytes. input ≡ bytes) → IsAtEnd rest → IsAnswer (codes "run" ∷ []) (Some input) (Some []) before after status text → IsAnswer words left rest before after status text
+told_of_source words None rest before after input status text r e end h = record {
   known = h.known;
   runs = λ _. r;
   done = λ _. tt;
@@ -29,10 +30,23 @@ told_of_source words None before after input status text r e h = record {
   too_long = λ s. (tt, (h.too_long s).1);
   read_fault = h.read_fault;
   within = λ _ _ _. tt;
+  whole = λ _ _ _. end;
+  whole_lines = λ _ _ _ _. end;
 }
-told_of_source words (Some bytes) before after input status text r e h =
-    subst (λ w. Tells w (Some bytes) before after status text) (sym r)
-    (subst (λ b. Tells (codes "run" ∷ []) (Some b) before after status text) e h)
+told_of_source words (Some bytes) rest before after input status text r e end h =
+    let k = subst (λ b. IsAnswer (codes "run" ∷ []) (Some b) (Some []) before after status text) e h in
+    record {
+      known = k.known;
+      runs = λ _. r;
+      done = k.done;
+      usage = λ s. absurd ((k.usage s).0 refl);
+      bad_line = k.bad_line;
+      too_long = k.too_long;
+      read_fault = k.read_fault;
+      within = k.within;
+      whole = λ _ _ _. end;
+      whole_lines = λ _ _ _ _. end;
+    }
 
 zero_of : (status : ℕ) → status ≤ 4 → status ≢ 1 → status ≢ 2 → status ≢ 3 → status ≢ 4 → status ≡ 0
 zero_of status l a b c d = omega (arith, l, a, b, c, d)
@@ -46,7 +60,7 @@ three_of status a d n = ⊎_elim (λ e. e) (λ e. absurd (n e)) (cases_eq status
 one_of : (status : ℕ) → (status ≢ 1 → ⊥) → status ≡ 1
 one_of status n = ⊎_elim (λ e. e) (λ e. absurd (n e)) (cases_eq status 1)
 
-module _ (words : List (List ℕ)) (before after status : ℕ) (text input : List ℕ) (h : Tells words (Some input) before after status text) (r : IsRun words) (calm : Rose before after → ⊥) where
+module _ (words : List (List ℕ)) (rest : Option (List ℕ)) (before after status : ℕ) (text input : List ℕ) (h : IsAnswer words (Some input) rest before after status text) (r : IsRun words) (calm : Rose before after → ⊥) where
   not_usage : status ≢ 1
   not_usage q = (h.usage q).0 r
 
@@ -72,17 +86,17 @@ module _ (words : List (List ℕ)) (before after status : ℕ) (text input : Lis
   too_long_of long = three_of status not_usage not_fault (λ q. h.within not_usage q not_fault long)
 
 -- the same of a source that has this input left, where nothing fails
-pub told_done : (words : List (List ℕ)) (left : Option (List ℕ)) (before after : ℕ) (status : ℕ) (text : List ℕ) (input : List ℕ) (steps : List Step) → Tells words left before after status text → IsRun words → left ≡ Some input → (Rose before after → ⊥) → Spells (lines_of input) steps → (IsTooLong input → ⊥) → status ≡ 0
-told_done words left before after status text input steps h r e calm s long =
-    done_of words before after status text input (subst (λ l. Tells words l before after status text) e h) r calm steps s long
+pub told_done : (words : List (List ℕ)) (left rest : Option (List ℕ)) (before after : ℕ) (status : ℕ) (text : List ℕ) (input : List ℕ) (steps : List Step) → IsAnswer words left rest before after status text → IsRun words → left ≡ Some input → (Rose before after → ⊥) → Spells (lines_of input) steps → (IsTooLong input → ⊥) → status ≡ 0
+told_done words left rest before after status text input steps h r e calm s long =
+    done_of words rest before after status text input (subst (λ l. IsAnswer words l rest before after status text) e h) r calm steps s long
 
-pub told_bad_line : (words : List (List ℕ)) (left : Option (List ℕ)) (before after : ℕ) (status : ℕ) (text : List ℕ) (input : List ℕ) (line : ℕ) → Tells words left before after status text → IsRun words → left ≡ Some input → (Rose before after → ⊥) → IsFirstBad (lines_of input) line → (IsTooLong input → ⊥) → status ≡ 2
-told_bad_line words left before after status text input line h r e calm bad long =
-    bad_line_of words before after status text input (subst (λ l. Tells words l before after status text) e h) r calm line bad long
+pub told_bad_line : (words : List (List ℕ)) (left rest : Option (List ℕ)) (before after : ℕ) (status : ℕ) (text : List ℕ) (input : List ℕ) (line : ℕ) → IsAnswer words left rest before after status text → IsRun words → left ≡ Some input → (Rose before after → ⊥) → IsFirstBad (lines_of input) line → (IsTooLong input → ⊥) → status ≡ 2
+told_bad_line words left rest before after status text input line h r e calm bad long =
+    bad_line_of words rest before after status text input (subst (λ l. IsAnswer words l rest before after status text) e h) r calm line bad long
 
-pub told_too_long : (words : List (List ℕ)) (left : Option (List ℕ)) (before after : ℕ) (status : ℕ) (text : List ℕ) (input : List ℕ) → Tells words left before after status text → IsRun words → left ≡ Some input → (Rose before after → ⊥) → IsTooLong input → status ≡ 3
-told_too_long words left before after status text input h r e calm long =
-    too_long_of words before after status text input (subst (λ l. Tells words l before after status text) e h) r calm long
+pub told_too_long : (words : List (List ℕ)) (left rest : Option (List ℕ)) (before after : ℕ) (status : ℕ) (text : List ℕ) (input : List ℕ) → IsAnswer words left rest before after status text → IsRun words → left ≡ Some input → (Rose before after → ⊥) → IsTooLong input → status ≡ 3
+told_too_long words left rest before after status text input h r e calm long =
+    too_long_of words rest before after status text input (subst (λ l. IsAnswer words l rest before after status text) e h) r calm long
 
-pub told_usage : (words : List (List ℕ)) (left : Option (List ℕ)) (before after : ℕ) (status : ℕ) (text : List ℕ) → Tells words left before after status text → (IsRun words → ⊥) → status ≡ 1
-told_usage words left before after status text h r = one_of status (λ q. r (h.runs q))
+pub told_usage : (words : List (List ℕ)) (left rest : Option (List ℕ)) (before after : ℕ) (status : ℕ) (text : List ℕ) → IsAnswer words left rest before after status text → (IsRun words → ⊥) → status ≡ 1
+told_usage words left rest before after status text h r = one_of status (λ q. r (h.runs q))

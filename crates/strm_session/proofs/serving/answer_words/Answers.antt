@@ -9,6 +9,7 @@ returns-in-Ok-clause-told g c =
     let after = g.S.Source.faults c.read_all.new.source in
     let words = map string_bytes c.args.words.now.items in
     let left = g.S.Source.left c.args.source.now in
+    let rest = g.S.Source.left c.read_all.new.source in
     IfOk-weaker c.answer_input.result _ _
-    (λ a h. told_of_source words left before after c.in-Ok.input a.status a.text (c.is_run.ensures.0 (c.if-not-is_run.false)) c.in-Ok.ensures.ok (rw c.as_slice.ensures at h))
+    (λ a h. told_of_source words left rest before after c.in-Ok.input a.status a.text (c.is_run.ensures.0 (c.if-not-is_run.false)) c.in-Ok.ensures.ok c.in-Ok.ensures.end (rw c.as_slice.ensures at h))
     (c.answer_input.ensures before after)
