@@ -4,4 +4,5 @@
 #![tactic(auto)]
 
 pub mod handles;
+pub mod memory;
 pub mod resources;
