@@ -75,7 +75,7 @@ turned_both Writing stream mine theirs = record { mine_is = refl; theirs_is = re
 turned_both Reading stream mine theirs = record { mine_is = refl; theirs_is = refl; payload = refl; kind = refl; pass = refl; count = refl }
 
 -- theirs goes on with n items
-pub turned_moves : (side : Side) (stream : Stream) (theirs : Operation) (n : ℕ) (o : Option Operation) → (end_of side stream).operation ≡ o → IsTurned side stream (with_operation (opposite side) (with_received stream n) theirs) o (Some theirs) (stream.passed || is_future stream.kind) (min (stream.received + n) (2 ^ 128 - 1))
+pub turned_moves : (side : Side) (stream : Stream) (theirs : Operation) (n : ℕ) (o : Option Operation) → (end_of side stream).operation ≡ o → IsTurned side stream (with_operation (opposite side) (with_received stream n) theirs) o (Some theirs) (with_received stream n).passed (with_received stream n).received
 turned_moves Writing stream theirs n o e = record { mine_is = e; theirs_is = refl; payload = refl; kind = refl; pass = refl; count = refl }
 turned_moves Reading stream theirs n o e = record { mine_is = e; theirs_is = refl; payload = refl; kind = refl; pass = refl; count = refl }
 

@@ -109,18 +109,19 @@ set_kind streams s k stream e l =
     ]
 
 -- a step on one stream
-pub set_reacts : (state : State) (act : Act) (reply : Reply) (guests : List Guest) (s : ℕ) (side : Side) (stream : Stream) → NamesEnd state act s side → IsLawful state → stream.kind ≡ (stream_at state s).kind
-    → Seen s (as_moment state act (goes reply (record state { guests = guests; streams = set state.streams s stream })))
-    → IsSound (record state { guests = guests; streams = set state.streams s stream }) → AreBytes guests
-    → Reacts state act (goes reply (record state { guests = guests; streams = set state.streams s stream }))
-set_reacts state act reply guests s side stream named h kind seen sound bytes =
-    let r = goes reply (record state { guests = guests; streams = set state.streams s stream }) in
-    seen_reacts state act r
-    (λ k. elim (cases_eq k s) [
-      | inl e ↦ subst (λ j. Seen j (as_moment state act r)) (sym e) seen
-      | inr ne ↦ (let other : s == k ≡ false = ne_eqb s k (λ q. ne (sym q)) in
-          let quiet : (end : Side) → names k end state act ≡ false = λ end. named k end ∙ ap (λ b. b && same_side side end) other in
-          seen_same k (as_moment state act r) (λ end. unnamed k end (as_moment state act r) (quiet end)) (get_or-set_other state.streams s k stream no_stream ne) (h.apart k) (h.tallies k))
-    ])
-    (λ k l. record { there = omega (arith, l, length-set state.streams s stream); kind = set_kind state.streams s k stream kind l })
-    sound bytes
+module _ (state : State) (act : Act) (reply : Reply) (guests : List Guest) (s : ℕ) (side : Side) (stream : Stream) where
+  abbrev set_to : State
+  set_to = record state { guests = guests; streams = set state.streams s stream }
+
+  pub set_reacts : NamesEnd state act s side → IsLawful state → stream.kind ≡ (stream_at state s).kind → Seen s (as_moment state act (goes reply set_to)) → IsSound set_to → AreBytes guests → Reacts state act (goes reply set_to)
+  set_reacts named h kind seen sound bytes =
+      let r = goes reply set_to in
+      seen_reacts state act r
+      (λ k. elim (cases_eq k s) [
+        | inl e ↦ subst (λ j. Seen j (as_moment state act r)) (sym e) seen
+        | inr ne ↦ (let other : s == k ≡ false = ne_eqb s k (λ q. ne (sym q)) in
+            let quiet : (end : Side) → names k end state act ≡ false = λ end. named k end ∙ ap (λ b. b && same_side side end) other in
+            seen_same k (as_moment state act r) (λ end. unnamed k end (as_moment state act r) (quiet end)) (get_or-set_other state.streams s k stream no_stream ne) (h.apart k) (h.tallies k))
+      ])
+      (λ k l. record { there = omega (arith, l, length-set state.streams s stream); kind = set_kind state.streams s k stream kind l })
+      sound bytes

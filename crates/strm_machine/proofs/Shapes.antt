@@ -29,6 +29,9 @@ use Rattle.strm_machine.proofs.EndingLemmas.{Becomes}
 
 -- ## A read or write
 
+abbrev pub operating : Side → NamedEnd → ℕ → ℕ → Act
+operating side end address count = OnEnd side end (Operate address count)
+
 abbrev pub stream_on : State → NamedEnd → Stream
 stream_on state end = stream_at state (stream_named (named state end))
 
@@ -40,7 +43,7 @@ turn_on state side end address count = turn side state.guests (stream_on state e
 
 -- where nothing refuses it
 pub record Operates (state : State) (side : Side) (end : NamedEnd) (address count : ℕ) : Type 0 where
-  pub found : IsFound state (OnEnd side end (Operate address count)) end.guest end.handle (stream_named (named state end)) side
+  pub found : IsFound state (operating side end address count) end.guest end.handle (stream_named (named state end)) side
   pub idle : (end_of side (stream_on state end)).operation ≡ None
   pub unended : has_ended side (kind_of end.ty) (stream_on state end) ≡ false
   pub kind : (stream_on state end).kind ≡ kind_of end.ty
@@ -74,7 +77,7 @@ pub record Sets (state : State) (act : Act) (reply : Reply) (x : Setting) : Type
 -- ## All shapes
 
 pub data Shape (state : State) (act : Act) (r : Reaction) : Type 0 where
-  ByTurn : (side : Side) (end : NamedEnd) (address count : ℕ) → act ≡ OnEnd side end (Operate address count) → r ≡ operates state side end address count → Operates state side end address count → Shape state act r
+  ByTurn : (side : Side) (end : NamedEnd) (address count : ℕ) → act ≡ operating side end address count → r ≡ operates state side end address count → Operates state side end address count → Shape state act r
   BySetting : (reply : Reply) (x : Setting) → r ≡ goes reply (set_by state x) → Sets state act reply x → Shape state act r
   ByPair : (writer reader : ℕ) (ty : TransmitIndex) → act ≡ Make (Between writer reader ty) → r ≡ makes state (Between writer reader ty) → PairFits state writer reader ty → Shape state act r
   ByGuest : (size : ℕ) → act ≡ Make (Guest size) → r ≡ makes state (Guest size) → GuestFits state size → Shape state act r
