@@ -65,21 +65,21 @@ unfolding decoded
 decoded-none ss bytes = refl
 
 -- an item that is handed over in the last moment
-item_handed-new : (s : ℕ) (all : List Moment) (m : Moment) (e : ℕ) (w : Call) (i : ℕ) (payload : Payload) → payload ≡ (stream_at m.before s).payload → before_passing s all (e + i) ≡ m.before
-    → item_handed s all e w i ≡ decode (scalars_of payload) (drop (w.address + item_size (scalars_of payload) * i) (memory_in m.before.guests w.guest))
-item_handed-new s all m e w i payload q h = rw (h, q) refl
+module _ (s : ℕ) (all : List Moment) (m : Moment) (e : ℕ) (w : Call) (i : ℕ) (payload : Payload) where
+  item_handed-new : payload ≡ (stream_at m.before s).payload → before_passing s all (e + i) ≡ m.before → item_handed s all e w i ≡ decode (scalars_of payload) (drop (w.address + item_size (scalars_of payload) * i) (memory_in m.before.guests w.guest))
+  item_handed-new q h = rw (h, q) refl
 
-pub handed-new : (s : ℕ) (all : List Moment) (m : Moment) (e : ℕ) (w : Call) (r i n : ℕ) (payload : Payload) → IsReached s all r → r ≤ e + i → e + i + n ≤ received s m.after → payload ≡ (stream_at m.before s).payload
-    → handed s (all ++ m ∷ []) e w i n ≡ items_in payload m.before.guests w.guest (w.address + item_size (scalars_of payload) * i) n
-unfolding handed
-handed-new s all m e w r i zero payload h le ge q = sym (decoded-none (scalars_of payload) _)
-handed-new s all m e w r i (suc n) payload h le ge q =
-    let here : before_passing s (all ++ m ∷ []) (e + i) ≡ m.before = before_passing-new s all m (e + i) (h (e + i) ∙ le-ltb (e + i) r le) (lt-ltb (e + i) _ (omega arith)) in
-    let item = item_handed-new s (all ++ m ∷ []) m e w i payload q here in
-    let more = handed-new s all m e w r (i + 1) n payload h (omega arith) (omega arith) q in
-    ap (λ x. x ∷ handed s (all ++ m ∷ []) e w (i + 1) n) item
-    ∙ ap (λ l. decode (scalars_of payload) (drop (w.address + item_size (scalars_of payload) * i) (memory_in m.before.guests w.guest)) ∷ l) more
-    ∙ sym (decoded-next (scalars_of payload) (memory_in m.before.guests w.guest) w.address i n)
+module _ (s : ℕ) (all : List Moment) (m : Moment) (e : ℕ) (w : Call) (r : ℕ) (payload : Payload) (h : IsReached s all r) (q : payload ≡ (stream_at m.before s).payload) where
+  pub handed-new : (i n : ℕ) → r ≤ e + i → e + i + n ≤ received s m.after → handed s (all ++ m ∷ []) e w i n ≡ items_in payload m.before.guests w.guest (w.address + item_size (scalars_of payload) * i) n
+  unfolding handed
+  handed-new i zero le ge = sym (decoded-none (scalars_of payload) _)
+  handed-new i (suc n) le ge =
+      let here : before_passing s (all ++ m ∷ []) (e + i) ≡ m.before = before_passing-new s all m (e + i) (h (e + i) ∙ le-ltb (e + i) r le) (lt-ltb (e + i) _ (omega arith)) in
+      let item = item_handed-new s (all ++ m ∷ []) m e w i payload q here in
+      let more = handed-new (i + 1) n (omega arith) (omega arith) in
+      ap (λ x. x ∷ handed s (all ++ m ∷ []) e w (i + 1) n) item
+      ∙ ap (λ l. decode (scalars_of payload) (drop (w.address + item_size (scalars_of payload) * i) (memory_in m.before.guests w.guest)) ∷ l) more
+      ∙ sym (decoded-next (scalars_of payload) (memory_in m.before.guests w.guest) w.address i n)
 
 pub handed-add : (s : ℕ) (all : List Moment) (e : ℕ) (w : Call) (i n r k : ℕ) → k ≡ n + r → handed s all e w i k ≡ handed s all e w i n ++ handed s all e w (i + n) r
 unfolding handed

@@ -154,19 +154,20 @@ same_stored ss source memory from to n xs h l e =
       ]
     ]
 
-pub carried_arrives : (guests after : List Guest) (payload : Payload) (write read : Operation) (n : ℕ) → AreBytes guests → read.guest < length guests → n ≤ read.left → IsPlaced (sizes_of guests) payload read → carried guests payload write read n ≡ Some after → Arrives guests after payload write read n
-carried_arrives guests after payload write read n h there fit placed e =
-    let ss = scalars_of payload in
-    let source = memory_in guests write.guest in
-    let memory = memory_in guests read.guest in
-    option_map_some _ (items_at ss source write.address n) after e
-    (λ xs p q.
-    let new = stored_at ss memory read.address xs in
-    let room = within (length memory) ss read.address n (front_inside guests payload read n fit placed) in
-    let same = same_stored ss source memory write.address read.address n xs (memory_bytes guests write.guest h) room p in
-    let here : memory_in after read.guest ≡ new = ap (λ gs. memory_in gs read.guest) (sym q) ∙ memory_in-with_memory guests read.guest new there in
-    record {
-      brings = ap (λ m. decoded ss (drop read.address m) n) here ∙ same.0;
-      whole = subst (λ m. All IsSome (decoded ss (drop read.address m) n)) (sym here) same.1;
-      bytes = subst AreBytes q (AreBytes-with_memory guests read.guest new (IsBytes-stored_at ss memory read.address xs (memory_bytes guests read.guest h)) h);
-    })
+module _ (guests after : List Guest) (payload : Payload) (write read : Operation) (n : ℕ) where
+  pub carried_arrives : AreBytes guests → read.guest < length guests → n ≤ read.left → IsPlaced (sizes_of guests) payload read → carried guests payload write read n ≡ Some after → Arrives guests after payload write read n
+  carried_arrives h there fit placed e =
+      let ss = scalars_of payload in
+      let source = memory_in guests write.guest in
+      let memory = memory_in guests read.guest in
+      option_map_some _ (items_at ss source write.address n) after e
+      (λ xs p q.
+      let new = stored_at ss memory read.address xs in
+      let room = within (length memory) ss read.address n (front_inside guests payload read n fit placed) in
+      let same = same_stored ss source memory write.address read.address n xs (memory_bytes guests write.guest h) room p in
+      let here : memory_in after read.guest ≡ new = ap (λ gs. memory_in gs read.guest) (sym q) ∙ memory_in-with_memory guests read.guest new there in
+      record {
+        brings = ap (λ m. decoded ss (drop read.address m) n) here ∙ same.0;
+        whole = subst (λ m. All IsSome (decoded ss (drop read.address m) n)) (sym here) same.1;
+        bytes = subst AreBytes q (AreBytes-with_memory guests read.guest new (IsBytes-stored_at ss memory read.address xs (memory_bytes guests read.guest h)) h);
+      })

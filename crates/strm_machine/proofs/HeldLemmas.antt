@@ -1,5 +1,5 @@
 -- Handles and ends agree after every step, by its shape: no step makes a handle or an end alone, or takes one.
-use Rattle.std.proofs.Common.{◌≡◌, ◌≢◌, ℕ, ◌^◌, ◌<◌, Bool, true, false, List, [], ◌∷◌, ◌++◌, length, get_or, set, Option, Some, None, refl, sym, ap, ◌∙◌, subst, arith, ⊎_elim, length-set}
+use Rattle.std.proofs.Common.{◌≡◌, ◌≢◌, ℕ, ◌<◌, Bool, true, false, List, [], ◌∷◌, ◌++◌, length, get_or, set, Option, Some, None, refl, sym, ap, ◌∙◌, subst, arith, ⊎_elim, length-set}
 use Rattle.std.specs.Prelude.{if◌then◌else◌}
 use Rattle.std.proofs.lemmas.Bool.{cases_eq}
 use Rattle.std.proofs.lemmas.List.{get_or-set_same, get_or_push, get_or_past}
@@ -85,36 +85,36 @@ module _ (guests : List Guest) (streams more : List Stream) (g : ℕ) where
   abbrev table : Handles
   table = (guest_in guests g).handles
 
-  -- a handle is inserted, and an end that was gone is held under it
-  IsHeld-inserted : (e : Entry) (s : ℕ) (side : Side) → g < length guests → next_index table < handle_limit → is_end s side (end_rep_in (Some e)) ≡ true → owner_in streams s side ≡ Gone → owner_in more s side ≡ Held g (next_index table)
-      → OthersStay streams more s side → IsHeld guests streams → IsHeld (with_handles guests g (inserted table e)) more
-  IsHeld-inserted e s side l small is gone owned rest h =
-      let old = (guest_in guests g).handles in
-      let n = next_index old in
-      let new = inserted old e in
-      let sound : IsTable old = h.tables g in
-      record {
-        tables = tables-with guests g new l (IsTable-inserted old e sound small) h.tables;
-        agree = Agree-more (names_in guests) (names_in (with_handles guests g new)) (owner_in streams) (owner_in more) h.agree g n s side
-            (names-with guests g new n l (λ i ne. entry_at-inserted-other old e i ne)) rest
-            (λ k other. ap (λ o. is_end k other (end_rep_in o)) (entry_at-next_index old sound))
-            (ap (is_end s side) (names-here guests g new n (Some e) l (entry_at-inserted-same old e sound)) ∙ is)
-            gone owned;
-      }
+  module _ (s : ℕ) (side : Side) (l : g < length guests) (rest : OthersStay streams more s side) (h : IsHeld guests streams) where
+    -- a handle is inserted, and an end that was gone is held under it
+    IsHeld-inserted : (e : Entry) → next_index table < handle_limit → is_end s side (end_rep_in (Some e)) ≡ true → owner_in streams s side ≡ Gone → owner_in more s side ≡ Held g (next_index table) → IsHeld (with_handles guests g (inserted table e)) more
+    IsHeld-inserted e small is gone owned =
+        let old = (guest_in guests g).handles in
+        let n = next_index old in
+        let new = inserted old e in
+        let sound : IsTable old = h.tables g in
+        record {
+          tables = tables-with guests g new l (IsTable-inserted old e sound small) h.tables;
+          agree = Agree-more (names_in guests) (names_in (with_handles guests g new)) (owner_in streams) (owner_in more) h.agree g n s side
+              (names-with guests g new n l (λ i ne. entry_at-inserted-other old e i ne)) rest
+              (λ k other. ap (λ o. is_end k other (end_rep_in o)) (entry_at-next_index old sound))
+              (ap (is_end s side) (names-here guests g new n (Some e) l (entry_at-inserted-same old e sound)) ∙ is)
+              gone owned;
+        }
 
-  -- a handle is removed, and the end that it named is gone
-  IsHeld-removed : (handle s : ℕ) (side : Side) → g < length guests → is_end s side (names_in guests g handle) ≡ true → owner_in more s side ≡ Gone → OthersStay streams more s side → IsHeld guests streams → IsHeld (with_handles guests g (removed table handle)) more
-  IsHeld-removed handle s side l is gone rest h =
-      let old = (guest_in guests g).handles in
-      let new = removed old handle in
-      let found = entry_there s side (entry_at old handle) is in
-      record {
-        tables = tables-with guests g new l (IsTable-removed old handle found.0 found.1 (h.tables g)) h.tables;
-        agree = Agree-less (names_in guests) (names_in (with_handles guests g new)) (owner_in streams) (owner_in more) h.agree g handle s side
-            (names-with guests g new handle l (λ i ne. entry_at-removed-other old handle i ne)) rest is
-            (λ k other. ap (is_end k other) (names-here guests g new handle None l (entry_at-removed-same old handle)))
-            gone;
-      }
+    -- a handle is removed, and the end that it named is gone
+    IsHeld-removed : (handle : ℕ) → is_end s side (names_in guests g handle) ≡ true → owner_in more s side ≡ Gone → IsHeld (with_handles guests g (removed table handle)) more
+    IsHeld-removed handle is gone =
+        let old = (guest_in guests g).handles in
+        let new = removed old handle in
+        let found = entry_there s side (entry_at old handle) is in
+        record {
+          tables = tables-with guests g new l (IsTable-removed old handle found.0 found.1 (h.tables g)) h.tables;
+          agree = Agree-less (names_in guests) (names_in (with_handles guests g new)) (owner_in streams) (owner_in more) h.agree g handle s side
+              (names-with guests g new handle l (λ i ne. entry_at-removed-other old handle i ne)) rest is
+              (λ k other. ap (is_end k other) (names-here guests g new handle None l (entry_at-removed-same old handle)))
+              gone;
+        }
 
 -- ## Reads and writes
 
@@ -161,8 +161,8 @@ module _ (state : State) (g handle s : ℕ) (side : Side) (e : End) where
 
   sets_held : (frees : Bool) → g < length state.guests → s < length state.streams → is_end s side (names_in state.guests g handle) ≡ true → e.owner ≡ (if frees then Gone else (end_of side (stream_at state s)).owner) → StateIsHeld state → IsHeld (guests_after frees state.guests g handle) streams_set
   sets_held true there made is owner h =
-      IsHeld-removed state.guests state.streams streams_set g handle s side there is
-      (owner-set_here state.streams s side e made ∙ owner) (λ k other. owner-set_beside state.streams s side e k other) h
+      IsHeld-removed state.guests state.streams streams_set g s side there (λ k other. owner-set_beside state.streams s side e k other) h handle is
+      (owner-set_here state.streams s side e made ∙ owner)
   sets_held false there made is owner h =
       IsHeld-same state.guests state.guests state.streams streams_set
       (λ k. refl)
@@ -193,12 +193,10 @@ between_held state writer reader ty fits h =
     let whole = made_stream ty writer pair.write reader pair.read in
     let half : Stream = record whole { writer = idle_end Gone } in
     let many : writer < length held = omega (arith, fits.writer_there, length-set state.guests reader (record (guest_in state.guests reader) { handles = inserted (guest_in state.guests reader).handles (read_entry ty s) })) in
-    let first = IsHeld-inserted state.guests streams (streams ++ half ∷ []) reader (read_entry ty s) s Reading fits.reader_there fits.read
-    (read_entry-end ty s) (ap (λ st. st.reader.owner) (get_or_past streams s no_stream (omega arith))) (owner-made streams half Reading)
-    (λ k other. half_other streams half refl k other) h in
-    IsHeld-inserted held (streams ++ half ∷ []) (streams ++ whole ∷ []) writer (write_entry ty s) s Writing many fits.write
-    (write_entry-end ty s) (owner-made streams half Writing) (owner-made streams whole Writing)
-    (λ k other. whole_other streams whole half refl k other) first
+    let first = IsHeld-inserted state.guests streams (streams ++ half ∷ []) reader s Reading fits.reader_there (λ k other. half_other streams half refl k other) h
+    (read_entry ty s) fits.read (read_entry-end ty s) (ap (λ st. st.reader.owner) (get_or_past streams s no_stream (omega arith))) (owner-made streams half Reading) in
+    IsHeld-inserted held (streams ++ half ∷ []) (streams ++ whole ∷ []) writer s Writing many (λ k other. whole_other streams whole half refl k other) first
+    (write_entry ty s) fits.write (write_entry-end ty s) (owner-made streams half Writing) (owner-made streams whole Writing)
   where
     half_other : (streams : List Stream) (half : Stream) → half.writer.owner ≡ Gone → (k : ℕ) (other : Side) → ((k ≡ length streams) × (other ≡ Reading) → ⊥) → owner_in (streams ++ half ∷ []) k other ≡ owner_in streams k other
     half_other streams half e k Writing ne = owner-push_same streams half k Writing e

@@ -19,10 +19,9 @@ use Rattle.strm_machine.specs.Reactions.{Reaction, goes, written, written_back, 
 use Rattle.strm_machine.specs.Moments.{Moment, names, code_told, as_report, report_in, accepted, k_of, place_of, read_place, items_in, received, PutsBytes}
 use Rattle.strm_machine.specs.declared.acts.NamedEnd.{NamedEnd}
 use Rattle.strm_machine.specs.declared.acts.Making.TheVariants as makings
-use Rattle.strm_machine.specs.declared.acts.EndAct.TheVariants.{Operate}
 use Rattle.strm_machine.specs.declared.acts.MemoryAct.TheVariants.{Poke}
 use Rattle.strm_machine.specs.declared.acts.Act.{Act}
-use Rattle.strm_machine.specs.declared.acts.Act.TheVariants.{Make, OnEnd, OnMemory}
+use Rattle.strm_machine.specs.declared.acts.Act.TheVariants.{Make, OnMemory}
 use Rattle.strm_machine.specs.declared.streams.Side.{Side}
 use Rattle.strm_machine.specs.declared.streams.Side.TheVariants.{Writing, Reading}
 use Rattle.strm_machine.specs.declared.streams.Operation.{Operation}
@@ -64,8 +63,10 @@ seen here r act reply before after guests others =
     }
 
 module _ (end : NamedEnd) (address count : ℕ) (code : ReturnCode) (before after : Stream) (guests : List Guest) (t : Turn) where
-  operation_seen : (side other : Side) (here r : Bool) → here ≡ same_side side other → r ≡ same_side side Reading → after ≡ t.stream
-      → ◌≡◌ {A = Scene} (seen here r (operating side end address count) (replies.Code code) before after guests t.guests) (scene_of side other guests before (begun_on end address count) code t)
+  abbrev seen_as : Side → Bool → Bool → Scene
+  seen_as side here r = seen here r (operating side end address count) (replies.Code code) before after guests t.guests
+
+  operation_seen : (side other : Side) (here r : Bool) → here ≡ same_side side other → r ≡ same_side side Reading → after ≡ t.stream → ◌≡◌ {A = Scene} (seen_as side here r) (scene_of side other guests before (begun_on end address count) code t)
   operation_seen Writing other here r e f h = rw (e, f, h) refl
   operation_seen Reading other here r e f h = rw (e, f, h) refl
 

@@ -212,13 +212,13 @@ with_end-placed : (side : Side) (sizes : List ℕ) (stream : Stream) (e : End) �
 with_end-placed Writing sizes stream e left h = record { writer = left_by (OperationIsPlaced sizes stream.payload) stream.writer.operation e.operation left h.writer tt; reader = h.reader }
 with_end-placed Reading sizes stream e left h = record { writer = h.writer; reader = left_by (OperationIsPlaced sizes stream.payload) stream.reader.operation e.operation left h.reader tt }
 
--- an end of one stream is another, with its operation or none, and its handle is freed or not
-pub IsSound-set : (state : State) (frees : Bool) (g handle s : ℕ) (side : Side) (e : End) → s < length state.streams → IsLeft (end_of side (stream_at state s)).operation e.operation → IsSound state
-    → IsSound (record state { guests = guests_after frees state.guests g handle; streams = set state.streams s (with_end side (stream_at state s) e) })
-IsSound-set state frees g handle s side e l left h =
-    let stream = stream_at state s in
-    IsSound-freed frees (record state { streams = set state.streams s (with_end side stream e) }) g handle
-    (IsSound-stream state s (with_end side stream e) (with_end-type side stream e) (with_end-placed side (sizes_of state.guests) stream e left (placed_at state s l h)) h)
+module _ (state : State) (frees : Bool) (g handle s : ℕ) (side : Side) (e : End) where
+  -- an end of one stream is another, with its operation or none, and its handle is freed or not
+  pub IsSound-set : s < length state.streams → IsLeft (end_of side (stream_at state s)).operation e.operation → IsSound state → IsSound (record state { guests = guests_after frees state.guests g handle; streams = set state.streams s (with_end side (stream_at state s) e) })
+  IsSound-set l left h =
+      let stream = stream_at state s in
+      IsSound-freed frees (record state { streams = set state.streams s (with_end side stream e) }) g handle
+      (IsSound-stream state s (with_end side stream e) (with_end-type side stream e) (with_end-placed side (sizes_of state.guests) stream e left (placed_at state s l h)) h)
 
 -- an operation whose end is told
 pub left_told : (code : Option ReturnCode) (o : Option Operation) → IsLeft o (left_pending code o)

@@ -281,7 +281,7 @@ module _ (side : Side) (guests : List Guest) (stream : Stream) (mine : Operation
       let more = rose stream.received n room small in
       let p = advanced stream.payload theirs n in
       let new = with_operation (opposite side) (with_received stream n) p in
-      let t = turned_moves side stream p n None idle in
+      let t = turned_moves stream p n side None idle in
       let code = completed_code stream.kind n in
       let turned = answers code after new in
       let got : got_by side stream mine turned ≡ items_in stream.payload after read.guest read.address n = got_moved stream mine theirs turned n (omega (arith, more, t.count)) side h.is in

@@ -16,7 +16,7 @@ use Rattle.strm_machine.proofs.Lawful.{HasRoom, as_moment}
 use Rattle.strm_machine.proofs.NamedEndLemmas.{named_itself}
 use Rattle.strm_machine.proofs.RefusalLemmas.{BytesFit}
 use Rattle.strm_machine.proofs.SoundStepLemmas.{operate-keeps, poke-keeps}
-use Rattle.strm_machine.proofs.Shapes.{stream_on, begun_on, turn_on, Operates, set_by, Shape, ByTurn, BySetting, ByPair, ByGuest, ByPoke, ByRest}
+use Rattle.strm_machine.proofs.Shapes.{operating, stream_on, begun_on, turn_on, Operates, set_by, Shape, ByTurn, BySetting, ByPair, ByGuest, ByPoke, ByRest}
 use Rattle.strm_machine.proofs.ShapeLemmas.{reaction-shape}
 use Rattle.strm_machine.proofs.TurnChangeLemmas.{place_by, rose, there}
 use Rattle.strm_machine.specs.Moments.{Moment, Place, names, place_of, read_place, received, target}
@@ -48,10 +48,9 @@ use Rattle.strm_memory.specs.Items.{items_at, stored_at}
 use Rattle.strm_memory.specs.Region.{bytes_out_of_bounds}
 use Rattle.strm_machine.specs.declared.acts.NamedEnd.{NamedEnd}
 use Rattle.strm_machine.specs.declared.acts.Making.TheVariants as makings
-use Rattle.strm_machine.specs.declared.acts.EndAct.TheVariants.{Operate}
 use Rattle.strm_machine.specs.declared.acts.MemoryAct.TheVariants.{Poke}
 use Rattle.strm_machine.specs.declared.acts.Act.{Act}
-use Rattle.strm_machine.specs.declared.acts.Act.TheVariants.{Make, OnEnd, OnMemory}
+use Rattle.strm_machine.specs.declared.acts.Act.TheVariants.{Make, OnMemory}
 use Rattle.std.specs.Prelude.{replicate}
 
 -- ## Memories
@@ -124,12 +123,14 @@ positive : (a b : ℕ) → 0 < a → 0 < b → 0 < a * b
 positive a b h k = grind arith
 
 -- items of some bytes that are stored in a region
-stored_stays : (ss : List Scalar) (memory : List ℕ) (address n : ℕ) (xs : List (List ℤ)) (other size : ℕ) → length xs ≡ n → (0 < n → 0 < item_size ss → address + item_size ss * n ≤ length memory) → 0 < item_size ss → (0 < size → 0 < item_size ss * n → IsApart address (item_size ss * n) other size) → bytes_at (stored_at ss memory address xs) other size ≡ bytes_at memory other size
-stored_stays ss memory address n xs other zero e room some apart = refl
-stored_stays ss memory address zero [] other (suc size) e room some apart = rw (stored_at-nil ss memory address) refl
-stored_stays ss memory address zero (x ∷ xs) other (suc size) e room some apart = absurd (omega (arith, e))
-stored_stays ss memory address (suc n) xs other (suc size) e room some apart =
-    bytes_at-stored_at ss memory address xs other (suc size) (rw e (room (omega arith) some)) (rw e (apart (omega arith) (positive (item_size ss) (suc n) some (omega arith))))
+module _ (ss : List Scalar) (memory : List ℕ) (address other : ℕ) (some : 0 < item_size ss) where
+  stored_stays : (n : ℕ) (xs : List (List ℤ)) (size : ℕ) → length xs ≡ n → (0 < n → 0 < item_size ss → address + item_size ss * n ≤ length memory) → (0 < size → 0 < item_size ss * n → IsApart address (item_size ss * n) other size)
+      → bytes_at (stored_at ss memory address xs) other size ≡ bytes_at memory other size
+  stored_stays n xs zero e room apart = refl
+  stored_stays zero [] (suc size) e room apart = rw (stored_at-nil ss memory address) refl
+  stored_stays zero (x ∷ xs) (suc size) e room apart = absurd (omega (arith, e))
+  stored_stays (suc n) xs (suc size) e room apart =
+      bytes_at-stored_at ss memory address xs other (suc size) (rw e (room (omega arith) some)) (rw e (apart (omega arith) (positive (item_size ss) (suc n) some (omega arith))))
 
 -- where n items of a read that waits or is called are received
 abbrev region_of : Payload → Operation → ℕ → Region
@@ -146,7 +147,7 @@ carried_stays guests after payload write read n there fit placed e r l apart =
           let room = within (length memory) ss read.address n (front_inside guests payload read n fit placed) in
           ap (λ gs. bytes_of gs r) (sym q)
           ∙ bytes_with guests read.guest (stored_at ss memory read.address xs) r there
-          (λ f. stored_stays ss memory read.address n xs r.place.address r.size (length-items ss _ n xs p) room some (apart f)))
+          (λ f. stored_stays ss memory read.address r.place.address some n xs r.size (length-items ss _ n xs p) room (apart f)))
     ]
   where
     option_same : (a b : List Guest) → Some a ≡ Some b → a ≡ b
@@ -173,7 +174,11 @@ module _ (side : Side) (guests : List Guest) (stream : Stream) (mine : Operation
   abbrev Stays : Turn → Type 0
   Stays t = BytesStay guests t.guests (region_by side stream mine t)
 
-  carries_stay : (theirs : Operation) (n : ℕ) (o : Option (List Guest)) → (end_of (opposite side) stream).operation ≡ Some theirs → IsPlaced (sizes_of guests) stream.payload theirs → n ≤ mine.left → n ≤ theirs.left → carried guests stream.payload (write_of side mine theirs) (read_of side mine theirs) n ≡ o → Stays (moves side guests stream mine theirs n o)
+  -- the guests after n items were carried
+  abbrev Carries : Operation → ℕ → Option (List Guest) → Type 0
+  Carries theirs n o = carried guests stream.payload (write_of side mine theirs) (read_of side mine theirs) n ≡ o
+
+  carries_stay : (theirs : Operation) (n : ℕ) (o : Option (List Guest)) → (end_of (opposite side) stream).operation ≡ Some theirs → IsPlaced (sizes_of guests) stream.payload theirs → n ≤ mine.left → n ≤ theirs.left → Carries theirs n o → Stays (moves side guests stream mine theirs n o)
   carries_stay theirs n None is held fit fits e r l apart = refl
   carries_stay theirs n (Some after) is held fit fits e r l apart =
       let read = read_of side mine theirs in
@@ -207,7 +212,7 @@ module _ (side : Side) (guests : List Guest) (stream : Stream) (mine : Operation
       (λ e. finds_stay (end_of (opposite side) stream).operation refl held)
 
 -- where the act of a call has its items, by whether it names the read end
-target_by : (side : Side) (b : Bool) (end : NamedEnd) (address count : ℕ) (stream : Stream) → b ≡ same_side side Reading → cond b (read_place (OnEnd side end (Operate address count)) (place_of stream.reader.operation)) (place_of stream.reader.operation) ≡ place_by side stream (begun_on end address count)
+target_by : (side : Side) (b : Bool) (end : NamedEnd) (address count : ℕ) (stream : Stream) → b ≡ same_side side Reading → cond b (read_place (operating side end address count) (place_of stream.reader.operation)) (place_of stream.reader.operation) ≡ place_by side stream (begun_on end address count)
 target_by Writing b end address count stream e = rw e refl
 target_by Reading b end address count stream e = rw e refl
 
@@ -219,10 +224,10 @@ back_stream : (state : State) (s : ℕ) (t : Turn) (code : Option ReturnCode) �
 back_stream state s t None l = get_or-set_same state.streams s t.stream no_stream l
 back_stream state s t (Some code) l = get_or-set_same state.streams s t.stream no_stream l
 
-operates_stays : (state : State) (side : Side) (end : NamedEnd) (address count : ℕ) → HasRoom state → Operates state side end address count → StaysAside (as_moment state (OnEnd side end (Operate address count)) (operates state side end address count))
+operates_stays : (state : State) (side : Side) (end : NamedEnd) (address count : ℕ) → HasRoom state → Operates state side end address count → StaysAside (as_moment state (operating side end address count) (operates state side end address count))
 operates_stays state side end address count room o =
     let s = stream_named (named state end) in
-    let act = OnEnd side end (Operate address count) in
+    let act = operating side end address count in
     let stream = stream_on state end in
     let mine = begun_on end address count in
     let t = turn_on state side end address count in
