@@ -3,14 +3,9 @@ use Rattle.std.proofs.Common.{◌≡◌, ℕ, zero, suc, ◌+◌, ◌*◌, ◌�
 use Rattle.std.proofs.lemmas.List.{append-nil, drop-drop}
 use Rattle.std.proofs.lemmas.Bool.{lt-ltb, le-ltb, cond-true, cond-false}
 use Rattle.std.specs.Prelude.{is_some, nat_lt, ◌||◌}
-use Rattle.strm_codes.specs.Layout.{scalars_of, item_size}
-use Rattle.strm_codes.specs.declared.codes.ReturnCode.{ReturnCode}
-use Rattle.strm_codes.specs.declared.codes.TransmitKind.{TransmitKind}
-use Rattle.strm_codes.specs.declared.payloads.Payload.{Payload}
-use Rattle.strm_codes.specs.declared.scalars.Scalar.{Scalar}
+use Rattle.strm_machine.specs.Words.{scalars_of, item_size, ReturnCode, TransmitKind, Payload, Scalar, memory_in, stream_at, Moment, Call, k_of, items_in, received}
 use Rattle.strm_memory.specs.Items.{decode}
-use Rattle.strm_machine.specs.State.{memory_in, stream_at}
-use Rattle.strm_machine.specs.Moments.{Moment, Call, k_of, decoded, items_in, received}
+use Rattle.strm_machine.specs.Moments.{decoded}
 use Rattle.strm_machine.proofs.RefusalLemmas.{neither}
 use Rattle.strm_laws.specs.Conservation.{before_passing, item_handed, handed, all_handed}
 use Rattle.strm_laws.specs.Laws.{total, AreReported}
@@ -127,7 +122,8 @@ unfolding all_handed
 all_handed-append kind s all moved e [] ys = let z : e + 0 ≡ e = omega arith in rw z refl
 all_handed-append kind s all moved e (x ∷ xs) ys =
     let z : e + k_of kind moved x.report + total kind moved xs ≡ e + (k_of kind moved x.report + total kind moved xs) = omega arith in
-    rw (all_handed-append kind s all moved (e + k_of kind moved x.report) xs ys, z) (sym (append_assoc (handed s all e x 0 (k_of kind moved x.report)) (all_handed kind s all moved (e + k_of kind moved x.report) xs) (all_handed kind s all moved (e + (k_of kind moved x.report + total kind moved xs)) ys)))
+    rw (all_handed-append kind s all moved (e + k_of kind moved x.report) xs ys, z)
+    (sym (append_assoc (handed s all e x 0 (k_of kind moved x.report)) (all_handed kind s all moved (e + k_of kind moved x.report) xs) (all_handed kind s all moved (e + (k_of kind moved x.report + total kind moved xs)) ys)))
 
 pub all_handed-old : (kind : TransmitKind) (s : ℕ) (all : List Moment) (m : Moment) (moved e r : ℕ) (ws : List Call) → IsReached s all r → e + total kind moved ws ≤ r → all_handed kind s (all ++ m ∷ []) moved e ws ≡ all_handed kind s all moved e ws
 unfolding all_handed

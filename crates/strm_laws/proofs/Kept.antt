@@ -5,15 +5,10 @@ use Rattle.std.proofs.lemmas.List.{append-nil}
 use Rattle.std.proofs.lemmas.Bool.{lt-ltb, le-ltb, cases_lt}
 use Rattle.std.proofs.lemmas.List.Elements.{All-nil, All-cons, All-head, All-tail, All-push}
 use Rattle.std.specs.Prelude.{All, nat_lt, ◌||◌}
-use Rattle.strm_codes.specs.Layout.{scalars_of, item_size}
-use Rattle.strm_codes.specs.declared.codes.ReturnCode.{ReturnCode}
-use Rattle.strm_codes.specs.declared.codes.TransmitKind.{TransmitKind}
-use Rattle.strm_codes.specs.declared.payloads.Payload.{Payload}
-use Rattle.strm_machine.specs.State.{State, stream_at}
+use Rattle.strm_machine.specs.Words.{scalars_of, item_size, ReturnCode, TransmitKind, Payload, State, stream_at, Moment, Call, k_of, items_in, received, report_in, accepted_in, got_in}
 use Rattle.strm_machine.specs.declared.streams.Side.{Side}
 use Rattle.strm_machine.specs.declared.streams.Side.TheVariants.{Writing}
 use Rattle.strm_machine.specs.declared.streams.Operation.{Operation}
-use Rattle.strm_machine.specs.Moments.{Moment, Call, k_of, items_in, received, report_in, accepted_in, got_in}
 use Rattle.strm_laws.specs.Conservation.{calls, all_reported, got, handed, all_handed}
 use Rattle.strm_laws.specs.Laws.{total, waiting, moved_at, IsAsked, AreReported, Carries, Stands}
 use Rattle.strm_laws.proofs.Calls.{settled-append, settled-reported, settled-none, calls-push, all_reported-push, got-push}

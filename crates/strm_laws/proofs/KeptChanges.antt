@@ -2,15 +2,11 @@
 use Rattle.std.proofs.Common.{◌≡◌, ℕ, ◌+◌, ◌*◌, true, List, [], ◌∷◌, ◌++◌, Option, None, Some, refl, sym, subst, ap, ◌∙◌, arith}
 use Rattle.std.proofs.lemmas.List.{append-nil}
 use Rattle.std.specs.Prelude.{All, is_some}
-use Rattle.strm_codes.specs.Layout.{scalars_of, item_size}
-use Rattle.strm_codes.specs.declared.codes.ReturnCode.{ReturnCode}
-use Rattle.strm_codes.specs.declared.codes.TransmitKind.{TransmitKind}
-use Rattle.strm_codes.specs.declared.payloads.Payload.{Payload}
-use Rattle.strm_machine.specs.State.{State, Guest}
+use Rattle.strm_machine.specs.Words.{Guest, scalars_of, item_size, ReturnCode, TransmitKind, Payload, State, Moment, Call, report_in, count_reported, k_of, items_in, received}
 use Rattle.strm_machine.specs.declared.streams.Side.{Side}
 use Rattle.strm_machine.specs.declared.streams.Side.TheVariants.{Writing}
 use Rattle.strm_machine.specs.declared.streams.Operation.{Operation}
-use Rattle.strm_machine.specs.Moments.{Moment, Call, report_in, count_reported, k_of, moved_of, items_in, received}
+use Rattle.strm_machine.specs.Moments.{moved_of}
 use Rattle.strm_laws.specs.Conservation.{calls, all_reported, got, handed, all_handed}
 use Rattle.strm_laws.specs.Laws.{total, waiting, moved_at, IsAsked, AreReported, Carries}
 use Rattle.strm_laws.proofs.Calls.{all_reported-push, got-push}

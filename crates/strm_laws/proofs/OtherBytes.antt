@@ -1,11 +1,10 @@
 -- In each step of every run the bytes that it does not touch stay.
 use Rattle.std.proofs.Common.{ℕ, List, [], ◌∷◌, ◌++◌, arith}
-use Rattle.strm_machine.specs.Acts.{act_of}
-use Rattle.strm_machine.specs.State.{empty}
-use Rattle.strm_machine.specs.Moments.{moment_of}
-use Rattle.strm_machine.specs.Untouched.{StaysAside}
+use Rattle.strm_machine.specs.Words.{act_of, empty}
 use Rattle.strm_machine.specs.declared.limits.Limits.{Limits}
 use Rattle.strm_machine.specs.declared.steps.Step.{Step}
+use Rattle.strm_machine.specs.Moments.{moment_of}
+use Rattle.strm_machine.specs.Untouched.{StaysAside}
 use Rattle.strm_machine.proofs.UntouchedLemmas.{reaction-stays}
 use Rattle.strm_laws.specs.Conservation.{last}
 use Rattle.strm_laws.specs.Laws.{AreSteps}

@@ -6,24 +6,19 @@ use Rattle.std.proofs.lemmas.List.{get_or_past, get_or-replicate, length-replica
 use Rattle.std.proofs.lemmas.List.Elements.{All-nil, All-cons, All-set, All-get_or}
 use Rattle.std.proofs.lemmas.Option.{option_and_then_some}
 use Rattle.strm_codes.specs.Scalars.{size_of}
-use Rattle.strm_codes.specs.Layout.{scalars_of, item_size, gap_before}
-use Rattle.strm_codes.specs.declared.scalars.Scalar.{Scalar}
-use Rattle.strm_codes.specs.declared.payloads.Payload.{Payload}
-use Rattle.strm_memory.specs.Bytes.{to_le, put_at, IsBytes}
+use Rattle.strm_machine.specs.Words.{Guest, scalars_of, item_size, Scalar, Payload, put_at, items_at, stored_at, no_guest, guest_in, memory_in, with_memory, carried, sizes_of, IsPlaced, Operation, items_in}
+use Rattle.strm_codes.specs.Layout.{gap_before}
+use Rattle.strm_memory.specs.Bytes.{to_le, IsBytes}
 use Rattle.strm_memory.specs.Numbers.{lowered}
-use Rattle.strm_memory.specs.Items.{decode_from, encode_from, decode, encode, items, stored, items_at, stored_at}
+use Rattle.strm_memory.specs.Items.{decode_from, encode_from, decode, encode, items, stored}
 use Rattle.strm_memory.proofs.ByteLemmas.{IsBytes-drop, IsBytes-take}
 use Rattle.strm_memory.proofs.CopyLemmas.{option_map_some}
 use Rattle.strm_memory.proofs.RegionLemmas.{items_at-copied}
-use Rattle.strm_machine.specs.State.{Guest, no_guest, guest_in, memory_in, with_memory}
-use Rattle.strm_machine.specs.Meetings.{carried}
-use Rattle.strm_machine.specs.Soundness.{sizes_of, IsPlaced}
-use Rattle.strm_machine.specs.declared.streams.Operation.{Operation}
 use Rattle.strm_machine.proofs.BoundLemmas.{within}
 use Rattle.strm_machine.proofs.CarryLemmas.{no_scalars}
 use Rattle.strm_machine.proofs.StateLemmas.{memory_in-with_memory}
 use Rattle.strm_machine.proofs.TurnLemmas.{front_inside}
-use Rattle.strm_machine.specs.Moments.{decoded, items_in}
+use Rattle.strm_machine.specs.Moments.{decoded}
 
 -- ## Bytes
 

@@ -4,17 +4,13 @@ use Rattle.std.proofs.lemmas.List.{take-append-drop}
 use Rattle.strm_memory.proofs.RegionLemmas.{items-number_or_none}
 use Rattle.std.specs.Prelude.{IsSomeAnd, IsSome}
 use Rattle.std.specs.Option.{option_map}
-use Rattle.strm_codes.specs.declared.payloads.Payload.{Payload}
+use Rattle.strm_machine.specs.Words.{Guest, Payload, Scalar, scalars_of, item_size, items_at, stored_at, memory_in, with_memory, carried, Operation}
 use Rattle.strm_codes.specs.declared.payloads.Payload.TheVariants.{Nothing}
-use Rattle.strm_codes.specs.declared.scalars.Scalar.{Scalar}
 use Rattle.strm_codes.specs.Scalars.{size_of}
-use Rattle.strm_codes.specs.Layout.{scalars_of, item_size, gap_before}
+use Rattle.strm_codes.specs.Layout.{gap_before}
 use Rattle.strm_codes.proofs.LayoutLemmas.{IsWidth-size_of}
-use Rattle.strm_memory.specs.Items.{items_at, stored, stored_at, encode_from}
+use Rattle.strm_memory.specs.Items.{stored, encode_from}
 use Rattle.strm_memory.proofs.FieldLemmas.{le-end_offset}
-use Rattle.strm_machine.specs.State.{Guest, memory_in, with_memory}
-use Rattle.strm_machine.specs.Meetings.{carried}
-use Rattle.strm_machine.specs.declared.streams.Operation.{Operation}
 use Rattle.strm_machine.proofs.StateLemmas.{with_memory-same}
 
 module _ (guests : List Guest) (payload : Payload) (write read : Operation) (n : ℕ) where

@@ -2,14 +2,9 @@
 use Rattle.std.proofs.Common.{◌≡◌, ℕ, ◌≤◌, Bool, true, false, Option, Some, None, refl, sym, subst, ap, ⊎_elim}
 use Rattle.std.specs.Prelude.{◌&&◌, ◌⊎◌}
 use Rattle.std.proofs.lemmas.Bool.{and_right}
-use Rattle.strm_machine.specs.Sides.{opposite, same_side, end_of, with_end, with_operation, write_of, read_of}
-use Rattle.strm_machine.specs.Turns.{with_received}
-use Rattle.strm_machine.specs.declared.streams.Side.{Side}
-use Rattle.strm_machine.specs.declared.streams.Side.TheVariants.{Writing, Reading}
-use Rattle.strm_machine.specs.declared.streams.Operation.{Operation}
-use Rattle.strm_machine.specs.declared.streams.End.{End}
-use Rattle.strm_machine.specs.declared.streams.Stream.{Stream}
-use Rattle.strm_machine.specs.Soundness.{type_of, both_open, is_opened}
+use Rattle.strm_machine.specs.Words.{opposite, same_side, end_of, with_end, with_operation, with_received, Side, Writing, Reading, Operation, End, Stream, both_open}
+use Rattle.strm_machine.specs.Sides.{write_of, read_of}
+use Rattle.strm_machine.specs.Soundness.{type_of, is_opened}
 
 -- what holds of a side and of the opposite one holds of each
 pub each_side : (P : Side → Type 0) (side : Side) → P side → P (opposite side) → (other : Side) → P other

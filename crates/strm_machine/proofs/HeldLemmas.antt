@@ -3,27 +3,16 @@ use Rattle.std.proofs.Common.{◌≡◌, ◌≢◌, ℕ, ◌<◌, Bool, true, fa
 use Rattle.std.specs.Prelude.{if◌then◌else◌}
 use Rattle.std.proofs.lemmas.Bool.{cases_eq}
 use Rattle.std.proofs.lemmas.List.{get_or-set_same, get_or_push, get_or_past}
-use Rattle.strm_codes.specs.declared.codes.ReturnCode.{ReturnCode}
-use Rattle.strm_codes.specs.declared.codes.TransmitIndex.{TransmitIndex}
+use Rattle.strm_machine.specs.Words.{Guest, ReturnCode, TransmitIndex, Handles, removed, Entry, State, no_stream, guest_in, with_handles, stream_at, end_of, with_end, Turn, Name, named, stream_named, Reaction, written_back, is_end, Act, Gone, Side, Writing, Reading, End, Stream}
 use Rattle.strm_codes.specs.declared.codes.TransmitIndex.TheVariants as index
-use Rattle.strm_handles.specs.Handles.{handle_limit, Handles, entry_at, next_index, inserted, removed, IsTable}
+use Rattle.strm_handles.specs.Handles.{handle_limit, entry_at, next_index, inserted, IsTable}
 use Rattle.strm_handles.specs.Lookups.{end_rep_in, end_rep_of}
-use Rattle.strm_handles.specs.declared.entries.Entry.{Entry}
 use Rattle.strm_handles.proofs.HandleLemmas.{IsTable-inserted, IsTable-removed, entry_at-next_index, entry_at-inserted-same, entry_at-inserted-other, entry_at-removed-same, entry_at-removed-other}
-use Rattle.strm_machine.specs.State.{State, Guest, no_stream, guest_in, with_handles, idle_end, stream_at}
-use Rattle.strm_machine.specs.Sides.{end_of, with_end}
-use Rattle.strm_machine.specs.Turns.{Turn}
-use Rattle.strm_machine.specs.Tests.{Name, named, stream_named}
+use Rattle.strm_machine.specs.State.{idle_end}
 use Rattle.strm_machine.specs.Making.{read_entry, write_entry, with_read_end, made_stream, made_pair, with_stream}
-use Rattle.strm_machine.specs.Reactions.{Reaction, written_back, reaction}
+use Rattle.strm_machine.specs.Reactions.{reaction}
 use Rattle.strm_machine.specs.Soundness as machine
-use Rattle.strm_machine.specs.Moments.{is_end}
-use Rattle.strm_machine.specs.declared.acts.Act.{Act}
-use Rattle.strm_machine.specs.declared.streams.Owner.TheVariants.{Held, Gone}
-use Rattle.strm_machine.specs.declared.streams.Side.{Side}
-use Rattle.strm_machine.specs.declared.streams.Side.TheVariants.{Writing, Reading}
-use Rattle.strm_machine.specs.declared.streams.End.{End}
-use Rattle.strm_machine.specs.declared.streams.Stream.{Stream}
+use Rattle.strm_machine.specs.declared.streams.Owner.TheVariants.{Held}
 use Rattle.strm_machine.proofs.AgreeLemmas.{Agree, Agree-same, Agree-more, Agree-less}
 use Rattle.strm_machine.proofs.EndLemmas.{with_end-replaces}
 use Rattle.strm_machine.proofs.NamedEndLemmas.{end_itself}

@@ -5,29 +5,12 @@ use Rattle.std.specs.Prelude.{All, IsSome, ◌⊎◌}
 use Rattle.std.proofs.lemmas.Bool.{cond-true}
 use Rattle.std.proofs.lemmas.List.{get_or-set_same, set-get_or, get_or_append_left}
 use Rattle.std.proofs.lemmas.List.Elements.{All-push, All-set}
-use Rattle.strm_codes.specs.declared.codes.ReturnCode.{ReturnCode}
-use Rattle.strm_codes.specs.declared.codes.TransmitIndex.{TransmitIndex}
-use Rattle.strm_handles.specs.Handles.{Handles, removed}
+use Rattle.strm_machine.specs.Words.{Guest, ReturnCode, TransmitIndex, Handles, removed, State, no_stream, guest_in, memory_in, with_handles, stream_at, opposite, same_side, end_of, with_end, Turn, named, stream_named, sizes_of, both_open, Reaction, goes, written_back, operates, Moment, names, as_report, report_in, accepted, k_of, items_in, received, NamedEnd, Poke, Act, Make, OnMemory, Side, Writing, Reading, Operation, End, Stream, Reply}
 use Rattle.strm_memory.specs.Bytes.{IsBytes}
-use Rattle.strm_machine.specs.State.{State, Guest, no_stream, guest_in, memory_in, with_handles, stream_at}
-use Rattle.strm_machine.specs.Sides.{opposite, same_side, end_of, with_end}
-use Rattle.strm_machine.specs.Turns.{Turn}
-use Rattle.strm_machine.specs.Tests.{named, stream_named}
 use Rattle.strm_machine.specs.Making.{made_stream, made_pair, with_stream}
-use Rattle.strm_machine.specs.Soundness.{sizes_of, both_open}
-use Rattle.strm_machine.specs.Reactions.{Reaction, goes, written, written_back, operates, reaction}
-use Rattle.strm_machine.specs.Moments.{Moment, names, code_told, as_report, report_in, accepted, k_of, place_of, read_place, items_in, received, PutsBytes}
-use Rattle.strm_machine.specs.declared.acts.NamedEnd.{NamedEnd}
+use Rattle.strm_machine.specs.Reactions.{written, reaction}
+use Rattle.strm_machine.specs.Moments.{code_told, place_of, read_place, PutsBytes}
 use Rattle.strm_machine.specs.declared.acts.Making.TheVariants as makings
-use Rattle.strm_machine.specs.declared.acts.MemoryAct.TheVariants.{Poke}
-use Rattle.strm_machine.specs.declared.acts.Act.{Act}
-use Rattle.strm_machine.specs.declared.acts.Act.TheVariants.{Make, OnMemory}
-use Rattle.strm_machine.specs.declared.streams.Side.{Side}
-use Rattle.strm_machine.specs.declared.streams.Side.TheVariants.{Writing, Reading}
-use Rattle.strm_machine.specs.declared.streams.Operation.{Operation}
-use Rattle.strm_machine.specs.declared.streams.End.{End}
-use Rattle.strm_machine.specs.declared.streams.Stream.{Stream}
-use Rattle.strm_machine.specs.declared.replies.Reply.{Reply}
 use Rattle.strm_machine.specs.declared.replies.Reply.TheVariants as replies
 use Rattle.strm_machine.proofs.SideLemmas.{same_side-itself, end_placed}
 use Rattle.strm_machine.proofs.SoundLemmas.{guests_after, IsSound-guests, IsSound-turn, IsSound-with_stream, IsSound-set}

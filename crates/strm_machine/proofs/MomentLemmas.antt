@@ -3,18 +3,9 @@ use Rattle.std.proofs.Common.{◌≡◌, ℕ, ◌+◌, ◌^◌, ◌<◌, ◌≤�
 use Rattle.std.specs.Prelude.{All, IsSome, ◌==◌, ◌&&◌}
 use Rattle.std.proofs.lemmas.Bool.{cases_eq, ne_eqb, cond-false}
 use Rattle.std.proofs.lemmas.List.{get_or-set_same, get_or-set_other, length-set}
-use Rattle.strm_codes.specs.declared.codes.ReturnCode.{ReturnCode}
-use Rattle.strm_machine.specs.State.{State, Guest, no_stream, stream_at}
-use Rattle.strm_machine.specs.Sides.{same_side}
-use Rattle.strm_machine.specs.Soundness.{IsSound}
-use Rattle.strm_machine.specs.Reactions.{Reaction, goes}
-use Rattle.strm_machine.specs.declared.streams.Side.{Side}
-use Rattle.strm_machine.specs.declared.streams.Stream.{Stream}
-use Rattle.strm_machine.specs.declared.acts.Act.{Act}
-use Rattle.strm_machine.specs.declared.replies.Reply.{Reply}
+use Rattle.strm_machine.specs.Words.{Guest, ReturnCode, State, no_stream, stream_at, same_side, IsSound, Reaction, goes, Side, Stream, Act, Reply, Moment, names, as_report, report_in, accepted, accepted_in, received, got_in, both_open}
 use Rattle.strm_machine.specs.declared.replies.Reply.TheVariants as replies
-use Rattle.strm_machine.specs.Moments.{Moment, names, is_named, code_told, as_report, report_in, accepted, accepted_in, received, target, got_in}
-use Rattle.strm_machine.specs.Soundness.{both_open}
+use Rattle.strm_machine.specs.Moments.{is_named, code_told, target}
 use Rattle.strm_machine.proofs.Changes.{scene, Change}
 use Rattle.strm_machine.proofs.ArrivalLemmas.{AreBytes}
 use Rattle.strm_machine.proofs.EndLemmas.{Stays, stays_same}

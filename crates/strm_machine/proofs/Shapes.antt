@@ -1,27 +1,12 @@
 -- What a step does by its shape: the few ways in which steps change a state, and what is known of each.
 use Rattle.std.proofs.Common.{◌≡◌, ℕ, Bool, false, List, [], length, set, Option, None}
-use Rattle.strm_codes.specs.Types.{kind_of}
-use Rattle.strm_codes.specs.declared.codes.ReturnCode.{ReturnCode}
-use Rattle.strm_codes.specs.declared.codes.TransmitIndex.{TransmitIndex}
-use Rattle.strm_machine.specs.State.{State, stream_at}
-use Rattle.strm_machine.specs.Sides.{end_of, with_end}
+use Rattle.strm_machine.specs.Words.{kind_of, ReturnCode, TransmitIndex, State, stream_at, end_of, with_end, Turn, named, stream_named, has_ended, Reaction, goes, operates, sizes_of, IsPlaced, StreamIsPlaced, accepted, NamedEnd, Operate, Poke, Act, Make, OnEnd, OnMemory, Reply, Side, Operation, End, Stream}
 use Rattle.strm_machine.specs.Meetings.{begun}
-use Rattle.strm_machine.specs.Turns.{Turn, turn}
-use Rattle.strm_machine.specs.Tests.{named, stream_named, items_asked, has_ended}
-use Rattle.strm_machine.specs.Reactions.{Reaction, goes, operates, makes, on_memory}
-use Rattle.strm_machine.specs.Soundness.{sizes_of, IsPlaced, StreamIsPlaced}
-use Rattle.strm_machine.specs.Moments.{code_told, accepted}
-use Rattle.strm_machine.specs.declared.acts.NamedEnd.{NamedEnd}
+use Rattle.strm_machine.specs.Turns.{turn}
+use Rattle.strm_machine.specs.Tests.{items_asked}
+use Rattle.strm_machine.specs.Reactions.{makes, on_memory}
+use Rattle.strm_machine.specs.Moments.{code_told}
 use Rattle.strm_machine.specs.declared.acts.Making.TheVariants.{Guest, Between}
-use Rattle.strm_machine.specs.declared.acts.EndAct.TheVariants.{Operate}
-use Rattle.strm_machine.specs.declared.acts.MemoryAct.TheVariants.{Poke}
-use Rattle.strm_machine.specs.declared.acts.Act.{Act}
-use Rattle.strm_machine.specs.declared.acts.Act.TheVariants.{Make, OnEnd, OnMemory}
-use Rattle.strm_machine.specs.declared.replies.Reply.{Reply}
-use Rattle.strm_machine.specs.declared.streams.Side.{Side}
-use Rattle.strm_machine.specs.declared.streams.Operation.{Operation}
-use Rattle.strm_machine.specs.declared.streams.End.{End}
-use Rattle.strm_machine.specs.declared.streams.Stream.{Stream}
 use Rattle.strm_machine.proofs.RefusalLemmas.{GuestFits, BytesFit, PairFits}
 use Rattle.strm_machine.proofs.NamedEndLemmas.{IsFound}
 use Rattle.strm_machine.proofs.SoundLemmas.{guests_after}

@@ -7,30 +7,18 @@ use Rattle.std.proofs.lemmas.Bool.{cases_lt}
 use Rattle.std.proofs.lemmas.List.{get_or_past, length-map, map-append, get_or_append_left, map-set, get_or_push}
 use Rattle.std.proofs.lemmas.List.Elements.{All-set, All-push, All-weaker, All-get_or, All-nil}
 use Rattle.std.proofs.lemmas.List.Sums.{sum_by-append}
-use Rattle.strm_codes.specs.declared.codes.TransmitIndex.{TransmitIndex}
+use Rattle.strm_machine.specs.Words.{Guest, TransmitIndex, Payload, kind_of, payload_of, Handles, removed, no_handles, Entry, State, no_guest, no_stream, guest_in, with_handles, stream_at, Turn, ReturnCode, end_of, with_end, report_on, told_end, Gone, End, Writing, Reading, Side, sizes_of, IsPlaced, OperationIsPlaced, StreamIsPlaced, IsSound, Operation, Stream}
 use Rattle.strm_codes.specs.declared.codes.TransmitIndex.TheVariants as index
-use Rattle.strm_codes.specs.declared.payloads.Payload.{Payload}
 use Rattle.strm_codes.specs.declared.payloads.Payload.TheVariants.{Nothing}
-use Rattle.strm_codes.specs.Types.{kind_of, payload_of}
-use Rattle.strm_handles.specs.Handles.{Handles, inserted, inserted_in, entries_with, removed, no_handles}
-use Rattle.strm_handles.specs.declared.entries.Entry.{Entry}
+use Rattle.strm_handles.specs.Handles.{inserted, inserted_in, entries_with}
 use Rattle.strm_handles.specs.declared.entries.Entry.TheVariants as entries
 use Rattle.strm_handles.specs.declared.entries.TransmitEnd.{TransmitEnd}
 use Rattle.strm_handles.specs.Ends.{read_end, write_end}
-use Rattle.strm_machine.specs.State.{memory_limit, State, Guest, no_guest, no_stream, guest_in, with_handles, stream_at}
-use Rattle.strm_machine.specs.Turns.{Turn}
+use Rattle.strm_machine.specs.State.{memory_limit}
 use Rattle.strm_events.specs.Reports.{left_pending}
-use Rattle.strm_codes.specs.declared.codes.ReturnCode.{ReturnCode}
-use Rattle.strm_machine.specs.Sides.{end_of, with_end}
-use Rattle.strm_machine.specs.Endings.{report_on, told_end, delivered, dropped}
-use Rattle.strm_machine.specs.declared.streams.Owner.TheVariants.{Gone}
-use Rattle.strm_machine.specs.declared.streams.End.{End}
-use Rattle.strm_machine.specs.declared.streams.Side.TheVariants.{Writing, Reading}
-use Rattle.strm_machine.specs.declared.streams.Side.{Side}
+use Rattle.strm_machine.specs.Endings.{delivered, dropped}
 use Rattle.strm_machine.specs.Making.{read_entry, write_entry, with_read_end, with_ends, made_stream, made_pair, with_stream}
-use Rattle.strm_machine.specs.Soundness.{sizes_of, handles_of, type_with, type_of, types_of, is_idle_state, IsNamed, EntryIsNamed, AreNamed, IsPlaced, OperationIsPlaced, StreamIsPlaced, IsSound}
-use Rattle.strm_machine.specs.declared.streams.Operation.{Operation}
-use Rattle.strm_machine.specs.declared.streams.Stream.{Stream}
+use Rattle.strm_machine.specs.Soundness.{handles_of, type_with, type_of, types_of, is_idle_state, IsNamed, EntryIsNamed, AreNamed}
 use Rattle.strm_machine.proofs.TurnLemmas.{GuestsKeep, TurnKeeps}
 use Rattle.strm_machine.proofs.EndLemmas.{IsLeft, left_by, with_end-type}
 
@@ -233,7 +221,7 @@ IsSound-delivered state s side l h =
     IsSound-set state false 0 0 s side (told_end (report_on side stream) (end_of side stream)) l (left_told (report_on side stream) (end_of side stream).operation) h
 
 -- an end was dropped, and its handle freed
-pub IsSound-dropped : (state : State) (s : ℕ) (side : Side) (g handle : ℕ) → s < length state.streams → IsSound state → IsSound (record state { guests = with_handles state.guests g (removed (guest_in state.guests g).handles handle); streams = set state.streams s (dropped side (stream_at state s)) })
+pub IsSound-dropped : (state : State) (s : ℕ) (side : Side) (g handle : ℕ) → s < length state.streams → IsSound state → IsSound (record state { guests = guests_after true state.guests g handle; streams = set state.streams s (dropped side (stream_at state s)) })
 unfolding dropped
 IsSound-dropped state s side g handle l h =
     IsSound-set state true g handle s side (record (end_of side (stream_at state s)) { owner = Gone }) l (inl refl) h

@@ -5,25 +5,15 @@ use Rattle.std.proofs.lemmas.Bool.{cond_both, eqb-true, le-ltb}
 use Rattle.std.proofs.lemmas.List.{length-map}
 use Rattle.std.proofs.lemmas.List.Elements.{All-nil}
 use Rattle.strm_codes.specs.Codes.{completed_code}
-use Rattle.strm_codes.specs.Layout.{scalars_of}
-use Rattle.strm_codes.specs.declared.codes.ReturnCode.{ReturnCode}
+use Rattle.strm_machine.specs.Words.{Guest, scalars_of, ReturnCode, TransmitKind, AStream, Future, Payload, opposite, same_side, end_of, with_end, with_operation, advanced, carried, Turn, with_received, sizes_of, IsPlaced, OperationIsPlaced, Side, Writing, Reading, Operation, Stream, Call, as_report, count_reported, k_of, items_in, both_open}
 use Rattle.strm_codes.specs.declared.codes.ReturnCode.TheVariants as codes
-use Rattle.strm_codes.specs.declared.codes.TransmitKind.{TransmitKind}
-use Rattle.strm_codes.specs.declared.codes.TransmitKind.TheVariants.{Stream as AStream, Future}
-use Rattle.strm_codes.specs.declared.payloads.Payload.{Payload}
-use Rattle.strm_machine.specs.State.{Guest, is_gone}
-use Rattle.strm_machine.specs.Sides.{opposite, same_side, end_of, with_end, with_operation, write_of, read_of}
-use Rattle.strm_machine.specs.Meetings.{advanced, carried}
-use Rattle.strm_machine.specs.Turns.{Turn, answers, waits, with_received, moves, completes_alone, rendezvous_by, rendezvous, finds, turn}
-use Rattle.strm_machine.specs.Soundness.{sizes_of, IsPlaced, OperationIsPlaced}
-use Rattle.strm_machine.specs.declared.streams.Side.{Side}
-use Rattle.strm_machine.specs.declared.streams.Side.TheVariants.{Writing, Reading}
-use Rattle.strm_machine.specs.declared.streams.Operation.{Operation}
-use Rattle.strm_machine.specs.declared.streams.Stream.{Stream}
+use Rattle.strm_machine.specs.State.{is_gone}
+use Rattle.strm_machine.specs.Sides.{write_of, read_of}
+use Rattle.strm_machine.specs.Turns.{answers, waits, moves, completes_alone, rendezvous_by, rendezvous, finds, turn}
 use Rattle.strm_machine.specs.declared.streams.Meeting.{Meeting}
 use Rattle.strm_machine.proofs.SideLemmas.{read_of-placed}
-use Rattle.strm_machine.specs.Moments.{Call, Place, as_report, count_reported, k_of, place_of, items_in}
-use Rattle.strm_machine.specs.Soundness.{both_open, is_opened}
+use Rattle.strm_machine.specs.Moments.{Place, place_of}
+use Rattle.strm_machine.specs.Soundness.{is_opened}
 use Rattle.strm_machine.proofs.Changes.{Scene, Change, ByRest, ByGoing, ByOpening, ByServing}
 use Rattle.strm_machine.proofs.EndLemmas.{each_side, apart_by, write_mine, write_theirs, read_fits, write_none, read_none, IsTurned, turned_not, turned_end, turned_both, turned_moves}
 use Rattle.strm_machine.proofs.TallyLemmas.{AreOne, IsUnmoved, none_unmoved, unmoved_on, Tallies-by, IsOne-advanced, one_at, none_one, Tallies, one_on, PassesOne-by, count_passed, Begins, count_reported-completed, count_reported-dropped}

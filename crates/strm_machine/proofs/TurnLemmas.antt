@@ -5,20 +5,12 @@ use Rattle.std.proofs.Math.Seq.{map-set_same}
 use Rattle.std.proofs.Math.ListN.{get_or-map}
 use Rattle.std.proofs.lemmas.Bool.{cond_both}
 use Rattle.std.specs.Option.{option_map}
-use Rattle.strm_codes.specs.declared.payloads.Payload.{Payload}
-use Rattle.strm_codes.specs.declared.scalars.Scalar.{Scalar}
-use Rattle.strm_codes.specs.Layout.{scalars_of}
-use Rattle.strm_memory.specs.Items.{items_at, stored_at}
+use Rattle.strm_machine.specs.Words.{Guest, Payload, Scalar, scalars_of, items_at, stored_at, no_guest, guest_in, memory_in, with_memory, opposite, same_side, end_of, with_operation, advanced, carried, Turn, with_received, sizes_of, IsPlaced, OperationIsPlaced, StreamIsPlaced, Side, Writing, Reading, Operation, Stream}
 use Rattle.strm_memory.specs.Region.{is_out_of_bounds}
-use Rattle.strm_machine.specs.State.{Guest, no_guest, guest_in, memory_in, with_memory, is_gone}
-use Rattle.strm_machine.specs.Sides.{opposite, same_side, end_of, with_operation, write_of, read_of}
-use Rattle.strm_machine.specs.Meetings.{advanced, carried}
-use Rattle.strm_machine.specs.Turns.{Turn, waits, with_received, moves, completes_alone, rendezvous_by, finds, turn}
-use Rattle.strm_machine.specs.Soundness.{sizes_of, handles_of, IsPlaced, OperationIsPlaced, StreamIsPlaced}
-use Rattle.strm_machine.specs.declared.streams.Side.{Side}
-use Rattle.strm_machine.specs.declared.streams.Side.TheVariants.{Writing, Reading}
-use Rattle.strm_machine.specs.declared.streams.Operation.{Operation}
-use Rattle.strm_machine.specs.declared.streams.Stream.{Stream}
+use Rattle.strm_machine.specs.State.{is_gone}
+use Rattle.strm_machine.specs.Sides.{write_of, read_of}
+use Rattle.strm_machine.specs.Turns.{waits, moves, completes_alone, rendezvous_by, finds, turn}
+use Rattle.strm_machine.specs.Soundness.{handles_of}
 use Rattle.strm_machine.specs.declared.streams.Meeting.{Meeting}
 use Rattle.strm_machine.specs.declared.streams.Meeting.TheVariants.{BothComplete, WriteCompletes, ReadCompletes}
 use Rattle.strm_machine.proofs.BoundLemmas.{not_out-front, length-stored_region}

@@ -5,12 +5,8 @@ use Rattle.std.proofs.Math.Seq.{map-set_same}
 use Rattle.std.proofs.lemmas.Bool.{cases_eq, cases_lt, cond_both}
 use Rattle.std.proofs.lemmas.Bool.Decides.{nat_tests}
 use Rattle.std.proofs.lemmas.List.{append_assoc, get_or-set_same, get_or_append_left, length-map, take-append-drop}
-use Rattle.strm_codes.specs.Layout.{item_size, scalars_of}
-use Rattle.strm_codes.specs.declared.codes.ReturnCode.{ReturnCode}
-use Rattle.strm_codes.specs.declared.codes.TransmitIndex.{TransmitIndex}
-use Rattle.strm_codes.specs.declared.payloads.Payload.{Payload}
-use Rattle.strm_codes.specs.declared.scalars.Scalar.{Scalar}
-use Rattle.strm_handles.specs.Handles.{Handles, inserted, removed, no_handles}
+use Rattle.strm_machine.specs.Words.{Guest, item_size, scalars_of, ReturnCode, TransmitIndex, Payload, Scalar, Handles, removed, no_handles, Moment, names, received, advanced, carried, Reaction, goes, operates, written_back, end_of, opposite, same_side, with_operation, IsPlaced, IsSound, OperationIsPlaced, sizes_of, State, guest_in, memory_in, no_guest, no_stream, stream_at, with_handles, with_memory, named, stream_named, Turn, with_received, Operation, Side, Reading, Writing, Stream, put_at, items_at, stored_at, NamedEnd, Poke, Act, Make, OnMemory}
+use Rattle.strm_handles.specs.Handles.{inserted}
 use Rattle.strm_machine.proofs.EndLemmas.{read_fits}
 use Rattle.strm_machine.proofs.Lawful.{HasRoom, as_moment}
 use Rattle.strm_machine.proofs.NamedEndLemmas.{named_itself}
@@ -19,7 +15,7 @@ use Rattle.strm_machine.proofs.SoundStepLemmas.{operate-keeps, poke-keeps}
 use Rattle.strm_machine.proofs.Shapes.{operating, stream_on, begun_on, turn_on, Operates, set_by, Shape, ByTurn, BySetting, ByPair, ByGuest, ByPoke, ByRest}
 use Rattle.strm_machine.proofs.ShapeLemmas.{reaction-shape}
 use Rattle.strm_machine.proofs.TurnChangeLemmas.{place_by, rose, there}
-use Rattle.strm_machine.specs.Moments.{Moment, Place, names, place_of, read_place, received, target}
+use Rattle.strm_machine.specs.Moments.{Place, place_of, read_place, target}
 use Rattle.strm_machine.specs.Untouched.{LiesApart, Region, StaysAside, bytes_of, poked_by, received_by}
 use Rattle.strm_machine.proofs.BoundLemmas.{within}
 use Rattle.strm_machine.proofs.CarryLemmas.{carried-nothing}
@@ -28,29 +24,17 @@ use Rattle.strm_machine.proofs.SoundLemmas.{guests_after}
 use Rattle.strm_machine.proofs.StateLemmas.{memory_in-with_memory, memory_in-with_memory_other}
 use Rattle.strm_machine.proofs.TurnLemmas.{front_inside, size_in}
 use Rattle.strm_machine.specs.Making.{read_entry, with_stream}
-use Rattle.strm_machine.specs.Meetings.{advanced, carried}
-use Rattle.strm_machine.specs.Reactions.{Reaction, goes, operates, makes, on_memory, reaction, written_back}
-use Rattle.strm_machine.specs.Sides.{end_of, opposite, read_of, same_side, with_operation, write_of}
-use Rattle.strm_machine.specs.Soundness.{IsPlaced, IsSound, OperationIsPlaced, sizes_of}
-use Rattle.strm_machine.specs.State.{Guest, State, guest_in, is_gone, memory_in, no_guest, no_stream, stream_at, with_handles, with_memory}
-use Rattle.strm_machine.specs.Tests.{named, stream_named}
-use Rattle.strm_machine.specs.Turns.{Turn, completes_alone, finds, rendezvous_by, moves, turn, with_received}
+use Rattle.strm_machine.specs.Reactions.{makes, on_memory, reaction}
+use Rattle.strm_machine.specs.Sides.{read_of, write_of}
+use Rattle.strm_machine.specs.State.{is_gone}
+use Rattle.strm_machine.specs.Turns.{completes_alone, finds, rendezvous_by, moves, turn}
 use Rattle.strm_machine.specs.declared.streams.Meeting.{Meeting}
 use Rattle.strm_machine.specs.declared.streams.Meeting.TheVariants.{BothComplete, ReadCompletes, WriteCompletes}
-use Rattle.strm_machine.specs.declared.streams.Operation.{Operation}
-use Rattle.strm_machine.specs.declared.streams.Side.{Side}
-use Rattle.strm_machine.specs.declared.streams.Side.TheVariants.{Reading, Writing}
-use Rattle.strm_machine.specs.declared.streams.Stream.{Stream}
 use Rattle.strm_memory.proofs.CopyLemmas.{option_map_some}
 use Rattle.strm_memory.proofs.RegionLemmas.{bytes_at-put_at_apart, bytes_at-stored_at, length-items, stored_at-nil}
-use Rattle.strm_memory.specs.Bytes.{IsApart, bytes_at, put_at}
-use Rattle.strm_memory.specs.Items.{items_at, stored_at}
+use Rattle.strm_memory.specs.Bytes.{IsApart, bytes_at}
 use Rattle.strm_memory.specs.Region.{bytes_out_of_bounds}
-use Rattle.strm_machine.specs.declared.acts.NamedEnd.{NamedEnd}
 use Rattle.strm_machine.specs.declared.acts.Making.TheVariants as makings
-use Rattle.strm_machine.specs.declared.acts.MemoryAct.TheVariants.{Poke}
-use Rattle.strm_machine.specs.declared.acts.Act.{Act}
-use Rattle.strm_machine.specs.declared.acts.Act.TheVariants.{Make, OnMemory}
 use Rattle.std.specs.Prelude.{replicate}
 
 -- ## Memories
@@ -124,8 +108,11 @@ positive a b h k = grind arith
 
 -- items of some bytes that are stored in a region
 module _ (ss : List Scalar) (memory : List ℕ) (address other : ℕ) (some : 0 < item_size ss) where
-  stored_stays : (n : ℕ) (xs : List (List ℤ)) (size : ℕ) → length xs ≡ n → (0 < n → 0 < item_size ss → address + item_size ss * n ≤ length memory) → (0 < size → 0 < item_size ss * n → IsApart address (item_size ss * n) other size)
-      → bytes_at (stored_at ss memory address xs) other size ≡ bytes_at memory other size
+  -- a region of n items is apart from so many other bytes
+  abbrev LiesBeside : ℕ → ℕ → Type 0
+  LiesBeside n size = 0 < size → 0 < item_size ss * n → IsApart address (item_size ss * n) other size
+
+  stored_stays : (n : ℕ) (xs : List (List ℤ)) (size : ℕ) → length xs ≡ n → (0 < n → 0 < item_size ss → address + item_size ss * n ≤ length memory) → LiesBeside n size → bytes_at (stored_at ss memory address xs) other size ≡ bytes_at memory other size
   stored_stays n xs zero e room apart = refl
   stored_stays zero [] (suc size) e room apart = rw (stored_at-nil ss memory address) refl
   stored_stays zero (x ∷ xs) (suc size) e room apart = absurd (omega (arith, e))
@@ -186,7 +173,8 @@ module _ (side : Side) (guests : List Guest) (stream : Stream) (mine : Operation
       let more = rose stream.received n room (omega (arith, placed.counted)) in
       let new = with_operation (opposite side) (with_received stream n) (advanced stream.payload theirs n) in
       let rise : new.received - stream.received ≡ n = omega (arith, more, received-with_operation (opposite side) (with_received stream n) (advanced stream.payload theirs n)) in
-      let here : region_by side stream mine (moves side guests stream mine theirs n (Some after)) ≡ region_of stream.payload read n = region_same (place_by side stream mine) (place_of (Some read)) _ _ (place_by-read side stream mine theirs is) (ap (λ k. item_size (scalars_of stream.payload) * k) rise) in
+      let here : region_by side stream mine (moves side guests stream mine theirs n (Some after)) ≡ region_of stream.payload read n =
+      region_same (place_by side stream mine) (place_of (Some read)) _ _ (place_by-read side stream mine theirs is) (ap (λ k. item_size (scalars_of stream.payload) * k) rise) in
       carried_stays guests after stream.payload (write_of side mine theirs) read n (there guests stream.payload read laid) (read_fits mine theirs side n fit fits) laid e r l (subst (LiesApart r) here apart)
 
   alone_stays : (who : Side) (theirs : Operation) → Stays (completes_alone who side guests stream mine theirs)
