@@ -1,10 +1,12 @@
-//! Times what a list of steps cannot time: the handle table under inserts and removals.
+//! Times what a list of steps cannot time: the handle table under inserts and removals, and calls of
+//! the store.
 //!
 //! Sums go to standard output and are the same in every run; times go to standard error.
 #![tactic(auto)]
 
 mod draws;
 mod guests;
+mod rounds;
 mod tables;
 
 use std::time::Instant;
@@ -28,7 +30,18 @@ fn main(rt: HostRuntime) -> io::Result<()> {
             println!(rt; "numbers {numbers} reps {reps} live {live}")?;
             let pairs = u128::from(turns / 2).max(1);
             let pair = spent / pairs;
-            eprintln!(rt; "an insert and a removal: {pair} ns")
+            eprintln!(rt; "an insert and a removal: {pair} ns")?;
+        }
+        Err(error) => return eprintln!(rt; "{error:?}"),
+    }
+    let start = Instant::now(&rt)?;
+    match rounds::run(rt.alloc(), turns) {
+        Ok(told) => {
+            let spent = start.elapsed(&rt)?.as_nanos();
+            let (words, received) = (told.words, told.received);
+            println!(rt; "words {words} received {received}")?;
+            let round = spent / u128::from(turns).max(1);
+            eprintln!(rt; "a write, a read and an event of 8 bytes: {round} ns")
         }
         Err(error) => eprintln!(rt; "{error:?}"),
     }

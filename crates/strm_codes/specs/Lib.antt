@@ -1,6 +1,7 @@
 pub mod Padded
 pub mod Scalars
 pub mod Layout
+pub mod Forms
 pub mod Sameness
 pub mod Items
 pub mod Counts

@@ -146,8 +146,9 @@ impl fmt::Display for ItemCount {
 }
 
 impl fmt::Debug for ItemCount {
+    ghost debug_output = { λ count. Some (decimal count) };
+
     fn fmt<W: fmt::Write>(&self, f: &mut fmt::Formatter<W>) -> fmt::Result {
-        let raw = self.raw;
-        write!(f, "{raw}")
+        fmt::Display::fmt(self, f)
     }
 }

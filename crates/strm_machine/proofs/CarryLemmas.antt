@@ -8,9 +8,8 @@ use Rattle.strm_machine.specs.Words.{Guest, Payload, Scalar, scalars_of, item_si
 use Rattle.strm_codes.specs.declared.payloads.Payload.TheVariants.{Nothing}
 use Rattle.strm_codes.specs.Scalars.{size_of}
 use Rattle.strm_codes.specs.Layout.{gap_before}
-use Rattle.strm_codes.proofs.LayoutLemmas.{IsWidth-size_of}
+use Rattle.strm_codes.proofs.LayoutLemmas.{IsWidth-size_of, le-end_offset}
 use Rattle.strm_memory.specs.Items.{stored, encode_from}
-use Rattle.strm_memory.proofs.FieldLemmas.{le-end_offset}
 use Rattle.strm_machine.proofs.StateLemmas.{with_memory-same}
 
 module _ (guests : List Guest) (payload : Payload) (write read : Operation) (n : ℕ) where

@@ -8,7 +8,8 @@ use Rattle.std.proofs.lemmas.List.Elements.{All-get_or}
 use Rattle.strm_machine.specs.Words.{TransmitIndex, Payload, kind_of, payload_of, TransmitKind, AStream, Future, Handles, Entry, NamedEnd, State, guest_in, no_stream, stream_at, Name, named, end_named, IsSound}
 use Rattle.strm_codes.specs.declared.codes.TransmitIndex.TheVariants as index
 use Rattle.strm_codes.specs.declared.payloads.Payload.TheVariants.{Nothing}
-use Rattle.strm_codes.specs.Sameness.{same_payload, Decides-same_payload}
+use Rattle.strm_codes.specs.Sameness.{same_payload}
+use Rattle.strm_codes.proofs.SamenessLemmas.{Decides-same_payload}
 use Rattle.strm_handles.specs.Handles.{entry_in, entry_at}
 use Rattle.strm_handles.specs.Lookups.{typed, stream_in, future_in, end_rep_in, ◌>>=◌}
 use Rattle.strm_handles.specs.declared.entries.Entry.TheVariants as entries

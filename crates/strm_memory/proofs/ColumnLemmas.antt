@@ -5,6 +5,7 @@ use Rattle.std.proofs.Math.Seq.{take-append-add, drop-append-add}
 use Rattle.std.specs.Prelude.{is_some}
 use Rattle.strm_codes.specs.Scalars.{size_of, is_scalar_value}
 use Rattle.strm_codes.specs.Layout.{gap_before, end_offset, item_size}
+use Rattle.strm_codes.proofs.LayoutLemmas.{le-end_offset}
 use Rattle.strm_codes.specs.declared.scalars.Scalar.{Scalar}
 use Rattle.strm_codes.specs.declared.scalars.Scalar.TheVariants.{Bool as Flag, Char}
 use Rattle.strm_memory.specs.Bytes.{le, put_at, bytes_at}
@@ -12,7 +13,7 @@ use Rattle.strm_memory.specs.Numbers.{lifted}
 use Rattle.strm_memory.specs.Items.{decode_from, decode, items}
 use Rattle.strm_memory.specs.Copies.{settled, copied_from, copied, copied_column, copied_columns, is_good_column, are_good_columns}
 use Rattle.strm_memory.proofs.ByteLemmas.{set-put_at, take-one, length-put_at, put_at-behind, put_at-append}
-use Rattle.strm_memory.proofs.FieldLemmas.{IsField, drop_field, le-end_offset, put_field, length-settled, is_some-both}
+use Rattle.strm_memory.proofs.FieldLemmas.{IsField, drop_field, put_field, length-settled, is_some-both}
 use Rattle.strm_memory.proofs.ItemLemmas.{sweep_more}
 use Rattle.strm_memory.proofs.CopyLemmas.{lifted_no_char}
 

@@ -9,6 +9,7 @@ use Rattle.strm_codes.specs.Scalars.{size_of, is_whole_number}
 use Rattle.strm_codes.specs.declared.payloads.Payload.{Payload}
 use Rattle.strm_codes.specs.declared.payloads.Payload.TheVariants.{Nothing, One, Tuple}
 use Rattle.strm_codes.specs.Layout.{scalars_of, gap_before, end_offset, item_size}
+use Rattle.strm_codes.proofs.LayoutLemmas.{le-end_offset}
 use Rattle.strm_codes.specs.declared.scalars.Scalar.{Scalar}
 use Rattle.strm_codes.specs.declared.scalars.Scalar.TheVariants.{Bool as Flag, S8, U8, S16, U16, S32, U32, S64, U64, Char}
 use Rattle.strm_memory.specs.Bytes.{le, to_le, put_at, bytes_at, IsBytes}
@@ -17,7 +18,7 @@ use Rattle.strm_memory.specs.Items.{decode_from, encode_from, decode, encode, it
 use Rattle.strm_memory.specs.Copies.{settled, copied_from, copied}
 use Rattle.strm_memory.proofs.ByteLemmas.{IsBytes-drop, IsBytes-take, le-lt}
 use Rattle.strm_memory.proofs.NumberLemmas.{lowered-lifted}
-use Rattle.strm_memory.proofs.FieldLemmas.{le-end_offset, is_some-both}
+use Rattle.strm_memory.proofs.FieldLemmas.{is_some-both}
 
 pub option_map_some : {A B P : Type 0} (f : A → B) (o : Option A) (y : B) → option_map f o ≡ Some y → ((x : A) → o ≡ Some x → f x ≡ y → P) → P
 option_map_some f None y e k = cc

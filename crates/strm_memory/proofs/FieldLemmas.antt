@@ -11,6 +11,7 @@ use mir.Val.{SFits}
 use Rattle.strm_codes.specs.Scalars.{size_of, FitsScalar, IsBelow, IsSignedBelow}
 use Rattle.strm_codes.specs.Items.{FitsItem, IsNumber}
 use Rattle.strm_codes.specs.Layout.{gap_before, end_offset}
+use Rattle.strm_codes.proofs.LayoutLemmas.{le-end_offset}
 use Rattle.strm_codes.specs.declared.scalars.Scalar.{Scalar}
 use Rattle.strm_codes.specs.declared.scalars.Scalar.TheVariants.{Bool as Flag, S8, U8, S16, U16, S32, U32, S64, U64, Char}
 use Rattle.strm_memory.specs.Bytes.{le, to_le, put_at}
@@ -25,10 +26,6 @@ pub record IsField (ss : List Scalar) (k at start size : ℕ) (s : Scalar) : Typ
   pub scalar : get_or ss k Flag ≡ s
   pub begins : start ≡ at + gap_before at (size_of s)
   pub takes : size ≡ size_of s
-
-pub le-end_offset : (at : ℕ) (ss : List Scalar) → at ≤ end_offset at ss
-le-end_offset at [] = omega arith
-le-end_offset at (s ∷ ss) = omega (arith, le-end_offset (at + gap_before at (size_of s) + size_of s) ss)
 
 -- the fields from this one on
 pub drop_field : (ss : List Scalar) (k at start size : ℕ) (s : Scalar) → IsField ss k at start size s → drop k ss ≡ s ∷ drop (k + 1) ss

@@ -16,6 +16,7 @@ use Rattle.std.specs.Prelude.{All, is_some, IsSome, IfSome, IsTrue, option_and_t
 use Rattle.std.specs.Option.{option_map}
 use Rattle.strm_codes.specs.Scalars.{size_of}
 use Rattle.strm_codes.specs.Layout.{scalars_of, gap_before, end_offset, item_size}
+use Rattle.strm_codes.proofs.LayoutLemmas.{le-end_offset}
 use Rattle.strm_codes.specs.Items.{FitsItem, IsNumber}
 use Rattle.strm_codes.specs.declared.scalars.Scalar.{Scalar}
 use Rattle.strm_codes.specs.declared.payloads.Payload.{Payload}
@@ -25,7 +26,7 @@ use Rattle.strm_memory.specs.Numbers.{lifted, lowered}
 use Rattle.strm_memory.specs.Items.{decode_from, encode_from, decode, encode, items, stored, items_at, stored_at, AreItems, is_number_or_none}
 use Rattle.strm_memory.proofs.ByteLemmas.{length-to_le, le-to_le, le-take-lt, IsBytes-drop}
 use Rattle.strm_memory.proofs.NumberLemmas.{IsLifted, IsLifted-fits, FitsScalar-lifted}
-use Rattle.strm_memory.proofs.FieldLemmas.{le-end_offset, IsNumber-FitsItem}
+use Rattle.strm_memory.proofs.FieldLemmas.{IsNumber-FitsItem}
 use Rattle.strm_memory.proofs.ItemLemmas.{items-add}
 use Rattle.strm_memory.proofs.CopyLemmas.{option_map_some, items-no_char, number_no_char}
 

@@ -1,8 +1,6 @@
 -- The store after an end was told its report, or dropped and its handle freed.
 use Rattle.std.proofs.Common.{◌≡◌, ℕ, ◌+◌, ◌-◌, ◌<◌, ◌≤◌, Bool, true, false, cond, List, length, get_or, set, Result, Ok, Err, None, refl, sym, ap, ◌∙◌, subst, arith}
-use Rattle.std.specs.Prelude.{sum, sum_by, ◌&&◌, not, count_by, IsOk, IfOk}
-use Rattle.std.proofs.lemmas.List.{length-map, length-set}
-use Rattle.std.proofs.lemmas.List.Sums.{sum_by-set, sum-map}
+use Rattle.std.specs.Prelude.{◌&&◌, not, IsOk, IfOk}
 use mir.Val.{bool_byte}
 use Rattle.strm_codes.specs.declared.codes.TransmitIndex.{TransmitIndex}
 use Rattle.strm_codes.specs.declared.codes.TransmitIndex.TheVariants as index
@@ -16,22 +14,27 @@ use Rattle.strm_handles.specs.declared.entries.TransmitLocalState.TheVariants as
 use Rattle.strm_handles.specs.declared.errors.HandleError.{HandleError}
 use Rattle.strm_machine.specs.State as machine
 use Rattle.strm_machine.specs.State.{State, no_stream, guest_in, with_handles, stream_at, is_gone, is_live}
+use Rattle.strm_machine.specs.Turns.{Turn}
 use Rattle.strm_machine.specs.Endings.{delivered, dropped}
 use Rattle.strm_machine.specs.Tests.{Name, named, named_by, stream_named, side_named, side_of}
-use Rattle.strm_machine.specs.Refusals.{first_of, dropping_reasons}
+use Rattle.strm_machine.specs.Refusals.{refusal}
+use Rattle.strm_machine.specs.declared.acts.NamedEnd.{NamedEnd}
+use Rattle.strm_machine.specs.declared.acts.EndAct.TheVariants.{Drop}
+use Rattle.strm_machine.specs.declared.acts.Act.TheVariants.{OnEnd}
 use Rattle.strm_machine.specs.Soundness.{sizes_of, is_idle_state, IsSound}
 use Rattle.strm_machine.specs.Sides.{same_side}
 use Rattle.strm_machine.specs.declared.streams.Side.{Side}
 use Rattle.strm_machine.specs.declared.streams.Side.TheVariants.{Writing, Reading}
 use Rattle.strm_machine.specs.declared.streams.Stream.{Stream}
 use Rattle.strm_machine.proofs.NameLemmas.{named_there, named_idle}
+use Rattle.strm_machine.proofs.ReactionLemmas.{refusal-drop}
 use Rattle.strm_machine.proofs.RefusalLemmas.{named_ok, drop_fits}
 use Rattle.strm_machine.proofs.SideLemmas.{same_side_is, delivered-keeps}
-use Rattle.strm_machine.proofs.SoundLemmas.{IsSound-delivered, IsSound-dropped, sizes_of-with_handles, placed_at}
-use Rattle.strm_transmit.specs.Guests.{guest_of, seen, live_in, removable}
+use Rattle.strm_machine.proofs.SoundLemmas.{IsSound-dropped, sizes_of-with_handles, placed_at}
+use Rattle.strm_transmit.specs.Guests.{seen, live_in, removable}
 use Rattle.strm_transmit.specs.Inside.{state_of, IsStore}
 use Rattle.strm_transmit.specs.declared.store.Store.TheInside.{Inside}
-use Rattle.strm_transmit.proofs.StoreLemmas.{SameBut, IsStore-keeps, live-set, live_weight, stream_at-there}
+use Rattle.strm_transmit.proofs.StoreLemmas.{SameBut, IsStore-stream, IsStore-turn, live_sum, stream_at-there}
 use Rattle.strm_machine.proofs.TurnLemmas.{all_kept}
 
 -- an end was told its report
@@ -43,35 +46,32 @@ pub record TellsEnd (old new : Inside) (s : ℕ) (side : Side) : Type 0 where
   pub bytes : new.bytes ≡ old.bytes
   pub streams : new.streams.items ≡ set old.streams.items s (delivered side (stream_at (state_of old) s))
 
+-- the turn of a stream that was told, with all guests as they were
+abbrev told_turn : List machine.Guest → Side → Stream → Turn
+told_turn guests side stream = record { code = None; guests = guests; stream = delivered side stream }
+
 pub IsStore-told : (old new : Inside) (s : ℕ) (side : Side) → s < length old.streams.items → TellsEnd old new s side → IsStore old → IsStore new
 IsStore-told old new s side l h i =
     let stream = stream_at (state_of old) s in
-    let keeps = delivered-keeps side (sizes_of (seen old.guests.items)) stream (placed_at (state_of old) s l i.sound) in
-    let sound = IsSound-delivered (state_of old) s side l i.sound in
-    let owners : is_live (delivered side stream) ≡ is_live stream = rw (keeps.writer, keeps.reader) refl in
-    IsStore-keeps old new
+    let guests = seen old.guests.items in
+    IsStore-turn old new s (told_turn guests side stream) l
+    (record { guests = all_kept guests; stream = delivered-keeps side (sizes_of guests) stream (placed_at (state_of old) s l i.sound) })
     (record {
       tag = h.same.tag;
       limits = h.same.limits;
       counter = h.counter;
       live_streams = h.live_streams;
       bytes = h.bytes;
-      guests = rw h.guests (all_kept (seen old.guests.items));
-      live = rw h.streams (live-set old.streams.items s (delivered side stream) owners);
-      streams = rw h.streams (length-set old.streams.items s (delivered side stream));
-    })
-    (record {
-      named = rw (h.guests, h.streams) sound.named;
-      placed = rw (h.guests, h.streams) sound.placed;
-      small = rw h.guests sound.small;
+      guests = ap (λ (g : _). seen g.items) h.guests;
+      streams = h.streams;
     }) i
 
 -- a number of streams that are there, after one of them changed
-live_changed : (a b : Bool) (n m : ℕ) → (b ≡ true → a ≡ true) → n + cond a 1 0 ≡ m + cond b 1 0 → n ≡ m - bool_byte (a && not b)
-live_changed true true n m h e = omega (arith, e)
-live_changed true false n m h e = omega (arith, e)
-live_changed false true n m h e = let no = h refl in cc
-live_changed false false n m h e = omega (arith, e)
+live_changed : (a b : Bool) (n : ℕ) → (b ≡ true → a ≡ true) → bool_byte (a && not b) ≤ n → (n - bool_byte (a && not b)) + cond a 1 0 ≡ n + cond b 1 0
+live_changed true true n h l = omega arith
+live_changed true false n h l = omega (arith, l)
+live_changed false true n h l = let no = h refl in cc
+live_changed false false n h l = omega arith
 
 live_least : (a b : Bool) (n m : ℕ) → n + cond a 1 0 ≡ m + cond b 1 0 → bool_byte (a && not b) ≤ m
 live_least true true n m e = omega arith
@@ -107,12 +107,6 @@ pub record DropsEnd (old new : Inside) (s : ℕ) (side : Side) (g handle lost : 
   pub live_streams : new.live_streams ≡ old.live_streams - lost
   pub bytes : new.bytes ≡ old.bytes
 
-same_bytes : (old new : List machine.Guest) → sizes_of new ≡ sizes_of old → sum_by (λ (g : machine.Guest). length g.memory) new ≡ sum_by (λ (g : machine.Guest). length g.memory) old
-same_bytes old new e = sym (sum-map (λ (g : machine.Guest). length g.memory) new) ∙ ap sum e ∙ sum-map (λ (g : machine.Guest). length g.memory) old
-
-live_sum : (streams : List Stream) (s : ℕ) (stream : Stream) → s < length streams → count_by is_live (set streams s stream) + cond (is_live (get_or streams s no_stream)) 1 0 ≡ count_by is_live streams + cond (is_live stream) 1 0
-live_sum streams s stream l = sum_by-set live_weight streams s stream no_stream l
-
 pub lost_fits : (old : Inside) (s : ℕ) (side : Side) (lost : ℕ) → s < length old.streams.items → lost ≡ bool_byte (is_live (stream_at (state_of old) s) && not (is_live (dropped side (stream_at (state_of old) s)))) → IsStore old → lost ≤ old.live_streams
 lost_fits old s side lost l e i =
     let stream = stream_at (state_of old) s in
@@ -124,25 +118,20 @@ pub IsStore-dropped : (old new : Inside) (s : ℕ) (side : Side) (g handle lost 
 IsStore-dropped old new s side g handle lost l h i =
     let stream = stream_at (state_of old) s in
     let sound = IsSound-dropped (state_of old) s side g handle l i.sound in
-    let sum = live_sum old.streams.items s (dropped side stream) l in
-    let live = live_changed (is_live stream) (is_live (dropped side stream)) _ _ (live_before side stream) sum in
-    let sizes : sizes_of (seen new.guests.items) ≡ sizes_of (seen old.guests.items) = ap sizes_of h.guests ∙ sizes_of-with_handles (seen old.guests.items) g _ in
-    let count : length new.guests.items ≡ length old.guests.items =
-    sym (length-map new.guests.items guest_of) ∙ ap length h.guests ∙ length-set (seen old.guests.items) g _ ∙ length-map old.guests.items guest_of in
-    let bytes : machine.bytes_in_use (state_of new) ≡ machine.bytes_in_use (state_of old) = same_bytes (seen old.guests.items) (seen new.guests.items) sizes in
-    record {
-      sound = record {
-        named = rw (h.guests, h.streams) sound.named;
-        placed = rw (h.guests, h.streams) sound.placed;
-        small = rw h.guests sound.small;
-      };
+    IsStore-stream old new s (dropped side stream) l
+    (record {
       limit = rw (h.counter, h.same.limits) i.limit;
       live = ap (λ (c : Counter). c.live) h.counter ∙ fewer _ _ _ i.live h.live;
-      streams = rw (h.live_streams, h.streams, h.lost_is, i.streams) (sym live);
-      bytes = h.bytes ∙ i.bytes ∙ sym bytes;
-      few_guests = rw count i.few_guests;
-      few_streams = rw (h.streams, length-set old.streams.items s (dropped side stream)) i.few_streams;
-    }
+      sizes = ap sizes_of h.guests ∙ sizes_of-with_handles (seen old.guests.items) g _;
+      bytes = h.bytes;
+      live_streams = rw (h.live_streams, h.lost_is) (live_changed (is_live stream) (is_live (dropped side stream)) old.live_streams (live_before side stream) (rw h.lost_is at (lost_fits old s side lost l h.lost_is i)));
+      streams = h.streams;
+    })
+    (record {
+      named = rw (h.guests, h.streams) sound.named;
+      placed = rw (h.guests, h.streams) sound.placed;
+      small = rw h.guests sound.small;
+    }) i
   where
     fewer : (c n m : ℕ) → c ≡ n → m + 1 ≡ n → c - 1 ≡ m
     fewer c n m e f = omega (arith, e, f)
@@ -178,27 +167,25 @@ removable_idle Writing (index.Future payload) handles handle name e i s = found_
 removable_idle Reading (index.Future payload) handles handle name e i s = found_removable (future_of handles payload handle) readable (λ end done. (end.rep, done)) name e (idle_readable name.1 i s)
 
 -- an end that may be dropped can be removed from its table
-pub removable_named : (state : State) (side : Side) (g : ℕ) (ty : TransmitIndex) (handle : ℕ) → IsSound state → first_of (dropping_reasons state side g ty handle) ≡ None → removable side ty (guest_in state.guests g).handles handle ≡ Ok tt
-removable_named state side g ty handle h e =
-    let fits = drop_fits state side g ty handle e in
-    by_name (named state g ty handle) refl (named_idle state g ty handle (named state g ty handle) h refl) (named_ok state g ty handle fits.found) fits.same
+pub removable_named : (state : State) (side : Side) (end : NamedEnd) → IsSound state → refusal state (OnEnd side end Drop) ≡ None → removable side end.ty (guest_in state.guests end.guest).handles end.handle ≡ Ok tt
+removable_named state side end h e =
+    let fits = drop_fits state side end (sym (refusal-drop state side end) ∙ e) in
+    by_name (named state end) refl (named_idle state end (named state end) h refl) (named_ok state end fits.found) fits.same
   where
-    by_name : (r : Name) → named state g ty handle ≡ r → IfOk r (λ name. is_idle_state name.1 ≡ true) → IsOk r → same_side side (side_named r) ≡ true → removable side ty (guest_in state.guests g).handles handle ≡ Ok tt
-    by_name (Ok name) f i k s = removable_idle side ty (guest_in state.guests g).handles handle name f i (same_side_is side (side_of name.1) s)
+    by_name : (r : Name) → named state end ≡ r → IfOk r (λ name. is_idle_state name.1 ≡ true) → IsOk r → same_side side (side_named r) ≡ true → removable side end.ty (guest_in state.guests end.guest).handles end.handle ≡ Ok tt
+    by_name (Ok name) f i k s = removable_idle side end.ty (guest_in state.guests end.guest).handles end.handle name f i (same_side_is side (side_of name.1) s)
     by_name (Err error) f i k s = cc
 
 -- its stream was made
-pub dropped_there : (state : State) (side : Side) (g : ℕ) (ty : TransmitIndex) (handle : ℕ) → IsSound state → first_of (dropping_reasons state side g ty handle) ≡ None → stream_named (named state g ty handle) < length state.streams
-dropped_there state side g ty handle h e =
-    let fits = drop_fits state side g ty handle e in
-    by_name (named state g ty handle) (named_there state g ty handle (named state g ty handle) h refl) (named_ok state g ty handle fits.found)
+pub drop_there : (old : Inside) (side : Side) (end : NamedEnd) (s : ℕ) → IsStore old → refusal (state_of old) (OnEnd side end Drop) ≡ None → s ≡ stream_named (named (state_of old) end) → s < length old.streams.items
+drop_there old side end s i e same =
+    let state = state_of old in
+    let fits = drop_fits state side end (sym (refusal-drop state side end) ∙ e) in
+    rw same (by_name (named state end) (named_there state end (named state end) i.sound refl) (named_ok state end fits.found))
   where
-    by_name : (r : Name) → IfOk r (λ name. name.0 < length state.streams) → IsOk r → stream_named r < length state.streams
+    by_name : (r : Name) → IfOk r (λ name. name.0 < length old.streams.items) → IsOk r → stream_named r < length old.streams.items
     by_name (Ok name) l k = l
     by_name (Err error) l k = cc
-
-pub drop_there : (old : Inside) (side : Side) (g : ℕ) (ty : TransmitIndex) (handle s : ℕ) → IsStore old → first_of (dropping_reasons (state_of old) side g ty handle) ≡ None → s ≡ stream_named (named (state_of old) g ty handle) → s < length old.streams.items
-drop_there old side g ty handle s i e same = rw same (dropped_there (state_of old) side g ty handle i.sound e)
 
 -- the stream that an index read, dropped on a side
 pub record DropIs (old : Inside) (s : ℕ) (side : Side) (after : Stream) (lost : ℕ) : Type 0 where

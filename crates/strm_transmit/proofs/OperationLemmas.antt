@@ -1,17 +1,10 @@
 -- Two searches one after the other, as one.
-use Rattle.std.proofs.Common.{◌≡◌, ℕ, false, List, ◌++◌, Option, Some, None, Result, Ok, Err, refl, sym, ap, ◌∙◌}
+use Rattle.std.proofs.Common.{◌≡◌, ℕ, List, ◌++◌, Option, Some, None, Result, Ok, Err, refl, sym, ap, ◌∙◌}
 use Rattle.std.specs.Option.{option_or}
 use Rattle.strm_codes.specs.declared.refusals.Refusal.{Refusal}
-use Rattle.strm_codes.specs.declared.codes.TransmitIndex.{TransmitIndex}
-use Rattle.strm_machine.specs.State.{State}
-use Rattle.strm_machine.specs.Meetings.{begun}
-use Rattle.strm_machine.specs.Tests.{named, end_named, stream_named, side_named, items_asked}
-use Rattle.strm_machine.specs.Refusals.{Reason, first_of, operation_reasons, dropping_reasons, refusal}
-use Rattle.strm_machine.specs.Reactions.{goes, on_stream, operation_step, tells, drops, drop_step, performs, react}
+use Rattle.strm_machine.specs.Refusals.{Reason, first_of}
 use Rattle.strm_machine.specs.declared.streams.Side.{Side}
-use Rattle.strm_machine.specs.declared.replies.Reply.TheVariants as replies
-use Rattle.strm_machine.specs.declared.steps.Step.TheVariants as steps
-use Rattle.strm_machine.proofs.ReactionLemmas.{first_of-append, react-refused, react-performs, refusal-operation, performs-operation, refusal-drop, performs-drop}
+use Rattle.strm_machine.proofs.ReactionLemmas.{first_of-append}
 use Rattle.strm_transmit.specs.Meets.{or_found}
 
 pub record IsFound {T : Type 0} (o : Option Refusal) (value wanted : T) : Type 0 where
@@ -70,42 +63,3 @@ end_found xs ys found wanted e f =
   where
     stream_found : ℕ → Result ℕ Refusal
     stream_found n = Ok n
-
--- a drop that nothing refuses, and one that is refused
-pub reacts_drops : (state : State) (side : Side) (g : ℕ) (ty : TransmitIndex) (handle stream : ℕ) → state.trapped ≡ false → Ok stream ≡ or_found (first_of (dropping_reasons state side g ty handle)) (stream_named (named state g ty handle)) → react state (drop_step side g ty handle) ≡ drops state stream side g handle
-reacts_drops state side g ty handle stream t e =
-    let f = found_ok (first_of (dropping_reasons state side g ty handle)) stream (stream_named (named state g ty handle)) e in
-    react-performs state (drop_step side g ty handle) t (refusal-drop state side g ty handle ∙ f.none)
-    ∙ performs-drop state side g ty handle
-    ∙ ap (λ (s : ℕ). drops state s side g handle) (sym f.same)
-
-pub drop_refused : (state : State) (side : Side) (g : ℕ) (ty : TransmitIndex) (handle wanted : ℕ) (r : Refusal) → state.trapped ≡ false → Err r ≡ or_found (first_of (dropping_reasons state side g ty handle)) wanted → react state (drop_step side g ty handle) ≡ goes (replies.Refused r) state
-drop_refused state side g ty handle wanted r t e =
-    react-refused state (drop_step side g ty handle) r t
-    (refusal-drop state side g ty handle ∙ found_err (first_of (dropping_reasons state side g ty handle)) r wanted e)
-
--- an event that may be asked for, and one that is refused
-pub reacts_tells : (state : State) (g handle : ℕ) (found : ℕ × Side) → state.trapped ≡ false → Ok found ≡ or_found (refusal state (steps.Event g handle)) (stream_named (end_named state g handle), side_named (end_named state g handle)) → react state (steps.Event g handle) ≡ tells state found.0 found.1
-unfolding performs
-reacts_tells state g handle found t e =
-    let name = end_named state g handle in
-    let f = found_ok (refusal state (steps.Event g handle)) found (stream_named name, side_named name) e in
-    react-performs state (steps.Event g handle) t f.none
-    ∙ ap (λ (q : ℕ × Side). tells state q.0 q.1) (sym f.same)
-
-pub event_refused : (state : State) (g handle : ℕ) (wanted : ℕ × Side) (r : Refusal) → state.trapped ≡ false → Err r ≡ or_found (refusal state (steps.Event g handle)) wanted → react state (steps.Event g handle) ≡ goes (replies.Refused r) state
-event_refused state g handle wanted r t e =
-    react-refused state (steps.Event g handle) r t (found_err (refusal state (steps.Event g handle)) r wanted e)
-
--- a read or write that nothing refuses, and one that is refused
-pub reacts_on : (state : State) (side : Side) (g : ℕ) (ty : TransmitIndex) (handle address count : ℕ) (stream items : ℕ) → state.trapped ≡ false → ◌≡◌ {A = Result (ℕ × ℕ) Refusal} (Ok (stream, items)) (or_found (first_of (operation_reasons state side g ty handle address count)) (stream_named (named state g ty handle), items_asked ty count)) → react state (operation_step side g ty handle address count) ≡ on_stream state stream side (begun g address items)
-reacts_on state side g ty handle address count stream items t e =
-    let f = found_ok (first_of (operation_reasons state side g ty handle address count)) (stream, items) (stream_named (named state g ty handle), items_asked ty count) e in
-    react-performs state (operation_step side g ty handle address count) t (refusal-operation state side g ty handle address count ∙ f.none)
-    ∙ performs-operation state side g ty handle address count
-    ∙ ap (λ (p : ℕ × ℕ). on_stream state p.0 side (begun g address p.1)) (sym f.same)
-
-pub reacts_refused : (state : State) (side : Side) (g : ℕ) (ty : TransmitIndex) (handle address count : ℕ) (r : Refusal) → state.trapped ≡ false → ◌≡◌ {A = Result (ℕ × ℕ) Refusal} (Err r) (or_found (first_of (operation_reasons state side g ty handle address count)) (stream_named (named state g ty handle), items_asked ty count)) → react state (operation_step side g ty handle address count) ≡ goes (replies.Refused r) state
-reacts_refused state side g ty handle address count r t e =
-    react-refused state (operation_step side g ty handle address count) r t
-    (refusal-operation state side g ty handle address count ∙ found_err (first_of (operation_reasons state side g ty handle address count)) r (stream_named (named state g ty handle), items_asked ty count) e)

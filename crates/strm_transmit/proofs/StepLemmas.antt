@@ -1,59 +1,63 @@
--- A call that was admitted or not, as a step of the machine.
-use Rattle.std.proofs.Common.{◌≡◌, ℕ, ap, Bool, true, false, cond, Option, Some, None, Result, Ok, Err, refl, ◌∙◌}
-use Rattle.std.specs.Prelude.{IfOk, IfErr, OnErr}
+-- The walk of every call: a trapped store answers nothing else, what may not be done is refused, and
+-- what may be done is what the machine performs. A call gives its test and its doing.
+use Rattle.std.proofs.Common.{◌≡◌, ap, Bool, true, false, cond, Option, Some, None, Result, Ok, Err, refl, sym, subst, ◌∙◌}
+use Rattle.std.specs.Prelude.{IfOk}
 use Rattle.strm_codes.specs.declared.refusals.Refusal.{Refusal}
 use Rattle.strm_machine.specs.State.{State}
 use Rattle.strm_machine.specs.Refusals.{refusal}
-use Rattle.strm_machine.specs.Reactions.{Reaction, goes, performs, react}
-use Rattle.strm_machine.specs.declared.steps.Step.{Step}
-use Rattle.strm_machine.specs.declared.steps.Step.TheVariants as steps
-use Rattle.strm_codes.specs.declared.codes.TransmitIndex.{TransmitIndex}
+use Rattle.strm_machine.specs.Reactions.{Reaction, performs, reaction}
+use Rattle.strm_machine.specs.declared.acts.Act.{Act}
 use Rattle.strm_machine.specs.declared.replies.Reply.{Reply}
-use Rattle.strm_machine.proofs.ReactionLemmas.{react-trapped, react-refused, react-performs}
-use Rattle.strm_transmit.specs.Meets.{Meets, is_done, replied, unless_found, admitted}
+use Rattle.strm_machine.proofs.ReactionLemmas.{reaction-trapped, reaction-refused, reaction-performs}
+use Rattle.strm_transmit.specs.Meets.{Meets, as_answer, admitted, or_found}
 use Rattle.strm_transmit.specs.declared.errors.StoreError.{StoreError}
-use Rattle.strm_transmit.specs.declared.errors.StoreError.TheVariants.{Refused, StoreTrapped, OutOfMemory}
+use Rattle.strm_transmit.specs.declared.errors.StoreError.TheVariants.{Refused, StoreTrapped}
 
--- why a step was not admitted, as the machine's answer
-pub meets_not_admitted : (state : State) (step : Step) (error : StoreError) → admitted state (refusal state step) ≡ Err error → Meets state state (Err error) (react state step)
-meets_not_admitted state step error e = trapped_or state.trapped refl e
+-- why an act was not admitted, as the machine's answer
+pub meets_not_admitted : {V : Type 0} (state : State) (act : Act) (wanted : V) (found : Result V Refusal) (error : StoreError) → found ≡ or_found (refusal state act) wanted → Err error ≡ admitted state found → Meets state state (Err error) (reaction state act)
+meets_not_admitted {V = V} state act wanted found error e a =
+    trapped_or state.trapped refl (a ∙ ap (admitted state) e)
   where
-    found : (o : Option Refusal) → state.trapped ≡ false → refusal state step ≡ o → unless_found o ≡ Err error → Meets state state (Err error) (react state step)
-    found None t r f = cc
-    found (Some refused) t r f =
-        let same : Refused refused ≡ error = cc in
-        rw (← same) (react-refused state step refused t r, refl)
+    refused : (o : Option Refusal) → state.trapped ≡ false → refusal state act ≡ o → Err error ≡ as_answer {T = V} (or_found o wanted) → Meets state state (Err error) (reaction state act)
+    refused None t r k = cc
+    refused (Some q) t r k =
+        let same : Refused q ≡ error = cc in rw (← same) (reaction-refused state act q t r, refl)
 
-    trapped_or : (b : Bool) → state.trapped ≡ b → cond b (Err StoreTrapped) (unless_found (refusal state step)) ≡ Err error → Meets state state (Err error) (react state step)
-    trapped_or true t f = let same : StoreTrapped ≡ error = cc in rw (← same) (react-trapped state step t, refl)
-    trapped_or false t f = found (refusal state step) t refl f
+    trapped_or : (b : Bool) → state.trapped ≡ b → Err error ≡ cond b (Err StoreTrapped) (as_answer {T = V} (or_found (refusal state act) wanted)) → Meets state state (Err error) (reaction state act)
+    trapped_or true t k = let same : StoreTrapped ≡ error = cc in rw (← same) (reaction-trapped state act t, refl)
+    trapped_or false t k = refused (refusal state act) t refl k
 
-pub record IsAdmitted (state : State) (found : Option Refusal) : Type 0 where
+-- an act that was admitted: the store isn't trapped, nothing refuses the act, and what was found is
+-- what was looked for
+pub record IsAdmitted {V : Type 0} (state : State) (act : Act) (wanted : V) (found : Result V Refusal) (value : V) : Type 0 where
   pub untrapped : state.trapped ≡ false
-  pub none : found ≡ None
+  pub none : refusal state act ≡ None
+  pub here : found ≡ Ok value
+  pub same : value ≡ wanted
 
-pub is_admitted : (state : State) (found : Option Refusal) (v : Unit {0}) → admitted state found ≡ Ok v → IsAdmitted state found
-is_admitted state found v e = both state.trapped refl e
+pub is_admitted : {V : Type 0} (state : State) (act : Act) (wanted : V) (found : Result V Refusal) (value : V) → found ≡ or_found (refusal state act) wanted → Ok value ≡ admitted state found → IsAdmitted state act wanted found value
+is_admitted {V = V} state act wanted found value e a = trapped_or state.trapped refl (a ∙ ap (admitted state) e)
   where
-    none_found : (o : Option Refusal) → unless_found o ≡ Ok v → o ≡ None
-    none_found None f = refl
-    none_found (Some r) f = cc
+    passed : (o : Option Refusal) → state.trapped ≡ false → refusal state act ≡ o → Ok value ≡ as_answer (or_found o wanted) → IsAdmitted state act wanted found value
+    passed None t r k =
+        let same : value ≡ wanted = cc in
+        record { untrapped = t; none = r; here = e ∙ ap (λ o. or_found o wanted) r ∙ ap Ok (sym same); same = same }
+    passed (Some q) t r k = cc
 
-    both : (b : Bool) → state.trapped ≡ b → cond b (Err StoreTrapped) (unless_found found) ≡ Ok v → IsAdmitted state found
-    both true t f = cc
-    both false t f = record { untrapped = t; none = none_found found f }
+    trapped_or : (b : Bool) → state.trapped ≡ b → Ok value ≡ cond b (Err StoreTrapped) (as_answer (or_found (refusal state act) wanted)) → IsAdmitted state act wanted found value
+    trapped_or true t k = cc
+    trapped_or false t k = passed (refusal state act) t refl k
 
--- a step that was admitted, and done but for want of memory
-pub meets_admitted : {T : Type 0} (f : T → Reply) (old new : State) (step : Step) (result : Result T StoreError) → IsAdmitted old (refusal old step) → is_done (performs old step).reply ≡ true → IfOk result (λ v. performs old step ≡ goes (f v) new) → OnErr result (new ≡ old) → IfErr result (λ error. error ≡ OutOfMemory) → Meets old new (replied f result) (react old step)
-meets_admitted f old new step (Ok v) a done ok err memory = react-performs old step a.untrapped a.none ∙ ok
-meets_admitted f old new step (Err error) a done ok err memory =
-    rw memory (ap (λ (r : Reaction). is_done r.reply) (react-performs old step a.untrapped a.none) ∙ done, err)
+-- what is known of what was found
+pub found_has : {V : Type 0} (state : State) (act : Act) (wanted : V) (found : Result V Refusal) (value : V) (P : V → Type 0) → IsAdmitted state act wanted found value → IfOk found P → P value
+found_has state act wanted found value P a p = let k = rw a.here at p in k
 
--- what the machine makes is done
-pub done-guest : (state : State) (size : ℕ) → is_done (performs state (steps.Guest size)).reply ≡ true
-unfolding performs
-done-guest state size = refl
+-- an act that was admitted does with what was found what the machine performs
+pub reacts : {V : Type 0} (state : State) (act : Act) (wanted : V) (found : Result V Refusal) (value : V) (does : V → Reaction) → IsAdmitted state act wanted found value → performs state act ≡ does wanted → reaction state act ≡ does value
+reacts state act wanted found value does a p =
+    reaction-performs state act a.untrapped a.none ∙ p ∙ ap does (sym a.same)
 
-pub done-between : (state : State) (writer reader : ℕ) (ty : TransmitIndex) → is_done (performs state (steps.Between writer reader ty)).reply ≡ true
-unfolding performs
-done-between state writer reader ty = refl
+-- so a doing that is what the machine performs is the call
+pub meets_admitted : {V : Type 0} (old new : State) (act : Act) (reply : Result Reply StoreError) (wanted : V) (found : Result V Refusal) (value : V) (does : V → Reaction) → IsAdmitted old act wanted found value → performs old act ≡ does wanted → Meets old new reply (does value) → Meets old new reply (reaction old act)
+meets_admitted old new act reply wanted found value does a p m =
+    subst (Meets old new reply) (sym (reacts old act wanted found value does a p)) m

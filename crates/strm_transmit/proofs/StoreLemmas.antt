@@ -1,34 +1,33 @@
 -- The store's counters after each change.
-use Rattle.std.proofs.Common.{◌≡◌, ℕ, Bool, cond, get_or, set, ◌+◌, ◌<◌, List, [], ◌∷◌, ◌++◌, length, map, sum_by, refl, sym, ap, ◌∙◌, subst, None, replicate, arith, length-append}
+use Rattle.std.proofs.Common.{◌≡◌, ℕ, cond, get_or, set, ◌+◌, ◌<◌, List, [], ◌∷◌, ◌++◌, length, map, sum_by, refl, sym, ap, ◌∙◌, subst, None, replicate, arith, length-append}
 use Rattle.std.specs.Prelude.{sum, count_by}
 use Rattle.std.proofs.lemmas.List.{map-append, length-map, length-replicate, length-set, get_or_default}
-use Rattle.std.proofs.lemmas.List.Sums.{sum_by-append, sum-map}
-use Rattle.std.proofs.Math.Seq.{map-set_same}
-use Rattle.strm_machine.specs.Turns.{Turn, turn}
-use Rattle.strm_machine.specs.declared.streams.Side.{Side}
+use Rattle.std.proofs.lemmas.List.Sums.{sum_by-append, sum_by-set, sum-map}
+use Rattle.strm_machine.specs.Turns.{Turn}
 use Rattle.strm_machine.specs.declared.streams.Stream.{Stream}
-use Rattle.strm_machine.specs.declared.streams.Operation.{Operation}
 use Rattle.strm_handles.specs.Counters.{Counter, counted}
 use Rattle.strm_handles.specs.Handles.{Handles, no_handles, live_of, next_index}
 use Rattle.strm_handles.proofs.HandleLemmas.{live_of-no_handles}
 use Rattle.strm_machine.specs.State as machine
 use Rattle.strm_memory.specs.Bytes.{put_at}
 use Rattle.strm_machine.specs.State.{State, guest_in, no_stream, stream_at, memory_in, with_memory, is_live, handles_in_use, bytes_in_use}
-use Rattle.strm_machine.specs.Soundness.{IsSound, IsPlaced, sizes_of}
+use Rattle.strm_machine.specs.Soundness.{IsSound, sizes_of, handles_of}
 use Rattle.strm_machine.specs.Refusals.{refusal}
 use Rattle.strm_machine.specs.Reactions.{goes, performs}
-use Rattle.strm_machine.specs.declared.steps.Step.TheVariants as steps
+use Rattle.strm_machine.specs.declared.acts.Making.TheVariants.{Guest, Between}
+use Rattle.strm_machine.specs.declared.acts.MemoryAct.TheVariants.{Poke}
+use Rattle.strm_machine.specs.declared.acts.Act.TheVariants.{Make, OnMemory}
 use Rattle.strm_machine.specs.declared.replies.Reply.TheVariants as replies
 use Rattle.strm_machine.proofs.RefusalLemmas.{guest_fits, poke_fits, pair_fits}
-use Rattle.strm_machine.proofs.SoundLemmas.{IsSound-guest, IsSound-guests, IsSound-turn, IsSound-with_stream, sizes_of-with_handles, placed_at}
+use Rattle.strm_machine.proofs.SoundLemmas.{IsSound-guest, IsSound-guests, IsSound-turn, IsSound-with_stream, sizes_of-with_handles}
 use Rattle.strm_machine.proofs.BoundLemmas.{length-poked}
-use Rattle.strm_machine.proofs.TurnLemmas.{GuestsKeep, TurnKeeps, with_memory-keeps, turn-keeps}
+use Rattle.strm_machine.proofs.TurnLemmas.{GuestsKeep, TurnKeeps, with_memory-keeps}
 use Rattle.strm_codes.specs.declared.codes.TransmitIndex.{TransmitIndex}
 use Rattle.strm_machine.specs.Making.{with_read_end, with_ends, made_stream, made_pair, with_stream}
 use Rattle.strm_machine.specs.declared.replies.Pair.{Pair}
 use Rattle.strm_transmit.specs.Guests.{guest_of, seen, live_in}
 use Rattle.strm_transmit.specs.Inside.{state_of, IsStore}
-use Rattle.strm_transmit.specs.declared.guests.Guest.{Guest}
+use Rattle.strm_transmit.specs.declared.guests.Guest as ours
 use Rattle.strm_transmit.specs.declared.store.Store.TheInside.{Inside}
 
 -- fields that a call leaves as they were
@@ -37,14 +36,14 @@ pub record SameBut (old new : Inside) : Type 0 where
   pub limits : new.limits ≡ old.limits
   pub trapped : new.is_trapped ≡ old.is_trapped
 
-seen-push : (guests : List Guest) (g : Guest) → seen (guests ++ g ∷ []) ≡ seen guests ++ guest_of g ∷ []
+seen-push : (guests : List ours.Guest) (g : ours.Guest) → seen (guests ++ g ∷ []) ≡ seen guests ++ guest_of g ∷ []
 seen-push guests g = map-append guest_of guests (g ∷ [])
 
 sum_by-push : {X : Type 0} (f : X → ℕ) (xs : List X) (x : X) → sum_by f (xs ++ x ∷ []) ≡ sum_by f xs + f x
 sum_by-push f xs x = let e = sum_by-append f xs (x ∷ []) in omega (arith, e)
 
 -- one guest more, of so many zero bytes
-pub record AddsGuest (old new : Inside) (g : Guest) (size : ℕ) : Type 0 where
+pub record AddsGuest (old new : Inside) (g : ours.Guest) (size : ℕ) : Type 0 where
   pub same : SameBut old new
   pub counter : new.counter ≡ old.counter
   pub streams : new.streams ≡ old.streams
@@ -54,11 +53,11 @@ pub record AddsGuest (old new : Inside) (g : Guest) (size : ℕ) : Type 0 where
   pub memory : g.memory ≡ replicate size 0
   pub handles : g.table.handles ≡ no_handles
 
-state_of-guest : (old new : Inside) (g : Guest) (size : ℕ) → AddsGuest old new g size → state_of new ≡ record (state_of old) { guests = seen old.guests.items ++ guest_of g ∷ [] }
+state_of-guest : (old new : Inside) (g : ours.Guest) (size : ℕ) → AddsGuest old new g size → state_of new ≡ record (state_of old) { guests = seen old.guests.items ++ guest_of g ∷ [] }
 state_of-guest old new g size h =
     rw (h.same.tag, h.same.limits, h.same.trapped, h.streams, h.guests, seen-push old.guests.items g) refl
 
-pub IsStore-guest : (old new : Inside) (g : Guest) (size : ℕ) → AddsGuest old new g size → refusal (state_of old) (steps.Guest size) ≡ None → IsStore old → IsStore new
+pub IsStore-guest : (old new : Inside) (g : ours.Guest) (size : ℕ) → AddsGuest old new g size → refusal (state_of old) (Make (Guest size)) ≡ None → IsStore old → IsStore new
 IsStore-guest old new g size h e s =
     let fits = guest_fits (state_of old) size e in
     let many : length g.memory ≡ size = rw h.memory (length-replicate size 0) in
@@ -81,7 +80,7 @@ IsStore-guest old new g size h e s =
     added : (n m k : ℕ) → m ≡ n + k → k ≡ 0 → n ≡ m
     added n m k e z = omega arith
 
-pub performs-guest : (old new : Inside) (g : Guest) (size n : ℕ) → AddsGuest old new g size → n ≡ length old.guests.items → performs (state_of old) (steps.Guest size) ≡ goes (replies.Number n) (state_of new)
+pub performs-guest : (old new : Inside) (g : ours.Guest) (size n : ℕ) → AddsGuest old new g size → n ≡ length old.guests.items → performs (state_of old) (Make (Guest size)) ≡ goes (replies.Number n) (state_of new)
 unfolding performs
 performs-guest old new g size n h e =
     rw (state_of-guest old new g size h, h.memory, h.handles, e, length-map old.guests.items guest_of) refl
@@ -93,34 +92,15 @@ map-map f g (x ∷ xs) = ap (λ ys. g (f x) ∷ ys) (map-map f g xs)
 by_map : (f : machine.Guest → Handles) (g : Handles → ℕ) (xs : List machine.Guest) → sum_by g (map f xs) ≡ sum_by (λ x. g (f x)) xs
 by_map f g xs = sym (sum-map g (map f xs)) ∙ ap sum (map-map f g xs) ∙ sum-map (λ x. g (f x)) xs
 
--- guests and streams changed, and nothing that is counted
-pub record KeepsCounts (old new : Inside) : Type 0 where
-  pub tag : new.tag ≡ old.tag
-  pub limits : new.limits ≡ old.limits
-  pub counter : new.counter ≡ old.counter
-  pub live_streams : new.live_streams ≡ old.live_streams
-  pub bytes : new.bytes ≡ old.bytes
-  pub guests : GuestsKeep (seen old.guests.items) (seen new.guests.items)
-  pub live : count_by is_live new.streams.items ≡ count_by is_live old.streams.items
-  pub streams : length new.streams.items ≡ length old.streams.items
+-- what is counted of guests with the memory lengths, or the handles, of others
+pub same_handles : (old new : List machine.Guest) → handles_of new ≡ handles_of old → sum_by (λ (g : machine.Guest). live_of g.handles) new ≡ sum_by (λ (g : machine.Guest). live_of g.handles) old
+same_handles old new e = sym (by_map (λ g. g.handles) live_of new) ∙ ap (sum_by live_of) e ∙ by_map (λ g. g.handles) live_of old
 
-pub IsStore-keeps : (old new : Inside) → KeepsCounts old new → IsSound (state_of new) → IsStore old → IsStore new
-IsStore-keeps old new k sound s =
-    let handles : handles_in_use (state_of new) ≡ handles_in_use (state_of old) =
-    sym (by_map (λ g. g.handles) live_of (seen new.guests.items)) ∙ ap (sum_by live_of) k.guests.handles ∙ by_map (λ g. g.handles) live_of (seen old.guests.items) in
-    let bytes : bytes_in_use (state_of new) ≡ bytes_in_use (state_of old) =
-    sym (sum-map (λ g. length g.memory) (seen new.guests.items)) ∙ ap sum k.guests.sizes ∙ sum-map (λ g. length g.memory) (seen old.guests.items) in
-    let count : length new.guests.items ≡ length old.guests.items =
-    sym (length-map new.guests.items guest_of) ∙ sym (length-map (seen new.guests.items) (λ g. length g.memory)) ∙ ap length k.guests.sizes ∙ length-map (seen old.guests.items) (λ g. length g.memory) ∙ length-map old.guests.items guest_of in
-    record {
-      sound = sound;
-      limit = rw (k.counter, k.limits) s.limit;
-      live = ap (λ (c : Counter). c.live) k.counter ∙ s.live ∙ sym handles;
-      streams = k.live_streams ∙ s.streams ∙ sym k.live;
-      bytes = k.bytes ∙ s.bytes ∙ sym bytes;
-      few_guests = rw count s.few_guests;
-      few_streams = rw k.streams s.few_streams;
-    }
+pub same_bytes : (old new : List machine.Guest) → sizes_of new ≡ sizes_of old → sum_by (λ (g : machine.Guest). length g.memory) new ≡ sum_by (λ (g : machine.Guest). length g.memory) old
+same_bytes old new e = sym (sum-map (λ (g : machine.Guest). length g.memory) new) ∙ ap sum e ∙ sum-map (λ (g : machine.Guest). length g.memory) old
+
+same_count : (old new : List machine.Guest) → sizes_of new ≡ sizes_of old → length new ≡ length old
+same_count old new e = sym (length-map new (λ (g : machine.Guest). length g.memory)) ∙ ap length e ∙ length-map old (λ (g : machine.Guest). length g.memory)
 
 -- bytes put into a guest's memory
 pub record PutsBytes (old new : Inside) (g address : ℕ) (bytes : List ℕ) : Type 0 where
@@ -131,30 +111,28 @@ pub record PutsBytes (old new : Inside) (g address : ℕ) (bytes : List ℕ) : T
   pub count : new.bytes ≡ old.bytes
   pub guests : seen new.guests.items ≡ with_memory (seen old.guests.items) g (put_at (memory_in (seen old.guests.items) g) address bytes)
 
-pub performs-poke : (old new : Inside) (g address : ℕ) (bytes : List ℕ) → PutsBytes old new g address bytes → performs (state_of old) (steps.Poke g address bytes) ≡ goes replies.Done (state_of new)
+pub performs-poke : (old new : Inside) (g address : ℕ) (bytes : List ℕ) → PutsBytes old new g address bytes → performs (state_of old) (OnMemory g (Poke address bytes)) ≡ goes replies.Done (state_of new)
 unfolding performs
 performs-poke old new g address bytes h =
     rw (h.same.tag, h.same.limits, h.same.trapped, h.streams, h.guests) refl
 
-pub IsStore-poke : (old new : Inside) (g address : ℕ) (bytes : List ℕ) → PutsBytes old new g address bytes → refusal (state_of old) (steps.Poke g address bytes) ≡ None → IsStore old → IsStore new
+pub IsStore-poke : (old new : Inside) (g address : ℕ) (bytes : List ℕ) → PutsBytes old new g address bytes → refusal (state_of old) (OnMemory g (Poke address bytes)) ≡ None → IsStore old → IsStore new
 IsStore-poke old new g address bytes h e s =
     let fits = poke_fits (state_of old) g address bytes e in
     let size = length-poked (memory_in (seen old.guests.items) g) address bytes fits.inside in
     let keeps = with_memory-keeps (seen old.guests.items) g (put_at (memory_in (seen old.guests.items) g) address bytes) size in
     let kept : GuestsKeep (seen old.guests.items) (seen new.guests.items) = rw h.guests keeps in
     let state : state_of new ≡ record (state_of old) { guests = seen new.guests.items } = rw (h.same.tag, h.same.limits, h.same.trapped, h.streams) refl in
-    IsStore-keeps old new
-    (record {
-      tag = h.same.tag;
-      limits = h.same.limits;
-      counter = h.counter;
-      live_streams = h.live_streams;
-      bytes = h.count;
-      guests = kept;
-      live = rw h.streams refl;
-      streams = rw h.streams refl;
-    })
-    (rw state (IsSound-guests (state_of old) (seen new.guests.items) kept s.sound)) s
+    let count = same_count (seen old.guests.items) (seen new.guests.items) kept.sizes in
+    record {
+      sound = rw state (IsSound-guests (state_of old) (seen new.guests.items) kept s.sound);
+      limit = rw (h.counter, h.same.limits) s.limit;
+      live = ap (λ (c : Counter). c.live) h.counter ∙ s.live ∙ sym (same_handles (seen old.guests.items) (seen new.guests.items) kept.handles);
+      streams = rw (h.live_streams, h.streams) s.streams;
+      bytes = h.count ∙ s.bytes ∙ sym (same_bytes (seen old.guests.items) (seen new.guests.items) kept.sizes);
+      few_guests = omega (arith, count, s.few_guests, length-map old.guests.items guest_of, length-map new.guests.items guest_of);
+      few_streams = rw h.streams s.few_streams;
+    }
 
 -- guests and one stream as a turn left them
 pub record TakesTurn (old new : Inside) (s : ℕ) (t : Turn) : Type 0 where
@@ -169,26 +147,51 @@ pub record TakesTurn (old new : Inside) (s : ℕ) (t : Turn) : Type 0 where
 abbrev pub live_weight : Stream → ℕ
 live_weight stream = cond (is_live stream) 1 0
 
-pub live-set : (streams : List Stream) (s : ℕ) (stream : Stream) → is_live stream ≡ is_live (get_or streams s no_stream) → count_by is_live (set streams s stream) ≡ count_by is_live streams
-live-set streams s stream e =
-    sym (sum-map live_weight (set streams s stream)) ∙ ap sum (map-set_same live_weight streams s stream no_stream (ap (λ (b : Bool). cond b 1 0) e)) ∙ sum-map live_weight streams
+pub live_sum : (streams : List Stream) (s : ℕ) (stream : Stream) → s < length streams → count_by is_live (set streams s stream) + live_weight (get_or streams s no_stream) ≡ count_by is_live streams + live_weight stream
+live_sum streams s stream l = sum_by-set live_weight streams s stream no_stream l
 
-pub IsStore-turn : (old new : Inside) (s : ℕ) (side : Side) (mine : Operation) → s < length old.streams.items → IsPlaced (sizes_of (seen old.guests.items)) (stream_at (state_of old) s).payload mine → TakesTurn old new s (turn side (seen old.guests.items) (stream_at (state_of old) s) mine) → IsStore old → IsStore new
-IsStore-turn old new s side mine l p h i =
-    let t = turn side (seen old.guests.items) (stream_at (state_of old) s) mine in
-    let keeps : TurnKeeps (seen old.guests.items) (stream_at (state_of old) s) t = turn-keeps side (seen old.guests.items) (stream_at (state_of old) s) mine (placed_at (state_of old) s l i.sound) p in
+-- one stream set to another, and the memories with their lengths
+pub record SetsStream (old new : Inside) (s : ℕ) (stream : Stream) : Type 0 where
+  pub limit : new.counter.limit ≡ new.limits.handles
+  pub live : new.counter.live ≡ handles_in_use (state_of new)
+  pub sizes : sizes_of (seen new.guests.items) ≡ sizes_of (seen old.guests.items)
+  pub bytes : new.bytes ≡ old.bytes
+  pub live_streams : new.live_streams + live_weight (stream_at (state_of old) s) ≡ old.live_streams + live_weight stream
+  pub streams : new.streams.items ≡ set old.streams.items s stream
+
+-- a call that sets one stream keeps the store's invariant where the state stays sound
+pub IsStore-stream : (old new : Inside) (s : ℕ) (stream : Stream) → s < length old.streams.items → SetsStream old new s stream → IsSound (state_of new) → IsStore old → IsStore new
+IsStore-stream old new s stream l h sound i =
+    let there = live_sum old.streams.items s stream l in
+    let count = same_count (seen old.guests.items) (seen new.guests.items) h.sizes in
+    record {
+      sound = sound;
+      limit = h.limit;
+      live = h.live;
+      streams = rw h.streams (as_many _ _ _ _ _ _ h.live_streams there i.streams);
+      bytes = h.bytes ∙ i.bytes ∙ sym (same_bytes (seen old.guests.items) (seen new.guests.items) h.sizes);
+      few_guests = omega (arith, count, i.few_guests, length-map old.guests.items guest_of, length-map new.guests.items guest_of);
+      few_streams = rw (h.streams, length-set old.streams.items s stream) i.few_streams;
+    }
+  where
+    as_many : (n m w v a b : ℕ) → n + w ≡ m + v → a + w ≡ b + v → m ≡ b → n ≡ a
+    as_many n m w v a b e f g = omega (arith, e, f, g)
+
+-- guests and one stream as a turn left them, which keeps handles, memory lengths, type and owners
+pub IsStore-turn : (old new : Inside) (s : ℕ) (t : Turn) → s < length old.streams.items → TurnKeeps (seen old.guests.items) (stream_at (state_of old) s) t → TakesTurn old new s t → IsStore old → IsStore new
+IsStore-turn old new s t l keeps h i =
     let sound = IsSound-turn (state_of old) s t keeps i.sound in
     let owners : is_live t.stream ≡ is_live (stream_at (state_of old) s) = rw (keeps.stream.writer, keeps.stream.reader) refl in
-    IsStore-keeps old new
+    let handles : handles_in_use (state_of new) ≡ handles_in_use (state_of old) =
+    same_handles (seen old.guests.items) (seen new.guests.items) (rw h.guests keeps.guests.handles) in
+    IsStore-stream old new s t.stream l
     (record {
-      tag = h.tag;
-      limits = h.limits;
-      counter = h.counter;
-      live_streams = h.live_streams;
+      limit = rw (h.counter, h.limits) i.limit;
+      live = ap (λ (c : Counter). c.live) h.counter ∙ i.live ∙ sym handles;
+      sizes = rw h.guests keeps.guests.sizes;
       bytes = h.bytes;
-      guests = rw h.guests keeps.guests;
-      live = rw h.streams (live-set old.streams.items s t.stream owners);
-      streams = rw h.streams (length-set old.streams.items s t.stream);
+      live_streams = rw (h.live_streams, owners) refl;
+      streams = h.streams;
     })
     (record {
       named = rw (h.guests, h.streams) sound.named;
@@ -213,7 +216,7 @@ state_of-made : (old new : Inside) (writer reader : ℕ) (ty : TransmitIndex) �
 unfolding with_stream
 state_of-made old new writer reader ty h = rw (h.same.tag, h.same.limits, h.same.trapped, h.guests, h.streams) refl
 
-pub performs-made : (old new : Inside) (writer reader : ℕ) (ty : TransmitIndex) (pair : Pair) → MakesStream old new writer reader ty → pair ≡ made_pair (state_of old) writer reader ty → performs (state_of old) (steps.Between writer reader ty) ≡ goes (replies.Pair pair) (state_of new)
+pub performs-made : (old new : Inside) (writer reader : ℕ) (ty : TransmitIndex) (pair : Pair) → MakesStream old new writer reader ty → pair ≡ made_pair (state_of old) writer reader ty → performs (state_of old) (Make (Between writer reader ty)) ≡ goes (replies.Pair pair) (state_of new)
 unfolding performs
 performs-made old new writer reader ty pair h e =
     ap (λ (s : State). goes (replies.Pair (made_pair (state_of old) writer reader ty)) s) (sym (state_of-made old new writer reader ty h))
@@ -223,14 +226,12 @@ sizes-made : (guests : List machine.Guest) (writer reader : ℕ) (ty : TransmitI
 sizes-made guests writer reader ty s =
     sizes_of-with_handles (with_read_end guests reader ty s) writer _ ∙ sizes_of-with_handles guests reader _
 
-pub IsStore-made : (old new : Inside) (writer reader : ℕ) (ty : TransmitIndex) → MakesStream old new writer reader ty → refusal (state_of old) (steps.Between writer reader ty) ≡ None → IsStore old → IsStore new
+pub IsStore-made : (old new : Inside) (writer reader : ℕ) (ty : TransmitIndex) → MakesStream old new writer reader ty → refusal (state_of old) (Make (Between writer reader ty)) ≡ None → IsStore old → IsStore new
 IsStore-made old new writer reader ty h e s =
     let fits = pair_fits (state_of old) writer reader ty e in
     let sizes : sizes_of (seen new.guests.items) ≡ sizes_of (seen old.guests.items) = ap sizes_of h.guests ∙ sizes-made (seen old.guests.items) writer reader ty (length old.streams.items) in
-    let bytes : bytes_in_use (state_of new) ≡ bytes_in_use (state_of old) =
-    sym (sum-map (λ g. length g.memory) (seen new.guests.items)) ∙ ap sum sizes ∙ sum-map (λ g. length g.memory) (seen old.guests.items) in
-    let count : length new.guests.items ≡ length old.guests.items =
-    sym (length-map new.guests.items guest_of) ∙ sym (length-map (seen new.guests.items) (λ g. length g.memory)) ∙ ap length sizes ∙ length-map (seen old.guests.items) (λ g. length g.memory) ∙ length-map old.guests.items guest_of in
+    let bytes : bytes_in_use (state_of new) ≡ bytes_in_use (state_of old) = same_bytes (seen old.guests.items) (seen new.guests.items) sizes in
+    let count = same_count (seen old.guests.items) (seen new.guests.items) sizes in
     let stream = made_stream ty writer (made_pair (state_of old) writer reader ty).write reader (made_pair (state_of old) writer reader ty).read in
     let live : count_by is_live new.streams.items ≡ count_by is_live old.streams.items + 1 = ap (count_by is_live) h.streams ∙ sum_by-push live_weight old.streams.items stream in
     record {
@@ -239,7 +240,7 @@ IsStore-made old new writer reader ty h e s =
       live = omega (arith, ap (λ (c : Counter). c.live) h.counter, s.live, h.live);
       streams = omega (arith, h.live_streams, s.streams, live);
       bytes = h.bytes ∙ s.bytes ∙ sym bytes;
-      few_guests = rw count s.few_guests;
+      few_guests = omega (arith, count, s.few_guests, length-map old.guests.items guest_of, length-map new.guests.items guest_of);
       few_streams = rw h.streams (omega (arith, fits.streams, length-append old.streams.items (stream ∷ [])));
     }
 

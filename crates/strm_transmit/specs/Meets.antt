@@ -1,10 +1,12 @@
--- How a call of the store is a step of the machine.
+-- How a call of the store is a step of the machine. Ours.
 use Rattle.std.specs.Prelude.{Bool, false, ◌≡◌, true, Option, Some, None, Result, Ok, Err, if◌then◌else◌}
 use Rattle.strm_codes.specs.declared.refusals.Refusal.{Refusal}
+use Rattle.strm_machine.specs.Acts.{act_of}
 use Rattle.strm_machine.specs.State.{State}
 use Rattle.strm_machine.specs.Reactions.{Reaction, goes}
+use Rattle.strm_machine.specs.declared.acts.Act.{Act}
+use Rattle.strm_machine.specs.declared.acts.Act.TheVariants.{Make, OnEnd, Event, OnMemory}
 use Rattle.strm_machine.specs.declared.steps.Step.{Step}
-use Rattle.strm_machine.specs.declared.steps.Step.TheVariants as steps
 use Rattle.strm_machine.specs.declared.replies.Reply.{Reply}
 use Rattle.strm_machine.specs.declared.replies.Reply.TheVariants as replies
 use Rattle.strm_transmit.specs.declared.errors.StoreError.{StoreError}
@@ -16,6 +18,12 @@ is_done (replies.Refused refusal) = false
 is_done (replies.BadItem stream) = false
 is_done replies.StoreTrapped = false
 is_done _ = true
+
+-- a reply of a step that is done or refused; after any other a run stops
+abbrev pub is_settled : Reply → Bool
+is_settled (replies.BadItem stream) = false
+is_settled replies.StoreTrapped = false
+is_settled _ = true
 
 -- the store's answer and the state after it are the machine's. A refusal, a store that was trapped
 -- and want of memory leave the state as it was; want of memory comes only where the machine does the
@@ -32,13 +40,14 @@ abbrev pub replied : {T : Type 0} → (T → Reply) → Result T StoreError → 
 replied f (Ok value) = Ok (f value)
 replied f (Err error) = Err error
 
--- whether a step may be done: a trapped store does none, and the machine may refuse it
-abbrev pub unless_found : Option Refusal → Result (Unit {0}) StoreError
-unless_found None = Ok tt
-unless_found (Some refusal) = Err (Refused refusal)
+-- what was looked for, or why it may not be had, as an answer
+abbrev pub as_answer : {T : Type 0} → Result T Refusal → Result T StoreError
+as_answer (Ok value) = Ok value
+as_answer (Err refusal) = Err (Refused refusal)
 
-abbrev pub admitted : State → Option Refusal → Result (Unit {0}) StoreError
-admitted state found = if state.trapped then Err StoreTrapped else unless_found found
+-- whether a step may be done for which this was looked for: a trapped store does none
+abbrev pub admitted : {T : Type 0} → State → Result T Refusal → Result T StoreError
+admitted state found = if state.trapped then Err StoreTrapped else as_answer found
 
 -- a refusal, or what was looked for
 abbrev pub or_found : {T : Type 0} → Option Refusal → T → Result T Refusal
@@ -53,14 +62,13 @@ refused_too (Err StoreTrapped) = Err StoreTrapped
 refused_too (Err OutOfMemory) = Err OutOfMemory
 refused_too (Ok reply) = Ok reply
 
--- a step that takes memory: it makes a guest, or a stream between two
+-- an act that takes memory: it makes something
+abbrev pub act_takes_memory : Act → Bool
+act_takes_memory (Make making) = true
+act_takes_memory (OnEnd side end act) = false
+act_takes_memory (Event guest handle) = false
+act_takes_memory (OnMemory guest act) = false
+
+-- a step that takes memory
 abbrev pub takes_memory : Step → Bool
-takes_memory (steps.Guest size) = true
-takes_memory (steps.Between writer reader ty) = true
-takes_memory (steps.Write guest ty handle address count) = false
-takes_memory (steps.Read guest ty handle address count) = false
-takes_memory (steps.DropWrite guest ty handle) = false
-takes_memory (steps.DropRead guest ty handle) = false
-takes_memory (steps.Event guest handle) = false
-takes_memory (steps.Poke guest address bytes) = false
-takes_memory (steps.Dump guest address len) = false
+takes_memory step = act_takes_memory (act_of step)

@@ -8,9 +8,10 @@ use Rattle.strm_transmit.specs.Guests.{seen}
 use Rattle.strm_transmit.specs.declared.guests.Guest.{Guest}
 
 -- a code, or none for a bad item
-abbrev pub code_of : Result ReturnCode BadItem → Option ReturnCode
-code_of (Ok code) = Some code
-code_of (Err error) = None
+abbrev pub answered_code : Result ReturnCode BadItem → Option ReturnCode
+answered_code (Ok code) = Some code
+answered_code (Err error) = None
 
+-- the code that was answered, and the guests and the stream afterwards
 abbrev pub taken : Result ReturnCode BadItem → List Guest → Stream → Turn
-taken result guests stream = record { code = code_of result; guests = seen guests; stream = stream }
+taken result guests stream = record { code = answered_code result; guests = seen guests; stream = stream }

@@ -5,13 +5,14 @@
 
 ghost use Rattle.std.specs.Prelude.{◌≡◌, ◌&&◌, not};
 ghost use Rattle.std.specs.Option.{option_map};
+ghost use Rattle.strm_events.specs.Reports.{report_of};
 ghost use Rattle.strm_machine.specs.State.{is_live};
-ghost use Rattle.strm_machine.specs.Endings.{pending_of, report_on, delivered, dropped};
+ghost use Rattle.strm_machine.specs.Endings.{pending_of, report_on, told_end, delivered, dropped};
 
-use crate::sides::{end, opposite, set_end};
-use strm_codes::codes::ReturnCode;
+use crate::sides::{end_of, opposite};
+use strm_codes::codes::{ReturnCode, TransmitKind};
 use strm_events::reports::{Pending, deliver};
-use strm_machine::streams::{Operation, Owner, Side, Stream};
+use strm_machine::streams::{End, Operation, Owner, Side, Stream};
 
 // Of an operation, what its report may depend on.
 fn pending(operation: &Option<Operation>) -> Option<Pending>
@@ -29,27 +30,37 @@ fn pending(operation: &Option<Operation>) -> Option<Pending>
     }
 }
 
+// Tells an end of a stream its report, if it has one; its operation has ended then.
+fn tell_end(
+    end: &mut End,
+    kind: TransmitKind,
+    is_other_gone: bool,
+    passed: bool,
+) -> Option<ReturnCode>
+    ensures code { result ≡ report_of kind (option_map pending_of end.old.operation) is_other_gone
+        end.old.told passed }
+    ensures end { end.new ≡ told_end result end.old }
+{
+    let mut pending = pending(&end.operation);
+    let code = deliver(kind, &mut pending, &mut end.told, is_other_gone, passed);
+    if code.is_some() {
+        end.operation = None;
+    }
+    code
+}
+
 /// Tells the end on a side its report, if it has one; its operation has ended then.
 #[tactic(auto, unfolding(strm_machine::specs::Endings::delivered))]
-pub fn tell(stream: &mut Stream, side: Side) -> Option<ReturnCode>
+pub fn deliver_report(stream: &mut Stream, side: Side) -> Option<ReturnCode>
     ensures code { result ≡ report_on side stream.old }
     ensures stream { stream.new ≡ delivered side stream.old }
 {
-    let other_gone = end(stream, opposite(side)).owner == Owner::Gone;
-    let mut mine = end(stream, side);
-    let mut pending = pending(&mine.operation);
-    let code = deliver(
-        stream.kind,
-        &mut pending,
-        &mut mine.told,
-        other_gone,
-        stream.passed,
-    );
-    if code.is_some() {
-        mine.operation = None;
+    let is_other_gone = end_of(stream, opposite(side)).owner == Owner::Gone;
+    let (kind, passed) = (stream.kind, stream.passed);
+    match side {
+        Side::Writing => tell_end(&mut stream.writer, kind, is_other_gone, passed),
+        Side::Reading => tell_end(&mut stream.reader, kind, is_other_gone, passed),
     }
-    set_end(stream, side, mine);
-    code
 }
 
 /// Whether an end is there.
@@ -66,8 +77,9 @@ pub fn drop_end(stream: &mut Stream, side: Side) -> bool
     ensures removed { result ≡ is_live stream.old && not (is_live stream.new) }
 {
     let was_live = is_live(stream);
-    let mut mine = end(stream, side);
-    mine.owner = Owner::Gone;
-    set_end(stream, side, mine);
+    match side {
+        Side::Writing => stream.writer.owner = Owner::Gone,
+        Side::Reading => stream.reader.owner = Owner::Gone,
+    }
     was_live && !is_live(stream)
 }

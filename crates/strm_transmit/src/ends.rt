@@ -17,6 +17,7 @@ use strm_codes::codes::TransmitIndex;
 use strm_handles::counters::HandleCounter;
 use strm_handles::errors::HandleError;
 use strm_handles::tables::HandleTable;
+use strm_machine::acts::NamedEnd;
 use strm_machine::streams::Side;
 
 fn try_insert(
@@ -176,24 +177,18 @@ fn try_remove(
     Ok(())
 }
 
-/// Frees the handle of an end that the table shows idle, in a guest's table.
-pub fn remove_end(
-    guests: &mut Vec<Guest>,
-    counter: &mut HandleCounter,
-    guest: usize,
-    side: Side,
-    ty: TransmitIndex,
-    handle: u32,
-)
-    requires there { guest < length guests.old.items }
-    requires idle { removable side ty (guest_in (seen guests.old.items) guest).handles handle
-        ≡ Ok tt }
+/// Frees the handle of an end that the table shows idle, in its guest's table.
+pub fn remove_end(guests: &mut Vec<Guest>, counter: &mut HandleCounter, side: Side, end: &NamedEnd)
+    requires there { end.now.guest < length guests.old.items }
+    requires idle { removable side end.now.ty (guest_in (seen guests.old.items) end.now.guest).handles
+        end.now.handle ≡ Ok tt }
     requires live { live_in (seen guests.old.items) ≤ counter.old.live }
-    ensures guests { seen guests.new.items ≡ with_handles (seen guests.old.items) guest
-        (removed (guest_in (seen guests.old.items) guest).handles handle) }
+    ensures guests { seen guests.new.items ≡ with_handles (seen guests.old.items) end.now.guest
+        (removed (guest_in (seen guests.old.items) end.now.guest).handles end.now.handle) }
     ensures counter { counter.new ≡ uncounted counter.old }
     ensures live { live_in (seen guests.new.items) + 1 ≡ live_in (seen guests.old.items) }
     ensures count { length guests.new.items ≡ length guests.old.items }
 {
-    try_remove(&mut guests[guest].table, counter, side, ty, handle).unwrap()
+    let table = &mut guests[end.guest as usize].table;
+    try_remove(table, counter, side, end.ty, end.handle).unwrap()
 }

@@ -12,8 +12,6 @@ mod guests;
 mod sides;
 pub mod steps;
 pub mod store;
-#[cfg(test)]
-mod tests;
 mod turns;
 
 pub use strm_machine::chunks::Chunk;

@@ -1,10 +1,13 @@
 //! The two ends of a stream, named by their side.
 
 ghost use Rattle.std.specs.Prelude.{◌≡◌, Some};
-ghost use Rattle.strm_machine.specs.Sides.{opposite, same_side, end_of, with_end, with_operation};
+ghost use Rattle.strm_machine.specs.Sides.{opposite, same_side, end_of, with_operation};
+ghost use Rattle.strm_machine.specs.Tests.{is_busy};
 
 use strm_machine::streams::{End, Operation, Side, Stream};
 
+/// The other side.
+#[inline(always)]
 pub fn opposite(side: Side) -> Side
     ensures { result ≡ opposite side }
 {
@@ -14,6 +17,8 @@ pub fn opposite(side: Side) -> Side
     }
 }
 
+/// Whether two sides are the same.
+#[inline(always)]
 pub fn same_side(one: Side, other: Side) -> bool
     ensures { result ≡ same_side one other }
 {
@@ -23,28 +28,32 @@ pub fn same_side(one: Side, other: Side) -> bool
     }
 }
 
-pub fn end(stream: &Stream, side: Side) -> End
-    ensures { result ≡ end_of side stream.now }
+/// The end on a side.
+#[inline(always)]
+pub fn end_of(stream: &Stream, side: Side) -> &End
+    ensures { result.now ≡ end_of side stream.now }
 {
     match side {
-        Side::Writing => stream.writer,
-        Side::Reading => stream.reader,
+        Side::Writing => &stream.writer,
+        Side::Reading => &stream.reader,
     }
 }
 
-pub fn set_end(stream: &mut Stream, side: Side, end: End)
-    ensures { stream.new ≡ with_end side stream.old end }
+/// Whether the end on a side has an operation.
+#[inline(always)]
+pub fn is_busy(side: Side, stream: &Stream) -> bool
+    ensures { result ≡ is_busy side stream.now }
 {
-    match side {
-        Side::Writing => stream.writer = end,
-        Side::Reading => stream.reader = end,
-    }
+    end_of(stream, side).operation.is_some()
 }
 
+/// A side's end has this operation from now on.
+#[inline(always)]
 pub fn set_operation(stream: &mut Stream, side: Side, operation: Operation)
     ensures { stream.new ≡ with_operation side stream.old operation }
 {
-    let mut end = end(stream, side);
-    end.operation = Some(operation);
-    set_end(stream, side, end);
+    match side {
+        Side::Writing => stream.writer.operation = Some(operation),
+        Side::Reading => stream.reader.operation = Some(operation),
+    }
 }

@@ -2,15 +2,17 @@
 //!
 //! Meaning: `react` of `Reactions.antt` of `strm_machine`. Ours.
 
-ghost use Rattle.std.specs.Prelude.{◌≡◌, ◌≢◌, ◌≤◌, false, Err};
+ghost use Rattle.std.specs.Prelude.{◌≡◌, ◌≢◌, ◌≤◌, false, Err, IfOk, IsTrue};
 ghost use Rattle.strm_codes.specs.declared.refusals.Refusal.{Refusal};
-ghost use Rattle.strm_machine.specs.Reactions.{react};
+ghost use Rattle.strm_machine.specs.Reactions.{react, reaction};
+ghost use Rattle.strm_machine.specs.declared.acts.Act.TheVariants as acts;
+ghost use Rattle.strm_machine.specs.declared.acts.MemoryAct.TheVariants as memory_acts;
 ghost use Rattle.strm_machine.specs.declared.replies.Reply.TheVariants as replies;
-ghost use Rattle.strm_machine.specs.declared.steps.Step.TheVariants as steps;
-ghost use Rattle.strm_transmit.specs.Meets.{Meets, replied, refused_too, takes_memory};
+ghost use Rattle.strm_transmit.specs.Meets.{Meets, replied, refused_too, is_settled, act_takes_memory, takes_memory};
 
 use crate::errors::StoreError;
 use crate::store::Store;
+use strm_machine::acts::{Act, EndAct, Making, MemoryAct, NamedEnd};
 use strm_machine::replies::Reply;
 use strm_machine::steps::Step;
 use strm_machine::streams::Side;
@@ -18,10 +20,11 @@ use strm_machine::streams::Side;
 /// Does a step. A refusal is a reply; what comes as an error stops a run.
 pub fn apply(store: &mut Store, step: &Step) -> Result<Reply, StoreError>
     ensures meets { Meets store.old store.new result (react store.old step.now) }
+    ensures settled { IfOk result (λ reply. IsTrue (is_settled reply)) }
     ensures refused { (refusal : Refusal) → result ≢ Err (StoreError.Refused refusal) }
     ensures takes_no_memory { takes_memory step.now ≡ false → result ≢ Err StoreError.OutOfMemory }
 {
-    reply(call(store, step))
+    reply(perform(store, Act::of(step)))
 }
 
 // A refusal is a reply.
@@ -41,11 +44,67 @@ fn done(_nothing: ()) -> Reply
     Reply::Done
 }
 
+// The one call that an act names.
+fn perform(store: &mut Store, act: Act) -> Result<Reply, StoreError>
+    ensures meets { Meets store.old store.new result (reaction store.old act) }
+    ensures settled { IfOk result (λ reply. IsTrue (is_settled reply)) }
+    ensures takes_no_memory { act_takes_memory act ≡ false → result ≢ Err StoreError.OutOfMemory }
+{
+    match act {
+        Act::Make { making } => make(store, making),
+        Act::OnEnd { side, end, act } => on_end(store, side, &end, act),
+        Act::Event { guest, handle } => store.take_event(guest, handle).map(Reply::Event),
+        Act::OnMemory { guest, act } => on_memory(store, guest, act),
+    }
+}
+
+// What is made.
+fn make(store: &mut Store, making: Making) -> Result<Reply, StoreError>
+    ensures meets { Meets store.old store.new result (reaction store.old (acts.Make making)) }
+    ensures settled { IfOk result (λ reply. IsTrue (is_settled reply)) }
+{
+    match making {
+        Making::Guest { size } => store.add_guest(size).map(Reply::Number),
+        Making::Between { writer, reader, ty } => {
+            store.new_between(writer, reader, ty).map(Reply::Pair)
+        }
+    }
+}
+
+// What is done to the end that is named.
+fn on_end(store: &mut Store, side: Side, end: &NamedEnd, act: EndAct) -> Result<Reply, StoreError>
+    ensures meets { Meets store.old store.new result
+        (reaction store.old (acts.OnEnd side end.now act)) }
+    ensures settled { IfOk result (λ reply. IsTrue (is_settled reply)) }
+    ensures takes_no_memory { result ≢ Err StoreError.OutOfMemory }
+{
+    match act {
+        EndAct::Operate { address, count } => {
+            store.operate(side, end, address, count).map(Reply::Code)
+        }
+        EndAct::Drop => store.drop_side(side, end).map(done),
+    }
+}
+
+// What is done to a guest's memory.
+fn on_memory(store: &mut Store, guest: u32, act: MemoryAct) -> Result<Reply, StoreError>
+    ensures meets { Meets store.old store.new result
+        (reaction store.old (acts.OnMemory guest act)) }
+    ensures settled { IfOk result (λ reply. IsTrue (is_settled reply)) }
+    ensures takes_no_memory { result ≢ Err StoreError.OutOfMemory }
+{
+    match act {
+        MemoryAct::Poke { address, bytes } => store.poke(guest, address, &bytes).map(done),
+        MemoryAct::Dump { address, len } => dump(store, guest, address, len),
+    }
+}
+
 // At most 64 bytes of a guest's memory.
 fn dumped(store: &Store, guest: u32, address: u32, len: u32) -> Result<Reply, StoreError>
     requires { len ≤ 64 }
     ensures meets { Meets store.now store.now result
-        (react store.now (steps.Dump guest address len)) }
+        (reaction store.now (acts.OnMemory guest (memory_acts.Dump address len))) }
+    ensures settled { IfOk result (λ reply. IsTrue (is_settled reply)) }
     ensures takes_no_memory { result ≢ Err StoreError.OutOfMemory }
 {
     store.dump(guest, address, len).map(Reply::Bytes)
@@ -54,58 +113,9 @@ fn dumped(store: &Store, guest: u32, address: u32, len: u32) -> Result<Reply, St
 // The bytes that a step asks for, of which the first 64 are answered.
 fn dump(store: &Store, guest: u32, address: u32, len: u32) -> Result<Reply, StoreError>
     ensures meets { Meets store.now store.now result
-        (react store.now (steps.Dump guest address len)) }
+        (reaction store.now (acts.OnMemory guest (memory_acts.Dump address len))) }
+    ensures settled { IfOk result (λ reply. IsTrue (is_settled reply)) }
     ensures takes_no_memory { result ≢ Err StoreError.OutOfMemory }
 {
     dumped(store, guest, address, len.min(64))
-}
-
-// The one call that a step names.
-fn call(store: &mut Store, step: &Step) -> Result<Reply, StoreError>
-    ensures meets { Meets store.old store.new result (react store.old step.now) }
-    ensures takes_no_memory { takes_memory step.now ≡ false → result ≢ Err StoreError.OutOfMemory }
-{
-    match *step {
-        Step::Guest { size } => store.add_guest(size).map(Reply::Number),
-        Step::Between { writer, reader, ty } => {
-            store.new_between(writer, reader, ty).map(Reply::Pair)
-        }
-        Step::Write {
-            guest,
-            ty,
-            handle,
-            address,
-            count,
-        } => {
-            let code = store.operate(Side::Writing, guest, ty, handle, address, count);
-            code.map(Reply::Code)
-        }
-        Step::Read {
-            guest,
-            ty,
-            handle,
-            address,
-            count,
-        } => {
-            let code = store.operate(Side::Reading, guest, ty, handle, address, count);
-            code.map(Reply::Code)
-        }
-        Step::DropWrite { guest, ty, handle } => {
-            store.drop_side(Side::Writing, guest, ty, handle).map(done)
-        }
-        Step::DropRead { guest, ty, handle } => {
-            store.drop_side(Side::Reading, guest, ty, handle).map(done)
-        }
-        Step::Event { guest, handle } => store.take_event(guest, handle).map(Reply::Event),
-        Step::Poke {
-            guest,
-            address,
-            bytes,
-        } => store.poke(guest, address, &bytes).map(done),
-        Step::Dump {
-            guest,
-            address,
-            len,
-        } => dump(store, guest, address, len),
-    }
 }

@@ -134,8 +134,17 @@ impl Store {
         }
     }
 
-    // Whether a step may be done that the machine refuses so.
-    pub(crate) fn admit(&self, found: Option<Refusal>) -> Result<(), StoreError>
+    // A stream.
+    fn stream(&self, stream: u32) -> &Stream
+        requires { stream < length self.now.streams }
+        ensures { result.now ≡ stream_at self.now stream }
+    {
+        &self.streams[stream as usize]
+    }
+
+    // What was looked for, unless the store is trapped or a refusal was found.
+    #[inline(always)]
+    fn admit<T: Copy>(&self, found: Result<T, Refusal>) -> Result<T, StoreError>
         ensures exact { result ≡ admitted self.now found }
         ensures takes_no_memory { result ≢ Err StoreError.OutOfMemory }
     {
@@ -143,8 +152,8 @@ impl Store {
             return Err(StoreError::StoreTrapped);
         }
         match found {
-            Some(refusal) => Err(StoreError::Refused(refusal)),
-            None => Ok(()),
+            Ok(value) => Ok(value),
+            Err(refusal) => Err(StoreError::Refused(refusal)),
         }
     }
 }

@@ -14,13 +14,13 @@ ghost use Rattle.strm_memory.specs.Items.{items_at, stored_at, is_number_or_none
 ghost use Rattle.std.specs.Prelude.{IsTrue, IsSomeAnd};
 ghost use Rattle.std.specs.Prelude.{false};
 ghost use Rattle.strm_machine.specs.Meetings.{begun, advanced, meeting_of, carried};
-ghost use Rattle.strm_machine.specs.Turns.{with_received, answers, completes_alone, moves, meets, turn};
+ghost use Rattle.strm_machine.specs.Turns.{with_received, answers, completes_alone, moves, rendezvous, turn};
 ghost use Rattle.strm_machine.specs.Soundness.{sizes_of, IsPlaced, StreamIsPlaced};
 ghost use Rattle.strm_transmit.specs.Guests.{seen};
 ghost use Rattle.strm_transmit.specs.Taking.{taken};
 
 use crate::guests::{Guest, memory, put_memory, take_memory};
-use crate::sides::{end, opposite, same_side, set_end, set_operation};
+use crate::sides::{end_of, opposite, same_side, set_operation};
 use std::alloc::Global;
 use strm_codes::codes::{ReturnCode, StreamResult, TransmitKind};
 use strm_codes::counts::ItemCount;
@@ -88,9 +88,10 @@ fn learn(stream: &mut Stream, side: Side)
     ensures { stream.new ≡ with_end side stream.old
         (record (end_of side stream.old) { told = true }) }
 {
-    let mut mine = end(stream, side);
-    mine.told = true;
-    set_end(stream, side, mine);
+    match side {
+        Side::Writing => stream.writer.told = true,
+        Side::Reading => stream.reader.told = true,
+    }
 }
 
 // A side completes alone.
@@ -301,7 +302,7 @@ fn meet(
     requires theirs { IsPlaced (sizes_of (seen guests.old.items)) stream.old.payload theirs }
     requires numbers { mine.guest ≡ theirs.guest → IsTrue (is_number_or_none stream.old.payload) }
     requires sizes { sum (sizes_of (seen guests.old.items)) ≤ 268435456 }
-    ensures { meets side (seen guests.old.items) stream.old mine theirs
+    ensures { rendezvous side (seen guests.old.items) stream.old mine theirs
         ≡ taken result guests.new.items stream.new }
 {
     let met = match side {
@@ -333,12 +334,11 @@ pub fn take_turn(
     ensures { turn side (seen guests.old.items) stream.old mine
         ≡ taken result guests.new.items stream.new }
 {
-    let other = end(stream, opposite(side));
-    if other.owner == Owner::Gone {
+    if end_of(stream, opposite(side)).owner == Owner::Gone {
         learn(stream, side);
         return Ok(ReturnCode::Dropped(ItemCount::ZERO));
     }
-    match other.operation {
+    match end_of(stream, opposite(side)).operation {
         Some(theirs) if theirs.is_open => meet(alloc, guests, stream, side, mine, theirs),
         _ => {
             set_operation(stream, side, mine);

@@ -1,25 +1,26 @@
 //! Events, and the drop of ends.
 //!
-//! Meaning: the steps Event, DropWrite and DropRead of `Reactions.antt` of `strm_machine`. Source:
+//! Meaning: `tells` and `drops` of `Reactions.antt` of `strm_machine`. Source:
 //! Canonical ABI, `canon waitable-set.poll`, `canon stream.drop-{readable,writable}` and
 //! `canon future.drop-{readable,writable}`; wasmtime, `guest_drop_readable` and
 //! `guest_drop_writable`.
 
 ghost use Rattle.std.specs.Prelude.{◌≡◌, ◌≢◌, ◌<◌, ◌++◌, length, Err, None, IfOk, IfErr};
-ghost use Rattle.strm_machine.specs.State.{stream_at};
+ghost use Rattle.strm_codes.specs.declared.codes.TransmitIndex.TheVariants as index;
 ghost use Rattle.strm_machine.specs.Tests.{named, end_named, stream_named, side_named, owes_value};
-ghost use Rattle.strm_machine.specs.Refusals.{first_of, handle_reasons, drop_reasons, drop_reasons_of, dropping_reasons, refusal};
-ghost use Rattle.strm_machine.specs.Reactions.{goes, tells, drops, drop_step, react};
+ghost use Rattle.strm_machine.specs.Refusals.{first_of, handle_reasons, drop_reasons, drop_reasons_of, refusal};
+ghost use Rattle.strm_machine.specs.Reactions.{goes, tells, drops, react, reaction};
+ghost use Rattle.strm_machine.specs.declared.acts.Act.TheVariants.{OnEnd, Event};
+ghost use Rattle.strm_machine.specs.declared.acts.EndAct.TheVariants.{Drop};
+ghost use Rattle.strm_machine.specs.declared.replies.Reply.TheVariants as replies;
+ghost use Rattle.strm_machine.specs.declared.steps.Step.TheVariants as steps;
 ghost use Rattle.strm_machine.proofs.NameLemmas.{IsEndError};
 ghost use Rattle.strm_transmit.specs.Meets.{Meets, replied, or_found};
-ghost use Rattle.strm_codes.specs.declared.codes.TransmitIndex.TheVariants as index;
-ghost use Rattle.strm_machine.specs.declared.steps.Step.TheVariants as steps;
-ghost use Rattle.strm_machine.specs.declared.replies.Reply.TheVariants as replies;
 
-use crate::endings::{drop_end, tell};
+use crate::endings::{deliver_report, drop_end};
 use crate::ends::remove_end;
 use crate::errors::StoreError;
-use crate::sides::{end, same_side};
+use crate::sides::{is_busy, same_side};
 use crate::store::Store;
 use crate::store::operations::side_of;
 use strm_codes::codes::{ReturnCode, TransmitIndex, TransmitKind};
@@ -27,6 +28,7 @@ use strm_codes::payloads::Payload;
 use strm_codes::refusals::Refusal;
 use strm_handles::entries::TransmitLocalState;
 use strm_handles::errors::HandleError;
+use strm_machine::acts::NamedEnd;
 use strm_machine::streams::{Side, Stream};
 
 // Whether a future's write end still owes its value.
@@ -46,7 +48,7 @@ fn drop_refusal(side: Side, ty: TransmitIndex, stream: &Stream, named_side: Side
     if !same_side(side, named_side) {
         return Some(Refusal::WrongEnd);
     }
-    if end(stream, side).operation.is_some() {
+    if is_busy(side, stream) {
         return Some(Refusal::Busy);
     }
     if owes_value(side, ty.kind(), stream) {
@@ -68,8 +70,8 @@ impl Store {
 
     // The same as a refusal or the stream and the side of the end.
     #[tactic(auto, unfolding(strm_machine::specs::Refusals::refusal))]
-    fn end_found(&self, guest: u32, handle: u32) -> Result<(u32, Side), Refusal>
-        ensures exact { result ≡ or_found (refusal self.now (steps.Event guest handle))
+    fn event_found(&self, guest: u32, handle: u32) -> Result<(u32, Side), Refusal>
+        ensures exact { result ≡ or_found (refusal self.now (Event guest handle))
             (stream_named (end_named self.now guest handle), side_named (end_named self.now guest handle)) }
         ensures there { IfOk result (λ found. found.0 < length self.now.streams) }
     {
@@ -89,7 +91,7 @@ impl Store {
         requires { stream < length self.old.streams }
         ensures { tells self.old stream side ≡ goes (replies.Event result) self.new }
     {
-        tell(&mut self.streams[stream as usize], side)
+        deliver_report(&mut self.streams[stream as usize], side)
     }
 
     /// What the end that a handle names is to be told, if anything: the report of its read or
@@ -99,46 +101,22 @@ impl Store {
             (react self.old (steps.Event guest handle)) }
         ensures takes_no_memory { result ≢ Err StoreError.OutOfMemory }
     {
-        if self.is_trapped {
-            return Err(StoreError::StoreTrapped);
-        }
-        match self.end_found(guest, handle) {
+        match self.admit(self.event_found(guest, handle)) {
             Ok(found) => Ok(self.tell(found.0, found.1)),
-            Err(refusal) => Err(StoreError::Refused(refusal)),
+            Err(error) => Err(error),
         }
-    }
-
-    // Why an end of a stream may not be dropped now.
-    fn drop_refusal(
-        &self,
-        side: Side,
-        ty: TransmitIndex,
-        stream: u32,
-        named_side: Side,
-    ) -> Option<Refusal>
-        requires { stream < length self.now.streams }
-        ensures { result ≡ first_of (drop_reasons_of (stream_at self.now stream) side ty named_side) }
-    {
-        drop_refusal(side, ty, &self.streams[stream as usize], named_side)
     }
 
     // The stream whose end a handle of a guest names, where that end may be dropped.
-    fn dropped_stream(
-        &self,
-        side: Side,
-        guest: u32,
-        ty: TransmitIndex,
-        handle: u32,
-    ) -> Result<u32, Refusal>
-        requires { guest < length self.now.guests }
-        ensures exact { result ≡ or_found (first_of (handle_reasons (named self.now guest ty handle)
-            ++ drop_reasons self.now side ty (named self.now guest ty handle)))
-            (stream_named (named self.now guest ty handle)) }
+    fn dropped_stream(&self, side: Side, end: &NamedEnd) -> Result<u32, Refusal>
+        requires { end.now.guest < length self.now.guests }
+        ensures exact { result ≡ or_found (first_of (handle_reasons (named self.now end.now)
+            ++ drop_reasons self.now side end.now.ty (named self.now end.now)))
+            (stream_named (named self.now end.now)) }
         ensures there { IfOk result (λ stream. stream < length self.now.streams) }
     {
-        let asked = ty;
-        match self.handle_found(guest, ty, handle) {
-            Ok(named) => match self.drop_refusal(side, asked, named.0, named.1) {
+        match self.handle_found(end) {
+            Ok(named) => match drop_refusal(side, end.ty, self.stream(named.0), named.1) {
                 Some(refusal) => Err(refusal),
                 None => Ok(named.0),
             },
@@ -147,58 +125,43 @@ impl Store {
     }
 
     // The same where the guest is not known yet.
-    fn droppable(
-        &self,
-        side: Side,
-        guest: u32,
-        ty: TransmitIndex,
-        handle: u32,
-    ) -> Result<u32, Refusal>
-        ensures exact { result ≡ or_found (first_of (dropping_reasons self.now side guest ty handle))
-            (stream_named (named self.now guest ty handle)) }
+    #[tactic(auto, unfolding(strm_machine::specs::Refusals::refusal))]
+    fn drop_found(&self, side: Side, end: &NamedEnd) -> Result<u32, Refusal>
+        ensures exact { result ≡ or_found (refusal self.now (OnEnd side end.now Drop))
+            (stream_named (named self.now end.now)) }
         ensures there { IfOk result (λ stream. stream < length self.now.streams) }
     {
-        if guest as usize >= self.guests.len() {
+        if end.guest as usize >= self.guests.len() {
             return Err(Refusal::UnknownGuest);
         }
-        self.dropped_stream(side, guest, ty, handle)
+        self.dropped_stream(side, end)
     }
 
     // A guest's handle is freed, and the end of a stream that it names is gone.
-    fn drop_named(&mut self, side: Side, guest: u32, ty: TransmitIndex, handle: u32, stream: u32)
-        requires may { first_of (dropping_reasons self.old side guest ty handle) ≡ None }
-        requires stream { stream ≡ stream_named (named self.old guest ty handle) }
-        ensures { drops self.old stream side guest handle ≡ goes replies.Done self.new }
+    fn drop_named(&mut self, side: Side, end: &NamedEnd, stream: u32)
+        requires may { refusal self.old (OnEnd side end.now Drop) ≡ None }
+        requires stream { stream ≡ stream_named (named self.old end.now) }
+        ensures { drops self.old stream side end.now ≡ goes replies.Done self.new }
     {
         let (guests, counter) = (&mut self.guests, &mut self.counter);
-        remove_end(guests, counter, guest as usize, side, ty, handle);
+        remove_end(guests, counter, side, end);
         let is_removed = drop_end(&mut self.streams[stream as usize], side);
         self.live_streams -= u32::from(is_removed);
     }
 
     /// Drops the end that a handle names, which is gone then; a stream whose both ends are gone is
     /// removed at once.
-    pub(crate) fn drop_side(
-        &mut self,
-        side: Side,
-        guest: u32,
-        ty: TransmitIndex,
-        handle: u32,
-    ) -> Result<(), StoreError>
+    pub(crate) fn drop_side(&mut self, side: Side, end: &NamedEnd) -> Result<(), StoreError>
         ensures meets { Meets self.old self.new (replied (λ _. replies.Done) result)
-            (react self.old (drop_step side guest ty handle)) }
+            (reaction self.old (OnEnd side end.now Drop)) }
         ensures takes_no_memory { result ≢ Err StoreError.OutOfMemory }
     {
-        if self.is_trapped {
-            return Err(StoreError::StoreTrapped);
-        }
-        let asked = ty;
-        match self.droppable(side, guest, ty, handle) {
+        match self.admit(self.drop_found(side, end)) {
             Ok(stream) => {
-                self.drop_named(side, guest, asked, handle, stream);
+                self.drop_named(side, end, stream);
                 Ok(())
             }
-            Err(refusal) => Err(StoreError::Refused(refusal)),
+            Err(error) => Err(error),
         }
     }
 
@@ -213,7 +176,9 @@ impl Store {
             (react self.old (steps.DropRead guest (index.Stream payload) handle)) }
         ensures takes_no_memory { result ≢ Err StoreError.OutOfMemory }
     {
-        self.drop_side(Side::Reading, guest, TransmitIndex::Stream(payload), handle)
+        let ty = TransmitIndex::Stream(payload);
+        let end = NamedEnd { guest, ty, handle };
+        self.drop_side(Side::Reading, &end)
     }
 
     /// Drops the write end of a stream.
@@ -227,7 +192,9 @@ impl Store {
             (react self.old (steps.DropWrite guest (index.Stream payload) handle)) }
         ensures takes_no_memory { result ≢ Err StoreError.OutOfMemory }
     {
-        self.drop_side(Side::Writing, guest, TransmitIndex::Stream(payload), handle)
+        let ty = TransmitIndex::Stream(payload);
+        let end = NamedEnd { guest, ty, handle };
+        self.drop_side(Side::Writing, &end)
     }
 
     /// Drops the read end of a future.
@@ -241,7 +208,9 @@ impl Store {
             (react self.old (steps.DropRead guest (index.Future payload) handle)) }
         ensures takes_no_memory { result ≢ Err StoreError.OutOfMemory }
     {
-        self.drop_side(Side::Reading, guest, TransmitIndex::Future(payload), handle)
+        let ty = TransmitIndex::Future(payload);
+        let end = NamedEnd { guest, ty, handle };
+        self.drop_side(Side::Reading, &end)
     }
 
     /// Drops the write end of a future, which is refused before its value passed or it was told
@@ -256,6 +225,8 @@ impl Store {
             (react self.old (steps.DropWrite guest (index.Future payload) handle)) }
         ensures takes_no_memory { result ≢ Err StoreError.OutOfMemory }
     {
-        self.drop_side(Side::Writing, guest, TransmitIndex::Future(payload), handle)
+        let ty = TransmitIndex::Future(payload);
+        let end = NamedEnd { guest, ty, handle };
+        self.drop_side(Side::Writing, &end)
     }
 }

@@ -1,24 +1,24 @@
 //! The making of streams and futures.
 //!
-//! Meaning: the step Between of `Reactions.antt` of `strm_machine`. Source: Canonical ABI,
-//! `canon stream.new` and `canon future.new`; two guests at once are ours.
+//! Meaning: the making of a stream between two guests, `Making.antt` of `strm_machine`. Source:
+//! Canonical ABI, `canon stream.new` and `canon future.new`; two guests at once are ours.
 
-ghost use Rattle.std.specs.Prelude.{◌≡◌, ◌+◌, ◌<◌, length, Ok, Err, Some, None, IfOk, IfErr, OnErr};
-ghost use Rattle.strm_handles.specs.Handles.{next_index};
-ghost use Rattle.std.specs.Prelude.{false};
-ghost use Rattle.strm_codes.specs.Types.{kind_of, payload_of};
-ghost use Rattle.strm_machine.specs.State.{guest_in, idle_end};
-ghost use Rattle.strm_machine.specs.declared.streams.Owner.TheVariants.{Held};
-ghost use Rattle.strm_machine.specs.Making.{writer_index};
-ghost use Rattle.std.specs.Prelude.{◌||◌, ◌++◌, ◌∷◌, [], vec_len};
+ghost use Rattle.std.specs.Prelude.{◌≡◌, ◌<◌, ◌||◌, ◌++◌, ◌∷◌, [], false, length, vec_len, Err, None};
 ghost use Rattle.std.specs.Vec.{vec_capacity};
+ghost use Rattle.strm_codes.specs.Types.{kind_of, payload_of};
+ghost use Rattle.strm_codes.specs.declared.codes.TransmitIndex.{TransmitIndex};
+ghost use Rattle.strm_handles.specs.Handles.{next_index};
+ghost use Rattle.strm_machine.specs.State.{guest_in, idle_end};
+ghost use Rattle.strm_machine.specs.Making.{writer_index};
 ghost use Rattle.strm_machine.specs.Tests.{is_no_handle, are_handles_full, are_places_full, are_streams_full};
 ghost use Rattle.strm_machine.specs.Refusals.{refusal};
-ghost use Rattle.strm_machine.specs.Reactions.{react, performs, goes};
-ghost use Rattle.strm_transmit.specs.Meets.{Meets, replied};
-ghost use Rattle.strm_codes.specs.declared.codes.TransmitIndex.{TransmitIndex};
-ghost use Rattle.strm_machine.specs.declared.steps.Step.TheVariants as steps;
+ghost use Rattle.strm_machine.specs.Reactions.{react, performs};
+ghost use Rattle.strm_machine.specs.declared.acts.Act.TheVariants.{Make};
+ghost use Rattle.strm_machine.specs.declared.acts.Making.TheVariants.{Between};
 ghost use Rattle.strm_machine.specs.declared.replies.Reply.TheVariants as replies;
+ghost use Rattle.strm_machine.specs.declared.steps.Step.TheVariants as steps;
+ghost use Rattle.strm_machine.specs.declared.streams.Owner.TheVariants.{Held};
+ghost use Rattle.strm_transmit.specs.Meets.{Meets, replied, or_found};
 
 use crate::ends::insert_ends;
 use crate::errors::StoreError;
@@ -113,33 +113,34 @@ impl Store {
             || self.streams.len() >= MOST_STREAMS
     }
 
+    // Whether a stream may be made between two guests.
     #[tactic(auto, unfolding(strm_machine::specs::Refusals::refusal))]
-    fn between_refusal(&self, writer: u32, reader: u32) -> Option<Refusal>
-        ensures { (ty : TransmitIndex) → result ≡ refusal self.now (steps.Between writer reader ty) }
+    fn pair_fits(&self, writer: u32, reader: u32) -> Result<(), Refusal>
+        ensures { (ty : TransmitIndex) → result
+            ≡ or_found (refusal self.now (Make (Between writer reader ty))) tt }
     {
         let guests = self.guests.len();
         if writer as usize >= guests || reader as usize >= guests {
-            return Some(Refusal::UnknownGuest);
+            return Err(Refusal::UnknownGuest);
         }
         if self.is_number_missing(writer, reader) {
-            return Some(Refusal::IndexOverflow);
+            return Err(Refusal::IndexOverflow);
         }
         if self.are_handles_full(2) {
-            return Some(Refusal::HandleLimit);
+            return Err(Refusal::HandleLimit);
         }
         if self.are_streams_full() {
-            return Some(Refusal::Full);
+            return Err(Refusal::Full);
         }
-        None
+        Ok(())
     }
 
     // A stream more. After want of memory nothing has changed.
+    #[tactic(auto, unfolding(strm_machine::specs::Reactions::performs))]
     fn make(&mut self, writer: u32, reader: u32, ty: TransmitIndex) -> Result<Pair, StoreError>
-        requires { refusal self.old (steps.Between writer reader ty) ≡ None }
-        ensures ok { IfOk result (λ pair.
-            performs self.old (steps.Between writer reader ty) ≡ goes (replies.Pair pair) self.new) }
-        ensures err { OnErr result (self.new ≡ self.old) }
-        ensures memory { IfErr result (λ error. error ≡ StoreError.OutOfMemory) }
+        requires { refusal self.old (Make (Between writer reader ty)) ≡ None }
+        ensures { Meets self.old self.new (replied replies.Pair result)
+            (performs self.old (Make (Between writer reader ty))) }
     {
         let stream = self.streams.len() as u32;
         let made = ty;
@@ -168,7 +169,7 @@ impl Store {
                     stream,
                 })
             }
-            Err(error) => Err(error),
+            Err(_) => Err(StoreError::OutOfMemory),
         }
     }
 
@@ -185,7 +186,7 @@ impl Store {
         ensures meets { Meets self.old self.new (replied replies.Pair result)
             (react self.old (steps.Between writer reader ty)) }
     {
-        match self.admit(self.between_refusal(writer, reader)) {
+        match self.admit(self.pair_fits(writer, reader)) {
             Ok(()) => self.make(writer, reader, ty),
             Err(error) => Err(error),
         }

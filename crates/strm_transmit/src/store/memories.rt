@@ -1,15 +1,16 @@
 //! Guests and their memories.
 //!
-//! Meaning: the steps Guest, Poke and Dump of `Reactions.antt` of `strm_machine`. Ours.
+//! Meaning: the making of a guest, and `on_memory` of `Reactions.antt` of `strm_machine`. Ours.
 
-ghost use Rattle.std.specs.Prelude.{◌≡◌, ◌≢◌, ◌+◌, ◌<◌, ◌≤◌, [], ◌∷◌, Ok, Err, Some, None, IfOk, IfErr, OnErr};
-ghost use Rattle.strm_machine.specs.Refusals.{refusal, first_of, where_};
-ghost use Rattle.strm_machine.specs.Tests.{is_unknown_guest, are_bytes_out_of_bounds};
-ghost use Rattle.strm_machine.specs.Reactions.{react, performs, goes};
-ghost use Rattle.strm_transmit.specs.Meets.{Meets, replied};
-ghost use Rattle.strm_machine.specs.declared.steps.Step.TheVariants as steps;
+ghost use Rattle.std.specs.Prelude.{◌≡◌, ◌≢◌, ◌≤◌, Err, None};
+ghost use Rattle.strm_machine.specs.Refusals.{refusal, first_of, bytes_reasons};
+ghost use Rattle.strm_machine.specs.Reactions.{react, reaction, performs, goes};
+ghost use Rattle.strm_machine.specs.declared.acts.Act.TheVariants.{Make, OnMemory};
+ghost use Rattle.strm_machine.specs.declared.acts.Making.TheVariants.{Guest as NewGuest};
+ghost use Rattle.strm_machine.specs.declared.acts.MemoryAct.TheVariants.{Poke, Dump};
 ghost use Rattle.strm_machine.specs.declared.replies.Reply.TheVariants as replies;
-ghost use Rattle.strm_codes.specs.declared.refusals.Refusal.TheVariants as refusals;
+ghost use Rattle.strm_machine.specs.declared.steps.Step.TheVariants as steps;
+ghost use Rattle.strm_transmit.specs.Meets.{Meets, replied, or_found};
 
 use crate::errors::StoreError;
 use crate::guests::{Guest, read_bytes, write_bytes};
@@ -26,26 +27,26 @@ const MOST_BYTES: u64 = 268_435_456;
 const MOST_GUESTS: usize = 1_048_576;
 
 impl Store {
+    // Whether a guest may be added.
     #[tactic(auto, unfolding(strm_machine::specs::Refusals::refusal))]
-    fn guest_refusal(&self, size: u32) -> Option<Refusal>
-        ensures { result ≡ refusal self.now (steps.Guest size) }
+    fn guest_fits(&self, size: u32) -> Result<(), Refusal>
+        ensures { result ≡ or_found (refusal self.now (Make (NewGuest size))) tt }
     {
         if u64::from(self.bytes) + u64::from(size) > MOST_BYTES {
-            return Some(Refusal::MemoryTooBig);
+            return Err(Refusal::MemoryTooBig);
         }
         if self.guests.len() >= MOST_GUESTS {
-            return Some(Refusal::Full);
+            return Err(Refusal::Full);
         }
-        None
+        Ok(())
     }
 
     // One guest more. After want of memory nothing has changed.
+    #[tactic(auto, unfolding(strm_machine::specs::Reactions::performs))]
     fn push_guest(&mut self, size: u32) -> Result<u32, StoreError>
-        requires { refusal self.old (steps.Guest size) ≡ None }
-        ensures ok { IfOk result (λ number.
-            performs self.old (steps.Guest size) ≡ goes (replies.Number number) self.new) }
-        ensures err { OnErr result (self.new ≡ self.old) }
-        ensures memory { IfErr result (λ error. error ≡ StoreError.OutOfMemory) }
+        requires { refusal self.old (Make (NewGuest size)) ≡ None }
+        ensures { Meets self.old self.new (replied replies.Number result)
+            (performs self.old (Make (NewGuest size))) }
     {
         let number = self.guests.len() as u32;
         let memory = match GuestMemory::new(self.alloc, size) {
@@ -69,23 +70,39 @@ impl Store {
         ensures meets { Meets self.old self.new (replied replies.Number result)
             (react self.old (steps.Guest size)) }
     {
-        match self.admit(self.guest_refusal(size)) {
+        match self.admit(self.guest_fits(size)) {
             Ok(()) => self.push_guest(size),
             Err(error) => Err(error),
         }
     }
 
-    #[tactic(auto, unfolding(strm_machine::specs::Refusals::refusal))]
-    fn poke_refusal(&self, guest: u32, address: u32, bytes: &Chunk) -> Option<Refusal>
-        ensures { result ≡ refusal self.now (steps.Poke guest address bytes.now) }
+    // Whether so many bytes of a guest's memory may be looked at.
+    fn bytes_fit(&self, guest: u32, address: u32, count: usize) -> Result<(), Refusal>
+        requires { count ≤ 64 }
+        ensures { result ≡ or_found (first_of (bytes_reasons self.now guest address count)) tt }
     {
-        self.bytes_refusal(guest, address, bytes.as_slice().len())
+        let Some(memory) = self.memory(guest) else {
+            return Err(Refusal::UnknownGuest);
+        };
+        if count > 0 && memory.len() < address as usize + count {
+            return Err(Refusal::OutOfBounds);
+        }
+        Ok(())
+    }
+
+    #[tactic(auto, unfolding(strm_machine::specs::Refusals::refusal))]
+    fn poke_fits(&self, guest: u32, address: u32, bytes: &Chunk) -> Result<(), Refusal>
+        ensures { result
+            ≡ or_found (refusal self.now (OnMemory guest (Poke address bytes.now))) tt }
+    {
+        self.bytes_fit(guest, address, bytes.as_slice().len())
     }
 
     // Bytes put into a guest's memory.
     fn put_bytes(&mut self, guest: u32, address: u32, bytes: &Chunk)
-        requires { refusal self.old (steps.Poke guest address bytes.now) ≡ None }
-        ensures { performs self.old (steps.Poke guest address bytes.now) ≡ goes replies.Done self.new }
+        requires { refusal self.old (OnMemory guest (Poke address bytes.now)) ≡ None }
+        ensures { performs self.old (OnMemory guest (Poke address bytes.now))
+            ≡ goes replies.Done self.new }
     {
         write_bytes(&mut self.guests, guest as usize, address, bytes.as_slice());
     }
@@ -96,7 +113,7 @@ impl Store {
             (react self.old (steps.Poke guest address bytes.now)) }
         ensures takes_no_memory { result ≢ Err StoreError.OutOfMemory }
     {
-        match self.admit(self.poke_refusal(guest, address, bytes)) {
+        match self.admit(self.poke_fits(guest, address, bytes)) {
             Ok(()) => {
                 self.put_bytes(guest, address, bytes);
                 Ok(())
@@ -106,18 +123,18 @@ impl Store {
     }
 
     #[tactic(auto, unfolding(strm_machine::specs::Refusals::refusal))]
-    fn dump_refusal(&self, guest: u32, address: u32, len: u32) -> Option<Refusal>
+    fn dump_fits(&self, guest: u32, address: u32, len: u32) -> Result<(), Refusal>
         requires { len ≤ 64 }
-        ensures { result ≡ refusal self.now (steps.Dump guest address len) }
+        ensures { result ≡ or_found (refusal self.now (OnMemory guest (Dump address len))) tt }
     {
-        self.bytes_refusal(guest, address, len as usize)
+        self.bytes_fit(guest, address, len as usize)
     }
 
     // So many bytes of a guest's memory.
     fn bytes(&self, guest: u32, address: u32, len: u32) -> Chunk
         requires few { len ≤ 64 }
-        requires may { refusal self.now (steps.Dump guest address len) ≡ None }
-        ensures { performs self.now (steps.Dump guest address len)
+        requires may { refusal self.now (OnMemory guest (Dump address len)) ≡ None }
+        ensures { performs self.now (OnMemory guest (Dump address len))
             ≡ goes (replies.Bytes result) self.now }
     {
         Chunk::new(read_bytes(&self.guests, guest as usize, address, len)).unwrap()
@@ -130,25 +147,9 @@ impl Store {
             (react self.now (steps.Dump guest address len)) }
         ensures takes_no_memory { result ≢ Err StoreError.OutOfMemory }
     {
-        match self.admit(self.dump_refusal(guest, address, len)) {
+        match self.admit(self.dump_fits(guest, address, len)) {
             Ok(()) => Ok(self.bytes(guest, address, len)),
             Err(error) => Err(error),
         }
-    }
-
-    // Why so many bytes of a guest's memory may not be looked at.
-    fn bytes_refusal(&self, guest: u32, address: u32, count: usize) -> Option<Refusal>
-        requires { count ≤ 64 }
-        ensures { result ≡ first_of (where_ (is_unknown_guest self.now guest) refusals.UnknownGuest
-            ∷ where_ (are_bytes_out_of_bounds self.now guest address count) refusals.OutOfBounds
-            ∷ []) }
-    {
-        let Some(memory) = self.memory(guest) else {
-            return Some(Refusal::UnknownGuest);
-        };
-        if count > 0 && memory.len() < address as usize + count {
-            return Some(Refusal::OutOfBounds);
-        }
-        None
     }
 }

@@ -1,29 +1,30 @@
 //! Reads and writes of guests.
 //!
-//! Meaning: the steps Write and Read of `Reactions.antt` of `strm_machine`. Source: Canonical ABI,
+//! Meaning: `operates` of `Reactions.antt` of `strm_machine`. Source: Canonical ABI,
 //! `canon stream.{read,write}` and `canon future.{read,write}`; wasmtime, `guest_read` and
 //! `guest_write`.
 
-ghost use Rattle.std.specs.Prelude.{◌≡◌, ◌≢◌, ◌+◌, ◌<◌, ◌++◌, length, true, false, Ok, Err, Some, None, IfOk, IfErr, OnOk, IsTrue, IsErr, ◌↔◌};
+ghost use Rattle.std.specs.Prelude.{◌≡◌, ◌≢◌, ◌<◌, ◌++◌, ◌↔◌, length, true, false, Err, IfOk, IfErr, OnOk, IsTrue, IsErr};
 ghost use Rattle.strm_codes.specs.Types.{payload_of};
-ghost use Rattle.strm_handles.specs.declared.entries.TransmitLocalState.{TransmitLocalState};
+ghost use Rattle.strm_codes.specs.declared.codes.TransmitIndex.TheVariants as index;
 ghost use Rattle.strm_memory.specs.Items.{is_number_or_none};
 ghost use Rattle.strm_machine.specs.State.{stream_at};
 ghost use Rattle.strm_machine.specs.Meetings.{begun};
 ghost use Rattle.strm_machine.specs.Sides.{opposite, end_of};
 ghost use Rattle.strm_machine.specs.Tests.{is_too_big, items_asked, named, stream_named, side_named, side_of, has_ended, is_within_one_guest, is_open_of};
-ghost use Rattle.strm_machine.specs.Refusals.{first_of, ended_refusal, region_reasons, handle_reasons, end_reasons, end_reasons_of, operation_reasons};
-ghost use Rattle.strm_machine.specs.Reactions.{react, on_stream, operation_step};
+ghost use Rattle.strm_machine.specs.Refusals.{first_of, ended_refusal, region_reasons, handle_reasons, end_reasons, end_reasons_of, refusal};
+ghost use Rattle.strm_machine.specs.Reactions.{react, reaction, on_stream};
 ghost use Rattle.strm_machine.specs.Soundness.{sizes_of, IsPlaced};
+ghost use Rattle.strm_machine.specs.declared.acts.Act.TheVariants.{OnEnd};
+ghost use Rattle.strm_machine.specs.declared.acts.EndAct.TheVariants.{Operate};
+ghost use Rattle.strm_machine.specs.declared.replies.Reply.TheVariants as replies;
+ghost use Rattle.strm_machine.specs.declared.steps.Step.TheVariants as steps;
 ghost use Rattle.strm_machine.proofs.NameLemmas.{IsNameError};
 ghost use Rattle.strm_transmit.specs.Meets.{Meets, replied, or_found};
-ghost use Rattle.strm_codes.specs.declared.codes.TransmitIndex.TheVariants as index;
-ghost use Rattle.strm_machine.specs.declared.steps.Step.TheVariants as steps;
-ghost use Rattle.strm_machine.specs.declared.replies.Reply.TheVariants as replies;
 
 use crate::errors::StoreError;
 use crate::guests::memory;
-use crate::sides::{end, opposite, same_side};
+use crate::sides::{end_of, is_busy, opposite, same_side};
 use crate::store::Store;
 use crate::turns::{begin, take_turn};
 use strm_codes::codes::{ReturnCode, TransmitIndex, TransmitKind};
@@ -32,6 +33,7 @@ use strm_codes::payloads::Payload;
 use strm_codes::refusals::Refusal;
 use strm_handles::entries::TransmitLocalState;
 use strm_handles::errors::HandleError;
+use strm_machine::acts::NamedEnd;
 use strm_machine::streams::{Operation, Owner, Side, Stream};
 use strm_memory::memories::RegionError;
 
@@ -69,7 +71,7 @@ fn has_ended(side: Side, kind: TransmitKind, stream: &Stream) -> bool
     ensures { result ≡ has_ended side kind stream.now }
 {
     match (kind, side) {
-        (TransmitKind::Stream, _) => end(stream, side).told,
+        (TransmitKind::Stream, _) => end_of(stream, side).told,
         (TransmitKind::Future, Side::Writing) => stream.writer.told || stream.passed,
         (TransmitKind::Future, Side::Reading) => stream.passed,
     }
@@ -97,34 +99,29 @@ fn is_number_or_none(payload: Payload) -> bool
     }
 }
 
-// Whether an open operation of this guest waits on the other side.
-fn is_within_one_guest(guest: u32, side: Side, ty: TransmitIndex, stream: &Stream) -> bool
-    ensures { result ≡ is_within_one_guest guest side ty stream.now }
+// Whether an open operation of its guest waits on the other side, for items that don't move there.
+fn is_within_one_guest(side: Side, end: &NamedEnd, stream: &Stream) -> bool
+    ensures { result ≡ is_within_one_guest end.now.guest side end.now.ty stream.now }
 {
-    let is_open_of_guest = match end(stream, opposite(side)).operation {
-        Some(theirs) => theirs.is_open && theirs.guest == guest,
+    let is_open_of_guest = match &end_of(stream, opposite(side)).operation {
+        Some(theirs) => theirs.is_open && theirs.guest == end.guest,
         None => false,
     };
-    is_open_of_guest && !is_number_or_none(ty.payload())
+    is_open_of_guest && !is_number_or_none(end.ty.payload())
 }
 
 // Why an end may not read or write now.
-fn end_refusal(
-    side: Side,
-    guest: u32,
-    ty: TransmitIndex,
-    stream: &Stream,
-    named_side: Side,
-) -> Option<Refusal>
-    ensures { result ≡ first_of (end_reasons_of stream.now side guest ty named_side) }
+fn end_refusal(side: Side, end: &NamedEnd, stream: &Stream, named_side: Side) -> Option<Refusal>
+    ensures { result
+        ≡ first_of (end_reasons_of stream.now side end.now.guest end.now.ty named_side) }
 {
-    if !same_side(side, named_side) || end(stream, side).operation.is_some() {
+    if !same_side(side, named_side) || is_busy(side, stream) {
         return Some(Refusal::ConcurrentFutureStreamOp);
     }
-    if has_ended(side, ty.kind(), stream) {
-        return Some(ended_refusal(side, ty.kind()));
+    if has_ended(side, end.ty.kind(), stream) {
+        return Some(ended_refusal(side, end.ty.kind()));
     }
-    if is_within_one_guest(guest, side, ty, stream) {
+    if is_within_one_guest(side, end, stream) {
         return Some(Refusal::IntraComponent);
     }
     None
@@ -132,25 +129,20 @@ fn end_refusal(
 
 impl Store {
     // The items that a guest asks for, where its region may lie there.
-    fn region(
-        &self,
-        guest: u32,
-        ty: TransmitIndex,
-        address: u32,
-        count: u32,
-    ) -> Result<ItemCount, Refusal>
-        ensures exact { result ≡ or_found (first_of (region_reasons self.now guest ty address count))
-            (items_asked ty count) }
-        ensures there { OnOk result (guest < length self.now.guests) }
+    fn region(&self, end: &NamedEnd, address: u32, count: u32) -> Result<ItemCount, Refusal>
+        ensures exact { result
+            ≡ or_found (first_of (region_reasons self.now end.now.guest end.now.ty address count))
+            (items_asked end.now.ty count) }
+        ensures there { OnOk result (end.now.guest < length self.now.guests) }
     {
-        if guest as usize >= self.guests.len() {
+        if end.guest as usize >= self.guests.len() {
             return Err(Refusal::UnknownGuest);
         }
-        let Ok(items) = items_asked(ty, count) else {
+        let Ok(items) = items_asked(end.ty, count) else {
             return Err(Refusal::StreamOpTooBig);
         };
-        let memory = memory(&self.guests, guest as usize);
-        match memory.region(ty.payload(), address, items) {
+        let memory = memory(&self.guests, end.guest as usize);
+        match memory.region(end.ty.payload(), address, items) {
             Ok(()) => Ok(items),
             Err(RegionError::OutOfBounds) => Err(Refusal::OutOfBounds),
             Err(RegionError::NotAligned) => Err(Refusal::NotAligned),
@@ -158,56 +150,31 @@ impl Store {
     }
 
     // What a guest's table answers for a handle.
-    fn name(
-        &self,
-        guest: u32,
-        ty: TransmitIndex,
-        handle: u32,
-    ) -> Result<(u32, TransmitLocalState), HandleError>
-        requires { guest < length self.now.guests }
-        ensures exact { result ≡ named self.now guest ty handle }
+    fn name(&self, end: &NamedEnd) -> Result<(u32, TransmitLocalState), HandleError>
+        requires { end.now.guest < length self.now.guests }
+        ensures exact { result ≡ named self.now end.now }
         ensures there { IfOk result (λ name. name.0 < length self.now.streams) }
-        ensures payload { IfOk result (λ name. (stream_at self.now name.0).payload ≡ payload_of ty) }
+        ensures payload { IfOk result (λ name.
+            (stream_at self.now name.0).payload ≡ payload_of end.now.ty) }
         ensures others { IfErr result IsNameError }
     {
-        let guest = &self.guests[guest as usize];
-        match ty {
-            TransmitIndex::Stream(payload) => guest.table.stream_rep(payload, handle),
-            TransmitIndex::Future(payload) => guest.table.future_rep(payload, handle),
+        let guest = &self.guests[end.guest as usize];
+        match end.ty {
+            TransmitIndex::Stream(payload) => guest.table.stream_rep(payload, end.handle),
+            TransmitIndex::Future(payload) => guest.table.future_rep(payload, end.handle),
         }
     }
 
-    // Why an end of a stream may not read or write now.
-    fn end_refusal(
-        &self,
-        side: Side,
-        guest: u32,
-        ty: TransmitIndex,
-        stream: u32,
-        named_side: Side,
-    ) -> Option<Refusal>
-        requires { stream < length self.now.streams }
-        ensures { result ≡ first_of (end_reasons_of (stream_at self.now stream) side guest ty
-            named_side) }
-    {
-        end_refusal(side, guest, ty, &self.streams[stream as usize], named_side)
-    }
-
     // The stream and the side of the end that a handle of a type names.
-    pub(crate) fn handle_found(
-        &self,
-        guest: u32,
-        ty: TransmitIndex,
-        handle: u32,
-    ) -> Result<(u32, Side), Refusal>
-        requires { guest < length self.now.guests }
-        ensures exact { result ≡ or_found (first_of (handle_reasons (named self.now guest ty handle)))
-            (stream_named (named self.now guest ty handle), side_named (named self.now guest ty handle)) }
+    pub(crate) fn handle_found(&self, end: &NamedEnd) -> Result<(u32, Side), Refusal>
+        requires { end.now.guest < length self.now.guests }
+        ensures exact { result ≡ or_found (first_of (handle_reasons (named self.now end.now)))
+            (stream_named (named self.now end.now), side_named (named self.now end.now)) }
         ensures there { IfOk result (λ found. found.0 < length self.now.streams) }
         ensures payload { IfOk result (λ found.
-            (stream_at self.now found.0).payload ≡ payload_of ty) }
+            (stream_at self.now found.0).payload ≡ payload_of end.now.ty) }
     {
-        match self.name(guest, ty, handle) {
+        match self.name(end) {
             Ok(name) => Ok((name.0, side_of(name.1))),
             Err(HandleError::UnknownHandle) => Err(Refusal::UnknownHandle),
             Err(HandleError::WrongKind) => Err(Refusal::WrongKind),
@@ -217,17 +184,17 @@ impl Store {
     }
 
     // The stream whose end a handle names, where that end may read or write now.
-    fn found(&self, side: Side, guest: u32, ty: TransmitIndex, handle: u32) -> Result<u32, Refusal>
-        requires { guest < length self.now.guests }
-        ensures exact { result ≡ or_found (first_of (handle_reasons (named self.now guest ty handle)
-            ++ end_reasons self.now side guest ty (named self.now guest ty handle)))
-            (stream_named (named self.now guest ty handle)) }
+    fn found(&self, side: Side, end: &NamedEnd) -> Result<u32, Refusal>
+        requires { end.now.guest < length self.now.guests }
+        ensures exact { result ≡ or_found (first_of (handle_reasons (named self.now end.now)
+            ++ end_reasons self.now side end.now.guest end.now.ty (named self.now end.now)))
+            (stream_named (named self.now end.now)) }
         ensures there { IfOk result (λ stream. stream < length self.now.streams) }
-        ensures payload { IfOk result (λ stream. (stream_at self.now stream).payload ≡ payload_of ty) }
+        ensures payload { IfOk result (λ stream.
+            (stream_at self.now stream).payload ≡ payload_of end.now.ty) }
     {
-        let asked = ty;
-        match self.handle_found(guest, ty, handle) {
-            Ok(named) => match self.end_refusal(side, guest, asked, named.0, named.1) {
+        match self.handle_found(end) {
+            Ok(named) => match end_refusal(side, end, self.stream(named.0), named.1) {
                 Some(refusal) => Err(refusal),
                 None => Ok(named.0),
             },
@@ -236,28 +203,26 @@ impl Store {
     }
 
     // The stream and the items of a read or write that nothing refuses.
+    #[tactic(auto, unfolding(strm_machine::specs::Refusals::refusal))]
     fn operation_found(
         &self,
         side: Side,
-        guest: u32,
-        ty: TransmitIndex,
-        handle: u32,
+        end: &NamedEnd,
         address: u32,
         count: u32,
     ) -> Result<(u32, ItemCount), Refusal>
-        ensures exact { result ≡
-            or_found (first_of (operation_reasons self.now side guest ty handle address count))
-            (stream_named (named self.now guest ty handle), items_asked ty count) }
+        ensures exact { result
+            ≡ or_found (refusal self.now (OnEnd side end.now (Operate address count)))
+            (stream_named (named self.now end.now), items_asked end.now.ty count) }
         ensures there { IfOk result (λ found. found.0 < length self.now.streams) }
         ensures placed { IfOk result (λ found. IsPlaced (sizes_of self.now.guests)
-            (stream_at self.now found.0).payload (begun guest address found.1)) }
-        ensures numbers { IfOk result (λ found.
-            IsTrue (is_open_of guest (end_of (opposite side) (stream_at self.now found.0)).operation)
+            (stream_at self.now found.0).payload (begun end.now.guest address found.1)) }
+        ensures numbers { IfOk result (λ found. IsTrue (is_open_of end.now.guest
+            (end_of (opposite side) (stream_at self.now found.0)).operation)
             → IsTrue (is_number_or_none (stream_at self.now found.0).payload)) }
     {
-        let asked = ty;
-        match self.region(guest, ty, address, count) {
-            Ok(items) => match self.found(side, guest, asked, handle) {
+        match self.region(end, address, count) {
+            Ok(items) => match self.found(side, end) {
                 Ok(stream) => Ok((stream, items)),
                 Err(refusal) => Err(refusal),
             },
@@ -286,26 +251,21 @@ impl Store {
         }
     }
 
-    /// A read or write; a future's count is not looked at.
+    /// A read or write of the end that is named; a future's count is not looked at.
     pub(crate) fn operate(
         &mut self,
         side: Side,
-        guest: u32,
-        ty: TransmitIndex,
-        handle: u32,
+        end: &NamedEnd,
         address: u32,
         count: u32,
     ) -> Result<ReturnCode, StoreError>
         ensures meets { Meets self.old self.new (replied replies.Code result)
-            (react self.old (operation_step side guest ty handle address count)) }
+            (reaction self.old (OnEnd side end.now (Operate address count))) }
         ensures takes_no_memory { result ≢ Err StoreError.OutOfMemory }
     {
-        if self.is_trapped {
-            return Err(StoreError::StoreTrapped);
-        }
-        match self.operation_found(side, guest, ty, handle, address, count) {
-            Ok(found) => self.take(side, found.0, begin(guest, address, found.1)),
-            Err(refusal) => Err(StoreError::Refused(refusal)),
+        match self.admit(self.operation_found(side, end, address, count)) {
+            Ok(found) => self.take(side, found.0, begin(end.guest, address, found.1)),
+            Err(error) => Err(error),
         }
     }
 
@@ -323,7 +283,8 @@ impl Store {
         ensures takes_no_memory { result ≢ Err StoreError.OutOfMemory }
     {
         let ty = TransmitIndex::Stream(payload);
-        self.operate(Side::Reading, guest, ty, handle, address, count)
+        let end = NamedEnd { guest, ty, handle };
+        self.operate(Side::Reading, &end, address, count)
     }
 
     /// Writes items to a stream: `count` items from `address` on in the guest's memory.
@@ -340,7 +301,8 @@ impl Store {
         ensures takes_no_memory { result ≢ Err StoreError.OutOfMemory }
     {
         let ty = TransmitIndex::Stream(payload);
-        self.operate(Side::Writing, guest, ty, handle, address, count)
+        let end = NamedEnd { guest, ty, handle };
+        self.operate(Side::Writing, &end, address, count)
     }
 
     /// Reads a future's value, to `address` in the guest's memory.
@@ -356,7 +318,8 @@ impl Store {
         ensures takes_no_memory { result ≢ Err StoreError.OutOfMemory }
     {
         let ty = TransmitIndex::Future(payload);
-        self.operate(Side::Reading, guest, ty, handle, address, 1)
+        let end = NamedEnd { guest, ty, handle };
+        self.operate(Side::Reading, &end, address, 1)
     }
 
     /// Writes a future's value, from `address` in the guest's memory.
@@ -372,6 +335,7 @@ impl Store {
         ensures takes_no_memory { result ≢ Err StoreError.OutOfMemory }
     {
         let ty = TransmitIndex::Future(payload);
-        self.operate(Side::Writing, guest, ty, handle, address, 1)
+        let end = NamedEnd { guest, ty, handle };
+        self.operate(Side::Writing, &end, address, 1)
     }
 }

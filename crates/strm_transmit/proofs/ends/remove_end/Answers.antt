@@ -17,22 +17,22 @@ was_ok (Err v) P e p = cc
 pub returns-clause-guests : goal.returns-clause-guests
 returns-clause-guests c =
     let guests = c.args.guests.now.items in
-    let read = guest_in-seen guests c.args.guest c.index_mut.result.now c.requires.there c.index_mut.ensures.value in
+    let read = guest_in-seen guests c.args.end.now.guest c.index_mut.result.now c.requires.there c.index_mut.ensures.value in
     let idle = rw read at c.requires.idle in
     let freed = was_ok c.try_remove.result _ (c.try_remove.ensures.answer ∙ idle) c.try_remove.ensures.removes.ok in
-    seen-with_handles guests c.args.guest c.index_mut.result.now c.try_remove.new.table c.requires.there c.index_mut.ensures.value
-    ∙ ap (with_handles (seen guests) c.args.guest) (freed
-    ∙ ap (λ (k : machine.Guest). removed k.handles c.args.handle) (sym read))
+    seen-with_handles guests c.args.end.now.guest c.index_mut.result.now c.try_remove.new.table c.requires.there c.index_mut.ensures.value
+    ∙ ap (with_handles (seen guests) c.args.end.now.guest) (freed
+    ∙ ap (λ (k : machine.Guest). removed k.handles c.args.end.now.handle) (sym read))
 
 pub returns-clause-live : goal.returns-clause-live
 returns-clause-live c =
     let guests = c.args.guests.now.items in
-    let read = guest_in-seen guests c.args.guest c.index_mut.result.now c.requires.there c.index_mut.ensures.value in
-    let less = removable_live c.args.side c.args.ty (guest_in (seen guests) c.args.guest).handles c.args.handle c.requires.idle in
+    let read = guest_in-seen guests c.args.end.now.guest c.index_mut.result.now c.requires.there c.index_mut.ensures.value in
+    let less = removable_live c.args.side c.args.end.now.ty (guest_in (seen guests) c.args.end.now.guest).handles c.args.end.now.handle c.requires.idle in
     let idle = rw read at c.requires.idle in
     let freed = was_ok c.try_remove.result _ (c.try_remove.ensures.answer ∙ idle) c.try_remove.ensures.removes.ok in
-    let here = seen-with_handles guests c.args.guest c.index_mut.result.now c.try_remove.new.table c.requires.there c.index_mut.ensures.value in
-    let same : seen _ ≡ with_handles (seen guests) c.args.guest (removed (guest_in (seen guests) c.args.guest).handles c.args.handle) =
-    here ∙ ap (with_handles (seen guests) c.args.guest) (freed ∙ ap (λ (k : machine.Guest). removed k.handles c.args.handle) (sym read)) in
-    let before = live_less (seen guests) c.args.guest (removed (guest_in (seen guests) c.args.guest).handles c.args.handle) (omega (arith, c.requires.there, length-map guests guest_of)) less in
+    let here = seen-with_handles guests c.args.end.now.guest c.index_mut.result.now c.try_remove.new.table c.requires.there c.index_mut.ensures.value in
+    let same : seen _ ≡ with_handles (seen guests) c.args.end.now.guest (removed (guest_in (seen guests) c.args.end.now.guest).handles c.args.end.now.handle) =
+    here ∙ ap (with_handles (seen guests) c.args.end.now.guest) (freed ∙ ap (λ (k : machine.Guest). removed k.handles c.args.end.now.handle) (sym read)) in
+    let before = live_less (seen guests) c.args.end.now.guest (removed (guest_in (seen guests) c.args.end.now.guest).handles c.args.end.now.handle) (omega (arith, c.requires.there, length-map guests guest_of)) less in
     omega (arith, ap live_in same, before)

@@ -1,13 +1,23 @@
-use Rattle.std.proofs.Common.{sym}
-use Rattle.strm_transmit.proofs.StepLemmas.{meets_not_admitted, is_admitted, meets_admitted, done-guest}
+use Rattle.std.proofs.Common.{refl}
+use Rattle.strm_machine.specs.Reactions.{performs}
+use Rattle.strm_machine.specs.declared.acts.Act.TheVariants.{Make}
+use Rattle.strm_machine.specs.declared.acts.Making.TheVariants.{Guest}
+use Rattle.strm_machine.specs.declared.replies.Reply.TheVariants as replies
+use Rattle.strm_transmit.specs.Meets.{replied}
+use Rattle.strm_transmit.proofs.StepLemmas.{is_admitted, meets_admitted, meets_not_admitted}
 use Rattle.strm_transmit.proofs.store.Store.add_guest.Goals as goal
+
+pub push_guest-requires : goal.push_guest-requires
+push_guest-requires c = (is_admitted _ _ _ _ _ c.guest_fits.ensures c.in-Ok.ensures.exact).none
 
 pub returns-in-Ok : goal.returns-in-Ok
 returns-in-Ok c = record {
-  meets = meets_admitted _ _ _ _ c.push_guest.result (is_admitted _ _ c.in-Ok.field-0 (rw (← c.guest_refusal.ensures) (sym c.in-Ok.ensures.exact))) (done-guest c.args.self.now c.args.size) c.push_guest.ensures.ok c.push_guest.ensures.err c.push_guest.ensures.memory;
+  meets = meets_admitted c.args.self.now c.push_guest.new.self _ (replied replies.Number c.push_guest.result) _ _ _
+      (λ _. performs c.args.self.now (Make (Guest c.args.size)))
+      (is_admitted _ _ _ _ _ c.guest_fits.ensures c.in-Ok.ensures.exact) refl c.push_guest.ensures;
 }
 
 pub returns-in-Err : goal.returns-in-Err
 returns-in-Err c = record {
-  meets = meets_not_admitted _ _ _ (rw (← c.guest_refusal.ensures) (sym c.in-Err.ensures.exact));
+  meets = meets_not_admitted _ _ _ _ _ c.guest_fits.ensures c.in-Err.ensures.exact;
 }

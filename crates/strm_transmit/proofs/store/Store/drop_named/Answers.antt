@@ -1,24 +1,34 @@
-use Rattle.std.proofs.Common.{refl, ap, set, arith}
+use Rattle.std.proofs.Common.{refl, sym, ◌∙◌, ap, set, arith}
+use Rattle.std.proofs.lemmas.List.{length-map}
+use Rattle.strm_machine.proofs.ReactionLemmas.{refusal-drop}
+use Rattle.strm_machine.proofs.RefusalLemmas.{drop_fits}
+use Rattle.strm_transmit.specs.Guests.{guest_of}
 use Rattle.strm_transmit.specs.Inside.{state_of}
 use Rattle.strm_transmit.proofs.EndingLemmas.{removable_named, drop_there, drop_is, lost_fits, IsStore-dropped}
 use Rattle.strm_transmit.proofs.store.Store.drop_named.Goals as goal
 
 pub remove_end-requires-clause-idle : goal.remove_end-requires-clause-idle
 remove_end-requires-clause-idle c =
-    removable_named (state_of c.self.inside) c.args.side c.args.guest c.args.ty c.args.handle c.self.invariant.sound (rw (← c.self.view_is) at c.requires.may)
+    removable_named (state_of c.self.inside) c.args.side c.args.end.now c.self.invariant.sound (rw (← c.self.view_is) at c.requires.may)
+
+pub remove_end-requires-clause-there : goal.remove_end-requires-clause-there
+remove_end-requires-clause-there c =
+    let fits = drop_fits (state_of c.self.inside) c.args.side c.args.end.now
+    (sym (refusal-drop (state_of c.self.inside) c.args.side c.args.end.now) ∙ (rw (← c.self.view_is) at c.requires.may)) in
+    omega (arith, fits.there, length-map c.self.inside.guests.items guest_of)
 
 pub index_mut-requires : goal.index_mut-requires
 index_mut-requires c =
     omega (
       arith,
       c.self.inside.streams.ok,
-      drop_there c.self.inside c.args.side c.args.guest c.args.ty c.args.handle c.args.stream c.self.invariant
+      drop_there c.self.inside c.args.side c.args.end.now c.args.stream c.self.invariant
           (rw (← c.self.view_is) at c.requires.may) (rw (← c.self.view_is) at c.requires.stream),
     )
 
 pub overflow_sub-self : goal.overflow_sub-self
 overflow_sub-self c =
-    let there = drop_there c.self.inside c.args.side c.args.guest c.args.ty c.args.handle c.args.stream c.self.invariant
+    let there = drop_there c.self.inside c.args.side c.args.end.now c.args.stream c.self.invariant
     (rw (← c.self.view_is) at c.requires.may) (rw (← c.self.view_is) at c.requires.stream) in
     let drop = drop_is c.self.inside c.args.stream c.args.side c.index_mut.result.now c.drop_end-is_removed.new.stream c.drop_end-is_removed.result c.from.result
     there c.index_mut.ensures.value c.drop_end-is_removed.ensures.stream c.drop_end-is_removed.ensures.removed c.from.ensures in
@@ -26,11 +36,11 @@ overflow_sub-self c =
 
 pub invariant_of-self : goal.invariant_of-self
 invariant_of-self c =
-    let there = drop_there c.self.inside c.args.side c.args.guest c.args.ty c.args.handle c.args.stream c.self.invariant
+    let there = drop_there c.self.inside c.args.side c.args.end.now c.args.stream c.self.invariant
     (rw (← c.self.view_is) at c.requires.may) (rw (← c.self.view_is) at c.requires.stream) in
     let drop = drop_is c.self.inside c.args.stream c.args.side c.index_mut.result.now c.drop_end-is_removed.new.stream c.drop_end-is_removed.result c.from.result
     there c.index_mut.ensures.value c.drop_end-is_removed.ensures.stream c.drop_end-is_removed.ensures.removed c.from.ensures in
-    IsStore-dropped c.self.inside _ c.args.stream c.args.side c.args.guest c.args.handle c.from.result there
+    IsStore-dropped c.self.inside _ c.args.stream c.args.side c.args.end.now.guest c.args.end.now.handle c.from.result there
     (record {
       same = record { tag = refl; limits = refl; trapped = refl };
       counter = c.remove_end.ensures.counter;

@@ -7,12 +7,12 @@ use Rattle.strm_transmit.proofs.store.Store.found.Goals as goal
 
 pub returns-in-Some-clause-exact : goal.returns-in-Some-clause-exact
 returns-in-Some-clause-exact c =
-    let name = named c.args.self.now c.args.guest c.args.ty c.args.handle in
-    end_refused (handle_reasons name) (λ s side. end_reasons_of (stream_at c.args.self.now s) c.args.side c.args.guest c.args.ty side)
-    c.in-Ok.named (stream_named name, side_named name) c.in-Some.refusal (stream_named name) c.in-Ok.ensures.exact (sym c.in-Some.is ∙ c.end_refusal.ensures)
+    let name = named c.args.self.now c.args.end.now in
+    end_refused (handle_reasons name) (λ s side. end_reasons_of (stream_at c.args.self.now s) c.args.side c.args.end.now.guest c.args.end.now.ty side)
+    c.in-Ok.named (stream_named name, side_named name) c.in-Some.refusal (stream_named name) c.in-Ok.ensures.exact (sym c.in-Some.is ∙ (rw c.stream.ensures at c.end_refusal.ensures))
 
 pub returns-in-None-clause-exact : goal.returns-in-None-clause-exact
 returns-in-None-clause-exact c =
-    let name = named c.args.self.now c.args.guest c.args.ty c.args.handle in
-    end_found (handle_reasons name) (λ s side. end_reasons_of (stream_at c.args.self.now s) c.args.side c.args.guest c.args.ty side)
-    c.in-Ok.named (stream_named name, side_named name) c.in-Ok.ensures.exact (sym c.in-None.is ∙ c.end_refusal.ensures)
+    let name = named c.args.self.now c.args.end.now in
+    end_found (handle_reasons name) (λ s side. end_reasons_of (stream_at c.args.self.now s) c.args.side c.args.end.now.guest c.args.end.now.ty side)
+    c.in-Ok.named (stream_named name, side_named name) c.in-Ok.ensures.exact (sym c.in-None.is ∙ (rw c.stream.ensures at c.end_refusal.ensures))

@@ -60,8 +60,8 @@ invariant_of-self-in-Ok-insert_ends c =
     } in
     IsStore-made old _ c.args.writer c.args.reader c.args.ty made (rw (← c.self.view_is) at c.requires) c.self.invariant
 
-pub returns-in-Ok-insert_ends-clause-ok : goal.returns-in-Ok-insert_ends-clause-ok
-returns-in-Ok-insert_ends-clause-ok c =
+pub returns-in-Ok-insert_ends : goal.returns-in-Ok-insert_ends
+returns-in-Ok-insert_ends c =
     let old = c.self.inside in
     let number : c.len-stream.result ≡ length old.streams.items = omega (arith, c.len-stream.ensures, old.streams.ok) in
     let joined = joined_is old c.args.writer c.args.reader c.args.ty c.len-stream.result c.in-Ok-insert_ends.numbers c.made_stream-joined.result number c.in-Ok-insert_ends.ensures.numbers

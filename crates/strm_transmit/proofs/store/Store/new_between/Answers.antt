@@ -1,13 +1,23 @@
-use Rattle.std.proofs.Common.{sym}
-use Rattle.strm_transmit.proofs.StepLemmas.{meets_not_admitted, is_admitted, meets_admitted, done-between}
+use Rattle.std.proofs.Common.{refl}
+use Rattle.strm_machine.specs.Reactions.{performs}
+use Rattle.strm_machine.specs.declared.acts.Act.TheVariants.{Make}
+use Rattle.strm_machine.specs.declared.acts.Making.TheVariants.{Between}
+use Rattle.strm_machine.specs.declared.replies.Reply.TheVariants as replies
+use Rattle.strm_transmit.specs.Meets.{replied}
+use Rattle.strm_transmit.proofs.StepLemmas.{is_admitted, meets_admitted, meets_not_admitted}
 use Rattle.strm_transmit.proofs.store.Store.new_between.Goals as goal
+
+pub make-requires : goal.make-requires
+make-requires c = (is_admitted _ _ _ _ _ (c.pair_fits.ensures c.args.ty) c.in-Ok.ensures.exact).none
 
 pub returns-in-Ok : goal.returns-in-Ok
 returns-in-Ok c = record {
-  meets = meets_admitted _ _ _ _ c.make.result (is_admitted _ _ c.in-Ok.field-0 (rw (← c.between_refusal.ensures c.args.ty) (sym c.in-Ok.ensures.exact))) (done-between c.args.self.now c.args.writer c.args.reader c.args.ty) c.make.ensures.ok c.make.ensures.err c.make.ensures.memory;
+  meets = meets_admitted c.args.self.now c.make.new.self _ (replied replies.Pair c.make.result) _ _ _
+      (λ _. performs c.args.self.now (Make (Between c.args.writer c.args.reader c.args.ty)))
+      (is_admitted _ _ _ _ _ (c.pair_fits.ensures c.args.ty) c.in-Ok.ensures.exact) refl c.make.ensures;
 }
 
 pub returns-in-Err : goal.returns-in-Err
 returns-in-Err c = record {
-  meets = meets_not_admitted _ _ _ (rw (← c.between_refusal.ensures c.args.ty) (sym c.in-Err.ensures.exact));
+  meets = meets_not_admitted _ _ _ _ _ (c.pair_fits.ensures c.args.ty) c.in-Err.ensures.exact;
 }

@@ -24,8 +24,8 @@ invariant_of-self-2 c =
     })
     (rw (← c.self.view_is) at c.requires) c.self.invariant
 
-pub returns-clause-ok : goal.returns-clause-ok
-returns-clause-ok c =
+pub returns : goal.returns
+returns c =
     rw (← c.self.view_is)
     (performs-guest c.self.inside (record c.self.inside { guests = c.push_reserved.new.self; bytes = c.self.inside.bytes + c.args.size }) (record { memory = c.in-Ok.memory; table = c.new-2.result }) c.args.size c.len-number.result
     (record {

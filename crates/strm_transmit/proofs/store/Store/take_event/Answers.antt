@@ -1,18 +1,14 @@
 use Rattle.std.proofs.Common.{refl, ◌∙◌}
-use Rattle.strm_machine.specs.declared.steps.Step.TheVariants as steps
-use Rattle.strm_machine.proofs.ReactionLemmas.{react-trapped}
-use Rattle.strm_transmit.proofs.OperationLemmas.{reacts_tells, event_refused}
+use Rattle.strm_machine.specs.Reactions.{tells, performs}
+use Rattle.strm_transmit.proofs.StepLemmas.{is_admitted, reacts, meets_not_admitted}
 use Rattle.strm_transmit.proofs.store.Store.take_event.Goals as goal
 
-pub returns-then-self-clause-meets : goal.returns-then-self-clause-meets
-returns-then-self-clause-meets c =
-    (react-trapped c.args.self.now (steps.Event c.args.guest c.args.handle) (rw (← c.self.view_is) c.if-self.true), refl)
-
 pub returns-in-Ok-clause-meets : goal.returns-in-Ok-clause-meets
+unfolding performs
 returns-in-Ok-clause-meets c =
-    reacts_tells c.args.self.now c.args.guest c.args.handle c.in-Ok.found (rw (← c.self.view_is) c.if-self.false) c.in-Ok.ensures.exact
+    reacts _ _ _ _ _ (λ q. tells c.args.self.now q.0 q.1)
+    (is_admitted _ _ _ _ _ c.event_found.ensures.exact c.in-Ok.ensures.exact) refl
     ∙ c.tell.ensures
 
 pub returns-in-Err-clause-meets : goal.returns-in-Err-clause-meets
-returns-in-Err-clause-meets c =
-    (event_refused c.args.self.now c.args.guest c.args.handle _ c.in-Err.refusal (rw (← c.self.view_is) c.if-self.false) c.in-Err.ensures.exact, refl)
+returns-in-Err-clause-meets c = meets_not_admitted _ _ _ _ _ c.event_found.ensures.exact c.in-Err.ensures.exact

@@ -16,6 +16,6 @@ invariant_of-self c =
       guests = refl;
       live_streams = refl;
       bytes = refl;
-      streams = ap (set c.self.inside.streams.items c.args.stream) (c.tell.ensures.stream ∙ ap (λ (s : Stream). delivered c.args.side s) (sym here));
+      streams = ap (set c.self.inside.streams.items c.args.stream) (c.deliver_report.ensures.stream ∙ ap (λ (s : Stream). delivered c.args.side s) (sym here));
     })
     c.self.invariant

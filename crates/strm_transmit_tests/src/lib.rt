@@ -1,8 +1,6 @@
-//! The store by example.
+//! The store by example, in public calls alone.
+#![tactic(auto)]
 
-use crate::errors::StoreError;
-use crate::steps::apply;
-use crate::store::Store;
 use std::test::Fail;
 use strm_codes::codes::{ReturnCode, TransmitIndex};
 use strm_codes::counts::ItemCount;
@@ -13,12 +11,17 @@ use strm_machine::chunks::Chunk;
 use strm_machine::limits::Limits;
 use strm_machine::replies::{Pair, Reply};
 use strm_machine::steps::Step;
+use strm_transmit::errors::StoreError;
+use strm_transmit::steps::apply;
+use strm_transmit::store::Store;
 
 const BYTES: Payload = Payload::One(Scalar::U8);
 
 const WORDS: Payload = Payload::One(Scalar::U32);
 
 const CHARS: Payload = Payload::One(Scalar::Char);
+
+const CHAR_STREAM: TransmitIndex = TransmitIndex::Stream(CHARS);
 
 const LIMITS: Limits = Limits {
     handles: 4,
@@ -179,5 +182,37 @@ fn steps(rt: HostRuntime) -> Result<(), Fail> {
     };
     let refused = Ok(Reply::Refused(Refusal::UnknownGuest));
     assert_eq!(rt; apply(&mut store, &dump), refused);
+    Ok(())
+}
+
+/// A bad item and a trapped store stop a run: they are no replies.
+#[test]
+fn steps_that_stop(rt: HostRuntime) -> Result<(), Fail> {
+    let mut store = Store::new(rt.alloc(), 0, LIMITS);
+    assert_eq!(rt; store.add_guest(16), Ok(0));
+    assert_eq!(rt; store.add_guest(16), Ok(1));
+    assert!(rt; store.new_between(0, 1, CHAR_STREAM).is_ok());
+    let surrogate = Chunk::new(&[0, 0xd8, 0, 0]).unwrap();
+    assert_eq!(rt; store.poke(0, 0, &surrogate), Ok(()));
+    let write = Step::Write {
+        guest: 0,
+        ty: CHAR_STREAM,
+        handle: 1,
+        address: 0,
+        count: 1,
+    };
+    let waits = Ok(Reply::Code(ReturnCode::Blocked));
+    assert_eq!(rt; apply(&mut store, &write), waits);
+    let read = Step::Read {
+        guest: 1,
+        ty: CHAR_STREAM,
+        handle: 1,
+        address: 0,
+        count: 1,
+    };
+    let bad = Err(StoreError::BadItem { stream: 0 });
+    assert_eq!(rt; apply(&mut store, &read), bad);
+    let trapped = Err(StoreError::StoreTrapped);
+    assert_eq!(rt; apply(&mut store, &write), trapped);
     Ok(())
 }

@@ -1,0 +1,58 @@
+//! Rounds on a store: a write of 8 bytes waits, a read takes them, and the write is told.
+
+use std::alloc::Global;
+use strm_codes::codes::{ReturnCode, TransmitIndex};
+use strm_codes::payloads::Payload;
+use strm_codes::scalars::Scalar;
+use strm_machine::limits::Limits;
+use strm_transmit::errors::StoreError;
+use strm_transmit::store::Store;
+
+const BYTES: Payload = Payload::One(Scalar::U8);
+
+/// The bytes of each guest's memory.
+const SIZE: u32 = 1_048_576;
+
+/// The bytes of a write.
+const LENGTH: u32 = 8;
+
+const LIMITS: Limits = Limits {
+    handles: 2,
+    places: 3,
+};
+
+/// What the rounds add up to: the words of all codes that were answered or told, and the bytes
+/// received.
+#[derive(Clone, Copy)]
+pub struct Told {
+    pub words: u64,
+    pub received: u128,
+}
+
+/// So many rounds on a new store with a stream of bytes from one guest to another.
+pub fn run(alloc: Global, rounds: u32) -> Result<Told, StoreError> {
+    let mut store = Store::new(alloc, 0, LIMITS);
+    let writer = store.add_guest(SIZE)?;
+    let reader = store.add_guest(SIZE)?;
+    let pair = store.new_between(writer, reader, TransmitIndex::Stream(BYTES))?;
+    let mut words = 0u64;
+    for round in 0..rounds {
+        let address = round % (SIZE / LENGTH) * LENGTH;
+        let written = store.stream_write(writer, BYTES, pair.write, address, LENGTH)?;
+        let read = store.stream_read(reader, BYTES, pair.read, address, LENGTH)?;
+        let told = store
+            .take_event(writer, pair.write)?
+            .unwrap_or(ReturnCode::Blocked);
+        words = added(words, written, read, told);
+    }
+    Ok(Told {
+        words,
+        received: store.moved(pair.stream).unwrap_or(0),
+    })
+}
+
+fn added(words: u64, written: ReturnCode, read: ReturnCode, told: ReturnCode) -> u64 {
+    let words = words.wrapping_add(u64::from(written.encode()));
+    let words = words.wrapping_add(u64::from(read.encode()));
+    words.wrapping_add(u64::from(told.encode()))
+}
