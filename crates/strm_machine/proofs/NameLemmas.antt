@@ -123,6 +123,19 @@ end_named_there state g handle r h e =
     (end_there (types_of state.streams) (entry_at (guest_in state.guests g).handles handle)
     (entry_named (types_of state.streams) _ handle (AreNamed-at (types_of state.streams) state.guests g h.named)))
 
+-- the refusals of a look-up that asks for no type
+abbrev pub IsEndError : HandleError → Type 0
+IsEndError errors.UnknownHandle = Unit {0}
+IsEndError errors.WrongKind = Unit {0}
+IsEndError errors.WrongType = ⊥
+IsEndError errors.IndexOverflow = ⊥
+IsEndError errors.HandleLimit = ⊥
+IsEndError errors.WrongEnd = ⊥
+IsEndError errors.Busy = ⊥
+IsEndError errors.Lent = ⊥
+IsEndError errors.TooManyLends = ⊥
+IsEndError errors.OutOfMemory = ⊥
+
 -- the refusals that a look-up of an end has
 abbrev pub IsNameError : HandleError → Type 0
 IsNameError errors.UnknownHandle = Unit {0}
