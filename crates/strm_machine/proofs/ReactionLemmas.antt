@@ -4,7 +4,7 @@ use Rattle.std.proofs.lemmas.Bool.{cond_both}
 use Rattle.std.specs.Option.{option_or}
 use Rattle.strm_codes.specs.declared.refusals.Refusal.{Refusal}
 use Rattle.strm_machine.specs.Words.{State, memory_in, named, stream_named, Side, first_of, Reaction, goes, operates, NamedEnd, Operate, Act, OnEnd, OnMemory}
-use Rattle.strm_machine.specs.Refusals.{Reason, operation_reasons, dropping_reasons, bytes_reasons, refusal}
+use Rattle.strm_machine.specs.Refusals.{Reason, dropping_reasons, bytes_reasons, refusal}
 use Rattle.strm_machine.specs.Reactions.{drops, performs, unless_refused, reaction}
 use Rattle.strm_machine.specs.declared.acts.EndAct.TheVariants.{Drop}
 use Rattle.strm_machine.specs.declared.acts.MemoryAct.TheVariants.{Dump}
@@ -46,10 +46,6 @@ first_of-append [] ys = refl
 first_of-append (x ∷ xs) ys = or_cond x.holds x.refusal (first_of (xs ++ ys)) (first_of xs) (first_of ys) (first_of-append xs ys)
 
 -- a read or write of an end
-pub refusal-operate : (state : State) (side : Side) (end : NamedEnd) (address count : ℕ) → refusal state (OnEnd side end (Operate address count)) ≡ first_of (operation_reasons state side end address count)
-unfolding refusal
-refusal-operate state side end address count = refl
-
 pub performs-operate : (state : State) (side : Side) (end : NamedEnd) (address count : ℕ) → performs state (OnEnd side end (Operate address count)) ≡ operates state side end address count
 unfolding performs
 performs-operate state side end address count = refl

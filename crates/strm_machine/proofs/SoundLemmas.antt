@@ -7,7 +7,7 @@ use Rattle.std.proofs.lemmas.Bool.{cases_lt}
 use Rattle.std.proofs.lemmas.List.{get_or_past, length-map, map-append, get_or_append_left, map-set, get_or_push}
 use Rattle.std.proofs.lemmas.List.Elements.{All-set, All-push, All-weaker, All-get_or, All-nil}
 use Rattle.std.proofs.lemmas.List.Sums.{sum_by-append}
-use Rattle.strm_machine.specs.Words.{Guest, TransmitIndex, Payload, kind_of, payload_of, Handles, removed, no_handles, Entry, State, no_guest, no_stream, guest_in, with_handles, stream_at, Turn, ReturnCode, end_of, with_end, report_on, told_end, Gone, End, Writing, Reading, Side, sizes_of, IsPlaced, OperationIsPlaced, StreamIsPlaced, IsSound, Operation, Stream}
+use Rattle.strm_machine.specs.Words.{Guest, TransmitIndex, Payload, kind_of, payload_of, Handles, removed, no_handles, Entry, State, no_guest, no_stream, guest_in, with_handles, stream_at, Turn, ReturnCode, end_of, with_end, Gone, End, Writing, Reading, Side, sizes_of, IsPlaced, OperationIsPlaced, StreamIsPlaced, IsSound, Operation, Stream}
 use Rattle.strm_codes.specs.declared.codes.TransmitIndex.TheVariants as index
 use Rattle.strm_codes.specs.declared.payloads.Payload.TheVariants.{Nothing}
 use Rattle.strm_handles.specs.Handles.{inserted, inserted_in, entries_with}
@@ -16,7 +16,7 @@ use Rattle.strm_handles.specs.declared.entries.TransmitEnd.{TransmitEnd}
 use Rattle.strm_handles.specs.Ends.{read_end, write_end}
 use Rattle.strm_machine.specs.State.{memory_limit}
 use Rattle.strm_events.specs.Reports.{left_pending}
-use Rattle.strm_machine.specs.Endings.{delivered, dropped}
+use Rattle.strm_machine.specs.Endings.{dropped}
 use Rattle.strm_machine.specs.Making.{read_entry, write_entry, with_read_end, with_ends, made_stream, made_pair, with_stream}
 use Rattle.strm_machine.specs.Soundness.{handles_of, type_with, type_of, types_of, is_idle_state, IsNamed, EntryIsNamed, AreNamed}
 use Rattle.strm_machine.proofs.TurnLemmas.{GuestsKeep, TurnKeeps}
@@ -212,13 +212,6 @@ module _ (state : State) (frees : Bool) (g handle s : ℕ) (side : Side) (e : En
 pub left_told : (code : Option ReturnCode) (o : Option Operation) → IsLeft o (left_pending code o)
 left_told None o = inl refl
 left_told (Some code) o = inr refl
-
--- an end was told its report
-pub IsSound-delivered : (state : State) (s : ℕ) (side : Side) → s < length state.streams → IsSound state → IsSound (record state { streams = set state.streams s (delivered side (stream_at state s)) })
-unfolding delivered
-IsSound-delivered state s side l h =
-    let stream = stream_at state s in
-    IsSound-set state false 0 0 s side (told_end (report_on side stream) (end_of side stream)) l (left_told (report_on side stream) (end_of side stream).operation) h
 
 -- an end was dropped, and its handle freed
 pub IsSound-dropped : (state : State) (s : ℕ) (side : Side) (g handle : ℕ) → s < length state.streams → IsSound state → IsSound (record state { guests = guests_after true state.guests g handle; streams = set state.streams s (dropped side (stream_at state s)) })
