@@ -1,3 +1,5 @@
 pub mod LayoutLemmas
 pub mod PaddedLemmas
 pub mod ItemLemmas
+pub mod SamenessLemmas
+pub mod FormLemmas

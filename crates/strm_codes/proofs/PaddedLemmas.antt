@@ -1,5 +1,5 @@
 -- Lists at the front of an array.
-use Rattle.std.proofs.Common.{◌≡◌, ℕ, ◌+◌, ◌≤◌, ◌-◌, List, ◌++◌, length, take, drop, replicate, refl, arith, length-append, length-drop}
+use Rattle.std.proofs.Common.{◌≡◌, ℕ, ◌≤◌, ◌-◌, List, ◌++◌, length, drop, replicate, refl, arith, length-append, length-drop}
 use Rattle.std.proofs.lemmas.List.{take_at, drop-replicate, length-replicate}
 use Rattle.strm_codes.specs.Padded.{IsPadded}
 

@@ -1,6 +1,6 @@
 -- Return codes as words.
 -- Canonical ABI, `pack_copy_result` and `BLOCKED`; wasmtime, `ReturnCode::encode`.
-use Rattle.std.specs.Prelude.{ℕ, ◌+◌, ◌*◌, ◌/◌, ◌%◌, ◌<◌, ◌==◌, if◌then◌else◌, Option, Some, None}
+use Rattle.std.specs.Prelude.{ℕ, ◌+◌, ◌*◌, ◌/◌, ◌%◌, ◌==◌, if◌then◌else◌, Option, Some, None}
 use Rattle.strm_codes.specs.declared.codes.ReturnCode.{ReturnCode}
 use Rattle.strm_codes.specs.declared.codes.ReturnCode.TheVariants.{Blocked, Completed, Dropped, Cancelled}
 use Rattle.strm_codes.specs.declared.codes.TransmitKind.{TransmitKind}

@@ -17,9 +17,9 @@ abbrev pub gap_before : ℕ → ℕ → ℕ
 gap_before at size = (size - at % size) % size
 
 -- where the fields end, the first of which may begin at an offset
-abbrev pub end_of : ℕ → List Scalar → ℕ
-end_of at [] = at
-end_of at (s ∷ ss) = end_of (at + gap_before at (size_of s) + size_of s) ss
+abbrev pub end_offset : ℕ → List Scalar → ℕ
+end_offset at [] = at
+end_offset at (s ∷ ss) = end_offset (at + gap_before at (size_of s) + size_of s) ss
 
 -- the greatest alignment of the fields
 abbrev pub align_of : List Scalar → ℕ
@@ -28,7 +28,7 @@ align_of (s ∷ ss) = max (size_of s) (align_of ss)
 
 -- the bytes of an item: its fields, rounded up to its alignment
 abbrev pub item_size : List Scalar → ℕ
-item_size ss = end_of 0 ss + gap_before (end_of 0 ss) (align_of ss)
+item_size ss = end_offset 0 ss + gap_before (end_offset 0 ss) (align_of ss)
 
 -- a tuple of one number is no number
 abbrev pub is_number_payload : Payload → Bool

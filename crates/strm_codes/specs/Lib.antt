@@ -1,8 +1,10 @@
 pub mod Padded
 pub mod Scalars
 pub mod Layout
+pub mod Forms
 pub mod Sameness
 pub mod Items
+pub mod Counts
 pub mod Codes
 pub mod Types
 pub mod Refusals

@@ -3,6 +3,7 @@ use Rattle.std.specs.Prelude.{ℕ, List, codes}
 use Rattle.strm_codes.specs.declared.refusals.Refusal.{Refusal}
 use Rattle.strm_codes.specs.declared.refusals.Refusal.TheVariants.{UnknownGuest, UnknownHost, HostUsed, UnknownReader, StreamOpTooBig, OutOfBounds, NotAligned, UnknownHandle, WrongKind, WrongType, WrongEnd, ConcurrentFutureStreamOp, Busy, NoPending, CancelUnderWay, WriteToDroppedStream, WriteToDroppedFuture, ReadFromDroppedStream, FutureAlreadyRead, IntraComponent, LiftDropped, LiftInSet, SetNotEmpty, FutureWithoutValue, IndexOverflow, HandleLimit, Full, MemoryTooBig, BadText, MessageTooLong}
 
+-- a refusal's number, from 1 on
 abbrev pub refusal_number : Refusal → ℕ
 refusal_number UnknownGuest = 1
 refusal_number UnknownHost = 2
@@ -35,6 +36,7 @@ refusal_number MemoryTooBig = 28
 refusal_number BadText = 29
 refusal_number MessageTooLong = 30
 
+-- its name, as a reply prints it
 abbrev pub refusal_name : Refusal → List ℕ
 refusal_name UnknownGuest = codes "UnknownGuest"
 refusal_name UnknownHost = codes "UnknownHost"

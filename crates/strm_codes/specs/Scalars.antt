@@ -32,8 +32,8 @@ abbrev pub IsBelow : ℕ → ℤ → Type 0
 IsBelow limit x = (pos 0 ≤ℤ x) × (x <ℤ pos limit)
 
 -- from -half to below half
-abbrev pub IsWithin : ℕ → ℤ → Type 0
-IsWithin half x = (neg_ℤ (pos half) ≤ℤ x) × (x <ℤ pos half)
+abbrev pub IsSignedBelow : ℕ → ℤ → Type 0
+IsSignedBelow half x = (neg_ℤ (pos half) ≤ℤ x) × (x <ℤ pos half)
 
 -- the number as it is, 0 for one below 0
 abbrev pub magnitude : ℤ → ℕ
@@ -43,12 +43,12 @@ magnitude _ = 0
 -- the numbers that are items of a scalar
 abbrev pub FitsScalar : Scalar → ℤ → Type 0
 FitsScalar Flag x = IsBelow 2 x
-FitsScalar S8 x = IsWithin (2 ^ 7) x
+FitsScalar S8 x = IsSignedBelow (2 ^ 7) x
 FitsScalar U8 x = IsBelow (2 ^ 8) x
-FitsScalar S16 x = IsWithin (2 ^ 15) x
+FitsScalar S16 x = IsSignedBelow (2 ^ 15) x
 FitsScalar U16 x = IsBelow (2 ^ 16) x
-FitsScalar S32 x = IsWithin (2 ^ 31) x
+FitsScalar S32 x = IsSignedBelow (2 ^ 31) x
 FitsScalar U32 x = IsBelow (2 ^ 32) x
-FitsScalar S64 x = IsWithin (2 ^ 63) x
+FitsScalar S64 x = IsSignedBelow (2 ^ 63) x
 FitsScalar U64 x = IsBelow (2 ^ 64) x
 FitsScalar Char x = IsBelow (2 ^ 32) x × IsTrue (is_scalar_value (magnitude x))

@@ -4,6 +4,7 @@
 //! `futures_and_streams.rs`, `ReturnCode`, `TransmitKind`, `TransmitIndex`.
 
 ghost use Rattle.std.specs.Prelude.{◌≡◌, ◌≢◌, ℕ, ◌+◌, ◌*◌, ◌%◌, ◌<◌, ◌↔◌, Some, IsNone, IfSome};
+ghost use Rattle.strm_codes.specs.Counts.{count_limit};
 ghost use Rattle.strm_codes.specs.Codes.{word_of, code_of, count_of, completed_code};
 ghost use Rattle.strm_codes.specs.declared.codes.ReturnCode.{ReturnCode};
 
@@ -113,8 +114,8 @@ impl ReturnCode {
 
 /// Words tell codes apart: each code is read from its own word, and no other has that word.
 pub fn words_tell_codes()
-    ensures returns { (code : ReturnCode) → count_of code < 268435456 → code_of (word_of code) ≡ Some code }
-    ensures injective { (code other : ReturnCode) → count_of code < 268435456 → count_of other < 268435456 →
+    ensures returns { (code : ReturnCode) → count_of code < count_limit → code_of (word_of code) ≡ Some code }
+    ensures injective { (code other : ReturnCode) → count_of code < count_limit → count_of other < count_limit →
         word_of code ≡ word_of other → code ≡ other }
 {}
 

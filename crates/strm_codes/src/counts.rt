@@ -26,12 +26,13 @@ pub struct ItemCount {
 
 impl Model for ItemCount {
     ghost use Rattle.std.specs.Prelude.{ℕ, ◌<◌};
+    ghost use Rattle.strm_codes.specs.Counts.{count_limit};
 
     ghost Value = { ℕ };
 
     ghost view = { λ c. c.raw };
 
-    ghost invariant = { λ c. c.raw < 268435456 };
+    ghost invariant = { λ c. c.raw < count_limit };
 
     ghost inverse = { λ n. record { raw = n } };
 }
@@ -145,8 +146,9 @@ impl fmt::Display for ItemCount {
 }
 
 impl fmt::Debug for ItemCount {
+    ghost debug_output = { λ count. Some (decimal count) };
+
     fn fmt<W: fmt::Write>(&self, f: &mut fmt::Formatter<W>) -> fmt::Result {
-        let raw = self.raw;
-        write!(f, "{raw}")
+        fmt::Display::fmt(self, f)
     }
 }

@@ -3,9 +3,10 @@
 //! Source: Canonical ABI, "Alignment" and "Element Size"; the narrowing to scalars and tuples of
 //! scalars is ours.
 
-ghost use Rattle.std.specs.Prelude.{◌≡◌, ◌+◌, ◌<◌, ◌≤◌, ◌↔◌, length, IsSome, IfSome, slice_get, Some};
+ghost use Rattle.std.specs.Prelude.{◌≡◌, ◌+◌, ◌%◌, ◌<◌, ◌≤◌, ◌↔◌, length, IsTrue, IsSome, IfSome, slice_get, Some};
 ghost use Rattle.strm_codes.specs.Scalars.{size_of};
 ghost use Rattle.strm_codes.specs.Layout.{align_of, item_size, gap_before};
+ghost use Rattle.strm_codes.specs.Forms.{power_of, form_of, fields_of, align_in, size_in};
 
 use crate::scalars::Scalar;
 use std::marker::Model;
@@ -14,28 +15,30 @@ use std::marker::Model;
 #[derive(Clone, Copy, Debug)]
 pub struct Shape {
     fields: [Scalar; 8],
-    len: u8,
+    // How many fields there are, and the size and alignment of an item: found once, when the shape
+    // is made, and in one byte, since shapes are copied in every step.
+    form: u8,
 }
 
 impl Model for Shape {
-    ghost use Rattle.std.specs.Prelude.{ℕ, List, take, length, ◌≤◌};
-    ghost use Rattle.std.proofs.Common.{arith, length-take-le, sym};
-    ghost use Rattle.strm_codes.specs.Padded.{padded, IsPadded};
+    ghost use Rattle.std.specs.Prelude.{◌≡◌, ◌+◌, ◌%◌, List, take};
+    ghost use Rattle.std.proofs.Common.{sym};
     ghost use Rattle.strm_codes.specs.declared.scalars.Scalar.{Scalar};
     ghost use Rattle.strm_codes.specs.declared.scalars.Scalar.TheVariants.{Bool as Flag};
 
     ghost Value = { List Scalar };
 
-    ghost view = { λ s. take s.len s.fields };
+    ghost use Rattle.strm_codes.specs.Padded.{padded, IsPadded};
+    ghost use Rattle.strm_codes.specs.Forms.{form_of, fields_of};
 
-    ghost invariant = { λ s. IsPadded 8 Flag s.fields s.len × (1 ≤ s.len) };
+    ghost view = { λ s. take (s.form % 8 + 1) s.fields };
 
-    ghost inverse = { λ xs. record { fields = padded 8 Flag xs; len = length xs } };
+    ghost invariant = { λ s. IsPadded 8 Flag s.fields (fields_of s.form)
+        × (s.form ≡ form_of (take (fields_of s.form) s.fields)) };
 
-    ghost inverse_ok = { λ s h i. record {
-      fields = sym h.0.behind i;
-      len = length-take-le s.len s.fields (omega (arith, h.0.most, h.0.whole)) i;
-    } };
+    ghost inverse = { λ xs. record { fields = padded 8 Flag xs; form = form_of xs } };
+
+    ghost inverse_ok = { λ s h i. record { fields = sym h.0.behind i; form = sym h.1 i } };
 }
 
 impl Shape {
@@ -52,7 +55,7 @@ impl Shape {
         array[..len].copy_from_slice(fields);
         Some(Shape {
             fields: array,
-            len: len as u8,
+            form: form(fields),
         })
     }
 
@@ -62,7 +65,7 @@ impl Shape {
         ensures some { 1 ≤ result }
         ensures most { result ≤ 8 }
     {
-        self.len as usize
+        fields_in(self.form)
     }
 
     /// The scalar of a field, from 0.
@@ -78,17 +81,35 @@ impl Shape {
         ensures exact { result.now ≡ self.now }
         ensures most { length result.now ≤ 8 }
     {
-        &self.fields[..self.len as usize]
+        &self.fields[..fields_in(self.form)]
+    }
+
+    // The bytes of an item.
+    fn size(&self) -> u32
+        ensures exact { result ≡ item_size self.now }
+        ensures most { result ≤ 64 }
+    {
+        size_in(self.form)
+    }
+
+    // The alignment of an item.
+    fn align(&self) -> u32
+        ensures exact { result ≡ align_of self.now }
+        ensures some { 1 ≤ result }
+        ensures most { result ≤ 8 }
+    {
+        align_in(self.form)
     }
 }
 
 impl PartialEq for Shape {
-    ghost use Rattle.std.specs.Cmp.{partial_equiv_from_equiv};
-    ghost use Rattle.strm_codes.specs.Sameness.{same_scalars, same_scalars_is_equivalence};
+    ghost use Rattle.std.specs.Cmp.{partial_equiv_from_equiv, on_equiv, nat_eq_equiv};
+    ghost use Rattle.std.proofs.lemmas.Cmp.{lists_equiv};
+    ghost use Rattle.strm_codes.specs.Sameness.{scalar_number, same_scalars};
 
     ghost eq = { same_scalars };
 
-    ghost laws = { partial_equiv_from_equiv same_scalars_is_equivalence };
+    ghost laws = { partial_equiv_from_equiv (lists_equiv (on_equiv scalar_number nat_eq_equiv)) };
 
     fn eq(&self, other: &Shape) -> bool {
         self.as_slice() == other.as_slice()
@@ -96,9 +117,11 @@ impl PartialEq for Shape {
 }
 
 impl Eq for Shape {
-    ghost use Rattle.strm_codes.specs.Sameness.{same_scalars_is_equivalence};
+    ghost use Rattle.std.specs.Cmp.{on_equiv, nat_eq_equiv};
+    ghost use Rattle.std.proofs.lemmas.Cmp.{lists_equiv};
+    ghost use Rattle.strm_codes.specs.Sameness.{scalar_number};
 
-    ghost laws = { same_scalars_is_equivalence };
+    ghost laws = { lists_equiv (on_equiv scalar_number nat_eq_equiv) };
 }
 
 /// What one item is: nothing, a scalar, or a tuple of scalars.
@@ -129,7 +152,11 @@ impl Payload {
         ensures exact { result ≡ item_size (scalars_of self.now) }
         ensures most { result ≤ 64 }
     {
-        size_of_scalars(self.scalars())
+        match self {
+            Payload::Nothing => 0,
+            Payload::One(scalar) => scalar.size(),
+            Payload::Tuple(shape) => shape.size(),
+        }
     }
 
     /// The alignment of an item, in bytes.
@@ -138,7 +165,18 @@ impl Payload {
         ensures some { 1 ≤ result }
         ensures most { result ≤ 8 }
     {
-        align_of_scalars(self.scalars())
+        match self {
+            Payload::Nothing => 1,
+            Payload::One(scalar) => scalar.size(),
+            Payload::Tuple(shape) => shape.align(),
+        }
+    }
+
+    /// Whether an address is a multiple of the alignment of an item.
+    pub fn is_aligned(&self, address: u32) -> bool
+        ensures { IsTrue result ↔ (address % align_of (scalars_of self.now) ≡ 0) }
+    {
+        address & (self.align() - 1) == 0
     }
 
     /// One of the eight whole numbers, alone.
@@ -153,12 +191,15 @@ impl Payload {
 }
 
 impl PartialEq for Payload {
-    ghost use Rattle.std.specs.Cmp.{partial_equiv_from_equiv};
-    ghost use Rattle.strm_codes.specs.Sameness.{same_payload, same_payload_is_equivalence};
+    ghost use Rattle.std.specs.Cmp.{partial_equiv_from_equiv, and_equiv, on_equiv, nat_eq_equiv};
+    ghost use Rattle.std.proofs.lemmas.Cmp.{lists_equiv};
+    ghost use Rattle.strm_codes.specs.Layout.{scalars_of};
+    ghost use Rattle.strm_codes.specs.Sameness.{scalar_number, form_number, same_payload};
 
     ghost eq = { same_payload };
 
-    ghost laws = { partial_equiv_from_equiv same_payload_is_equivalence };
+    ghost laws = { partial_equiv_from_equiv (and_equiv (on_equiv form_number nat_eq_equiv)
+        (on_equiv scalars_of (lists_equiv (on_equiv scalar_number nat_eq_equiv)))) };
 
     fn eq(&self, other: &Payload) -> bool {
         match (self, other) {
@@ -171,13 +212,17 @@ impl PartialEq for Payload {
 }
 
 impl Eq for Payload {
-    ghost use Rattle.strm_codes.specs.Sameness.{same_payload_is_equivalence};
+    ghost use Rattle.std.specs.Cmp.{and_equiv, on_equiv, nat_eq_equiv};
+    ghost use Rattle.std.proofs.lemmas.Cmp.{lists_equiv};
+    ghost use Rattle.strm_codes.specs.Layout.{scalars_of};
+    ghost use Rattle.strm_codes.specs.Sameness.{scalar_number, form_number};
 
-    ghost laws = { same_payload_is_equivalence };
+    ghost laws = { and_equiv (on_equiv form_number nat_eq_equiv)
+        (on_equiv scalars_of (lists_equiv (on_equiv scalar_number nat_eq_equiv))) };
 }
 
-/// The bytes from an offset to the next multiple of a size.
-pub fn gap(at: u32, size: u32) -> u32
+// The bytes from an offset to the next multiple of a size.
+fn gap(at: u32, size: u32) -> u32
     requires { 0 < size }
     ensures { result ≡ gap_before at size }
 {
@@ -215,4 +260,48 @@ fn align_of_scalars(scalars: &[Scalar]) -> u32
         align = align.max(scalar.size());
     }
     align
+}
+
+// How many fields there are, less 1, then the alignment as a power of two, then the size in
+// alignments, less 1.
+fn form(fields: &[Scalar]) -> u8
+    requires some { 1 ≤ length fields.now }
+    requires most { length fields.now ≤ 8 }
+    ensures { result ≡ form_of fields.now }
+{
+    let power = power(align_of_scalars(fields));
+    let units = size_of_scalars(fields) >> power;
+    (fields.len() as u32 - 1 + 8 * power + 32 * (units - 1)) as u8
+}
+
+fn power(align: u32) -> u32
+    ensures exact { result ≡ power_of align }
+    ensures most { result ≤ 3 }
+{
+    match align {
+        1 => 0,
+        2 => 1,
+        4 => 2,
+        _ => 3,
+    }
+}
+
+fn fields_in(form: u8) -> usize
+    ensures exact { result ≡ fields_of form }
+    ensures some { 1 ≤ result }
+    ensures most { result ≤ 8 }
+{
+    form as usize % 8 + 1
+}
+
+fn align_in(form: u8) -> u32
+    ensures { result ≡ align_in form }
+{
+    1 << (u32::from(form) / 8 % 4)
+}
+
+fn size_in(form: u8) -> u32
+    ensures { result ≡ size_in form }
+{
+    (u32::from(form) / 32 + 1) << (u32::from(form) / 8 % 4)
 }

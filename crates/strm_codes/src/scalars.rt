@@ -65,12 +65,12 @@ impl Scalar {
 }
 
 impl PartialEq for Scalar {
-    ghost use Rattle.std.specs.Cmp.{partial_equiv_from_equiv};
-    ghost use Rattle.strm_codes.specs.Sameness.{same_scalar, same_scalar_is_equivalence};
+    ghost use Rattle.std.specs.Cmp.{partial_equiv_from_equiv, on_equiv, nat_eq_equiv};
+    ghost use Rattle.strm_codes.specs.Sameness.{scalar_number, same_scalar};
 
     ghost eq = { same_scalar };
 
-    ghost laws = { partial_equiv_from_equiv same_scalar_is_equivalence };
+    ghost laws = { partial_equiv_from_equiv (on_equiv scalar_number nat_eq_equiv) };
 
     fn eq(&self, other: &Scalar) -> bool {
         *self as u8 == *other as u8
@@ -78,9 +78,10 @@ impl PartialEq for Scalar {
 }
 
 impl Eq for Scalar {
-    ghost use Rattle.strm_codes.specs.Sameness.{same_scalar_is_equivalence};
+    ghost use Rattle.std.specs.Cmp.{on_equiv, nat_eq_equiv};
+    ghost use Rattle.strm_codes.specs.Sameness.{scalar_number};
 
-    ghost laws = { same_scalar_is_equivalence };
+    ghost laws = { on_equiv scalar_number nat_eq_equiv };
 }
 
 fn is_scalar_value(number: i128) -> bool

@@ -42,6 +42,7 @@ abbrev pub report_of : TransmitKind → Option Pending → Bool → Bool → Boo
 report_of kind None other_gone told passed = idle_report other_gone told passed
 report_of kind (Some pending) other_gone told passed = operation_report kind pending other_gone passed
 
+-- a code that tells that the other end is gone
 abbrev pub is_dropped : ReturnCode → Bool
 is_dropped (codes.Dropped n) = true
 is_dropped _ = false

@@ -2,13 +2,13 @@
 use Rattle.std.proofs.Common.{◌≡◌, ◌≢◌, ℕ, zero, suc, ◌+◌, ◌-◌, ◌<◌, ◌≤◌, List, [], ◌∷◌, ◌++◌, length, get_or, set, map, Option, Some, None, refl, sym, ap, ◌∙◌, subst, arith}
 use Rattle.std.proofs.lemmas.List.{get_or-set_other, get_or-set_same, get_or_append_left, get_or_read_under, get_or-map, map-set, length-map}
 use Rattle.std.proofs.lemmas.List.Elements.{All-head, All-tail}
-use Rattle.std.specs.Prelude.{All, IsSome, ◌^◌}
+use Rattle.std.specs.Prelude.{All, IsSome}
 use Rattle.std.proofs.Common.{add-one}
-use Rattle.strm_handles.specs.Handles.{next_index, entry_in, IsFreed, IsSound, inserted, removed, with_entry}
+use Rattle.strm_handles.specs.Handles.{handle_limit, next_index, entry_in, IsFreed, IsTable, inserted, removed, with_entry}
 use Rattle.strm_handles.specs.Chain.{entry_of, before, slot_at, chain, handles_in}
 use Rattle.strm_handles.specs.declared.slots.Slot.{Slot}
 use Rattle.strm_handles.specs.declared.slots.Slot.TheVariants.{Free, Full}
-use Rattle.strm_handles.proofs.HandleLemmas.{given, apart-freed, IsSound-inserted, IsSound-removed, IsSound-with_entry}
+use Rattle.strm_handles.proofs.HandleLemmas.{given, apart-freed, IsTable-inserted, IsTable-removed, IsTable-with_entry}
 
 module _ {E : Type 0} where
   pub length-chain : (slots : List (Slot E)) (n i : ℕ) → length (chain slots n i) ≡ n
@@ -52,12 +52,12 @@ module _ {E : Type 0} where
   above_index : (es : List (Option E)) (n : ℕ) (e : E) → entry_in es n ≡ Some e → n ≡ suc (n - 1)
   above_index es n e is = omega (arith, (given es n e is).0)
 
-  changed_at : (slots : List (Slot E)) (free first n at : ℕ) (old e : E) → n ≡ suc at → entry_in (map entry_of slots) n ≡ Some old → IsSound (handles_in slots free first) → handles_in (set slots at (Full e)) free first ≡ with_entry (handles_in slots free first) n e
+  changed_at : (slots : List (Slot E)) (free first n at : ℕ) (old e : E) → n ≡ suc at → entry_in (map entry_of slots) n ≡ Some old → IsTable (handles_in slots free first) → handles_in (set slots at (Full e)) free first ≡ with_entry (handles_in slots free first) n e
   changed_at slots free first n at old e same is s =
       let apart = rw same at (apart-freed (map entry_of slots) (chain slots free first) n old is s.free) in
       rw (same, map-set entry_of slots at (Full e), chain-set slots free first at (Full e) apart) refl
 
-  freed_at : (slots : List (Slot E)) (free first n at : ℕ) (old : E) → n ≡ suc at → entry_in (map entry_of slots) n ≡ Some old → IsSound (handles_in slots free first) → handles_in (set slots at (Free first)) (free + 1) at ≡ removed (handles_in slots free first) n
+  freed_at : (slots : List (Slot E)) (free first n at : ℕ) (old : E) → n ≡ suc at → entry_in (map entry_of slots) n ≡ Some old → IsTable (handles_in slots free first) → handles_in (set slots at (Free first)) (free + 1) at ≡ removed (handles_in slots free first) n
   freed_at slots free first n at old same is s =
       let apart = rw same at (apart-freed (map entry_of slots) (chain slots free first) n old is s.free) in
       let inside : at < length slots = omega (arith, (given (map entry_of slots) n old is).1, length-map slots entry_of) in
@@ -65,20 +65,20 @@ module _ {E : Type 0} where
       rw (same, add-one, here, map-set entry_of slots at (Free first), chain-set slots free first at (Free first) apart) refl
 
   -- a number's slot, with another entry
-  pub slot_changed : (slots : List (Slot E)) (free first n : ℕ) (e : E) → IsSome (entry_in (map entry_of slots) n) → IsSound (handles_in slots free first) → IsSound (handles_in (set slots (n - 1) (Full e)) free first) × (handles_in (set slots (n - 1) (Full e)) free first ≡ with_entry (handles_in slots free first) n e)
+  pub slot_changed : (slots : List (Slot E)) (free first n : ℕ) (e : E) → IsSome (entry_in (map entry_of slots) n) → IsTable (handles_in slots free first) → IsTable (handles_in (set slots (n - 1) (Full e)) free first) × (handles_in (set slots (n - 1) (Full e)) free first ≡ with_entry (handles_in slots free first) n e)
   slot_changed slots free first n e here s =
       let old = entry_from_some (entry_in (map entry_of slots) n) here in
       let change = changed_at slots free first n (n - 1) old.0 e (above_index (map entry_of slots) n old.0 old.1) old.1 s in
-      (subst IsSound (sym change) (IsSound-with_entry (handles_in slots free first) n old.0 e old.1 s), change)
+      (subst IsTable (sym change) (IsTable-with_entry (handles_in slots free first) n old.0 e old.1 s), change)
 
   -- a number's slot, freed
-  pub slot_freed : (slots : List (Slot E)) (free first n : ℕ) → IsSome (entry_in (map entry_of slots) n) → IsSound (handles_in slots free first) → IsSound (handles_in (set slots (n - 1) (Free first)) (free + 1) (n - 1)) × (handles_in (set slots (n - 1) (Free first)) (free + 1) (n - 1) ≡ removed (handles_in slots free first) n)
+  pub slot_freed : (slots : List (Slot E)) (free first n : ℕ) → IsSome (entry_in (map entry_of slots) n) → IsTable (handles_in slots free first) → IsTable (handles_in (set slots (n - 1) (Free first)) (free + 1) (n - 1)) × (handles_in (set slots (n - 1) (Free first)) (free + 1) (n - 1) ≡ removed (handles_in slots free first) n)
   slot_freed slots free first n here s =
       let old = entry_from_some (entry_in (map entry_of slots) n) here in
       let change = freed_at slots free first n (n - 1) old.0 (above_index (map entry_of slots) n old.0 old.1) old.1 s in
-      (subst IsSound (sym change) (IsSound-removed (handles_in slots free first) n old.0 old.1 s), change)
+      (subst IsTable (sym change) (IsTable-removed (handles_in slots free first) n old.0 old.1 s), change)
 
-  taken_at : (slots : List (Slot E)) (free first next : ℕ) (e : E) → 0 < free → slot_at slots first ≡ Free next → IsSound (handles_in slots free first) → handles_in (set slots first (Full e)) (free - 1) next ≡ inserted (handles_in slots free first) e
+  taken_at : (slots : List (Slot E)) (free first next : ℕ) (e : E) → 0 < free → slot_at slots first ≡ Free next → IsTable (handles_in slots free first) → handles_in (set slots first (Full e)) (free - 1) next ≡ inserted (handles_in slots free first) e
   taken_at slots zero first next e some is s = absurd (omega arith)
   taken_at slots (suc m) first next e some is s =
       let less : suc m - 1 ≡ m = omega arith in
@@ -86,33 +86,33 @@ module _ {E : Type 0} where
       let apart = rw then at s.apart.0 in
       rw (less, then, map-set entry_of slots first (Full e), chain-set slots m next first (Full e) apart) refl
 
-  first_freed : (slots : List (Slot E)) (free first : ℕ) → 0 < free → IsSound (handles_in slots free first) → IsFreed (map entry_of slots) (suc first)
+  first_freed : (slots : List (Slot E)) (free first : ℕ) → 0 < free → IsTable (handles_in slots free first) → IsFreed (map entry_of slots) (suc first)
   first_freed slots zero first some s = absurd (omega arith)
   first_freed slots (suc m) first some s =
       All-head (IsFreed (map entry_of slots)) (suc first) (chain slots m (before (slot_at slots first))) s.free
 
-  first_inside : (slots : List (Slot E)) (free first : ℕ) → 0 < free → IsSound (handles_in slots free first) → first < length slots
+  first_inside : (slots : List (Slot E)) (free first : ℕ) → 0 < free → IsTable (handles_in slots free first) → first < length slots
   first_inside slots free first some s =
       omega (arith, (first_freed slots free first some s).given, length-map slots entry_of)
 
   -- the slot freed last holds no entry
-  pub first_is_free : (slots : List (Slot E)) (free first : ℕ) (x : Slot E) (e : E) → 0 < free → IsSound (handles_in slots free first) → x ≡ get_or slots first x → x ≡ Full e → ⊥
+  pub first_is_free : (slots : List (Slot E)) (free first : ℕ) (x : Slot E) (e : E) → 0 < free → IsTable (handles_in slots free first) → x ≡ get_or slots first x → x ≡ Full e → ⊥
   first_is_free slots free first x e some s read is =
       let inside = first_inside slots free first some s in
       let full = entry_in-map slots first (Full e) inside (slot_read slots first x (Full e) read is inside) in
       cc ((first_freed slots free first some s).free, full)
 
   -- the slot freed last, taken by an entry
-  pub slot_taken : (slots : List (Slot E)) (free first next : ℕ) (x : Slot E) (e : E) → 0 < free → x ≡ get_or slots first x → x ≡ Free next → next_index (handles_in slots free first) < 2 ^ 28 → IsSound (handles_in slots free first) → IsSound (handles_in (set slots first (Full e)) (free - 1) next) × (handles_in (set slots first (Full e)) (free - 1) next ≡ inserted (handles_in slots free first) e)
+  pub slot_taken : (slots : List (Slot E)) (free first next : ℕ) (x : Slot E) (e : E) → 0 < free → x ≡ get_or slots first x → x ≡ Free next → next_index (handles_in slots free first) < handle_limit → IsTable (handles_in slots free first) → IsTable (handles_in (set slots first (Full e)) (free - 1) next) × (handles_in (set slots first (Full e)) (free - 1) next ≡ inserted (handles_in slots free first) e)
   slot_taken slots free first next x e some read is small s =
       let inside = first_inside slots free first some s in
       let change = taken_at slots free first next e some (slot_read slots first x (Free next) read is inside) s in
-      (subst IsSound (sym change) (IsSound-inserted (handles_in slots free first) e s small), change)
+      (subst IsTable (sym change) (IsTable-inserted (handles_in slots free first) e s small), change)
 
-  pub few_free : (slots : List (Slot E)) (free first : ℕ) → IsSound (handles_in slots free first) → free < 2 ^ 28
+  pub few_free : (slots : List (Slot E)) (free first : ℕ) → IsTable (handles_in slots free first) → free < handle_limit
   few_free slots free first s = omega (arith, s.all, s.small, length-chain slots free first)
 
-  second_freed : (slots : List (Slot E)) (free first next : ℕ) → 1 < free → slot_at slots first ≡ Free next → IsSound (handles_in slots free first) → IsFreed (map entry_of slots) (suc next)
+  second_freed : (slots : List (Slot E)) (free first next : ℕ) → 1 < free → slot_at slots first ≡ Free next → IsTable (handles_in slots free first) → IsFreed (map entry_of slots) (suc next)
   second_freed slots zero first next some is s = absurd (omega arith)
   second_freed slots (suc zero) first next some is s = absurd (omega arith)
   second_freed slots (suc (suc m)) first next some is s =
@@ -126,7 +126,7 @@ module _ {E : Type 0} where
   second_next slots (suc (suc m)) first next e some is = rw is (add-one next)
 
   -- the slot that was freed before the one freed last
-  pub second_is : (slots : List (Slot E)) (free first next : ℕ) (x : Slot E) → 1 < free → x ≡ get_or slots first x → x ≡ Free next → IsSound (handles_in slots free first) → ((e : E) → next + 1 ≡ next_index (inserted (handles_in slots free first) e)) × (next + 1 < 2 ^ 28)
+  pub second_is : (slots : List (Slot E)) (free first next : ℕ) (x : Slot E) → 1 < free → x ≡ get_or slots first x → x ≡ Free next → IsTable (handles_in slots free first) → ((e : E) → next + 1 ≡ next_index (inserted (handles_in slots free first) e)) × (next + 1 < handle_limit)
   second_is slots free first next x some read is s =
       let inside = first_inside slots free first (omega arith) s in
       let at = slot_read slots first x (Free next) read is inside in

@@ -1,12 +1,12 @@
 -- Handles after an insert, a removal and a change of an entry: what each number stands for, how many
 -- are live, and that the freed numbers stay sound.
-use Rattle.std.proofs.Common.{◌≡◌, ◌≢◌, ℕ, zero, suc, ◌+◌, ◌^◌, ◌<◌, ◌≤◌, List, [], ◌∷◌, ◌++◌, length, get_or, set, sum_by, Option, Some, None, refl, sym, ap, ◌∙◌, arith, length-append, length-set, ⊎_elim}
+use Rattle.std.proofs.Common.{◌≡◌, ◌≢◌, ℕ, zero, suc, ◌+◌, ◌<◌, ◌≤◌, List, [], ◌∷◌, ◌++◌, length, get_or, set, sum_by, Option, Some, None, refl, sym, ap, ◌∙◌, arith, length-append, length-set, ⊎_elim}
 use Rattle.std.proofs.lemmas.List.{get_or-set_same, get_or-set_other, get_or_append_left, get_or_past, get_or_push}
 use Rattle.std.proofs.lemmas.List.Elements.{All-head, All-tail, All-cons}
 use Rattle.std.proofs.lemmas.List.Sums.{sum_by-set, sum_by_push, get_or-le-sum_by}
 use Rattle.std.proofs.lemmas.Bool.{cases_lt}
 use Rattle.std.specs.Prelude.{All}
-use Rattle.strm_handles.specs.Handles.{HandlesOf, Handles, no_handles, entry_in, entry_at, next_of, next_index, entries_with, inserted_in, inserted, removed, with_entry, occupied_in, occupied, IsFreed, IsSound, lends_of, lends_in, live_of}
+use Rattle.strm_handles.specs.Handles.{handle_limit, HandlesOf, Handles, no_handles, entry_in, entry_at, next_of, next_index, entries_with, inserted_in, inserted, removed, with_entry, occupied_in, occupied, IsFreed, IsTable, lends_of, lends_in, live_of}
 use Rattle.strm_handles.specs.declared.entries.Entry.{Entry}
 
 module _ {E : Type 0} where
@@ -75,15 +75,15 @@ module _ {E : Type 0} where
   first_freed : (es : List (Option E)) (n : ℕ) (ns : List ℕ) → All (IsFreed es) (n ∷ ns) → IsFreed es n
   first_freed es n ns all = All-head (IsFreed es) n ns all
 
-  at_next : (es : List (Option E)) (ns : List ℕ) → IsSound (record { entries = es; freed = ns }) → entry_in es (next_of ns (length es)) ≡ None
+  at_next : (es : List (Option E)) (ns : List ℕ) → IsTable (record { entries = es; freed = ns }) → entry_in es (next_of ns (length es)) ≡ None
   at_next es [] s = entry_in-past es (length es + 1) (omega arith)
   at_next es (n ∷ ns) s = (first_freed es n ns s.free).free
 
-  next_bounds : (es : List (Option E)) (ns : List ℕ) → IsSound (record { entries = es; freed = ns }) → (0 < next_of ns (length es)) × (next_of ns (length es) ≤ 2 ^ 28)
+  next_bounds : (es : List (Option E)) (ns : List ℕ) → IsTable (record { entries = es; freed = ns }) → (0 < next_of ns (length es)) × (next_of ns (length es) ≤ handle_limit)
   next_bounds es [] s = (omega arith, omega (arith, s.small))
   next_bounds es (n ∷ ns) s = let f = first_freed es n ns s.free in (f.some, omega (arith, f.given, s.small))
 
-  inserted_same : (es : List (Option E)) (ns : List ℕ) (e : E) → IsSound (record { entries = es; freed = ns }) → entry_at (inserted_in es ns e) (next_of ns (length es)) ≡ Some e
+  inserted_same : (es : List (Option E)) (ns : List ℕ) (e : E) → IsTable (record { entries = es; freed = ns }) → entry_at (inserted_in es ns e) (next_of ns (length es)) ≡ Some e
   inserted_same es [] e s = entry_in-push-same es (length es + 1) (Some e) refl
   inserted_same es (n ∷ ns) e s = let f = first_freed es n ns s.free in entry_in-entries_with-same es n (Some e) f.some f.given
 
@@ -92,14 +92,14 @@ module _ {E : Type 0} where
   inserted_other es (n ∷ ns) e k ne = entry_in-entries_with-other es n k (Some e) ne
 
   -- a sum over the entries after an insert, where nothing adds nothing
-  inserted_sum : (f : Option E → ℕ) → f None ≡ 0 → (es : List (Option E)) (ns : List ℕ) (e : E) → IsSound (record { entries = es; freed = ns }) → sum_by f (inserted_in es ns e).entries ≡ sum_by f es + f (Some e)
+  inserted_sum : (f : Option E → ℕ) → f None ≡ 0 → (es : List (Option E)) (ns : List ℕ) (e : E) → IsTable (record { entries = es; freed = ns }) → sum_by f (inserted_in es ns e).entries ≡ sum_by f es + f (Some e)
   inserted_sum f zero_none es [] e s = sum_by_push f es (Some e)
   inserted_sum f zero_none es (n ∷ ns) e s =
       let freed = first_freed es n ns s.free in
       let nothing : f (entry_in es n) ≡ 0 = ap f freed.free ∙ zero_none in
       omega (arith, sum_by-entries_with f es n (Some e) freed.some freed.given, nothing)
 
-  sound_inserted : (es : List (Option E)) (ns : List ℕ) (e : E) → IsSound (record { entries = es; freed = ns }) → next_of ns (length es) < 2 ^ 28 → IsSound (inserted_in es ns e)
+  sound_inserted : (es : List (Option E)) (ns : List ℕ) (e : E) → IsTable (record { entries = es; freed = ns }) → next_of ns (length es) < handle_limit → IsTable (inserted_in es ns e)
   sound_inserted es [] e s l = record {
     free = λ k d h. absurd (omega arith);
     apart = tt;
@@ -117,7 +117,7 @@ module _ {E : Type 0} where
   pub apart-freed : (es : List (Option E)) (ns : List ℕ) (n : ℕ) (e : E) → entry_in es n ≡ Some e → All (IsFreed es) ns → All (λ k. n ≢ k) ns
   apart-freed es ns n e is all = λ k d h same. let free = (all k d h).free in let here = rw (← same) at free in cc
 
-  sound_removed : (es : List (Option E)) (ns : List ℕ) (n : ℕ) (e : E) → entry_in es n ≡ Some e → IsSound (record { entries = es; freed = ns }) → IsSound (record { entries = entries_with es n None; freed = n ∷ ns })
+  sound_removed : (es : List (Option E)) (ns : List ℕ) (n : ℕ) (e : E) → entry_in es n ≡ Some e → IsTable (record { entries = es; freed = ns }) → IsTable (record { entries = entries_with es n None; freed = n ∷ ns })
   sound_removed es ns n e is s =
       let g = given es n e is in
       let apart = apart-freed es ns n e is s.free in
@@ -134,7 +134,7 @@ module _ {E : Type 0} where
         small = omega (arith, s.small, length-entries_with es n None);
       }
 
-  sound_with_entry : (es : List (Option E)) (ns : List ℕ) (n : ℕ) (old e : E) → entry_in es n ≡ Some old → IsSound (record { entries = es; freed = ns }) → IsSound (record { entries = entries_with es n (Some e); freed = ns })
+  sound_with_entry : (es : List (Option E)) (ns : List ℕ) (n : ℕ) (old e : E) → entry_in es n ≡ Some old → IsTable (record { entries = es; freed = ns }) → IsTable (record { entries = entries_with es n (Some e); freed = ns })
   sound_with_entry es ns n old e is s =
       let g = given es n old is in
       let apart = apart-freed es ns n old is s.free in
@@ -147,38 +147,38 @@ module _ {E : Type 0} where
       }
 
   -- a new table is sound, and each change keeps it so
-  pub IsSound-no_handles : IsSound {E = E} no_handles
-  IsSound-no_handles = record {
+  pub IsTable-no_handles : IsTable {E = E} no_handles
+  IsTable-no_handles = record {
     free = λ k d h. absurd (omega arith);
     apart = tt;
     all = omega arith;
     small = omega arith;
   }
 
-  pub IsSound-inserted : (h : HandlesOf E) (e : E) → IsSound h → next_index h < 2 ^ 28 → IsSound (inserted h e)
-  IsSound-inserted h e s l = sound_inserted h.entries h.freed e s l
+  pub IsTable-inserted : (h : HandlesOf E) (e : E) → IsTable h → next_index h < handle_limit → IsTable (inserted h e)
+  IsTable-inserted h e s l = sound_inserted h.entries h.freed e s l
 
-  pub IsSound-removed : (h : HandlesOf E) (n : ℕ) (e : E) → entry_at h n ≡ Some e → IsSound h → IsSound (removed h n)
-  IsSound-removed h n e is s = sound_removed h.entries h.freed n e is s
+  pub IsTable-removed : (h : HandlesOf E) (n : ℕ) (e : E) → entry_at h n ≡ Some e → IsTable h → IsTable (removed h n)
+  IsTable-removed h n e is s = sound_removed h.entries h.freed n e is s
 
-  pub IsSound-with_entry : (h : HandlesOf E) (n : ℕ) (old e : E) → entry_at h n ≡ Some old → IsSound h → IsSound (with_entry h n e)
-  IsSound-with_entry h n old e is s = sound_with_entry h.entries h.freed n old e is s
+  pub IsTable-with_entry : (h : HandlesOf E) (n : ℕ) (old e : E) → entry_at h n ≡ Some old → IsTable h → IsTable (with_entry h n e)
+  IsTable-with_entry h n old e is s = sound_with_entry h.entries h.freed n old e is s
 
   -- a number that stands for something is none that is given next; all are from 1 to 2^28
-  pub entry_at-next_index : (h : HandlesOf E) → IsSound h → entry_at h (next_index h) ≡ None
+  pub entry_at-next_index : (h : HandlesOf E) → IsTable h → entry_at h (next_index h) ≡ None
   entry_at-next_index h s = at_next h.entries h.freed s
 
-  pub some-next_index : (h : HandlesOf E) → IsSound h → 0 < next_index h
+  pub some-next_index : (h : HandlesOf E) → IsTable h → 0 < next_index h
   some-next_index h s = (next_bounds h.entries h.freed s).0
 
-  pub most-next_index : (h : HandlesOf E) → IsSound h → next_index h ≤ 2 ^ 28
+  pub most-next_index : (h : HandlesOf E) → IsTable h → next_index h ≤ handle_limit
   most-next_index h s = (next_bounds h.entries h.freed s).1
 
-  pub small-entry_at : (h : HandlesOf E) (n : ℕ) (e : E) → IsSound h → entry_at h n ≡ Some e → n < 2 ^ 28
+  pub small-entry_at : (h : HandlesOf E) (n : ℕ) (e : E) → IsTable h → entry_at h n ≡ Some e → n < handle_limit
   small-entry_at h n e s is = let g = given h.entries n e is in omega (arith, g.1, s.small)
 
   -- what each number stands for
-  pub entry_at-inserted-same : (h : HandlesOf E) (e : E) → IsSound h → entry_at (inserted h e) (next_index h) ≡ Some e
+  pub entry_at-inserted-same : (h : HandlesOf E) (e : E) → IsTable h → entry_at (inserted h e) (next_index h) ≡ Some e
   entry_at-inserted-same h e s = inserted_same h.entries h.freed e s
 
   pub entry_at-inserted-other : (h : HandlesOf E) (e : E) (n : ℕ) → n ≢ next_index h → entry_at (inserted h e) n ≡ entry_at h n
@@ -212,7 +212,7 @@ module _ {E : Type 0} where
   next_index-with_entry h n e = ap (next_of h.freed) (length-entries_with h.entries n (Some e))
 
   -- how many are occupied
-  pub occupied-inserted : (h : HandlesOf E) (e : E) → IsSound h → occupied (inserted h e) ≡ occupied h + 1
+  pub occupied-inserted : (h : HandlesOf E) (e : E) → IsTable h → occupied (inserted h e) ≡ occupied h + 1
   occupied-inserted h e s = inserted_sum occupied_in refl h.entries h.freed e s
 
   pub occupied-removed : (h : HandlesOf E) (n : ℕ) (e : E) → entry_at h n ≡ Some e → occupied (removed h n) + 1 ≡ occupied h
@@ -231,7 +231,7 @@ module _ {E : Type 0} where
 pub live_of-no_handles : live_of no_handles ≡ 0
 live_of-no_handles = refl
 
-pub live_of-inserted : (h : Handles) (e : Entry) → IsSound h → live_of (inserted h e) ≡ live_of h + 1 + lends_of e
+pub live_of-inserted : (h : Handles) (e : Entry) → IsTable h → live_of (inserted h e) ≡ live_of h + 1 + lends_of e
 live_of-inserted h e s =
     omega (arith, occupied-inserted h e s, inserted_sum lends_in refl h.entries h.freed e s)
 

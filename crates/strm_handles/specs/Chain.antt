@@ -4,7 +4,7 @@ use Rattle.std.specs.Vec.{vec_capacity}
 use Rattle.strm_handles.specs.declared.slots.Slot.{Slot}
 use Rattle.strm_handles.specs.declared.slots.Slot.TheVariants.{Free, Full}
 use Rattle.strm_handles.specs.declared.slots.Slots.TheInside.{Inside}
-use Rattle.strm_handles.specs.Handles.{HandlesOf, TableOf, IsSound}
+use Rattle.strm_handles.specs.Handles.{HandlesOf, TableOf, IsTable}
 
 module _ {E : Type 0} where
   -- what a slot stands for
@@ -40,4 +40,4 @@ module _ {E : Type 0} where
 
   -- the thread goes through the free slots, each once
   abbrev pub IsThreaded : Inside E → Type 0
-  IsThreaded t = IsSound (handles_in t.slots.items t.free t.first)
+  IsThreaded t = IsTable (handles_in t.slots.items t.free t.first)

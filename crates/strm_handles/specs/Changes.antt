@@ -1,16 +1,16 @@
 -- What an insert answers, and what inserts and removals change.
 -- wasmtime, `handle_table.rs`, `HandleTable::insert` and `remove`; the order of the refusals is ours.
-use Rattle.std.specs.Prelude.{◌≡◌, ◌≢◌, ℕ, ◌+◌, ◌^◌, ◌<◌, ◌≤◌, nat_le, if◌then◌else◌, Result, Ok, Err, IsOk, IfOk, OnOk, OnErr}
+use Rattle.std.specs.Prelude.{◌≡◌, ◌≢◌, ℕ, ◌+◌, ◌<◌, ◌≤◌, nat_le, if◌then◌else◌, Result, Ok, Err, IsOk, IfOk, OnOk, OnErr}
 use Rattle.strm_handles.specs.declared.errors.HandleError.{HandleError}
 use Rattle.strm_handles.specs.declared.errors.HandleError.TheVariants.{IndexOverflow, HandleLimit, OutOfMemory}
 use Rattle.strm_handles.specs.Counters.{Counter, counted, uncounted}
-use Rattle.strm_handles.specs.Handles.{HandlesOf, TableOf, next_index, inserted, removed}
+use Rattle.strm_handles.specs.Handles.{handle_limit, HandlesOf, TableOf, next_index, inserted, removed}
 
 module _ {E : Type 0} where
   -- what an insert answers where memory is there
   abbrev pub insert_answer : HandlesOf E → Counter → Result ℕ HandleError
   insert_answer h counter =
-      if nat_le (2 ^ 28) (next_index h) then Err IndexOverflow
+      if nat_le handle_limit (next_index h) then Err IndexOverflow
       else (if nat_le counter.limit counter.live then Err HandleLimit
       else Ok (next_index h))
 
@@ -21,7 +21,7 @@ module _ {E : Type 0} where
     pub last : result ≡ Err OutOfMemory → IsOk (insert_answer old.handles before)
     pub memory : result ≡ Err OutOfMemory → old.room ≡ 0
     pub some : IfOk result (λ n. 0 < n)
-    pub small : IfOk result (λ n. n < 2 ^ 28)
+    pub small : IfOk result (λ n. n < handle_limit)
     pub ok : OnOk result (new.handles ≡ inserted old.handles e)
     pub room : old.room ≤ new.room + 1
     pub live : OnOk result (after ≡ counted before)

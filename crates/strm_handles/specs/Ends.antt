@@ -39,9 +39,9 @@ writable (state.Busy true) = Err WrongEnd
 writable (state.Busy false) = Err Busy
 
 -- that something was found, and no more
-abbrev pub accepted : {A : Type 0} → Result A HandleError → Result (Unit {0}) HandleError
-accepted (Ok x) = Ok tt
-accepted (Err e) = Err e
+abbrev pub without_value : {A : Type 0} → Result A HandleError → Result (Unit {0}) HandleError
+without_value (Ok x) = Ok tt
+without_value (Err e) = Err e
 
 -- what the removal of a stream's read end answers: the stream's number, and whether it is done
 abbrev pub stream_readable_of : Handles → Payload → ℕ → Result (ℕ × Bool) HandleError

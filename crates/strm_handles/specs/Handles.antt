@@ -14,6 +14,10 @@ pub record TableOf (E : Type 0) : Type 0 where
   pub handles : HandlesOf E
   pub room : ℕ
 
+-- 2^28: the first number that no handle has
+abbrev pub handle_limit : ℕ
+handle_limit = 2 ^ 28
+
 -- each number of the list is another
 abbrev pub AreApart : List ℕ → Type 0
 AreApart [] = Unit {0}
@@ -80,11 +84,11 @@ module _ {E : Type 0} where
     pub free : entry_in entries n ≡ None
 
   -- the freed numbers are those that were given and stand for nothing, each once; all are below 2^28
-  pub record IsSound (h : HandlesOf E) : Type 0 where
+  pub record IsTable (h : HandlesOf E) : Type 0 where
     pub free : All (IsFreed h.entries) h.freed
     pub apart : AreApart h.freed
     pub all : occupied h + length h.freed ≡ length h.entries
-    pub small : length h.entries < 2 ^ 28
+    pub small : length h.entries < handle_limit
 
 -- the handles of a guest
 abbrev pub Handles : Type 0

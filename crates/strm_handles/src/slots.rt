@@ -3,7 +3,7 @@
 //! Source: wasmtime, `handle_table.rs`, `HandleTable::insert` and `remove`.
 
 ghost use Rattle.std.specs.Prelude.{◌≡◌, ◌+◌, ◌^◌, ◌<◌, ◌≤◌, ◌↔◌, IsTrue, IsSome, OnOk, OnErr, IfErr, Err};
-ghost use Rattle.strm_handles.specs.Handles.{no_handles, next_index, entry_at, inserted, removed, with_entry, occupied, IsSound};
+ghost use Rattle.strm_handles.specs.Handles.{no_handles, next_index, entry_at, inserted, removed, with_entry, occupied, IsTable};
 ghost use Rattle.strm_handles.specs.Changes.{Inserts};
 ghost use Rattle.strm_handles.specs.Counters.{uncounted};
 
@@ -56,7 +56,7 @@ impl<E: Copy> Slots<E> {
     }
 
     pub(crate) fn sound(&self)
-        ensures { IsSound self.now.handles }
+        ensures { IsTable self.now.handles }
     {
         let _ = &self.free;
     }

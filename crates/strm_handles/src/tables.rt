@@ -3,7 +3,7 @@
 //! Source: wasmtime, `handle_table.rs`, `HandleTable`; Canonical ABI, "Table State".
 
 ghost use Rattle.std.specs.Prelude.{◌≡◌, ◌+◌, ◌<◌, ◌≤◌, ◌↔◌, IsTrue, OnOk, OnErr, IfErr};
-ghost use Rattle.strm_handles.specs.Handles.{no_handles, next_index, inserted, occupied, IsSound};
+ghost use Rattle.strm_handles.specs.Handles.{no_handles, next_index, inserted, occupied, IsTable};
 
 use crate::entries::{Entry, MAX_HANDLE};
 use crate::errors::HandleError;
@@ -42,7 +42,7 @@ impl HandleTable {
 
     /// The freed numbers are those that were given and stand for nothing, each once. Does nothing.
     pub fn sound(&self)
-        ensures { IsSound self.now.handles }
+        ensures { IsTable self.now.handles }
     {
         self.slots.sound();
     }

@@ -3,7 +3,7 @@
 //! Source: wasmtime, `handle_table.rs`, the calls of these names.
 
 ghost use Rattle.std.specs.Prelude.{◌≡◌, ◌≤◌, IsSome, OnOk};
-ghost use Rattle.strm_handles.specs.Handles.{no_handles, entry_at, occupied, IsSound};
+ghost use Rattle.strm_handles.specs.Handles.{no_handles, entry_at, occupied, IsTable};
 ghost use Rattle.strm_handles.specs.Changes.{Inserts, Removes};
 ghost use Rattle.strm_handles.specs.Lookups.{guest_thread_rep_of};
 
@@ -40,7 +40,7 @@ impl ThreadHandleTable {
 
     /// The freed numbers are those that were given and stand for nothing, each once. Does nothing.
     pub fn sound(&self)
-        ensures { IsSound self.now.handles }
+        ensures { IsTable self.now.handles }
     {
         self.slots.sound();
     }

@@ -14,13 +14,14 @@ use Rattle.strm_machine.specs.Turns.{turn}
 use Rattle.strm_machine.specs.Endings.{delivered, dropped}
 use Rattle.strm_machine.specs.Refusals.{refusal}
 use Rattle.strm_machine.specs.Making.{with_stream}
-use Rattle.strm_machine.specs.Reactions.{performs, react}
+use Rattle.strm_machine.specs.Reactions.{performs, reaction}
 use Rattle.strm_machine.specs.declared.streams.Side.TheVariants.{Writing}
 use Rattle.strm_machine.specs.declared.steps.Step.{Step}
 use Rattle.strm_machine.specs.declared.steps.Step.TheVariants as steps
 use Rattle.strm_machine.specs.declared.replies.Reply.{Reply}
 use Rattle.strm_machine.specs.declared.replies.Reply.TheVariants as replies
-use Rattle.strm_laws.specs.Conservation.{Call, moments, last, received, decoded, got, handed, all_handed, writes, reads}
+use Rattle.strm_machine.specs.Moments.{Call, received, decoded}
+use Rattle.strm_laws.specs.Conservation.{moments, last, got, handed, all_handed, writes, reads}
 use Rattle.strm_laws.specs.Laws.{moved_at}
 
 abbrev bytes : TransmitIndex
@@ -95,7 +96,7 @@ replies_to-parts : replies_to parts ≡
     ∷ replies.Done
     ∷ replies.Event (Some (Dropped 1))
     ∷ []
-unfolding react refusal performs with_stream turn delivered dropped decode_from encode_from items stored
+unfolding reaction refusal performs with_stream turn delivered dropped decode_from encode_from items stored
 replies_to-parts = refl
 
 account-parts : account 0 parts ≡ record {
@@ -105,7 +106,7 @@ account-parts : account 0 parts ≡ record {
   taken = item 1 ∷ item 2 ∷ item 33 ∷ item 5 ∷ [];
   given = item 1 ∷ item 2 ∷ item 33 ∷ item 5 ∷ [];
 }
-unfolding react refusal performs with_stream turn delivered dropped decode_from encode_from items stored decoded handed all_handed
+unfolding reaction refusal performs with_stream turn delivered dropped decode_from encode_from items stored decoded handed all_handed
 account-parts = refl
 
 -- a read that waits, meets a write of no items, is filled by two writes, and is told; a read of no
@@ -144,7 +145,7 @@ replies_to-filled : replies_to filled ≡
     ∷ replies.Code (Completed 1)
     ∷ replies.Bytes (11 ∷ 12 ∷ 21 ∷ 13 ∷ [])
     ∷ []
-unfolding react refusal performs with_stream turn delivered dropped decode_from encode_from items stored
+unfolding reaction refusal performs with_stream turn delivered dropped decode_from encode_from items stored
 replies_to-filled = refl
 
 account-filled : account 0 filled ≡ record {
@@ -154,7 +155,7 @@ account-filled : account 0 filled ≡ record {
   taken = item 11 ∷ item 12 ∷ item 21 ∷ item 13 ∷ [];
   given = item 11 ∷ item 12 ∷ item 21 ∷ item 13 ∷ [];
 }
-unfolding react refusal performs with_stream turn delivered dropped decode_from encode_from items stored decoded handed all_handed
+unfolding reaction refusal performs with_stream turn delivered dropped decode_from encode_from items stored decoded handed all_handed
 account-filled = refl
 
 -- two streams in opposite directions: an item of one is put into the region of a write that waits on
@@ -202,7 +203,7 @@ replies_to-crossed : replies_to crossed ≡
     ∷ replies.Event (Some (Dropped 2))
     ∷ replies.Event None
     ∷ []
-unfolding react refusal performs with_stream turn delivered dropped decode_from encode_from items stored
+unfolding reaction refusal performs with_stream turn delivered dropped decode_from encode_from items stored
 replies_to-crossed = refl
 
 -- the words are 1 + 256 * 2, 77 + 256 * 4 and 5 + 256 * 6
@@ -213,7 +214,7 @@ account-crossed : account 0 crossed ≡ record {
   taken = item 513 ∷ item 1101 ∷ item 1541 ∷ [];
   given = item 513 ∷ item 1101 ∷ item 1541 ∷ [];
 }
-unfolding react refusal performs with_stream turn delivered dropped decode_from encode_from items stored decoded handed all_handed
+unfolding reaction refusal performs with_stream turn delivered dropped decode_from encode_from items stored decoded handed all_handed
 account-crossed = refl
 
 account-crossed_back : account 1 crossed ≡ record {
@@ -223,5 +224,5 @@ account-crossed_back : account 1 crossed ≡ record {
   taken = item 77 ∷ [];
   given = item 77 ∷ [];
 }
-unfolding react refusal performs with_stream turn delivered dropped decode_from encode_from items stored decoded handed all_handed
+unfolding reaction refusal performs with_stream turn delivered dropped decode_from encode_from items stored decoded handed all_handed
 account-crossed_back = refl

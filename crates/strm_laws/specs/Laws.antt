@@ -1,9 +1,8 @@
 -- What holds of every run. Ours.
-use Rattle.std.specs.Prelude.{◌≡◌, ℕ, ◌+◌, ◌*◌, ◌^◌, ◌<◌, ◌≤◌, Bool, true, false, ◌&&◌, List, [], ◌∷◌, ◌++◌, length, All, is_some, IsSome, Option, Some, None}
+use Rattle.std.specs.Prelude.{◌≡◌, ℕ, ◌+◌, ◌*◌, ◌^◌, ◌<◌, ◌≤◌, true, false, List, [], ◌∷◌, ◌++◌, length, All, is_some, IsSome, Option, Some, None}
 use Rattle.strm_codes.specs.Layout.{scalars_of, item_size}
 use Rattle.strm_codes.specs.declared.codes.TransmitKind.{TransmitKind}
 use Rattle.strm_codes.specs.declared.payloads.Payload.{Payload}
-use Rattle.strm_memory.specs.Bytes.{IsBytes}
 use Rattle.strm_machine.specs.State.{State, stream_at}
 use Rattle.strm_machine.specs.Sides.{end_of}
 use Rattle.strm_machine.specs.Tests.{end_named}
@@ -13,13 +12,13 @@ use Rattle.strm_machine.specs.declared.streams.Side.TheVariants.{Writing, Readin
 use Rattle.strm_machine.specs.declared.streams.Operation.{Operation}
 use Rattle.strm_machine.specs.declared.streams.Stream.{Stream}
 use Rattle.strm_machine.specs.declared.steps.Step.{Step}
-use Rattle.strm_machine.specs.declared.steps.Step.TheVariants as steps
-use Rattle.strm_laws.specs.Conservation.{Moment, Call, k_of, moved_of, received, calls, writes, reads, got, all_handed, all_reported, is_end}
+use Rattle.strm_machine.specs.Acts.{act_of}
+use Rattle.strm_machine.specs.Moments.{PutsBytes, Moment, Call, k_of, moved_of, received, is_end}
+use Rattle.strm_laws.specs.Conservation.{calls, writes, reads, got, all_handed, all_reported}
 
 -- what a step puts into a memory is bytes
 abbrev pub HasBytes : Step → Type 0
-HasBytes (steps.Poke g address bytes) = IsBytes bytes
-HasBytes _ = Unit {0}
+HasBytes step = PutsBytes (act_of step)
 
 -- steps that a run can be made of
 pub record AreSteps (run : List Step) : Type 0 where
@@ -40,8 +39,8 @@ abbrev pub moved_at : ℕ → Side → State → ℕ
 moved_at s side state = moved_of (waiting s side state)
 
 -- a call reports or has moved no more than it asked for
-abbrev pub IsWithin : TransmitKind → ℕ → Call → Type 0
-IsWithin kind moved c = k_of kind moved c.report ≤ c.asked
+abbrev pub IsAsked : TransmitKind → ℕ → Call → Type 0
+IsAsked kind moved c = k_of kind moved c.report ≤ c.asked
 
 -- on stream s, what was received is what the writes handed over, item by item. It is as many items
 -- as the writes report, or have moved so far, and as the reads do, none of them more than it asked
@@ -55,7 +54,7 @@ pub record Conserves (s : ℕ) (all : List Moment) (end : State) : Type 0 where
   pub read :
       length (got s all) ≡ total (stream_at end s).kind (moved_at s Reading end) (reads s all)
   pub asked : (side : Side) →
-      All (IsWithin (stream_at end s).kind (moved_at s side end)) (calls s side all)
+      All (IsAsked (stream_at end s).kind (moved_at s side end)) (calls s side all)
   pub told : (side : Side) →
       all_reported (stream_at end s).kind s side all + moved_at s side end ≡ length (got s all)
   pub count : length (got s all) ≡ received s end
@@ -82,14 +81,6 @@ pub record Carries (payload : Payload) (operation : Operation) (cs : List Call) 
 abbrev pub Stands : Payload → Option Operation → List Call → Type 0
 Stands payload None cs = AreReported cs
 Stands payload (Some operation) cs = Carries payload operation cs
-
-abbrev pub is_opened : Option Operation → Bool
-is_opened None = false
-is_opened (Some operation) = operation.is_open
-
--- an open write and an open read on one stream
-abbrev pub both_open : Stream → Bool
-both_open stream = is_opened stream.writer.operation && is_opened stream.reader.operation
 
 -- the items of an operation, those that it moved and those that it has left, are a count
 abbrev pub IsCounted : Option Operation → Type 0

@@ -1,3 +1,2 @@
 pub mod Conservation
 pub mod Laws
-pub mod Untouched

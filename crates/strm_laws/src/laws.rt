@@ -8,9 +8,11 @@ ghost use Rattle.strm_machine.specs.State.{empty, stream_at};
 ghost use Rattle.strm_machine.specs.declared.limits.Limits.{Limits};
 ghost use Rattle.strm_machine.specs.declared.streams.Side.{Side};
 ghost use Rattle.strm_machine.specs.declared.steps.Step.{Step};
-ghost use Rattle.strm_laws.specs.Conservation.{moment_of, moments, last, calls, got};
-ghost use Rattle.strm_laws.specs.Laws.{AreSteps, Conserves, waiting, Stands, both_open, AreCounted, HandlesHold, HandlesAreSingle};
-ghost use Rattle.strm_laws.specs.Untouched.{StaysAside};
+ghost use Rattle.strm_machine.specs.Moments.{moment_of};
+ghost use Rattle.strm_laws.specs.Conservation.{moments, last, calls, got};
+ghost use Rattle.strm_machine.specs.Soundness.{IsSound, both_open};
+ghost use Rattle.strm_laws.specs.Laws.{AreSteps, Conserves, waiting, Stands, AreCounted, HandlesHold, HandlesAreSingle};
+ghost use Rattle.strm_machine.specs.Untouched.{StaysAside};
 
 /// On each stream, what was received is, in order, exactly the first k items of each accepted
 /// write, k the count reported, each as the writer's memory held it just before it was copied. The
@@ -45,6 +47,13 @@ pub fn never_two_open()
 pub fn totals_are_counts()
     ensures { (tag : ℕ) (limits : Limits) (run : List Step) (s : ℕ) → AreSteps run →
         AreCounted (stream_at (last (empty tag limits) run) s) }
+{}
+
+/// Every state is sound, after whichever steps: handles name streams that were made, of their type, and
+/// the items that an operation has left lie in its guest's memory.
+pub fn states_are_sound()
+    ensures { (tag : ℕ) (limits : Limits) (run : List Step) →
+        IsSound (last (empty tag limits) run) }
 {}
 
 /// An end that a handle names is held under that handle, and an end that is held is named by its

@@ -9,9 +9,8 @@ use Rattle.strm_codes.specs.declared.payloads.Payload.TheVariants.{Nothing}
 use Rattle.strm_codes.specs.declared.scalars.Scalar.{Scalar}
 use Rattle.strm_codes.specs.Scalars.{size_of}
 use Rattle.strm_codes.specs.Layout.{scalars_of, item_size, gap_before}
-use Rattle.strm_codes.proofs.LayoutLemmas.{IsWidth-size_of}
+use Rattle.strm_codes.proofs.LayoutLemmas.{IsWidth-size_of, le-end_offset}
 use Rattle.strm_memory.specs.Items.{items_at, stored, stored_at, encode_from}
-use Rattle.strm_memory.proofs.FieldLemmas.{le-end_of}
 use Rattle.strm_machine.specs.State.{Guest, memory_in, with_memory}
 use Rattle.strm_machine.specs.Meetings.{carried}
 use Rattle.strm_machine.specs.declared.streams.Operation.{Operation}
@@ -34,7 +33,7 @@ one_byte s = elim (IsWidth-size_of s) [ inl e ↦ omega arith | inr v ↦ elim v
 -- only an item of no scalars takes no bytes
 pub no_scalars : (ss : List Scalar) → item_size ss ≡ 0 → ss ≡ []
 no_scalars [] e = refl
-no_scalars (s ∷ ss) e = absurd (omega (arith, one_byte s, le-end_of (0 + gap_before 0 (size_of s) + size_of s) ss))
+no_scalars (s ∷ ss) e = absurd (omega (arith, one_byte s, le-end_offset (0 + gap_before 0 (size_of s) + size_of s) ss))
 
 stored-nothing : (bytes : List ℕ) (xs : List (List ℤ)) → stored [] bytes xs ≡ bytes
 unfolding stored encode_from

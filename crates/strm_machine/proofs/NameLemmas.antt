@@ -9,7 +9,8 @@ use Rattle.strm_codes.specs.declared.codes.TransmitIndex.{TransmitIndex}
 use Rattle.strm_codes.specs.declared.codes.TransmitIndex.TheVariants as index
 use Rattle.strm_codes.specs.declared.payloads.Payload.{Payload}
 use Rattle.strm_codes.specs.declared.payloads.Payload.TheVariants.{Nothing}
-use Rattle.strm_codes.specs.Sameness.{same_payload, Decides-same_payload}
+use Rattle.strm_codes.specs.Sameness.{same_payload}
+use Rattle.strm_codes.proofs.SamenessLemmas.{Decides-same_payload}
 use Rattle.strm_codes.specs.Types.{kind_of, payload_of}
 use Rattle.strm_codes.specs.declared.codes.TransmitKind.{TransmitKind}
 use Rattle.strm_codes.specs.declared.codes.TransmitKind.TheVariants.{Stream as AStream, Future}

@@ -1,9 +1,11 @@
 -- What is known of a step that nothing refuses.
 use Rattle.std.proofs.Common.{◌≡◌, ℕ, ◌+◌, ◌^◌, ◌<◌, ◌≤◌, Bool, true, false, cond, min, List, [], ◌∷◌, ◌++◌, length, Option, Some, None, Ok, Err, refl, arith}
+use Rattle.std.proofs.lemmas.Bool.{not-false}
 use Rattle.std.proofs.lemmas.Bool.Decides.{nat_tests}
 use Rattle.std.proofs.lemmas.List.{length-map}
 use Rattle.std.specs.Prelude.{IfErr, IsOk, nat_lt, nat_le, ◌||◌, ◌&&◌, not, IsTrue}
 use Rattle.strm_codes.specs.declared.refusals.Refusal.{Refusal}
+use Rattle.strm_codes.specs.declared.refusals.Refusal.TheVariants as refusals
 use Rattle.strm_codes.specs.declared.payloads.Payload.{Payload}
 use Rattle.strm_codes.specs.declared.codes.TransmitIndex.{TransmitIndex}
 use Rattle.strm_codes.specs.declared.codes.TransmitIndex.TheVariants as index
@@ -13,10 +15,10 @@ use Rattle.strm_machine.specs.State.{State, guest_in, stream_at, handles_in_use,
 use Rattle.strm_machine.specs.Sides.{opposite, same_side, end_of}
 use Rattle.strm_machine.specs.Meetings.{begun}
 use Rattle.strm_machine.specs.Soundness.{sizes_of, IsPlaced}
-use Rattle.strm_machine.specs.Tests.{Name, is_no_handle, are_handles_full, are_places_full, are_streams_full, is_memory_too_big, are_guests_full, is_unknown_guest, are_bytes_out_of_bounds, named, end_named, stream_named, side_named, is_too_big, items_asked, is_out_of_bounds, is_busy, has_ended, is_open_of, is_within_one_guest}
+use Rattle.strm_machine.specs.Tests.{Name, is_no_handle, are_handles_full, are_places_full, are_streams_full, is_memory_too_big, are_guests_full, is_unknown_guest, are_bytes_out_of_bounds, named, end_named, stream_named, side_named, is_too_big, items_asked, is_out_of_bounds, is_busy, has_ended, owes_value, is_open_of, is_within_one_guest}
 use Rattle.strm_handles.specs.Handles.{next_index}
 use Rattle.strm_machine.specs.Making.{writer_index}
-use Rattle.strm_machine.specs.Refusals.{Reason, first_of, region_reasons, handle_reasons, end_reasons_of, event_reasons, drop_reasons, dropping_reasons, bytes_reasons, refusal}
+use Rattle.strm_machine.specs.Refusals.{Reason, first_of, region_reasons, handle_reasons, end_reasons_of, event_reasons, where_, named_reasons, side_reasons, dropping_reasons, bytes_reasons, refusal}
 use Rattle.strm_machine.specs.declared.acts.NamedEnd.{NamedEnd}
 use Rattle.strm_machine.specs.declared.acts.Making.TheVariants.{Guest, Between}
 use Rattle.strm_machine.specs.declared.acts.MemoryAct.TheVariants.{Poke, Dump}
@@ -175,6 +177,20 @@ event_fits state g handle e =
     let first = not_refused (is_unknown_guest state g) _ _ e in
     record { there = not_le (length state.guests) g first.0; found = first.1 }
 
+-- something may be done to the end that is named, as far as its guest, its handle and its side go
+pub record NamedFits (state : State) (side : Side) (end : NamedEnd) : Type 0 where
+  pub there : end.guest < length state.guests
+  pub found : first_of (handle_reasons (named state end)) ≡ None
+  pub same : same_side side (side_named (named state end)) ≡ true
+
+pub named_fits : (state : State) (side : Side) (end : NamedEnd) (more : List Reason) → first_of (named_reasons state end (side_reasons side (side_named (named state end)) more)) ≡ None → NamedFits state side end × (first_of more ≡ None)
+named_fits state side end more e =
+    let name = named state end in
+    let first = not_refused (is_unknown_guest state end.guest) _ _ e in
+    let both = none_of_both (handle_reasons name) (side_reasons side (side_named name) more) first.1 in
+    let same = not_refused (not (same_side side (side_named name))) _ _ both.1 in
+    (record { there = not_le (length state.guests) end.guest first.0; found = both.0; same = not-false (same_side side (side_named name)) same.0 }, same.1)
+
 -- an end that may be dropped
 pub record DropFits (state : State) (side : Side) (end : NamedEnd) : Type 0 where
   pub there : end.guest < length state.guests
@@ -186,12 +202,6 @@ pub drop_fits : (state : State) (side : Side) (end : NamedEnd) → first_of (dro
 drop_fits state side end e =
     let name = named state end in
     let stream = stream_at state (stream_named name) in
-    let first = not_refused (is_unknown_guest state end.guest) _ _ e in
-    let both = none_of_both (handle_reasons name) (drop_reasons state side end.ty name) first.1 in
-    let same = not_refused (not (same_side side (side_named name))) _ _ both.1 in
-    let idle = not_refused (is_busy side stream) _ _ same.1 in
-    record { there = not_le (length state.guests) end.guest first.0; found = both.0; same = not_not (same_side side (side_named name)) same.0; idle = idle.0 }
-  where
-    not_not : (b : Bool) → not b ≡ false → b ≡ true
-    not_not true f = refl
-    not_not false f = cc
+    let fits = named_fits state side end (where_ (is_busy side stream) refusals.Busy ∷ where_ (owes_value side (kind_of end.ty) stream) refusals.FutureWithoutValue ∷ []) e in
+    let idle = not_refused (is_busy side stream) _ _ fits.1 in
+    record { there = fits.0.there; found = fits.0.found; same = fits.0.same; idle = idle.0 }

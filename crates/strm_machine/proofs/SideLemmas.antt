@@ -4,10 +4,10 @@ use Rattle.strm_codes.specs.declared.payloads.Payload.{Payload}
 use Rattle.strm_codes.specs.Layout.{scalars_of}
 use Rattle.strm_machine.specs.Sides.{same_side, end_of, with_end, with_operation, read_of}
 use Rattle.strm_machine.specs.Meetings.{advanced}
-use Rattle.strm_machine.specs.Endings.{report_on, told_end, delivered, dropped}
+use Rattle.strm_machine.specs.Endings.{report_on, told_end, delivered}
 use Rattle.strm_events.specs.Reports.{left_pending}
 use Rattle.strm_codes.specs.declared.codes.ReturnCode.{ReturnCode}
-use Rattle.strm_machine.specs.Soundness.{type_of, IsPlaced, OperationIsPlaced, StreamIsPlaced}
+use Rattle.strm_machine.specs.Soundness.{IsPlaced, OperationIsPlaced, StreamIsPlaced}
 use Rattle.strm_machine.specs.declared.streams.Side.{Side}
 use Rattle.strm_machine.specs.declared.streams.Side.TheVariants.{Writing, Reading}
 use Rattle.strm_machine.specs.declared.streams.Operation.{Operation}
@@ -83,9 +83,3 @@ unfolding delivered
 delivered-keeps side sizes stream h =
     with_end-keeps side sizes stream (told_end (report_on side stream) (end_of side stream)) h refl
     (left_placed sizes stream.payload (report_on side stream) (end_of side stream).operation (end_placed side sizes stream h))
-
--- an end that was dropped
-pub dropped-placed : (side : Side) (sizes : List ℕ) (stream : Stream) → StreamIsPlaced sizes stream → (type_of (dropped side stream) ≡ type_of stream) × StreamIsPlaced sizes (dropped side stream)
-unfolding dropped
-dropped-placed Writing sizes stream h = (refl, record { writer = h.writer; reader = h.reader })
-dropped-placed Reading sizes stream h = (refl, record { writer = h.writer; reader = h.reader })

@@ -1,5 +1,5 @@
 -- Each change of the machine leaves a sound state.
-use Rattle.std.proofs.Common.{true, ◌≡◌, ℕ, zero, suc, ◌+◌, ◌<◌, ◌≤◌, List, [], ◌∷◌, ◌++◌, length, set, Option, Some, None, refl, sym, ap, ◌∙◌, subst, inl, inr, arith, length-append}
+use Rattle.std.proofs.Common.{Bool, true, false, ◌≡◌, ℕ, zero, suc, ◌+◌, ◌<◌, ◌≤◌, List, [], ◌∷◌, ◌++◌, length, set, Option, Some, None, refl, sym, ap, ◌∙◌, subst, inl, inr, arith, length-append}
 use Rattle.std.specs.Prelude.{All, sum}
 use Rattle.std.proofs.Math.Seq.{map-set_same}
 use Rattle.std.proofs.Math.ListN.{get_or-map}
@@ -19,14 +19,20 @@ use Rattle.strm_handles.specs.declared.entries.TransmitEnd.{TransmitEnd}
 use Rattle.strm_handles.specs.Ends.{read_end, write_end}
 use Rattle.strm_machine.specs.State.{State, Guest, no_guest, no_stream, guest_in, with_handles, stream_at}
 use Rattle.strm_machine.specs.Turns.{Turn}
-use Rattle.strm_machine.specs.Endings.{delivered, dropped}
+use Rattle.strm_events.specs.Reports.{left_pending}
+use Rattle.strm_codes.specs.declared.codes.ReturnCode.{ReturnCode}
+use Rattle.strm_machine.specs.Sides.{end_of, with_end}
+use Rattle.strm_machine.specs.Endings.{report_on, told_end, delivered, dropped}
+use Rattle.strm_machine.specs.declared.streams.Owner.TheVariants.{Gone}
+use Rattle.strm_machine.specs.declared.streams.End.{End}
+use Rattle.strm_machine.specs.declared.streams.Side.TheVariants.{Writing, Reading}
 use Rattle.strm_machine.specs.declared.streams.Side.{Side}
 use Rattle.strm_machine.specs.Making.{read_entry, write_entry, with_read_end, with_ends, made_stream, made_pair, with_stream}
 use Rattle.strm_machine.specs.Soundness.{sizes_of, handles_of, type_with, type_of, types_of, is_idle_state, IsNamed, EntryIsNamed, AreNamed, IsPlaced, OperationIsPlaced, StreamIsPlaced, IsSound}
 use Rattle.strm_machine.specs.declared.streams.Operation.{Operation}
 use Rattle.strm_machine.specs.declared.streams.Stream.{Stream}
 use Rattle.strm_machine.proofs.TurnLemmas.{GuestsKeep, TurnKeeps}
-use Rattle.strm_machine.proofs.SideLemmas.{delivered-keeps, dropped-placed}
+use Rattle.strm_machine.proofs.EndLemmas.{IsLeft, left_by, with_end-type}
 
 -- guests with the handles and memory lengths of those before
 pub IsSound-guests : (state : State) (guests : List Guest) → GuestsKeep state.guests guests → IsSound state → IsSound (record state { guests = guests })
@@ -182,26 +188,52 @@ IsSound-with_stream state writer reader ty h =
       small = rw sizes h.small;
     }
 
+-- ## A stream with another end
+
+-- the guests, where a handle of one of them is freed or none is
+abbrev pub guests_after : Bool → List Guest → ℕ → ℕ → List Guest
+guests_after true guests g handle = with_handles guests g (removed (guest_in guests g).handles handle)
+guests_after false guests g handle = guests
+
+IsSound-freed : (frees : Bool) (state : State) (g handle : ℕ) → IsSound state → IsSound (record state { guests = guests_after frees state.guests g handle })
+IsSound-freed false state g handle h = record { named = h.named; placed = h.placed; small = h.small }
+IsSound-freed true state g handle h =
+    let types = types_of state.streams in
+    let handles = removed (guest_in state.guests g).handles handle in
+    let sizes = sizes_of-with_handles state.guests g handles in
+    record {
+      named = rw (handles_of-with state.guests g handles)
+          (All-set (AreNamed types) (handles_of state.guests) g handles (AreNamed-removed types (guest_in state.guests g).handles handle (AreNamed-at types state.guests g h.named)) h.named);
+      placed = rw sizes h.placed;
+      small = rw sizes h.small;
+    }
+
+with_end-placed : (side : Side) (sizes : List ℕ) (stream : Stream) (e : End) → IsLeft (end_of side stream).operation e.operation → StreamIsPlaced sizes stream → StreamIsPlaced sizes (with_end side stream e)
+with_end-placed Writing sizes stream e left h = record { writer = left_by (OperationIsPlaced sizes stream.payload) stream.writer.operation e.operation left h.writer tt; reader = h.reader }
+with_end-placed Reading sizes stream e left h = record { writer = h.writer; reader = left_by (OperationIsPlaced sizes stream.payload) stream.reader.operation e.operation left h.reader tt }
+
+-- an end of one stream is another, with its operation or none, and its handle is freed or not
+pub IsSound-set : (state : State) (frees : Bool) (g handle s : ℕ) (side : Side) (e : End) → s < length state.streams → IsLeft (end_of side (stream_at state s)).operation e.operation → IsSound state
+    → IsSound (record state { guests = guests_after frees state.guests g handle; streams = set state.streams s (with_end side (stream_at state s) e) })
+IsSound-set state frees g handle s side e l left h =
+    let stream = stream_at state s in
+    IsSound-freed frees (record state { streams = set state.streams s (with_end side stream e) }) g handle
+    (IsSound-stream state s (with_end side stream e) (with_end-type side stream e) (with_end-placed side (sizes_of state.guests) stream e left (placed_at state s l h)) h)
+
+-- an operation whose end is told
+pub left_told : (code : Option ReturnCode) (o : Option Operation) → IsLeft o (left_pending code o)
+left_told None o = inl refl
+left_told (Some code) o = inr refl
+
 -- an end was told its report
 pub IsSound-delivered : (state : State) (s : ℕ) (side : Side) → s < length state.streams → IsSound state → IsSound (record state { streams = set state.streams s (delivered side (stream_at state s)) })
+unfolding delivered
 IsSound-delivered state s side l h =
-    let keeps = delivered-keeps side (sizes_of state.guests) (stream_at state s) (placed_at state s l h) in
-    IsSound-stream state s (delivered side (stream_at state s)) (type_of-same (delivered side (stream_at state s)) (stream_at state s) keeps.payload keeps.kind) keeps.placed h
+    let stream = stream_at state s in
+    IsSound-set state false 0 0 s side (told_end (report_on side stream) (end_of side stream)) l (left_told (report_on side stream) (end_of side stream).operation) h
 
 -- an end was dropped, and its handle freed
 pub IsSound-dropped : (state : State) (s : ℕ) (side : Side) (g handle : ℕ) → s < length state.streams → IsSound state → IsSound (record state { guests = with_handles state.guests g (removed (guest_in state.guests g).handles handle); streams = set state.streams s (dropped side (stream_at state s)) })
+unfolding dropped
 IsSound-dropped state s side g handle l h =
-    let types = types_of state.streams in
-    let handles = removed (guest_in state.guests g).handles handle in
-    let placed = dropped-placed side (sizes_of state.guests) (stream_at state s) (placed_at state s l h) in
-    let stream = IsSound-stream state s (dropped side (stream_at state s)) placed.0 placed.1 h in
-    let named : All (AreNamed types) (handles_of (with_handles state.guests g handles)) =
-    rw (handles_of-with state.guests g handles)
-    (All-set (AreNamed types) (handles_of state.guests) g handles (AreNamed-removed types (guest_in state.guests g).handles handle (AreNamed-at types state.guests g h.named)) h.named) in
-    let same : types_of (set state.streams s (dropped side (stream_at state s))) ≡ types = map-set_same type_of state.streams s (dropped side (stream_at state s)) no_stream placed.0 in
-    let sizes = sizes_of-with_handles state.guests g handles in
-    record {
-      named = rw same named;
-      placed = rw sizes stream.placed;
-      small = rw sizes h.small;
-    }
+    IsSound-set state true g handle s side (record (end_of side (stream_at state s)) { owner = Gone }) l (inl refl) h

@@ -10,3 +10,5 @@ pub mod Making
 pub mod Reactions
 pub mod Plays
 pub mod Soundness
+pub mod Moments
+pub mod Untouched

@@ -78,13 +78,24 @@ operation_reasons state side end address count =
     region_reasons state end.guest end.ty address count
     ++ (handle_reasons (named state end) ++ end_reasons state side end.guest end.ty (named state end))
 
+-- of what is done to the end that is named, but a read or write: the guest, the handle, and then the
+-- reasons of its own
+abbrev pub named_reasons : State → NamedEnd → List Reason → List Reason
+named_reasons state end more =
+    where_ (is_unknown_guest state end.guest) refusals.UnknownGuest
+    ∷ (handle_reasons (named state end) ++ more)
+
+-- the first of these: the handle is the other end
+abbrev pub side_reasons : Side → Side → List Reason → List Reason
+side_reasons side named more = where_ (not (same_side side named)) refusals.WrongEnd ∷ more
+
 -- the end that is named in a drop
 abbrev pub drop_reasons_of : Stream → Side → TransmitIndex → Side → List Reason
 drop_reasons_of stream side ty named =
-    where_ (not (same_side side named)) refusals.WrongEnd
-    ∷ where_ (is_busy side stream) refusals.Busy
+    side_reasons side named
+    (where_ (is_busy side stream) refusals.Busy
     ∷ where_ (owes_value side (kind_of ty) stream) refusals.FutureWithoutValue
-    ∷ []
+    ∷ [])
 
 abbrev pub drop_reasons : State → Side → TransmitIndex → Name → List Reason
 drop_reasons state side ty name = drop_reasons_of (stream_at state (stream_named name)) side ty (side_named name)
@@ -92,8 +103,7 @@ drop_reasons state side ty name = drop_reasons_of (stream_at state (stream_named
 -- a drop of the end that is named
 abbrev pub dropping_reasons : State → Side → NamedEnd → List Reason
 dropping_reasons state side end =
-    where_ (is_unknown_guest state end.guest) refusals.UnknownGuest
-    ∷ (handle_reasons (named state end) ++ drop_reasons state side end.ty (named state end))
+    named_reasons state end (drop_reasons state side end.ty (named state end))
 
 -- whatever is done to the end that is named
 abbrev pub on_end_reasons : State → Side → NamedEnd → EndAct → List Reason

@@ -6,6 +6,7 @@ use Rattle.strm_codes.specs.declared.codes.TransmitIndex.TheVariants as index
 use Rattle.strm_codes.specs.declared.codes.TransmitKind.{TransmitKind}
 use Rattle.strm_codes.specs.declared.codes.TransmitKind.TheVariants.{Stream as AStream, Future}
 use Rattle.strm_codes.specs.Layout.{scalars_of}
+use Rattle.strm_codes.specs.Counts.{count_limit}
 use Rattle.strm_codes.specs.Types.{payload_of}
 use Rattle.strm_memory.specs.Items.{is_number_or_none}
 use Rattle.strm_memory.specs.Region as region
@@ -53,7 +54,7 @@ is_no_handle number = nat_le 268435456 number
 
 -- a stream's count is no count of items; a future's is not looked at
 abbrev pub is_too_big : TransmitIndex → ℕ → Bool
-is_too_big (index.Stream payload) count = nat_le 268435456 count
+is_too_big (index.Stream payload) count = nat_le count_limit count
 is_too_big (index.Future payload) count = false
 
 -- the items that a call asks for: a future's is one

@@ -4,7 +4,8 @@ use Rattle.std.proofs.lemmas.List.{length-take-le, drop-drop, take_at, drop_at, 
 use Rattle.std.proofs.Math.Seq.{take-append-add, drop-append-add}
 use Rattle.std.specs.Prelude.{is_some}
 use Rattle.strm_codes.specs.Scalars.{size_of, is_scalar_value}
-use Rattle.strm_codes.specs.Layout.{gap_before, end_of, item_size}
+use Rattle.strm_codes.specs.Layout.{gap_before, end_offset, item_size}
+use Rattle.strm_codes.proofs.LayoutLemmas.{le-end_offset}
 use Rattle.strm_codes.specs.declared.scalars.Scalar.{Scalar}
 use Rattle.strm_codes.specs.declared.scalars.Scalar.TheVariants.{Bool as Flag, Char}
 use Rattle.strm_memory.specs.Bytes.{le, put_at, bytes_at}
@@ -12,7 +13,7 @@ use Rattle.strm_memory.specs.Numbers.{lifted}
 use Rattle.strm_memory.specs.Items.{decode_from, decode, items}
 use Rattle.strm_memory.specs.Copies.{settled, copied_from, copied, copied_column, copied_columns, is_good_column, are_good_columns}
 use Rattle.strm_memory.proofs.ByteLemmas.{set-put_at, take-one, length-put_at, put_at-behind, put_at-append}
-use Rattle.strm_memory.proofs.FieldLemmas.{IsField, drop_field, le-end_of, put_field, length-settled, is_some-both}
+use Rattle.strm_memory.proofs.FieldLemmas.{IsField, drop_field, put_field, length-settled, is_some-both}
 use Rattle.strm_memory.proofs.ItemLemmas.{sweep_more}
 use Rattle.strm_memory.proofs.CopyLemmas.{lifted_no_char}
 
@@ -74,33 +75,33 @@ item_of at (s ∷ ss) source bytes =
     item_of (start + size_of s) ss source (put_at bytes start (settled s (bytes_at source start (size_of s))))
 
 -- a field of an item inside its bytes, and the bytes that it is given
-length-field : (at : ℕ) (s : Scalar) (ss : List Scalar) (source : List ℕ) → end_of at (s ∷ ss) ≤ length source → length (settled s (bytes_at source (at + gap_before at (size_of s)) (size_of s))) ≡ size_of s
+length-field : (at : ℕ) (s : Scalar) (ss : List Scalar) (source : List ℕ) → end_offset at (s ∷ ss) ≤ length source → length (settled s (bytes_at source (at + gap_before at (size_of s)) (size_of s))) ≡ size_of s
 length-field at s ss source h =
     let start = at + gap_before at (size_of s) in
-    length-settled s (bytes_at source start (size_of s)) (length-take-le (size_of s) (drop start source) (omega (arith, h, le-end_of (start + size_of s) ss, length-drop start source)))
+    length-settled s (bytes_at source start (size_of s)) (length-take-le (size_of s) (drop start source) (omega (arith, h, le-end_offset (start + size_of s) ss, length-drop start source)))
 
-length-item_of : (at : ℕ) (ss : List Scalar) (source bytes : List ℕ) → end_of at ss ≤ length source → end_of at ss ≤ length bytes → length (item_of at ss source bytes) ≡ length bytes
+length-item_of : (at : ℕ) (ss : List Scalar) (source bytes : List ℕ) → end_offset at ss ≤ length source → end_offset at ss ≤ length bytes → length (item_of at ss source bytes) ≡ length bytes
 unfolding item_of
 length-item_of at [] source bytes h l = refl
 length-item_of at (s ∷ ss) source bytes h l =
     let start = at + gap_before at (size_of s) in
     let new = settled s (bytes_at source start (size_of s)) in
     let n : length new ≡ size_of s = length-field at s ss source h in
-    let put : length (put_at bytes start new) ≡ length bytes = length-put_at bytes start new (omega (arith, n, l, le-end_of (start + size_of s) ss)) in
+    let put : length (put_at bytes start new) ≡ length bytes = length-put_at bytes start new (omega (arith, n, l, le-end_offset (start + size_of s) ss)) in
     length-item_of (start + size_of s) ss source (put_at bytes start new) h (omega (arith, l, put)) ∙ put
 
-item_of-append : (at : ℕ) (ss : List Scalar) (source xs ys : List ℕ) → end_of at ss ≤ length source → end_of at ss ≤ length xs → item_of at ss source (xs ++ ys) ≡ item_of at ss source xs ++ ys
+item_of-append : (at : ℕ) (ss : List Scalar) (source xs ys : List ℕ) → end_offset at ss ≤ length source → end_offset at ss ≤ length xs → item_of at ss source (xs ++ ys) ≡ item_of at ss source xs ++ ys
 unfolding item_of
 item_of-append at [] source xs ys h l = refl
 item_of-append at (s ∷ ss) source xs ys h l =
     let start = at + gap_before at (size_of s) in
     let new = settled s (bytes_at source start (size_of s)) in
     let n : length new ≡ size_of s = length-field at s ss source h in
-    let room : start + length new ≤ length xs = omega (arith, n, l, le-end_of (start + size_of s) ss) in
+    let room : start + length new ≤ length xs = omega (arith, n, l, le-end_offset (start + size_of s) ss) in
     rw (put_at-append xs ys start new room)
     (item_of-append (start + size_of s) ss source (put_at xs start new) ys h (omega (arith, l, length-put_at xs start new room)))
 
-item_of-copied_from : (at : ℕ) (ss : List Scalar) (source bytes : List ℕ) → end_of at ss ≤ length source → end_of at ss ≤ length bytes → item_of at ss source bytes ≡ take at bytes ++ copied_from at ss (drop at source) (drop at bytes)
+item_of-copied_from : (at : ℕ) (ss : List Scalar) (source bytes : List ℕ) → end_offset at ss ≤ length source → end_offset at ss ≤ length bytes → item_of at ss source bytes ≡ take at bytes ++ copied_from at ss (drop at source) (drop at bytes)
 unfolding item_of copied_from
 item_of-copied_from at [] source bytes h l = sym (take-append-drop at bytes)
 item_of-copied_from at (s ∷ ss) source bytes h l =
@@ -108,13 +109,13 @@ item_of-copied_from at (s ∷ ss) source bytes h l =
     let start = at + gap in
     let new = settled s (bytes_at source start (size_of s)) in
     let n : length new ≡ size_of s = length-field at s ss source h in
-    let room : start + size_of s ≤ length bytes = omega (arith, l, le-end_of (start + size_of s) ss) in
+    let room : start + size_of s ≤ length bytes = omega (arith, l, le-end_offset (start + size_of s) ss) in
     let put : length (put_at bytes start new) ≡ length bytes = length-put_at bytes start new (omega (arith, n, room)) in
     item_of-copied_from (start + size_of s) ss source (put_at bytes start new) h (omega (arith, l, put))
     ∙ put_field bytes at gap (size_of s) new (copied_from (start + size_of s) ss (drop (start + size_of s) source)) n room
     ∙ rw (drop-drop gap at source, drop-drop (gap + size_of s) at source, ← add_assoc at gap (size_of s)) refl
 
-columns-suc : (at : ℕ) (ss : List Scalar) (size : ℕ) (source bytes : List ℕ) (n : ℕ) → end_of at ss ≤ size → size ≤ length source → size ≤ length bytes → copied_columns at ss size source bytes (suc n) ≡ take size (item_of at ss source bytes) ++ copied_columns at ss size (drop size source) (drop size (item_of at ss source bytes)) n
+columns-suc : (at : ℕ) (ss : List Scalar) (size : ℕ) (source bytes : List ℕ) (n : ℕ) → end_offset at ss ≤ size → size ≤ length source → size ≤ length bytes → copied_columns at ss size source bytes (suc n) ≡ take size (item_of at ss source bytes) ++ copied_columns at ss size (drop size source) (drop size (item_of at ss source bytes)) n
 unfolding copied_columns copied_column item_of
 columns-suc at [] size source bytes n e h l = sym (take-append-drop size bytes)
 columns-suc at (s ∷ ss) size source bytes n e h l =
@@ -125,7 +126,7 @@ columns-suc at (s ∷ ss) size source bytes n e h l =
     let rest = drop size put in
     let others = copied_column (settled s) (size_of s) start size (drop size source) rest n in
     let w : length new ≡ size_of s = length-field at s ss source (omega arith) in
-    let same : length put ≡ length bytes = length-put_at bytes start new (omega (arith, w, e, l, le-end_of (start + size_of s) ss)) in
+    let same : length put ≡ length bytes = length-put_at bytes start new (omega (arith, w, e, l, le-end_offset (start + size_of s) ss)) in
     let len : length first ≡ size = length-take-le size put (omega (arith, same, l)) in
     let item = item_of (start + size_of s) ss source first in
     let size_item : length item ≡ size = length-item_of (start + size_of s) ss source first (omega arith) (omega (arith, len)) ∙ len in

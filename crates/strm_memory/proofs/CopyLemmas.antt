@@ -8,7 +8,8 @@ use Rattle.std.specs.Prelude.{is_some, IsNone, IsSomeAnd, IsTrue}
 use Rattle.strm_codes.specs.Scalars.{size_of, is_whole_number}
 use Rattle.strm_codes.specs.declared.payloads.Payload.{Payload}
 use Rattle.strm_codes.specs.declared.payloads.Payload.TheVariants.{Nothing, One, Tuple}
-use Rattle.strm_codes.specs.Layout.{scalars_of, gap_before, end_of, item_size}
+use Rattle.strm_codes.specs.Layout.{scalars_of, gap_before, end_offset, item_size}
+use Rattle.strm_codes.proofs.LayoutLemmas.{le-end_offset}
 use Rattle.strm_codes.specs.declared.scalars.Scalar.{Scalar}
 use Rattle.strm_codes.specs.declared.scalars.Scalar.TheVariants.{Bool as Flag, S8, U8, S16, U16, S32, U32, S64, U64, Char}
 use Rattle.strm_memory.specs.Bytes.{le, to_le, put_at, bytes_at, IsBytes}
@@ -17,20 +18,20 @@ use Rattle.strm_memory.specs.Items.{decode_from, encode_from, decode, encode, it
 use Rattle.strm_memory.specs.Copies.{settled, copied_from, copied}
 use Rattle.strm_memory.proofs.ByteLemmas.{IsBytes-drop, IsBytes-take, le-lt}
 use Rattle.strm_memory.proofs.NumberLemmas.{lowered-lifted}
-use Rattle.strm_memory.proofs.FieldLemmas.{le-end_of, is_some-both}
+use Rattle.strm_memory.proofs.FieldLemmas.{is_some-both}
 
 pub option_map_some : {A B P : Type 0} (f : A → B) (o : Option A) (y : B) → option_map f o ≡ Some y → ((x : A) → o ≡ Some x → f x ≡ y → P) → P
 option_map_some f None y e k = cc
 option_map_some f (Some x) y e k = k x refl cc
 
 -- the fields copied are the fields read and then written
-copied_from-decoded : (at : ℕ) (ss : List Scalar) (source bytes : List ℕ) (xs : List ℤ) → IsBytes source → end_of at ss ≤ at + length source → decode_from at ss source ≡ Some xs → copied_from at ss source bytes ≡ encode_from at ss bytes xs
+copied_from-decoded : (at : ℕ) (ss : List Scalar) (source bytes : List ℕ) (xs : List ℤ) → IsBytes source → end_offset at ss ≤ at + length source → decode_from at ss source ≡ Some xs → copied_from at ss source bytes ≡ encode_from at ss bytes xs
 unfolding decode_from encode_from copied_from
 copied_from-decoded at [] source bytes xs h l e = refl
 copied_from-decoded at (s ∷ ss) source bytes xs h l e =
     let gap = gap_before at (size_of s) in
     let here = take (size_of s) (drop gap source) in
-    let inside : gap + size_of s ≤ length source = omega (arith, l, le-end_of (at + gap + size_of s) ss) in
+    let inside : gap + size_of s ≤ length source = omega (arith, l, le-end_offset (at + gap + size_of s) ss) in
     let size : length here ≡ size_of s = length-take-le (size_of s) (drop gap source) (omega (arith, inside, length-drop gap source)) in
     let bytes_here : IsBytes here = IsBytes-take (drop gap source) (size_of s) (IsBytes-drop source gap h) in
     option_and_then_some _ (lifted s (le here)) xs e

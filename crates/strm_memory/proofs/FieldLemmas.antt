@@ -8,9 +8,10 @@ use Rattle.std.specs.Prelude.{option_and_then, is_some, All}
 use Rattle.std.specs.Int.{w128}
 use Rattle.std.proofs.lemmas.Int.{ints}
 use mir.Val.{SFits}
-use Rattle.strm_codes.specs.Scalars.{size_of, FitsScalar, IsBelow, IsWithin}
+use Rattle.strm_codes.specs.Scalars.{size_of, FitsScalar, IsBelow, IsSignedBelow}
 use Rattle.strm_codes.specs.Items.{FitsItem, IsNumber}
-use Rattle.strm_codes.specs.Layout.{gap_before, end_of}
+use Rattle.strm_codes.specs.Layout.{gap_before, end_offset}
+use Rattle.strm_codes.proofs.LayoutLemmas.{le-end_offset}
 use Rattle.strm_codes.specs.declared.scalars.Scalar.{Scalar}
 use Rattle.strm_codes.specs.declared.scalars.Scalar.TheVariants.{Bool as Flag, S8, U8, S16, U16, S32, U32, S64, U64, Char}
 use Rattle.strm_memory.specs.Bytes.{le, to_le, put_at}
@@ -26,22 +27,18 @@ pub record IsField (ss : List Scalar) (k at start size : ℕ) (s : Scalar) : Typ
   pub begins : start ≡ at + gap_before at (size_of s)
   pub takes : size ≡ size_of s
 
-pub le-end_of : (at : ℕ) (ss : List Scalar) → at ≤ end_of at ss
-le-end_of at [] = omega arith
-le-end_of at (s ∷ ss) = omega (arith, le-end_of (at + gap_before at (size_of s) + size_of s) ss)
-
 -- the fields from this one on
 pub drop_field : (ss : List Scalar) (k at start size : ℕ) (s : Scalar) → IsField ss k at start size s → drop k ss ≡ s ∷ drop (k + 1) ss
 drop_field ss k at start size s f = drop_more ss k Flag f.inside ∙ ap (λ t. t ∷ drop (k + 1) ss) f.scalar
 
-pub end_step : (ss : List Scalar) (k at start size : ℕ) (s : Scalar) → IsField ss k at start size s → end_of (start + size) (drop (k + 1) ss) ≡ end_of at (drop k ss)
+pub end_step : (ss : List Scalar) (k at start size : ℕ) (s : Scalar) → IsField ss k at start size s → end_offset (start + size) (drop (k + 1) ss) ≡ end_offset at (drop k ss)
 end_step ss k at start size s f = rw (drop_field ss k at start size s f, f.begins, f.takes) refl
 
-pub field_within : (ss : List Scalar) (k at start size : ℕ) (s : Scalar) → IsField ss k at start size s → start + size ≤ end_of at (drop k ss)
-field_within ss k at start size s f = rw (← end_step ss k at start size s f) (le-end_of (start + size) (drop (k + 1) ss))
+pub field_within : (ss : List Scalar) (k at start size : ℕ) (s : Scalar) → IsField ss k at start size s → start + size ≤ end_offset at (drop k ss)
+field_within ss k at start size s f = rw (← end_step ss k at start size s f) (le-end_offset (start + size) (drop (k + 1) ss))
 
 -- the same before its place is known
-pub next_within : (ss : List Scalar) (k at : ℕ) → k < length ss → at + gap_before at (size_of (get_or ss k Flag)) + size_of (get_or ss k Flag) ≤ end_of at (drop k ss)
+pub next_within : (ss : List Scalar) (k at : ℕ) → k < length ss → at + gap_before at (size_of (get_or ss k Flag)) + size_of (get_or ss k Flag) ≤ end_offset at (drop k ss)
 next_within ss k at h =
     let s = get_or ss k Flag in
     field_within ss k at (at + gap_before at (size_of s)) (size_of s) s (record { inside = h; scalar = refl; begins = refl; takes = refl })
@@ -136,7 +133,7 @@ below_fits : (limit : ℕ) (x : ℤ) → limit ≤ 2 ^ 64 → IsBelow limit x �
 below_fits limit (pos n) h (a, b) = record { sfits = omega (arith, ints) }
 below_fits limit (negsuc n) h (a, b) = record { sfits = omega (arith, ints) }
 
-within_fits : (half : ℕ) (x : ℤ) → half ≤ 2 ^ 64 → IsWithin half x → SFits w128 x
+within_fits : (half : ℕ) (x : ℤ) → half ≤ 2 ^ 64 → IsSignedBelow half x → SFits w128 x
 within_fits half (pos n) h (a, b) = record { sfits = omega (arith, ints) }
 within_fits half (negsuc n) h (a, b) = record { sfits = omega (arith, ints) }
 
@@ -156,7 +153,7 @@ below_number : (limit : ℕ) (x : ℤ) → limit ≤ 2 ^ 64 → IsBelow limit x 
 below_number limit (pos n) h (a, b) = (omega (arith, ints), omega (arith, ints))
 below_number limit (negsuc n) h (a, b) = absurd (omega (arith, ints))
 
-within_number : (half : ℕ) (x : ℤ) → half ≤ 2 ^ 63 → IsWithin half x → IsNumber x
+within_number : (half : ℕ) (x : ℤ) → half ≤ 2 ^ 63 → IsSignedBelow half x → IsNumber x
 within_number half (pos n) h (a, b) = (omega (arith, ints), omega (arith, ints))
 within_number half (negsuc n) h (a, b) = (omega (arith, ints), omega (arith, ints))
 

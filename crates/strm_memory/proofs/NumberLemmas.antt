@@ -3,7 +3,7 @@ use Rattle.std.proofs.Common.{◌≡◌, ℕ, ◌+◌, ◌*◌, ◌^◌, ◌<◌
 use Rattle.std.proofs.lemmas.Int.{ints}
 use Rattle.std.proofs.lemmas.Bool.{lt-ltb, le-ltb, cases_lt}
 use Rattle.std.proofs.lemmas.Option.{cond_some}
-use Rattle.strm_codes.specs.Scalars.{size_of, is_scalar_value, FitsScalar, IsBelow, IsWithin}
+use Rattle.strm_codes.specs.Scalars.{size_of, is_scalar_value, FitsScalar, IsBelow, IsSignedBelow}
 use Rattle.strm_codes.specs.declared.scalars.Scalar.{Scalar}
 use Rattle.strm_codes.specs.declared.scalars.Scalar.TheVariants.{Bool as Flag, S8, U8, S16, U16, S32, U32, S64, U64, Char}
 use Rattle.strm_memory.specs.Bytes.{le, to_le, IsBytes}
@@ -20,7 +20,7 @@ below : (limit : ℕ) (x : ℤ) → IsBelow limit x → (n : ℕ) × (x ≡ pos 
 below limit (pos n) (a, b) = (n, refl, omega (arith, ints))
 below limit (negsuc n) (a, b) = absurd (omega (arith, ints))
 
-signed_again : (half : ℕ) (x : ℤ) → IsWithin half x → (unsigned_of (2 * half) x < 2 * half) × (signed_of half (unsigned_of (2 * half) x) ≡ x)
+signed_again : (half : ℕ) (x : ℤ) → IsSignedBelow half x → (unsigned_of (2 * half) x < 2 * half) × (signed_of half (unsigned_of (2 * half) x) ≡ x)
 signed_again half (pos n) (a, b) =
     let h : n < half = omega (arith, ints) in
     (omega arith, rw (lt-ltb n half h) refl)
@@ -88,9 +88,9 @@ lowered-lifted s bytes x h l small e = settle s bytes x h l small e
         whole Char bytes x h l (back Char (le bytes) x (pos (le bytes)) (cond_some (is_scalar_value (le bytes)) (pos (le bytes)) x e).1 refl)
 
 -- what lift gives fits
-lifted_signed : (half n : ℕ) (x : ℤ) → n < 2 * half → signed_of half n ≡ x → IsWithin half x
+lifted_signed : (half n : ℕ) (x : ℤ) → n < 2 * half → signed_of half n ≡ x → IsSignedBelow half x
 lifted_signed half n x h e =
-    subst (IsWithin half) e
+    subst (IsSignedBelow half) e
     (⊎_elim (λ a. rw (lt-ltb n half a) (omega (arith, ints), omega (arith, ints))) (λ b. rw (le-ltb n half b) (omega (arith, ints), omega (arith, ints))) (cases_lt n half))
 
 lifted_below : (limit n : ℕ) (x : ℤ) → n < limit → pos n ≡ x → IsBelow limit x

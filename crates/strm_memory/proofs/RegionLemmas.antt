@@ -15,7 +15,8 @@ use Rattle.std.proofs.Math.Seq.{take-append-add, drop-append-add}
 use Rattle.std.specs.Prelude.{All, is_some, IsSome, IfSome, IsTrue, option_and_then}
 use Rattle.std.specs.Option.{option_map}
 use Rattle.strm_codes.specs.Scalars.{size_of}
-use Rattle.strm_codes.specs.Layout.{scalars_of, gap_before, end_of, item_size}
+use Rattle.strm_codes.specs.Layout.{scalars_of, gap_before, end_offset, item_size}
+use Rattle.strm_codes.proofs.LayoutLemmas.{le-end_offset}
 use Rattle.strm_codes.specs.Items.{FitsItem, IsNumber}
 use Rattle.strm_codes.specs.declared.scalars.Scalar.{Scalar}
 use Rattle.strm_codes.specs.declared.payloads.Payload.{Payload}
@@ -25,7 +26,7 @@ use Rattle.strm_memory.specs.Numbers.{lifted, lowered}
 use Rattle.strm_memory.specs.Items.{decode_from, encode_from, decode, encode, items, stored, items_at, stored_at, AreItems, is_number_or_none}
 use Rattle.strm_memory.proofs.ByteLemmas.{length-to_le, le-to_le, le-take-lt, IsBytes-drop}
 use Rattle.strm_memory.proofs.NumberLemmas.{IsLifted, IsLifted-fits, FitsScalar-lifted}
-use Rattle.strm_memory.proofs.FieldLemmas.{le-end_of, IsNumber-FitsItem}
+use Rattle.strm_memory.proofs.FieldLemmas.{IsNumber-FitsItem}
 use Rattle.strm_memory.proofs.ItemLemmas.{items-add}
 use Rattle.strm_memory.proofs.CopyLemmas.{option_map_some, items-no_char, number_no_char}
 
@@ -36,7 +37,7 @@ middle a b c n m e f =
     (rw (append_assoc, drop_at a (b ++ c) n e) (take_at b c m f), drop_at (a ++ b) c (n + m) (omega (arith, length-append a b)))
 
 -- an item that fits, stored and read
-decode_from-encode_from : (at : ℕ) (ss : List Scalar) (bytes : List ℕ) (x : List ℤ) → FitsItem ss x → end_of at ss ≤ at + length bytes → decode_from at ss (encode_from at ss bytes x) ≡ Some x
+decode_from-encode_from : (at : ℕ) (ss : List Scalar) (bytes : List ℕ) (x : List ℤ) → FitsItem ss x → end_offset at ss ≤ at + length bytes → decode_from at ss (encode_from at ss bytes x) ≡ Some x
 unfolding decode_from encode_from
 decode_from-encode_from at [] bytes [] h l = refl
 decode_from-encode_from at [] bytes (x ∷ xs) h l = absurd h
@@ -44,31 +45,31 @@ decode_from-encode_from at (s ∷ ss) bytes [] h l = absurd h
 decode_from-encode_from at (s ∷ ss) bytes (x ∷ xs) h l =
     let gap = gap_before at (size_of s) in
     let r : IsLifted s x = IsLifted-fits s x h.0 in
-    let room : gap + size_of s ≤ length bytes = omega (arith, le-end_of (at + gap + size_of s) ss) in
+    let room : gap + size_of s ≤ length bytes = omega (arith, le-end_offset (at + gap + size_of s) ss) in
     let front : length (take gap bytes) ≡ gap = length-take-le gap bytes (omega arith) in
     let rest = encode_from (at + gap + size_of s) ss (drop (gap + size_of s) bytes) xs in
     let m = middle (take gap bytes) (to_le (size_of s) (lowered s x)) rest gap (size_of s) front (length-to_le (size_of s) (lowered s x)) in
     let again = decode_from-encode_from (at + gap + size_of s) ss (drop (gap + size_of s) bytes) xs h.1 (omega (arith, length-drop (gap + size_of s) bytes)) in
     rw (m.0, m.1, le-to_le (size_of s) (lowered s x) r.small, r.again, again) refl
 
-length-encode_from : (at : ℕ) (ss : List Scalar) (bytes : List ℕ) (x : List ℤ) → end_of at ss ≤ at + length bytes → length (encode_from at ss bytes x) ≡ length bytes
+length-encode_from : (at : ℕ) (ss : List Scalar) (bytes : List ℕ) (x : List ℤ) → end_offset at ss ≤ at + length bytes → length (encode_from at ss bytes x) ≡ length bytes
 unfolding encode_from
 length-encode_from at [] bytes x l = refl
 length-encode_from at (s ∷ ss) bytes [] l = refl
 length-encode_from at (s ∷ ss) bytes (x ∷ xs) l =
     let gap = gap_before at (size_of s) in
-    let room : gap + size_of s ≤ length bytes = omega (arith, le-end_of (at + gap + size_of s) ss) in
+    let room : gap + size_of s ≤ length bytes = omega (arith, le-end_offset (at + gap + size_of s) ss) in
     let rest = length-encode_from (at + gap + size_of s) ss (drop (gap + size_of s) bytes) xs (omega (arith, length-drop (gap + size_of s) bytes)) in
     rw (length-append, length-append, length-take-le gap bytes (omega arith), length-to_le (size_of s) (lowered s x), rest, length-drop) (omega arith)
 
 -- the bytes behind an item's fields stay
-drop-encode_from : (at : ℕ) (ss : List Scalar) (bytes : List ℕ) (x : List ℤ) (k : ℕ) → end_of at ss ≤ at + length bytes → end_of at ss ≤ at + k → drop k (encode_from at ss bytes x) ≡ drop k bytes
+drop-encode_from : (at : ℕ) (ss : List Scalar) (bytes : List ℕ) (x : List ℤ) (k : ℕ) → end_offset at ss ≤ at + length bytes → end_offset at ss ≤ at + k → drop k (encode_from at ss bytes x) ≡ drop k bytes
 unfolding encode_from
 drop-encode_from at [] bytes x k l h = refl
 drop-encode_from at (s ∷ ss) bytes [] k l h = refl
 drop-encode_from at (s ∷ ss) bytes (x ∷ xs) k l h =
     let gap = gap_before at (size_of s) in
-    let past : at + gap + size_of s ≤ end_of (at + gap + size_of s) ss = le-end_of (at + gap + size_of s) ss in
+    let past : at + gap + size_of s ≤ end_offset (at + gap + size_of s) ss = le-end_offset (at + gap + size_of s) ss in
     let room : gap + size_of s ≤ length bytes = omega (arith, past) in
     let front : length (take gap bytes ++ to_le (size_of s) (lowered s x)) ≡ gap + size_of s = rw (length-append, length-take-le gap bytes (omega arith), length-to_le (size_of s) (lowered s x)) refl in
     let behind = encode_from (at + gap + size_of s) ss (drop (gap + size_of s) bytes) xs in
@@ -79,13 +80,13 @@ drop-encode_from at (s ∷ ss) bytes (x ∷ xs) k l h =
     rw split (sym (drop-drop (k - (gap + size_of s)) (gap + size_of s) whole) ∙ ap (drop (k - (gap + size_of s))) cut ∙ rest ∙ drop-drop (k - (gap + size_of s)) (gap + size_of s) bytes)
 
 -- an item depends on its own bytes alone
-decode_from-take : (at : ℕ) (ss : List Scalar) (bytes : List ℕ) (k : ℕ) → end_of at ss ≤ at + k → decode_from at ss (take k bytes) ≡ decode_from at ss bytes
+decode_from-take : (at : ℕ) (ss : List Scalar) (bytes : List ℕ) (k : ℕ) → end_offset at ss ≤ at + k → decode_from at ss (take k bytes) ≡ decode_from at ss bytes
 unfolding decode_from
 decode_from-take at [] bytes k h = refl
 decode_from-take at (s ∷ ss) bytes k h =
     let gap = gap_before at (size_of s) in
     let w = size_of s in
-    let room : gap + w ≤ k = omega (arith, le-end_of (at + gap + w) ss) in
+    let room : gap + w ≤ k = omega (arith, le-end_offset (at + gap + w) ss) in
     let a : gap + (k - gap) ≡ k = omega arith in
     let b : gap + w + (k - (gap + w)) ≡ k = omega arith in
     let inner : drop gap (take k bytes) ≡ take (k - gap) (drop gap bytes) = subst (λ j. drop gap (take j bytes) ≡ take (k - gap) (drop gap bytes)) a (drop-take gap (k - gap) bytes) in
@@ -224,7 +225,7 @@ items-stored ss bytes (x ∷ xs) h l =
     let w = item_size ss in
     let e = encode ss bytes x in
     let room : w + w * length xs ≤ length bytes = omega (arith, l) in
-    let inside : end_of 0 ss ≤ 0 + length bytes = omega (arith, room) in
+    let inside : end_offset 0 ss ≤ 0 + length bytes = omega (arith, room) in
     let n : length e ≡ length bytes = length-encode_from 0 ss bytes x inside in
     let size : length (take w e) ≡ w = length-take-le w e (omega (arith, n, room)) in
     let whole = take w e ++ stored ss (drop w e) xs in

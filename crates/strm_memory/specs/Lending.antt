@@ -1,4 +1,4 @@
--- The bytes of a memory, lent.
+-- The bytes of a memory, lent. Ours.
 use Rattle.std.specs.Prelude.{ℕ, List, length}
 use Rattle.std.specs.List.{refill}
 use Rattle.std.specs.Borrow.{Lends, MutBor, Fml, Array, u8}

@@ -100,14 +100,16 @@ fn copy_fields(
     Ok(())
 }
 
-// The bytes of a block: of items whose fields are gone through one after the other, and few enough
-// to stay near.
-const BLOCK: usize = 8192;
-
+// The items of a block, whose fields are gone through one after the other: as many as 8192 bytes
+// hold, or nearly so, since these stay near.
 fn items_in_block(size: usize) -> usize
     ensures { 0 < result }
 {
-    (BLOCK / size.max(1)).max(1)
+    match size {
+        0 | 1 => 8192,
+        2..=8 => 1024,
+        _ => 128,
+    }
 }
 
 // Whether each item's bytes stand for one.

@@ -3,8 +3,8 @@
 //! Source: Canonical ABI, "Alignment", "Loading" and "Storing".
 
 ghost use Rattle.std.specs.Prelude.{◌≡◌, ◌+◌, ◌^◌, ◌<◌, ◌≤◌, length, drop, IfSome};
-ghost use Rattle.strm_codes.specs.Scalars.{size_of, IsWithin, FitsScalar};
-ghost use Rattle.strm_codes.specs.Layout.{gap_before, end_of};
+ghost use Rattle.strm_codes.specs.Scalars.{size_of, IsSignedBelow, FitsScalar};
+ghost use Rattle.strm_codes.specs.Layout.{gap_before, end_offset};
 ghost use Rattle.strm_memory.specs.Bytes.{le, to_le, put_at, bytes_at};
 ghost use Rattle.strm_memory.specs.Numbers.{lifted, lowered};
 ghost use Rattle.strm_memory.specs.Items.{scalar_at};
@@ -15,9 +15,9 @@ use strm_codes::scalars::Scalar;
 // Where a field begins, if the fields before it end at `at`.
 pub(crate) fn field_start(fields: &[Scalar], k: usize, at: usize) -> usize
     requires inside { k < length fields.now }
-    requires small { end_of at (drop k fields.now) < 2 ^ 64 }
+    requires small { end_offset at (drop k fields.now) < 2 ^ 64 }
     ensures exact { result ≡ at + gap_before at (size_of (scalar_at fields.now k)) }
-    ensures within { result + size_of (scalar_at fields.now k) ≤ end_of at (drop k fields.now) }
+    ensures within { result + size_of (scalar_at fields.now k) ≤ end_offset at (drop k fields.now) }
 {
     next_start(at, fields[k])
 }
@@ -39,7 +39,7 @@ fn next_start(at: usize, scalar: Scalar) -> usize
 pub(crate) fn lift_field(bytes: &[u8], at: usize, scalar: Scalar) -> Option<i128>
     requires { at + size_of scalar ≤ length bytes.now }
     ensures exact { result ≡ lifted scalar (le (bytes_at bytes.now at (size_of scalar))) }
-    ensures small { IfSome result (IsWithin (2 ^ 64)) }
+    ensures small { IfSome result (IsSignedBelow (2 ^ 64)) }
 {
     match scalar {
         Scalar::Bool => Some(i128::from(load_1(bytes, at).min(1))),

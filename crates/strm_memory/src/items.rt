@@ -4,7 +4,7 @@
 
 ghost use Rattle.std.specs.Prelude.{◌≡◌, ℕ, ◌+◌, ◌*◌, ◌<◌, ◌≤◌, ◌++◌, length, take, drop, Err, IsErrOf, IsSomeAnd, OnOk, OnErr, vec_len, vec_capacity};
 ghost use Rattle.strm_codes.specs.Items.{FitsItem};
-ghost use Rattle.strm_codes.specs.Layout.{scalars_of, end_of, item_size};
+ghost use Rattle.strm_codes.specs.Layout.{scalars_of, end_offset, item_size};
 ghost use Rattle.strm_memory.specs.Items.{decode, encode, items, items_at, stored, stored_at, AreItems, IsFirstBad};
 
 use crate::fields::{field_start, lift_field, lower_field};
@@ -90,7 +90,7 @@ pub(crate) fn lift_fields(
 // The item that lies there, or none.
 pub(crate) fn lift_item(fields: &[Scalar], bytes: &[u8], from: usize) -> Option<Value>
     requires few { length fields.now ≤ 8 }
-    requires holds { from + end_of 0 fields.now ≤ length bytes.now }
+    requires holds { from + end_offset 0 fields.now ≤ length bytes.now }
     ensures { result ≡ decode fields.now (drop from bytes.now) }
 {
     let mut numbers = [0i128; 8];
@@ -140,7 +140,7 @@ pub(crate) fn lower_fields(
 // Stores one item there.
 fn lower_item(fields: &[Scalar], value: &Value, bytes: &mut [u8], to: usize)
     requires fits { FitsItem fields.now value.now }
-    requires holds { to + end_of 0 fields.now ≤ length bytes.old }
+    requires holds { to + end_offset 0 fields.now ≤ length bytes.old }
     ensures { bytes.new ≡ take to bytes.old ++ encode fields.now (drop to bytes.old) value.now }
 {
     let numbers = value.as_slice();

@@ -126,15 +126,14 @@ impl GuestMemory {
     ) -> Result<(), RegionError>
         ensures { result ≡ region_of (length self.now) (scalars_of payload) address count }
     {
-        let size = payload.size() as usize;
-        let count = count.as_usize();
-        if count == 0 || size == 0 {
+        let len = payload.size() as usize * count.as_usize();
+        if len == 0 {
             return Ok(());
         }
-        if self.bytes.len() < address as usize + size * count {
+        if self.bytes.len() < address as usize + len {
             return Err(RegionError::OutOfBounds);
         }
-        if address % payload.align() > 0 {
+        if !payload.is_aligned(address) {
             return Err(RegionError::NotAligned);
         }
         Ok(())

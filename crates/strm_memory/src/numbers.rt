@@ -3,7 +3,7 @@
 //! Source: Canonical ABI, `load_int`, `store_int` and `convert_i32_to_char`.
 
 ghost use Rattle.std.specs.Prelude.{◌≡◌, ◌+◌, ◌*◌, ◌^◌, ◌<◌, ◌≤◌, length};
-ghost use Rattle.strm_codes.specs.Scalars.{is_scalar_value, IsWithin};
+ghost use Rattle.strm_codes.specs.Scalars.{is_scalar_value, IsSignedBelow};
 ghost use Rattle.strm_memory.specs.Bytes.{le, to_le, put_at, bytes_at, IsBytes};
 ghost use Rattle.strm_memory.specs.Numbers.{signed_of, unsigned_of};
 
@@ -75,7 +75,7 @@ pub(crate) fn signed(half: u64, number: u64) -> i128
 // The bytes of a number in two's complement.
 pub(crate) fn unsigned(half: u64, number: i128) -> u64
     requires small { half ≤ 2 ^ 63 }
-    requires within { IsWithin half number }
+    requires within { IsSignedBelow half number }
     ensures { result ≡ unsigned_of (2 * half) number }
 {
     if number < 0 {

@@ -32,7 +32,7 @@ use Rattle.strm_machine.specs.declared.streams.Meeting.TheVariants.{BothComplete
 use Rattle.strm_machine.specs.declared.steps.Step.{Step}
 use Rattle.strm_machine.specs.declared.steps.Step.TheVariants as steps
 use Rattle.strm_machine.specs.declared.replies.Reply.TheVariants as replies
-use Rattle.strm_session.specs.Plain.{IsPlain}
+use Rattle.strm_lines.specs.Plain.{IsPlain}
 use Rattle.strm_session.specs.declared.runs.RunCause.{RunCause}
 use Rattle.strm_session.specs.declared.runs.RunCause.TheVariants as causes
 use Rattle.strm_session.proofs.PlayLemmas.{is_halt}

@@ -1,10 +1,4 @@
 pub mod PortLemmas
-pub mod CutLemmas
-pub mod NumberLemmas
-pub mod HexLemmas
-pub mod ReadingLemmas
-pub mod StepLemmas
-pub mod LineLemmas
 pub mod PlayLemmas
 pub mod CalmLemmas
 pub mod ServingLemmas

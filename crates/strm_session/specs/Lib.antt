@@ -1,10 +1,10 @@
 pub mod Faults
 pub mod InMemory
-pub mod Words
-pub mod Grammar
-pub mod Plain
-pub mod Lines
-pub mod Reading
-pub mod Text
 pub mod Runs
 pub mod Serving
+pub use Rattle.strm_lines.specs.Words
+pub use Rattle.strm_lines.specs.Grammar
+pub use Rattle.strm_lines.specs.Plain
+pub use Rattle.strm_lines.specs.Lines
+pub use Rattle.strm_lines.specs.Reading
+pub use Rattle.strm_lines.specs.Text

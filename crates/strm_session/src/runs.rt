@@ -10,12 +10,12 @@ ghost use Rattle.strm_machine.specs.declared.streams.Side.{Side};
 ghost use Rattle.strm_machine.specs.declared.steps.Step.{Step};
 ghost use Rattle.strm_machine.specs.declared.replies.Reply.TheVariants.{BadItem as IsBadItem};
 ghost use Rattle.strm_laws.specs.Laws.{HasBytes};
-ghost use Rattle.strm_session.specs.Plain.{IsPlain};
+ghost use Rattle.strm_lines.specs.Plain.{IsPlain};
 ghost use Rattle.strm_session.specs.Runs.{start, received, next_step, StopsBy, IsKept};
 
-use crate::lists::{Counts, Replies};
 use std::alloc::Global;
 use strm_codes::counts::OutOfMemory;
+use strm_lines::lists::{Counts, Replies};
 use strm_machine::limits::Limits;
 use strm_machine::replies::Reply;
 use strm_machine::steps::Step;

@@ -8,11 +8,11 @@ ghost use Rattle.std.specs.Io.KnownBytes.{Appends, Consumes, IsAtEnd, ReadConsum
 ghost use Rattle.strm_session.specs.Faults.{Rose, TakesPart};
 ghost use Rattle.strm_session.specs.declared.whole.InputError.TheVariants.{Fault, OutOfMemory as WantOfMemory};
 
-use crate::lists::TextBytes;
-use crate::parsing::MAX_BYTES;
 use crate::ports::{Failed, Sink, Source};
 use std::alloc::{AllocError, Global};
 use strm_codes::counts::OutOfMemory;
+use strm_lines::lists::TextBytes;
+use strm_lines::parsing::MAX_BYTES;
 use thiserror::Error;
 
 // The most bytes that one read asks for.

@@ -7,7 +7,7 @@ use Rattle.strm_codes.specs.declared.codes.TransmitIndex.{TransmitIndex}
 use Rattle.strm_codes.specs.declared.codes.TransmitIndex.TheVariants as index
 use Rattle.strm_codes.specs.declared.payloads.Payload.{Payload}
 use Rattle.strm_handles.specs.Handles.{Handles, Table, lends_of, live_of, removed}
-use Rattle.strm_handles.specs.Ends.{accepted}
+use Rattle.strm_handles.specs.Ends.{without_value}
 use Rattle.strm_handles.specs.Lookups.{◌>>=◌, stream_of, future_of}
 use Rattle.strm_handles.specs.declared.entries.TransmitEnd.{TransmitEnd}
 use Rattle.strm_handles.specs.declared.errors.HandleError.{HandleError}
@@ -70,7 +70,7 @@ pub live_less : (guests : List machine.Guest) (g : ℕ) (handles : Handles) → 
 live_less guests g handles l h =
     omega (arith, h, sum_by-set (λ (k : machine.Guest). live_of k.handles) guests g (record (guest_in guests g) { handles = handles }) no_guest l)
 
-first_ok : {A B : Type 0} (r : Result A HandleError) (next : A → Result B HandleError) → accepted (r >>= next) ≡ Ok tt → IsOk r
+first_ok : {A B : Type 0} (r : Result A HandleError) (next : A → Result B HandleError) → without_value (r >>= next) ≡ Ok tt → IsOk r
 first_ok (Ok x) next e = refl
 first_ok (Err x) next e = cc
 

@@ -6,7 +6,7 @@ use Rattle.strm_codes.specs.declared.codes.TransmitIndex.{TransmitIndex}
 use Rattle.strm_codes.specs.declared.codes.TransmitIndex.TheVariants as index
 use Rattle.strm_handles.specs.Counters.{Counter, uncounted}
 use Rattle.strm_handles.specs.Handles.{Handles, removed}
-use Rattle.strm_handles.specs.Ends.{accepted, readable, writable}
+use Rattle.strm_handles.specs.Ends.{without_value, readable, writable}
 use Rattle.strm_handles.specs.Lookups.{◌>>=◌, stream_of, future_of}
 use Rattle.strm_handles.specs.declared.entries.TransmitEnd.{TransmitEnd}
 use Rattle.strm_handles.specs.declared.entries.TransmitLocalState.{TransmitLocalState}
@@ -146,7 +146,7 @@ idle_readable (states.Read done) i e = refl
 idle_readable (states.Write done) i e = cc
 idle_readable (states.Busy reading) i e = cc
 
-told_ok : {A B : Type 0} (x : Result A HandleError) (told : A → B) → IsOk x → accepted (x >>= (λ v. Ok (told v))) ≡ Ok tt
+told_ok : {A B : Type 0} (x : Result A HandleError) (told : A → B) → IsOk x → without_value (x >>= (λ v. Ok (told v))) ≡ Ok tt
 told_ok (Ok v) told h = refl
 told_ok (Err v) told h = cc
 
@@ -154,7 +154,7 @@ same_name : (end : TransmitEnd) (name : ℕ × TransmitLocalState) → ◌≡◌
 same_name end name e = cc
 
 -- an end that was found, and is then found to be removable
-found_removable : {A B : Type 0} (r : Result TransmitEnd HandleError) (first : TransmitLocalState → Result A HandleError) (told : TransmitEnd → A → B) (name : ℕ × TransmitLocalState) → (r >>= (λ e. Ok (e.rep, e.state))) ≡ Ok name → IsOk (first name.1) → accepted (r >>= (λ e. first e.state >>= (λ x. Ok (told e x)))) ≡ Ok tt
+found_removable : {A B : Type 0} (r : Result TransmitEnd HandleError) (first : TransmitLocalState → Result A HandleError) (told : TransmitEnd → A → B) (name : ℕ × TransmitLocalState) → (r >>= (λ e. Ok (e.rep, e.state))) ≡ Ok name → IsOk (first name.1) → without_value (r >>= (λ e. first e.state >>= (λ x. Ok (told e x)))) ≡ Ok tt
 found_removable (Err e) first told name f k = cc
 found_removable (Ok end) first told name f k =
     told_ok (first end.state) (told end) (subst (λ (n : ℕ × TransmitLocalState). IsOk (first n.1)) (same_name end name f) k)

@@ -3,7 +3,7 @@ use Rattle.std.specs.Prelude.{ℕ, List, map, sum_by, slice_index_or, Result}
 use Rattle.strm_codes.specs.declared.codes.TransmitIndex.{TransmitIndex}
 use Rattle.strm_codes.specs.declared.codes.TransmitIndex.TheVariants as index
 use Rattle.strm_handles.specs.Handles.{Handles, live_of}
-use Rattle.strm_handles.specs.Ends.{accepted, stream_readable_of, stream_writable_of, future_readable_of, future_writable_of}
+use Rattle.strm_handles.specs.Ends.{without_value, stream_readable_of, stream_writable_of, future_readable_of, future_writable_of}
 use Rattle.strm_handles.specs.declared.errors.HandleError.{HandleError}
 use Rattle.strm_machine.specs.declared.streams.Side.{Side}
 use Rattle.strm_machine.specs.declared.streams.Side.TheVariants.{Writing, Reading}
@@ -26,7 +26,7 @@ live_in guests = sum_by (λ (g : machine.Guest). live_of g.handles) guests
 
 -- what a table answers to the removal of an end
 abbrev pub removable : Side → TransmitIndex → Handles → ℕ → Result (Unit {0}) HandleError
-removable Writing (index.Stream payload) handles handle = accepted (stream_writable_of handles payload handle)
-removable Reading (index.Stream payload) handles handle = accepted (stream_readable_of handles payload handle)
-removable Writing (index.Future payload) handles handle = accepted (future_writable_of handles payload handle)
-removable Reading (index.Future payload) handles handle = accepted (future_readable_of handles payload handle)
+removable Writing (index.Stream payload) handles handle = without_value (stream_writable_of handles payload handle)
+removable Reading (index.Stream payload) handles handle = without_value (stream_readable_of handles payload handle)
+removable Writing (index.Future payload) handles handle = without_value (future_writable_of handles payload handle)
+removable Reading (index.Future payload) handles handle = without_value (future_readable_of handles payload handle)

@@ -7,7 +7,7 @@ ghost use Rattle.std.specs.Result.{ForOk};
 ghost use Rattle.strm_handles.specs.Handles.{entry_at, with_entry, live_of};
 ghost use Rattle.strm_handles.specs.Changes.{Inserts, Removes};
 ghost use Rattle.strm_handles.specs.Lookups.{stream_of, future_of, stream_rep_of, future_rep_of, end_rep_of};
-ghost use Rattle.strm_handles.specs.Ends.{read_end, write_end, is_reading, accepted, stream_readable_of, stream_writable_of, future_readable_of, future_writable_of};
+ghost use Rattle.strm_handles.specs.Ends.{read_end, write_end, is_reading, without_value, stream_readable_of, stream_writable_of, future_readable_of, future_writable_of};
 
 use crate::counters::HandleCounter;
 use crate::entries::{Entry, TransmitEnd, TransmitLocalState};
@@ -139,7 +139,7 @@ impl HandleTable {
     ) -> Result<(), HandleError>
         requires { ForOk (stream_of self.old.handles ty idx)
             (λ end. is_reading state ≡ is_reading end.state) }
-        ensures answer { result ≡ accepted (stream_of self.old.handles ty idx) }
+        ensures answer { result ≡ without_value (stream_of self.old.handles ty idx) }
         ensures ok { IfOk (stream_of self.old.handles ty idx) (λ end. self.new.handles
             ≡ with_entry self.old.handles idx (Entry.Stream (record end { state = state }))) }
         ensures room { self.new.room ≡ self.old.room }
@@ -160,7 +160,7 @@ impl HandleTable {
     ) -> Result<(), HandleError>
         requires { ForOk (future_of self.old.handles ty idx)
             (λ end. is_reading state ≡ is_reading end.state) }
-        ensures answer { result ≡ accepted (future_of self.old.handles ty idx) }
+        ensures answer { result ≡ without_value (future_of self.old.handles ty idx) }
         ensures ok { IfOk (future_of self.old.handles ty idx) (λ end. self.new.handles
             ≡ with_entry self.old.handles idx (Entry.Future (record end { state = state }))) }
         ensures room { self.new.room ≡ self.old.room }

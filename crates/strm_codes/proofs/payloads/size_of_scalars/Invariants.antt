@@ -1,9 +1,9 @@
 use Rattle.std.proofs.Common.{◌≡◌, ◌*◌, ◌≤◌, drop}
-use Rattle.strm_codes.specs.Layout.{end_of}
+use Rattle.strm_codes.specs.Layout.{end_offset}
 use Rattle.strm_codes.proofs.payloads.size_of_scalars.Given as goal
 
 abbrev pub invariant-loop-scalar : goal.invariant-loop-scalar
 invariant-loop-scalar l = record {
-  ends : end_of l.at (drop l.scalar-index l.scalars) ≡ end_of 0 l.scalars;
+  ends : end_offset l.at (drop l.scalar-index l.scalars) ≡ end_offset 0 l.scalars;
   small : l.at ≤ 8 * l.scalar-index;
 }

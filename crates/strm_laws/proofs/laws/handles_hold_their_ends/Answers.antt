@@ -1,5 +1,5 @@
--- Handles and ends agree after whichever steps, as each step keeps it so.
-use Rattle.strm_laws.proofs.Holding.{handles_hold, handles_are_single}
+-- Handles and ends agree after whichever steps.
+use Rattle.strm_laws.proofs.Handles.{handles_hold, handles_are_single}
 use Rattle.strm_laws.proofs.laws.handles_hold_their_ends.Goals as goal
 
 pub returns-clause-holds : goal.returns-clause-holds

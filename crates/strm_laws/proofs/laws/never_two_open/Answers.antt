@@ -1,7 +1,6 @@
--- No two open sides, from what is known of each step.
-use Rattle.strm_laws.proofs.EveryRun.{apart}
-use Rattle.strm_laws.proofs.Steps.{reacts}
+-- No two open sides.
+use Rattle.strm_laws.proofs.LawfulRuns.{apart}
 use Rattle.strm_laws.proofs.laws.never_two_open.Goals as goal
 
 pub returns : goal.returns
-returns c tag limits run s a = apart reacts tag limits run s a
+returns c tag limits run s a = apart tag limits run s a

@@ -1,5 +1,5 @@
--- The bytes beside what a moment touches, from what each step leaves.
-use Rattle.strm_laws.proofs.Leaving.{other_bytes_stay}
+-- The bytes beside what a moment touches.
+use Rattle.strm_laws.proofs.OtherBytes.{other_bytes_stay}
 use Rattle.strm_laws.proofs.laws.other_bytes_stay.Goals as goal
 
 pub returns : goal.returns

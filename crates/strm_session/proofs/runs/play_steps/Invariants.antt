@@ -3,7 +3,7 @@ use Rattle.strm_machine.specs.Plays.{play}
 use Rattle.strm_machine.specs.declared.steps.Step.{Step}
 use Rattle.std.specs.Prelude.{All}
 use Rattle.strm_laws.specs.Laws.{HasBytes}
-use Rattle.strm_session.specs.Plain.{IsPlain}
+use Rattle.strm_lines.specs.Plain.{IsPlain}
 use Rattle.strm_session.proofs.CalmLemmas.{AreCalm}
 use Rattle.strm_session.specs.Runs.{start}
 use Rattle.strm_session.proofs.runs.play_steps.Given as goal

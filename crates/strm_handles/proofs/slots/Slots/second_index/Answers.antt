@@ -1,4 +1,4 @@
-use Rattle.std.proofs.Common.{◌<◌, ◌≤◌, arith}
+use Rattle.std.proofs.Common.{◌<◌, arith}
 use Rattle.strm_handles.proofs.ChainLemmas.{first_is_free, second_is}
 use Rattle.strm_handles.proofs.slots.Slots.second_index.Goals as goal
 

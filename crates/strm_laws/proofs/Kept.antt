@@ -1,0 +1,121 @@
+-- The account of an end of a stream: what holds of the moments so far and of the state that they led to, and
+-- how it grows by one moment.
+use Rattle.std.proofs.Common.{◌≡◌, ℕ, ◌+◌, ◌*◌, ◌≤◌, List, [], ◌∷◌, ◌++◌, Option, None, Some, refl, sym, arith, append_assoc, ⊎_elim}
+use Rattle.std.proofs.lemmas.List.{append-nil}
+use Rattle.std.proofs.lemmas.Bool.{lt-ltb, le-ltb, cases_lt}
+use Rattle.std.proofs.lemmas.List.Elements.{All-nil, All-cons, All-head, All-tail, All-push}
+use Rattle.std.specs.Prelude.{All, nat_lt, ◌||◌}
+use Rattle.strm_codes.specs.Layout.{scalars_of, item_size}
+use Rattle.strm_codes.specs.declared.codes.ReturnCode.{ReturnCode}
+use Rattle.strm_codes.specs.declared.codes.TransmitKind.{TransmitKind}
+use Rattle.strm_codes.specs.declared.payloads.Payload.{Payload}
+use Rattle.strm_machine.specs.State.{State, stream_at}
+use Rattle.strm_machine.specs.declared.streams.Side.{Side}
+use Rattle.strm_machine.specs.declared.streams.Side.TheVariants.{Writing}
+use Rattle.strm_machine.specs.declared.streams.Operation.{Operation}
+use Rattle.strm_machine.specs.Moments.{Moment, Call, k_of, items_in, received, report_in, accepted_in, got_in}
+use Rattle.strm_laws.specs.Conservation.{calls, all_reported, got, handed, all_handed}
+use Rattle.strm_laws.specs.Laws.{total, waiting, moved_at, IsAsked, AreReported, Carries, Stands}
+use Rattle.strm_laws.proofs.Calls.{settled-append, settled-reported, settled-none, calls-push, all_reported-push, got-push}
+use Rattle.strm_laws.proofs.Handed.{IsReached, reaches-push, k_of-reported, total-append, handed-old, handed-new, handed-add, all_handed-append, all_handed-old, all_handed-one}
+
+abbrev pub kind_at : ℕ → State → TransmitKind
+kind_at s state = (stream_at state s).kind
+
+abbrev pub payload_at : ℕ → State → Payload
+payload_at s state = (stream_at state s).payload
+
+-- the account of an end of a stream, as of one of this kind
+pub record Kept (kind : TransmitKind) (s : ℕ) (side : Side) (all : List Moment) (state : State) : Type 0 where
+  pub stands : Stands (payload_at s state) (waiting s side state) (calls s side all)
+  pub items : side ≡ Writing → got s all ≡ all_handed kind s all (moved_at s side state) 0 (calls s side all)
+  pub count : received s state ≡ total kind (moved_at s side state) (calls s side all)
+  pub within : All (IsAsked kind (moved_at s side state)) (calls s side all)
+  pub told : all_reported kind s side all + moved_at s side state ≡ received s state
+  pub reached : IsReached s all (received s state)
+
+or-ltb : (n a b : ℕ) → a ≤ b → (nat_lt n a || nat_lt n b) ≡ nat_lt n b
+or-ltb n a b le = ⊎_elim (λ h. rw (lt-ltb n a h, lt-ltb n b (omega arith)) refl) (λ h. rw (le-ltb n a h) refl) (cases_lt n a)
+
+pub reached_more : (s : ℕ) (all : List Moment) (m : Moment) (r t : ℕ) → IsReached s all r → received s m.after ≡ t → r ≤ t → IsReached s (all ++ m ∷ []) t
+reached_more s all m r t h e le n = rw (reaches-push s all m n, h n, e) (or-ltb n r t le)
+
+-- where all have their reports, what the operation moved doesn't count
+pub within_reported : (kind : TransmitKind) (a b : ℕ) (cs : List Call) → AreReported cs → All (IsAsked kind a) cs → All (IsAsked kind b) cs
+within_reported kind a b [] h w = All-nil (IsAsked kind b)
+within_reported kind a b (c ∷ cs) h w =
+    let here : k_of kind a c.report ≡ k_of kind b c.report = k_of-reported kind a b c.report h.0 in
+    let within : k_of kind a c.report ≤ c.asked = All-head (IsAsked kind a) c cs w in
+    All-cons (IsAsked kind b) c cs (omega (arith, here, within)) (within_reported kind a b cs h.1 (All-tail (IsAsked kind a) c cs w))
+
+pub within_front : (kind : TransmitKind) (a : ℕ) (cs ds : List Call) → All (IsAsked kind a) (cs ++ ds) → All (IsAsked kind a) cs
+within_front kind a [] ds w = All-nil (IsAsked kind a)
+within_front kind a (c ∷ cs) ds w = All-cons (IsAsked kind a) c cs (All-head (IsAsked kind a) c (cs ++ ds) w) (within_front kind a cs ds (All-tail (IsAsked kind a) c (cs ++ ds) w))
+
+pub none_reported : (payload : Payload) (o : Option Operation) (ws : List Call) → o ≡ None → Stands payload o ws → AreReported ws
+none_reported payload None ws e h = h
+none_reported payload (Some o) ws e h = cc
+
+pub some_carries : (payload : Payload) (o : Option Operation) (p : Operation) (ws : List Call) → o ≡ Some p → Stands payload o ws → Carries payload p ws
+some_carries payload None p ws e h = cc
+some_carries payload (Some o) p ws e h = let q : o ≡ p = cc in rw q at h
+
+pub from_none : (payload : Payload) (o : Option Operation) (ws : List Call) → o ≡ None → AreReported ws → Stands payload o ws
+from_none payload None ws e h = h
+from_none payload (Some o) ws e h = cc
+
+pub from_some : (payload : Payload) (o : Option Operation) (p : Operation) (ws : List Call) → o ≡ Some p → Carries payload p ws → Stands payload o ws
+from_some payload None p ws e h = cc
+from_some payload (Some o) p ws e h = let q : p ≡ o = cc in rw q at h
+
+module _ (s : ℕ) (side : Side) (all : List Moment) (m : Moment) where
+  -- no call is without a report, and none is taken
+  pub calls-same : AreReported (calls s side all) → accepted_in s side m (report_in s side m) ≡ [] → calls s side (all ++ m ∷ []) ≡ calls s side all
+  calls-same h t = rw (calls-push s side all m, t, settled-reported (report_in s side m) (calls s side all) h) (append-nil (calls s side all))
+
+  -- no report, and no call is taken
+  pub calls-unreported : report_in s side m ≡ None → accepted_in s side m (report_in s side m) ≡ [] → calls s side (all ++ m ∷ []) ≡ calls s side all
+  calls-unreported e t = rw (calls-push s side all m, t, e, settled-none (calls s side all)) (append-nil (calls s side all))
+
+  -- a call is taken, behind others that have their reports
+  pub calls-taken : (g address n : ℕ) (q : Option ReturnCode) → AreReported (calls s side all) → accepted_in s side m (report_in s side m) ≡ record { guest = g; address = address; asked = n; report = report_in s side m } ∷ [] → report_in s side m ≡ q
+      → calls s side (all ++ m ∷ []) ≡ calls s side all ++ record { guest = g; address = address; asked = n; report = q } ∷ []
+  calls-taken g address n q h t e = rw (calls-push s side all m, t, settled-reported (report_in s side m) (calls s side all) h, e) refl
+
+  -- the call without a report gets one
+  pub calls-settled : (earlier : List Call) (w : Call) (code : ReturnCode) → calls s side all ≡ earlier ++ w ∷ [] → AreReported earlier → w.report ≡ None → accepted_in s side m (report_in s side m) ≡ [] → report_in s side m ≡ Some code
+      → calls s side (all ++ m ∷ []) ≡ earlier ++ record { guest = w.guest; address = w.address; asked = w.asked; report = Some code } ∷ []
+  calls-settled earlier w code split h u t e =
+      rw (calls-push s side all m, t, e, split, settled-append (Some code) earlier (w ∷ []), settled-reported (Some code) earlier h, u) (append-nil _)
+
+module _ (kind : TransmitKind) (s : ℕ) (side : Side) (all : List Moment) (m : Moment) where
+  -- what the writes handed over, where in this moment the last of them hands over n after x others
+  all_handed-more : (earlier : List Call) (w : Call) (moved r x n : ℕ) → IsReached s all r → r ≡ total kind moved earlier + x → received s m.after ≡ r + n → k_of kind moved w.report ≡ x + n
+      → all_handed kind s (all ++ m ∷ []) moved 0 (earlier ++ w ∷ []) ≡ (all_handed kind s all moved 0 earlier ++ handed s all (total kind moved earlier) w 0 x) ++ items_in (payload_at s m.before) m.before.guests w.guest (w.address + item_size (scalars_of (payload_at s m.before)) * x) n
+  all_handed-more earlier w moved r x n reached count more k =
+      let t = total kind moved earlier in
+      let payload = payload_at s m.before in
+      let a : all_handed kind s (all ++ m ∷ []) moved 0 earlier ≡ all_handed kind s all moved 0 earlier = all_handed-old kind s all m moved 0 r earlier reached (omega arith) in
+      let b : handed s (all ++ m ∷ []) t w 0 x ≡ handed s all t w 0 x = handed-old s all m t w r 0 x reached (omega arith) in
+      let c : handed s (all ++ m ∷ []) t w (0 + x) n ≡ items_in payload m.before.guests w.guest (w.address + item_size (scalars_of payload) * (0 + x)) n = handed-new s all m t w r (0 + x) n payload reached (omega arith) (omega arith) refl in
+      let z : 0 + x ≡ x = omega arith in
+      let y : 0 + t ≡ t = omega arith in
+      rw (all_handed-append kind s (all ++ m ∷ []) moved 0 earlier (w ∷ []), y, all_handed-one kind s (all ++ m ∷ []) moved t w, k, handed-add s (all ++ m ∷ []) t w 0 x n (x + n) refl, a, b, c, z)
+      (sym (append_assoc (all_handed kind s all moved 0 earlier) (handed s all t w 0 x) (items_in payload m.before.guests w.guest (w.address + item_size (scalars_of payload) * x) n)))
+
+  -- the account is kept where the last call moves n items after x others
+  pub kept_from : (earlier : List Call) (w : Call) (moved r x n : ℕ) → Stands (payload_at s m.after) (waiting s side m.after) (earlier ++ w ∷ []) → calls s side (all ++ m ∷ []) ≡ earlier ++ w ∷ []
+      → moved_at s side m.after ≡ moved → IsReached s all r → r ≡ total kind moved earlier + x → received s m.after ≡ r + n → k_of kind moved w.report ≡ x + n
+      → All (IsAsked kind moved) earlier → x + n ≤ w.asked
+      → all_reported kind s side all + x ≡ r → k_of kind 0 (report_in s side m) + moved ≡ x + n
+      → (side ≡ Writing → got s all ≡ all_handed kind s all moved 0 earlier ++ handed s all (total kind moved earlier) w 0 x)
+      → (side ≡ Writing → got_in s m ≡ items_in (payload_at s m.before) m.before.guests w.guest (w.address + item_size (scalars_of (payload_at s m.before)) * x) n)
+      → Kept kind s side (all ++ m ∷ []) m.after
+  kept_from earlier w moved r x n stands calls_are now reached count more k within fits told report before here = record {
+    stands = rw calls_are stands;
+    items = λ e. rw (got-push s all m, here e, before e, calls_are, now) (sym (all_handed-more earlier w moved r x n reached count more k));
+    count = rw (calls_are, now, total-append kind moved earlier (w ∷ []), more, k) (omega arith);
+    within = rw (calls_are, now) (All-push (IsAsked kind moved) earlier w within (omega arith));
+    told = rw (all_reported-push kind s side all m, now, more) (omega arith);
+    reached = reached_more s all m r (received s m.after) reached refl (omega arith);
+  }

@@ -1,0 +1,6 @@
+pub mod CutLemmas
+pub mod NumberLemmas
+pub mod HexLemmas
+pub mod ReadingLemmas
+pub mod StepLemmas
+pub mod LineLemmas

@@ -1,0 +1,14 @@
+use Rattle.std.proofs.Common.{◌≡◌, ◌++◌, length, map}
+use Rattle.std.specs.Prelude.{All}
+use Rattle.strm_lines.specs.Grammar.{spelling, HasLine}
+use Rattle.strm_lines.specs.Lines.{lines_of}
+use Rattle.strm_lines.proofs.parsing.parse_lines.Given as goal
+
+abbrev pub invariant-loop-rest : goal.invariant-loop-rest
+invariant-loop-rest l = record {
+  lines : lines_of l.bytes ≡ map spelling l.steps ++ lines_of l.rest;
+  have : All HasLine l.steps;
+}
+
+abbrev pub decreases-loop-rest : goal.decreases-loop-rest
+decreases-loop-rest l = length l.rest

@@ -1,0 +1,80 @@
+-- The grammar of the lines: which steps have a line, and how each is spelled. Ours.
+use Rattle.std.specs.Prelude.{◌≡◌, ◌≢◌, ℕ, ◌^◌, ◌<◌, ◌≤◌, List, [], ◌∷◌, length, All, codes, decimal}
+use Rattle.std.specs.List.{join_with_byte}
+use Rattle.strm_codes.specs.declared.scalars.Scalar.TheVariants.{U8}
+use Rattle.strm_codes.specs.declared.payloads.Payload.TheVariants.{One}
+use Rattle.strm_codes.specs.declared.codes.TransmitIndex.{TransmitIndex}
+use Rattle.strm_codes.specs.declared.codes.TransmitIndex.TheVariants.{Stream}
+use Rattle.strm_machine.specs.declared.steps.Step.{Step}
+use Rattle.strm_machine.specs.declared.steps.Step.TheVariants.{Guest, Between, Write, Read, DropWrite, DropRead, Event, Poke, Dump}
+use Rattle.strm_lines.specs.Words.{hex_pairs, type_word}
+
+-- words in a row, exactly one space between each two
+abbrev pub words : List (List ℕ) → List ℕ
+words = join_with_byte 32
+
+-- the words behind `write` and `read`
+abbrev pub operands : ℕ → TransmitIndex → ℕ → ℕ → ℕ → List (List ℕ)
+operands guest ty handle address count =
+    decimal guest ∷ type_word ty ∷ decimal handle ∷ decimal address ∷ decimal count ∷ []
+
+-- the words behind `drop-write` and `drop-read`
+abbrev pub named_end : ℕ → TransmitIndex → ℕ → List (List ℕ)
+named_end guest ty handle = decimal guest ∷ type_word ty ∷ decimal handle ∷ []
+
+-- the line of a step, without its line feed; numbers are decimal, without leading zeros
+abbrev pub spelling : Step → List ℕ
+spelling (Guest size) = words (codes "guest" ∷ decimal size ∷ [])
+spelling (Between writer reader ty) =
+    words (codes "pair" ∷ decimal writer ∷ decimal reader ∷ type_word ty ∷ [])
+spelling (Write guest ty handle address count) =
+    words (codes "write" ∷ operands guest ty handle address count)
+spelling (Read guest ty handle address count) =
+    words (codes "read" ∷ operands guest ty handle address count)
+spelling (DropWrite guest ty handle) = words (codes "drop-write" ∷ named_end guest ty handle)
+spelling (DropRead guest ty handle) = words (codes "drop-read" ∷ named_end guest ty handle)
+spelling (Event guest handle) = words (codes "event" ∷ decimal guest ∷ decimal handle ∷ [])
+spelling (Poke guest address bytes) =
+    words (codes "poke" ∷ decimal guest ∷ decimal address ∷ hex_pairs bytes ∷ [])
+spelling (Dump guest address len) =
+    words (codes "dump" ∷ decimal guest ∷ decimal address ∷ decimal len ∷ [])
+
+-- what a number of a line can be
+abbrev pub IsU32 : ℕ → Type 0
+IsU32 n = n < 2 ^ 32
+
+-- a number from low to high
+abbrev pub IsWithin : ℕ → ℕ → ℕ → Type 0
+IsWithin low high n = (low ≤ n) × (n ≤ high)
+
+-- the bytes of one line: 1 to 64
+pub record IsLineBytes (bytes : List ℕ) : Type 0 where
+  pub some : 0 < length bytes
+  pub most : length bytes ≤ 64
+  pub each : All (λ b. b < 2 ^ 8) bytes
+
+-- the one type that lines name
+abbrev pub IsByteStream : TransmitIndex → Type 0
+IsByteStream ty = ty ≡ Stream (One U8)
+
+-- what `write` and `read` can name; a count of 2^28 or more is refused by the machine
+abbrev pub AreOperands : ℕ → TransmitIndex → ℕ → ℕ → ℕ → Type 0
+AreOperands guest ty handle address count =
+    IsU32 guest × (IsByteStream ty × (IsU32 handle × (IsU32 address × IsU32 count)))
+
+-- what `drop-write` and `drop-read` can name
+abbrev pub IsNamedEnd : ℕ → TransmitIndex → ℕ → Type 0
+IsNamedEnd guest ty handle = IsU32 guest × (IsByteStream ty × IsU32 handle)
+
+-- the steps that have a line
+abbrev pub HasLine : Step → Type 0
+HasLine (Guest size) = IsU32 size
+HasLine (Between writer reader ty) =
+    (writer ≢ reader) × (IsU32 writer × (IsU32 reader × IsByteStream ty))
+HasLine (Write guest ty handle address count) = AreOperands guest ty handle address count
+HasLine (Read guest ty handle address count) = AreOperands guest ty handle address count
+HasLine (DropWrite guest ty handle) = IsNamedEnd guest ty handle
+HasLine (DropRead guest ty handle) = IsNamedEnd guest ty handle
+HasLine (Event guest handle) = IsU32 guest × IsU32 handle
+HasLine (Poke guest address bytes) = IsU32 guest × (IsU32 address × IsLineBytes bytes)
+HasLine (Dump guest address len) = IsU32 guest × (IsU32 address × IsWithin 1 64 len)

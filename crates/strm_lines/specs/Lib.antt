@@ -1,0 +1,6 @@
+pub mod Words
+pub mod Grammar
+pub mod Plain
+pub mod Lines
+pub mod Reading
+pub mod Text

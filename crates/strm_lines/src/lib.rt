@@ -1,0 +1,11 @@
+//! Lines: what lies between bytes and steps, and between replies and bytes.
+//!
+//! An input's lines are read as the steps that they spell, and a run's replies are written as
+//! lines. Nothing here knows what a step does.
+#![tactic(auto)]
+
+mod lines;
+pub mod lists;
+pub mod parsing;
+pub mod texts;
+mod words;

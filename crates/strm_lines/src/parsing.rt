@@ -1,0 +1,140 @@
+//! All lines of an input, read as the steps that they spell.
+//!
+//! Source: ours.
+
+ghost use Rattle.std.specs.Prelude.{◌≡◌, ◌≢◌, ◌∷◌, ◌≤◌, ◌<◌, ◌↔◌, ℕ, List, length, All, IfOk, MatchResult, Err};
+ghost use Rattle.memchr.specs.Find.{is_byte, places};
+ghost use Rattle.strm_machine.specs.declared.steps.Step.{Step};
+ghost use Rattle.strm_lines.specs.Plain.{IsPlain};
+ghost use Rattle.strm_lines.specs.Lines.{lines_of, Spells, IsFirstBad, IsTooLong};
+ghost use Rattle.strm_lines.specs.declared.parsing.ParseError.TheVariants.{OutOfMemory as WantOfMemory};
+
+use crate::lines::step_of_line;
+use crate::lists::Steps;
+use memchr::{memchr, memchr_iter};
+use std::alloc::Global;
+use strm_codes::counts::OutOfMemory;
+use thiserror::Error;
+
+/// The most bytes of an input.
+pub const MAX_BYTES: usize = 16_777_216;
+
+/// The most lines of an input.
+pub const MAX_LINES: usize = 262_144;
+
+/// Why an input was not read.
+#[derive(Clone, Copy, Debug, PartialEq, Eq, Error)]
+pub enum ParseError {
+    /// It has more than `MAX_BYTES` bytes, or more than `MAX_LINES` lines.
+    #[error("too long")]
+    TooLong,
+    /// The first line that is not in the grammar, counted from 1.
+    #[error("bad line {line}")]
+    BadLine { line: u32 },
+    /// An allocation was refused.
+    #[error("out of memory")]
+    OutOfMemory,
+}
+
+impl From<OutOfMemory> for ParseError {
+    ghost from_gives = { λ _ e. e ≡ WantOfMemory };
+
+    fn from(_error: OutOfMemory) -> ParseError {
+        ParseError::OutOfMemory
+    }
+}
+
+/// The steps that the lines of an input spell. A line is ended by a line feed, which the last one
+/// may lack.
+pub fn parse(alloc: Global, bytes: &[u8]) -> Result<Steps, ParseError>
+    ensures ok { IfOk result (λ steps. Spells (lines_of bytes.now) steps) }
+    ensures plain { IfOk result (λ steps. All IsPlain steps) }
+    ensures too_long { (result ≡ Err ParseError.TooLong) ↔ IsTooLong bytes.now }
+    ensures bad_line { (line : ℕ) → result ≡ Err (ParseError.BadLine line) →
+        IsFirstBad (lines_of bytes.now) line }
+
+    // What the grammar and the limits allow is read, but for want of memory.
+    ensures complete { (steps : List Step) → Spells (lines_of bytes.now) steps →
+        ¬ IsTooLong bytes.now →
+        MatchResult result (λ found. found ≡ steps) (λ error. error ≡ ParseError.OutOfMemory) }
+{
+    if bytes.len() > MAX_BYTES || count_lines(bytes) > MAX_LINES {
+        return Err(ParseError::TooLong);
+    }
+    parse_lines(alloc, bytes)
+}
+
+// The number of lines.
+fn count_lines(bytes: &[u8]) -> usize
+    ensures { result ≡ length (lines_of bytes.now) }
+{
+    let feeds = count_feeds(bytes);
+    if bytes.is_empty() {
+        return feeds;
+    }
+    if bytes[bytes.len() - 1] == b'\n' {
+        feeds
+    } else {
+        feeds + 1
+    }
+}
+
+// The number of line feeds.
+fn count_feeds(bytes: &[u8]) -> usize
+    ensures exact { result ≡ length (places (is_byte 10) bytes.now) }
+    ensures most { result ≤ length bytes.now }
+{
+    memchr_iter(b'\n', bytes).count()
+}
+
+// The steps of an input within the limits.
+fn parse_lines(alloc: Global, bytes: &[u8]) -> Result<Steps, ParseError>
+    requires { length (lines_of bytes.now) ≤ 262144 }
+    ensures ok { IfOk result (λ steps. Spells (lines_of bytes.now) steps) }
+    ensures within { result ≢ Err ParseError.TooLong }
+    ensures bad_line { (line : ℕ) → result ≡ Err (ParseError.BadLine line) →
+        IsFirstBad (lines_of bytes.now) line }
+{
+    let mut steps = Steps::new(alloc);
+    let mut rest = bytes;
+    while !rest.is_empty() {
+        let (line, after) = first_line(rest);
+        let Some(step) = step_of_line(line) else {
+            let line = steps.as_slice().len() as u32 + 1;
+            return Err(ParseError::BadLine { line });
+        };
+        steps.push(step)?;
+        rest = after;
+    }
+    Ok(steps)
+}
+
+// The first line, and what follows its line feed.
+fn first_line(bytes: &[u8]) -> (&[u8], &[u8])
+    requires { 0 < length bytes.now }
+    ensures lines { lines_of bytes.now ≡ result.0.now ∷ lines_of result.1.now }
+    ensures less { length result.1.now < length bytes.now }
+{
+    match memchr(b'\n', bytes) {
+        Some(at) => {
+            let (line, _) = bytes.split_at(at);
+            let (_, after) = bytes.split_at(at + 1);
+            (line, after)
+        }
+        None => {
+            let (_, nothing) = bytes.split_at(bytes.len());
+            (bytes, nothing)
+        }
+    }
+}
+
+/// An input has one reading: its lines spell one list of steps at most, lines that do have no bad
+/// line, and there is one first bad line at most.
+pub fn one_reading()
+    ensures steps { (lines : List (List ℕ)) (steps others : List Step) →
+        Spells lines steps → Spells lines others → steps ≡ others }
+    ensures apart { (lines : List (List ℕ)) (steps : List Step) (line : ℕ) →
+        Spells lines steps → ¬ IsFirstBad lines line }
+    ensures bad_line { (lines : List (List ℕ)) (line other : ℕ) →
+        IsFirstBad lines line → IsFirstBad lines other → line ≡ other }
+{}

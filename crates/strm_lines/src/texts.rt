@@ -1,0 +1,191 @@
+//! The text of replies and of a whole run, and the texts that stand for a run that was not.
+//!
+//! Source: ours.
+
+ghost use Rattle.std.specs.Prelude.{◌≡◌, ◌++◌, ◌≤◌, ◌<◌, length, codes, decimal, IfOk, OnOk};
+ghost use Rattle.strm_lines.specs.Words.{hex_digit, hex_pairs};
+ghost use Rattle.strm_lines.specs.Text.{ended, hex_word, reply_text, reply_lines, stream_text, stream_lines, done_text, transcript_text, usage_text, bad_line_text, too_long_text, read_fault_text};
+
+use crate::lists::TextBytes;
+use itoa::{Buffer, Integer};
+use std::alloc::Global;
+use strm_codes::counts::OutOfMemory;
+use strm_machine::replies::{Pair, Reply};
+
+// A lower-case hexadecimal digit.
+fn hex_digit(nibble: u8) -> u8
+    requires { nibble < 16 }
+    ensures { result ≡ hex_digit nibble }
+{
+    if nibble < 10 {
+        b'0' + nibble
+    } else {
+        b'a' - 10 + nibble
+    }
+}
+
+// A word as eight digits.
+fn hex_word(word: u32) -> [u8; 8]
+    ensures { result ≡ hex_word word }
+{
+    let first = (word / 0x100_0000) as u8;
+    let second = (word / 0x1_0000 % 0x100) as u8;
+    let third = (word / 0x100 % 0x100) as u8;
+    let fourth = (word % 0x100) as u8;
+    [
+        hex_digit(first / 16),
+        hex_digit(first % 16),
+        hex_digit(second / 16),
+        hex_digit(second % 16),
+        hex_digit(third / 16),
+        hex_digit(third % 16),
+        hex_digit(fourth / 16),
+        hex_digit(fourth % 16),
+    ]
+}
+
+// Adds a number in decimal.
+fn push_number<I: Integer>(out: &mut TextBytes, number: I) -> Result<(), OutOfMemory>
+    ensures { OnOk result (out.new ≡ out.old ++ I.text number) }
+{
+    let mut buffer = Buffer::new();
+    out.push_slice(buffer.format(number).as_bytes())
+}
+
+// Adds bytes as pairs of digits.
+fn push_hex(out: &mut TextBytes, bytes: &[u8]) -> Result<(), OutOfMemory>
+    requires { length bytes.now ≤ 64 }
+    ensures { OnOk result (out.new ≡ out.old ++ hex_pairs bytes.now) }
+{
+    let mut digits = [0u8; 128];
+    for k in 0..bytes.len() {
+        digits[2 * k] = hex_digit(bytes[k] / 16);
+        digits[2 * k + 1] = hex_digit(bytes[k] % 16);
+    }
+    out.push_slice(&digits[..2 * bytes.len()])
+}
+
+// Adds the text of a new stream.
+fn push_pair(out: &mut TextBytes, pair: &Pair) -> Result<(), OutOfMemory>
+    ensures { OnOk result (out.new ≡ out.old ++ reply_text (Reply.Pair pair.now)) }
+{
+    out.push_slice(b"read ")?;
+    push_number(out, pair.read)?;
+    out.push_slice(b" write ")?;
+    push_number(out, pair.write)?;
+    out.push_slice(b" stream ")?;
+    push_number(out, pair.stream)
+}
+
+// Adds the text of a reply.
+fn push_reply(out: &mut TextBytes, reply: &Reply) -> Result<(), OutOfMemory>
+    ensures { OnOk result (out.new ≡ out.old ++ reply_text reply.now) }
+{
+    match reply {
+        Reply::Done => out.push_slice(b"ok"),
+        Reply::Number(number) => push_number(out, *number),
+        Reply::Pair(pair) => push_pair(out, pair),
+        Reply::Code(code) => out.push_slice(&hex_word(code.encode())),
+        Reply::Event(Some(code)) => out.push_slice(&hex_word(code.encode())),
+        Reply::Event(None) => out.push_slice(b"none"),
+        Reply::Bytes(bytes) => push_hex(out, bytes.as_slice()),
+        Reply::Refused(refusal) => {
+            out.push_slice(b"refused ")?;
+            out.push_slice(refusal.name().as_bytes())
+        }
+        Reply::BadItem { stream } => {
+            out.push_slice(b"bad-item stream ")?;
+            push_number(out, *stream)
+        }
+        Reply::StoreTrapped => out.push_slice(b"store-trapped"),
+    }
+}
+
+/// Adds one line per reply. On an error the text holds some of it.
+pub fn push_replies(out: &mut TextBytes, replies: &[Reply]) -> Result<(), OutOfMemory>
+    ensures ok { OnOk result (out.new ≡ out.old ++ reply_lines replies.now) }
+{
+    for reply in replies {
+        push_reply(out, reply)?;
+        out.push(b'\n')?;
+    }
+    Ok(())
+}
+
+// Adds the line of a stream.
+fn push_stream(out: &mut TextBytes, stream: usize, moved: u128) -> Result<(), OutOfMemory>
+    ensures { OnOk result (out.new ≡ out.old ++ ended (stream_text stream moved)) }
+{
+    out.push_slice(b"stream ")?;
+    push_number(out, stream)?;
+    out.push_slice(b" moved ")?;
+    push_number(out, moved)?;
+    out.push(b'\n')
+}
+
+/// Adds one line per stream, by number from 0: how many items were received on it. On an error the
+/// text holds some of it.
+pub fn push_streams(out: &mut TextBytes, moved: &[u128]) -> Result<(), OutOfMemory>
+    ensures ok { OnOk result (out.new ≡ out.old ++ stream_lines 0 moved.now) }
+{
+    for stream in 0..moved.len() {
+        push_stream(out, stream, moved[stream])?;
+    }
+    Ok(())
+}
+
+/// Adds the line of how many steps were done. On an error the text holds some of it.
+pub fn push_done(out: &mut TextBytes, steps: usize) -> Result<(), OutOfMemory>
+    ensures ok { OnOk result (out.new ≡ out.old ++ ended (done_text steps)) }
+{
+    out.push_slice(b"done ")?;
+    push_number(out, steps)?;
+    out.push(b'\n')
+}
+
+/// The text of a run, from its replies and from how many items were received on each stream.
+pub fn transcript_text(
+    alloc: Global,
+    replies: &[Reply],
+    moved: &[u128],
+) -> Result<TextBytes, OutOfMemory>
+    ensures ok { IfOk result (λ text. text ≡ transcript_text replies.now moved.now) }
+{
+    let mut out = TextBytes::new(alloc);
+    push_replies(&mut out, replies)?;
+    push_streams(&mut out, moved)?;
+    push_done(&mut out, replies.len())?;
+    Ok(out)
+}
+
+/// The text for words of the program that are none of its own.
+pub fn usage_text() -> &'static [u8]
+    ensures { result.now ≡ usage_text }
+{
+    b"usage: strm run | strm gen N SEED\n"
+}
+
+/// The text for a line that is not in the grammar.
+pub fn bad_line_text(alloc: Global, line: u32) -> Result<TextBytes, OutOfMemory>
+    ensures ok { IfOk result (λ text. text ≡ bad_line_text line) }
+{
+    let mut out = TextBytes::new(alloc);
+    out.push_slice(b"bad line ")?;
+    push_number(&mut out, line)?;
+    out.push(b'\n')?;
+    Ok(out)
+}
+
+/// The text for an input over the limits.
+pub fn too_long_text() -> &'static [u8]
+    ensures { result.now ≡ too_long_text }
+{
+    b"too long\n"
+}
+
+/// The text for a source that failed.
+pub fn read_fault_text() -> &'static [u8]
+    ensures { result.now ≡ read_fault_text }
+{
+    b"read fault\n"
+}

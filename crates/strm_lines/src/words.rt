@@ -1,0 +1,139 @@
+//! Words of a line, each read exactly as the grammar spells it.
+//!
+//! Source: ours.
+
+ghost use Rattle.std.specs.Prelude.{◌≡◌, ◌%◌, ◌≤◌, ◌<◌, length, Some, None};
+ghost use Rattle.std.specs.Option.{option_map};
+ghost use Rattle.strm_lines.specs.Reading.{cut_at, leading, number, number_within, nibble, pairs_from, hex, type_of};
+
+use strm_codes::codes::TransmitIndex;
+use strm_codes::payloads::Payload;
+use strm_codes::scalars::Scalar;
+use strm_machine::chunks::Chunk;
+
+// What comes before and after the first such byte.
+pub(crate) fn cut(bytes: &[u8], at: u8) -> Option<(&[u8], &[u8])>
+    ensures { option_map (λ p. (p.0.now, p.1.now)) result ≡ cut_at at bytes.now }
+{
+    for k in 0..bytes.len() {
+        if bytes[k] == at {
+            let (front, _) = bytes.split_at(k);
+            let (_, rest) = bytes.split_at(k + 1);
+            return Some((front, rest));
+        }
+    }
+    None
+}
+
+// A number in decimal, below 2^32 and without leading zeros.
+#[tactic(auto, unfolding(crate::specs::Reading::number, crate::specs::Reading::digits_from))]
+pub(crate) fn number(word: &[u8]) -> Option<u32>
+    ensures { result ≡ number word.now }
+{
+    if word.is_empty() || (word[0] == b'0' && word.len() > 1) {
+        return None;
+    }
+    let mut number = 0u32;
+    for byte in word {
+        if !byte.is_ascii_digit() {
+            return None;
+        }
+        let next = 10 * u64::from(number) + u64::from(*byte - b'0');
+        if next >= 1 << 32 {
+            return None;
+        }
+        number = next as u32;
+    }
+    Some(number)
+}
+
+// A number from `low` to `high`.
+#[tactic(auto, unfolding(crate::specs::Reading::number_within))]
+pub(crate) fn number_within(word: &[u8], low: u32, high: u32) -> Option<u32>
+    ensures { result ≡ number_within low high word.now }
+{
+    let number = number(word)?;
+    if low <= number && number <= high {
+        Some(number)
+    } else {
+        None
+    }
+}
+
+// The number before the first space, and what follows it.
+#[tactic(auto, unfolding(crate::specs::Reading::leading))]
+pub(crate) fn leading_number(line: &[u8]) -> Option<(u32, &[u8])>
+    ensures { option_map (λ p. (p.0, p.1.now)) result ≡ leading number line.now }
+{
+    let (word, rest) = cut(line, b' ')?;
+    let number = number(word)?;
+    Some((number, rest))
+}
+
+// The type of a stream or future.
+#[tactic(auto, unfolding(crate::specs::Reading::type_of))]
+pub(crate) fn transmit_type(word: &[u8]) -> Option<TransmitIndex>
+    ensures { result ≡ type_of word.now }
+{
+    if word == b"stream:u8".as_slice() {
+        Some(TransmitIndex::Stream(Payload::One(Scalar::U8)))
+    } else {
+        None
+    }
+}
+
+// The type before the first space, and what follows it.
+#[tactic(auto, unfolding(crate::specs::Reading::leading))]
+pub(crate) fn leading_type(line: &[u8]) -> Option<(TransmitIndex, &[u8])>
+    ensures { option_map (λ p. (p.0, p.1.now)) result ≡ leading type_of line.now }
+{
+    let (word, rest) = cut(line, b' ')?;
+    let ty = transmit_type(word)?;
+    Some((ty, rest))
+}
+
+// What a lower-case hexadecimal digit stands for, and 16 for any other byte.
+fn nibble(byte: u8) -> u8
+    ensures most { result ≤ 16 }
+    ensures digit { result < 16 → nibble byte ≡ Some result }
+    ensures other { 16 ≤ result → nibble byte ≡ None }
+{
+    match byte {
+        b'0'..=b'9' => byte - b'0',
+        b'a'..=b'f' => byte - b'a' + 10,
+        _ => 16,
+    }
+}
+
+// The bytes that pairs of lower-case hexadecimal digits stand for. Other bytes are looked for once,
+// at the end, so that the loop has no branch that depends on the digits.
+fn pairs(word: &[u8]) -> Option<Chunk>
+    requires few { length word.now ≤ 128 }
+    requires even { length word.now % 2 ≡ 0 }
+    ensures { result ≡ pairs_from word.now }
+{
+    let mut bytes = [0u8; 64];
+    let mut worst = 0u8;
+    let len = word.len() / 2;
+    for k in 0..len {
+        let high = nibble(word[2 * k]);
+        let low = nibble(word[2 * k + 1]);
+        worst = worst.max(high).max(low);
+        bytes[k] = high % 16 * 16 + low % 16;
+    }
+    if worst > 15 {
+        return None;
+    }
+    Chunk::new(&bytes[..len])
+}
+
+// 1 to 64 bytes, as pairs of lower-case hexadecimal digits.
+#[tactic(auto, unfolding(crate::specs::Reading::hex))]
+pub(crate) fn hex(word: &[u8]) -> Option<Chunk>
+    ensures { result ≡ hex word.now }
+{
+    if word.is_empty() || word.len() > 128 || word.len() % 2 != 0 {
+        return None;
+    }
+    pairs(word)
+}

@@ -1,0 +1,86 @@
+-- What an event and a drop make of the end that they name: facts of one stream and its new end, from
+-- which all laws of such a step follow.
+use Rattle.std.proofs.Common.{◌≡◌, Bool, true, false, Option, Some, None, refl, sym, subst, inl}
+use Rattle.std.specs.Prelude.{◌&&◌, not, is_some, if◌then◌else◌, IsSomeAnd}
+use Rattle.std.specs.Option.{option_map}
+use Rattle.std.proofs.lemmas.Bool.{cond_both}
+use Rattle.strm_codes.specs.declared.codes.ReturnCode.{ReturnCode}
+use Rattle.strm_codes.specs.declared.codes.StreamResult.{StreamResult}
+use Rattle.strm_codes.specs.declared.codes.StreamResult.TheVariants.{Completed, Dropped, Cancelled}
+use Rattle.strm_codes.specs.declared.codes.TransmitKind.{TransmitKind}
+use Rattle.strm_codes.specs.declared.codes.TransmitKind.TheVariants.{Stream as AStream, Future}
+use Rattle.strm_events.specs.Reports.{outcome_code, report_of, left_pending}
+use Rattle.strm_machine.specs.Sides.{end_of}
+use Rattle.strm_machine.specs.Endings.{pending_of, is_other_gone, report_on, told_end}
+use Rattle.strm_machine.specs.Tests.{is_busy}
+use Rattle.strm_machine.specs.Moments.{as_report, count_reported, k_of}
+use Rattle.strm_machine.specs.declared.streams.Owner.TheVariants.{Gone}
+use Rattle.strm_machine.specs.declared.streams.Side.{Side}
+use Rattle.strm_machine.specs.declared.streams.Operation.{Operation}
+use Rattle.strm_machine.specs.declared.streams.End.{End}
+use Rattle.strm_machine.specs.declared.streams.Stream.{Stream}
+use Rattle.strm_machine.proofs.EndLemmas.{IsLeft}
+use Rattle.strm_machine.proofs.SoundLemmas.{left_told}
+use Rattle.strm_machine.proofs.TallyLemmas.{AreOne, Tallies, one_on, count_reported-dropped}
+
+-- ## What is known of an end that becomes another
+
+-- of an operation that ended the report says what it moved, of one that stays there is none, and
+-- where there is no operation a report speaks of no item
+abbrev pub IsTold : TransmitKind → Option ReturnCode → Option Operation → Option Operation → Type 0
+IsTold kind report None None = k_of kind 0 report ≡ 0
+IsTold kind report None (Some q) = ⊥
+IsTold kind report (Some o) None = IsSomeAnd report (λ code. count_reported kind code ≡ o.moved)
+IsTold kind report (Some o) (Some q) = (report ≡ None) × (q ≡ o)
+
+-- the end on a side becomes this one and is told this code, if any; where its handle is freed, it is
+-- gone
+pub record Becomes (side : Side) (stream : Stream) (e : End) (code : Option ReturnCode) (frees : Bool) : Type 0 where
+  pub left : IsLeft (end_of side stream).operation e.operation
+  pub told : Tallies stream → IsTold stream.kind (as_report code) (end_of side stream).operation e.operation
+  pub owner : e.owner ≡ (if frees then Gone else (end_of side stream).owner)
+
+-- ## An end is told its report
+
+-- what is told of an operation
+abbrev Tells : TransmitKind → Option Operation → Option ReturnCode → Type 0
+Tells kind o code = IsTold kind (as_report code) o (left_pending code o)
+
+outcome_told : (o : Operation) (outcome : StreamResult) → Tells AStream (Some o) (Some (outcome_code AStream outcome o.moved))
+outcome_told o Completed = refl
+outcome_told o Dropped = refl
+outcome_told o Cancelled = refl
+
+-- a future's that has met moved its item, and one that has not none
+report_told : (kind : TransmitKind) (o : Option Operation) (gone told passed : Bool) → (kind ≡ Future → AreOne o) → Tells kind o (report_of kind (option_map pending_of o) gone told passed)
+report_told kind None gone told passed one =
+    cond_both (gone && not told && not passed) _ _ (Tells kind None) (λ e. count_reported-dropped kind) (λ e. refl)
+report_told AStream (Some o) gone told passed one =
+    cond_both gone _ _ (Tells AStream (Some o))
+    (λ e. refl)
+    (λ e. cond_both o.met _ _ (Tells AStream (Some o)) (λ f. outcome_told o o.outcome) (λ f. (refl, refl)))
+report_told Future (Some o) gone told passed one =
+    let h = one refl in
+    cond_both o.met _ _ (Tells Future (Some o))
+    (λ e. subst (λ (r : StreamResult). Tells Future (Some o) (Some (outcome_code Future r o.moved))) (sym h.completed) (sym (h.done e)))
+    (λ e. cond_both (gone && not passed) _ _ (Tells Future (Some o)) (λ f. sym (h.waiting e)) (λ f. (refl, refl)))
+
+pub told-becomes : (side : Side) (stream : Stream) → Becomes side stream (told_end (report_on side stream) (end_of side stream)) (report_on side stream) false
+told-becomes side stream = record {
+  left = left_told (report_on side stream) (end_of side stream).operation;
+  told = λ tallies. report_told stream.kind (end_of side stream).operation (is_other_gone side stream) (end_of side stream).told stream.passed (λ k. one_on side stream (tallies.one k));
+  owner = refl;
+}
+
+-- ## An end is dropped
+
+idle_told : (kind : TransmitKind) (o : Option Operation) → is_some o ≡ false → IsTold kind None o o
+idle_told kind None e = refl
+idle_told kind (Some o) e = cc
+
+pub gone-becomes : (side : Side) (stream : Stream) → is_busy side stream ≡ false → Becomes side stream (record (end_of side stream) { owner = Gone }) None true
+gone-becomes side stream e = record {
+  left = inl refl;
+  told = λ tallies. idle_told stream.kind (end_of side stream).operation e;
+  owner = refl;
+}

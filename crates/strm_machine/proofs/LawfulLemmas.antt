@@ -1,0 +1,243 @@
+-- What every step hands to the laws, by its shape: on each end of each stream one of the five changes, and a
+-- lawful state.
+use Rattle.std.proofs.Common.{◌≡◌, ℕ, zero, suc, ◌+◌, ◌-◌, ◌^◌, ◌≤◌, Bool, true, false, cond, List, [], ◌∷◌, ◌++◌, length, get_or, set, Option, Some, None, refl, sym, ap, ◌∙◌, subst, inl, inr, ⊎_elim, arith, length-append}
+use Rattle.std.specs.Prelude.{All, IsSome, ◌⊎◌}
+use Rattle.std.proofs.lemmas.Bool.{cond-true}
+use Rattle.std.proofs.lemmas.List.{get_or-set_same, set-get_or, get_or_append_left}
+use Rattle.std.proofs.lemmas.List.Elements.{All-push, All-set}
+use Rattle.strm_codes.specs.declared.codes.ReturnCode.{ReturnCode}
+use Rattle.strm_codes.specs.declared.codes.TransmitIndex.{TransmitIndex}
+use Rattle.strm_handles.specs.Handles.{Handles, removed}
+use Rattle.strm_memory.specs.Bytes.{IsBytes}
+use Rattle.strm_machine.specs.State.{State, Guest, no_stream, guest_in, memory_in, with_handles, stream_at}
+use Rattle.strm_machine.specs.Sides.{opposite, same_side, end_of, with_end}
+use Rattle.strm_machine.specs.Turns.{Turn}
+use Rattle.strm_machine.specs.Tests.{named, stream_named}
+use Rattle.strm_machine.specs.Making.{made_stream, made_pair, with_stream}
+use Rattle.strm_machine.specs.Soundness.{sizes_of, both_open}
+use Rattle.strm_machine.specs.Reactions.{Reaction, goes, written, written_back, operates, reaction}
+use Rattle.strm_machine.specs.Moments.{Moment, names, code_told, as_report, report_in, accepted, k_of, place_of, read_place, items_in, received, PutsBytes}
+use Rattle.strm_machine.specs.declared.acts.NamedEnd.{NamedEnd}
+use Rattle.strm_machine.specs.declared.acts.Making.TheVariants as makings
+use Rattle.strm_machine.specs.declared.acts.EndAct.TheVariants.{Operate}
+use Rattle.strm_machine.specs.declared.acts.MemoryAct.TheVariants.{Poke}
+use Rattle.strm_machine.specs.declared.acts.Act.{Act}
+use Rattle.strm_machine.specs.declared.acts.Act.TheVariants.{Make, OnEnd, OnMemory}
+use Rattle.strm_machine.specs.declared.streams.Side.{Side}
+use Rattle.strm_machine.specs.declared.streams.Side.TheVariants.{Writing, Reading}
+use Rattle.strm_machine.specs.declared.streams.Operation.{Operation}
+use Rattle.strm_machine.specs.declared.streams.End.{End}
+use Rattle.strm_machine.specs.declared.streams.Stream.{Stream}
+use Rattle.strm_machine.specs.declared.replies.Reply.{Reply}
+use Rattle.strm_machine.specs.declared.replies.Reply.TheVariants as replies
+use Rattle.strm_machine.proofs.SideLemmas.{same_side-itself, end_placed}
+use Rattle.strm_machine.proofs.SoundLemmas.{guests_after, IsSound-guests, IsSound-turn, IsSound-with_stream, IsSound-set}
+use Rattle.strm_machine.proofs.SoundStepLemmas.{operate-keeps, poke-keeps, guest-sound}
+use Rattle.strm_machine.proofs.TurnLemmas.{TurnKeeps}
+use Rattle.strm_machine.proofs.Changes.{Scene, scene, Change, ByRest as RestChange, BySettling}
+use Rattle.strm_machine.proofs.ArrivalLemmas.{AreBytes, memory_bytes, AreBytes-with_memory, IsBytes-put_at, IsBytes-zeros}
+use Rattle.strm_machine.proofs.NamedEndLemmas.{IsFound, named_itself}
+use Rattle.strm_machine.proofs.EndLemmas.{each_side, same_side-opposite, IsReplaced, with_end-replaces, with_end-apart}
+use Rattle.strm_machine.proofs.EndingLemmas.{IsTold}
+use Rattle.strm_machine.proofs.TallyLemmas.{Tallies, begins_by, Tallies-with_end}
+use Rattle.strm_machine.proofs.MomentLemmas.{Seen, seen_reacts, Untold, unnamed, untold, nothing_got, seen_counted, end_still, seen_same, quiet_reacts, set_reacts}
+use Rattle.strm_machine.proofs.TurnChangeLemmas.{scene_of, Does, Unturned, DoesBy, turn_does, still}
+use Rattle.strm_machine.proofs.Lawful.{IsLawful, HasRoom, as_moment, Reacts}
+use Rattle.strm_machine.proofs.Shapes.{stream_on, begun_on, turn_on, Operates, Setting, set_by, Sets, Shape, ByTurn, BySetting, ByPair, ByGuest, ByPoke, ByRest}
+use Rattle.strm_machine.proofs.ShapeLemmas.{reaction-shape}
+
+-- ## Reads and writes
+
+-- a moment on one stream, by whether it names the end that is looked at, and the read end
+abbrev seen : Bool → Bool → Act → Reply → Stream → Stream → List Guest → List Guest → Scene
+seen here r act reply before after guests others =
+    let report = cond here (as_report (code_told reply)) None in
+    let waiting = place_of before.reader.operation in
+    let place = cond r (read_place act waiting) waiting in
+    record {
+      before = before;
+      after = after;
+      guests = guests;
+      taken = cond here (accepted act reply report) [];
+      report = report;
+      got = items_in before.payload others place.guest place.address (after.received - before.received);
+    }
+
+operation_seen : (side other : Side) (here r : Bool) (end : NamedEnd) (address count : ℕ) (code : ReturnCode) (before after : Stream) (guests : List Guest) (t : Turn) → here ≡ same_side side other → r ≡ same_side side Reading → after ≡ t.stream
+    → ◌≡◌ {A = Scene} (seen here r (OnEnd side end (Operate address count)) (replies.Code code) before after guests t.guests) (scene_of side other guests before (begun_on end address count) code t)
+operation_seen Writing other here r end address count code before after guests t e f h = rw (e, f, h) refl
+operation_seen Reading other here r end address count code before after guests t e f h = rw (e, f, h) refl
+
+-- a read or write that answers a code
+answered_reacts : (state : State) (side : Side) (end : NamedEnd) (address count : ℕ) (s : ℕ) (t : Turn) (code : ReturnCode) → IsLawful state → IsFound state (OnEnd side end (Operate address count)) end.guest end.handle s side → TurnKeeps state.guests (stream_at state s) t
+    → Does side state.guests (stream_at state s) (begun_on end address count) code t → Reacts state (OnEnd side end (Operate address count)) (goes (replies.Code code) (written state s t))
+answered_reacts state side end address count s t code h found keeps d =
+    let act = OnEnd side end (Operate address count) in
+    let stream = stream_at state s in
+    let mine = begun_on end address count in
+    let m = as_moment state act (goes (replies.Code code) (written state s t)) in
+    let after : stream_at m.after s ≡ t.stream = get_or-set_same state.streams s t.stream no_stream found.made in
+    let same : (other : Side) → scene s other m ≡ scene_of side other state.guests stream mine code t = λ other. operation_seen side other (names s other state act) (names s Reading state act) end address count code stream (stream_at m.after s) state.guests t
+    (named_itself state act s side other found.named) (named_itself state act s side Reading found.named) after in
+    set_reacts state act (replies.Code code) t.guests s side t.stream found.named h keeps.stream.kind
+    (record {
+      change = λ other. subst (Change other) (sym (same other)) (d.change other);
+      whole = subst (All IsSome) (sym (ap (λ v. v.got) (same Reading))) d.whole;
+      most = subst (λ st. st.received ≤ stream.received + 2 ^ 28) (sym after) d.most;
+      apart = ap both_open after ∙ d.apart;
+      tallies = subst Tallies (sym after) d.tallies;
+    })
+    (IsSound-turn state s t keeps h.sound) d.bytes
+
+-- one that finds a bad item: but for the trap nothing has changed
+trapped_reacts : (state : State) (act : Act) (s : ℕ) (t : Turn) → IsLawful state → TurnKeeps state.guests (stream_at state s) t → Unturned state.guests (stream_at state s) t → Reacts state act (goes (replies.BadItem s) (record (written state s t) { trapped = true }))
+trapped_reacts state act s t h keeps u =
+    let streams : set state.streams s t.stream ≡ state.streams = ap (set state.streams s) u.same_stream ∙ set-get_or state.streams s no_stream in
+    let sound = IsSound-turn state s t keeps h.sound in
+    quiet_reacts state act (replies.BadItem s) (record (written state s t) { trapped = true }) streams refl h
+    (record { named = sound.named; placed = sound.placed; small = sound.small })
+    (subst AreBytes (sym u.same_guests) h.bytes)
+
+turn_reacts : (state : State) (side : Side) (end : NamedEnd) (address count : ℕ) (s : ℕ) (t : Turn) (code : Option ReturnCode) → IsLawful state → IsFound state (OnEnd side end (Operate address count)) end.guest end.handle s side → TurnKeeps state.guests (stream_at state s) t
+    → DoesBy side state.guests (stream_at state s) (begun_on end address count) t code → Reacts state (OnEnd side end (Operate address count)) (written_back state s t code)
+turn_reacts state side end address count s t None h found keeps d = trapped_reacts state (OnEnd side end (Operate address count)) s t h keeps d
+turn_reacts state side end address count s t (Some code) h found keeps d = answered_reacts state side end address count s t code h found keeps d
+
+operates_reacts : (state : State) (side : Side) (end : NamedEnd) (address count : ℕ) → IsLawful state → HasRoom state → Operates state side end address count → Reacts state (OnEnd side end (Operate address count)) (operates state side end address count)
+operates_reacts state side end address count h room o =
+    let s = stream_named (named state end) in
+    let stream = stream_on state end in
+    let mine = begun_on end address count in
+    let t = turn_on state side end address count in
+    let begins = begins_by side end.ty stream end.guest address count o.kind o.unended in
+    turn_reacts state side end address count s t t.code h o.found
+    (operate-keeps state side end address count o)
+    (turn_does side state.guests stream mine h.bytes (room s) refl o.placed (h.tallies s) begins o.idle (end_placed (opposite side) (sizes_of state.guests) stream o.streams))
+
+-- ## A stream set to another
+
+none_either : {A : Type 0} (w : Bool) (x : List A) → x ≡ [] → cond w x [] ≡ []
+none_either true x e = e
+none_either false x e = refl
+
+-- one moment at the end that was set, by its operation before and after
+told_change : (side : Side) (v : Scene) (report : Option ReturnCode) (o q : Option Operation) → v.report ≡ report → v.taken ≡ [] → v.got ≡ [] → v.after.payload ≡ v.before.payload → v.after.received ≡ v.before.received
+    → (end_of side v.before).operation ≡ o → (end_of side v.after).operation ≡ q → IsTold v.before.kind report o q → Change side v
+told_change side v report None None r takes nothing payload count was is t =
+    RestChange (record { was = was; is = is; takes = takes; counts = ap (k_of v.before.kind 0) r ∙ t; same = count; nothing = nothing })
+told_change side v report None (Some q) r takes nothing payload count was is t = absurd t
+told_change side v None (Some o) None r takes nothing payload count was is t = absurd t
+told_change side v (Some code) (Some o) None r takes nothing payload count was is t =
+    BySettling o code (record { was = was; is = is; takes = takes; report = r; counts = t; same = count; nothing = nothing })
+told_change side v report (Some o) (Some q) r takes nothing payload count was is t =
+    still side v takes (r ∙ t.0) nothing payload count (is ∙ ap Some t.1 ∙ sym was)
+
+-- the end that is set is told its code, and the opposite one stays
+setting_seen : (state : State) (act : Act) (reply : Reply) (x : Setting) → IsLawful state → Sets state act reply x → Seen x.stream (as_moment state act (goes reply (set_by state x)))
+setting_seen state act reply x h set =
+    let s = x.stream in
+    let side = x.side in
+    let stream = stream_at state s in
+    let m = as_moment state act (goes reply (set_by state x)) in
+    let new = with_end side stream x.end in
+    let becomes = set.becomes in
+    let after : stream_at m.after s ≡ new = get_or-set_same state.streams s new no_stream set.found.made in
+    let replaced : IsReplaced side stream (stream_at m.after s) x.end = subst (λ st. IsReplaced side stream st x.end) (sym after) (with_end-replaces side stream x.end) in
+    let named = set.found.named in
+    let report : report_in s side m ≡ as_report (code_told reply) = cond-true (names s side state act) (as_report (code_told reply)) None (named_itself state act s side side named ∙ same_side-itself side) in
+    let untold = unnamed s (opposite side) m (named_itself state act s side (opposite side) named ∙ same_side-opposite side) in
+    seen_counted s m
+    (each_side (λ other. Change other (scene s other m)) side
+    (told_change side (scene s side m) (as_report (code_told reply)) (end_of side stream).operation x.end.operation report
+    (none_either (names s side state act) _ (set.untaken (report_in s side m)))
+    (nothing_got s m replaced.count).0 replaced.payload replaced.count refl (ap (λ (e : End). e.operation) replaced.here) (becomes.told (h.tallies s)))
+    (end_still s (opposite side) m untold (record { operation = ap (λ (e : End). e.operation) replaced.other; payload = replaced.payload; kind = replaced.kind; count = replaced.count })))
+    replaced.count
+    (ap both_open after ∙ with_end-apart side stream x.end becomes.left (h.apart s))
+    (subst Tallies (sym after) (Tallies-with_end side stream x.end becomes.left (h.tallies s)))
+
+AreBytes-with_handles : (guests : List Guest) (g : ℕ) (handles : Handles) → AreBytes guests → AreBytes (with_handles guests g handles)
+AreBytes-with_handles guests g handles h = All-set (λ (k : Guest). IsBytes k.memory) guests g (record (guest_in guests g) { handles = handles }) (memory_bytes guests g h) h
+
+AreBytes-after : (frees : Bool) (guests : List Guest) (g handle : ℕ) → AreBytes guests → AreBytes (guests_after frees guests g handle)
+AreBytes-after true guests g handle h = AreBytes-with_handles guests g (removed (guest_in guests g).handles handle) h
+AreBytes-after false guests g handle h = h
+
+sets_reacts : (state : State) (act : Act) (reply : Reply) (x : Setting) → IsLawful state → Sets state act reply x → Reacts state act (goes reply (set_by state x))
+sets_reacts state act reply x h set =
+    let stream = stream_at state x.stream in
+    set_reacts state act reply (guests_after x.frees state.guests x.guest x.handle) x.stream x.side (with_end x.side stream x.end) set.found.named h (with_end-replaces x.side stream x.end).kind
+    (setting_seen state act reply x h set)
+    (IsSound-set state x.frees x.guest x.handle x.stream x.side x.end set.found.made set.becomes.left h.sound)
+    (AreBytes-after x.frees state.guests x.guest x.handle h.bytes)
+
+-- ## A stream more
+
+-- each number has the stream that it had, or had none and has the new one
+made_at : (streams : List Stream) (x : Stream) (s : ℕ) → (get_or (streams ++ x ∷ []) s no_stream ≡ get_or streams s no_stream) ⊎ ((get_or streams s no_stream ≡ no_stream) × (get_or (streams ++ x ∷ []) s no_stream ≡ x))
+made_at [] x zero = inr (refl, refl)
+made_at [] x (suc s) = inl refl
+made_at (y ∷ ys) x zero = inl refl
+made_at (y ∷ ys) x (suc s) = made_at ys x s
+
+-- a stream that was none, and is a new one
+new_seen : (s : ℕ) (m : Moment) (ty : TransmitIndex) (writer write reader read : ℕ) → ((side : Side) → Untold s side m) → stream_at m.before s ≡ no_stream → stream_at m.after s ≡ made_stream ty writer write reader read → Seen s m
+new_seen s m ty writer write reader read u was is =
+    let count : received s m.after ≡ received s m.before = ap (λ st. st.received) is ∙ sym (ap (λ st. st.received) was) in
+    seen_counted s m
+    (λ side. RestChange (record {
+      was = ap (λ st. (end_of side st).operation) was ∙ no_operation side;
+      is = ap (λ st. (end_of side st).operation) is ∙ new_operation side;
+      takes = (u side).takes;
+      counts = ap (k_of (stream_at m.before s).kind 0) (u side).reports;
+      same = count;
+      nothing = (nothing_got s m count).0;
+    }))
+    count
+    (ap both_open is)
+    (subst Tallies (sym is) (record { writing = tt; reading = tt; one = λ k. record { writing = tt; reading = tt; count = refl } }))
+  where
+    no_operation : (side : Side) → (end_of side no_stream).operation ≡ None
+    no_operation Writing = refl
+    no_operation Reading = refl
+
+    new_operation : (side : Side) → (end_of side (made_stream ty writer write reader read)).operation ≡ None
+    new_operation Writing = refl
+    new_operation Reading = refl
+
+between_reacts : (state : State) (writer reader : ℕ) (ty : TransmitIndex) → IsLawful state → Reacts state (Make (makings.Between writer reader ty)) (goes (replies.Pair (made_pair state writer reader ty)) (with_stream state writer reader ty))
+unfolding with_stream
+between_reacts state writer reader ty h =
+    let pair = made_pair state writer reader ty in
+    let r = goes (replies.Pair pair) (with_stream state writer reader ty) in
+    let act = Make (makings.Between writer reader ty) in
+    let x = made_stream ty writer pair.write reader pair.read in
+    seen_reacts state act r
+    (λ s. let m = as_moment state act r in
+    ⊎_elim
+    (λ same. seen_same s m (λ side. untold s side m refl) same (h.apart s) (h.tallies s))
+    (λ new. new_seen s m ty writer pair.write reader pair.read (λ side. untold s side m refl) new.0 new.1)
+    (made_at state.streams x s))
+    (λ s l. record { there = omega (arith, l, length-append state.streams (x ∷ [])); kind = ap (λ (st : Stream). st.kind) (get_or_append_left state.streams (x ∷ []) no_stream s l) })
+    (IsSound-with_stream state writer reader ty h.sound)
+    (AreBytes-with_handles _ writer _ (AreBytes-with_handles state.guests reader _ h.bytes))
+
+-- ## Every step
+
+shape-reacts : (state : State) (act : Act) (r : Reaction) → PutsBytes act → IsLawful state → HasRoom state → Shape state act r → Reacts state act r
+shape-reacts state act r b h room (ByTurn side end address count a e o) = rw (a, e) (operates_reacts state side end address count h room o)
+shape-reacts state act r b h room (BySetting reply x e set) = rw e (sets_reacts state act reply x h set)
+shape-reacts state act r b h room (ByPair writer reader ty a e fits) = rw (a, e) (between_reacts state writer reader ty h)
+shape-reacts state act r b h room (ByGuest size a e fits) =
+    rw (a, e)
+    (quiet_reacts state (Make (makings.Guest size)) (replies.Number (length state.guests)) _ refl refl h (guest-sound state size fits h.sound)
+    (All-push (λ (k : Guest). IsBytes k.memory) state.guests _ h.bytes (IsBytes-zeros size)))
+shape-reacts state act r b h room (ByPoke g address bytes a e fits) =
+    rw (a, e)
+    (quiet_reacts state (OnMemory g (Poke address bytes)) replies.Done _ refl refl h
+    (IsSound-guests state _ (poke-keeps state g address bytes fits) h.sound)
+    (AreBytes-with_memory state.guests g _ (IsBytes-put_at (memory_in state.guests g) address bytes (memory_bytes state.guests g h.bytes) (subst PutsBytes a b)) h.bytes))
+shape-reacts state act r b h room (ByRest reply e none) = rw e (quiet_reacts state act reply state refl none h h.sound h.bytes)
+
+pub reacts : (state : State) (act : Act) → PutsBytes act → IsLawful state → HasRoom state → Reacts state act (reaction state act)
+reacts state act b h room = shape-reacts state act (reaction state act) b h room (reaction-shape state act h.sound)

@@ -1,0 +1,58 @@
+-- Every step leaves a sound state, by its shape.
+use Rattle.std.proofs.Common.{◌≡◌, ℕ, arith, List, [], ◌∷◌, ◌++◌, length, Option, Some, None, refl}
+use Rattle.std.specs.Prelude.{replicate, sum}
+use Rattle.std.proofs.lemmas.List.{length-replicate}
+use Rattle.std.proofs.lemmas.List.Sums.{sum-map}
+use Rattle.strm_codes.specs.declared.codes.ReturnCode.{ReturnCode}
+use Rattle.strm_handles.specs.Handles.{no_handles}
+use Rattle.strm_memory.specs.Bytes.{put_at}
+use Rattle.strm_machine.specs.State.{State, Guest, memory_in, with_memory, bytes_in_use, stream_at}
+use Rattle.strm_machine.specs.Turns.{Turn}
+use Rattle.strm_machine.specs.Tests.{named, stream_named}
+use Rattle.strm_machine.specs.Reactions.{Reaction, written_back, reaction}
+use Rattle.strm_machine.specs.Soundness.{sizes_of, IsSound}
+use Rattle.strm_machine.specs.declared.acts.NamedEnd.{NamedEnd}
+use Rattle.strm_machine.specs.declared.acts.Act.{Act}
+use Rattle.strm_machine.specs.declared.streams.Side.{Side}
+use Rattle.strm_machine.proofs.BoundLemmas.{length-poked}
+use Rattle.strm_machine.proofs.RefusalLemmas.{GuestFits, BytesFit}
+use Rattle.strm_machine.proofs.SoundLemmas.{IsSound-guest, IsSound-guests, IsSound-turn, IsSound-with_stream, IsSound-set}
+use Rattle.strm_machine.proofs.TurnLemmas.{GuestsKeep, TurnKeeps, turn-keeps, with_memory-keeps}
+use Rattle.strm_machine.proofs.Shapes.{stream_on, begun_on, turn_on, Operates, Shape, ByTurn, BySetting, ByPair, ByGuest, ByPoke, ByRest}
+use Rattle.strm_machine.proofs.ShapeLemmas.{reaction-shape}
+
+pub operate-keeps : (state : State) (side : Side) (end : NamedEnd) (address count : ℕ) → Operates state side end address count → TurnKeeps state.guests (stream_on state end) (turn_on state side end address count)
+operate-keeps state side end address count o = turn-keeps side state.guests (stream_on state end) (begun_on end address count) o.streams o.placed
+
+written-sound : (state : State) (s : ℕ) (t : Turn) (code : Option ReturnCode) → TurnKeeps state.guests (stream_at state s) t → IsSound state → IsSound (written_back state s t code).state
+written-sound state s t (Some code) k h = IsSound-turn state s t k h
+written-sound state s t None k h =
+    let sound = IsSound-turn state s t k h in record { named = sound.named; placed = sound.placed; small = sound.small }
+
+-- bytes put where they may be keep the memory's length
+pub poke-keeps : (state : State) (g address : ℕ) (bytes : List ℕ) → BytesFit state g address (length bytes) → GuestsKeep state.guests (with_memory state.guests g (put_at (memory_in state.guests g) address bytes))
+poke-keeps state g address bytes fits =
+    let memory = memory_in state.guests g in
+    with_memory-keeps state.guests g (put_at memory address bytes) (length-poked memory address bytes fits.inside)
+
+-- a guest more
+pub guest-sound : (state : State) (size : ℕ) → GuestFits state size → IsSound state → IsSound (record state { guests = state.guests ++ (record { memory = replicate size 0; handles = no_handles }) ∷ [] })
+guest-sound state size fits h =
+    let guest : Guest = record { memory = replicate size 0; handles = no_handles } in
+    let many : length guest.memory ≡ size = length-replicate {A = ℕ} size 0 in
+    let total : sum (sizes_of state.guests) ≡ bytes_in_use state = sum-map (λ k. length k.memory) state.guests in
+    IsSound-guest state guest refl (omega (arith, total, many, fits.bytes)) h
+
+pub shape-sound : (state : State) (act : Act) (r : Reaction) → IsSound state → Shape state act r → IsSound r.state
+shape-sound state act r h (ByTurn side end address count a e o) =
+    let t = turn_on state side end address count in
+    rw e (written-sound state (stream_named (named state end)) t t.code (operate-keeps state side end address count o) h)
+shape-sound state act r h (BySetting reply x e s) =
+    rw e (IsSound-set state x.frees x.guest x.handle x.stream x.side x.end s.found.made s.becomes.left h)
+shape-sound state act r h (ByPair writer reader ty a e fits) = rw e (IsSound-with_stream state writer reader ty h)
+shape-sound state act r h (ByGuest size a e fits) = rw e (guest-sound state size fits h)
+shape-sound state act r h (ByPoke g address bytes a e fits) = rw e (IsSound-guests state _ (poke-keeps state g address bytes fits) h)
+shape-sound state act r h (ByRest reply e none) = rw e h
+
+pub reaction-sound : (state : State) (act : Act) → IsSound state → IsSound (reaction state act).state
+reaction-sound state act h = shape-sound state act (reaction state act) h (reaction-shape state act h)

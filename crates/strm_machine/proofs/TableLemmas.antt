@@ -1,0 +1,79 @@
+-- The handles of guests and the owners of streams, after a change of one guest's table or of one stream.
+use Rattle.std.proofs.Common.{◌≡◌, ◌≢◌, ℕ, zero, suc, ◌<◌, List, [], ◌∷◌, ◌++◌, length, get_or, set, refl, sym, ap, ◌∙◌, ⊎_elim}
+use Rattle.std.proofs.Math.Seq.{map-set_same}
+use Rattle.std.proofs.Math.ListN.{get_or-map}
+use Rattle.std.proofs.lemmas.Bool.{cases_eq}
+use Rattle.std.proofs.lemmas.List.{get_or-set_same, get_or-set_other}
+use Rattle.strm_handles.specs.Handles.{Handles, no_handles, IsTable}
+use Rattle.strm_machine.specs.State.{Guest, no_guest, no_stream, guest_in, with_handles}
+use Rattle.strm_machine.specs.Sides.{end_of}
+use Rattle.strm_machine.specs.Soundness.{handles_of}
+use Rattle.strm_machine.specs.declared.streams.Owner.{Owner}
+use Rattle.strm_machine.specs.declared.streams.Side.{Side}
+use Rattle.strm_machine.specs.declared.streams.Stream.{Stream}
+use Rattle.strm_machine.proofs.OwnerLemmas.{OwnersStay, owner_stays}
+
+-- ## Guests
+
+pub handles-same : (guests others : List Guest) (g : ℕ) → handles_of others ≡ handles_of guests → (guest_in others g).handles ≡ (guest_in guests g).handles
+handles-same guests others g e =
+    sym (get_or-map (λ h. h.handles) others g no_guest) ∙ ap (λ l. get_or l g no_handles) e ∙ get_or-map (λ h. h.handles) guests g no_guest
+
+-- a guest more without handles
+pub handles-more : (guests : List Guest) (guest : Guest) (g : ℕ) → guest.handles ≡ no_handles → (guest_in (guests ++ guest ∷ []) g).handles ≡ (guest_in guests g).handles
+handles-more [] guest zero e = e
+handles-more [] guest (suc g) e = refl
+handles-more (x ∷ xs) guest zero e = refl
+handles-more (x ∷ xs) guest (suc g) e = handles-more xs guest g e
+
+module _ (guests : List Guest) (g : ℕ) (handles : Handles) where
+  pub handles-with_same : g < length guests → (guest_in (with_handles guests g handles) g).handles ≡ handles
+  handles-with_same l = ap (λ (h : Guest). h.handles) (get_or-set_same guests g (record (guest_in guests g) { handles = handles }) no_guest l)
+
+  pub handles-with_other : (k : ℕ) → k ≢ g → (guest_in (with_handles guests g handles) k).handles ≡ (guest_in guests k).handles
+  handles-with_other k ne = ap (λ (h : Guest). h.handles) (get_or-set_other guests g k (record (guest_in guests g) { handles = handles }) no_guest ne)
+
+  -- a sound table in place of one leaves all sound
+  pub tables-with : g < length guests → IsTable handles → ((k : ℕ) → IsTable (guest_in guests k).handles) → (k : ℕ) → IsTable (guest_in (with_handles guests g handles) k).handles
+  tables-with l sound all k =
+      ⊎_elim
+      (λ e. let same : (guest_in (with_handles guests g handles) k).handles ≡ handles = ap (λ i. (guest_in (with_handles guests g handles) i).handles) e ∙ handles-with_same l in rw same sound)
+      (λ ne. let same : (guest_in (with_handles guests g handles) k).handles ≡ (guest_in guests k).handles = handles-with_other k ne in rw same (all k))
+      (cases_eq k g)
+
+-- ## Streams
+
+abbrev pub owner_in : List Stream → ℕ → Side → Owner
+owner_in streams s side = (end_of side (get_or streams s no_stream)).owner
+
+-- another stream of the same owners
+pub owner-set_same : (streams : List Stream) (s : ℕ) (x : Stream) (k : ℕ) (side : Side) → (end_of side x).owner ≡ owner_in streams s side → owner_in (set streams s x) k side ≡ owner_in streams k side
+owner-set_same streams s x k side e =
+    let f : Stream → Owner = λ st. (end_of side st).owner in
+    sym (get_or-map f (set streams s x) k no_stream) ∙ ap (λ l. get_or l k (f no_stream)) (map-set_same f streams s x no_stream e) ∙ get_or-map f streams k no_stream
+
+pub owner-set_stays : (streams : List Stream) (s : ℕ) (x : Stream) (k : ℕ) (side : Side) → OwnersStay (get_or streams s no_stream) x → owner_in (set streams s x) k side ≡ owner_in streams k side
+owner-set_stays streams s x k side h = owner-set_same streams s x k side (owner_stays side (get_or streams s no_stream) x h)
+
+pub owner-set_other : (streams : List Stream) (s : ℕ) (x : Stream) (k : ℕ) (side : Side) → k ≢ s → owner_in (set streams s x) k side ≡ owner_in streams k side
+owner-set_other streams s x k side ne = ap (λ st. (end_of side st).owner) (get_or-set_other streams s k x no_stream ne)
+
+-- one of two streams behind the others
+pub owner-push_either : (streams : List Stream) (x y : Stream) (k : ℕ) (side : Side) → (end_of side x).owner ≡ (end_of side y).owner → owner_in (streams ++ x ∷ []) k side ≡ owner_in (streams ++ y ∷ []) k side
+owner-push_either [] x y zero side e = e
+owner-push_either [] x y (suc k) side e = refl
+owner-push_either (z ∷ zs) x y zero side e = refl
+owner-push_either (z ∷ zs) x y (suc k) side e = owner-push_either zs x y k side e
+
+-- a stream behind the others, with an end that is gone
+pub owner-push_same : (streams : List Stream) (x : Stream) (k : ℕ) (side : Side) → (end_of side x).owner ≡ (end_of side no_stream).owner → owner_in (streams ++ x ∷ []) k side ≡ owner_in streams k side
+owner-push_same [] x zero side e = e
+owner-push_same [] x (suc k) side e = refl
+owner-push_same (z ∷ zs) x zero side e = refl
+owner-push_same (z ∷ zs) x (suc k) side e = owner-push_same zs x k side e
+
+pub owner-push_other : (streams : List Stream) (x : Stream) (k : ℕ) (side : Side) → k ≢ length streams → owner_in (streams ++ x ∷ []) k side ≡ owner_in streams k side
+owner-push_other [] x zero side ne = absurd (ne refl)
+owner-push_other [] x (suc k) side ne = refl
+owner-push_other (z ∷ zs) x zero side ne = refl
+owner-push_other (z ∷ zs) x (suc k) side ne = owner-push_other zs x k side (λ e. ne (ap suc e))

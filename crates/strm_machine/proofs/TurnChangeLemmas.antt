@@ -1,0 +1,345 @@
+-- What a read or write does to both ends of the stream that it names, as the laws see it.
+use Rattle.std.proofs.Common.{◌≡◌, ℕ, ◌+◌, ◌-◌, ◌^◌, ◌<◌, ◌≤◌, ℤ, true, false, cond, List, [], ◌∷◌, length, min, Option, Some, None, refl, sym, ap, ◌∙◌, subst, arith}
+use Rattle.std.specs.Prelude.{All, IsSome, ◌==◌}
+use Rattle.std.proofs.lemmas.Bool.{cond_both, eqb-true, le-ltb}
+use Rattle.std.proofs.lemmas.List.{length-map}
+use Rattle.std.proofs.lemmas.List.Elements.{All-nil}
+use Rattle.strm_codes.specs.Codes.{completed_code}
+use Rattle.strm_codes.specs.Layout.{scalars_of}
+use Rattle.strm_codes.specs.declared.codes.ReturnCode.{ReturnCode}
+use Rattle.strm_codes.specs.declared.codes.ReturnCode.TheVariants as codes
+use Rattle.strm_codes.specs.declared.codes.TransmitKind.{TransmitKind}
+use Rattle.strm_codes.specs.declared.codes.TransmitKind.TheVariants.{Stream as AStream, Future}
+use Rattle.strm_codes.specs.declared.payloads.Payload.{Payload}
+use Rattle.strm_machine.specs.State.{Guest, is_gone}
+use Rattle.strm_machine.specs.Sides.{opposite, same_side, end_of, with_end, with_operation, write_of, read_of}
+use Rattle.strm_machine.specs.Meetings.{advanced, carried}
+use Rattle.strm_machine.specs.Turns.{Turn, answers, waits, with_received, moves, completes_alone, rendezvous_by, rendezvous, finds, turn}
+use Rattle.strm_machine.specs.Soundness.{sizes_of, IsPlaced, OperationIsPlaced}
+use Rattle.strm_machine.specs.declared.streams.Side.{Side}
+use Rattle.strm_machine.specs.declared.streams.Side.TheVariants.{Writing, Reading}
+use Rattle.strm_machine.specs.declared.streams.Operation.{Operation}
+use Rattle.strm_machine.specs.declared.streams.Stream.{Stream}
+use Rattle.strm_machine.specs.declared.streams.Meeting.{Meeting}
+use Rattle.strm_machine.proofs.SideLemmas.{read_of-placed}
+use Rattle.strm_machine.specs.Moments.{Call, Place, as_report, count_reported, k_of, place_of, items_in}
+use Rattle.strm_machine.specs.Soundness.{both_open, is_opened}
+use Rattle.strm_machine.proofs.Changes.{Scene, Change, ByRest, ByGoing, ByOpening, ByServing}
+use Rattle.strm_machine.proofs.EndLemmas.{each_side, apart_by, write_mine, write_theirs, read_fits, write_none, read_none, IsTurned, turned_not, turned_end, turned_both, turned_moves}
+use Rattle.strm_machine.proofs.TallyLemmas.{AreOne, IsUnmoved, none_unmoved, unmoved_on, Tallies-by, IsOne-advanced, one_at, none_one, Tallies, one_on, PassesOne-by, count_passed, Begins, count_reported-completed, count_reported-dropped}
+use Rattle.strm_machine.proofs.ArrivalLemmas.{AreBytes, decoded-zero, carried_arrives}
+
+-- ## What is seen
+
+-- of a call on a side, what is reported to an end, and the call that is taken there
+abbrev pub report_by : Side → Side → ReturnCode → Option ReturnCode
+report_by side other code = cond (same_side side other) (as_report (Some code)) None
+
+abbrev pub taken_by : Side → Side → Operation → ReturnCode → List Call
+taken_by side other mine code =
+    cond (same_side side other) (record { guest = mine.guest; address = mine.address; asked = mine.left; report = report_by side other code } ∷ []) []
+
+-- where items are received, and which
+abbrev pub place_by : Side → Stream → Operation → Place
+place_by Writing stream mine = place_of stream.reader.operation
+place_by Reading stream mine = record { guest = mine.guest; address = mine.address }
+
+abbrev pub got_by : Side → Stream → Operation → Turn → List (Option (List ℤ))
+got_by side stream mine t =
+    items_in stream.payload t.guests (place_by side stream mine).guest (place_by side stream mine).address (t.stream.received - stream.received)
+
+abbrev pub scene_of : Side → Side → List Guest → Stream → Operation → ReturnCode → Turn → Scene
+scene_of side other guests stream mine code t = record {
+  before = stream;
+  after = t.stream;
+  guests = guests;
+  taken = taken_by side other mine code;
+  report = report_by side other code;
+  got = got_by side stream mine t;
+}
+
+pub record Does (side : Side) (guests : List Guest) (stream : Stream) (mine : Operation) (code : ReturnCode) (t : Turn) : Type 0 where
+  pub change : (other : Side) → Change other (scene_of side other guests stream mine code t)
+  pub whole : All IsSome (got_by side stream mine t)
+  pub most : t.stream.received ≤ stream.received + 2 ^ 28
+  pub apart : both_open t.stream ≡ false
+  pub bytes : AreBytes t.guests
+  pub tallies : Tallies t.stream
+
+pub record Unturned (guests : List Guest) (stream : Stream) (t : Turn) : Type 0 where
+  pub same_guests : t.guests ≡ guests
+  pub same_stream : t.stream ≡ stream
+
+-- a turn that answers a code does this, and one that finds a bad item changes nothing
+abbrev pub DoesBy : Side → List Guest → Stream → Operation → Turn → Option ReturnCode → Type 0
+DoesBy side guests stream mine t None = Unturned guests stream t
+DoesBy side guests stream mine t (Some code) = Does side guests stream mine code t
+
+-- mine is taken and has the report, theirs neither
+report-mine : (side : Side) (code : ReturnCode) → report_by side side code ≡ as_report (Some code)
+report-mine Writing code = refl
+report-mine Reading code = refl
+
+report-theirs : (side : Side) (code : ReturnCode) → report_by side (opposite side) code ≡ None
+report-theirs Writing code = refl
+report-theirs Reading code = refl
+
+taken-mine : (side : Side) (mine : Operation) (code : ReturnCode) → taken_by side side mine code ≡ record { guest = mine.guest; address = mine.address; asked = mine.left; report = report_by side side code } ∷ []
+taken-mine Writing mine code = refl
+taken-mine Reading mine code = refl
+
+taken-theirs : (side : Side) (mine : Operation) (code : ReturnCode) → taken_by side (opposite side) mine code ≡ []
+taken-theirs Writing mine code = refl
+taken-theirs Reading mine code = refl
+
+-- ## Where the count stays
+
+pub none_got : (payload : Payload) (guests : List Guest) (g address a b : ℕ) → a ≡ b → items_in payload guests g address (a - b) ≡ []
+none_got payload guests g address a b e = decoded-zero (scalars_of payload) _ (a - b) (omega arith)
+
+pub none_whole : (payload : Payload) (guests : List Guest) (g address a b : ℕ) → a ≡ b → All IsSome (items_in payload guests g address (a - b))
+none_whole payload guests g address a b e = subst (All IsSome) (sym (none_got payload guests g address a b e)) (All-nil IsSome)
+
+-- as many were received as none
+none_brought : (payload : Payload) (guests others : List Guest) (g address h place a b n : ℕ) → a ≡ b → n ≡ 0 → items_in payload guests g address (a - b) ≡ items_in payload others h place n
+none_brought payload guests others g address h place a b n e f = none_got payload guests g address a b e ∙ sym (decoded-zero (scalars_of payload) _ n f)
+
+module _ (side : Side) (v : Scene) (taken : v.taken ≡ []) (report : v.report ≡ None) (nothing : v.got ≡ []) (payload : v.after.payload ≡ v.before.payload) (same : v.after.received ≡ v.before.received) where
+  still_at : (o : Option Operation) → (end_of side v.before).operation ≡ o → (end_of side v.after).operation ≡ o → Change side v
+  still_at None was is = ByRest (record { was = was; is = is; takes = taken; counts = ap (k_of v.before.kind 0) report; same = same; nothing = nothing })
+  still_at (Some o) was is =
+      ByGoing o o 0
+      (record {
+        was = was;
+        is = is;
+        takes = taken;
+        unreported = report;
+        guest = refl;
+        address = omega arith;
+        moved = omega arith;
+        left = omega arith;
+        payload = payload;
+        more = omega (arith, same);
+        brings = λ e. nothing ∙ sym (decoded-zero (scalars_of v.before.payload) _ 0 refl);
+      })
+
+  -- nothing happens at this end
+  pub still : (end_of side v.after).operation ≡ (end_of side v.before).operation → Change side v
+  still is = still_at (end_of side v.before).operation refl is
+
+-- ## Where it rises
+
+-- a count with room takes n items more
+pub rose : (r n : ℕ) → r + 2 ^ 28 < 2 ^ 128 → n < 2 ^ 28 → min (r + n) (2 ^ 128 - 1) ≡ r + n
+rose r n h l = omega arith
+
+got_at : (payload : Payload) (guests : List Guest) (o : Option Operation) (p : Operation) (k n : ℕ) → o ≡ Some p → k ≡ n → items_in payload guests (place_of o).guest (place_of o).address k ≡ items_in payload guests p.guest p.address n
+got_at payload guests o p k n e f = rw (e, f) refl
+
+-- items are received where the read of the two has its own
+got_moved : (side : Side) (stream : Stream) (mine theirs : Operation) (t : Turn) (n : ℕ) → (end_of (opposite side) stream).operation ≡ Some theirs → t.stream.received - stream.received ≡ n
+    → got_by side stream mine t ≡ items_in stream.payload t.guests (read_of side mine theirs).guest (read_of side mine theirs).address n
+got_moved Writing stream mine theirs t n is rise = got_at stream.payload t.guests stream.reader.operation theirs (t.stream.received - stream.received) n is rise
+got_moved Reading stream mine theirs t n is rise = ap (λ j. items_in stream.payload t.guests mine.guest mine.address j) rise
+
+report-completed : (kind : TransmitKind) (n : ℕ) → as_report (Some (completed_code kind n)) ≡ Some (completed_code kind n)
+report-completed AStream n = refl
+report-completed Future n = refl
+
+some_placed : (sizes : List ℕ) (payload : Payload) (q : Option Operation) (o : Operation) → q ≡ Some o → OperationIsPlaced sizes payload q → IsPlaced sizes payload o
+some_placed sizes payload None o e h = cc
+some_placed sizes payload (Some p) o e h = let r : p ≡ o = cc in subst (IsPlaced sizes payload) r h
+
+pub there : (guests : List Guest) (payload : Payload) (o : Operation) → IsPlaced (sizes_of guests) payload o → o.guest < length guests
+there guests payload o h = omega (arith, h.there, length-map guests (λ g. length g.memory))
+
+-- ## One read or write
+
+module _ (side : Side) (guests : List Guest) (stream : Stream) (mine : Operation) (bytes : AreBytes guests) (room : stream.received + 2 ^ 28 < 2 ^ 128) (start : mine.moved ≡ 0) (placed : IsPlaced (sizes_of guests) stream.payload mine) (tallies : Tallies stream) (begins : stream.kind ≡ Future → Begins stream mine) (idle : (end_of side stream).operation ≡ None) where
+  abbrev found : Option Operation
+  found = (end_of (opposite side) stream).operation
+
+  -- a call that is answered at once, with nothing moved
+  answered : (code : ReturnCode) (new : Stream) → IsTurned side stream new None found stream.passed stream.received → count_reported stream.kind code ≡ 0 → as_report (Some code) ≡ Some code → Does side guests stream mine code (answers code guests new)
+  answered code new t none told =
+      let turned = answers code guests new in
+      let place = place_by side stream mine in
+      record {
+        change = each_side (λ other. Change other (scene_of side other guests stream mine code turned)) side
+            (ByServing mine.guest mine.address mine.left code (record {
+              was = idle;
+              is = t.mine_is;
+              takes = taken-mine side mine code;
+              report = report-mine side code ∙ told;
+              within = omega (arith, none);
+              more = omega (arith, none, t.count);
+              brings = λ e. none_brought stream.payload guests guests place.guest place.address mine.guest mine.address new.received stream.received (count_reported stream.kind code) t.count none;
+            }))
+            (still (opposite side) (scene_of side (opposite side) guests stream mine code turned) (taken-theirs side mine code) (report-theirs side code) (none_got stream.payload guests place.guest place.address new.received stream.received t.count) t.payload t.count t.theirs_is);
+        whole = none_whole stream.payload guests place.guest place.address new.received stream.received t.count;
+        most = omega (arith, t.count);
+        apart = apart_by side new (ap is_opened t.mine_is);
+        bytes = bytes;
+        tallies = Tallies-by side new (none_unmoved (end_of side new).operation t.mine_is) (subst IsUnmoved (sym t.theirs_is) (unmoved_on (opposite side) stream tallies))
+            (λ k. let p = tallies.one (sym t.kind ∙ k) in PassesOne-by side new (none_one (end_of side new).operation t.mine_is) (subst AreOne (sym t.theirs_is) (one_on (opposite side) stream p)) (rw (t.count, t.pass) p.count));
+      }
+
+  -- a call that waits, where the opposite end, as it is then, isn't open
+  opens : (new : Stream) (theirs : Option Operation) → IsTurned side stream new (Some mine) theirs stream.passed stream.received → is_opened theirs ≡ false → IsUnmoved theirs → (stream.kind ≡ Future → AreOne theirs)
+      → Change (opposite side) (scene_of side (opposite side) guests stream mine codes.Blocked (answers codes.Blocked guests new)) → Does side guests stream mine codes.Blocked (answers codes.Blocked guests new)
+  opens new theirs t closed unmoved one change =
+      let place = place_by side stream mine in
+      record {
+        change = each_side (λ other. Change other (scene_of side other guests stream mine codes.Blocked (answers codes.Blocked guests new))) side
+            (ByOpening mine.guest mine.address mine.left mine 0 (record {
+              was = idle;
+              is = t.mine_is;
+              takes = taken-mine side mine codes.Blocked;
+              unreported = report-mine side codes.Blocked;
+              guest = refl;
+              place = omega arith;
+              moved = start;
+              left = omega arith;
+              payload = t.payload;
+              more = omega (arith, t.count);
+              brings = λ e. none_brought stream.payload guests guests place.guest place.address mine.guest mine.address new.received stream.received 0 t.count refl;
+            }))
+            change;
+        whole = none_whole stream.payload guests place.guest place.address new.received stream.received t.count;
+        most = omega (arith, t.count);
+        apart = apart_by (opposite side) new (ap is_opened t.theirs_is ∙ closed);
+        bytes = bytes;
+        tallies = Tallies-by side new (subst IsUnmoved (sym t.mine_is) (λ e. start)) (subst IsUnmoved (sym t.theirs_is) unmoved)
+            (λ k. let f : stream.kind ≡ Future = sym t.kind ∙ k in
+            PassesOne-by side new (subst AreOne (sym t.mine_is) (begins f).one) (subst AreOne (sym t.theirs_is) (one f)) (rw (t.count, t.pass) (tallies.one f).count));
+      }
+
+  -- where the opposite end stays as it is
+  waits_still : is_opened found ≡ false → Does side guests stream mine codes.Blocked (waits side guests stream mine)
+  waits_still closed =
+      let new = with_operation side stream mine in
+      let t = turned_end side stream (record (end_of side stream) { operation = Some mine }) in
+      let place = place_by side stream mine in
+      opens new found t closed (unmoved_on (opposite side) stream tallies) (λ k. one_on (opposite side) stream (tallies.one k))
+      (still (opposite side) (scene_of side (opposite side) guests stream mine codes.Blocked (answers codes.Blocked guests new)) (taken-theirs side mine codes.Blocked) (report-theirs side codes.Blocked) (none_got stream.payload guests place.guest place.address new.received stream.received t.count) t.payload t.count t.theirs_is)
+
+  -- where its operation has met, with nothing moved
+  waits_met : (theirs : Operation) → found ≡ Some theirs → theirs.left ≡ 0 → (stream.kind ≡ Future → theirs.left ≡ 1) → Does side guests stream mine codes.Blocked (waits side guests (with_operation (opposite side) stream (advanced stream.payload theirs 0)) mine)
+  waits_met theirs is none left =
+      let p = advanced stream.payload theirs 0 in
+      let new = with_operation side (with_operation (opposite side) stream p) mine in
+      let t = turned_both side stream mine p in
+      let place = place_by side stream mine in
+      let closed : theirs.left - 0 ≤ 0 = omega (arith, none) in
+      opens new (Some p) t (le-ltb 0 (theirs.left - 0) closed) (λ e. cc) (λ k. absurd (omega (arith, none, left k)))
+      (ByGoing theirs p 0 (record {
+        was = is;
+        is = t.theirs_is;
+        takes = taken-theirs side mine codes.Blocked;
+        unreported = report-theirs side codes.Blocked;
+        guest = refl;
+        address = refl;
+        moved = refl;
+        left = omega arith;
+        payload = t.payload;
+        more = omega (arith, t.count);
+        brings = λ e. none_brought stream.payload guests guests place.guest place.address theirs.guest theirs.address new.received stream.received 0 t.count refl;
+      }))
+
+  -- a call that moves n items with an open operation
+  moved : (theirs : Operation) (n : ℕ) (after : List Guest) → found ≡ Some theirs → IsPlaced (sizes_of guests) stream.payload theirs → n ≤ mine.left → n ≤ theirs.left → theirs.is_open ≡ true → (stream.kind ≡ Future → n ≡ 1) → carried guests stream.payload (write_of side mine theirs) (read_of side mine theirs) n ≡ Some after
+      → Does side guests stream mine (completed_code stream.kind n) (moves side guests stream mine theirs n (Some after))
+  moved theirs n after is held fit fits ready one e =
+      let read = read_of side mine theirs in
+      let write = write_of side mine theirs in
+      let laid : IsPlaced (sizes_of guests) stream.payload read = read_of-placed side (sizes_of guests) stream.payload mine theirs placed held in
+      let arrives = carried_arrives guests after stream.payload write read n bytes (there guests stream.payload read laid) (read_fits mine theirs side n fit fits) laid e in
+      let small : n < 2 ^ 28 = omega (arith, placed.counted) in
+      let more = rose stream.received n room small in
+      let p = advanced stream.payload theirs n in
+      let new = with_operation (opposite side) (with_received stream n) p in
+      let t = turned_moves side stream p n None idle in
+      let code = completed_code stream.kind n in
+      let turned = answers code after new in
+      let got : got_by side stream mine turned ≡ items_in stream.payload after read.guest read.address n = got_moved side stream mine theirs turned n is (omega (arith, more, t.count)) in
+      let count = count_reported-completed stream.kind n one in
+      let came : (o : Operation) → write ≡ o → got_by side stream mine turned ≡ items_in stream.payload guests o.guest o.address n = λ o f. got ∙ arrives.brings ∙ ap (λ w. items_in stream.payload guests w.guest w.address n) f in
+      record {
+        change = each_side (λ other. Change other (scene_of side other guests stream mine code turned)) side
+            (ByServing mine.guest mine.address mine.left code (record {
+              was = idle;
+              is = t.mine_is;
+              takes = taken-mine side mine code;
+              report = report-mine side code ∙ report-completed stream.kind n;
+              within = omega (arith, count);
+              more = t.count ∙ more ∙ ap (λ j. stream.received + j) (sym count);
+              brings = λ f. came mine (write_mine mine theirs side f) ∙ ap (λ j. items_in stream.payload guests mine.guest mine.address j) (sym count);
+            }))
+            (ByGoing theirs p n (record {
+              was = is;
+              is = t.theirs_is;
+              takes = taken-theirs side mine code;
+              unreported = report-theirs side code;
+              guest = refl;
+              address = refl;
+              moved = refl;
+              left = omega arith;
+              payload = t.payload;
+              more = t.count ∙ more;
+              brings = λ f. came theirs (write_theirs mine theirs side f);
+            }));
+        whole = subst (All IsSome) (sym got) arrives.whole;
+        most = omega (arith, more, t.count);
+        apart = apart_by side new (ap is_opened t.mine_is);
+        bytes = arrives.bytes;
+        tallies = Tallies-by side new (none_unmoved (end_of side new).operation t.mine_is) (subst IsUnmoved (sym t.theirs_is) (λ g. cc))
+            (λ k. let f : stream.kind ≡ Future = sym t.kind ∙ k in
+            let was = tallies.one f in
+            PassesOne-by side new (none_one (end_of side new).operation t.mine_is)
+            (subst AreOne (sym t.theirs_is) (IsOne-advanced stream.payload theirs n ready (one f) (one_at found theirs is (one_on (opposite side) stream was))))
+            (rw t.pass (count_passed stream.received n new.received stream.passed stream.kind f (begins f).unpassed was.count (one f) (t.count ∙ more))));
+      }
+
+  carries : (theirs : Operation) (n : ℕ) (o : Option (List Guest)) → found ≡ Some theirs → IsPlaced (sizes_of guests) stream.payload theirs → n ≤ mine.left → n ≤ theirs.left → theirs.is_open ≡ true → (stream.kind ≡ Future → n ≡ 1) → carried guests stream.payload (write_of side mine theirs) (read_of side mine theirs) n ≡ o
+      → DoesBy side guests stream mine (moves side guests stream mine theirs n o) (moves side guests stream mine theirs n o).code
+  carries theirs n None is held fit fits ready one e = record { same_guests = refl; same_stream = refl }
+  carries theirs n (Some after) is held fit fits ready one e = moved theirs n after is held fit fits ready one e
+
+  -- one of the two has nothing left and completes alone
+  alone : (who : Side) (theirs : Operation) → found ≡ Some theirs → (stream.kind ≡ Future → theirs.left ≡ 1) → (same_side who side ≡ true → mine.left ≡ 0) × (same_side who side ≡ false → theirs.left ≡ 0)
+      → DoesBy side guests stream mine (completes_alone who side guests stream mine theirs) (completes_alone who side guests stream mine theirs).code
+  alone who theirs is left none =
+      cond_both (same_side who side) _ _ (λ (t : Turn). DoesBy side guests stream mine t t.code)
+      (λ e. answered (completed_code stream.kind 0) stream (turned_not side stream None idle) (count_reported-completed stream.kind 0 (λ k. omega (arith, none.0 e, (begins k).left))) (report-completed stream.kind 0))
+      (λ e. waits_met theirs is (none.1 e) left)
+
+  meet : (theirs : Operation) → found ≡ Some theirs → IsPlaced (sizes_of guests) stream.payload theirs → theirs.is_open ≡ true → DoesBy side guests stream mine (rendezvous side guests stream mine theirs) (rendezvous side guests stream mine theirs).code
+  meet theirs is held ready =
+      let write = write_of side mine theirs in
+      let read = read_of side mine theirs in
+      let left : stream.kind ≡ Future → theirs.left ≡ 1 = λ k. (one_at found theirs is (one_on (opposite side) stream (tallies.one k))).ready ready in
+      let P : Meeting → Type 0 = λ m. DoesBy side guests stream mine (rendezvous_by m side guests stream mine theirs) (rendezvous_by m side guests stream mine theirs).code in
+      cond_both (write.left == 0) _ _ P
+      (λ e. alone Writing theirs is left (write_none mine theirs side (eqb-true write.left 0 e)))
+      (λ e. cond_both (read.left == 0) _ _ P
+      (λ f. alone Reading theirs is left (read_none mine theirs side (eqb-true read.left 0 f)))
+      (λ f. carries theirs (min mine.left theirs.left) _ is held (omega arith) (omega arith) ready (λ k. omega (arith, (begins k).left, left k)) refl))
+
+  finds_does : (o : Option Operation) → found ≡ o → OperationIsPlaced (sizes_of guests) stream.payload o → DoesBy side guests stream mine (finds side guests stream mine o) (finds side guests stream mine o).code
+  finds_does None is held = waits_still (ap is_opened is)
+  finds_does (Some theirs) is held =
+      cond_both theirs.is_open _ _ (λ (t : Turn). DoesBy side guests stream mine t t.code)
+      (λ e. meet theirs is held e)
+      (λ e. waits_still (ap is_opened is ∙ e))
+
+  -- whichever of the two it is, where its end has no operation yet
+  pub turn_does : OperationIsPlaced (sizes_of guests) stream.payload found → DoesBy side guests stream mine (turn side guests stream mine) (turn side guests stream mine).code
+  unfolding turn
+  turn_does held =
+      let end = record (end_of side stream) { told = true } in
+      cond_both (is_gone (end_of (opposite side) stream).owner) _ _ (λ (t : Turn). DoesBy side guests stream mine t t.code)
+      (λ e. answered (codes.Dropped 0) (with_end side stream end) (by_idle (turned_end side stream end)) (count_reported-dropped stream.kind) refl)
+      (λ e. finds_does found refl held)
+    where
+      by_idle : IsTurned side stream (with_end side stream (record (end_of side stream) { told = true })) (end_of side stream).operation found stream.passed stream.received → IsTurned side stream (with_end side stream (record (end_of side stream) { told = true })) None found stream.passed stream.received
+      by_idle t = record { mine_is = t.mine_is ∙ idle; theirs_is = t.theirs_is; payload = t.payload; kind = t.kind; pass = t.pass; count = t.count }

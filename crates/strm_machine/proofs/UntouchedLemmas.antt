@@ -1,0 +1,286 @@
+-- What each step leaves of memories: all bytes but those that it pokes or receives items at.
+use Rattle.std.proofs.Common.{true, Bool, List, None, Option, Some, [], ap, arith, cond, drop, false, get_or, inl, inr, length, length-append, length-set, min, refl, set, subst, suc, sym, take, zero, ℕ, ℤ, ◌*◌, ◌++◌, ◌+◌, ◌-◌, ◌<◌, ◌^◌, ◌∙◌, ◌∷◌, ◌≡◌, ◌≤◌}
+use Rattle.std.proofs.Math.ListN.{get_or-map}
+use Rattle.std.proofs.Math.Seq.{map-set_same}
+use Rattle.std.proofs.lemmas.Bool.{cases_eq, cases_lt, cond_both}
+use Rattle.std.proofs.lemmas.Bool.Decides.{nat_tests}
+use Rattle.std.proofs.lemmas.List.{append_assoc, get_or-set_same, get_or_append_left, length-map, take-append-drop}
+use Rattle.strm_codes.specs.Layout.{item_size, scalars_of}
+use Rattle.strm_codes.specs.declared.codes.ReturnCode.{ReturnCode}
+use Rattle.strm_codes.specs.declared.codes.TransmitIndex.{TransmitIndex}
+use Rattle.strm_codes.specs.declared.payloads.Payload.{Payload}
+use Rattle.strm_codes.specs.declared.scalars.Scalar.{Scalar}
+use Rattle.strm_handles.specs.Handles.{Handles, inserted, removed, no_handles}
+use Rattle.strm_machine.proofs.EndLemmas.{read_fits}
+use Rattle.strm_machine.proofs.Lawful.{HasRoom, as_moment}
+use Rattle.strm_machine.proofs.NamedEndLemmas.{named_itself}
+use Rattle.strm_machine.proofs.RefusalLemmas.{BytesFit}
+use Rattle.strm_machine.proofs.SoundStepLemmas.{operate-keeps, poke-keeps}
+use Rattle.strm_machine.proofs.Shapes.{stream_on, begun_on, turn_on, Operates, set_by, Shape, ByTurn, BySetting, ByPair, ByGuest, ByPoke, ByRest}
+use Rattle.strm_machine.proofs.ShapeLemmas.{reaction-shape}
+use Rattle.strm_machine.proofs.TurnChangeLemmas.{place_by, rose, there}
+use Rattle.strm_machine.specs.Moments.{Moment, Place, names, place_of, read_place, received, target}
+use Rattle.strm_machine.specs.Untouched.{LiesApart, Region, StaysAside, bytes_of, poked_by, received_by}
+use Rattle.strm_machine.proofs.BoundLemmas.{within}
+use Rattle.strm_machine.proofs.CarryLemmas.{carried-nothing}
+use Rattle.strm_machine.proofs.SideLemmas.{end_placed, read_of-placed}
+use Rattle.strm_machine.proofs.SoundLemmas.{guests_after}
+use Rattle.strm_machine.proofs.StateLemmas.{memory_in-with_memory, memory_in-with_memory_other}
+use Rattle.strm_machine.proofs.TurnLemmas.{front_inside, size_in}
+use Rattle.strm_machine.specs.Making.{read_entry, with_stream}
+use Rattle.strm_machine.specs.Meetings.{advanced, carried}
+use Rattle.strm_machine.specs.Reactions.{Reaction, goes, operates, makes, on_memory, reaction, written_back}
+use Rattle.strm_machine.specs.Sides.{end_of, opposite, read_of, same_side, with_operation, write_of}
+use Rattle.strm_machine.specs.Soundness.{IsPlaced, IsSound, OperationIsPlaced, sizes_of}
+use Rattle.strm_machine.specs.State.{Guest, State, guest_in, is_gone, memory_in, no_guest, no_stream, stream_at, with_handles, with_memory}
+use Rattle.strm_machine.specs.Tests.{named, stream_named}
+use Rattle.strm_machine.specs.Turns.{Turn, completes_alone, finds, rendezvous_by, moves, turn, with_received}
+use Rattle.strm_machine.specs.declared.streams.Meeting.{Meeting}
+use Rattle.strm_machine.specs.declared.streams.Meeting.TheVariants.{BothComplete, ReadCompletes, WriteCompletes}
+use Rattle.strm_machine.specs.declared.streams.Operation.{Operation}
+use Rattle.strm_machine.specs.declared.streams.Side.{Side}
+use Rattle.strm_machine.specs.declared.streams.Side.TheVariants.{Reading, Writing}
+use Rattle.strm_machine.specs.declared.streams.Stream.{Stream}
+use Rattle.strm_memory.proofs.CopyLemmas.{option_map_some}
+use Rattle.strm_memory.proofs.RegionLemmas.{bytes_at-put_at_apart, bytes_at-stored_at, length-items, stored_at-nil}
+use Rattle.strm_memory.specs.Bytes.{IsApart, bytes_at, put_at}
+use Rattle.strm_memory.specs.Items.{items_at, stored_at}
+use Rattle.strm_memory.specs.Region.{bytes_out_of_bounds}
+use Rattle.strm_machine.specs.declared.acts.NamedEnd.{NamedEnd}
+use Rattle.strm_machine.specs.declared.acts.Making.TheVariants as makings
+use Rattle.strm_machine.specs.declared.acts.EndAct.TheVariants.{Operate}
+use Rattle.strm_machine.specs.declared.acts.MemoryAct.TheVariants.{Poke}
+use Rattle.strm_machine.specs.declared.acts.Act.{Act}
+use Rattle.strm_machine.specs.declared.acts.Act.TheVariants.{Make, OnEnd, OnMemory}
+use Rattle.std.specs.Prelude.{replicate}
+
+-- ## Memories
+
+-- no guest goes, and each memory has its length
+pub record SizesStay (before after : List Guest) : Type 0 where
+  pub guests : length before ≤ length after
+  pub size : (g : ℕ) → g < length before → length (memory_in after g) ≡ length (memory_in before g)
+
+-- all bytes apart from a region stay
+abbrev pub BytesStay : List Guest → List Guest → Region → Type 0
+BytesStay before after touched = (r : Region) → r.place.guest < length before → LiesApart r touched → bytes_of after r ≡ bytes_of before r
+
+SizesStay-kept : (before after : List Guest) → sizes_of after ≡ sizes_of before → SizesStay before after
+SizesStay-kept before after e = record {
+  guests = omega (arith, length-map before (λ g. length g.memory), length-map after (λ g. length g.memory), ap length e);
+  size = λ g l. sym (size_in after g) ∙ ap (λ xs. get_or xs g 0) e ∙ size_in before g;
+}
+
+-- only what is poked is touched, or only what is received on one stream
+stays_poked : (m : Moment) → SizesStay m.before.guests m.after.guests → BytesStay m.before.guests m.after.guests (poked_by m.act m.reply) → StaysAside m
+stays_poked m s b = record { guests = s.guests; size = s.size; bytes = λ r l u. b r l u.poked }
+
+stays_received : (s : ℕ) (m : Moment) → SizesStay m.before.guests m.after.guests → BytesStay m.before.guests m.after.guests (received_by s m) → StaysAside m
+stays_received s m k b = record { guests = k.guests; size = k.size; bytes = λ r l u. b r l (u.got s) }
+
+-- all memories are as they were
+stays_all : (m : Moment) → length m.before.guests ≤ length m.after.guests → ((g : ℕ) → g < length m.before.guests → memory_in m.after.guests g ≡ memory_in m.before.guests g) → StaysAside m
+stays_all m n e = record {
+  guests = n;
+  size = λ g l. ap length (e g l);
+  bytes = λ r l u. ap (λ memory. bytes_at memory r.place.address r.size) (e r.place.guest l);
+}
+
+stays_same : (m : Moment) → m.after.guests ≡ m.before.guests → StaysAside m
+stays_same m e = stays_all m (omega (arith, ap length e)) (λ g l. ap (λ guests. memory_in guests g) e)
+
+memory_in-with_handles : (guests : List Guest) (g : ℕ) (handles : Handles) (k : ℕ) → memory_in (with_handles guests g handles) k ≡ memory_in guests k
+memory_in-with_handles guests g handles k =
+    let new : Guest = record (guest_in guests g) { handles = handles } in
+    sym (get_or-map (λ (h : Guest). h.memory) (set guests g new) k no_guest)
+    ∙ ap (λ xs. get_or xs k []) (map-set_same (λ (h : Guest). h.memory) guests g new no_guest refl)
+    ∙ get_or-map (λ (h : Guest). h.memory) guests k no_guest
+
+-- bytes of one memory, where another is put in its place
+bytes_with : (guests : List Guest) (g : ℕ) (memory : List ℕ) (r : Region) → g < length guests → (r.place.guest ≡ g → bytes_at memory r.place.address r.size ≡ bytes_at (memory_in guests g) r.place.address r.size) → bytes_of (with_memory guests g memory) r ≡ bytes_of guests r
+bytes_with guests g memory r l same =
+    elim (cases_eq r.place.guest g) [
+      | inl e ↦ rw e (ap (λ b. bytes_at b r.place.address r.size) (memory_in-with_memory guests g memory l) ∙ same e)
+      | inr ne ↦ ap (λ b. bytes_at b r.place.address r.size) (memory_in-with_memory_other guests g r.place.guest memory ne)
+    ]
+
+-- bytes that are put into it
+put_stays : (memory : List ℕ) (address : ℕ) (new : List ℕ) (other size : ℕ) → bytes_out_of_bounds (length memory) address (length new) ≡ false → (0 < size → 0 < length new → IsApart address (length new) other size) → bytes_at (put_at memory address new) other size ≡ bytes_at memory other size
+put_stays memory address new other zero inside apart = refl
+put_stays memory address [] other (suc size) inside apart =
+    ap (λ b. bytes_at b other (suc size)) (append_assoc (take address memory) [] (drop (address + length {A = ℕ} []) memory) ∙ ap (λ k. take address memory ++ drop k memory) nothing ∙ take-append-drop address memory)
+  where
+    nothing : address + length {A = ℕ} [] ≡ address
+    nothing = omega arith
+put_stays memory address (b ∷ new) other (suc size) inside apart =
+    bytes_at-put_at_apart memory address (b ∷ new) other (suc size) (fits (length memory) address (length (b ∷ new)) inside (omega arith)) (apart (omega arith) (omega arith))
+  where
+    fits : (size address count : ℕ) → bytes_out_of_bounds size address count ≡ false → 0 < count → address + count ≤ size
+    fits size address count e h = grind (arith, nat_tests)
+
+-- ## Items received
+
+positive : (a b : ℕ) → 0 < a → 0 < b → 0 < a * b
+positive a b h k = grind arith
+
+-- items of some bytes that are stored in a region
+stored_stays : (ss : List Scalar) (memory : List ℕ) (address n : ℕ) (xs : List (List ℤ)) (other size : ℕ) → length xs ≡ n → (0 < n → 0 < item_size ss → address + item_size ss * n ≤ length memory) → 0 < item_size ss → (0 < size → 0 < item_size ss * n → IsApart address (item_size ss * n) other size) → bytes_at (stored_at ss memory address xs) other size ≡ bytes_at memory other size
+stored_stays ss memory address n xs other zero e room some apart = refl
+stored_stays ss memory address zero [] other (suc size) e room some apart = rw (stored_at-nil ss memory address) refl
+stored_stays ss memory address zero (x ∷ xs) other (suc size) e room some apart = absurd (omega (arith, e))
+stored_stays ss memory address (suc n) xs other (suc size) e room some apart =
+    bytes_at-stored_at ss memory address xs other (suc size) (rw e (room (omega arith) some)) (rw e (apart (omega arith) (positive (item_size ss) (suc n) some (omega arith))))
+
+-- where n items of a read that waits or is called are received
+abbrev region_of : Payload → Operation → ℕ → Region
+region_of payload read n = record { place = place_of (Some read); size = item_size (scalars_of payload) * n }
+
+carried_stays : (guests after : List Guest) (payload : Payload) (write read : Operation) (n : ℕ) → read.guest < length guests → n ≤ read.left → IsPlaced (sizes_of guests) payload read → carried guests payload write read n ≡ Some after → BytesStay guests after (region_of payload read n)
+carried_stays guests after payload write read n there fit placed e r l apart =
+    let ss = scalars_of payload in
+    let memory = memory_in guests read.guest in
+    elim (cases_lt 0 (item_size ss)) [
+      | inr none ↦ ap (λ gs. bytes_of gs r) (option_same after guests (sym e ∙ carried-nothing guests payload write read n (omega (arith, none))))
+      | inl some ↦ option_map_some _ (items_at ss (memory_in guests write.guest) write.address n) after e
+          (λ xs p q.
+          let room = within (length memory) ss read.address n (front_inside guests payload read n fit placed) in
+          ap (λ gs. bytes_of gs r) (sym q)
+          ∙ bytes_with guests read.guest (stored_at ss memory read.address xs) r there
+          (λ f. stored_stays ss memory read.address n xs r.place.address r.size (length-items ss _ n xs p) room some (apart f)))
+    ]
+  where
+    option_same : (a b : List Guest) → Some a ≡ Some b → a ≡ b
+    option_same a b f = cc
+
+-- ## A read or write
+
+region_same : (p q : Place) (a b : ℕ) → p ≡ q → a ≡ b → ◌≡◌ {A = Region} (record { place = p; size = a }) (record { place = q; size = b })
+region_same p q a b e f = rw (e, f) refl
+
+-- where items are received in the turn of a call
+abbrev region_by : Side → Stream → Operation → Turn → Region
+region_by side stream mine t = record { place = place_by side stream mine; size = item_size (scalars_of stream.payload) * (t.stream.received - stream.received) }
+
+received-with_operation : (side : Side) (stream : Stream) (o : Operation) → (with_operation side stream o).received ≡ stream.received
+received-with_operation Writing stream o = refl
+received-with_operation Reading stream o = refl
+
+place_by-read : (side : Side) (stream : Stream) (mine theirs : Operation) → (end_of (opposite side) stream).operation ≡ Some theirs → place_by side stream mine ≡ place_of (Some (read_of side mine theirs))
+place_by-read Writing stream mine theirs e = ap place_of e
+place_by-read Reading stream mine theirs e = refl
+
+module _ (side : Side) (guests : List Guest) (stream : Stream) (mine : Operation) (room : stream.received + 2 ^ 28 < 2 ^ 128) (placed : IsPlaced (sizes_of guests) stream.payload mine) where
+  abbrev Stays : Turn → Type 0
+  Stays t = BytesStay guests t.guests (region_by side stream mine t)
+
+  carries_stay : (theirs : Operation) (n : ℕ) (o : Option (List Guest)) → (end_of (opposite side) stream).operation ≡ Some theirs → IsPlaced (sizes_of guests) stream.payload theirs → n ≤ mine.left → n ≤ theirs.left → carried guests stream.payload (write_of side mine theirs) (read_of side mine theirs) n ≡ o → Stays (moves side guests stream mine theirs n o)
+  carries_stay theirs n None is held fit fits e r l apart = refl
+  carries_stay theirs n (Some after) is held fit fits e r l apart =
+      let read = read_of side mine theirs in
+      let laid : IsPlaced (sizes_of guests) stream.payload read = read_of-placed side (sizes_of guests) stream.payload mine theirs placed held in
+      let more = rose stream.received n room (omega (arith, placed.counted)) in
+      let new = with_operation (opposite side) (with_received stream n) (advanced stream.payload theirs n) in
+      let rise : new.received - stream.received ≡ n = omega (arith, more, received-with_operation (opposite side) (with_received stream n) (advanced stream.payload theirs n)) in
+      let here : region_by side stream mine (moves side guests stream mine theirs n (Some after)) ≡ region_of stream.payload read n = region_same (place_by side stream mine) (place_of (Some read)) _ _ (place_by-read side stream mine theirs is) (ap (λ k. item_size (scalars_of stream.payload) * k) rise) in
+      carried_stays guests after stream.payload (write_of side mine theirs) read n (there guests stream.payload read laid) (read_fits mine theirs side n fit fits) laid e r l (subst (LiesApart r) here apart)
+
+  alone_stays : (who : Side) (theirs : Operation) → Stays (completes_alone who side guests stream mine theirs)
+  alone_stays who theirs = cond_both (same_side who side) _ _ Stays (λ e r l apart. refl) (λ e r l apart. refl)
+
+  meets_stay : (meeting : Meeting) (theirs : Operation) → (end_of (opposite side) stream).operation ≡ Some theirs → IsPlaced (sizes_of guests) stream.payload theirs → Stays (rendezvous_by meeting side guests stream mine theirs)
+  meets_stay BothComplete theirs is held = carries_stay theirs (min mine.left theirs.left) _ is held (omega arith) (omega arith) refl
+  meets_stay WriteCompletes theirs is held = alone_stays Writing theirs
+  meets_stay ReadCompletes theirs is held = alone_stays Reading theirs
+
+  finds_stay : (o : Option Operation) → (end_of (opposite side) stream).operation ≡ o → OperationIsPlaced (sizes_of guests) stream.payload o → Stays (finds side guests stream mine o)
+  finds_stay None is held = λ r l apart. refl
+  finds_stay (Some theirs) is held =
+      cond_both theirs.is_open _ _ Stays
+      (λ e. meets_stay _ theirs is held)
+      (λ e r l apart. refl)
+
+  pub turn_stays : OperationIsPlaced (sizes_of guests) stream.payload (end_of (opposite side) stream).operation → Stays (turn side guests stream mine)
+  unfolding turn
+  turn_stays held =
+      cond_both (is_gone (end_of (opposite side) stream).owner) _ _ Stays
+      (λ e r l apart. refl)
+      (λ e. finds_stay (end_of (opposite side) stream).operation refl held)
+
+-- where the act of a call has its items, by whether it names the read end
+target_by : (side : Side) (b : Bool) (end : NamedEnd) (address count : ℕ) (stream : Stream) → b ≡ same_side side Reading → cond b (read_place (OnEnd side end (Operate address count)) (place_of stream.reader.operation)) (place_of stream.reader.operation) ≡ place_by side stream (begun_on end address count)
+target_by Writing b end address count stream e = rw e refl
+target_by Reading b end address count stream e = rw e refl
+
+back_guests : (state : State) (s : ℕ) (t : Turn) (code : Option ReturnCode) → (written_back state s t code).state.guests ≡ t.guests
+back_guests state s t None = refl
+back_guests state s t (Some code) = refl
+
+back_stream : (state : State) (s : ℕ) (t : Turn) (code : Option ReturnCode) → s < length state.streams → stream_at (written_back state s t code).state s ≡ t.stream
+back_stream state s t None l = get_or-set_same state.streams s t.stream no_stream l
+back_stream state s t (Some code) l = get_or-set_same state.streams s t.stream no_stream l
+
+operates_stays : (state : State) (side : Side) (end : NamedEnd) (address count : ℕ) → HasRoom state → Operates state side end address count → StaysAside (as_moment state (OnEnd side end (Operate address count)) (operates state side end address count))
+operates_stays state side end address count room o =
+    let s = stream_named (named state end) in
+    let act = OnEnd side end (Operate address count) in
+    let stream = stream_on state end in
+    let mine = begun_on end address count in
+    let t = turn_on state side end address count in
+    let m = as_moment state act (operates state side end address count) in
+    let guests : m.after.guests ≡ t.guests = back_guests state s t t.code in
+    let rises : received s m.after ≡ t.stream.received = ap (λ (st : Stream). st.received) (back_stream state s t t.code o.found.made) in
+    let place : target s m ≡ place_by side stream mine = target_by side (names s Reading state act) end address count stream (named_itself state act s side Reading o.found.named) in
+    let here : received_by s m ≡ region_by side stream mine t = region_same (target s m) (place_by side stream mine) _ _ place (ap (λ k. item_size (scalars_of stream.payload) * (k - stream.received)) rises) in
+    let stay = turn_stays side state.guests stream mine (room s) o.placed (end_placed (opposite side) (sizes_of state.guests) stream o.streams) in
+    stays_received s m
+    (subst (SizesStay state.guests) (sym guests) (SizesStay-kept state.guests t.guests (operate-keeps state side end address count o).guests.sizes))
+    (λ r k apart. ap (λ gs. bytes_of gs r) guests ∙ stay r k (subst (LiesApart r) here apart))
+
+-- ## Every step
+
+poke_stays : (state : State) (g address : ℕ) (bytes : List ℕ) → BytesFit state g address (length bytes) → StaysAside (as_moment state (OnMemory g (Poke address bytes)) (on_memory state g (Poke address bytes)))
+poke_stays state g address bytes fits =
+    let memory = memory_in state.guests g in
+    let m = as_moment state (OnMemory g (Poke address bytes)) (on_memory state g (Poke address bytes)) in
+    stays_poked m
+    (SizesStay-kept state.guests m.after.guests (poke-keeps state g address bytes fits).sizes)
+    (λ r l apart. bytes_with state.guests g (put_at memory address bytes) r fits.there (λ f. put_stays memory address bytes r.place.address r.size fits.inside (apart f)))
+
+-- a guest behind the others
+guest_stays : (state : State) (size : ℕ) → StaysAside (as_moment state (Make (makings.Guest size)) (makes state (makings.Guest size)))
+guest_stays state size =
+    let guest : Guest = record { memory = replicate size 0; handles = no_handles } in
+    stays_all (as_moment state (Make (makings.Guest size)) (makes state (makings.Guest size)))
+    (omega (arith, length-append state.guests (guest ∷ [])))
+    (λ g l. ap (λ (k : Guest). k.memory) (get_or_append_left state.guests (guest ∷ []) no_guest g l))
+
+handles_stay : (m : Moment) (guests : List Guest) (g : ℕ) (handles : Handles) → length m.before.guests ≤ length guests → ((k : ℕ) → memory_in guests k ≡ memory_in m.before.guests k) → m.after.guests ≡ with_handles guests g handles → StaysAside m
+handles_stay m guests g handles n same e =
+    stays_all m
+    (omega (arith, n, ap length e, length-set guests g (record (guest_in guests g) { handles = handles })))
+    (λ k l. ap (λ gs. memory_in gs k) e ∙ memory_in-with_handles guests g handles k ∙ same k)
+
+-- a handle that is freed, or none is
+after_stays : (m : Moment) (frees : Bool) (g handle : ℕ) → m.after.guests ≡ guests_after frees m.before.guests g handle → StaysAside m
+after_stays m true g handle e = handles_stay m m.before.guests g (removed (guest_in m.before.guests g).handles handle) (omega arith) (λ k. refl) e
+after_stays m false g handle e = stays_same m e
+
+pair_stays : (state : State) (writer reader : ℕ) (ty : TransmitIndex) → StaysAside (as_moment state (Make (makings.Between writer reader ty)) (makes state (makings.Between writer reader ty)))
+unfolding with_stream
+pair_stays state writer reader ty =
+    let m = as_moment state (Make (makings.Between writer reader ty)) (makes state (makings.Between writer reader ty)) in
+    let new = inserted (guest_in state.guests reader).handles (read_entry ty (length state.streams)) in
+    handles_stay m (with_handles state.guests reader new) writer _
+    (omega (arith, length-set state.guests reader (record (guest_in state.guests reader) { handles = new })))
+    (memory_in-with_handles state.guests reader new) refl
+
+shape-stays : (state : State) (act : Act) (r : Reaction) → HasRoom state → Shape state act r → StaysAside (as_moment state act r)
+shape-stays state act r room (ByTurn side end address count a e o) = rw (a, e) (operates_stays state side end address count room o)
+shape-stays state act r room (BySetting reply x e set) = rw e (after_stays (as_moment state act (goes reply (set_by state x))) x.frees x.guest x.handle refl)
+shape-stays state act r room (ByPair writer reader ty a e fits) = rw (a, e) (pair_stays state writer reader ty)
+shape-stays state act r room (ByGuest size a e fits) = rw (a, e) (guest_stays state size)
+shape-stays state act r room (ByPoke g address bytes a e fits) = rw (a, e) (poke_stays state g address bytes fits)
+shape-stays state act r room (ByRest reply e none) = rw e (stays_same (as_moment state act (goes reply state)) refl)
+
+pub reaction-stays : (state : State) (act : Act) → IsSound state → HasRoom state → StaysAside (as_moment state act (reaction state act))
+reaction-stays state act h room = shape-stays state act (reaction state act) room (reaction-shape state act h)

@@ -1,0 +1,52 @@
+-- The memories of guests in a moment: which bytes it touches, and that all others stay. Ours.
+use Rattle.std.specs.Prelude.{◌≡◌, ℕ, ◌*◌, ◌<◌, ◌≤◌, List, length}
+use Rattle.strm_codes.specs.Layout.{scalars_of, item_size}
+use Rattle.strm_memory.specs.Bytes.{bytes_at, IsApart}
+use Rattle.strm_machine.specs.State.{Guest, memory_in, stream_at}
+use Rattle.strm_machine.specs.declared.acts.MemoryAct.TheVariants.{Poke}
+use Rattle.strm_machine.specs.declared.acts.Act.{Act}
+use Rattle.strm_machine.specs.declared.acts.Act.TheVariants.{OnMemory}
+use Rattle.strm_machine.specs.declared.replies.Reply.{Reply}
+use Rattle.strm_machine.specs.declared.replies.Reply.TheVariants as replies
+use Rattle.strm_machine.specs.Moments.{Moment, Place, rise, target}
+
+-- so many bytes of a guest's memory from a place on
+pub record Region : Type 0 where
+  pub place : Place
+  pub size : ℕ
+
+-- its bytes
+abbrev pub bytes_of : List Guest → Region → List ℕ
+bytes_of guests r = bytes_at (memory_in guests r.place.guest) r.place.address r.size
+
+-- two regions have no byte in common
+abbrev pub LiesApart : Region → Region → Type 0
+LiesApart r other =
+    r.place.guest ≡ other.place.guest → 0 < r.size → 0 < other.size →
+    IsApart other.place.address other.size r.place.address r.size
+
+-- where the bytes of a poke are put, once it is done; no byte where there is none
+abbrev pub poked_by : Act → Reply → Region
+poked_by (OnMemory g (Poke address bytes)) replies.Done =
+    record { place = record { guest = g; address = address }; size = length bytes }
+poked_by _ _ = record { place = record { guest = 0; address = 0 }; size = 0 }
+
+-- where the items of stream s that are received in a moment lie
+abbrev pub received_by : ℕ → Moment → Region
+received_by s m = record {
+  place = target s m;
+  size = item_size (scalars_of (stream_at m.before s).payload) * rise s m;
+}
+
+-- no byte of the region is poked in a moment, and on no stream an item is received there
+pub record IsUntouched (m : Moment) (r : Region) : Type 0 where
+  pub poked : LiesApart r (poked_by m.act m.reply)
+  pub got : (s : ℕ) → LiesApart r (received_by s m)
+
+-- guests stay, each with a memory of the same length, and what isn't touched of it is as it was
+pub record StaysAside (m : Moment) : Type 0 where
+  pub guests : length m.before.guests ≤ length m.after.guests
+  pub size : (g : ℕ) → g < length m.before.guests →
+      length (memory_in m.after.guests g) ≡ length (memory_in m.before.guests g)
+  pub bytes : (r : Region) → r.place.guest < length m.before.guests → IsUntouched m r →
+      bytes_of m.after.guests r ≡ bytes_of m.before.guests r

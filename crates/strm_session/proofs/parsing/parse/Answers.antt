@@ -1,6 +1,0 @@
-use Rattle.strm_session.specs.Lines.{lines_of}
-use Rattle.strm_session.proofs.LineLemmas.{complete}
-use Rattle.strm_session.proofs.parsing.parse.Goals as goal
-
-pub returns-clause-complete : goal.returns-clause-complete
-returns-clause-complete c = λ steps f h. complete (lines_of c.args.bytes.now) c.parse_lines.result c.parse_lines.ensures.ok c.parse_lines.ensures.within c.parse_lines.ensures.bad_line steps f

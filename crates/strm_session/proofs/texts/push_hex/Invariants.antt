@@ -1,9 +1,0 @@
-use Rattle.std.proofs.Common.{◌≡◌, ◌*◌, length, take}
-use Rattle.strm_session.specs.Words.{hex_pairs}
-use Rattle.strm_session.proofs.texts.push_hex.Given as goal
-
-abbrev pub invariant-loop-k : goal.invariant-loop-k
-invariant-loop-k l = record {
-  whole : length l.digits ≡ 128;
-  done : take (2 * l.k) l.digits ≡ hex_pairs (take l.k l.bytes);
-}

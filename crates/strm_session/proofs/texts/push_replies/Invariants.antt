@@ -1,6 +1,0 @@
-use Rattle.std.proofs.Common.{◌≡◌, ◌++◌, take}
-use Rattle.strm_session.specs.Text.{reply_lines}
-use Rattle.strm_session.proofs.texts.push_replies.Given as goal
-
-abbrev pub invariant-loop-reply : goal.invariant-loop-reply
-invariant-loop-reply l = l.out ≡ l.fn.out ++ reply_lines (take l.reply-index l.replies)

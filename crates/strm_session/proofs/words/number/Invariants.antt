@@ -1,9 +1,0 @@
-use Rattle.std.proofs.Common.{◌≡◌, ◌<◌, ◌^◌, drop}
-use Rattle.strm_session.specs.Reading.{digits_from}
-use Rattle.strm_session.proofs.words.number.Given as goal
-
-abbrev pub invariant-loop-byte : goal.invariant-loop-byte
-invariant-loop-byte l = record {
-  small : l.number < 2 ^ 32;
-  rest : digits_from l.number (drop l.byte-index l.word) ≡ digits_from 0 l.word;
-}

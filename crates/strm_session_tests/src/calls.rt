@@ -1,0 +1,286 @@
+//! What no clause says: lines and texts of the formats' own examples, and that memory is found.
+
+use std::alloc::Global;
+use std::test::Fail;
+use strm_codes::codes::{ReturnCode, TransmitIndex};
+use strm_codes::counts::ItemCount;
+use strm_codes::payloads::Payload;
+use strm_codes::refusals::Refusal;
+use strm_codes::scalars::Scalar;
+use strm_machine::chunks::Chunk;
+use strm_machine::replies::{Pair, Reply};
+use strm_machine::steps::Step;
+use strm_session::in_memory::{BytesSink, BytesSource};
+use strm_session::lists::{Counts, Replies};
+use strm_session::parsing::{ParseError, parse};
+use strm_session::serving::serve;
+use strm_session::texts;
+use strm_session::texts::{bad_line_text, transcript_text};
+use strm_session::whole::{InputError, read_all, write_whole};
+
+const BYTES: TransmitIndex = TransmitIndex::Stream(Payload::One(Scalar::U8));
+
+// The answer to an input: 0 where its lines spell steps, else the number of the first bad line.
+fn bad_line(alloc: Global, bytes: &[u8]) -> Result<u32, Fail> {
+    match parse(alloc, bytes) {
+        Ok(_) => Ok(0),
+        Err(ParseError::BadLine { line }) => Ok(line),
+        Err(error) => Err(Fail::from(error)),
+    }
+}
+
+#[test]
+fn good_lines(rt: HostRuntime) -> Result<(), Fail> {
+    let inputs = [
+        "",
+        "guest 0\n",
+        "guest 4294967295",
+        "pair 0 1 stream:u8\n",
+        "write 0 stream:u8 1 4294967295 268435455\n",
+        "write 0 stream:u8 1 0 268435456\n",
+        "read 0 stream:u8 0 0 0\n",
+        "read 0 stream:u8 1 0 4294967295\n",
+        "event 0 1\nevent 4294967295 4294967295",
+        "drop-write 0 stream:u8 1\n",
+        "drop-read 0 stream:u8 4294967295\n",
+        "poke 0 0 00\n",
+        "dump 0 0 1\ndump 0 0 64\n",
+    ];
+    for input in inputs {
+        assert_eq!(rt; bad_line(rt.alloc(), input.as_bytes())?, 0, "{input}");
+    }
+    Ok(())
+}
+
+#[test]
+fn bad_lines(rt: HostRuntime) -> Result<(), Fail> {
+    let lines = [
+        "",
+        "guest",
+        "guest ",
+        "guest  1",
+        " guest 1",
+        "guest 1 ",
+        "guest 1 2",
+        "guest\t1",
+        "guest 1\r",
+        "guest 01",
+        "guest +1",
+        "guest -1",
+        "guest 4294967296",
+        "Guest 1",
+        "pair 0 0 stream:u8",
+        "pair 0 1 stream:u16",
+        "pair 0 1 future:u8",
+        "pair 0 1 Stream:u8",
+        "write 0 stream:u8 1 0 4294967296",
+        "read 0 stream:u8 1 0",
+        "event 0",
+        "event 0 1 2",
+        "event 0 stream:u8 1",
+        "drop-write 0 1",
+        "drop-write 0 stream:u8 1 0",
+        "drop-read 0 stream:u16 1",
+        "drop 0 stream:u8 1",
+        "poke 0 0 ",
+        "poke 0 0 0",
+        "poke 0 0 0A",
+        "poke 0 0 0g",
+        "dump 0 0 0",
+        "dump 0 0 65",
+        "new 0 stream:u8",
+        "drive",
+    ];
+    for line in lines {
+        let input = format!(in rt.alloc(); "guest 1\n{line}\nguest 1\n")?;
+        assert_eq!(rt; bad_line(rt.alloc(), input.as_bytes())?, 2, "{line}");
+    }
+    Ok(())
+}
+
+#[test]
+fn limits_of_lines(rt: HostRuntime) -> Result<(), Fail> {
+    assert_eq!(rt; bad_line(rt.alloc(), b"\n")?, 1);
+    let many = lines_of_drive(rt.alloc(), 262_144)?;
+    assert_eq!(rt; bad_line(rt.alloc(), &many)?, 1);
+    let more = lines_of_drive(rt.alloc(), 262_145)?;
+    assert_eq!(rt; parse(rt.alloc(), &more).err(), Some(ParseError::TooLong));
+    Ok(())
+}
+
+// So many bad lines.
+fn lines_of_drive(alloc: Global, count: usize) -> Result<Vec<u8>, Fail> {
+    let mut bytes = Vec::new(alloc);
+    for _ in 0..count {
+        bytes.extend_from_slice(b"drive\n")?;
+    }
+    Ok(bytes)
+}
+
+#[test]
+fn seven_lines_are_read(rt: HostRuntime) -> Result<(), Fail> {
+    let input = b"guest 16\nguest 16\npair 0 1 stream:u8\npoke 0 0 010203\n\
+        write 0 stream:u8 1 0 3\nread 1 stream:u8 1 0 3\ndump 1 0 3\n";
+    let steps = parse(rt.alloc(), input)?;
+    let (guest, ty, handle, address, count) = (0, BYTES, 1, 0, 3);
+    let expected = [
+        Step::Guest { size: 16 },
+        Step::Guest { size: 16 },
+        Step::Between {
+            writer: 0,
+            reader: 1,
+            ty,
+        },
+        Step::Poke {
+            guest,
+            address,
+            bytes: Chunk::new(&[1, 2, 3]).ok_or("a chunk")?,
+        },
+        Step::Write {
+            guest,
+            ty,
+            handle,
+            address,
+            count,
+        },
+        Step::Read {
+            guest: 1,
+            ty,
+            handle,
+            address,
+            count,
+        },
+        Step::Dump {
+            guest: 1,
+            address,
+            len: 3,
+        },
+    ];
+    assert!(rt; steps.as_slice() == expected.as_slice());
+    Ok(())
+}
+
+#[test]
+fn seven_replies_are_written(rt: HostRuntime) -> Result<(), Fail> {
+    let replies = [
+        Reply::Number(0),
+        Reply::Number(1),
+        Reply::Pair(Pair {
+            read: 1,
+            write: 1,
+            stream: 0,
+        }),
+        Reply::Done,
+        Reply::Code(ReturnCode::Blocked),
+        Reply::Code(ReturnCode::Completed(ItemCount::new(3)?)),
+        Reply::Bytes(Chunk::new(&[1, 2, 3]).ok_or("a chunk")?),
+    ];
+    let mut told = Replies::new(rt.alloc());
+    for reply in replies {
+        told.push(reply)?;
+    }
+    let mut moved = Counts::new(rt.alloc());
+    moved.push(3)?;
+    let text = transcript_text(rt.alloc(), told.as_slice(), moved.as_slice())?;
+    let expected = "0\n1\nread 1 write 1 stream 0\nok\nffffffff\n00000030\n010203\n\
+        stream 0 moved 3\ndone 7\n";
+    assert!(rt; text.as_slice() == expected.as_bytes());
+    Ok(())
+}
+
+#[test]
+fn texts_of_their_own(rt: HostRuntime) -> Result<(), Fail> {
+    let refused = [Reply::Refused(Refusal::UnknownGuest)];
+    let text = transcript_text(rt.alloc(), &refused, &[u128::MAX, 0])?;
+    let expected = "refused UnknownGuest\nstream 0 moved 340282366920938463463374607431768211455\n\
+        stream 1 moved 0\ndone 1\n";
+    assert!(rt; text.as_slice() == expected.as_bytes());
+    let text = transcript_text(rt.alloc(), &[], &[])?;
+    assert!(rt; text.as_slice() == b"done 0\n".as_slice());
+    let text = bad_line_text(rt.alloc(), 262_144)?;
+    assert!(rt; text.as_slice() == b"bad line 262144\n".as_slice());
+    assert!(rt; texts::usage_text() == b"usage: strm run | strm gen N SEED\n".as_slice());
+    assert!(rt; texts::too_long_text() == b"too long\n".as_slice());
+    assert!(rt; texts::read_fault_text() == b"read fault\n".as_slice());
+    Ok(())
+}
+
+#[test]
+fn a_source_in_pieces(rt: HostRuntime) -> Result<(), Fail> {
+    for (failing, expected) in [(9, None), (2, Some(InputError::Fault))] {
+        let bytes = b"guest 16\n".to_vec(rt.alloc())?;
+        let failing = vec![in rt.alloc(); failing]?;
+        let mut source = BytesSource::new(bytes, 4, failing);
+        match read_all(rt.alloc(), &mut source) {
+            Ok(text) => {
+                assert!(rt; text.as_slice() == b"guest 16\n".as_slice());
+                assert_eq!(rt; expected, None);
+            }
+            Err(error) => assert_eq!(rt; expected, Some(error)),
+        }
+    }
+    Ok(())
+}
+
+#[test]
+fn a_sink_in_pieces(rt: HostRuntime) -> Result<(), Fail> {
+    for (failing, taken) in [(9, "done 0\n"), (1, ""), (2, "don")] {
+        let failing = vec![in rt.alloc(); failing]?;
+        let mut sink = BytesSink::new(rt.alloc(), 3, failing);
+        let written = write_whole(&mut sink, b"done 0\n");
+        assert_eq!(rt; written.is_ok(), taken.len() == 7);
+        assert!(rt; sink.taken() == taken.as_bytes(), "{taken}");
+        assert_eq!(rt; sink.starved(), 0);
+    }
+    Ok(())
+}
+
+// The status and the text for words and an input, where the calls of these numbers fail.
+pub(crate) fn served(
+    alloc: Global,
+    words: &[&str],
+    input: &[u8],
+    failing: (u32, u32),
+) -> Result<(u8, Vec<u8>), Fail> {
+    let mut list = Vec::new(alloc);
+    for word in words {
+        list.push(String::from_str(alloc, word)?)?;
+    }
+    let bytes = input.to_vec(alloc)?;
+    let mut source = BytesSource::new(bytes, 64, vec![in alloc; failing.0]?);
+    let mut sink = BytesSink::new(alloc, 64, vec![in alloc; failing.1]?);
+    let status = serve(alloc, &list, &mut source, &mut sink);
+    Ok((status, sink.taken().to_vec(alloc)?))
+}
+
+#[test]
+fn runs_are_served(rt: HostRuntime) -> Result<(), Fail> {
+    let seven = "guest 16\nguest 16\npair 0 1 stream:u8\npoke 0 0 010203\n\
+        write 0 stream:u8 1 0 3\nread 1 stream:u8 1 0 3\ndump 1 0 3\n";
+    let replies = "0\n1\nread 1 write 1 stream 0\nok\nffffffff\n00000030\n010203\n\
+        stream 0 moved 3\ndone 7\n";
+    for (input, expected) in [("", "done 0\n"), (seven, replies)] {
+        let (status, text) = served(rt.alloc(), &["run"], input.as_bytes(), (9, 9))?;
+        assert_eq!(rt; status, 0);
+        assert!(rt; text.as_slice() == expected.as_bytes(), "{expected}");
+    }
+    Ok(())
+}
+
+#[test]
+fn each_status_has_its_text(rt: HostRuntime) -> Result<(), Fail> {
+    let alloc = rt.alloc();
+    let usage = "usage: strm run | strm gen N SEED\n";
+    let (status, text) = served(alloc, &["gen", "x", "1"], b"", (9, 9))?;
+    assert!(rt; status == 1 && text.as_slice() == usage.as_bytes());
+    let (status, text) = served(alloc, &["run"], b"guest 16\nrea", (9, 9))?;
+    assert!(rt; status == 2 && text.as_slice() == b"bad line 2\n".as_slice());
+    let many = vec![in alloc; b'\n'; 262_145]?;
+    let (status, text) = served(alloc, &["run"], &many, (9999, 9))?;
+    assert!(rt; status == 3 && text.as_slice() == b"too long\n".as_slice());
+    let (status, text) = served(alloc, &["run"], b"guest 16\n", (1, 9))?;
+    assert!(rt; status == 4 && text.as_slice() == b"read fault\n".as_slice());
+    let (status, text) = served(alloc, &["run"], b"guest 16\n", (9, 1))?;
+    assert!(rt; status == 5 && text.is_empty());
+    Ok(())
+}

@@ -1,0 +1,6 @@
+//! Small callers of the public crates, proved from contracts alone: one module a crate.
+//!
+//! Each clause says what the caller then knows. The crates' `CALLING.md` quote these callers.
+#![tactic(auto)]
+
+pub mod handles;
