@@ -15,6 +15,7 @@ use strm_events::reports::{Pending, deliver};
 use strm_machine::streams::{End, Operation, Owner, Side, Stream};
 
 // Of an operation, what its report may depend on.
+#[inline(always)]
 fn pending(operation: &Option<Operation>) -> Option<Pending>
     ensures { result ≡ option_map pending_of operation.now }
 {
@@ -31,6 +32,7 @@ fn pending(operation: &Option<Operation>) -> Option<Pending>
 }
 
 // Tells an end of a stream its report, if it has one; its operation has ended then.
+#[inline(always)]
 fn tell_end(
     end: &mut End,
     kind: TransmitKind,
@@ -50,6 +52,7 @@ fn tell_end(
 }
 
 /// Tells the end on a side its report, if it has one; its operation has ended then.
+#[inline(always)]
 #[tactic(auto, unfolding(strm_machine::specs::Endings::delivered))]
 pub fn deliver_report(stream: &mut Stream, side: Side) -> Option<ReturnCode>
     ensures code { result ≡ report_on side stream.old }

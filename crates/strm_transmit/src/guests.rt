@@ -21,6 +21,7 @@ pub struct Guest {
 }
 
 /// The memory of a guest.
+#[inline(always)]
 pub fn memory(guests: &Vec<Guest>, guest: usize) -> &GuestMemory
     requires { guest < length guests.now.items }
     ensures { result.now ≡ memory_in (seen guests.now.items) guest }
@@ -29,6 +30,7 @@ pub fn memory(guests: &Vec<Guest>, guest: usize) -> &GuestMemory
 }
 
 /// Takes a guest's memory out, and leaves no bytes.
+#[inline(always)]
 pub fn take_memory(alloc: Global, guests: &mut Vec<Guest>, guest: usize) -> GuestMemory
     requires { guest < length guests.old.items }
     ensures memory { result ≡ memory_in (seen guests.old.items) guest }
@@ -39,6 +41,7 @@ pub fn take_memory(alloc: Global, guests: &mut Vec<Guest>, guest: usize) -> Gues
 }
 
 /// Gives a guest another memory.
+#[inline(always)]
 pub fn put_memory(guests: &mut Vec<Guest>, guest: usize, memory: GuestMemory)
     requires { guest < length guests.old.items }
     ensures guests { seen guests.new.items ≡ with_memory (seen guests.old.items) guest memory }

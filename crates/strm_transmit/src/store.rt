@@ -135,6 +135,7 @@ impl Store {
     }
 
     // A stream.
+    #[inline(always)]
     fn stream(&self, stream: u32) -> &Stream
         requires { stream < length self.now.streams }
         ensures { result.now ≡ stream_at self.now stream }

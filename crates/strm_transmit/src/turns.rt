@@ -31,6 +31,7 @@ use strm_memory::memories::GuestMemory;
 use strm_memory::moves::copy_within_items;
 
 /// A read or write of so many items that is just called.
+#[inline(always)]
 pub fn begin(guest: u32, address: u32, count: ItemCount) -> Operation
     ensures { result ≡ begun guest address count }
 {
@@ -47,6 +48,7 @@ pub fn begin(guest: u32, address: u32, count: ItemCount) -> Operation
 }
 
 // A waiting operation of which so many items more were moved.
+#[inline(always)]
 fn advance(payload: Payload, operation: &Operation, count: ItemCount) -> Operation
     requires left { count ≤ operation.now.left }
     requires counted { operation.now.moved + count < 2 ^ 28 }
@@ -63,6 +65,7 @@ fn advance(payload: Payload, operation: &Operation, count: ItemCount) -> Operati
     next
 }
 
+#[inline(always)]
 fn meeting(write: ItemCount, read: ItemCount) -> Meeting
     ensures { result ≡ meeting_of write read }
 {
@@ -76,6 +79,7 @@ fn meeting(write: ItemCount, read: ItemCount) -> Meeting
 }
 
 // So many items more were received.
+#[inline(always)]
 fn receive(stream: &mut Stream, count: ItemCount)
     ensures { stream.new ≡ with_received stream.old count }
 {
@@ -116,6 +120,7 @@ fn complete_alone(
     ReturnCode::Blocked
 }
 
+#[inline(always)]
 fn lesser(one: ItemCount, other: ItemCount) -> ItemCount
     ensures { result ≡ min one other }
 {
@@ -163,6 +168,7 @@ fn move_within(memory: &mut GuestMemory, from: u32, to: u32, payload: Payload, c
 }
 
 // Items move from the memory of one guest to another's.
+#[inline(always)]
 fn carry_between(
     alloc: Global,
     guests: &mut Vec<Guest>,
@@ -194,6 +200,7 @@ fn carry_between(
 }
 
 // Items move from where the write's next ones lie to where the read's are to lie.
+#[inline(always)]
 fn carry(
     alloc: Global,
     guests: &mut Vec<Guest>,
@@ -228,6 +235,7 @@ fn carry(
 }
 
 // Items move from the side that writes to the one that reads.
+#[inline(always)]
 fn carry_from(
     alloc: Global,
     guests: &mut Vec<Guest>,
@@ -256,6 +264,7 @@ fn carry_from(
 }
 
 // Both complete: items move, the caller completes, and the waiting side has met.
+#[inline(always)]
 fn exchange(
     alloc: Global,
     guests: &mut Vec<Guest>,
@@ -290,6 +299,7 @@ fn exchange(
 }
 
 // Mine is called where theirs is open.
+#[inline(always)]
 fn meet(
     alloc: Global,
     guests: &mut Vec<Guest>,
@@ -318,6 +328,7 @@ fn meet(
 
 /// A read or write of a guest, by what it finds on the other side. After a bad item nothing has
 /// changed.
+#[inline(always)]
 #[tactic(auto, unfolding(strm_machine::specs::Turns::turn))]
 pub fn take_turn(
     alloc: Global,

@@ -6,3 +6,4 @@
 pub mod handles;
 pub mod memory;
 pub mod resources;
+pub mod transmit;

@@ -59,6 +59,7 @@ fn drop_refusal(side: Side, ty: TransmitIndex, stream: &Stream, named_side: Side
 
 impl Store {
     // The stream and the end that a handle names, whatever its type.
+    #[inline(always)]
     fn end_name(&self, guest: u32, handle: u32) -> Result<(u32, TransmitLocalState), HandleError>
         requires { guest < length self.now.guests }
         ensures answer { result ≡ end_named self.now guest handle }
@@ -69,6 +70,7 @@ impl Store {
     }
 
     // The same as a refusal or the stream and the side of the end.
+    #[inline(always)]
     #[tactic(auto, unfolding(strm_machine::specs::Refusals::refusal))]
     fn event_found(&self, guest: u32, handle: u32) -> Result<(u32, Side), Refusal>
         ensures exact { result ≡ or_found (refusal self.now (Event guest handle))
@@ -87,6 +89,7 @@ impl Store {
     }
 
     // An end of a stream is told its report, if it has one.
+    #[inline(always)]
     fn tell(&mut self, stream: u32, side: Side) -> Option<ReturnCode>
         requires { stream < length self.old.streams }
         ensures { tells self.old stream side ≡ goes (replies.Event result) self.new }

@@ -38,6 +38,7 @@ use strm_machine::streams::{Operation, Owner, Side, Stream};
 use strm_memory::memories::RegionError;
 
 // The items that a call asks for: a future's is one.
+#[inline(always)]
 fn items_asked(ty: TransmitIndex, count: u32) -> Result<ItemCount, StreamOpTooBig>
     ensures ok { IfOk result (λ items. items ≡ items_asked ty count) }
     ensures fits { OnOk result (is_too_big ty count ≡ false) }
@@ -50,6 +51,7 @@ fn items_asked(ty: TransmitIndex, count: u32) -> Result<ItemCount, StreamOpTooBi
 }
 
 // The side of an end, by a table's state of it.
+#[inline(always)]
 pub(crate) fn side_of(state: TransmitLocalState) -> Side
     ensures { result ≡ side_of state }
 {
@@ -67,6 +69,7 @@ pub(crate) fn side_of(state: TransmitLocalState) -> Side
 }
 
 // Whether a read or write of this end can't be any more.
+#[inline(always)]
 fn has_ended(side: Side, kind: TransmitKind, stream: &Stream) -> bool
     ensures { result ≡ has_ended side kind stream.now }
 {
@@ -89,6 +92,7 @@ fn ended_refusal(side: Side, kind: TransmitKind) -> Refusal
 }
 
 // Whether any bytes are items of a payload.
+#[inline(always)]
 fn is_number_or_none(payload: Payload) -> bool
     ensures { result ≡ is_number_or_none payload }
 {
@@ -100,6 +104,7 @@ fn is_number_or_none(payload: Payload) -> bool
 }
 
 // Whether an open operation of its guest waits on the other side, for items that don't move there.
+#[inline(always)]
 fn is_within_one_guest(side: Side, end: &NamedEnd, stream: &Stream) -> bool
     ensures { result ≡ is_within_one_guest end.now.guest side end.now.ty stream.now }
 {
@@ -111,6 +116,7 @@ fn is_within_one_guest(side: Side, end: &NamedEnd, stream: &Stream) -> bool
 }
 
 // Why an end may not read or write now.
+#[inline(always)]
 fn end_refusal(side: Side, end: &NamedEnd, stream: &Stream, named_side: Side) -> Option<Refusal>
     ensures { result
         ≡ first_of (end_reasons_of stream.now side end.now.guest end.now.ty named_side) }
@@ -129,6 +135,7 @@ fn end_refusal(side: Side, end: &NamedEnd, stream: &Stream, named_side: Side) ->
 
 impl Store {
     // The items that a guest asks for, where its region may lie there.
+    #[inline(always)]
     fn region(&self, end: &NamedEnd, address: u32, count: u32) -> Result<ItemCount, Refusal>
         ensures exact { result
             ≡ or_found (first_of (region_reasons self.now end.now.guest end.now.ty address count))
@@ -150,6 +157,7 @@ impl Store {
     }
 
     // What a guest's table answers for a handle.
+    #[inline(always)]
     fn name(&self, end: &NamedEnd) -> Result<(u32, TransmitLocalState), HandleError>
         requires { end.now.guest < length self.now.guests }
         ensures exact { result ≡ named self.now end.now }
@@ -166,6 +174,7 @@ impl Store {
     }
 
     // The stream and the side of the end that a handle of a type names.
+    #[inline(always)]
     pub(crate) fn handle_found(&self, end: &NamedEnd) -> Result<(u32, Side), Refusal>
         requires { end.now.guest < length self.now.guests }
         ensures exact { result ≡ or_found (first_of (handle_reasons (named self.now end.now)))
@@ -184,6 +193,7 @@ impl Store {
     }
 
     // The stream whose end a handle names, where that end may read or write now.
+    #[inline(always)]
     fn found(&self, side: Side, end: &NamedEnd) -> Result<u32, Refusal>
         requires { end.now.guest < length self.now.guests }
         ensures exact { result ≡ or_found (first_of (handle_reasons (named self.now end.now)
@@ -203,6 +213,7 @@ impl Store {
     }
 
     // The stream and the items of a read or write that nothing refuses.
+    #[inline(always)]
     #[tactic(auto, unfolding(strm_machine::specs::Refusals::refusal))]
     fn operation_found(
         &self,
@@ -231,6 +242,7 @@ impl Store {
     }
 
     // A read or write on a stream, done.
+    #[inline(always)]
     fn take(&mut self, side: Side, stream: u32, mine: Operation) -> Result<ReturnCode, StoreError>
         requires there { stream < length self.old.streams }
         requires mine { IsPlaced (sizes_of self.old.guests) (stream_at self.old stream).payload mine }
@@ -252,6 +264,7 @@ impl Store {
     }
 
     /// A read or write of the end that is named; a future's count is not looked at.
+    #[inline(always)]
     pub(crate) fn operate(
         &mut self,
         side: Side,
