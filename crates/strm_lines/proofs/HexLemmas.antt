@@ -32,16 +32,20 @@ and_then-Some : {A B : Type 0} (f : A → B) (o : Option A) → option_and_then 
 and_then-Some f None = refl
 and_then-Some f (Some x) = refl
 
-pub pairs_more : (word : List ℕ) (k : ℕ) (front : List ℕ) (x y : ℕ) → 2 * k + 1 < length word → Some x ≡ nibble (get_or word (2 * k) 0) → Some y ≡ nibble (get_or word (2 * k + 1) 0) → with_front (front ++ (16 * x + y) ∷ []) (pairs_from (drop (2 * (k + 1)) word)) ≡ with_front front (pairs_from (drop (2 * k) word))
+-- what the byte at this place stands for, if it is a digit
+abbrev pub digit_at : List ℕ → ℕ → Option ℕ
+digit_at word k = nibble (get_or word k 0)
+
+pub pairs_more : (word : List ℕ) (k : ℕ) (front : List ℕ) (x y : ℕ) → 2 * k + 1 < length word → Some x ≡ digit_at word (2 * k) → Some y ≡ digit_at word (2 * k + 1) → with_front (front ++ (16 * x + y) ∷ []) (pairs_from (drop (2 * (k + 1)) word)) ≡ with_front front (pairs_from (drop (2 * k) word))
 pairs_more word k front x y h e f =
     rw (two_more word k h, pair_read _ _ (drop (2 * (k + 1)) word) x y (Some y) (sym e) (sym f), and_then-Some (λ rest. (16 * x + y) ∷ rest) (pairs_from (drop (2 * (k + 1)) word)))
     (with_front-more front (16 * x + y) (pairs_from (drop (2 * (k + 1)) word)))
 
-pub pairs_bad_high : (word : List ℕ) (k : ℕ) (front : List ℕ) → 2 * k + 1 < length word → None ≡ nibble (get_or word (2 * k) 0) → with_front front (pairs_from (drop (2 * k) word)) ≡ None
+pub pairs_bad_high : (word : List ℕ) (k : ℕ) (front : List ℕ) → 2 * k + 1 < length word → None ≡ digit_at word (2 * k) → with_front front (pairs_from (drop (2 * k) word)) ≡ None
 unfolding pairs_from
 pairs_bad_high word k front h e = rw (two_more word k h, ← e) refl
 
-pub pairs_bad_low : (word : List ℕ) (k : ℕ) (front : List ℕ) (x : ℕ) → 2 * k + 1 < length word → Some x ≡ nibble (get_or word (2 * k) 0) → None ≡ nibble (get_or word (2 * k + 1) 0) → with_front front (pairs_from (drop (2 * k) word)) ≡ None
+pub pairs_bad_low : (word : List ℕ) (k : ℕ) (front : List ℕ) (x : ℕ) → 2 * k + 1 < length word → Some x ≡ digit_at word (2 * k) → None ≡ digit_at word (2 * k + 1) → with_front front (pairs_from (drop (2 * k) word)) ≡ None
 pairs_bad_low word k front x h e f = rw (two_more word k h, pair_read _ _ (drop (2 * (k + 1)) word) x 0 None (sym e) (sym f)) refl
 
 pub pairs_end : (word : List ℕ) (k : ℕ) (front : List ℕ) → length word ≤ 2 * k → with_front front (pairs_from (drop (2 * k) word)) ≡ Some front

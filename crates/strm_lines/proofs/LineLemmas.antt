@@ -104,9 +104,6 @@ unfolding lines_of
 all_spelled lines steps [] e f t = record { each = e ∙ append-nil (map spelling steps); have = f }
 all_spelled lines steps (x ∷ rest) e f t = absurd (omega arith)
 
-pub All-plain : (steps : List Step) → All HasLine steps → All IsPlain steps
-All-plain steps f = All-weaker HasLine IsPlain plain steps f
-
 spelled_at : (steps : List Step) (k : ℕ) → k < length (map spelling steps) → All HasLine steps → (step : Step) × HasLine step × (slice_get (map spelling steps) k ≡ Some (spelling step))
 spelled_at [] k h f = absurd (omega arith)
 spelled_at (s ∷ steps) zero h f = (s, All-head HasLine s steps f, refl)
@@ -213,9 +210,16 @@ lines_unended bytes n e h f =
     let u : unended bytes ≡ 1 = unended_at bytes h ∙ rw (ne_eqb (get_or bytes (length bytes - 1) 0) 10 f) refl in
     omega (arith, length-lines bytes)
 
+-- what is said of lines that were read: their steps, or the first that is bad, and not that they are
+-- too many
+pub record AreRead (lines : List (List ℕ)) (result : Result (List Step) ParseError) : Type 0 where
+  pub ok : IfOk result (λ found. Spells lines found)
+  pub within : result ≢ Err error.TooLong
+  pub bad : (line : ℕ) → result ≡ Err (error.BadLine line) → IsFirstBad lines line
+
 -- where lines spell steps, those are found, but for want of memory
-pub complete : (lines : List (List ℕ)) (result : Result (List Step) ParseError) → IfOk result (λ found. Spells lines found) → result ≢ Err error.TooLong → ((line : ℕ) → result ≡ Err (error.BadLine line) → IsFirstBad lines line) → (steps : List Step) → Spells lines steps → MatchResult result (λ found. found ≡ steps) (λ e. e ≡ error.OutOfMemory)
-complete lines (Ok found) ok within bad steps f = one_spelling lines found steps ok f
-complete lines (Err error.TooLong) ok within bad steps f = absurd (within refl)
-complete lines (Err (error.BadLine line)) ok within bad steps f = absurd (spelled_not_bad lines steps line f (bad line refl))
-complete lines (Err error.OutOfMemory) ok within bad steps f = refl
+pub complete : (lines : List (List ℕ)) (result : Result (List Step) ParseError) → AreRead lines result → (steps : List Step) → Spells lines steps → MatchResult result (λ found. found ≡ steps) (λ e. e ≡ error.OutOfMemory)
+complete lines (Ok found) h steps f = one_spelling lines found steps h.ok f
+complete lines (Err error.TooLong) h steps f = absurd (h.within refl)
+complete lines (Err (error.BadLine line)) h steps f = absurd (spelled_not_bad lines steps line f (h.bad line refl))
+complete lines (Err error.OutOfMemory) h steps f = refl

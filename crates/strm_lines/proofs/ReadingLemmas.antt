@@ -74,31 +74,33 @@ type_spaceless x f = rw f (without 32 (codes "stream:u8") refl)
 pub IsWord-type : IsWord type_word IsByteStream
 IsWord-type = record { spaceless = type_spaceless }
 
-leading_sound : {A : Type 0} {read : List ℕ → Option A} {write : A → List ℕ} {IsFit : A → Type 0} → IsReading read write IsFit → (line : List ℕ) (p : A × List ℕ) → leading read line ≡ Some p → (write p.0 ++ 32 ∷ p.1 ≡ line) × IsFit p.0
-unfolding leading
-leading_sound {read = read} {write = write} r line p e =
-    option_and_then_some _ (cut_at 32 line) p e (λ q f g.
-    option_and_then_some _ (read q.0) p g (λ x h k.
-    let one = r.sound q.0 x h in
-    let same : (x, q.1) ≡ p = same_Some (x, q.1) p k in
-    rw (← same, cut_sound 32 line q f) (ap (λ w. w ++ 32 ∷ q.1) one.0, one.1)))
+module _ {A : Type 0} {read : List ℕ → Option A} {write : A → List ℕ} {IsFit : A → Type 0} (r : IsReading read write IsFit) where
+  leading_sound : (line : List ℕ) (p : A × List ℕ) → leading read line ≡ Some p → (write p.0 ++ 32 ∷ p.1 ≡ line) × IsFit p.0
+  unfolding leading
+  leading_sound line p e =
+      option_and_then_some _ (cut_at 32 line) p e (λ q f g.
+      option_and_then_some _ (read q.0) p g (λ x h k.
+      let one = r.sound q.0 x h in
+      let same : (x, q.1) ≡ p = same_Some (x, q.1) p k in
+      rw (← same, cut_sound 32 line q f) (ap (λ w. w ++ 32 ∷ q.1) one.0, one.1)))
 
-leading_complete : {A : Type 0} {read : List ℕ → Option A} {write : A → List ℕ} {IsFit : A → Type 0} → IsReading read write IsFit → IsWord write IsFit → (x : A) (rest : List ℕ) → IsFit x → leading read (write x ++ 32 ∷ rest) ≡ Some (x, rest)
-unfolding leading
-leading_complete {read = read} {write = write} r w x rest f = rw (cut_complete 32 (write x) rest (w.spaceless x f), r.complete x f) refl
+  leading_complete : IsWord write IsFit → (x : A) (rest : List ℕ) → IsFit x → leading read (write x ++ 32 ∷ rest) ≡ Some (x, rest)
+  unfolding leading
+  leading_complete w x rest f = rw (cut_complete 32 (write x) rest (w.spaceless x f), r.complete x f) refl
 
--- two words, and the space between them
-pub IsReading-followed_by : {A B : Type 0} {first : List ℕ → Option A} {second : List ℕ → Option B} {write : A → List ℕ} {other : B → List ℕ} {IsFit : A → Type 0} {IsOther : B → Type 0} → IsReading first write IsFit → IsWord write IsFit → IsReading second other IsOther → IsReading (followed_by first second) (λ p. write p.0 ++ 32 ∷ other p.1) (λ p. IsFit p.0 × IsOther p.1)
-IsReading-followed_by {first = first} {second = second} {write = write} {other = other} a w b = record {
-  sound = λ line v e.
-      option_and_then_some _ (leading first line) v e (λ p f g.
-      option_and_then_some _ (second p.1) v g (λ y h k.
-      let one = leading_sound a line p f in
-      let two = b.sound p.1 y h in
-      let same : (p.0, y) ≡ v = same_Some (p.0, y) v k in
-      rw (← same) (ap (λ o. write p.0 ++ 32 ∷ o) two.0 ∙ one.0, (one.1, two.1))));
-  complete = λ v f. rw (leading_complete a w v.0 (other v.1) f.0, b.complete v.1 f.1) refl;
-}
+  -- two words, and the space between them
+  module _ {B : Type 0} {second : List ℕ → Option B} {other : B → List ℕ} {IsOther : B → Type 0} where
+    pub IsReading-followed_by : IsWord write IsFit → IsReading second other IsOther → IsReading (followed_by read second) (λ p. write p.0 ++ 32 ∷ other p.1) (λ p. IsFit p.0 × IsOther p.1)
+    IsReading-followed_by w b = record {
+      sound = λ line v e.
+          option_and_then_some _ (leading read line) v e (λ p f g.
+          option_and_then_some _ (second p.1) v g (λ y h k.
+          let one = leading_sound line p f in
+          let two = b.sound p.1 y h in
+          let same : (p.0, y) ≡ v = same_Some (p.0, y) v k in
+          rw (← same) (ap (λ o. write p.0 ++ 32 ∷ o) two.0 ∙ one.0, (one.1, two.1))));
+      complete = λ v f. rw (leading_complete w v.0 (other v.1) f.0, b.complete v.1 f.1) refl;
+    }
 
 -- what stands behind the front of a line
 

@@ -61,44 +61,49 @@ IsReading-dump = IsReading-followed_by IsReading-number IsWord-number (IsReading
 abbrev IsSound : Command → Type 0
 IsSound c = (rest : List ℕ) (s : Step) → c.read rest ≡ Some s → (spelling s ≡ c.front ++ rest) × HasLine s
 
--- a command whose arguments make a step
-made_sound : {V : Type 0} {read : List ℕ → Option V} {write : V → List ℕ} {IsFit : V → Type 0} (front : List ℕ) (make : V → Step) → IsReading read write IsFit → ((v : V) → spelling (make v) ≡ front ++ write v) → ((v : V) → IsFit v → HasLine (make v)) → (rest : List ℕ) (s : Step) → option_map make (read rest) ≡ Some s → (spelling s ≡ front ++ rest) × HasLine s
-made_sound {read = read} front make r spelled fits rest s e =
-    option_map_some make (read rest) s e (λ v f g.
-    let one = r.sound rest v f in
-    rw (← g) (spelled v ∙ ap (λ w. front ++ w) one.0, fits v one.1))
+-- arguments make a step that is spelled by what its line begins with and by them
+record Makes {V : Type 0} (front : List ℕ) (make : V → Step) (write : V → List ℕ) (IsFit : V → Type 0) : Type 0 where
+  spelled : (v : V) → spelling (make v) ≡ front ++ write v
+  fits : (v : V) → IsFit v → HasLine (make v)
+
+module _ {V : Type 0} {read : List ℕ → Option V} {write : V → List ℕ} {IsFit : V → Type 0} {make : V → Step} where
+  made_sound : (front : List ℕ) → IsReading read write IsFit → Makes front make write IsFit → IsSound (command front (λ rest. option_map make (read rest)))
+  made_sound front r makes rest s e =
+      option_map_some make (read rest) s e (λ v f g.
+      let one = r.sound rest v f in
+      rw (← g) (makes.spelled v ∙ ap (λ w. front ++ w) one.0, makes.fits v one.1))
 
 guest_sound : IsSound (command (codes "guest ") guest_of)
 unfolding guest_of
-guest_sound = made_sound (codes "guest ") Guest IsReading-number (λ v. refl) (λ v f. f)
+guest_sound = made_sound (codes "guest ") IsReading-number (record { spelled = λ v. refl; fits = λ v f. f })
 
 write_sound : IsSound (command (codes "write ") write_of)
 unfolding write_of
-write_sound = made_sound (codes "write ") (λ v. Write v.0 v.1.0 v.1.1.0 v.1.1.1.0 v.1.1.1.1) IsReading-operands (λ v. refl) (λ v f. f)
+write_sound = made_sound (codes "write ") IsReading-operands (record { spelled = λ v. refl; fits = λ v f. f })
 
 read_sound : IsSound (command (codes "read ") read_of)
 unfolding read_of
-read_sound = made_sound (codes "read ") (λ v. Read v.0 v.1.0 v.1.1.0 v.1.1.1.0 v.1.1.1.1) IsReading-operands (λ v. refl) (λ v f. f)
+read_sound = made_sound (codes "read ") IsReading-operands (record { spelled = λ v. refl; fits = λ v f. f })
 
 drop_write_sound : IsSound (command (codes "drop-write ") drop_write_of)
 unfolding drop_write_of
-drop_write_sound = made_sound (codes "drop-write ") (λ v. DropWrite v.0 v.1.0 v.1.1) IsReading-named_end (λ v. refl) (λ v f. f)
+drop_write_sound = made_sound (codes "drop-write ") IsReading-named_end (record { spelled = λ v. refl; fits = λ v f. f })
 
 drop_read_sound : IsSound (command (codes "drop-read ") drop_read_of)
 unfolding drop_read_of
-drop_read_sound = made_sound (codes "drop-read ") (λ v. DropRead v.0 v.1.0 v.1.1) IsReading-named_end (λ v. refl) (λ v f. f)
+drop_read_sound = made_sound (codes "drop-read ") IsReading-named_end (record { spelled = λ v. refl; fits = λ v f. f })
 
 event_sound : IsSound (command (codes "event ") event_of)
 unfolding event_of
-event_sound = made_sound (codes "event ") (λ v. Event v.0 v.1) IsReading-event (λ v. refl) (λ v f. f)
+event_sound = made_sound (codes "event ") IsReading-event (record { spelled = λ v. refl; fits = λ v f. f })
 
 poke_sound : IsSound (command (codes "poke ") poke_of)
 unfolding poke_of
-poke_sound = made_sound (codes "poke ") (λ v. Poke v.0 v.1.0 v.1.1) IsReading-poke (λ v. refl) (λ v f. f)
+poke_sound = made_sound (codes "poke ") IsReading-poke (record { spelled = λ v. refl; fits = λ v f. f })
 
 dump_sound : IsSound (command (codes "dump ") dump_of)
 unfolding dump_of
-dump_sound = made_sound (codes "dump ") (λ v. Dump v.0 v.1.0 v.1.1) IsReading-dump (λ v. refl) (λ v f. f)
+dump_sound = made_sound (codes "dump ") IsReading-dump (record { spelled = λ v. refl; fits = λ v f. f })
 
 pair_sound : IsSound (command (codes "pair ") pair_of)
 unfolding pair_of

@@ -9,15 +9,13 @@ ghost use Rattle.strm_lines.specs.Reading.{operands_of, named_end_of, guest_of, 
 use crate::words::{
     behind, hex, leading_number, leading_type, number, number_within, transmit_type,
 };
-use strm_codes::codes::TransmitIndex;
+use strm_machine::acts::NamedEnd;
 use strm_machine::steps::Step;
 
 // What `write` and `read` name.
 #[derive(Clone, Copy)]
 struct Operands {
-    guest: u32,
-    ty: TransmitIndex,
-    handle: u32,
+    end: NamedEnd,
     address: u32,
     count: u32,
 }
@@ -25,8 +23,8 @@ struct Operands {
 #[inline(always)]
 #[tactic(auto, unfolding(crate::specs::Reading::operands_of))]
 fn read_operands(rest: &[u8]) -> Option<Operands>
-    ensures { option_map (λ o. (o.guest, (o.ty, (o.handle, (o.address, o.count))))) result
-        ≡ operands_of rest.now }
+    ensures { option_map (λ o. (o.end.guest, (o.end.ty, (o.end.handle, (o.address, o.count)))))
+        result ≡ operands_of rest.now }
 {
     let (guest, rest) = leading_number(rest)?;
     let Some((ty, rest)) = leading_type(rest) else {
@@ -36,20 +34,10 @@ fn read_operands(rest: &[u8]) -> Option<Operands>
     let (address, rest) = leading_number(rest)?;
     let count = number(rest)?;
     Some(Operands {
-        guest,
-        ty,
-        handle,
+        end: NamedEnd { guest, ty, handle },
         address,
         count,
     })
-}
-
-// What `drop-write` and `drop-read` name.
-#[derive(Clone, Copy)]
-struct NamedEnd {
-    guest: u32,
-    ty: TransmitIndex,
-    handle: u32,
 }
 
 #[tactic(auto, unfolding(crate::specs::Reading::named_end_of))]
@@ -90,12 +78,11 @@ fn write_line(rest: &[u8]) -> Option<Step>
     ensures { result ≡ write_of rest.now }
 {
     let Operands {
-        guest,
-        ty,
-        handle,
+        end,
         address,
         count,
     } = read_operands(rest)?;
+    let NamedEnd { guest, ty, handle } = end;
     Some(Step::Write {
         guest,
         ty,
@@ -110,12 +97,11 @@ fn read_line(rest: &[u8]) -> Option<Step>
     ensures { result ≡ read_of rest.now }
 {
     let Operands {
-        guest,
-        ty,
-        handle,
+        end,
         address,
         count,
     } = read_operands(rest)?;
+    let NamedEnd { guest, ty, handle } = end;
     Some(Step::Read {
         guest,
         ty,

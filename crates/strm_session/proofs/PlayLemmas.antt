@@ -101,25 +101,40 @@ goes_on_to told state next step reply h e = (reply, next, play-goes told state n
 pub goes_on_done : (told : List Reply) (state : State) (step : Step) → is_done (react state step).reply ≡ true → GoesOn told state step
 goes_on_done told state step h = goes_on_to told state (react state step).state step (react state step).reply (done_settled (react state step).reply h) refl
 
+-- the first k steps were answered so, and led there
+abbrev pub HaveLed : List Step → ℕ → List Reply → State → Type 0
+HaveLed steps k told state = (more : List Step) → play [] start (take k steps ++ more) ≡ play told state more
+
+-- the step of number k, from 0
+pub record IsAt (steps : List Step) (k : ℕ) (step : Step) : Type 0 where
+  pub inside : k < length steps
+  pub is : get_or steps k step ≡ step
+
+take-at : (steps : List Step) (k : ℕ) (step : Step) → IsAt steps k step → take (k + 1) steps ≡ take k steps ++ step ∷ []
+take-at steps k step h = take_more steps k step h.inside ∙ ap (λ s. take k steps ++ s ∷ []) h.is
+
+-- why a step stops a run: the machine halts at it, or goes on from it
+pub record Stops (told : List Reply) (state : State) (step : Step) (cause : RunCause) : Type 0 where
+  pub bad : (more : List Step) (stream : ℕ) → cause ≡ causes.BadItem stream → play told state (step ∷ more) ≡ Halts told (replies.BadItem stream)
+  pub memory : cause ≡ causes.OutOfMemory → GoesOn told state step
+
 -- where the step of number k stops a run
-pub stops : (steps : List Step) (k : ℕ) (step : Step) (told told' : List Reply) (state : State) (cause : RunCause) → k < length steps → get_or steps k step ≡ step → length told ≡ k → told' ≡ told → ((more : List Step) → play [] start (take k steps ++ more) ≡ play told state more) → ((more : List Step) (stream : ℕ) → cause ≡ causes.BadItem stream → play told state (step ∷ more) ≡ Halts told (replies.BadItem stream)) → (cause ≡ causes.OutOfMemory → GoesOn told state step) → StopsAt steps told' cause
-stops steps k step told told' state (causes.BadItem stream) l g n e so_far bad memory =
-    let cut : steps ≡ take k steps ++ step ∷ drop (suc k) steps = split_at steps k step l ∙ ap (λ s. take k steps ++ s ∷ drop (suc k) steps) g in
-    ap (play [] start) cut ∙ so_far (step ∷ drop (suc k) steps) ∙ bad (drop (suc k) steps) stream refl ∙ ap (λ t. Halts t (replies.BadItem stream)) (sym e)
-stops steps k step told told' state causes.OutOfMemory l g n e so_far bad memory =
-    let count : length told' + 1 ≡ k + 1 = ap (λ m. m + 1) (ap length e ∙ n) in
-    let w = memory refl in
-    let cut : take (k + 1) steps ≡ take k steps ++ step ∷ [] = take_more steps k step l ∙ ap (λ s. take k steps ++ s ∷ []) g in
-    (w.0 ∷ [], w.1, ap (λ m. play [] start (take m steps)) count ∙ ap (play [] start) cut ∙ so_far (step ∷ []) ∙ w.2 ∙ ap (λ t. Ends (t ++ w.0 ∷ []) w.1) (sym e))
+pub stops : (steps : List Step) (k : ℕ) (step : Step) (told : List Reply) (state : State) (cause : RunCause) → IsAt steps k step → length told ≡ k → HaveLed steps k told state → Stops told state step cause → StopsAt steps told cause
+stops steps k step told state (causes.BadItem stream) h n led stop =
+    let cut : steps ≡ take k steps ++ step ∷ drop (suc k) steps = split_at steps k step h.inside ∙ ap (λ s. take k steps ++ s ∷ drop (suc k) steps) h.is in
+    ap (play [] start) cut ∙ led (step ∷ drop (suc k) steps) ∙ stop.bad (drop (suc k) steps) stream refl
+stops steps k step told state causes.OutOfMemory h n led stop =
+    let w = stop.memory refl in
+    let cut : take (length told + 1) steps ≡ take k steps ++ step ∷ [] = ap (λ m. take (m + 1) steps) n ∙ take-at steps k step h in
+    (w.0 ∷ [], w.1, ap (play [] start) cut ∙ led (step ∷ []) ∙ w.2)
 
 -- the replies so far are those to the steps before
-pub stopped_before : (steps : List Step) (k : ℕ) (told told' : List Reply) (state : State) → length told ≡ k → told' ≡ told → ((more : List Step) → play [] start (take k steps ++ more) ≡ play told state more) → play [] start (take (length told') steps) ≡ Ends told' state
-stopped_before steps k told told' state n e so_far =
-    let count : length told' ≡ k = ap length e ∙ n in
-    ap (λ m. play [] start (take m steps)) count ∙ ap (play [] start) (sym (append-nil (take k steps))) ∙ so_far [] ∙ ap (λ t. Ends t state) (sym e)
+pub stopped_before : (steps : List Step) (k : ℕ) (told : List Reply) (state : State) → length told ≡ k → HaveLed steps k told state → play [] start (take (length told) steps) ≡ Ends told state
+stopped_before steps k told state n led =
+    ap (λ m. play [] start (take m steps)) n ∙ ap (play [] start) (sym (append-nil (take k steps))) ∙ led []
 
 -- one step more
-pub played_more : (steps : List Step) (k : ℕ) (step : Step) (told told' : List Reply) (state state' : State) → k < length steps → get_or steps k step ≡ step → ((more : List Step) → play [] start (take k steps ++ more) ≡ play told state more) → ((more : List Step) → play told state (step ∷ more) ≡ play told' state' more) → (more : List Step) → play [] start (take (k + 1) steps ++ more) ≡ play told' state' more
-played_more steps k step told told' state state' l g so_far goes more =
-    let cut : take (k + 1) steps ++ more ≡ take k steps ++ step ∷ more = ap (λ t. t ++ more) (take_more steps k step l ∙ ap (λ s. take k steps ++ s ∷ []) g) ∙ append_assoc (take k steps) (step ∷ []) more in
-    ap (play [] start) cut ∙ so_far (step ∷ more) ∙ goes more
+pub played_more : (steps : List Step) (k : ℕ) (step : Step) (told told' : List Reply) (state state' : State) → IsAt steps k step → HaveLed steps k told state → ((more : List Step) → play told state (step ∷ more) ≡ play told' state' more) → HaveLed steps (k + 1) told' state'
+played_more steps k step told told' state state' h led goes more =
+    let cut : take (k + 1) steps ++ more ≡ take k steps ++ step ∷ more = ap (λ t. t ++ more) (take-at steps k step h) ∙ append_assoc (take k steps) (step ∷ []) more in
+    ap (play [] start) cut ∙ led (step ∷ more) ∙ goes more

@@ -12,13 +12,17 @@ use Rattle.strm_session.proofs.runs.play_steps.Goals as goal
 
 pub returns-in-Err-clause-stop : goal.returns-in-Err-clause-stop
 returns-in-Err-clause-stop c =
-    stops c.args.steps.now c.loop-step.step-index _ c.loop-step.replies c.step_once.new.replies c.loop-step.store c.in-Err.cause c.loop-step-test.true (sym c.step-item.is) c.loop-step.invariant.count c.in-Err.ensures.err c.loop-step.invariant.so_far
-    (λ more stream e. c.in-Err.ensures.bad_item more stream (ap Err e))
-    (λ e. c.in-Err.ensures.memory (ap Err e))
+    rw c.in-Err.ensures.err
+    (stops c.args.steps.now c.loop-step.step-index _ c.loop-step.replies c.loop-step.store c.in-Err.cause
+    (record { inside = c.loop-step-test.true; is = sym c.step-item.is }) c.loop-step.invariant.count c.loop-step.invariant.so_far (record {
+      bad = λ more stream e. c.in-Err.ensures.bad_item more stream (ap Err e);
+      memory = λ e. c.in-Err.ensures.memory (ap Err e);
+    }))
 
 pub returns-in-Err-clause-before : goal.returns-in-Err-clause-before
 returns-in-Err-clause-before c =
-    (c.loop-step.store, stopped_before c.args.steps.now c.loop-step.step-index c.loop-step.replies c.step_once.new.replies c.loop-step.store c.loop-step.invariant.count c.in-Err.ensures.err c.loop-step.invariant.so_far)
+    rw c.in-Err.ensures.err
+    (c.loop-step.store, stopped_before c.args.steps.now c.loop-step.step-index c.loop-step.replies c.loop-step.store c.loop-step.invariant.count c.loop-step.invariant.so_far)
 
 pub returns-in-Err-clause-bytes : goal.returns-in-Err-clause-bytes
 returns-in-Err-clause-bytes c =
@@ -38,7 +42,7 @@ returns-in-Err-clause-plain c = λ h.
 
 pub loop-step-preserved : goal.loop-step-preserved
 loop-step-preserved c = record {
-  so_far = played_more c.args.steps.now c.loop-step.step-index c.step-item.result c.loop-step.replies c.step_once.new.replies c.loop-step.store c.step_once.new.store c.loop-step-test.true (sym c.step-item.is) c.loop-step.invariant.so_far c.in_default.ensures.ok;
+  so_far = played_more c.args.steps.now c.loop-step.step-index c.step-item.result c.loop-step.replies c.step_once.new.replies c.loop-step.store c.step_once.new.store (record { inside = c.loop-step-test.true; is = sym c.step-item.is }) c.loop-step.invariant.so_far c.in_default.ensures.ok;
   running = search rules;
   calm = λ h.
       let plain = plain_at c.args.steps.now c.loop-step.step-index _ c.loop-step-test.true (sym c.step-item.is) h in
