@@ -378,9 +378,14 @@ def owner_of(head):
 # The search.
 
 
-def is_ours(path, named):
-    """Whether a module is of specs/ or proofs/ of a crate here: not of the kit, and not a type of the code."""
-    return path.split(".")[1:2] in ([name] for name in named) and not re.search(r"\.specs\.(declared|contracts)\b", path)
+def is_lost(modules, named, path, name):
+    """Whether what an import names should stand in specs/ or proofs/ of a crate here, and does not."""
+    if not {*path.split(".")[1:2]} & {*named} or re.search(r"\.specs\.(declared|contracts)\b", path):
+        return False
+    offered = modules[path].offered if path in modules else Scope()
+    if name in offered.names:
+        return is_lost(modules, named, *offered.names[name])
+    return name not in offered.modules
 
 
 def reached(crates, modules):
@@ -396,12 +401,6 @@ def reached(crates, modules):
             if definition and definition not in found:
                 found.add(definition)
                 texts.append((definition.text, modules[definition.home].scope))
-            elif not definition and is_ours(path, named) and not offers(modules, path, name):
+            elif not definition and is_lost(modules, named, path, name):
                 lost.add(f"{path}.{name}")
     return found, sorted(lost)
-
-
-def offers(modules, path, name):
-    """Whether a module offers again, from the kit or from the code, what has this name."""
-    module = modules.get(path)
-    return bool(module) and (name in module.offered.names or name in module.offered.modules)

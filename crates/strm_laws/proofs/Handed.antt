@@ -1,7 +1,7 @@
 -- What writes handed over, one moment further.
 use Rattle.std.proofs.Common.{◌≡◌, ℕ, zero, suc, ◌+◌, ◌*◌, ◌≤◌, Bool, true, false, List, [], ◌∷◌, ◌++◌, length, drop, Option, None, Some, refl, sym, ap, ◌∙◌, cond, arith, append_assoc, length-append}
 use Rattle.std.proofs.lemmas.List.{append-nil, drop-drop}
-use Rattle.std.proofs.lemmas.Bool.{lt-ltb, le-ltb}
+use Rattle.std.proofs.lemmas.Bool.{lt-ltb, le-ltb, cond-true, cond-false}
 use Rattle.std.specs.Prelude.{is_some, nat_lt, ◌||◌}
 use Rattle.strm_codes.specs.Layout.{scalars_of, item_size}
 use Rattle.strm_codes.specs.declared.codes.ReturnCode.{ReturnCode}
@@ -11,6 +11,7 @@ use Rattle.strm_codes.specs.declared.scalars.Scalar.{Scalar}
 use Rattle.strm_memory.specs.Items.{decode}
 use Rattle.strm_machine.specs.State.{memory_in, stream_at}
 use Rattle.strm_machine.specs.Moments.{Moment, Call, k_of, decoded, items_in, received}
+use Rattle.strm_machine.proofs.RefusalLemmas.{neither}
 use Rattle.strm_laws.specs.Conservation.{before_passing, item_handed, handed, all_handed}
 use Rattle.strm_laws.specs.Laws.{total, AreReported}
 
@@ -19,10 +20,6 @@ abbrev pub reaches : ℕ → List Moment → ℕ → Bool
 reaches s [] n = false
 reaches s (m ∷ more) n = nat_lt n (received s m.after) || reaches s more n
 
-or-false : (a b : Bool) → (a || b) ≡ false → (a ≡ false) × (b ≡ false)
-or-false true b h = (cc, cc)
-or-false false b h = (refl, h)
-
 pub reaches-push : (s : ℕ) (all : List Moment) (m : Moment) (n : ℕ) → reaches s (all ++ m ∷ []) n ≡ (reaches s all n || nat_lt n (received s m.after))
 reaches-push s [] m n = elim (nat_lt n (received s m.after)) as (λ v. (v || false) ≡ v) [ true ↦ refl | false ↦ refl ]
 reaches-push s (x ∷ xs) m n = elim (nat_lt n (received s x.after)) as (λ v. (v || reaches s (xs ++ m ∷ []) n) ≡ ((v || reaches s xs n) || nat_lt n (received s m.after))) [ true ↦ refl | false ↦ reaches-push s xs m n ]
@@ -30,14 +27,6 @@ reaches-push s (x ∷ xs) m n = elim (nat_lt n (received s x.after)) as (λ v. (
 cond-or : {A : Type 0} (b c : Bool) (x y z : A) → (b || c) ≡ true → (c ≡ true → y ≡ z) → cond b x y ≡ cond b x z
 cond-or true c x y z h f = refl
 cond-or false c x y z h f = f h
-
-cond-false : {A : Type 0} (b : Bool) (x y z : A) → b ≡ false → y ≡ z → cond b x y ≡ z
-cond-false true x y z h e = cc
-cond-false false x y z h e = e
-
-cond-true : {A : Type 0} (b : Bool) (x y : A) → b ≡ true → cond b x y ≡ x
-cond-true true x y h = refl
-cond-true false x y h = cc
 
 -- a number that was passed before stays with its moment
 before_passing-old : (s : ℕ) (all : List Moment) (m : Moment) (n : ℕ) → reaches s all n ≡ true → before_passing s (all ++ m ∷ []) n ≡ before_passing s all n
@@ -49,8 +38,8 @@ before_passing-old s (x ∷ xs) m n h =
 before_passing-new : (s : ℕ) (all : List Moment) (m : Moment) (n : ℕ) → reaches s all n ≡ false → nat_lt n (received s m.after) ≡ true → before_passing s (all ++ m ∷ []) n ≡ m.before
 before_passing-new s [] m n h t = cond-true (nat_lt n (received s m.after)) m.before _ t
 before_passing-new s (x ∷ xs) m n h t =
-    let p = or-false (nat_lt n (received s x.after)) (reaches s xs n) h in
-    cond-false (nat_lt n (received s x.after)) x.before _ m.before p.0 (before_passing-new s xs m n p.1 t)
+    let p = neither (nat_lt n (received s x.after)) (reaches s xs n) h in
+    cond-false (nat_lt n (received s x.after)) x.before _ p.0 ∙ before_passing-new s xs m n p.1 t
 
 -- the number r was received so far
 abbrev pub IsReached : ℕ → List Moment → ℕ → Type 0

@@ -1,5 +1,6 @@
 -- What holds of every run. Ours.
-use Rattle.std.specs.Prelude.{◌≡◌, ℕ, ◌+◌, ◌*◌, ◌^◌, ◌<◌, ◌≤◌, true, false, List, [], ◌∷◌, ◌++◌, length, All, is_some, IsSome, Option, Some, None}
+use Rattle.std.specs.Prelude.{◌≡◌, ℕ, ◌+◌, ◌*◌, ◌<◌, ◌≤◌, true, false, List, [], ◌∷◌, ◌++◌, length, All, is_some, IsSome, Option, Some, None}
+use Rattle.strm_codes.specs.Counts.{count_limit}
 use Rattle.strm_codes.specs.Layout.{scalars_of, item_size}
 use Rattle.strm_codes.specs.declared.codes.TransmitKind.{TransmitKind}
 use Rattle.strm_codes.specs.declared.payloads.Payload.{Payload}
@@ -85,7 +86,7 @@ Stands payload (Some operation) cs = Carries payload operation cs
 -- the items of an operation, those that it moved and those that it has left, are a count
 abbrev pub IsCounted : Option Operation → Type 0
 IsCounted None = Unit {0}
-IsCounted (Some operation) = operation.moved + operation.left < 2 ^ 28
+IsCounted (Some operation) = operation.moved + operation.left < count_limit
 
 -- the same of both ends of a stream
 abbrev pub AreCounted : Stream → Type 0

@@ -9,6 +9,7 @@ use Rattle.strm_machine.specs.declared.streams.Owner.{Owner}
 use Rattle.strm_machine.specs.declared.streams.Owner.TheVariants.{Held, Gone}
 use Rattle.strm_machine.specs.declared.streams.Side.{Side}
 use Rattle.strm_machine.specs.declared.streams.Side.TheVariants.{Writing, Reading}
+use Rattle.strm_machine.proofs.SideLemmas.{same_side_is}
 use Rattle.strm_machine.specs.Moments.{is_end}
 
 -- ## One end or another
@@ -24,12 +25,6 @@ cases_both (inl p) (inl q) = inl (p, q)
 cases_both (inl p) (inr n) = inr (λ h. n h.1)
 cases_both (inr n) q = inr (λ h. n h.0)
 
-same_side-true : (a b : Side) → same_side a b ≡ true → a ≡ b
-same_side-true Writing Writing e = refl
-same_side-true Writing Reading e = cc
-same_side-true Reading Writing e = cc
-same_side-true Reading Reading e = refl
-
 -- ## What a handle names
 
 -- the answer is one end only
@@ -38,7 +33,7 @@ is_end-once s k a b (Ok answer) e f =
     let p = and_parts (answer.0 == s) (same_side (side_of answer.1) a) e in
     let q = and_parts (answer.0 == k) (same_side (side_of answer.1) b) f in (
       sym (eqb-true answer.0 s p.0) ∙ eqb-true answer.0 k q.0,
-      sym (same_side-true (side_of answer.1) a p.1) ∙ same_side-true (side_of answer.1) b q.1,
+      same_side_is (side_of answer.1) a p.1 ∙ sym (same_side_is (side_of answer.1) b q.1),
     )
 is_end-once s k a b (Err error) e f = cc
 

@@ -5,6 +5,7 @@ use Rattle.std.proofs.lemmas.List.Sums.{get_or-le-sum_by}
 use Rattle.std.specs.Prelude.{nat_lt, ◌&&◌, ◌^◌, sum}
 use Rattle.strm_codes.specs.Layout.{item_size}
 use Rattle.strm_codes.specs.declared.scalars.Scalar.{Scalar}
+use Rattle.strm_machine.specs.State.{memory_limit}
 use Rattle.strm_memory.specs.Items.{items_at, stored_at}
 use Rattle.strm_memory.specs.Bytes.{put_at}
 use Rattle.strm_memory.specs.Region.{is_out_of_bounds, bytes_out_of_bounds}
@@ -54,11 +55,11 @@ length-stored_region ss source memory from to n xs i h =
     fits size (suc w) to (suc n) k = omega (arith, k (omega arith) (omega arith))
 
 -- the address behind n items that lie in a memory of at most 2^28 bytes
-pub address_room : (sizes : List ℕ) (g : ℕ) (ss : List Scalar) (address n : ℕ) → g < length sizes → is_out_of_bounds (get_or sizes g 0) ss address n ≡ false → sum sizes ≤ 268435456 → address < 2 ^ 32 → address + item_size ss * n < 2 ^ 32
+pub address_room : (sizes : List ℕ) (g : ℕ) (ss : List Scalar) (address n : ℕ) → g < length sizes → is_out_of_bounds (get_or sizes g 0) ss address n ≡ false → sum sizes ≤ memory_limit → address < 2 ^ 32 → address + item_size ss * n < 2 ^ 32
 address_room sizes g ss address n l h s a =
     room (get_or sizes g 0) (item_size ss) address n (λ p q. within (get_or sizes g 0) ss address n h p q) (omega (arith, get_or-le-sum_by (λ k. k) sizes g 0 l, s)) a
   where
-    room : (size w address n : ℕ) → (0 < n → 0 < w → address + w * n ≤ size) → size ≤ 268435456 → address < 2 ^ 32 → address + w * n < 2 ^ 32
+    room : (size w address n : ℕ) → (0 < n → 0 < w → address + w * n ≤ size) → size ≤ memory_limit → address < 2 ^ 32 → address + w * n < 2 ^ 32
     room size zero address n k s a = omega arith
     room size (suc w) address zero k s a = omega arith
     room size (suc w) address (suc n) k s a = omega (arith, k (omega arith) (omega arith))

@@ -95,9 +95,6 @@ stays_same side old new e = record {
   count = ap (λ st. st.received) e;
 }
 
-pub stays_by : (side : Side) (old new other : Stream) → other ≡ new → Stays side old new → Stays side old other
-stays_by side old new other e h = subst (Stays side old) (sym e) h
-
 -- ## A stream with another end
 
 -- what becomes of an operation whose end is set to another: it stays, or ends

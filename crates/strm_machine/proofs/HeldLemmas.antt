@@ -15,10 +15,9 @@ use Rattle.strm_machine.specs.Sides.{end_of, with_end}
 use Rattle.strm_machine.specs.Turns.{Turn}
 use Rattle.strm_machine.specs.Tests.{Name, named, stream_named}
 use Rattle.strm_machine.specs.Making.{read_entry, write_entry, with_read_end, made_stream, made_pair, with_stream}
-use Rattle.strm_machine.specs.Reactions.{Reaction, written_back, operates, reaction}
+use Rattle.strm_machine.specs.Reactions.{Reaction, written_back, reaction}
 use Rattle.strm_machine.specs.Soundness as machine
 use Rattle.strm_machine.specs.Moments.{is_end}
-use Rattle.strm_machine.specs.declared.acts.NamedEnd.{NamedEnd}
 use Rattle.strm_machine.specs.declared.acts.Act.{Act}
 use Rattle.strm_machine.specs.declared.streams.Owner.TheVariants.{Held, Gone}
 use Rattle.strm_machine.specs.declared.streams.Side.{Side}
@@ -28,11 +27,12 @@ use Rattle.strm_machine.specs.declared.streams.Stream.{Stream}
 use Rattle.strm_machine.proofs.AgreeLemmas.{Agree, Agree-same, Agree-more, Agree-less}
 use Rattle.strm_machine.proofs.EndLemmas.{with_end-replaces}
 use Rattle.strm_machine.proofs.NamedEndLemmas.{end_itself}
-use Rattle.strm_machine.proofs.OwnerLemmas.{OwnersStay, TurnOwns, turn-owns, handles_of-with_memory}
+use Rattle.strm_machine.proofs.SoundStepLemmas.{operate-keeps}
+use Rattle.strm_machine.proofs.TurnLemmas.{TurnKeeps}
 use Rattle.strm_machine.proofs.RefusalLemmas.{PairFits}
 use Rattle.strm_machine.proofs.SoundLemmas.{guests_after}
-use Rattle.strm_machine.proofs.TableLemmas.{handles-same, handles-more, handles-with_same, handles-with_other, tables-with, owner_in, owner-set_same, owner-set_stays, owner-set_other, owner-push_either, owner-push_same, owner-push_other}
-use Rattle.strm_machine.proofs.Shapes.{begun_on, turn_on, Shape, ByTurn, BySetting, ByPair, ByGuest, ByPoke, ByRest}
+use Rattle.strm_machine.proofs.TableLemmas.{handles_of-with_memory, with_end-owners, handles-same, handles-more, handles-with_same, handles-with_other, tables-with, owner_in, owner-set_same, owner-set_stays, owner-set_other, owner-push_either, owner-push_same, owner-push_other}
+use Rattle.strm_machine.proofs.Shapes.{turn_on, Shape, ByTurn, BySetting, ByPair, ByGuest, ByPoke, ByRest}
 use Rattle.strm_machine.proofs.ShapeLemmas.{reaction-shape}
 
 abbrev pub names_in : List Guest → ℕ → ℕ → Name
@@ -113,24 +113,18 @@ IsHeld-removed guests streams more g handle s side l is gone rest h =
 
 -- ## Reads and writes
 
-turn_held : (state : State) (s : ℕ) (t : Turn) (code : Option ReturnCode) → TurnOwns state.guests (stream_at state s) t → StateIsHeld state → StateIsHeld (written_back state s t code).state
-turn_held state s t code o h = both code
+turn_held : (state : State) (s : ℕ) (t : Turn) (code : Option ReturnCode) → TurnKeeps state.guests (stream_at state s) t → StateIsHeld state → StateIsHeld (written_back state s t code).state
+turn_held state s t code k h = both code
   where
     all : IsHeld t.guests (set state.streams s t.stream)
     all =
         IsHeld-same state.guests t.guests state.streams (set state.streams s t.stream)
-        (λ g. handles-same state.guests t.guests g o.handles)
-        (λ k side. owner-set_stays state.streams s t.stream k side o.owners) h
+        (λ g. handles-same state.guests t.guests g k.guests.handles)
+        (λ n side. owner-set_stays state.streams s t.stream n side (record { writer = k.stream.writer; reader = k.stream.reader })) h
 
     both : (c : Option ReturnCode) → StateIsHeld (written_back state s t c).state
     both None = all
     both (Some c) = all
-
-operates_held : (state : State) (side : Side) (end : NamedEnd) (address count : ℕ) → StateIsHeld state → StateIsHeld (operates state side end address count).state
-operates_held state side end address count h =
-    let s = stream_named (named state end) in
-    let t = turn_on state side end address count in
-    turn_held state s t t.code (turn-owns side state.guests (stream_at state s) (begun_on end address count)) h
 
 -- ## A stream set to another
 
@@ -154,10 +148,6 @@ owner-set_beside streams s side e k other ne =
     (λ off. owner-set_other streams s x k other off)
     (cases_eq k s)
 
-with_end-owners_stay : (side : Side) (stream : Stream) (e : End) → e.owner ≡ (end_of side stream).owner → OwnersStay stream (with_end side stream e)
-with_end-owners_stay Writing stream e o = record { writer = o; reader = refl }
-with_end-owners_stay Reading stream e o = record { writer = refl; reader = o }
-
 -- a handle that is freed named the end that is gone; else handles and owners are as they were
 sets_held : (state : State) (frees : Bool) (g handle s : ℕ) (side : Side) (e : End) → g < length state.guests → s < length state.streams → is_end s side (names_in state.guests g handle) ≡ true → e.owner ≡ (if frees then Gone else (end_of side (stream_at state s)).owner)
     → StateIsHeld state → IsHeld (guests_after frees state.guests g handle) (set state.streams s (with_end side (stream_at state s) e))
@@ -167,7 +157,7 @@ sets_held state true g handle s side e there made is owner h =
 sets_held state false g handle s side e there made is owner h =
     IsHeld-same state.guests state.guests state.streams (set state.streams s (with_end side (stream_at state s) e))
     (λ k. refl)
-    (λ k other. owner-set_stays state.streams s (with_end side (stream_at state s) e) k other (with_end-owners_stay side (stream_at state s) e owner)) h
+    (λ k other. owner-set_stays state.streams s (with_end side (stream_at state s) e) k other (with_end-owners side (stream_at state s) e owner)) h
 
 -- ## A stream more
 
@@ -218,7 +208,9 @@ guests_held : (state : State) (guests : List Guest) → ((g : ℕ) → (guest_in
 guests_held state guests e h = IsHeld-same state.guests guests state.streams state.streams e (λ s side. refl) h
 
 shape-held : (state : State) (act : Act) (r : Reaction) → StateIsHeld state → Shape state act r → StateIsHeld r.state
-shape-held state act r h (ByTurn side end address count a e o) = rw e (operates_held state side end address count h)
+shape-held state act r h (ByTurn side end address count a e o) =
+    let t = turn_on state side end address count in
+    rw e (turn_held state (stream_named (named state end)) t t.code (operate-keeps state side end address count o) h)
 shape-held state act r h (BySetting reply x e set) =
     rw e (sets_held state x.frees x.guest x.handle x.stream x.side x.end set.found.there set.found.made set.found.held set.becomes.owner h)
 shape-held state act r h (ByPair writer reader ty a e fits) = rw e (between_held state writer reader ty fits h)

@@ -21,7 +21,6 @@ pub mod ShapeLemmas
 pub mod SoundStepLemmas
 pub mod LawfulLemmas
 pub mod AgreeLemmas
-pub mod OwnerLemmas
 pub mod TableLemmas
 pub mod HeldLemmas
 pub mod UntouchedLemmas

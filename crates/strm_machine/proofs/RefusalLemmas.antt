@@ -1,5 +1,5 @@
 -- What is known of a step that nothing refuses.
-use Rattle.std.proofs.Common.{◌≡◌, ℕ, ◌+◌, ◌^◌, ◌<◌, ◌≤◌, Bool, true, false, cond, min, List, [], ◌∷◌, ◌++◌, length, Option, Some, None, Ok, Err, refl, arith}
+use Rattle.std.proofs.Common.{◌≡◌, ℕ, ◌+◌, ◌<◌, ◌≤◌, Bool, true, false, cond, min, List, [], ◌∷◌, ◌++◌, length, Option, Some, None, Ok, Err, refl, arith}
 use Rattle.std.proofs.lemmas.Bool.{not-false}
 use Rattle.std.proofs.lemmas.Bool.Decides.{nat_tests}
 use Rattle.std.proofs.lemmas.List.{length-map}
@@ -11,12 +11,13 @@ use Rattle.strm_codes.specs.declared.codes.TransmitIndex.{TransmitIndex}
 use Rattle.strm_codes.specs.declared.codes.TransmitIndex.TheVariants as index
 use Rattle.strm_codes.specs.Types.{kind_of, payload_of}
 use Rattle.strm_memory.specs.Items.{is_number_or_none}
-use Rattle.strm_machine.specs.State.{State, guest_in, stream_at, handles_in_use, bytes_in_use}
+use Rattle.strm_machine.specs.State.{State, memory_limit, guest_limit, stream_limit, guest_in, stream_at, handles_in_use, bytes_in_use}
 use Rattle.strm_machine.specs.Sides.{opposite, same_side, end_of}
 use Rattle.strm_machine.specs.Meetings.{begun}
 use Rattle.strm_machine.specs.Soundness.{sizes_of, IsPlaced}
 use Rattle.strm_machine.specs.Tests.{Name, is_no_handle, are_handles_full, are_places_full, are_streams_full, is_memory_too_big, are_guests_full, is_unknown_guest, are_bytes_out_of_bounds, named, end_named, stream_named, side_named, is_too_big, items_asked, is_out_of_bounds, is_busy, has_ended, owes_value, is_open_of, is_within_one_guest}
-use Rattle.strm_handles.specs.Handles.{next_index}
+use Rattle.strm_handles.specs.Handles.{handle_limit, next_index}
+use Rattle.strm_codes.specs.Counts.{count_limit}
 use Rattle.strm_machine.specs.Making.{writer_index}
 use Rattle.strm_machine.specs.Refusals.{Reason, first_of, region_reasons, handle_reasons, end_reasons_of, event_reasons, where_, named_reasons, side_reasons, dropping_reasons, bytes_reasons, refusal}
 use Rattle.strm_machine.specs.declared.acts.NamedEnd.{NamedEnd}
@@ -46,15 +47,15 @@ neither false b e = (refl, e)
 
 -- a guest that may be added
 pub record GuestFits (state : State) (size : ℕ) : Type 0 where
-  pub bytes : bytes_in_use state + size ≤ 268435456
-  pub count : length state.guests < 1048576
+  pub bytes : bytes_in_use state + size ≤ memory_limit
+  pub count : length state.guests < guest_limit
 
 pub guest_fits : (state : State) (size : ℕ) → refusal state (Make (Guest size)) ≡ None → GuestFits state size
 unfolding refusal
 guest_fits state size e =
     let first = not_refused (is_memory_too_big state size) _ _ e in
     let second = not_refused (are_guests_full state) _ _ first.1 in
-    record { bytes = not_lt 268435456 (bytes_in_use state + size) first.0; count = not_le 1048576 (length state.guests) second.0 }
+    record { bytes = not_lt memory_limit (bytes_in_use state + size) first.0; count = not_le guest_limit (length state.guests) second.0 }
 
 -- bytes of a guest's memory that may be looked at
 pub record BytesFit (state : State) (g address count : ℕ) : Type 0 where
@@ -87,11 +88,11 @@ none_of_both (x ∷ xs) ys e = both x.holds (none_of_both xs ys) e
 -- a region that a read or write may ask for
 pub record RegionFits (state : State) (g : ℕ) (ty : TransmitIndex) (address count : ℕ) : Type 0 where
   pub there : g < length state.guests
-  pub counted : items_asked ty count < 2 ^ 28
+  pub counted : items_asked ty count < count_limit
   pub inside : is_out_of_bounds state g ty address count ≡ false
 
-counted_asked : (ty : TransmitIndex) (count : ℕ) → is_too_big ty count ≡ false → items_asked ty count < 2 ^ 28
-counted_asked (index.Stream payload) count e = not_le 268435456 count e
+counted_asked : (ty : TransmitIndex) (count : ℕ) → is_too_big ty count ≡ false → items_asked ty count < count_limit
+counted_asked (index.Stream payload) count e = not_le count_limit count e
 counted_asked (index.Future payload) count e = omega arith
 
 pub region_fits : (state : State) (g : ℕ) (ty : TransmitIndex) (address count : ℕ) → first_of (region_reasons state g ty address count) ≡ None → RegionFits state g ty address count
@@ -125,10 +126,10 @@ numbers_within stream side g ty named e p h =
 pub record PairFits (state : State) (writer reader : ℕ) (ty : TransmitIndex) : Type 0 where
   pub writer_there : writer < length state.guests
   pub reader_there : reader < length state.guests
-  pub read : next_index (guest_in state.guests reader).handles < 2 ^ 28
-  pub write : writer_index state writer reader ty < 2 ^ 28
+  pub read : next_index (guest_in state.guests reader).handles < handle_limit
+  pub write : writer_index state writer reader ty < handle_limit
   pub handles : handles_in_use state + 2 ≤ state.limits.handles
-  pub streams : length state.streams < 4294967295
+  pub streams : length state.streams < stream_limit
 
 pub pair_fits : (state : State) (writer reader : ℕ) (ty : TransmitIndex) → refusal state (Make (Between writer reader ty)) ≡ None → PairFits state writer reader ty
 unfolding refusal
@@ -143,10 +144,10 @@ pair_fits state writer reader ty e =
     record {
       writer_there = not_le (length state.guests) writer there.0;
       reader_there = not_le (length state.guests) reader there.1;
-      read = not_le 268435456 _ numbers.0;
-      write = not_le 268435456 _ numbers.1;
+      read = not_le handle_limit _ numbers.0;
+      write = not_le handle_limit _ numbers.1;
       handles = not_lt state.limits.handles (handles_in_use state + 2) third.0;
-      streams = not_le 4294967295 (length state.streams) room.1;
+      streams = not_le stream_limit (length state.streams) room.1;
     }
 
 -- a name that no reason of the handle refuses is one

@@ -17,7 +17,7 @@ use Rattle.strm_handles.specs.declared.entries.Entry.{Entry}
 use Rattle.strm_handles.specs.declared.entries.Entry.TheVariants as entries
 use Rattle.strm_handles.specs.declared.entries.TransmitEnd.{TransmitEnd}
 use Rattle.strm_handles.specs.Ends.{read_end, write_end}
-use Rattle.strm_machine.specs.State.{State, Guest, no_guest, no_stream, guest_in, with_handles, stream_at}
+use Rattle.strm_machine.specs.State.{memory_limit, State, Guest, no_guest, no_stream, guest_in, with_handles, stream_at}
 use Rattle.strm_machine.specs.Turns.{Turn}
 use Rattle.strm_events.specs.Reports.{left_pending}
 use Rattle.strm_codes.specs.declared.codes.ReturnCode.{ReturnCode}
@@ -81,7 +81,7 @@ StreamIsPlaced-more sizes n stream p = record {
 }
 
 -- one guest more
-pub IsSound-guest : (state : State) (guest : Guest) → guest.handles ≡ no_handles → sum (sizes_of state.guests) + length guest.memory ≤ 268435456 → IsSound state → IsSound (record state { guests = state.guests ++ guest ∷ [] })
+pub IsSound-guest : (state : State) (guest : Guest) → guest.handles ≡ no_handles → sum (sizes_of state.guests) + length guest.memory ≤ memory_limit → IsSound state → IsSound (record state { guests = state.guests ++ guest ∷ [] })
 IsSound-guest state guest e l h =
     let sizes : sizes_of (state.guests ++ guest ∷ []) ≡ sizes_of state.guests ++ length guest.memory ∷ [] = map-append (λ g. length g.memory) state.guests (guest ∷ []) in
     let handles : handles_of (state.guests ++ guest ∷ []) ≡ handles_of state.guests ++ guest.handles ∷ [] = map-append (λ g. g.handles) state.guests (guest ∷ []) in

@@ -5,15 +5,19 @@ use Rattle.std.proofs.Math.ListN.{get_or-map}
 use Rattle.std.proofs.lemmas.Bool.{cases_eq}
 use Rattle.std.proofs.lemmas.List.{get_or-set_same, get_or-set_other}
 use Rattle.strm_handles.specs.Handles.{Handles, no_handles, IsTable}
-use Rattle.strm_machine.specs.State.{Guest, no_guest, no_stream, guest_in, with_handles}
-use Rattle.strm_machine.specs.Sides.{end_of}
+use Rattle.strm_machine.specs.State.{Guest, no_guest, no_stream, guest_in, with_memory, with_handles}
+use Rattle.strm_machine.specs.Sides.{end_of, with_end}
 use Rattle.strm_machine.specs.Soundness.{handles_of}
 use Rattle.strm_machine.specs.declared.streams.Owner.{Owner}
 use Rattle.strm_machine.specs.declared.streams.Side.{Side}
+use Rattle.strm_machine.specs.declared.streams.Side.TheVariants.{Writing, Reading}
+use Rattle.strm_machine.specs.declared.streams.End.{End}
 use Rattle.strm_machine.specs.declared.streams.Stream.{Stream}
-use Rattle.strm_machine.proofs.OwnerLemmas.{OwnersStay, owner_stays}
 
 -- ## Guests
+
+pub handles_of-with_memory : (guests : List Guest) (g : ℕ) (memory : List ℕ) → handles_of (with_memory guests g memory) ≡ handles_of guests
+handles_of-with_memory guests g memory = map-set_same (λ h. h.handles) guests g (record (guest_in guests g) { memory = memory }) no_guest refl
 
 pub handles-same : (guests others : List Guest) (g : ℕ) → handles_of others ≡ handles_of guests → (guest_in others g).handles ≡ (guest_in guests g).handles
 handles-same guests others g e =
@@ -42,6 +46,20 @@ module _ (guests : List Guest) (g : ℕ) (handles : Handles) where
       (cases_eq k g)
 
 -- ## Streams
+
+pub record OwnersStay (old new : Stream) : Type 0 where
+  pub writer : new.writer.owner ≡ old.writer.owner
+  pub reader : new.reader.owner ≡ old.reader.owner
+
+-- the owner of an end, whichever of the two it is
+owner_stays : (side : Side) (old new : Stream) → OwnersStay old new → (end_of side new).owner ≡ (end_of side old).owner
+owner_stays Writing old new h = h.writer
+owner_stays Reading old new h = h.reader
+
+-- another end of the same owner
+pub with_end-owners : (side : Side) (stream : Stream) (end : End) → end.owner ≡ (end_of side stream).owner → OwnersStay stream (with_end side stream end)
+with_end-owners Writing stream end e = record { writer = e; reader = refl }
+with_end-owners Reading stream end e = record { writer = refl; reader = e }
 
 abbrev pub owner_in : List Stream → ℕ → Side → Owner
 owner_in streams s side = (end_of side (get_or streams s no_stream)).owner

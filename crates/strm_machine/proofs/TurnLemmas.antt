@@ -1,8 +1,9 @@
 -- What a read or write leaves as it was: the guests' handles, the lengths of their memories, the
 -- stream's type and owners.
-use Rattle.std.proofs.Common.{◌≡◌, ℕ, ◌≤◌, min, Bool, true, false, cond, List, length, get_or, ℤ, Option, Some, None, refl, arith}
+use Rattle.std.proofs.Common.{◌≡◌, ℕ, ◌≤◌, min, true, false, List, length, get_or, ℤ, Option, Some, None, refl, arith}
 use Rattle.std.proofs.Math.Seq.{map-set_same}
 use Rattle.std.proofs.Math.ListN.{get_or-map}
+use Rattle.std.proofs.lemmas.Bool.{cond_both}
 use Rattle.std.specs.Option.{option_map}
 use Rattle.strm_codes.specs.declared.payloads.Payload.{Payload}
 use Rattle.strm_codes.specs.declared.scalars.Scalar.{Scalar}
@@ -88,19 +89,15 @@ moves-keeps side guests stream mine theirs (Some after) h e = record {
   stream = advanced-keeps (opposite side) (sizes_of guests) stream theirs (min mine.left theirs.left) h.placed h.theirs_placed (omega arith);
 }
 
-cond_both : {A : Type 0} (P : A → Type 0) (b : Bool) (x y : A) → P x → P y → P (cond b x y)
-cond_both P true x y p q = p
-cond_both P false x y p q = q
-
 alone-keeps : (who side : Side) (guests : List Guest) (stream : Stream) (mine theirs : Operation) → AreReady guests stream mine theirs → TurnKeeps guests stream (completes_alone who side guests stream mine theirs)
 alone-keeps who side guests stream mine theirs h =
     let stopped = with_operation (opposite side) stream (advanced stream.payload theirs 0) in
     let first : StreamKeeps (sizes_of guests) stream stopped = with_operation-keeps (opposite side) (sizes_of guests) stream (advanced stream.payload theirs 0) h.placed (IsPlaced-advanced (sizes_of guests) stream.payload theirs 0 (omega arith) h.theirs_placed) in
     let mine_placed : IsPlaced (sizes_of guests) stopped.payload mine = rw first.payload h.mine_placed in
     let second : TurnKeeps guests stopped (waits side guests stopped mine) = waits-keeps side guests stopped mine first.placed mine_placed in
-    cond_both (TurnKeeps guests stream) (same_side who side) _ _
-    (record { guests = all_kept guests; stream = kept (sizes_of guests) stream h.placed })
-    (record { guests = second.guests; stream = kept_on (sizes_of guests) stream stopped _ first second.stream })
+    cond_both (same_side who side) _ _ (TurnKeeps guests stream)
+    (λ e. record { guests = all_kept guests; stream = kept (sizes_of guests) stream h.placed })
+    (λ e. record { guests = second.guests; stream = kept_on (sizes_of guests) stream stopped _ first second.stream })
 
 rendezvous_by-keeps : (meeting : Meeting) (side : Side) (guests : List Guest) (stream : Stream) (mine theirs : Operation) → AreReady guests stream mine theirs → TurnKeeps guests stream (rendezvous_by meeting side guests stream mine theirs)
 rendezvous_by-keeps BothComplete side guests stream mine theirs h = moves-keeps side guests stream mine theirs _ h refl
@@ -110,20 +107,20 @@ rendezvous_by-keeps ReadCompletes side guests stream mine theirs h = alone-keeps
 finds-keeps : (side : Side) (guests : List Guest) (stream : Stream) (mine : Operation) (o : Option Operation) → StreamIsPlaced (sizes_of guests) stream → IsPlaced (sizes_of guests) stream.payload mine → OperationIsPlaced (sizes_of guests) stream.payload o → TurnKeeps guests stream (finds side guests stream mine o)
 finds-keeps side guests stream mine None h p q = waits-keeps side guests stream mine h p
 finds-keeps side guests stream mine (Some theirs) h p q =
-    cond_both (TurnKeeps guests stream) theirs.is_open _ _
-    (rendezvous_by-keeps _ side guests stream mine theirs (record { placed = h; mine_placed = p; theirs_placed = q }))
-    (waits-keeps side guests stream mine h p)
+    cond_both theirs.is_open _ _ (TurnKeeps guests stream)
+    (λ e. rendezvous_by-keeps _ side guests stream mine theirs (record { placed = h; mine_placed = p; theirs_placed = q }))
+    (λ e. waits-keeps side guests stream mine h p)
 
 -- a read or write of n items that lie in memory
 pub turn-keeps : (side : Side) (guests : List Guest) (stream : Stream) (mine : Operation) → StreamIsPlaced (sizes_of guests) stream → IsPlaced (sizes_of guests) stream.payload mine → TurnKeeps guests stream (turn side guests stream mine)
 unfolding turn
 turn-keeps side guests stream mine h p =
-    cond_both (TurnKeeps guests stream) (is_gone (end_of (opposite side) stream).owner) _ _
-    (record {
+    cond_both (is_gone (end_of (opposite side) stream).owner) _ _ (TurnKeeps guests stream)
+    (λ e. record {
       guests = all_kept guests;
       stream = with_end-keeps side (sizes_of guests) stream (record (end_of side stream) { told = true }) h refl (end_placed side (sizes_of guests) stream h);
     })
-    (finds-keeps side guests stream mine _ h p (end_placed (opposite side) (sizes_of guests) stream h))
+    (λ e. finds-keeps side guests stream mine _ h p (end_placed (opposite side) (sizes_of guests) stream h))
 
 -- the first n items that an operation has left lie in its guest's memory
 pub front_inside : (guests : List Guest) (payload : Payload) (operation : Operation) (n : ℕ) → n ≤ operation.left → IsPlaced (sizes_of guests) payload operation → is_out_of_bounds (length (memory_in guests operation.guest)) (scalars_of payload) operation.address n ≡ false

@@ -1,4 +1,4 @@
--- One step of the machine.
+-- One step of the machine. Canonical ABI, the built-ins; the steps that make guests and put or show bytes are ours.
 use Rattle.std.specs.Prelude.{ℕ, true, if◌then◌else◌, [], ◌∷◌, ◌++◌, length, min, take, drop, replicate, slice_set, Option, Some, None}
 use Rattle.strm_codes.specs.declared.codes.ReturnCode.{ReturnCode}
 use Rattle.strm_codes.specs.declared.refusals.Refusal.{Refusal}
@@ -33,6 +33,7 @@ pub record Reaction : Type 0 where
   pub reply : Reply
   pub state : State
 
+-- this reply, and this state
 abbrev pub goes : Reply → State → Reaction
 goes reply state = record { reply = reply; state = state }
 

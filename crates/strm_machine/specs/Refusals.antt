@@ -29,6 +29,7 @@ pub record Reason : Type 0 where
   pub holds : Bool
   pub refusal : Refusal
 
+-- where this holds, this refusal
 abbrev pub where_ : Bool → Refusal → Reason
 where_ holds refusal = record { holds = holds; refusal = refusal }
 
@@ -69,6 +70,7 @@ end_reasons_of stream side g ty named =
     ∷ where_ (is_within_one_guest g side ty stream) refusals.IntraComponent
     ∷ []
 
+-- the same, of the stream that the handle names
 abbrev pub end_reasons : State → Side → ℕ → TransmitIndex → Name → List Reason
 end_reasons state side g ty name = end_reasons_of (stream_at state (stream_named name)) side g ty (side_named name)
 
@@ -97,6 +99,7 @@ drop_reasons_of stream side ty named =
     ∷ where_ (owes_value side (kind_of ty) stream) refusals.FutureWithoutValue
     ∷ [])
 
+-- the same, of the stream that the handle names
 abbrev pub drop_reasons : State → Side → TransmitIndex → Name → List Reason
 drop_reasons state side ty name = drop_reasons_of (stream_at state (stream_named name)) side ty (side_named name)
 

@@ -45,9 +45,11 @@ stream_limit = 4294967295
 abbrev pub no_guest : Guest
 no_guest = record { memory = []; handles = no_handles }
 
+-- the guest of a number
 abbrev pub guest_in : List Guest → ℕ → Guest
 guest_in guests g = slice_index_or guests g no_guest
 
+-- its bytes
 abbrev pub memory_in : List Guest → ℕ → List ℕ
 memory_in guests g = (guest_in guests g).memory
 
@@ -59,6 +61,7 @@ with_memory guests g memory = slice_set guests g (record (guest_in guests g) { m
 abbrev pub with_handles : List Guest → ℕ → Handles → List Guest
 with_handles guests g handles = slice_set guests g (record (guest_in guests g) { handles = handles })
 
+-- nobody has the end
 abbrev pub is_gone : Owner → Bool
 is_gone Gone = true
 is_gone (Held guest handle) = false
@@ -78,6 +81,7 @@ no_stream = record {
   received = 0;
 }
 
+-- the stream of a number
 abbrev pub stream_at : State → ℕ → Stream
 stream_at state s = slice_index_or state.streams s no_stream
 

@@ -10,7 +10,7 @@ use Rattle.strm_codes.specs.Counts.{count_limit}
 use Rattle.strm_codes.specs.Types.{payload_of}
 use Rattle.strm_memory.specs.Items.{is_number_or_none}
 use Rattle.strm_memory.specs.Region as region
-use Rattle.strm_handles.specs.Handles.{Handles}
+use Rattle.strm_handles.specs.Handles.{handle_limit, Handles}
 use Rattle.strm_handles.specs.Lookups.{stream_rep_of, future_rep_of, end_rep_of}
 use Rattle.strm_handles.specs.declared.errors.HandleError.{HandleError}
 use Rattle.strm_handles.specs.declared.errors.HandleError.TheVariants as errors
@@ -50,7 +50,7 @@ are_streams_full state = nat_le stream_limit (length state.streams)
 
 -- a number that a table would give is no handle
 abbrev pub is_no_handle : ℕ → Bool
-is_no_handle number = nat_le 268435456 number
+is_no_handle number = nat_le handle_limit number
 
 -- a stream's count is no count of items; a future's is not looked at
 abbrev pub is_too_big : TransmitIndex → ℕ → Bool
@@ -80,10 +80,12 @@ are_bytes_out_of_bounds state g address count =
 abbrev pub Name : Type 0
 Name = Result (ℕ × TransmitLocalState) HandleError
 
+-- a table's answer for a handle of a type
 abbrev pub named_by : TransmitIndex → Handles → ℕ → Name
 named_by (index.Stream payload) handles handle = stream_rep_of handles payload handle
 named_by (index.Future payload) handles handle = future_rep_of handles payload handle
 
+-- the answer of the guest's table for the end that is named
 abbrev pub named : State → NamedEnd → Name
 named state end = named_by end.ty (guest_in state.guests end.guest).handles end.handle
 
@@ -91,27 +93,33 @@ named state end = named_by end.ty (guest_in state.guests end.guest).handles end.
 abbrev pub end_named : State → ℕ → ℕ → Name
 end_named state g handle = end_rep_of (guest_in state.guests g).handles handle
 
+-- the table has no such handle
 abbrev pub is_unknown_handle : Name → Bool
 is_unknown_handle (Err errors.UnknownHandle) = true
 is_unknown_handle _ = false
 
+-- it stands for something of another kind
 abbrev pub is_wrong_kind : Name → Bool
 is_wrong_kind (Err errors.WrongKind) = true
 is_wrong_kind _ = false
 
+-- it stands for an end of another type
 abbrev pub is_wrong_type : Name → Bool
 is_wrong_type (Err errors.WrongType) = true
 is_wrong_type _ = false
 
+-- the number of the stream that is named
 abbrev pub stream_named : Name → ℕ
 stream_named (Ok answer) = answer.0
 stream_named (Err error) = 0
 
+-- the end that a table's entry says
 abbrev pub side_of : TransmitLocalState → Side
 side_of (states.Write done) = Writing
 side_of (states.Read done) = Reading
 side_of (states.Busy reading) = if reading then Reading else Writing
 
+-- the end that is named
 abbrev pub side_named : Name → Side
 side_named (Ok answer) = side_of answer.1
 side_named (Err error) = Writing
@@ -132,6 +140,7 @@ owes_value side AStream stream = false
 owes_value Writing Future stream = not (stream.passed || stream.writer.told)
 owes_value Reading Future stream = false
 
+-- an operation that is open, and of this guest
 abbrev pub is_open_of : ℕ → Option Operation → Bool
 is_open_of g None = false
 is_open_of g (Some operation) = operation.is_open && (operation.guest == g)

@@ -7,18 +7,18 @@ use Rattle.strm_machine.specs.declared.steps.Step.{Step}
 use Rattle.strm_machine.specs.declared.replies.Reply.{Reply}
 use Rattle.strm_laws.specs.Conservation.{moments, last, replies_of}
 use Rattle.strm_laws.specs.Laws.{HasBytes, AreSteps}
-use Rattle.strm_laws.proofs.Running.{play-ends}
-use Rattle.strm_laws.proofs.EveryRun as laws
-use Rattle.strm_laws.proofs.Steps.{reacts}
+use Rattle.strm_laws.proofs.Replies.{play-ends}
+use Rattle.strm_laws.proofs.Conserved as conserved
+use Rattle.strm_laws.proofs.LawfulRuns as lawful
 use Rattle.strm_session.specs.Runs.{start, IsKept}
 
 last_kept : (steps : List Step) (replies : List Reply) → AreSteps steps → replies ≡ replies_of (moments start steps) → IsKept steps replies (last start steps)
 last_kept steps replies a e = record {
   told = e;
-  conserves = λ s. laws.conserves reacts 0 _ steps s a;
-  stands = λ s. laws.stands reacts 0 _ steps s a;
-  apart = λ s. laws.apart reacts 0 _ steps s a;
-  counted = λ s. laws.counted reacts 0 _ steps s a;
+  conserves = λ s. conserved.conserves 0 _ steps s a;
+  stands = λ s. conserved.stands 0 _ steps s a;
+  apart = λ s. lawful.apart 0 _ steps s a;
+  counted = λ s. lawful.counted 0 _ steps s a;
 }
 
 pub run_kept : (steps : List Step) (replies : List Reply) (state : State) → length steps ≤ 4294967295 → All HasBytes steps → play [] start steps ≡ Ends replies state → IsKept steps replies state

@@ -7,7 +7,8 @@ use Rattle.strm_machine.specs.declared.steps.Step.{Step}
 use Rattle.strm_machine.specs.declared.replies.Reply.{Reply}
 use Rattle.strm_machine.specs.declared.replies.Reply.TheVariants as replies
 use Rattle.strm_laws.specs.Conservation.{moments, replies_of, calls}
-use Rattle.strm_laws.specs.Laws.{Conserves, waiting, Stands, both_open, AreCounted}
+use Rattle.strm_machine.specs.Soundness.{both_open}
+use Rattle.strm_laws.specs.Laws.{Conserves, waiting, Stands, AreCounted}
 use Rattle.strm_session.specs.declared.runs.RunCause.{RunCause}
 use Rattle.strm_session.specs.declared.runs.RunCause.TheVariants as causes
 
