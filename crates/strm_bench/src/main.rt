@@ -1,43 +1,96 @@
-//! Times what a list of steps cannot time: the handle table under inserts and removals, and calls of
-//! the store.
+//! Times what a list of steps cannot time: the handle table under inserts, removals and look-ups, and
+//! calls of the store.
 //!
 //! Sums go to standard output and are the same in every run; times go to standard error.
 #![tactic(auto)]
 
 mod draws;
+mod filled;
 mod guests;
 mod rounds;
 mod tables;
 
+use crate::filled::{COUNT, Filled};
 use std::time::Instant;
 use std::{env, io};
+use strm_codes::payloads::Payload;
+use strm_codes::scalars::Scalar;
 
 /// Turns without an argument: about a million inserts and as many removals.
 const TURNS: u32 = 2_000_000;
+
+/// The payload of every stream in the handle tables.
+const BYTES: Payload = Payload::One(Scalar::U8);
 
 fn main(rt: HostRuntime) -> io::Result<()> {
     let turns = match env::args(&rt)?.nth(1) {
         Some(word) => word.as_str().parse::<u32>().unwrap_or(TURNS),
         None => TURNS,
     };
-    let start = Instant::now(&rt)?;
-    match tables::run(rt.alloc(), turns) {
+    time_mixed(&rt, turns)?;
+    match Filled::new(rt.alloc(), BYTES) {
+        Ok(mut filled) => {
+            time_look_ups(&rt, &filled, turns)?;
+            time_renewals(&rt, &mut filled, turns)?;
+        }
+        Err(error) => return eprintln!(rt; "{error:?}"),
+    }
+    time_rounds(&rt, turns)
+}
+
+// Inserts and removals in mixed order, on a table of up to 32,768 handles.
+fn time_mixed(rt: &HostRuntime, turns: u32) -> io::Result<()> {
+    let start = Instant::now(rt)?;
+    match tables::run(rt.alloc(), BYTES, turns) {
         Ok(sums) => {
-            let spent = start.elapsed(&rt)?.as_nanos();
+            let spent = start.elapsed(rt)?.as_nanos();
             let (inserts, removals) = (sums.inserts, sums.removals);
             let (numbers, reps, live) = (sums.numbers, sums.reps, sums.live);
             println!(rt; "inserts {inserts} removals {removals}")?;
             println!(rt; "numbers {numbers} reps {reps} live {live}")?;
             let pairs = u128::from(turns / 2).max(1);
             let pair = spent / pairs;
-            eprintln!(rt; "an insert and a removal: {pair} ns")?;
+            eprintln!(rt; "an insert and a removal: {pair} ns")
         }
-        Err(error) => return eprintln!(rt; "{error:?}"),
+        Err(error) => eprintln!(rt; "{error:?}"),
     }
-    let start = Instant::now(&rt)?;
+}
+
+// Look-ups in a full table.
+fn time_look_ups(rt: &HostRuntime, filled: &Filled, turns: u32) -> io::Result<()> {
+    let rounds = turns / COUNT as u32;
+    let start = Instant::now(rt)?;
+    match filled.look_up(rounds) {
+        Ok(sum) => {
+            let spent = start.elapsed(rt)?.as_nanos();
+            println!(rt; "found {sum}")?;
+            let picoseconds = spent / u128::from(rounds).max(1);
+            eprintln!(rt; "a look-up: {picoseconds} ps")
+        }
+        Err(error) => eprintln!(rt; "{error:?}"),
+    }
+}
+
+// Removals in a full table, each with an insert.
+fn time_renewals(rt: &HostRuntime, filled: &mut Filled, turns: u32) -> io::Result<()> {
+    let start = Instant::now(rt)?;
+    match filled.renew(turns) {
+        Ok(sum) => {
+            let spent = start.elapsed(rt)?.as_nanos();
+            println!(rt; "renewed {sum}")?;
+            let picoseconds = spent.saturating_mul(1000) / u128::from(turns).max(1);
+            eprintln!(rt; "a removal with an insert: {picoseconds} ps")
+        }
+        Err(error) => eprintln!(rt; "{error:?}"),
+    }
+}
+
+// Rounds of three calls on a store.
+fn time_rounds(rt: &HostRuntime, turns: u32) -> io::Result<()> {
+    let start = Instant::now(rt)?;
     match rounds::run(rt.alloc(), turns) {
         Ok(told) => {
-            let spent = start.elapsed(&rt)?.as_nanos();
+            let spent = start.elapsed(rt)?.as_nanos();
             let (words, received) = (told.words, told.received);
             println!(rt; "words {words} received {received}")?;
             let round = spent / u128::from(turns).max(1);

@@ -5,6 +5,7 @@ ghost use Rattle.std.specs.Prelude.{◌≡◌, ◌+◌, ◌<◌, IfOk, OnOk, vec
 use crate::draws::Draws;
 use crate::guests::Guest;
 use std::alloc::Global;
+use strm_codes::payloads::Payload;
 use strm_handles::errors::HandleError;
 
 /// Places that hold a handle or none. Each turn draws one, and fills or empties it.
@@ -21,13 +22,13 @@ pub struct Sums {
 }
 
 /// So many turns on an empty table. After a refused call there are no sums.
-pub fn run(alloc: Global, turns: u32) -> Result<Sums, HandleError>
+pub fn run(alloc: Global, ty: Payload, turns: u32) -> Result<Sums, HandleError>
     ensures turns { IfOk result (λ sums. sums.inserts + sums.removals ≡ turns) }
     ensures live { IfOk result (λ sums. sums.removals + sums.live ≡ sums.inserts) }
 {
     let mut held = empty_places(alloc, PLACES)?;
     let mut draws = Draws::new();
-    let mut guest = Guest::new(alloc, PLACES);
+    let mut guest = Guest::new(alloc, PLACES, ty);
     let mut sums = Sums {
         inserts: 0,
         removals: 0,

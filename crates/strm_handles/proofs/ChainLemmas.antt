@@ -1,10 +1,10 @@
 -- Chains of free slots: what a write beside them, a write over their first slot, and a push leave.
-use Rattle.std.proofs.Common.{◌≡◌, ◌≢◌, ℕ, zero, suc, ◌+◌, ◌-◌, ◌<◌, ◌≤◌, List, [], ◌∷◌, ◌++◌, length, get_or, set, map, Option, Some, None, refl, sym, ap, ◌∙◌, subst, arith}
-use Rattle.std.proofs.lemmas.List.{get_or-set_other, get_or-set_same, get_or_append_left, get_or_read_under, get_or-map, map-set, length-map}
+use Rattle.std.proofs.Common.{◌≡◌, ◌≢◌, ℕ, zero, suc, ◌+◌, ◌-◌, ◌%◌, ◌^◌, ◌<◌, ◌≤◌, List, [], ◌∷◌, ◌++◌, length, get_or, set, map, Option, Some, None, refl, sym, ap, ◌∙◌, subst, arith}
+use Rattle.std.proofs.lemmas.List.{get_or-set_other, get_or-set_same, get_or_append_left, get_or_read_under, get_or-map, map-set, map_push, length-map}
 use Rattle.std.proofs.lemmas.List.Elements.{All-head, All-tail}
 use Rattle.std.specs.Prelude.{All, IsSome}
 use Rattle.std.proofs.Common.{add-one}
-use Rattle.strm_handles.specs.Handles.{handle_limit, next_index, entry_in, IsFreed, IsTable, inserted, removed, with_entry}
+use Rattle.strm_handles.specs.Handles.{handle_limit, HandlesOf, next_index, entry_in, IsFreed, IsTable, inserted, removed, with_entry}
 use Rattle.strm_handles.specs.Chain.{entry_of, before, slot_at, chain, handles_in}
 use Rattle.strm_handles.specs.declared.slots.Slot.{Slot}
 use Rattle.strm_handles.specs.declared.slots.Slot.TheVariants.{Free, Full}
@@ -45,12 +45,24 @@ module _ {E : Type 0} where
   number_read slots n at x s same inside read is =
       rw same (sym (entry_in-map slots at s inside (slot_read slots at x s read is inside)))
 
+  -- the index below a number, which is within the slots only where there is one
+  pub number_above : (slots : List (Slot E)) (free first n : ℕ) → n < 2 ^ 32 → (n + 4294967295) % 4294967296 < length slots → IsTable (handles_in slots free first) → n ≡ suc ((n + 4294967295) % 4294967296)
+  number_above slots free first n small inside s = omega (arith, s.small, length-map slots entry_of)
+
   pub entry_from_some : (o : Option E) → IsSome o → (e : E) × (o ≡ Some e)
   entry_from_some None h = absurd (cc)
   entry_from_some (Some e) h = (e, refl)
 
   above_index : (es : List (Option E)) (n : ℕ) (e : E) → entry_in es n ≡ Some e → n ≡ suc (n - 1)
   above_index es n e is = omega (arith, (given es n e is).0)
+
+  -- no slot is free
+  abbrev pub AreFull : List (Slot E) → ℕ → ℕ → Type 0
+  AreFull slots free first = length (chain slots free first) ≡ 0
+
+  -- the slots are such a table
+  abbrev pub AreTable : List (Slot E) → ℕ → ℕ → HandlesOf E → Type 0
+  AreTable slots free first h = IsTable (handles_in slots free first) × (handles_in slots free first ≡ h)
 
   changed_at : (slots : List (Slot E)) (free first n at : ℕ) (old e : E) → n ≡ suc at → entry_in (map entry_of slots) n ≡ Some old → IsTable (handles_in slots free first) → handles_in (set slots at (Full e)) free first ≡ with_entry (handles_in slots free first) n e
   changed_at slots free first n at old e same is s =
@@ -65,14 +77,14 @@ module _ {E : Type 0} where
       rw (same, add-one, here, map-set entry_of slots at (Free first), chain-set slots free first at (Free first) apart) refl
 
   -- a number's slot, with another entry
-  pub slot_changed : (slots : List (Slot E)) (free first n : ℕ) (e : E) → IsSome (entry_in (map entry_of slots) n) → IsTable (handles_in slots free first) → IsTable (handles_in (set slots (n - 1) (Full e)) free first) × (handles_in (set slots (n - 1) (Full e)) free first ≡ with_entry (handles_in slots free first) n e)
+  pub slot_changed : (slots : List (Slot E)) (free first n : ℕ) (e : E) → IsSome (entry_in (map entry_of slots) n) → IsTable (handles_in slots free first) → AreTable (set slots (n - 1) (Full e)) free first (with_entry (handles_in slots free first) n e)
   slot_changed slots free first n e here s =
       let old = entry_from_some (entry_in (map entry_of slots) n) here in
       let change = changed_at slots free first n (n - 1) old.0 e (above_index (map entry_of slots) n old.0 old.1) old.1 s in
       (subst IsTable (sym change) (IsTable-with_entry (handles_in slots free first) n old.0 e old.1 s), change)
 
   -- a number's slot, freed
-  pub slot_freed : (slots : List (Slot E)) (free first n : ℕ) → IsSome (entry_in (map entry_of slots) n) → IsTable (handles_in slots free first) → IsTable (handles_in (set slots (n - 1) (Free first)) (free + 1) (n - 1)) × (handles_in (set slots (n - 1) (Free first)) (free + 1) (n - 1) ≡ removed (handles_in slots free first) n)
+  pub slot_freed : (slots : List (Slot E)) (free first n : ℕ) → IsSome (entry_in (map entry_of slots) n) → IsTable (handles_in slots free first) → AreTable (set slots (n - 1) (Free first)) (free + 1) (n - 1) (removed (handles_in slots free first) n)
   slot_freed slots free first n here s =
       let old = entry_from_some (entry_in (map entry_of slots) n) here in
       let change = freed_at slots free first n (n - 1) old.0 (above_index (map entry_of slots) n old.0 old.1) old.1 s in
@@ -102,11 +114,31 @@ module _ {E : Type 0} where
       let full = entry_in-map slots first (Full e) inside (slot_read slots first x (Full e) read is inside) in
       cc ((first_freed slots free first some s).free, full)
 
+  -- the number freed last is given next, and is below the limit
+  pub first_is_next : (slots : List (Slot E)) (free first : ℕ) → 0 < free → first + 1 ≡ next_index (handles_in slots free first)
+  first_is_next slots zero first some = absurd (omega arith)
+  first_is_next slots (suc m) first some = add-one first
+
+  pub first_is_small : (slots : List (Slot E)) (free first : ℕ) → 0 < free → IsTable (handles_in slots free first) → first + 1 < handle_limit
+  first_is_small slots free first some s =
+      omega (arith, first_inside slots free first some s, s.small, length-map slots entry_of)
+
   -- the slot freed last, taken by an entry
-  pub slot_taken : (slots : List (Slot E)) (free first next : ℕ) (x : Slot E) (e : E) → 0 < free → x ≡ get_or slots first x → x ≡ Free next → next_index (handles_in slots free first) < handle_limit → IsTable (handles_in slots free first) → IsTable (handles_in (set slots first (Full e)) (free - 1) next) × (handles_in (set slots first (Full e)) (free - 1) next ≡ inserted (handles_in slots free first) e)
-  slot_taken slots free first next x e some read is small s =
+  pub slot_taken : (slots : List (Slot E)) (free first next : ℕ) (x : Slot E) (e : E) → 0 < free → x ≡ get_or slots first x → x ≡ Free next → IsTable (handles_in slots free first) → AreTable (set slots first (Full e)) (free - 1) next (inserted (handles_in slots free first) e)
+  slot_taken slots free first next x e some read is s =
+      let small : next_index (handles_in slots free first) < handle_limit = omega (arith, first_is_next slots free first some, first_is_small slots free first some s) in
       let inside = first_inside slots free first some s in
       let change = taken_at slots free first next e some (slot_read slots first x (Free next) read is inside) s in
+      (subst IsTable (sym change) (IsTable-inserted (handles_in slots free first) e s small), change)
+
+  appended_at : (slots : List (Slot E)) (free first : ℕ) (e : E) → AreFull slots free first → handles_in (slots ++ Full e ∷ []) free first ≡ inserted (handles_in slots free first) e
+  appended_at slots zero first e none = rw (map_push entry_of slots (Full e)) refl
+  appended_at slots (suc m) first e none = absurd (omega arith)
+
+  -- a slot more, where none is free
+  pub slot_appended : (slots : List (Slot E)) (free first : ℕ) (e : E) → AreFull slots free first → next_index (handles_in slots free first) < handle_limit → IsTable (handles_in slots free first) → AreTable (slots ++ Full e ∷ []) free first (inserted (handles_in slots free first) e)
+  slot_appended slots free first e none small s =
+      let change = appended_at slots free first e none in
       (subst IsTable (sym change) (IsTable-inserted (handles_in slots free first) e s small), change)
 
   pub few_free : (slots : List (Slot E)) (free first : ℕ) → IsTable (handles_in slots free first) → free < handle_limit

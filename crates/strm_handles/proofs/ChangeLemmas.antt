@@ -25,41 +25,42 @@ module _ {E : Type 0} where
   pub insert_answer-ok : (h : HandlesOf E) (c : Counter) → next_index h < handle_limit → c.live < c.limit → insert_answer h c ≡ Ok (next_index h)
   insert_answer-ok h c small room = grind (arith, nat_tests)
 
-  refused_answer : {old new : TableOf E} {before after : Counter} {e : E} {result : Result ℕ HandleError} → Inserts old new before after e result → (x : HandleError) → insert_answer old.handles before ≡ Err x → result ≡ Err x
-  refused_answer {old} {new} {before} {after} {e} {result} i x is =
-      ⊎_elim (λ m. let last = rw is at (i.last m) in cc) (λ ne. i.answer ne ∙ is) (memory_cases result)
+  module _ {old new : TableOf E} {before after : Counter} {e : E} {result : Result ℕ HandleError} (i : Inserts old new before after e result) where
+    refused_answer : (x : HandleError) → insert_answer old.handles before ≡ Err x → result ≡ Err x
+    refused_answer x is =
+        ⊎_elim (λ m. let last = rw is at (i.last m) in cc) (λ ne. i.answer ne ∙ is) (memory_cases result)
 
-  -- each refusal comes exactly by its cause
-  pub overflow_exactly : {old new : TableOf E} {before after : Counter} {e : E} {result : Result ℕ HandleError} → Inserts old new before after e result → (result ≡ Err IndexOverflow) ↔ (handle_limit ≤ next_index old.handles)
-  overflow_exactly {old} {new} {before} {after} {e} {result} i = (
-    (λ is.
-        let answer = i.answer (λ m. cc) in
-        ⊎_elim
-        (λ small. ⊎_elim
-        (λ below. let ok = insert_answer-ok old.handles before small below in cc)
-        (λ full. let refused = insert_answer-limit old.handles before small full in cc)
-        (cases_lt before.live before.limit))
-        (λ over. over)
-        (cases_lt (next_index old.handles) handle_limit)),
-    (λ over. refused_answer i IndexOverflow (insert_answer-overflow old.handles before over)),
-  )
+    -- each refusal comes exactly by its cause
+    pub overflow_exactly : (result ≡ Err IndexOverflow) ↔ (handle_limit ≤ next_index old.handles)
+    overflow_exactly = (
+      (λ is.
+          let answer = i.answer (λ m. cc) in
+          ⊎_elim
+          (λ small. ⊎_elim
+          (λ below. let ok = insert_answer-ok old.handles before small below in cc)
+          (λ full. let refused = insert_answer-limit old.handles before small full in cc)
+          (cases_lt before.live before.limit))
+          (λ over. over)
+          (cases_lt (next_index old.handles) handle_limit)),
+      (λ over. refused_answer IndexOverflow (insert_answer-overflow old.handles before over)),
+    )
 
-  pub limit_exactly : {old new : TableOf E} {before after : Counter} {e : E} {result : Result ℕ HandleError} → Inserts old new before after e result → (result ≡ Err HandleLimit) ↔ ((next_index old.handles < handle_limit) × (before.limit ≤ before.live))
-  limit_exactly {old} {new} {before} {after} {e} {result} i = (
-    (λ is.
-        let answer = i.answer (λ m. cc) in
-        ⊎_elim
-        (λ small. ⊎_elim
-        (λ below. let ok = insert_answer-ok old.handles before small below in cc)
-        (λ full. (small, full))
-        (cases_lt before.live before.limit))
-        (λ over. let refused = insert_answer-overflow old.handles before over in cc)
-        (cases_lt (next_index old.handles) handle_limit)),
-    (λ p. refused_answer i HandleLimit (insert_answer-limit old.handles before p.0 p.1)),
-  )
+    pub limit_exactly : (result ≡ Err HandleLimit) ↔ ((next_index old.handles < handle_limit) × (before.limit ≤ before.live))
+    limit_exactly = (
+      (λ is.
+          let answer = i.answer (λ m. cc) in
+          ⊎_elim
+          (λ small. ⊎_elim
+          (λ below. let ok = insert_answer-ok old.handles before small below in cc)
+          (λ full. (small, full))
+          (cases_lt before.live before.limit))
+          (λ over. let refused = insert_answer-overflow old.handles before over in cc)
+          (cases_lt (next_index old.handles) handle_limit)),
+      (λ p. refused_answer HandleLimit (insert_answer-limit old.handles before p.0 p.1)),
+    )
 
-  -- an insert that finds room, below both limits
-  pub insert_gives : {old new : TableOf E} {before after : Counter} {e : E} {result : Result ℕ HandleError} → Inserts old new before after e result → 0 < old.room → next_index old.handles < handle_limit → before.live < before.limit → (result ≡ Ok (next_index old.handles)) × (new.handles ≡ inserted old.handles e) × (after ≡ counted before)
-  insert_gives {old} {new} {before} {after} {e} {result} i room small below =
-      let answer : result ≡ Ok (next_index old.handles) = i.answer (λ m. let none = i.memory m in absurd (omega arith)) ∙ insert_answer-ok old.handles before small below in
-      (answer, rw answer at i.ok, rw answer at i.live)
+    -- an insert that finds room, below both limits
+    pub insert_gives : 0 < old.room → next_index old.handles < handle_limit → before.live < before.limit → (result ≡ Ok (next_index old.handles)) × (new.handles ≡ inserted old.handles e) × (after ≡ counted before)
+    insert_gives room small below =
+        let answer : result ≡ Ok (next_index old.handles) = i.answer (λ m. let none = i.memory m in absurd (omega arith)) ∙ insert_answer-ok old.handles before small below in
+        (answer, rw answer at i.ok, rw answer at i.live)

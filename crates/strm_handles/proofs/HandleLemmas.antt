@@ -50,13 +50,6 @@ module _ {E : Type 0} where
   le-sum_by f es zero p h = absurd (omega arith)
   le-sum_by f es (suc i) p h = get_or-le-sum_by f es i None (omega arith)
 
-  -- a number that stands for something is among the occupied
-  pub some-occupied : (h : HandlesOf E) (n : ℕ) (e : E) → entry_at h n ≡ Some e → 1 ≤ occupied h
-  some-occupied h n e is =
-      let g = given h.entries n e is in
-      let le = le-sum_by occupied_in h.entries n g.0 g.1 in
-      rw is at le
-
   IsFreed-with : (es : List (Option E)) (n k : ℕ) (x : Option E) → k ≢ n → IsFreed es k → IsFreed (entries_with es n x) k
   IsFreed-with es n k x ne f = record {
     some = f.some;
@@ -78,10 +71,6 @@ module _ {E : Type 0} where
   at_next : (es : List (Option E)) (ns : List ℕ) → IsTable (record { entries = es; freed = ns }) → entry_in es (next_of ns (length es)) ≡ None
   at_next es [] s = entry_in-past es (length es + 1) (omega arith)
   at_next es (n ∷ ns) s = (first_freed es n ns s.free).free
-
-  next_bounds : (es : List (Option E)) (ns : List ℕ) → IsTable (record { entries = es; freed = ns }) → (0 < next_of ns (length es)) × (next_of ns (length es) ≤ handle_limit)
-  next_bounds es [] s = (omega arith, omega (arith, s.small))
-  next_bounds es (n ∷ ns) s = let f = first_freed es n ns s.free in (f.some, omega (arith, f.given, s.small))
 
   inserted_same : (es : List (Option E)) (ns : List ℕ) (e : E) → IsTable (record { entries = es; freed = ns }) → entry_at (inserted_in es ns e) (next_of ns (length es)) ≡ Some e
   inserted_same es [] e s = entry_in-push-same es (length es + 1) (Some e) refl
@@ -164,18 +153,9 @@ module _ {E : Type 0} where
   pub IsTable-with_entry : (h : HandlesOf E) (n : ℕ) (old e : E) → entry_at h n ≡ Some old → IsTable h → IsTable (with_entry h n e)
   IsTable-with_entry h n old e is s = sound_with_entry h.entries h.freed n old e is s
 
-  -- a number that stands for something is none that is given next; all are from 1 to 2^28
+  -- a number that stands for something is none that is given next
   pub entry_at-next_index : (h : HandlesOf E) → IsTable h → entry_at h (next_index h) ≡ None
   entry_at-next_index h s = at_next h.entries h.freed s
-
-  pub some-next_index : (h : HandlesOf E) → IsTable h → 0 < next_index h
-  some-next_index h s = (next_bounds h.entries h.freed s).0
-
-  pub most-next_index : (h : HandlesOf E) → IsTable h → next_index h ≤ handle_limit
-  most-next_index h s = (next_bounds h.entries h.freed s).1
-
-  pub small-entry_at : (h : HandlesOf E) (n : ℕ) (e : E) → IsTable h → entry_at h n ≡ Some e → n < handle_limit
-  small-entry_at h n e s is = let g = given h.entries n e is in omega (arith, g.1, s.small)
 
   -- what each number stands for
   pub entry_at-inserted-same : (h : HandlesOf E) (e : E) → IsTable h → entry_at (inserted h e) (next_index h) ≡ Some e
@@ -197,19 +177,6 @@ module _ {E : Type 0} where
 
   pub entry_at-removed-other : (h : HandlesOf E) (n k : ℕ) → k ≢ n → entry_at (removed h n) k ≡ entry_at h k
   entry_at-removed-other h n k ne = entry_in-entries_with-other h.entries n k None ne
-
-  pub entry_at-with_entry-same : (h : HandlesOf E) (n : ℕ) (old e : E) → entry_at h n ≡ Some old → entry_at (with_entry h n e) n ≡ Some e
-  entry_at-with_entry-same h n old e is = let g = given h.entries n old is in entry_in-entries_with-same h.entries n (Some e) g.0 g.1
-
-  pub entry_at-with_entry-other : (h : HandlesOf E) (n k : ℕ) (e : E) → k ≢ n → entry_at (with_entry h n e) k ≡ entry_at h k
-  entry_at-with_entry-other h n k e ne = entry_in-entries_with-other h.entries n k (Some e) ne
-
-  -- the number given next
-  pub next_index-removed : (h : HandlesOf E) (n : ℕ) → next_index (removed h n) ≡ n
-  next_index-removed h n = refl
-
-  pub next_index-with_entry : (h : HandlesOf E) (n : ℕ) (e : E) → next_index (with_entry h n e) ≡ next_index h
-  next_index-with_entry h n e = ap (next_of h.freed) (length-entries_with h.entries n (Some e))
 
   -- how many are occupied
   pub occupied-inserted : (h : HandlesOf E) (e : E) → IsTable h → occupied (inserted h e) ≡ occupied h + 1
@@ -246,7 +213,3 @@ live_of-with_entry h n old e is =
     let g = given h.entries n old is in
     let lends : lends_in (entry_in h.entries n) ≡ lends_of old = ap lends_in is in
     omega (arith, occupied-with_entry h n old e is, sum_by-entries_with lends_in h.entries n (Some e) g.0 g.1, lends)
-
--- a number that stands for something is among the live, and so are its lends
-pub some-live_of : (h : Handles) (n : ℕ) (e : Entry) → entry_at h n ≡ Some e → 1 + lends_of e ≤ live_of h
-some-live_of h n e is = omega (arith, live_of-removed h n e is)

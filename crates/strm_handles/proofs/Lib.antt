@@ -2,3 +2,4 @@ pub mod HandleLemmas
 pub mod ChainLemmas
 pub mod ChangeLemmas
 pub mod LookupLemmas
+pub mod LiveLemmas

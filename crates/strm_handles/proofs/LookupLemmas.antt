@@ -1,16 +1,19 @@
 -- What a look-up of an end says of the number's entry, and back.
 use Rattle.std.proofs.Common.{◌≡◌, ℕ, ◌+◌, Bool, true, false, Option, Some, None, refl, sym, ap, ◌∙◌, arith}
-use Rattle.std.specs.Prelude.{Ok, Err, if◌then◌else◌}
+use Rattle.std.specs.Prelude.{Result, Ok, Err, IfOk, if◌then◌else◌}
 use Rattle.strm_codes.specs.declared.payloads.Payload.{Payload}
 use Rattle.strm_codes.specs.Sameness.{same_payload}
 use Rattle.strm_codes.proofs.SamenessLemmas.{Decides-same_payload}
 use Rattle.strm_handles.specs.declared.entries.Entry.{Entry}
 use Rattle.strm_handles.specs.declared.entries.Entry.TheVariants.{Stream, Future}
 use Rattle.strm_handles.specs.declared.entries.TransmitEnd.{TransmitEnd}
-use Rattle.strm_handles.specs.declared.errors.HandleError.TheVariants.{WrongType}
-use Rattle.strm_handles.specs.Handles.{Handles, entry_at, removed, live_of}
-use Rattle.strm_handles.specs.Lookups.{typed, stream_in, stream_of, future_in, future_of}
-use Rattle.strm_handles.proofs.HandleLemmas.{live_of-removed}
+use Rattle.strm_handles.specs.declared.errors.HandleError.{HandleError}
+use Rattle.strm_handles.specs.declared.errors.HandleError.TheVariants.{IndexOverflow, HandleLimit, WrongType}
+use Rattle.strm_handles.specs.Handles.{Handles, Table, entry_at, next_index, inserted, removed, live_of, IsTable}
+use Rattle.strm_handles.specs.Changes.{Inserts}
+use Rattle.strm_handles.specs.Counters.{Counter}
+use Rattle.strm_handles.specs.Lookups.{typed, stream_in, stream_of, stream_rep_of, future_in, future_of}
+use Rattle.strm_handles.proofs.HandleLemmas.{entry_at-inserted-same, live_of-removed}
 
 typed_cases : (b : Bool) (end found : TransmitEnd) → (if b then Ok end else Err WrongType) ≡ Ok found → (b ≡ true) × (end ≡ found)
 typed_cases true end found is = (refl, cc)
@@ -38,12 +41,25 @@ entry-stream_of h ty idx end is = stream_in-ok ty (entry_at h idx) end is
 pub entry-future_of : (h : Handles) (ty : Payload) (idx : ℕ) (end : TransmitEnd) → future_of h ty idx ≡ Ok end → (entry_at h idx ≡ Some (Future end)) × (end.ty ≡ ty)
 entry-future_of h ty idx end is = future_in-ok ty (entry_at h idx) end is
 
--- and back
+-- and back, of a stream's
 pub stream_of-entry : (h : Handles) (idx : ℕ) (end : TransmitEnd) → entry_at h idx ≡ Some (Stream end) → stream_of h end.ty idx ≡ Ok end
 stream_of-entry h idx end is = rw (is, (Decides-same_payload end.ty end.ty).1 refl) refl
 
-pub future_of-entry : (h : Handles) (idx : ℕ) (end : TransmitEnd) → entry_at h idx ≡ Some (Future end) → future_of h end.ty idx ≡ Ok end
-future_of-entry h idx end is = rw (is, (Decides-same_payload end.ty end.ty).1 refl) refl
+-- the end inserted last is found by its number
+pub stream_of-inserted : (h : Handles) (end : TransmitEnd) → IsTable h → stream_of (inserted h (Stream end)) end.ty (next_index h) ≡ Ok end
+stream_of-inserted h end s = stream_of-entry (inserted h (Stream end)) (next_index h) end (entry_at-inserted-same h (Stream end) s)
+
+answered : (over full : Bool) (m n : ℕ) → (if over then Err IndexOverflow else (if full then Err HandleLimit else Ok m)) ≡ Ok n → m ≡ n
+answered true full m n is = cc
+answered false true m n is = cc
+answered false false m n is = cc
+
+-- what an insert of a stream's end answers finds that end from then on
+pub stream_rep_of-inserts : (old new : Table) (before after : Counter) (end : TransmitEnd) (r : Result ℕ HandleError) → IsTable old.handles → Inserts old new before after (Stream end) r → IfOk r (λ n. stream_rep_of new.handles end.ty n ≡ Ok (end.rep, end.state))
+stream_rep_of-inserts old new before after end (Err x) s i = tt
+stream_rep_of-inserts old new before after end (Ok n) s i =
+    let number : next_index old.handles ≡ n = answered _ _ _ n (sym (i.answer (λ e. cc))) in
+    rw (i.ok, ← number, stream_of-inserted old.handles end s) refl
 
 -- an end has no lends
 pub live_of-removed-stream : (h : Handles) (ty : Payload) (idx : ℕ) (end : TransmitEnd) → stream_of h ty idx ≡ Ok end → live_of (removed h idx) + 1 ≡ live_of h

@@ -27,7 +27,6 @@ module _ {E : Type 0} where
   chain slots (suc n) i = suc i ∷ chain slots n (before (slot_at slots i))
 
   -- the handles that the slots keep
-  -- the handles that the slots are
   abbrev pub handles_in : List (Slot E) → ℕ → ℕ → HandlesOf E
   handles_in slots free first = record { entries = map entry_of slots; freed = chain slots free first }
 

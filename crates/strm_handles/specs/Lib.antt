@@ -5,3 +5,4 @@ pub mod Changes
 pub mod Lookups
 pub mod Ends
 pub mod Lends
+pub mod Live

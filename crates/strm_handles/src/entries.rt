@@ -3,7 +3,7 @@
 //! Source: wasmtime, `handle_table.rs`, `Slot`, `TypedResource`, `TypedResourceIndex`,
 //! `TransmitLocalState`, `RemovedResource`, `Waitable`; Canonical ABI, "Table State".
 
-ghost use Rattle.std.specs.Prelude.{◌≡◌};
+ghost use Rattle.std.specs.Prelude.{◌≡◌, Ok, Err, IfOk, IfErr};
 
 use crate::errors::HandleError;
 use strm_codes::payloads::Payload;
@@ -31,6 +31,7 @@ impl TypedResource {
         TypedResource { ty, rep }
     }
 
+    #[inline(always)]
     pub(crate) fn typed_rep(&self, ty: u32) -> Result<u32, HandleError>
         ensures { result ≡ typed_rep ty self.now }
     {
@@ -79,6 +80,7 @@ impl TransmitLocalState {
     ghost use Rattle.strm_handles.specs.Ends.{readable, writable};
 
     /// Whether an idle read end is done.
+    #[inline(always)]
     pub(crate) fn readable(&self) -> Result<bool, HandleError>
         ensures { result ≡ readable self.now }
     {
@@ -90,6 +92,7 @@ impl TransmitLocalState {
     }
 
     /// Whether an idle write end is done.
+    #[inline(always)]
     pub(crate) fn writable(&self) -> Result<bool, HandleError>
         ensures { result ≡ writable self.now }
     {
@@ -114,6 +117,7 @@ impl TransmitEnd {
     ghost use Rattle.strm_handles.specs.Lookups.{typed};
 
     /// A new read end.
+    #[inline(always)]
     pub(crate) fn read(ty: Payload, rep: u32) -> TransmitEnd
         ensures { result ≡ read_end ty rep }
     {
@@ -125,6 +129,7 @@ impl TransmitEnd {
     }
 
     /// A new write end.
+    #[inline(always)]
     pub(crate) fn write(ty: Payload, rep: u32) -> TransmitEnd
         ensures { result ≡ write_end ty rep }
     {
@@ -135,10 +140,20 @@ impl TransmitEnd {
         }
     }
 
-    pub(crate) fn typed(self, ty: Payload) -> Result<TransmitEnd, HandleError>
-        ensures { result ≡ typed ty self }
+    #[inline(always)]
+    pub(crate) fn typed(&self, ty: &Payload) -> Result<&TransmitEnd, HandleError>
+        ensures ok { IfOk result (λ end. typed ty.now self.now ≡ Ok end.now) }
+        ensures err { IfErr result (λ e. typed ty.now self.now ≡ Err e) }
     {
-        if self.ty == ty {
+        let same = match (&self.ty, ty) {
+            (Payload::One(mine), Payload::One(other)) => mine == other,
+            // A copy, so that only tuples go through memory.
+            (_, other) => {
+                let other = *other;
+                self.ty == other
+            }
+        };
+        if same {
             Ok(self)
         } else {
             Err(HandleError::WrongType)

@@ -7,8 +7,7 @@
 pub mod counters;
 pub mod entries;
 pub mod errors;
+pub mod laws;
 mod slots;
 pub mod tables;
-#[cfg(test)]
-mod tests;
 pub mod threads;

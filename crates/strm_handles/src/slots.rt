@@ -2,7 +2,7 @@
 //!
 //! Source: wasmtime, `handle_table.rs`, `HandleTable::insert` and `remove`.
 
-ghost use Rattle.std.specs.Prelude.{◌≡◌, ◌+◌, ◌^◌, ◌<◌, ◌≤◌, ◌↔◌, IsTrue, IsSome, OnOk, OnErr, IfErr, Err};
+ghost use Rattle.std.specs.Prelude.{◌≡◌, ◌+◌, ◌^◌, ◌<◌, ◌≤◌, ◌↔◌, IsTrue, IsSome, OnOk, OnErr, IfErr, Err, option_copied, length};
 ghost use Rattle.strm_handles.specs.Handles.{no_handles, next_index, entry_at, inserted, removed, with_entry, occupied, IsTable};
 ghost use Rattle.strm_handles.specs.Changes.{Inserts};
 ghost use Rattle.strm_handles.specs.Counters.{uncounted};
@@ -46,7 +46,8 @@ impl<E> Model for Slots<E> {
 
 impl<E: Copy> Slots<E> {
     pub(crate) fn new(alloc: Global) -> Slots<E>
-        ensures { result.handles ≡ no_handles }
+        ensures handles { result.handles ≡ no_handles }
+        ensures room { result.room ≡ 0 }
     {
         Slots {
             slots: Vec::new(alloc),
@@ -68,6 +69,7 @@ impl<E: Copy> Slots<E> {
     }
 
     /// The number that the next insert gives.
+    #[inline(always)]
     pub(crate) fn next_index(&self) -> u32
         ensures exact { result ≡ next_index self.now.handles }
         ensures some { 0 < result }
@@ -113,24 +115,47 @@ impl<E: Copy> Slots<E> {
     }
 
     /// What a number stands for.
-    pub(crate) fn get(&self, number: u32) -> Option<E>
-        ensures { result ≡ entry_at self.now.handles number }
+    #[inline(always)]
+    pub(crate) fn get(&self, number: u32) -> Option<&E>
+        ensures { option_copied result ≡ entry_at self.now.handles number }
     {
-        if number == 0 || number as usize > self.slots.len() {
+        // One test for both: 0 leads past every slot.
+        let index = number.wrapping_sub(1) as usize;
+        if index >= self.slots.len() {
             return None;
         }
-        match self.slots[number as usize - 1] {
+        match &self.slots[index] {
             Slot::Free(_) => None,
             Slot::Full(entry) => Some(entry),
         }
     }
 
     /// Adds an entry, and counts it.
+    #[inline(always)]
     pub(crate) fn insert(
         &mut self,
         counter: &mut HandleCounter,
         entry: E,
     ) -> Result<u32, HandleError>
+        ensures { Inserts self.old self.new counter.old counter.new entry result }
+    {
+        if self.free == 0 {
+            // A copy, so that the entry goes through memory here alone.
+            let copy = entry;
+            return self.append(counter, copy);
+        }
+        if counter.is_full() {
+            return Err(HandleError::HandleLimit);
+        }
+        let number = self.refill(entry);
+        counter.count();
+        Ok(number)
+    }
+
+    // Adds an entry in a new slot, apart from the code of an insert in a freed one.
+    #[inline(never)]
+    fn append(&mut self, counter: &mut HandleCounter, entry: E) -> Result<u32, HandleError>
+        requires { length self.old.handles.freed ≡ 0 }
         ensures { Inserts self.old self.new counter.old counter.new entry result }
     {
         let number = self.next_index();
@@ -140,42 +165,38 @@ impl<E: Copy> Slots<E> {
         if counter.is_full() {
             return Err(HandleError::HandleLimit);
         }
-        self.place(entry)?;
+        if self.slots.reserve(1).is_err() {
+            return Err(HandleError::OutOfMemory);
+        }
+        self.slots.push_reserved(Slot::Full(entry));
         counter.count();
         Ok(number)
     }
 
-    fn place(&mut self, entry: E) -> Result<(), HandleError>
-        requires { next_index self.old.handles < MAX_HANDLE }
-        ensures ok { OnOk result (self.new.handles ≡ inserted self.old.handles entry) }
-        ensures room { self.old.room ≤ self.new.room + 1 }
-        ensures err { OnErr result (self.new ≡ self.old) }
-        ensures memory { OnErr result (self.old.room ≡ 0) }
-        ensures errors { IfErr result (λ e. e ≡ HandleError.OutOfMemory) }
+    // Puts an entry in the slot that was freed last: its number.
+    #[inline(always)]
+    fn refill(&mut self, entry: E) -> u32
+        requires { 0 < length self.old.handles.freed }
+        ensures number { result ≡ next_index self.old.handles }
+        ensures some { 0 < result }
+        ensures small { result < MAX_HANDLE }
+        ensures handles { self.new.handles ≡ inserted self.old.handles entry }
+        ensures room { self.old.room ≡ self.new.room + 1 }
     {
-        if self.free == 0 {
-            match self.slots.reserve(1) {
-                Ok(()) => {
-                    self.slots.push_reserved(Slot::Full(entry));
-                    Ok(())
-                }
-                Err(_) => Err(HandleError::OutOfMemory),
+        let at = self.first;
+        match self.slots[at as usize] {
+            Slot::Free(next) => {
+                self.slots[at as usize] = Slot::Full(entry);
+                self.first = next;
+                self.free -= 1;
+                at + 1
             }
-        } else {
-            let at = self.first as usize;
-            match self.slots[at] {
-                Slot::Free(next) => {
-                    self.slots[at] = Slot::Full(entry);
-                    self.first = next;
-                    self.free -= 1;
-                    Ok(())
-                }
-                Slot::Full(_) => unreachable!(),
-            }
+            Slot::Full(_) => unreachable!(),
         }
     }
 
     /// Puts another entry in a number's place.
+    #[inline(always)]
     pub(crate) fn change(&mut self, number: u32, entry: E)
         requires { IsSome (entry_at self.old.handles number) }
         ensures handles { self.new.handles ≡ with_entry self.old.handles number entry }
@@ -185,6 +206,7 @@ impl<E: Copy> Slots<E> {
     }
 
     /// Frees a number, which is given first from now on.
+    #[inline(always)]
     pub(crate) fn remove(&mut self, counter: &mut HandleCounter, number: u32)
         requires here { IsSome (entry_at self.old.handles number) }
         requires live { occupied self.old.handles ≤ counter.old.live }

@@ -33,7 +33,8 @@ impl Model for HandleTable {
 impl HandleTable {
     /// An empty table, which takes no memory.
     pub fn new(alloc: Global) -> HandleTable
-        ensures { result.handles ≡ no_handles }
+        ensures empty { result.handles ≡ no_handles }
+        ensures room { result.room ≡ 0 }
     {
         HandleTable {
             slots: Slots::new(alloc),

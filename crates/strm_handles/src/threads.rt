@@ -31,7 +31,8 @@ impl Model for ThreadHandleTable {
 impl ThreadHandleTable {
     /// An empty table, which takes no memory.
     pub fn new(alloc: Global) -> ThreadHandleTable
-        ensures { result.handles ≡ no_handles }
+        ensures empty { result.handles ≡ no_handles }
+        ensures room { result.room ≡ 0 }
     {
         ThreadHandleTable {
             slots: Slots::new(alloc),
@@ -61,7 +62,10 @@ impl ThreadHandleTable {
         ensures answer { result ≡ guest_thread_rep_of self.now.handles idx }
         ensures here { OnOk result (IsSome (entry_at self.now.handles idx)) }
     {
-        self.slots.get(idx).ok_or(HandleError::UnknownHandle)
+        match self.slots.get(idx) {
+            Some(rep) => Ok(*rep),
+            None => Err(HandleError::UnknownHandle),
+        }
     }
 
     /// Removes a thread: its number.

@@ -94,8 +94,16 @@ is_vacant-changed change nodes at number =
     ap (λ n. nat_lt number n && is_none (node_at (changed change nodes at) number)) (length-changed change nodes at)
     ∙ ap (λ b. nat_lt number (length nodes) && not b) (is_some-changed change nodes at number)
 
+-- a change that keeps a node's parent
+abbrev KeepsParent : (Node → Node) → Type 0
+KeepsParent change = (node : Node) → (change node).parent ≡ node.parent
+
+-- a number that has a node
+abbrev IsPresent : List (Option Node) → ℕ → Type 0
+IsPresent nodes number = is_some (node_at nodes number) ≡ true
+
 -- the parents after a link
-parent_at-relinked : (change : Node → Node) → ((node : Node) → (change node).parent ≡ node.parent) → (parent : Option ℕ) (nodes : List (Option Node)) (child other number : ℕ) → is_some (node_at nodes child) ≡ true → parent_at (changed (with_parent parent) (changed change nodes other) child) number ≡ cond (nat_eq number child) parent (parent_at nodes number)
+parent_at-relinked : (change : Node → Node) → KeepsParent change → (parent : Option ℕ) (nodes : List (Option Node)) (child other at : ℕ) → IsPresent nodes child → parent_at (changed (with_parent parent) (changed change nodes other) child) at ≡ cond (nat_eq at child) parent (parent_at nodes at)
 parent_at-relinked change keeps parent nodes child other number there =
     let inner = changed change nodes other in
     let kept : parent_at inner number ≡ parent_at nodes number =
@@ -126,8 +134,16 @@ has-without_child nodes child parent at number =
     ap (λ o. set.contains (children_of o) number) (node_at-changed (without_child child) nodes parent at)
     ∙ has-less child number (nat_eq at parent) (node_at nodes at)
 
+-- the number is a child of the other one
+abbrev has_child : List (Option Node) → ℕ → ℕ → Bool
+has_child nodes at number = set.contains (children_at nodes at) number
+
+-- the child link and the parent link are both there, or neither
+abbrev IsTied : List (Option Node) → ℕ → ℕ → Type 0
+IsTied nodes at number = has_child nodes at number ≡ is_number (parent_at nodes number) at
+
 -- a link more, in both directions
-link_both_ways : (nodes : List (Option Node)) (child parent at number : ℕ) → parent_at nodes child ≡ None → set.contains (children_at nodes at) number ≡ is_number (parent_at nodes number) at → ((nat_eq at parent && nat_eq number child) || set.contains (children_at nodes at) number) ≡ is_number (cond (nat_eq number child) (Some parent) (parent_at nodes number)) at
+link_both_ways : (nodes : List (Option Node)) (child parent at number : ℕ) → parent_at nodes child ≡ None → IsTied nodes at number → ((nat_eq at parent && nat_eq number child) || has_child nodes at number) ≡ is_number (cond (nat_eq number child) (Some parent) (parent_at nodes number)) at
 link_both_ways nodes child parent at number loose old =
     by_eq number child (λ t. ((nat_eq at parent && t) || set.contains (children_at nodes at) number) ≡ is_number (cond t (Some parent) (parent_at nodes number)) at)
     (λ same.
@@ -136,7 +152,7 @@ link_both_ways nodes child parent at number loose old =
     (λ apart. and-none (nat_eq at parent) _ ∙ old)
 
 -- a link less, in both directions
-unlink_both_ways : (nodes : List (Option Node)) (child parent at number : ℕ) → parent_at nodes child ≡ Some parent → set.contains (children_at nodes at) number ≡ is_number (parent_at nodes number) at → (not (nat_eq at parent && nat_eq number child) && set.contains (children_at nodes at) number) ≡ is_number (cond (nat_eq number child) None (parent_at nodes number)) at
+unlink_both_ways : (nodes : List (Option Node)) (child parent at number : ℕ) → parent_at nodes child ≡ Some parent → IsTied nodes at number → (not (nat_eq at parent && nat_eq number child) && has_child nodes at number) ≡ is_number (cond (nat_eq number child) None (parent_at nodes number)) at
 unlink_both_ways nodes child parent at number tied old =
     by_eq number child (λ t. (not (nat_eq at parent && t) && set.contains (children_at nodes at) number) ≡ is_number (cond t None (parent_at nodes number)) at)
     (λ same.
@@ -211,13 +227,6 @@ some-present (Some node) e = refl
 pub present_inside : (nodes : List (Option Node)) (number : ℕ) → is_some (node_at nodes number) ≡ true → number < length nodes
 present_inside nodes number there =
     ⊎_elim (λ below. below) (λ above. absurd (true≢false (sym there ∙ ap is_some (get_or_past nodes number None above)))) (cases_lt number (length nodes))
-
-pub length-cut : (nodes : List (Option Node)) (child : ℕ) → length (cut nodes child) ≡ length nodes
-length-cut nodes child = by (parent_at nodes child)
-  where
-    by : (o : Option ℕ) → length (cut_from nodes child o) ≡ length nodes
-    by None = refl
-    by (Some parent) = length-changed (with_parent None) _ child ∙ length-changed (without_child child) nodes parent
 
 pub is_some-cut : (nodes : List (Option Node)) (child number : ℕ) → is_some (node_at (cut nodes child) number) ≡ is_some (node_at nodes number)
 is_some-cut nodes child number = by (parent_at nodes child)
@@ -315,7 +324,24 @@ lt_more a b other = ⊎_elim
     (λ above. le-ltb a (b + 1) (omega arith) ∙ sym (le-ltb a b above))
     (cases_lt a b)
 
-vacant-filled : (nodes : List (Option Node)) (freed : List ℕ) (node : Node) → ((number : ℕ) → is_among freed number ≡ is_vacant nodes number) → IsDistinct nat_eq freed → (freed ≢ [] → next_of freed (length nodes) < length nodes) → (number : ℕ) → is_among (drop 1 freed) number ≡ is_vacant (filled freed nodes node) number
+-- the freed numbers are those without a node
+abbrev AreVacant : List (Option Node) → List ℕ → Type 0
+AreVacant nodes freed = (number : ℕ) → is_among freed number ≡ is_vacant nodes number
+
+-- the next number, where it was freed, is below the length
+abbrev NextIsInside : List (Option Node) → List ℕ → Type 0
+NextIsInside nodes freed = freed ≢ [] → next_of freed (length nodes) < length nodes
+
+-- the next number has no node
+abbrev NextIsVacant : List (Option Node) → List ℕ → Type 0
+NextIsVacant nodes freed = node_at nodes (next_of freed (length nodes)) ≡ None
+
+-- the links are tied as they are once the next number has this parent
+abbrev KnowsNext : List (Option Node) → List ℕ → Option ℕ → Type 0
+KnowsNext nodes freed parent =
+    (child at : ℕ) → has_child nodes at child ≡ is_number (cond (nat_eq child (next_of freed (length nodes))) parent (parent_at nodes child)) at
+
+vacant-filled : (nodes : List (Option Node)) (freed : List ℕ) (node : Node) → AreVacant nodes freed → IsDistinct nat_eq freed → NextIsInside nodes freed → (number : ℕ) → is_among (drop 1 freed) number ≡ is_vacant (filled freed nodes node) number
 vacant-filled nodes [] node vacant apart inside number =
     by_eq number (length nodes) (λ t. false ≡ (nat_lt number (length nodes + 1) && is_none (cond t (Some node) (node_at nodes number))))
     (λ same. sym (and-false _))
@@ -334,7 +360,7 @@ distinct-drop [] apart = apart
 distinct-drop (first ∷ freed) apart = IsDistinct-tail nat_eq first freed apart
 
 -- a number given with a parent, or none, where the children know of it already
-AreKept-given : (nodes : List (Option Node)) (freed : List ℕ) (parent : Option ℕ) → ((number : ℕ) → is_among freed number ≡ is_vacant nodes number) → IsDistinct nat_eq freed → (freed ≢ [] → next_of freed (length nodes) < length nodes) → node_at nodes (next_of freed (length nodes)) ≡ None → ((child at : ℕ) → set.contains (children_at nodes at) child ≡ is_number (cond (nat_eq child (next_of freed (length nodes))) parent (parent_at nodes child)) at) → AreKept (filled freed nodes (new_node parent)) (drop 1 freed)
+AreKept-given : (nodes : List (Option Node)) (freed : List ℕ) (parent : Option ℕ) → AreVacant nodes freed → IsDistinct nat_eq freed → NextIsInside nodes freed → NextIsVacant nodes freed → KnowsNext nodes freed parent → AreKept (filled freed nodes (new_node parent)) (drop 1 freed)
 AreKept-given nodes freed parent vacant apart inside lacks links =
     let next = next_of freed (length nodes) in
     record {

@@ -18,7 +18,7 @@ pub record Table (V : Type 0) : Type 0 where
   pub capacity : ℕ
   pub room : ℕ
 
--- both are stored as the tuples of their fields
+-- entries are stored as the tuple of their fields
 abbrev pub entries_code : {V : Type 0} → Coded V → Coded (Entries V)
 entries_code {V} code =
     code_by
@@ -30,6 +30,7 @@ entries_code {V} code =
     (λ p. record { values = p.0; nodes = p.1.0; freed = p.1.1 })
     (λ _. refl)
 
+-- and so are tables
 abbrev pub table_code : {V : Type 0} → Coded V → Coded (Table V)
 table_code {V} code =
     code_by

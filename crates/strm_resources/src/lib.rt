@@ -8,6 +8,4 @@ mod nodes;
 mod prints;
 mod slots;
 pub mod tables;
-#[cfg(test)]
-mod tests;
 pub mod walks;

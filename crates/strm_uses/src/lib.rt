@@ -4,4 +4,5 @@
 #![tactic(auto)]
 
 pub mod handles;
+pub mod resources;
 pub mod transmit;

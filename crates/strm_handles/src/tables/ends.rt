@@ -2,7 +2,7 @@
 //!
 //! Source: wasmtime, `handle_table.rs`; setting a state is ours, where wasmtime lends the state.
 
-ghost use Rattle.std.specs.Prelude.{◌≡◌, ◌≤◌, IsSome, IfOk, OnOk, OnErr};
+ghost use Rattle.std.specs.Prelude.{◌≡◌, ◌≤◌, IsSome, Ok, Err, IfOk, IfErr, OnOk, OnErr};
 ghost use Rattle.std.specs.Result.{ForOk};
 ghost use Rattle.strm_handles.specs.Handles.{entry_at, with_entry, live_of};
 ghost use Rattle.strm_handles.specs.Changes.{Inserts, Removes};
@@ -72,8 +72,10 @@ impl HandleTable {
             .insert(counter, Entry::Future(TransmitEnd::write(ty, rep)))
     }
 
-    fn stream(&self, ty: Payload, idx: u32) -> Result<TransmitEnd, HandleError>
-        ensures answer { result ≡ stream_of self.now.handles ty idx }
+    #[inline(always)]
+    fn stream(&self, ty: &Payload, idx: u32) -> Result<&TransmitEnd, HandleError>
+        ensures ok { IfOk result (λ end. stream_of self.now.handles ty.now idx ≡ Ok end.now) }
+        ensures err { IfErr result (λ e. stream_of self.now.handles ty.now idx ≡ Err e) }
         ensures here { OnOk result (IsSome (entry_at self.now.handles idx)) }
     {
         match self.slots.get(idx) {
@@ -83,8 +85,10 @@ impl HandleTable {
         }
     }
 
-    fn future(&self, ty: Payload, idx: u32) -> Result<TransmitEnd, HandleError>
-        ensures answer { result ≡ future_of self.now.handles ty idx }
+    #[inline(always)]
+    fn future(&self, ty: &Payload, idx: u32) -> Result<&TransmitEnd, HandleError>
+        ensures ok { IfOk result (λ end. future_of self.now.handles ty.now idx ≡ Ok end.now) }
+        ensures err { IfErr result (λ e. future_of self.now.handles ty.now idx ≡ Err e) }
         ensures here { OnOk result (IsSome (entry_at self.now.handles idx)) }
     {
         match self.slots.get(idx) {
@@ -102,7 +106,7 @@ impl HandleTable {
     ) -> Result<(u32, TransmitLocalState), HandleError>
         ensures { result ≡ stream_rep_of self.now.handles ty idx }
     {
-        let end = self.stream(ty, idx)?;
+        let end = self.stream(&ty, idx)?;
         Ok((end.rep, end.state))
     }
 
@@ -114,7 +118,7 @@ impl HandleTable {
     ) -> Result<(u32, TransmitLocalState), HandleError>
         ensures { result ≡ future_rep_of self.now.handles ty idx }
     {
-        let end = self.future(ty, idx)?;
+        let end = self.future(&ty, idx)?;
         Ok((end.rep, end.state))
     }
 
@@ -145,9 +149,11 @@ impl HandleTable {
         ensures room { self.new.room ≡ self.old.room }
         ensures err { OnErr result (self.new ≡ self.old) }
     {
-        let end = self.stream(ty, idx)?;
-        self.slots
-            .change(idx, Entry::Stream(TransmitEnd { state, ..end }));
+        let end = TransmitEnd {
+            state,
+            ..*self.stream(&ty, idx)?
+        };
+        self.slots.change(idx, Entry::Stream(end));
         Ok(())
     }
 
@@ -166,9 +172,11 @@ impl HandleTable {
         ensures room { self.new.room ≡ self.old.room }
         ensures err { OnErr result (self.new ≡ self.old) }
     {
-        let end = self.future(ty, idx)?;
-        self.slots
-            .change(idx, Entry::Future(TransmitEnd { state, ..end }));
+        let end = TransmitEnd {
+            state,
+            ..*self.future(&ty, idx)?
+        };
+        self.slots.change(idx, Entry::Future(end));
         Ok(())
     }
 
@@ -183,10 +191,10 @@ impl HandleTable {
         ensures answer { result ≡ stream_readable_of self.old.handles ty idx }
         ensures removes { Removes self.old self.new counter.old counter.new idx result }
     {
-        let end = self.stream(ty, idx)?;
-        let done = end.state.readable()?;
+        let end = self.stream(&ty, idx)?;
+        let (rep, done) = (end.rep, end.state.readable()?);
         self.slots.remove(counter, idx);
-        Ok((end.rep, done))
+        Ok((rep, done))
     }
 
     /// Removes the idle write end of a stream: its number.
@@ -200,10 +208,11 @@ impl HandleTable {
         ensures answer { result ≡ stream_writable_of self.old.handles ty idx }
         ensures removes { Removes self.old self.new counter.old counter.new idx result }
     {
-        let end = self.stream(ty, idx)?;
+        let end = self.stream(&ty, idx)?;
+        let rep = end.rep;
         end.state.writable()?;
         self.slots.remove(counter, idx);
-        Ok(end.rep)
+        Ok(rep)
     }
 
     /// Removes the idle read end of a future: its number, and whether the end is done.
@@ -217,10 +226,10 @@ impl HandleTable {
         ensures answer { result ≡ future_readable_of self.old.handles ty idx }
         ensures removes { Removes self.old self.new counter.old counter.new idx result }
     {
-        let end = self.future(ty, idx)?;
-        let done = end.state.readable()?;
+        let end = self.future(&ty, idx)?;
+        let (rep, done) = (end.rep, end.state.readable()?);
         self.slots.remove(counter, idx);
-        Ok((end.rep, done))
+        Ok((rep, done))
     }
 
     /// Removes the idle write end of a future: its number, and whether the end is done.
@@ -234,9 +243,9 @@ impl HandleTable {
         ensures answer { result ≡ future_writable_of self.old.handles ty idx }
         ensures removes { Removes self.old self.new counter.old counter.new idx result }
     {
-        let end = self.future(ty, idx)?;
-        let done = end.state.writable()?;
+        let end = self.future(&ty, idx)?;
+        let (rep, done) = (end.rep, end.state.writable()?);
         self.slots.remove(counter, idx);
-        Ok((end.rep, done))
+        Ok((rep, done))
     }
 }

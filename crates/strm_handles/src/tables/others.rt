@@ -31,7 +31,7 @@ impl HandleTable {
         ensures here { OnOk result (IsSome (entry_at self.now.handles idx)) }
     {
         match self.slots.get(idx) {
-            Some(Entry::ErrorContext { rep }) => Ok(rep),
+            Some(Entry::ErrorContext { rep }) => Ok(*rep),
             Some(_) => Err(HandleError::WrongKind),
             None => Err(HandleError::UnknownHandle),
         }
@@ -89,7 +89,7 @@ impl HandleTable {
         ensures here { OnOk result (IsSome (entry_at self.now.handles idx)) }
     {
         match self.slots.get(idx) {
-            Some(Entry::Subtask { rep, is_host }) => Ok((rep, is_host)),
+            Some(Entry::Subtask { rep, is_host }) => Ok((*rep, *is_host)),
             Some(_) => Err(HandleError::WrongKind),
             None => Err(HandleError::UnknownHandle),
         }
@@ -128,7 +128,7 @@ impl HandleTable {
         ensures here { OnOk result (IsSome (entry_at self.now.handles idx)) }
     {
         match self.slots.get(idx) {
-            Some(Entry::WaitableSet { rep }) => Ok(rep),
+            Some(Entry::WaitableSet { rep }) => Ok(*rep),
             Some(_) => Err(HandleError::WrongKind),
             None => Err(HandleError::UnknownHandle),
         }
@@ -154,7 +154,10 @@ impl HandleTable {
         ensures { result ≡ waitable_rep_of self.now.handles idx }
     {
         match self.slots.get(idx) {
-            Some(Entry::Subtask { rep, is_host }) => Ok((rep, Waitable::Subtask { is_host })),
+            Some(Entry::Subtask { rep, is_host }) => Ok((
+                *rep,
+                Waitable::Subtask { is_host: *is_host },
+            )),
             Some(Entry::Future(end)) => Ok((end.rep, Waitable::Future)),
             Some(Entry::Stream(end)) => Ok((end.rep, Waitable::Stream)),
             Some(_) => Err(HandleError::WrongKind),

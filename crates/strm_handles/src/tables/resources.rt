@@ -82,6 +82,7 @@ impl HandleTable {
                     lend_count,
                 },
             ) => {
+                let (resource, lend_count) = (*resource, *lend_count);
                 let rep = resource.typed_rep(idx.ty)?;
                 if lend_count == u32::MAX {
                     return Err(HandleError::TooManyLends);
@@ -131,7 +132,7 @@ impl HandleTable {
                     lend_count,
                 },
             ) => {
-                let lend_count = lend_count - 1;
+                let (resource, lend_count) = (*resource, *lend_count - 1);
                 self.slots.change(
                     idx.index,
                     Entry::ResourceOwn {
@@ -173,7 +174,7 @@ impl HandleTable {
                     lend_count,
                 },
             ) => {
-                if lend_count != 0 {
+                if *lend_count != 0 {
                     return Err(HandleError::Lent);
                 }
                 let rep = resource.typed_rep(idx.ty)?;
@@ -181,7 +182,7 @@ impl HandleTable {
             }
             Some(Entry::ResourceBorrow { resource, scope }) => {
                 resource.typed_rep(idx.ty)?;
-                Ok(RemovedResource::Borrow { scope })
+                Ok(RemovedResource::Borrow { scope: *scope })
             }
             Some(_) => Err(HandleError::WrongKind),
             None => Err(HandleError::UnknownHandle),

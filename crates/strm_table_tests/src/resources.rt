@@ -3,12 +3,12 @@
 ghost use Rattle.std.specs.Prelude.{◌≡◌, OnOk, OnErr};
 ghost use Rattle.strm_resources.specs.Entries.{with_value};
 
-use crate::errors::ResourceTableError;
-use crate::kinds::{Resident, Tag};
-use crate::tables::ResourceTable;
 use std::alloc::Global;
 use std::test::Fail;
 use strm_codes::ids::Resource;
+use strm_resources::errors::ResourceTableError;
+use strm_resources::kinds::{Resident, Tag};
+use strm_resources::tables::ResourceTable;
 
 #[derive(Clone, Copy, Debug, PartialEq, Eq)]
 struct Item {

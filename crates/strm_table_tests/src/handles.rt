@@ -1,15 +1,15 @@
 //! The tables by example.
 
-use crate::counters::HandleCounter;
-use crate::entries::{
-    RemovedResource, Scope, TransmitLocalState, TypedResource, TypedResourceIndex, Waitable,
-};
-use crate::errors::HandleError;
-use crate::tables::HandleTable;
-use crate::threads::ThreadHandleTable;
 use std::test::Fail;
 use strm_codes::payloads::Payload;
 use strm_codes::scalars::Scalar;
+use strm_handles::counters::HandleCounter;
+use strm_handles::entries::{
+    RemovedResource, Scope, TransmitLocalState, TypedResource, TypedResourceIndex, Waitable,
+};
+use strm_handles::errors::HandleError;
+use strm_handles::tables::HandleTable;
+use strm_handles::threads::ThreadHandleTable;
 
 const BYTES: Payload = Payload::One(Scalar::U8);
 
