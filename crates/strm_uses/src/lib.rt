@@ -4,3 +4,4 @@
 #![tactic(auto)]
 
 pub mod handles;
+pub mod memory;
