@@ -118,29 +118,3 @@ pub fn words_tell_codes()
     ensures injective { (code other : ReturnCode) → count_of code < count_limit → count_of other < count_limit →
         word_of code ≡ word_of other → code ≡ other }
 {}
-
-#[cfg(test)]
-mod tests {
-    use super::*;
-    use std::test::Fail;
-
-    fn words(count: u32) -> [u32; 3] {
-        let Ok(count) = ItemCount::new(count) else {
-            return [0, 0, 0];
-        };
-        [
-            ReturnCode::Completed(count).encode(),
-            ReturnCode::Dropped(count).encode(),
-            ReturnCode::Cancelled(count).encode(),
-        ]
-    }
-
-    #[test]
-    fn codes_are_words(rt: HostRuntime) -> Result<(), Fail> {
-        assert_eq!(rt; words(3)[0], 0x30);
-        assert_eq!(rt; words(2)[1], 0x21);
-        assert_eq!(rt; words(0)[2], 2);
-        assert_eq!(rt; ReturnCode::Blocked.encode(), 0xffff_ffff);
-        Ok(())
-    }
-}

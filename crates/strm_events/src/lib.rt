@@ -5,5 +5,3 @@
 #![tactic(auto)]
 
 pub mod reports;
-#[cfg(test)]
-mod tests;

@@ -6,6 +6,7 @@
 
 ghost use Rattle.std.specs.Prelude.{◌≡◌, ◌+◌, ◌*◌, ◌<◌, ◌≤◌, ◌++◌, ◌↔◌, length, take, drop, is_some, IsTrue, IsNone, IsSomeAnd, IsOk, IsErr, OnOk, OnErr};
 ghost use Rattle.strm_codes.specs.Layout.{scalars_of, item_size};
+ghost use Rattle.strm_memory.specs.Bytes.{put_at, bytes_at};
 ghost use Rattle.strm_memory.specs.Items.{items, stored, items_at, stored_at, is_number_or_none};
 ghost use Rattle.strm_memory.specs.Copies.{copied};
 
@@ -54,6 +55,8 @@ pub(crate) fn copy_region(
     ensures bad { IsErr result ↔ IsNone (items_at (scalars_of payload) source.now from count) }
     ensures err { OnErr result (destination.new ≡ destination.old) }
     ensures number_or_none { IsTrue (is_number_or_none payload) → IsOk result }
+    ensures numbers { IsTrue (is_number_or_none payload) → destination.new ≡ put_at destination.old to
+        (bytes_at source.now from (item_size (scalars_of payload) * count)) }
 {
     let size = payload.size() as usize;
     let count = count.as_usize();

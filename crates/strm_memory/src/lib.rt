@@ -12,5 +12,3 @@ pub mod laws;
 pub mod memories;
 pub mod moves;
 mod numbers;
-#[cfg(test)]
-mod tests;

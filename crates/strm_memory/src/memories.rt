@@ -156,6 +156,8 @@ impl GuestMemory {
         ensures bad { IsErr result ↔ IsNone (items_at (scalars_of payload) source.now from count) }
         ensures err { OnErr result (self.new ≡ self.old) }
         ensures number_or_none { IsTrue (is_number_or_none payload) → IsOk result }
+        ensures numbers { IsTrue (is_number_or_none payload) → self.new ≡ put_at self.old address
+            (bytes_at source.now from (item_size (scalars_of payload) * count)) }
     {
         let to = address as usize;
         copy_region(

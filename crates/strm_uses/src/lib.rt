@@ -4,5 +4,6 @@
 #![tactic(auto)]
 
 pub mod handles;
+pub mod memory;
 pub mod resources;
 pub mod transmit;

@@ -1,14 +1,14 @@
 //! The bytes of worked cases, and each public call once with ample memory.
 
-use crate::copies::{BadItem, copy_items};
-use crate::items::{LiftError, lift_items, lower_items};
-use crate::memories::{GuestMemory, OutOfBounds, RegionError};
-use crate::moves::{copy_within_items, move_bytes, move_within};
 use std::test::Fail;
 use strm_codes::counts::ItemCount;
 use strm_codes::payloads::{Payload, Shape};
 use strm_codes::scalars::Scalar;
 use strm_codes::values::Value;
+use strm_memory::copies::{BadItem, copy_items};
+use strm_memory::items::{LiftError, lift_items, lower_items};
+use strm_memory::memories::{GuestMemory, OutOfBounds, RegionError};
+use strm_memory::moves::{copy_within_items, move_bytes, move_within};
 
 fn tuple(fields: &[Scalar]) -> Payload {
     match Shape::new(fields) {

@@ -1,9 +1,9 @@
 //! Reports and deliveries by example.
 
-use crate::reports::{Pending, deliver, report};
 use std::test::Fail;
 use strm_codes::codes::{ReturnCode, StreamResult, TransmitKind};
 use strm_codes::counts::ItemCount;
+use strm_events::reports::{Pending, deliver, report};
 
 fn pending(met: bool, moved: ItemCount, outcome: StreamResult) -> Pending {
     Pending {
