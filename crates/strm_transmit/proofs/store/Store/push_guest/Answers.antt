@@ -20,7 +20,7 @@ invariant_of-self-2 c =
       guests = c.push_reserved.ensures.items ∙ rw c.in-Ok-reserve.ensures.items refl;
       bytes = refl;
       memory = c.in-Ok.ensures;
-      handles = c.new-2.ensures;
+      handles = c.new-2.ensures.empty;
     })
     (rw (← c.self.view_is) at c.requires) c.self.invariant
 
@@ -36,6 +36,6 @@ returns c =
       guests = c.push_reserved.ensures.items ∙ rw c.in-Ok-reserve.ensures.items refl;
       bytes = refl;
       memory = c.in-Ok.ensures;
-      handles = c.new-2.ensures;
+      handles = c.new-2.ensures.empty;
     })
     (omega (arith, c.len-number.ensures, c.self.inside.guests.ok)))
