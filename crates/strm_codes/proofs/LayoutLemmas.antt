@@ -1,9 +1,9 @@
 -- The offsets of an item's fields stay small, and an alignment is 1, 2, 4 or 8.
-use Rattle.std.proofs.Common.{◌≡◌, ℕ, ◌+◌, ◌-◌, ◌*◌, ◌%◌, ◌≤◌, max, List, [], ◌∷◌, length, ◌⊎◌, inl, inr, refl, sym, subst, arith, bit_and}
+use Rattle.std.proofs.Common.{◌≡◌, ℕ, ◌+◌, ◌-◌, ◌*◌, ◌%◌, ◌≤◌, max, List, [], ◌∷◌, ◌⊎◌, inl, inr, refl, sym, subst, arith, bit_and}
 use Rattle.std.proofs.lemmas.Bool.{cases_lt}
 use Rattle.std.proofs.lemmas.Nat.{and_mask}
 use Rattle.strm_codes.specs.Scalars.{size_of}
-use Rattle.strm_codes.specs.Layout.{gap_before, end_offset, align_of, item_size}
+use Rattle.strm_codes.specs.Layout.{gap_before, end_offset, align_of}
 use Rattle.strm_codes.specs.declared.scalars.Scalar.{Scalar}
 use Rattle.strm_codes.specs.declared.scalars.Scalar.TheVariants.{Bool as Flag, S8, U8, S16, U16, S32, U32, S64, U64, Char}
 
@@ -55,9 +55,6 @@ gap_within a at n w h =
 width_most : (a : ℕ) → IsWidth a → a ≤ 8
 width_most a w = by_width (λ a. a ≤ 8) (omega arith) (omega arith) (omega arith) (omega arith) a w
 
-pub align_of-most : (ss : List Scalar) → align_of ss ≤ 8
-align_of-most ss = width_most (align_of ss) (IsWidth-align_of ss)
-
 pub field_within : (s : Scalar) (at n : ℕ) → at ≤ 8 * n → at + gap_before at (size_of s) + size_of s ≤ 8 * (n + 1)
 field_within s at n h = omega (arith, gap_within (size_of s) at n (IsWidth-size_of s) h, width_most (size_of s) (IsWidth-size_of s))
 
@@ -68,15 +65,6 @@ one-le-align_of (s ∷ ss) = omega (arith, one-le-align_of ss)
 pub le-end_offset : (at : ℕ) (ss : List Scalar) → at ≤ end_offset at ss
 le-end_offset at [] = omega arith
 le-end_offset at (s ∷ ss) = omega (arith, le-end_offset (at + gap_before at (size_of s) + size_of s) ss)
-
-end_offset-most : (at n : ℕ) (ss : List Scalar) → at ≤ 8 * n → end_offset at ss ≤ 8 * (n + length ss)
-end_offset-most at n [] h = omega arith
-end_offset-most at n (s ∷ ss) h =
-    omega (arith, end_offset-most (at + gap_before at (size_of s) + size_of s) (n + 1) ss (field_within s at n h))
-
-pub item_size-most : (ss : List Scalar) → item_size ss ≤ 8 * length ss
-item_size-most ss =
-    gap_within (align_of ss) (end_offset 0 ss) (length ss) (IsWidth-align_of ss) (omega (arith, end_offset-most 0 0 ss (omega arith)))
 
 -- an address masked by an alignment is what it leaves
 mask_is_mod : (n a : ℕ) → IsWidth a → bit_and n (a - 1) ≡ n % a

@@ -5,17 +5,12 @@ use Rattle.std.specs.Prelude.{All, IsSome}
 use Rattle.std.proofs.lemmas.List.{append-nil, append_assoc}
 use Rattle.std.proofs.lemmas.List.Elements.{All-nil, All-append}
 use Rattle.std.proofs.lemmas.Bool.{le-ltb, cases_lt}
-use Rattle.strm_codes.specs.declared.codes.TransmitKind.{TransmitKind}
-use Rattle.strm_codes.specs.declared.codes.TransmitKind.TheVariants.{Future}
-use Rattle.strm_machine.specs.Acts.{act_of}
-use Rattle.strm_machine.specs.State.{State, empty, stream_at}
-use Rattle.strm_machine.specs.Soundness.{IsSound}
-use Rattle.strm_machine.specs.Reactions.{react}
-use Rattle.strm_machine.specs.Moments.{Moment, moment_of, received, got_in}
+use Rattle.strm_machine.specs.Words.{TransmitKind, Future, act_of, State, empty, stream_at, IsSound, react, Moment, received, got_in}
 use Rattle.strm_machine.specs.declared.limits.Limits.{Limits}
 use Rattle.strm_machine.specs.declared.streams.Side.{Side}
 use Rattle.strm_machine.specs.declared.streams.Side.TheVariants.{Writing, Reading}
 use Rattle.strm_machine.specs.declared.steps.Step.{Step}
+use Rattle.strm_machine.specs.Moments.{moment_of}
 use Rattle.strm_machine.proofs.TallyLemmas.{received_one}
 use Rattle.strm_machine.proofs.Lawful.{Reacts}
 use Rattle.strm_machine.proofs.MomentLemmas.{unnamed}

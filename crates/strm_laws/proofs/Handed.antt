@@ -3,14 +3,9 @@ use Rattle.std.proofs.Common.{◌≡◌, ℕ, zero, suc, ◌+◌, ◌*◌, ◌�
 use Rattle.std.proofs.lemmas.List.{append-nil, drop-drop}
 use Rattle.std.proofs.lemmas.Bool.{lt-ltb, le-ltb, cond-true, cond-false}
 use Rattle.std.specs.Prelude.{is_some, nat_lt, ◌||◌}
-use Rattle.strm_codes.specs.Layout.{scalars_of, item_size}
-use Rattle.strm_codes.specs.declared.codes.ReturnCode.{ReturnCode}
-use Rattle.strm_codes.specs.declared.codes.TransmitKind.{TransmitKind}
-use Rattle.strm_codes.specs.declared.payloads.Payload.{Payload}
-use Rattle.strm_codes.specs.declared.scalars.Scalar.{Scalar}
+use Rattle.strm_machine.specs.Words.{scalars_of, item_size, ReturnCode, TransmitKind, Payload, Scalar, memory_in, stream_at, Moment, Call, k_of, items_in, received}
 use Rattle.strm_memory.specs.Items.{decode}
-use Rattle.strm_machine.specs.State.{memory_in, stream_at}
-use Rattle.strm_machine.specs.Moments.{Moment, Call, k_of, decoded, items_in, received}
+use Rattle.strm_machine.specs.Moments.{decoded}
 use Rattle.strm_machine.proofs.RefusalLemmas.{neither}
 use Rattle.strm_laws.specs.Conservation.{before_passing, item_handed, handed, all_handed}
 use Rattle.strm_laws.specs.Laws.{total, AreReported}
@@ -65,21 +60,21 @@ unfolding decoded
 decoded-none ss bytes = refl
 
 -- an item that is handed over in the last moment
-item_handed-new : (s : ℕ) (all : List Moment) (m : Moment) (e : ℕ) (w : Call) (i : ℕ) (payload : Payload) → payload ≡ (stream_at m.before s).payload → before_passing s all (e + i) ≡ m.before
-    → item_handed s all e w i ≡ decode (scalars_of payload) (drop (w.address + item_size (scalars_of payload) * i) (memory_in m.before.guests w.guest))
-item_handed-new s all m e w i payload q h = rw (h, q) refl
+module _ (s : ℕ) (all : List Moment) (m : Moment) (e : ℕ) (w : Call) (i : ℕ) (payload : Payload) where
+  item_handed-new : payload ≡ (stream_at m.before s).payload → before_passing s all (e + i) ≡ m.before → item_handed s all e w i ≡ decode (scalars_of payload) (drop (w.address + item_size (scalars_of payload) * i) (memory_in m.before.guests w.guest))
+  item_handed-new q h = rw (h, q) refl
 
-pub handed-new : (s : ℕ) (all : List Moment) (m : Moment) (e : ℕ) (w : Call) (r i n : ℕ) (payload : Payload) → IsReached s all r → r ≤ e + i → e + i + n ≤ received s m.after → payload ≡ (stream_at m.before s).payload
-    → handed s (all ++ m ∷ []) e w i n ≡ items_in payload m.before.guests w.guest (w.address + item_size (scalars_of payload) * i) n
-unfolding handed
-handed-new s all m e w r i zero payload h le ge q = sym (decoded-none (scalars_of payload) _)
-handed-new s all m e w r i (suc n) payload h le ge q =
-    let here : before_passing s (all ++ m ∷ []) (e + i) ≡ m.before = before_passing-new s all m (e + i) (h (e + i) ∙ le-ltb (e + i) r le) (lt-ltb (e + i) _ (omega arith)) in
-    let item = item_handed-new s (all ++ m ∷ []) m e w i payload q here in
-    let more = handed-new s all m e w r (i + 1) n payload h (omega arith) (omega arith) q in
-    ap (λ x. x ∷ handed s (all ++ m ∷ []) e w (i + 1) n) item
-    ∙ ap (λ l. decode (scalars_of payload) (drop (w.address + item_size (scalars_of payload) * i) (memory_in m.before.guests w.guest)) ∷ l) more
-    ∙ sym (decoded-next (scalars_of payload) (memory_in m.before.guests w.guest) w.address i n)
+module _ (s : ℕ) (all : List Moment) (m : Moment) (e : ℕ) (w : Call) (r : ℕ) (payload : Payload) (h : IsReached s all r) (q : payload ≡ (stream_at m.before s).payload) where
+  pub handed-new : (i n : ℕ) → r ≤ e + i → e + i + n ≤ received s m.after → handed s (all ++ m ∷ []) e w i n ≡ items_in payload m.before.guests w.guest (w.address + item_size (scalars_of payload) * i) n
+  unfolding handed
+  handed-new i zero le ge = sym (decoded-none (scalars_of payload) _)
+  handed-new i (suc n) le ge =
+      let here : before_passing s (all ++ m ∷ []) (e + i) ≡ m.before = before_passing-new s all m (e + i) (h (e + i) ∙ le-ltb (e + i) r le) (lt-ltb (e + i) _ (omega arith)) in
+      let item = item_handed-new s (all ++ m ∷ []) m e w i payload q here in
+      let more = handed-new (i + 1) n (omega arith) (omega arith) in
+      ap (λ x. x ∷ handed s (all ++ m ∷ []) e w (i + 1) n) item
+      ∙ ap (λ l. decode (scalars_of payload) (drop (w.address + item_size (scalars_of payload) * i) (memory_in m.before.guests w.guest)) ∷ l) more
+      ∙ sym (decoded-next (scalars_of payload) (memory_in m.before.guests w.guest) w.address i n)
 
 pub handed-add : (s : ℕ) (all : List Moment) (e : ℕ) (w : Call) (i n r k : ℕ) → k ≡ n + r → handed s all e w i k ≡ handed s all e w i n ++ handed s all e w (i + n) r
 unfolding handed
@@ -127,7 +122,8 @@ unfolding all_handed
 all_handed-append kind s all moved e [] ys = let z : e + 0 ≡ e = omega arith in rw z refl
 all_handed-append kind s all moved e (x ∷ xs) ys =
     let z : e + k_of kind moved x.report + total kind moved xs ≡ e + (k_of kind moved x.report + total kind moved xs) = omega arith in
-    rw (all_handed-append kind s all moved (e + k_of kind moved x.report) xs ys, z) (sym (append_assoc (handed s all e x 0 (k_of kind moved x.report)) (all_handed kind s all moved (e + k_of kind moved x.report) xs) (all_handed kind s all moved (e + (k_of kind moved x.report + total kind moved xs)) ys)))
+    rw (all_handed-append kind s all moved (e + k_of kind moved x.report) xs ys, z)
+    (sym (append_assoc (handed s all e x 0 (k_of kind moved x.report)) (all_handed kind s all moved (e + k_of kind moved x.report) xs) (all_handed kind s all moved (e + (k_of kind moved x.report + total kind moved xs)) ys)))
 
 pub all_handed-old : (kind : TransmitKind) (s : ℕ) (all : List Moment) (m : Moment) (moved e r : ℕ) (ws : List Call) → IsReached s all r → e + total kind moved ws ≤ r → all_handed kind s (all ++ m ∷ []) moved e ws ≡ all_handed kind s all moved e ws
 unfolding all_handed

@@ -1,19 +1,13 @@
 -- Handles and ends agree after every run.
 use Rattle.std.proofs.Common.{◌≡◌, ℕ, zero, suc, true, List, [], ◌∷◌}
-use Rattle.strm_handles.specs.Handles.{no_handles}
-use Rattle.strm_handles.specs.Lookups.{end_rep_of}
-use Rattle.strm_handles.proofs.HandleLemmas.{IsTable-no_handles}
-use Rattle.strm_machine.specs.Acts.{act_of}
-use Rattle.strm_machine.specs.State.{State, no_stream, empty}
-use Rattle.strm_machine.specs.Sides.{end_of}
-use Rattle.strm_machine.specs.Soundness.{IsSound}
-use Rattle.strm_machine.specs.Reactions.{react}
-use Rattle.strm_machine.specs.Moments.{is_end}
+use Rattle.strm_machine.specs.Words.{no_handles, act_of, State, no_stream, empty, end_of, IsSound, react, is_end}
 use Rattle.strm_machine.specs.declared.limits.Limits.{Limits}
-use Rattle.strm_machine.specs.declared.streams.Owner.TheVariants.{Held}
 use Rattle.strm_machine.specs.declared.streams.Side.{Side}
 use Rattle.strm_machine.specs.declared.streams.Side.TheVariants.{Writing, Reading}
 use Rattle.strm_machine.specs.declared.steps.Step.{Step}
+use Rattle.strm_handles.specs.Lookups.{end_rep_of}
+use Rattle.strm_handles.proofs.HandleLemmas.{IsTable-no_handles}
+use Rattle.strm_machine.specs.declared.streams.Owner.TheVariants.{Held}
 use Rattle.strm_machine.proofs.AgreeLemmas.{Agree-single, Agree-gone}
 use Rattle.strm_machine.proofs.HeldLemmas.{names_in, StateIsHeld, reaction-held}
 use Rattle.strm_machine.proofs.SoundStepLemmas.{reaction-sound}

@@ -1,19 +1,14 @@
 -- The account of an end of a stream: what holds of the moments so far and of the state that they led to, and
 -- how it grows by one moment.
-use Rattle.std.proofs.Common.{◌≡◌, ℕ, ◌+◌, ◌*◌, ◌≤◌, List, [], ◌∷◌, ◌++◌, Option, None, Some, refl, sym, arith, append_assoc, ⊎_elim}
+use Rattle.std.proofs.Common.{◌≡◌, ℕ, ℤ, ◌+◌, ◌*◌, ◌≤◌, List, [], ◌∷◌, ◌++◌, Option, None, Some, refl, sym, arith, append_assoc, ⊎_elim}
 use Rattle.std.proofs.lemmas.List.{append-nil}
 use Rattle.std.proofs.lemmas.Bool.{lt-ltb, le-ltb, cases_lt}
 use Rattle.std.proofs.lemmas.List.Elements.{All-nil, All-cons, All-head, All-tail, All-push}
 use Rattle.std.specs.Prelude.{All, nat_lt, ◌||◌}
-use Rattle.strm_codes.specs.Layout.{scalars_of, item_size}
-use Rattle.strm_codes.specs.declared.codes.ReturnCode.{ReturnCode}
-use Rattle.strm_codes.specs.declared.codes.TransmitKind.{TransmitKind}
-use Rattle.strm_codes.specs.declared.payloads.Payload.{Payload}
-use Rattle.strm_machine.specs.State.{State, stream_at}
+use Rattle.strm_machine.specs.Words.{scalars_of, item_size, ReturnCode, TransmitKind, Payload, State, stream_at, Moment, Call, k_of, items_in, received, report_in, accepted_in, got_in}
 use Rattle.strm_machine.specs.declared.streams.Side.{Side}
 use Rattle.strm_machine.specs.declared.streams.Side.TheVariants.{Writing}
 use Rattle.strm_machine.specs.declared.streams.Operation.{Operation}
-use Rattle.strm_machine.specs.Moments.{Moment, Call, k_of, items_in, received, report_in, accepted_in, got_in}
 use Rattle.strm_laws.specs.Conservation.{calls, all_reported, got, handed, all_handed}
 use Rattle.strm_laws.specs.Laws.{total, waiting, moved_at, IsAsked, AreReported, Carries, Stands}
 use Rattle.strm_laws.proofs.Calls.{settled-append, settled-reported, settled-none, calls-push, all_reported-push, got-push}
@@ -68,6 +63,10 @@ pub from_some : (payload : Payload) (o : Option Operation) (p : Operation) (ws :
 from_some payload None p ws e h = cc
 from_some payload (Some o) p ws e h = let q : p ≡ o = cc in rw q at h
 
+-- a call of so many items, with this report
+abbrev call_with : ℕ → ℕ → ℕ → Option ReturnCode → Call
+call_with g address n q = record { guest = g; address = address; asked = n; report = q }
+
 module _ (s : ℕ) (side : Side) (all : List Moment) (m : Moment) where
   -- no call is without a report, and none is taken
   pub calls-same : AreReported (calls s side all) → accepted_in s side m (report_in s side m) ≡ [] → calls s side (all ++ m ∷ []) ≡ calls s side all
@@ -78,44 +77,65 @@ module _ (s : ℕ) (side : Side) (all : List Moment) (m : Moment) where
   calls-unreported e t = rw (calls-push s side all m, t, e, settled-none (calls s side all)) (append-nil (calls s side all))
 
   -- a call is taken, behind others that have their reports
-  pub calls-taken : (g address n : ℕ) (q : Option ReturnCode) → AreReported (calls s side all) → accepted_in s side m (report_in s side m) ≡ record { guest = g; address = address; asked = n; report = report_in s side m } ∷ [] → report_in s side m ≡ q
-      → calls s side (all ++ m ∷ []) ≡ calls s side all ++ record { guest = g; address = address; asked = n; report = q } ∷ []
+  pub calls-taken : (g address n : ℕ) (q : Option ReturnCode) → AreReported (calls s side all) → accepted_in s side m (report_in s side m) ≡ call_with g address n (report_in s side m) ∷ [] → report_in s side m ≡ q → calls s side (all ++ m ∷ []) ≡ calls s side all ++ call_with g address n q ∷ []
   calls-taken g address n q h t e = rw (calls-push s side all m, t, settled-reported (report_in s side m) (calls s side all) h, e) refl
 
   -- the call without a report gets one
-  pub calls-settled : (earlier : List Call) (w : Call) (code : ReturnCode) → calls s side all ≡ earlier ++ w ∷ [] → AreReported earlier → w.report ≡ None → accepted_in s side m (report_in s side m) ≡ [] → report_in s side m ≡ Some code
-      → calls s side (all ++ m ∷ []) ≡ earlier ++ record { guest = w.guest; address = w.address; asked = w.asked; report = Some code } ∷ []
-  calls-settled earlier w code split h u t e =
-      rw (calls-push s side all m, t, e, split, settled-append (Some code) earlier (w ∷ []), settled-reported (Some code) earlier h, u) (append-nil _)
+  module _ (earlier : List Call) (w : Call) (code : ReturnCode) (split : calls s side all ≡ earlier ++ w ∷ []) (h : AreReported earlier) (u : w.report ≡ None) where
+    pub calls-settled : accepted_in s side m (report_in s side m) ≡ [] → report_in s side m ≡ Some code → calls s side (all ++ m ∷ []) ≡ earlier ++ call_with w.guest w.address w.asked (Some code) ∷ []
+    calls-settled t e =
+        rw (calls-push s side all m, t, e, split, settled-append (Some code) earlier (w ∷ []), settled-reported (Some code) earlier h, u) (append-nil _)
 
-module _ (kind : TransmitKind) (s : ℕ) (side : Side) (all : List Moment) (m : Moment) where
+-- what these calls handed over, and one more of its first x items
+abbrev pub handed_before : TransmitKind → ℕ → List Moment → ℕ → List Call → Call → ℕ → List (Option (List ℤ))
+handed_before kind s all moved earlier w x = all_handed kind s all moved 0 earlier ++ handed s all (total kind moved earlier) w 0 x
+
+-- the next n items of a call, as they lie before a moment
+abbrev pub items_next : ℕ → Moment → Call → ℕ → ℕ → List (Option (List ℤ))
+items_next s m w x n = items_in (payload_at s m.before) m.before.guests w.guest (w.address + item_size (scalars_of (payload_at s m.before)) * x) n
+
+-- in a moment the last call moves n items after x others
+pub record Moves (kind : TransmitKind) (s : ℕ) (side : Side) (all : List Moment) (m : Moment) (earlier : List Call) (w : Call) (moved r x n : ℕ) : Type 0 where
+  pub stands : Stands (payload_at s m.after) (waiting s side m.after) (earlier ++ w ∷ [])
+  pub calls_are : calls s side (all ++ m ∷ []) ≡ earlier ++ w ∷ []
+  pub now : moved_at s side m.after ≡ moved
+  pub reached : IsReached s all r
+  pub counted : r ≡ total kind moved earlier + x
+  pub more : received s m.after ≡ r + n
+  pub counts : k_of kind moved w.report ≡ x + n
+  pub within : All (IsAsked kind moved) earlier
+  pub fits : x + n ≤ w.asked
+  pub told : all_reported kind s side all + x ≡ r
+  pub reports : k_of kind 0 (report_in s side m) + moved ≡ x + n
+  pub before : side ≡ Writing → got s all ≡ handed_before kind s all moved earlier w x
+  pub here : side ≡ Writing → got_in s m ≡ items_next s m w x n
+
+module _ (kind : TransmitKind) (s : ℕ) (side : Side) (all : List Moment) (m : Moment) (earlier : List Call) (w : Call) (moved r x n : ℕ) (h : Moves kind s side all m earlier w moved r x n) where
   -- what the writes handed over, where in this moment the last of them hands over n after x others
-  all_handed-more : (earlier : List Call) (w : Call) (moved r x n : ℕ) → IsReached s all r → r ≡ total kind moved earlier + x → received s m.after ≡ r + n → k_of kind moved w.report ≡ x + n
-      → all_handed kind s (all ++ m ∷ []) moved 0 (earlier ++ w ∷ []) ≡ (all_handed kind s all moved 0 earlier ++ handed s all (total kind moved earlier) w 0 x) ++ items_in (payload_at s m.before) m.before.guests w.guest (w.address + item_size (scalars_of (payload_at s m.before)) * x) n
-  all_handed-more earlier w moved r x n reached count more k =
+  all_handed-more : all_handed kind s (all ++ m ∷ []) moved 0 (earlier ++ w ∷ []) ≡ handed_before kind s all moved earlier w x ++ items_next s m w x n
+  all_handed-more =
       let t = total kind moved earlier in
       let payload = payload_at s m.before in
-      let a : all_handed kind s (all ++ m ∷ []) moved 0 earlier ≡ all_handed kind s all moved 0 earlier = all_handed-old kind s all m moved 0 r earlier reached (omega arith) in
-      let b : handed s (all ++ m ∷ []) t w 0 x ≡ handed s all t w 0 x = handed-old s all m t w r 0 x reached (omega arith) in
-      let c : handed s (all ++ m ∷ []) t w (0 + x) n ≡ items_in payload m.before.guests w.guest (w.address + item_size (scalars_of payload) * (0 + x)) n = handed-new s all m t w r (0 + x) n payload reached (omega arith) (omega arith) refl in
+      let a : all_handed kind s (all ++ m ∷ []) moved 0 earlier ≡ all_handed kind s all moved 0 earlier = all_handed-old kind s all m moved 0 r earlier h.reached (omega (arith, h.counted)) in
+      let b : handed s (all ++ m ∷ []) t w 0 x ≡ handed s all t w 0 x = handed-old s all m t w r 0 x h.reached (omega (arith, h.counted)) in
+      let c : handed s (all ++ m ∷ []) t w (0 + x) n ≡ items_in payload m.before.guests w.guest (w.address + item_size (scalars_of payload) * (0 + x)) n = handed-new s all m t w r payload h.reached refl (0 + x) n (omega (arith, h.counted)) (omega (arith, h.counted, h.more)) in
+      let k = h.counts in
       let z : 0 + x ≡ x = omega arith in
       let y : 0 + t ≡ t = omega arith in
       rw (all_handed-append kind s (all ++ m ∷ []) moved 0 earlier (w ∷ []), y, all_handed-one kind s (all ++ m ∷ []) moved t w, k, handed-add s (all ++ m ∷ []) t w 0 x n (x + n) refl, a, b, c, z)
       (sym (append_assoc (all_handed kind s all moved 0 earlier) (handed s all t w 0 x) (items_in payload m.before.guests w.guest (w.address + item_size (scalars_of payload) * x) n)))
 
-  -- the account is kept where the last call moves n items after x others
-  pub kept_from : (earlier : List Call) (w : Call) (moved r x n : ℕ) → Stands (payload_at s m.after) (waiting s side m.after) (earlier ++ w ∷ []) → calls s side (all ++ m ∷ []) ≡ earlier ++ w ∷ []
-      → moved_at s side m.after ≡ moved → IsReached s all r → r ≡ total kind moved earlier + x → received s m.after ≡ r + n → k_of kind moved w.report ≡ x + n
-      → All (IsAsked kind moved) earlier → x + n ≤ w.asked
-      → all_reported kind s side all + x ≡ r → k_of kind 0 (report_in s side m) + moved ≡ x + n
-      → (side ≡ Writing → got s all ≡ all_handed kind s all moved 0 earlier ++ handed s all (total kind moved earlier) w 0 x)
-      → (side ≡ Writing → got_in s m ≡ items_in (payload_at s m.before) m.before.guests w.guest (w.address + item_size (scalars_of (payload_at s m.before)) * x) n)
-      → Kept kind s side (all ++ m ∷ []) m.after
-  kept_from earlier w moved r x n stands calls_are now reached count more k within fits told report before here = record {
-    stands = rw calls_are stands;
-    items = λ e. rw (got-push s all m, here e, before e, calls_are, now) (sym (all_handed-more earlier w moved r x n reached count more k));
-    count = rw (calls_are, now, total-append kind moved earlier (w ∷ []), more, k) (omega arith);
-    within = rw (calls_are, now) (All-push (IsAsked kind moved) earlier w within (omega arith));
-    told = rw (all_reported-push kind s side all m, now, more) (omega arith);
-    reached = reached_more s all m r (received s m.after) reached refl (omega arith);
-  }
+  -- the account is kept
+  pub kept_from : Kept kind s side (all ++ m ∷ []) m.after
+  kept_from =
+      let calls_are = h.calls_are in
+      let now = h.now in
+      let more = h.more in
+      record {
+        stands = rw calls_are h.stands;
+        items = λ e. rw (got-push s all m, h.here e, h.before e, calls_are, now) (sym all_handed-more);
+        count = rw (calls_are, now, total-append kind moved earlier (w ∷ []), more, h.counts) (omega (arith, h.counted));
+        within = rw (calls_are, now) (All-push (IsAsked kind moved) earlier w h.within (omega (arith, h.counts, h.fits)));
+        told = rw (all_reported-push kind s side all m, now, more) (omega (arith, h.told, h.reports));
+        reached = reached_more s all m r (received s m.after) h.reached refl (omega (arith, more));
+      }

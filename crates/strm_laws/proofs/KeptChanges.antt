@@ -2,15 +2,11 @@
 use Rattle.std.proofs.Common.{◌≡◌, ℕ, ◌+◌, ◌*◌, true, List, [], ◌∷◌, ◌++◌, Option, None, Some, refl, sym, subst, ap, ◌∙◌, arith}
 use Rattle.std.proofs.lemmas.List.{append-nil}
 use Rattle.std.specs.Prelude.{All, is_some}
-use Rattle.strm_codes.specs.Layout.{scalars_of, item_size}
-use Rattle.strm_codes.specs.declared.codes.ReturnCode.{ReturnCode}
-use Rattle.strm_codes.specs.declared.codes.TransmitKind.{TransmitKind}
-use Rattle.strm_codes.specs.declared.payloads.Payload.{Payload}
-use Rattle.strm_machine.specs.State.{State, Guest}
+use Rattle.strm_machine.specs.Words.{Guest, scalars_of, item_size, ReturnCode, TransmitKind, Payload, State, Moment, Call, report_in, count_reported, k_of, items_in, received}
 use Rattle.strm_machine.specs.declared.streams.Side.{Side}
 use Rattle.strm_machine.specs.declared.streams.Side.TheVariants.{Writing}
 use Rattle.strm_machine.specs.declared.streams.Operation.{Operation}
-use Rattle.strm_machine.specs.Moments.{Moment, Call, report_in, count_reported, k_of, moved_of, items_in, received}
+use Rattle.strm_machine.specs.Moments.{moved_of}
 use Rattle.strm_laws.specs.Conservation.{calls, all_reported, got, handed, all_handed}
 use Rattle.strm_laws.specs.Laws.{total, waiting, moved_at, IsAsked, AreReported, Carries}
 use Rattle.strm_laws.proofs.Calls.{all_reported-push, got-push}
@@ -71,20 +67,21 @@ record IsBusy (kind : TransmitKind) (s : ℕ) (side : Side) (all : List Moment) 
   within : All (IsAsked kind moved) earlier
   told : all_reported kind s side all + o.moved ≡ received s state
 
-is_busy : (kind : TransmitKind) (s : ℕ) (side : Side) (all : List Moment) (state : State) (o : Operation) (earlier : List Call) (w : Call) (moved : ℕ) → Kept kind s side all state → waiting s side state ≡ Some o → calls s side all ≡ earlier ++ w ∷ [] → AreReported earlier → w.report ≡ None → IsBusy kind s side all state o earlier w moved
-is_busy kind s side all state o earlier w moved k e split h u =
-    let some : moved_at s side state ≡ o.moved = moved_some (waiting s side state) o e in
-    let a : received s state ≡ total kind o.moved (earlier ++ w ∷ []) = k.count ∙ (rw (some, split) refl) in
-    let b : k_of kind o.moved w.report ≡ o.moved = rw u refl in
-    let z : 0 + total kind moved earlier ≡ total kind moved earlier = omega arith in
-    let now : all_handed kind s all (moved_at s side state) 0 (calls s side all) ≡ all_handed kind s all o.moved 0 (earlier ++ w ∷ []) = rw (some, split) refl in
-    let within : All (IsAsked kind o.moved) (earlier ++ w ∷ []) = rw (some, split) at k.within in
-    record {
-      items = λ i. k.items i ∙ now ∙ (rw (all_handed-append kind s all o.moved 0 earlier (w ∷ []), total-reported kind o.moved moved earlier h, all_handed-reported kind s all o.moved moved 0 earlier h, z, all_handed-one kind s all o.moved (total kind moved earlier) w, b) refl);
-      count = a ∙ (rw (total-append kind o.moved earlier (w ∷ []), total-reported kind o.moved moved earlier h, b) (omega arith));
-      within = within_reported kind o.moved moved earlier h (within_front kind o.moved earlier (w ∷ []) within);
-      told = ap (λ n. all_reported kind s side all + n) (sym some) ∙ k.told;
-    }
+module _ (kind : TransmitKind) (s : ℕ) (side : Side) (all : List Moment) (state : State) (o : Operation) (earlier : List Call) (w : Call) (moved : ℕ) where
+  is_busy : Kept kind s side all state → waiting s side state ≡ Some o → calls s side all ≡ earlier ++ w ∷ [] → AreReported earlier → w.report ≡ None → IsBusy kind s side all state o earlier w moved
+  is_busy k e split h u =
+      let some : moved_at s side state ≡ o.moved = moved_some (waiting s side state) o e in
+      let a : received s state ≡ total kind o.moved (earlier ++ w ∷ []) = k.count ∙ (rw (some, split) refl) in
+      let b : k_of kind o.moved w.report ≡ o.moved = rw u refl in
+      let z : 0 + total kind moved earlier ≡ total kind moved earlier = omega arith in
+      let now : all_handed kind s all (moved_at s side state) 0 (calls s side all) ≡ all_handed kind s all o.moved 0 (earlier ++ w ∷ []) = rw (some, split) refl in
+      let within : All (IsAsked kind o.moved) (earlier ++ w ∷ []) = rw (some, split) at k.within in
+      record {
+        items = λ i. k.items i ∙ now ∙ (rw (all_handed-append kind s all o.moved 0 earlier (w ∷ []), total-reported kind o.moved moved earlier h, all_handed-reported kind s all o.moved moved 0 earlier h, z, all_handed-one kind s all o.moved (total kind moved earlier) w, b) refl);
+        count = a ∙ (rw (total-append kind o.moved earlier (w ∷ []), total-reported kind o.moved moved earlier h, b) (omega arith));
+        within = within_reported kind o.moved moved earlier h (within_front kind o.moved earlier (w ∷ []) within);
+        told = ap (λ n. all_reported kind s side all + n) (sym some) ∙ k.told;
+      }
 
 module _ (s : ℕ) (side : Side) (all : List Moment) (m : Moment) (k : Kept (kind_at s m.before) s side all m.before) where
   abbrev kind : TransmitKind
@@ -120,10 +117,21 @@ module _ (s : ℕ) (side : Side) (all : List Moment) (m : Moment) (k : Kept (kin
       let carried : Carries (payload_at s m.after) p (b.earlier ++ w ∷ []) = record { earlier = b.earlier; last = w; split = refl; reported = b.reported; unreported = b.unreported; guest = c.guest ∙ b.guest; address = place; asked = omega (arith, c.moved, c.left, b.asked) } in
       let quiet : k_of kind 0 (report_in s side m) ≡ 0 = ap (k_of kind 0) c.unreported in
       kept_from kind s side all m b.earlier w p.moved (received s m.before) o.moved n
-      (from_some (payload_at s m.after) (waiting s side m.after) p (b.earlier ++ w ∷ []) c.is carried)
-      same (moved_some (waiting s side m.after) p c.is) k.reached i.count c.more (rw b.unreported c.moved)
-      i.within (omega (arith, c.left, b.asked)) i.told (omega (arith, quiet, c.moved)) i.items
-      (λ e. c.brings e ∙ ap (λ g. items_in (payload_at s m.before) m.before.guests g o.address n) b.guest ∙ ap (λ a. items_in (payload_at s m.before) m.before.guests w.guest a n) b.address)
+      (record {
+        stands = from_some (payload_at s m.after) (waiting s side m.after) p (b.earlier ++ w ∷ []) c.is carried;
+        calls_are = same;
+        now = moved_some (waiting s side m.after) p c.is;
+        reached = k.reached;
+        counted = i.count;
+        more = c.more;
+        counts = rw b.unreported c.moved;
+        within = i.within;
+        fits = omega (arith, c.left, b.asked);
+        told = i.told;
+        reports = omega (arith, quiet, c.moved);
+        before = i.items;
+        here = λ e. c.brings e ∙ ap (λ g. items_in (payload_at s m.before) m.before.guests g o.address n) b.guest ∙ ap (λ a. items_in (payload_at s m.before) m.before.guests w.guest a n) b.address;
+      })
 
   settles : (o : Operation) (code : ReturnCode) → Settles side (scene s side m) o code → Kept (kind_at s m.before) s side (all ++ m ∷ []) m.after
   settles o code c =
@@ -136,12 +144,21 @@ module _ (s : ℕ) (side : Side) (all : List Moment) (m : Moment) (k : Kept (kin
       let told : k_of kind 0 (report_in s side m) ≡ count_reported kind code = ap (k_of kind 0) c.report in
       let nothing : items_in (payload_at s m.before) m.before.guests w.guest (w.address + size * o.moved) 0 ≡ [] = items_in-none (payload_at s m.before) m.before.guests w.guest _ in
       kept_from kind s side all m b.earlier v 0 (received s m.before) o.moved 0
-      (from_none (payload_at s m.after) (waiting s side m.after) (b.earlier ++ v ∷ []) c.is (AreReported-push b.earlier v b.reported refl))
-      (calls-settled s side all m b.earlier w code b.split b.reported b.unreported c.takes c.report)
-      (moved_none (waiting s side m.after) c.is) k.reached i.count same counts
-      i.within (omega (arith, b.asked)) i.told (omega (arith, told, counts))
-      (λ e. i.items e ∙ ap (λ l. all_handed kind s all 0 0 b.earlier ++ l) (handed-place s all (total kind 0 b.earlier) w v 0 o.moved refl refl))
-      (λ e. c.nothing ∙ sym nothing)
+      (record {
+        stands = from_none (payload_at s m.after) (waiting s side m.after) (b.earlier ++ v ∷ []) c.is (AreReported-push b.earlier v b.reported refl);
+        calls_are = calls-settled s side all m b.earlier w code b.split b.reported b.unreported c.takes c.report;
+        now = moved_none (waiting s side m.after) c.is;
+        reached = k.reached;
+        counted = i.count;
+        more = same;
+        counts = counts;
+        within = i.within;
+        fits = omega (arith, b.asked);
+        told = i.told;
+        reports = omega (arith, told, counts);
+        before = λ e. i.items e ∙ ap (λ l. all_handed kind s all 0 0 b.earlier ++ l) (handed-place s all (total kind 0 b.earlier) w v 0 o.moved refl refl);
+        here = λ e. c.nothing ∙ sym nothing;
+      })
 
   -- what an idle end has, and of one call more nothing
   opened : (v : Call) (moved : ℕ) → IsIdle kind s side all m.before → side ≡ Writing → got s all ≡ all_handed kind s all moved 0 (calls s side all) ++ handed s all (total kind moved (calls s side all)) v 0 0
@@ -158,12 +175,21 @@ module _ (s : ℕ) (side : Side) (all : List Moment) (m : Moment) (k : Kept (kin
       let count : received s m.before ≡ total kind p.moved (calls s side all) + 0 = omega (arith, i.count, total-reported kind 0 p.moved (calls s side all) i.reported) in
       let quiet : k_of kind 0 (report_in s side m) ≡ 0 = ap (k_of kind 0) c.unreported in
       kept_from kind s side all m (calls s side all) v p.moved (received s m.before) 0 n
-      (from_some (payload_at s m.after) (waiting s side m.after) p (calls s side all ++ v ∷ []) c.is carried)
-      (calls-taken s side all m g address asked None i.reported c.takes c.unreported)
-      (moved_some (waiting s side m.after) p c.is) k.reached count c.more (omega (arith, c.moved))
-      (within_reported kind 0 p.moved (calls s side all) i.reported i.within) (omega (arith, c.left)) i.told (omega (arith, quiet, c.moved))
-      (opened v p.moved i)
-      (λ e. c.brings e ∙ ap (λ a. items_in (payload_at s m.before) m.before.guests g a n) (place_first address size))
+      (record {
+        stands = from_some (payload_at s m.after) (waiting s side m.after) p (calls s side all ++ v ∷ []) c.is carried;
+        calls_are = calls-taken s side all m g address asked None i.reported c.takes c.unreported;
+        now = moved_some (waiting s side m.after) p c.is;
+        reached = k.reached;
+        counted = count;
+        more = c.more;
+        counts = omega (arith, c.moved);
+        within = within_reported kind 0 p.moved (calls s side all) i.reported i.within;
+        fits = omega (arith, c.left);
+        told = i.told;
+        reports = omega (arith, quiet, c.moved);
+        before = opened v p.moved i;
+        here = λ e. c.brings e ∙ ap (λ a. items_in (payload_at s m.before) m.before.guests g a n) (place_first address size);
+      })
 
   serves : (g address asked : ℕ) (code : ReturnCode) → Serves side (scene s side m) g address asked code → Kept (kind_at s m.before) s side (all ++ m ∷ []) m.after
   serves g address asked code c =
@@ -173,12 +199,21 @@ module _ (s : ℕ) (side : Side) (all : List Moment) (m : Moment) (k : Kept (kin
       let k_is : count_reported kind code ≡ 0 + count_reported kind code = omega arith in
       let told : k_of kind 0 (report_in s side m) ≡ count_reported kind code = ap (k_of kind 0) c.report in
       kept_from kind s side all m (calls s side all) v 0 (received s m.before) 0 (count_reported kind code)
-      (from_none (payload_at s m.after) (waiting s side m.after) (calls s side all ++ v ∷ []) c.is (AreReported-push (calls s side all) v i.reported refl))
-      (calls-taken s side all m g address asked (Some code) i.reported c.takes c.report)
-      (moved_none (waiting s side m.after) c.is) k.reached count c.more k_is
-      i.within (omega (arith, c.within)) i.told (omega (arith, told))
-      (opened v 0 i)
-      (λ e. c.brings e ∙ ap (λ a. items_in (payload_at s m.before) m.before.guests g a (count_reported kind code)) (place_first address size))
+      (record {
+        stands = from_none (payload_at s m.after) (waiting s side m.after) (calls s side all ++ v ∷ []) c.is (AreReported-push (calls s side all) v i.reported refl);
+        calls_are = calls-taken s side all m g address asked (Some code) i.reported c.takes c.report;
+        now = moved_none (waiting s side m.after) c.is;
+        reached = k.reached;
+        counted = count;
+        more = c.more;
+        counts = k_is;
+        within = i.within;
+        fits = omega (arith, c.within);
+        told = i.told;
+        reports = omega (arith, told);
+        before = opened v 0 i;
+        here = λ e. c.brings e ∙ ap (λ a. items_in (payload_at s m.before) m.before.guests g a (count_reported kind code)) (place_first address size);
+      })
 
   -- whichever change it is
   pub keeps : Change side (scene s side m) → Kept (kind_at s m.before) s side (all ++ m ∷ []) m.after

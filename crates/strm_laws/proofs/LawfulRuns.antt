@@ -4,15 +4,11 @@ use Rattle.std.specs.Prelude.{All}
 use Rattle.std.proofs.lemmas.Bool.{cases_lt}
 use Rattle.std.proofs.lemmas.List.{get_or_past, take-append-drop}
 use Rattle.std.proofs.lemmas.List.Elements.{All-nil, All-cons, All-head, All-tail, All-get_or}
-use Rattle.strm_codes.specs.declared.payloads.Payload.{Payload}
-use Rattle.strm_machine.specs.Acts.{act_of}
-use Rattle.strm_machine.specs.State.{State, empty, no_stream, stream_at}
-use Rattle.strm_machine.specs.Soundness.{AreNamed, OperationIsPlaced, StreamIsPlaced, IsSound, sizes_of, both_open}
-use Rattle.strm_machine.specs.Reactions.{react}
-use Rattle.strm_machine.specs.Moments.{received}
+use Rattle.strm_machine.specs.Words.{Payload, act_of, State, empty, no_stream, stream_at, OperationIsPlaced, StreamIsPlaced, IsSound, sizes_of, both_open, react, received}
 use Rattle.strm_machine.specs.declared.limits.Limits.{Limits}
 use Rattle.strm_machine.specs.declared.streams.Operation.{Operation}
 use Rattle.strm_machine.specs.declared.steps.Step.{Step}
+use Rattle.strm_machine.specs.Soundness.{AreNamed}
 use Rattle.strm_machine.proofs.Lawful.{IsLawful, Reacts}
 use Rattle.strm_machine.proofs.LawfulLemmas.{reacts}
 use Rattle.strm_machine.proofs.SoundStepLemmas.{reaction-sound}

@@ -1,11 +1,10 @@
 -- The play of steps as the moments of their run.
 use Rattle.std.proofs.Common.{◌≡◌, List, [], ◌∷◌, ◌++◌, ◌∙◌}
 use Rattle.std.proofs.lemmas.List.{append-nil, append_assoc}
-use Rattle.strm_machine.specs.State.{State}
-use Rattle.strm_machine.specs.Reactions.{react}
-use Rattle.strm_machine.specs.Plays.{Played, Ends, after_step, play}
+use Rattle.strm_machine.specs.Words.{State, react}
 use Rattle.strm_machine.specs.declared.steps.Step.{Step}
 use Rattle.strm_machine.specs.declared.replies.Reply.{Reply}
+use Rattle.strm_machine.specs.Plays.{Played, Ends, after_step, play}
 use Rattle.strm_machine.specs.declared.replies.Reply.TheVariants as replies
 use Rattle.strm_laws.specs.Conservation.{moments, last, replies_of}
 

@@ -2,25 +2,23 @@
 -- hand.
 use Rattle.std.proofs.Common.{◌≡◌, ℕ, List, [], ◌∷◌, Option, Some, None, refl}
 use Rattle.std.specs.Prelude.{ℤ, pos, map}
-use Rattle.strm_codes.specs.declared.codes.ReturnCode.{ReturnCode}
+use Rattle.strm_machine.specs.Words.{ReturnCode, TransmitIndex, State, empty, stream_at, Call, received}
+use Rattle.strm_machine.specs.declared.streams.Side.TheVariants.{Writing}
+use Rattle.strm_machine.specs.declared.steps.Step.{Step}
+use Rattle.strm_machine.specs.declared.replies.Reply.{Reply}
 use Rattle.strm_codes.specs.declared.codes.ReturnCode.TheVariants.{Blocked, Completed, Dropped}
-use Rattle.strm_codes.specs.declared.codes.TransmitIndex.{TransmitIndex}
 use Rattle.strm_codes.specs.declared.codes.TransmitIndex.TheVariants as index
 use Rattle.strm_codes.specs.declared.payloads.Payload.TheVariants.{One}
 use Rattle.strm_codes.specs.declared.scalars.Scalar.TheVariants.{U8, U16}
 use Rattle.strm_memory.specs.Items.{decode_from, encode_from, items, stored}
-use Rattle.strm_machine.specs.State.{State, empty, stream_at}
 use Rattle.strm_machine.specs.Turns.{turn}
 use Rattle.strm_machine.specs.Endings.{delivered, dropped}
 use Rattle.strm_machine.specs.Refusals.{refusal}
 use Rattle.strm_machine.specs.Making.{with_stream}
 use Rattle.strm_machine.specs.Reactions.{performs, reaction}
-use Rattle.strm_machine.specs.declared.streams.Side.TheVariants.{Writing}
-use Rattle.strm_machine.specs.declared.steps.Step.{Step}
 use Rattle.strm_machine.specs.declared.steps.Step.TheVariants as steps
-use Rattle.strm_machine.specs.declared.replies.Reply.{Reply}
 use Rattle.strm_machine.specs.declared.replies.Reply.TheVariants as replies
-use Rattle.strm_machine.specs.Moments.{Call, received, decoded}
+use Rattle.strm_machine.specs.Moments.{decoded}
 use Rattle.strm_laws.specs.Conservation.{moments, last, got, handed, all_handed, writes, reads}
 use Rattle.strm_laws.specs.Laws.{moved_at}
 

@@ -1,5 +1,5 @@
 -- Pairs of hexadecimal digits: what is read is what is written, and the other way round.
-use Rattle.std.proofs.Common.{◌≡◌, ℕ, ◌+◌, ◌*◌, ◌/◌, ◌%◌, ◌<◌, ◌≤◌, ◌^◌, List, [], ◌∷◌, ◌++◌, length, drop, get_or, Option, Some, None, Bool, true, false, cond, eqb, ltb, ◌||◌, not, refl, sym, ap, append_assoc, arith}
+use Rattle.std.proofs.Common.{◌≡◌, ℕ, ◌+◌, ◌*◌, ◌/◌, ◌%◌, ◌<◌, ◌≤◌, ◌^◌, List, [], ◌∷◌, ◌++◌, length, drop, get_or, Option, Some, None, false, eqb, ltb, ◌||◌, not, refl, sym, ap, append_assoc, arith}
 use Rattle.std.specs.Prelude.{option_and_then, All}
 use Rattle.std.specs.Option.{option_map}
 use Rattle.std.proofs.lemmas.Option.{option_and_then_some}
@@ -9,6 +9,7 @@ use Rattle.std.proofs.lemmas.List.Elements.{All-nil, All-cons, All-head, All-tai
 use Rattle.strm_lines.specs.Words.{hex_digit, hex_pairs}
 use Rattle.strm_lines.specs.Grammar.{IsLineBytes}
 use Rattle.strm_lines.specs.Reading.{nibble, pairs_from, hex}
+use Rattle.strm_lines.proofs.ChoiceLemmas.{skipped}
 
 -- the list that is read has this front more
 abbrev pub with_front : {A : Type 0} → List A → Option (List A) → Option (List A)
@@ -31,16 +32,20 @@ and_then-Some : {A B : Type 0} (f : A → B) (o : Option A) → option_and_then 
 and_then-Some f None = refl
 and_then-Some f (Some x) = refl
 
-pub pairs_more : (word : List ℕ) (k : ℕ) (front : List ℕ) (x y : ℕ) → 2 * k + 1 < length word → Some x ≡ nibble (get_or word (2 * k) 0) → Some y ≡ nibble (get_or word (2 * k + 1) 0) → with_front (front ++ (16 * x + y) ∷ []) (pairs_from (drop (2 * (k + 1)) word)) ≡ with_front front (pairs_from (drop (2 * k) word))
+-- what the byte at this place stands for, if it is a digit
+abbrev pub digit_at : List ℕ → ℕ → Option ℕ
+digit_at word k = nibble (get_or word k 0)
+
+pub pairs_more : (word : List ℕ) (k : ℕ) (front : List ℕ) (x y : ℕ) → 2 * k + 1 < length word → Some x ≡ digit_at word (2 * k) → Some y ≡ digit_at word (2 * k + 1) → with_front (front ++ (16 * x + y) ∷ []) (pairs_from (drop (2 * (k + 1)) word)) ≡ with_front front (pairs_from (drop (2 * k) word))
 pairs_more word k front x y h e f =
     rw (two_more word k h, pair_read _ _ (drop (2 * (k + 1)) word) x y (Some y) (sym e) (sym f), and_then-Some (λ rest. (16 * x + y) ∷ rest) (pairs_from (drop (2 * (k + 1)) word)))
     (with_front-more front (16 * x + y) (pairs_from (drop (2 * (k + 1)) word)))
 
-pub pairs_bad_high : (word : List ℕ) (k : ℕ) (front : List ℕ) → 2 * k + 1 < length word → None ≡ nibble (get_or word (2 * k) 0) → with_front front (pairs_from (drop (2 * k) word)) ≡ None
+pub pairs_bad_high : (word : List ℕ) (k : ℕ) (front : List ℕ) → 2 * k + 1 < length word → None ≡ digit_at word (2 * k) → with_front front (pairs_from (drop (2 * k) word)) ≡ None
 unfolding pairs_from
 pairs_bad_high word k front h e = rw (two_more word k h, ← e) refl
 
-pub pairs_bad_low : (word : List ℕ) (k : ℕ) (front : List ℕ) (x : ℕ) → 2 * k + 1 < length word → Some x ≡ nibble (get_or word (2 * k) 0) → None ≡ nibble (get_or word (2 * k + 1) 0) → with_front front (pairs_from (drop (2 * k) word)) ≡ None
+pub pairs_bad_low : (word : List ℕ) (k : ℕ) (front : List ℕ) (x : ℕ) → 2 * k + 1 < length word → Some x ≡ digit_at word (2 * k) → None ≡ digit_at word (2 * k + 1) → with_front front (pairs_from (drop (2 * k) word)) ≡ None
 pairs_bad_low word k front x h e f = rw (two_more word k h, pair_read _ _ (drop (2 * (k + 1)) word) x 0 None (sym e) (sym f)) refl
 
 pub pairs_end : (word : List ℕ) (k : ℕ) (front : List ℕ) → length word ≤ 2 * k → with_front front (pairs_from (drop (2 * k) word)) ≡ Some front
@@ -91,10 +96,6 @@ pairs_complete (b ∷ bytes) h =
 length-hex_pairs : (bytes : List ℕ) → length (hex_pairs bytes) ≡ 2 * length bytes
 length-hex_pairs [] = refl
 length-hex_pairs (b ∷ bytes) = omega (arith, length-hex_pairs bytes)
-
-skipped : {A : Type 0} (b : Bool) (o : Option A) (x : A) → cond b None o ≡ Some x → (b ≡ false) × (o ≡ Some x)
-skipped true o x e = cc
-skipped false o x e = (refl, e)
 
 sized : (n : ℕ) → (eqb n 0 || ltb 128 n || not (eqb (n % 2) 0)) ≡ false → (0 < n) × (n ≤ 128)
 sized n e = grind (arith, nat_tests)

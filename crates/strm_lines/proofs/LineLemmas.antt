@@ -1,25 +1,21 @@
 -- Lines of an input, one more at a time, and their one reading.
-use Rattle.std.proofs.Common.{◌≡◌, ◌≢◌, ℕ, zero, suc, ◌+◌, ◌-◌, ◌<◌, ◌≤◌, List, [], ◌∷◌, ◌++◌, length, length-take-le, map, take, drop, get_or, cond, eqb, Option, Some, None, Result, Ok, Err, IfOk, MatchResult, refl, sym, ap, ◌∙◌, arith, inl, inr, append_assoc, length-append}
-use Rattle.std.specs.Prelude.{slice_get, All}
-use Rattle.std.specs.Option.{option_map}
+use Rattle.std.proofs.Common.{◌≡◌, ◌≢◌, true, false, ℕ, zero, suc, ◌+◌, ◌-◌, ◌<◌, ◌≤◌, List, [], ◌∷◌, ◌++◌, length, length-take-le, map, take, get_or, cond, eqb, Option, Some, None, Result, Ok, Err, IfOk, MatchResult, refl, sym, ap, ◌∙◌, arith, inl, inr, append_assoc, length-append}
+use Rattle.std.specs.Prelude.{slice_get, is_some, All}
+use Rattle.std.specs.Option.{option_map, option_to_list}
 use Rattle.std.proofs.lemmas.Bool.Decides.{eqb_tells}
 use Rattle.std.proofs.lemmas.Bool.{cases_lt, ne_eqb}
-use Rattle.memchr.specs.Find.{is_byte, places_from, places}
-use Rattle.std.proofs.lemmas.List.{drop_more, drop_all, append-nil, take_at, length-map, map-append, get_or_at}
+use Rattle.std.proofs.lemmas.List.{take_more, append-nil, take_at, length-map, map-append, get_or_at}
 use Rattle.std.proofs.lemmas.List.Elements.{All-push, All-head, All-tail, All-weaker}
-use Rattle.std.proofs.lemmas.Option.{slice_get-get_or}
+use Rattle.std.proofs.lemmas.Option.{slice_get-get_or, same_Some}
 use Rattle.strm_machine.specs.declared.steps.Step.{Step}
 use Rattle.strm_lines.specs.declared.parsing.ParseError.{ParseError}
 use Rattle.strm_lines.specs.declared.parsing.ParseError.TheVariants as error
 use Rattle.strm_lines.specs.Plain.{IsPlain}
 use Rattle.strm_lines.specs.Grammar.{spelling, HasLine}
-use Rattle.strm_lines.specs.Lines.{on_first, lines_of, Spells, IsFirstBad}
+use Rattle.strm_lines.specs.Lines.{on_first, lines_of, feeds, Spells, IsFirstBad}
 use Rattle.strm_lines.specs.Reading.{cut_at, step_of}
 use Rattle.strm_lines.proofs.CutLemmas.{option_map_some}
 use Rattle.strm_lines.proofs.StepLemmas.{step_sound, step_complete, plain}
-
-some_same : {A : Type 0} (x y : A) → Some x ≡ Some y → x ≡ y
-some_same x y e = cc
 
 -- the first line ends at the first line feed
 pub lines-cut : (bytes : List ℕ) (p : List ℕ × List ℕ) → cut_at 10 bytes ≡ Some p → lines_of bytes ≡ p.0 ∷ lines_of p.1
@@ -27,7 +23,7 @@ unfolding cut_at lines_of
 lines-cut [] p e = cc
 lines-cut (x ∷ bytes) p e =
     elim (eqb_tells x 10) [
-      | inl t ↦ (let q : ([], bytes) ≡ p = some_same ([], bytes) p (rw t.0 at e) in rw (t.0, ← q) refl)
+      | inl t ↦ (let q : ([], bytes) ≡ p = same_Some ([], bytes) p (rw t.0 at e) in rw (t.0, ← q) refl)
       | inr t ↦ option_map_some _ (cut_at 10 bytes) p (rw t.0 at e) (λ q s u. rw (t.0, ← u, lines-cut bytes q s) refl)
     ]
 
@@ -72,8 +68,17 @@ bad_line lines more line steps e f g =
       first = omega arith;
       last = omega (arith, inside);
       before = (steps, record { each = rw k (take_at (map spelling steps) (line ∷ more) (length steps) n); have = f });
-      bad = rw k (λ s h p. let same : line ≡ spelling s = some_same line (spelling s) (sym here ∙ p) in let q = g ∙ ap step_of same ∙ step_complete s h in cc);
+      bad = rw k (λ s h p. let same : line ≡ spelling s = same_Some line (spelling s) (sym here ∙ p) in let q = g ∙ ap step_of same ∙ step_complete s h in cc);
     })
+
+-- a line of which a step was read, or none
+pub kept_line : (lines more : List (List ℕ)) (line : List ℕ) (steps new : List Step) (o : Option Step) → o ≡ step_of line → is_some o ≡ true → new ≡ steps ++ option_to_list o → lines ≡ map spelling steps ++ line ∷ more → All HasLine steps → (lines ≡ map spelling new ++ more) × All HasLine new
+kept_line lines more line steps new None r t n e f = cc
+kept_line lines more line steps new (Some s) r t n e f = rw n (spelled_more lines more line steps s e f r)
+
+pub unkept_line : (lines more : List (List ℕ)) (line : List ℕ) (steps new : List Step) (o : Option Step) → o ≡ step_of line → is_some o ≡ false → new ≡ steps ++ option_to_list o → lines ≡ map spelling steps ++ line ∷ more → All HasLine steps → IsFirstBad lines (length new + 1)
+unkept_line lines more line steps new None r t n e f = rw (n, append-nil steps) (bad_line lines more line steps e f r)
+unkept_line lines more line steps new (Some s) r t n e f = cc
 
 same_steps : (steps others : List Step) → All HasLine steps → All HasLine others → map spelling steps ≡ map spelling others → steps ≡ others
 same_steps [] [] f g e = refl
@@ -82,7 +87,7 @@ same_steps (s ∷ steps) [] f g e = cc
 same_steps (s ∷ steps) (t ∷ others) f g e =
     let head : spelling s ≡ spelling t = heads (spelling s) (spelling t) (map spelling steps) (map spelling others) e in
     let rest : map spelling steps ≡ map spelling others = tails (spelling s) (spelling t) (map spelling steps) (map spelling others) e in
-    let one : s ≡ t = some_same s t (sym (step_complete s (All-head HasLine s steps f)) ∙ ap step_of head ∙ step_complete t (All-head HasLine t others g)) in
+    let one : s ≡ t = same_Some s t (sym (step_complete s (All-head HasLine s steps f)) ∙ ap step_of head ∙ step_complete t (All-head HasLine t others g)) in
     rw (one, same_steps steps others (All-tail HasLine s steps f) (All-tail HasLine t others g) rest) refl
   where
     heads : (a b : List ℕ) (xs ys : List (List ℕ)) → a ∷ xs ≡ b ∷ ys → a ≡ b
@@ -98,9 +103,6 @@ pub all_spelled : (lines : List (List ℕ)) (steps : List Step) (rest : List ℕ
 unfolding lines_of
 all_spelled lines steps [] e f t = record { each = e ∙ append-nil (map spelling steps); have = f }
 all_spelled lines steps (x ∷ rest) e f t = absurd (omega arith)
-
-pub All-plain : (steps : List Step) → All HasLine steps → All IsPlain steps
-All-plain steps f = All-weaker HasLine IsPlain plain steps f
 
 spelled_at : (steps : List Step) (k : ℕ) → k < length (map spelling steps) → All HasLine steps → (step : Step) × HasLine step × (slice_get (map spelling steps) k ≡ Some (spelling step))
 spelled_at [] k h f = absurd (omega arith)
@@ -157,22 +159,22 @@ length-on_first : (b : ℕ) (lines : List (List ℕ)) → 0 < length lines → l
 length-on_first b [] h = absurd (omega arith)
 length-on_first b (line ∷ lines) h = refl
 
-feeds : List ℕ → ℕ
-feeds [] = 0
-feeds (b ∷ bytes) = cond (eqb b 10) (1 + feeds bytes) (feeds bytes)
-
-length-places : (bytes : List ℕ) (n k : ℕ) → k + n ≡ length bytes → length (places_from (is_byte 10) bytes k n) ≡ feeds (drop k bytes)
-unfolding places_from feeds
-length-places bytes zero k e = rw (drop_all k bytes (omega arith)) refl
-length-places bytes (suc n) k e =
-    let later : length (places_from (is_byte 10) bytes (k + 1) n) ≡ feeds (drop (k + 1) bytes) = length-places bytes n (k + 1) (omega arith) in
-    elim (eqb_tells (get_or bytes k 0) 10) [
-      | inl t ↦ rw (drop_more bytes k 0 (omega arith), t.0) (omega (arith, later))
-      | inr t ↦ rw (drop_more bytes k 0 (omega arith), t.0) later
+pub feeds-append : (xs ys : List ℕ) → feeds (xs ++ ys) ≡ feeds xs + feeds ys
+unfolding feeds
+feeds-append [] ys = omega arith
+feeds-append (x ∷ xs) ys =
+    elim (eqb_tells x 10) [
+      | inl t ↦ rw t.0 (omega (arith, feeds-append xs ys))
+      | inr t ↦ rw t.0 (feeds-append xs ys)
     ]
 
-feeds-places : (bytes : List ℕ) → length (places (is_byte 10) bytes) ≡ feeds bytes
-feeds-places bytes = length-places bytes (length bytes - 0) 0 (omega arith)
+pub feeds-yes : (bytes : List ℕ) (k : ℕ) → k < length bytes → get_or bytes k 0 ≡ 10 → feeds (take (k + 1) bytes) ≡ feeds (take k bytes) + 1
+unfolding feeds
+feeds-yes bytes k h e = rw (take_more bytes k 0 h, feeds-append (take k bytes) (get_or bytes k 0 ∷ []), e) refl
+
+pub feeds-no : (bytes : List ℕ) (k : ℕ) → k < length bytes → get_or bytes k 0 ≢ 10 → feeds (take (k + 1) bytes) ≡ feeds (take k bytes)
+unfolding feeds
+feeds-no bytes k h e = rw (take_more bytes k 0 h, feeds-append (take k bytes) (get_or bytes k 0 ∷ []), ne_eqb (get_or bytes k 0) 10 e) (omega arith)
 
 length-lines : (bytes : List ℕ) → length (lines_of bytes) ≡ feeds bytes + unended bytes
 unfolding lines_of unended feeds
@@ -198,19 +200,26 @@ unfolding lines_of
 no_lines [] n h e = omega arith
 no_lines (b ∷ bytes) n h e = absurd (omega arith)
 
-pub lines_ended : (bytes : List ℕ) (n : ℕ) → n ≡ length (places (is_byte 10) bytes) → 0 < length bytes → get_or bytes (length bytes - 1) 0 ≡ 10 → n ≡ length (lines_of bytes)
+pub lines_ended : (bytes : List ℕ) (n : ℕ) → n ≡ feeds bytes → 0 < length bytes → get_or bytes (length bytes - 1) 0 ≡ 10 → n ≡ length (lines_of bytes)
 lines_ended bytes n e h f =
     let u : unended bytes ≡ 0 = unended_at bytes h ∙ rw f refl in
-    omega (arith, length-lines bytes, feeds-places bytes)
+    omega (arith, length-lines bytes)
 
-pub lines_unended : (bytes : List ℕ) (n : ℕ) → n ≡ length (places (is_byte 10) bytes) → 0 < length bytes → get_or bytes (length bytes - 1) 0 ≢ 10 → n + 1 ≡ length (lines_of bytes)
+pub lines_unended : (bytes : List ℕ) (n : ℕ) → n ≡ feeds bytes → 0 < length bytes → get_or bytes (length bytes - 1) 0 ≢ 10 → n + 1 ≡ length (lines_of bytes)
 lines_unended bytes n e h f =
     let u : unended bytes ≡ 1 = unended_at bytes h ∙ rw (ne_eqb (get_or bytes (length bytes - 1) 0) 10 f) refl in
-    omega (arith, length-lines bytes, feeds-places bytes)
+    omega (arith, length-lines bytes)
+
+-- what is said of lines that were read: their steps, or the first that is bad, and not that they are
+-- too many
+pub record AreRead (lines : List (List ℕ)) (result : Result (List Step) ParseError) : Type 0 where
+  pub ok : IfOk result (λ found. Spells lines found)
+  pub within : result ≢ Err error.TooLong
+  pub bad : (line : ℕ) → result ≡ Err (error.BadLine line) → IsFirstBad lines line
 
 -- where lines spell steps, those are found, but for want of memory
-pub complete : (lines : List (List ℕ)) (result : Result (List Step) ParseError) → IfOk result (λ found. Spells lines found) → result ≢ Err error.TooLong → ((line : ℕ) → result ≡ Err (error.BadLine line) → IsFirstBad lines line) → (steps : List Step) → Spells lines steps → MatchResult result (λ found. found ≡ steps) (λ e. e ≡ error.OutOfMemory)
-complete lines (Ok found) ok within bad steps f = one_spelling lines found steps ok f
-complete lines (Err error.TooLong) ok within bad steps f = absurd (within refl)
-complete lines (Err (error.BadLine line)) ok within bad steps f = absurd (spelled_not_bad lines steps line f (bad line refl))
-complete lines (Err error.OutOfMemory) ok within bad steps f = refl
+pub complete : (lines : List (List ℕ)) (result : Result (List Step) ParseError) → AreRead lines result → (steps : List Step) → Spells lines steps → MatchResult result (λ found. found ≡ steps) (λ e. e ≡ error.OutOfMemory)
+complete lines (Ok found) h steps f = one_spelling lines found steps h.ok f
+complete lines (Err error.TooLong) h steps f = absurd (h.within refl)
+complete lines (Err (error.BadLine line)) h steps f = absurd (spelled_not_bad lines steps line f (h.bad line refl))
+complete lines (Err error.OutOfMemory) h steps f = refl

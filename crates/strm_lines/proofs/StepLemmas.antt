@@ -1,26 +1,19 @@
 -- A line is read as a step exactly where it spells it.
-use Rattle.std.proofs.Common.{◌≡◌, ℕ, List, ◌∷◌, ◌++◌, codes, Option, Some, None, Bool, true, false, cond, eqb, refl, ap, arith, inl, inr, ◌⊎◌}
+use Rattle.std.proofs.Common.{◌≡◌, [], ◌∙◌, ℕ, List, ◌∷◌, ◌++◌, codes, Option, Some, None, false, eqb, refl, ap, arith}
 use Rattle.std.specs.Fmt.{decimal}
-use Rattle.std.specs.Str.{bytes_eq}
 use Rattle.std.proofs.lemmas.Bool.{ne_eqb, eqb-false}
-use Rattle.std.proofs.lemmas.Option.{option_and_then_some}
-use Rattle.std.proofs.lemmas.Slice.Eq.{bytes_eq-Decides}
+use Rattle.std.specs.Option.{option_map, option_map_or}
+use Rattle.std.proofs.lemmas.Option.{option_and_then_some, same_Some, none-some}
 use Rattle.strm_codes.specs.declared.codes.TransmitIndex.{TransmitIndex}
 use Rattle.strm_machine.specs.declared.steps.Step.{Step}
 use Rattle.strm_machine.specs.declared.steps.Step.TheVariants.{Guest, Between, Write, Read, DropWrite, DropRead, Event, Poke, Dump}
 use Rattle.strm_lines.specs.Words.{hex_pairs, type_word}
 use Rattle.strm_lines.specs.Plain.{IsPlain}
-use Rattle.strm_lines.specs.Grammar.{spelling, HasLine, IsU32, IsWithin, IsLineBytes, IsByteStream}
-use Rattle.strm_lines.specs.Reading.{cut_at, followed_by, number, number_within, hex, type_of, operands_of, named_end_of, guest_of, pair_of, write_of, read_of, drop_write_of, drop_read_of, event_of, poke_of, dump_of, end_step_with, step_with, step_of}
-use Rattle.strm_lines.proofs.CutLemmas.{without, option_map_some, cut_sound, cut_complete}
-use Rattle.strm_lines.proofs.ReadingLemmas.{IsReading, IsReading-number, IsWord-number, IsReading-within, IsReading-hex, IsReading-type, IsWord-type, IsReading-followed_by}
-
-some_same : {A : Type 0} (x y : A) → Some x ≡ Some y → x ≡ y
-some_same x y e = cc
-
--- a step whose line is a command and these arguments
-abbrev IsStepOf : List ℕ → List ℕ → Step → Type 0
-IsStepOf command rest s = (spelling s ≡ command ++ 32 ∷ rest) × HasLine s
+use Rattle.strm_lines.specs.Grammar.{spelling, HasLine, IsU32, IsBetween, IsLineBytes, IsByteStream}
+use Rattle.strm_lines.specs.Reading.{Command, command, behind, read_by, often, seldom, followed_by, number, number_within, hex, type_read, operands_of, named_end_of, guest_of, pair_of, write_of, read_of, drop_write_of, drop_read_of, event_of, poke_of, dump_of, step_of}
+use Rattle.strm_lines.proofs.ChoiceLemmas.{skipped}
+use Rattle.strm_lines.proofs.CutLemmas.{option_map_some}
+use Rattle.strm_lines.proofs.ReadingLemmas.{IsReading, IsReading-number, IsWord-number, IsReading-within, IsReading-hex, IsReading-type, IsWord-type, IsReading-followed_by, behind_sound}
 
 -- the arguments of each command
 
@@ -53,150 +46,110 @@ IsReading-named_end = IsReading-followed_by IsReading-number IsWord-number (IsRe
 IsReading-event : IsReading (followed_by number number) (λ v. decimal v.0 ++ 32 ∷ decimal v.1) (λ v. IsU32 v.0 × IsU32 v.1)
 IsReading-event = IsReading-followed_by IsReading-number IsWord-number IsReading-number
 
-IsReading-pair : IsReading (followed_by number (followed_by number type_of)) (λ v. decimal v.0 ++ 32 ∷ (decimal v.1.0 ++ 32 ∷ type_word v.1.1)) (λ v. IsU32 v.0 × (IsU32 v.1.0 × IsByteStream v.1.1))
+IsReading-pair : IsReading (followed_by number (followed_by number type_read)) (λ v. decimal v.0 ++ 32 ∷ (decimal v.1.0 ++ 32 ∷ type_word v.1.1)) (λ v. IsU32 v.0 × (IsU32 v.1.0 × IsByteStream v.1.1))
 IsReading-pair = IsReading-followed_by IsReading-number IsWord-number (IsReading-followed_by IsReading-number IsWord-number IsReading-type)
 
 IsReading-poke : IsReading (followed_by number (followed_by number hex)) (λ v. decimal v.0 ++ 32 ∷ (decimal v.1.0 ++ 32 ∷ hex_pairs v.1.1)) (λ v. IsU32 v.0 × (IsU32 v.1.0 × IsLineBytes v.1.1))
 IsReading-poke = IsReading-followed_by IsReading-number IsWord-number (IsReading-followed_by IsReading-number IsWord-number IsReading-hex)
 
-IsReading-dump : IsReading (followed_by number (followed_by number (number_within 1 64))) (λ v. decimal v.0 ++ 32 ∷ (decimal v.1.0 ++ 32 ∷ decimal v.1.1)) (λ v. IsU32 v.0 × (IsU32 v.1.0 × IsWithin 1 64 v.1.1))
+IsReading-dump : IsReading (followed_by number (followed_by number (number_within 1 64))) (λ v. decimal v.0 ++ 32 ∷ (decimal v.1.0 ++ 32 ∷ decimal v.1.1)) (λ v. IsU32 v.0 × (IsU32 v.1.0 × IsBetween 1 64 v.1.1))
 IsReading-dump = IsReading-followed_by IsReading-number IsWord-number (IsReading-followed_by IsReading-number IsWord-number (IsReading-within 1 64 (omega arith)))
 
 -- what is read is the step that is spelled
 
-guest_sound : (rest : List ℕ) (s : Step) → guest_of rest ≡ Some s → IsStepOf (codes "guest") rest s
+-- each step that a command reads has the line that was read
+abbrev IsSound : Command → Type 0
+IsSound c = (rest : List ℕ) (s : Step) → c.read rest ≡ Some s → (spelling s ≡ c.front ++ rest) × HasLine s
+
+-- arguments make a step that is spelled by what its line begins with and by them
+record Makes {V : Type 0} (front : List ℕ) (make : V → Step) (write : V → List ℕ) (IsFit : V → Type 0) : Type 0 where
+  spelled : (v : V) → spelling (make v) ≡ front ++ write v
+  fits : (v : V) → IsFit v → HasLine (make v)
+
+module _ {V : Type 0} {read : List ℕ → Option V} {write : V → List ℕ} {IsFit : V → Type 0} {make : V → Step} where
+  made_sound : (front : List ℕ) → IsReading read write IsFit → Makes front make write IsFit → IsSound (command front (λ rest. option_map make (read rest)))
+  made_sound front r makes rest s e =
+      option_map_some make (read rest) s e (λ v f g.
+      let one = r.sound rest v f in
+      rw (← g) (makes.spelled v ∙ ap (λ w. front ++ w) one.0, makes.fits v one.1))
+
+guest_sound : IsSound (command (codes "guest ") guest_of)
 unfolding guest_of
-guest_sound rest s e =
-    option_map_some Guest (number rest) s e (λ v f g.
-    let r = IsReading-number.sound rest v f in
-    rw (← g) (ap (λ w. codes "guest" ++ 32 ∷ w) r.0, r.1))
+guest_sound = made_sound (codes "guest ") IsReading-number (record { spelled = λ v. refl; fits = λ v f. f })
 
-write_sound : (rest : List ℕ) (s : Step) → write_of rest ≡ Some s → IsStepOf (codes "write") rest s
+write_sound : IsSound (command (codes "write ") write_of)
 unfolding write_of
-write_sound rest s e =
-    option_map_some _ (operands_of rest) s e (λ v f g.
-    let r = IsReading-operands.sound rest v f in
-    rw (← g) (ap (λ w. codes "write" ++ 32 ∷ w) r.0, r.1))
+write_sound = made_sound (codes "write ") IsReading-operands (record { spelled = λ v. refl; fits = λ v f. f })
 
-read_sound : (rest : List ℕ) (s : Step) → read_of rest ≡ Some s → IsStepOf (codes "read") rest s
+read_sound : IsSound (command (codes "read ") read_of)
 unfolding read_of
-read_sound rest s e =
-    option_map_some _ (operands_of rest) s e (λ v f g.
-    let r = IsReading-operands.sound rest v f in
-    rw (← g) (ap (λ w. codes "read" ++ 32 ∷ w) r.0, r.1))
+read_sound = made_sound (codes "read ") IsReading-operands (record { spelled = λ v. refl; fits = λ v f. f })
 
-drop_write_sound : (rest : List ℕ) (s : Step) → drop_write_of rest ≡ Some s → IsStepOf (codes "drop-write") rest s
+drop_write_sound : IsSound (command (codes "drop-write ") drop_write_of)
 unfolding drop_write_of
-drop_write_sound rest s e =
-    option_map_some _ (named_end_of rest) s e (λ v f g.
-    let r = IsReading-named_end.sound rest v f in
-    rw (← g) (ap (λ w. codes "drop-write" ++ 32 ∷ w) r.0, r.1))
+drop_write_sound = made_sound (codes "drop-write ") IsReading-named_end (record { spelled = λ v. refl; fits = λ v f. f })
 
-drop_read_sound : (rest : List ℕ) (s : Step) → drop_read_of rest ≡ Some s → IsStepOf (codes "drop-read") rest s
+drop_read_sound : IsSound (command (codes "drop-read ") drop_read_of)
 unfolding drop_read_of
-drop_read_sound rest s e =
-    option_map_some _ (named_end_of rest) s e (λ v f g.
-    let r = IsReading-named_end.sound rest v f in
-    rw (← g) (ap (λ w. codes "drop-read" ++ 32 ∷ w) r.0, r.1))
+drop_read_sound = made_sound (codes "drop-read ") IsReading-named_end (record { spelled = λ v. refl; fits = λ v f. f })
 
-event_sound : (rest : List ℕ) (s : Step) → event_of rest ≡ Some s → IsStepOf (codes "event") rest s
+event_sound : IsSound (command (codes "event ") event_of)
 unfolding event_of
-event_sound rest s e =
-    option_map_some _ (followed_by number number rest) s e (λ v f g.
-    let r = IsReading-event.sound rest v f in
-    rw (← g) (ap (λ w. codes "event" ++ 32 ∷ w) r.0, r.1))
+event_sound = made_sound (codes "event ") IsReading-event (record { spelled = λ v. refl; fits = λ v f. f })
 
-poke_sound : (rest : List ℕ) (s : Step) → poke_of rest ≡ Some s → IsStepOf (codes "poke") rest s
+poke_sound : IsSound (command (codes "poke ") poke_of)
 unfolding poke_of
-poke_sound rest s e =
-    option_map_some _ (followed_by number (followed_by number hex) rest) s e (λ v f g.
-    let r = IsReading-poke.sound rest v f in
-    rw (← g) (ap (λ w. codes "poke" ++ 32 ∷ w) r.0, r.1))
+poke_sound = made_sound (codes "poke ") IsReading-poke (record { spelled = λ v. refl; fits = λ v f. f })
 
-dump_sound : (rest : List ℕ) (s : Step) → dump_of rest ≡ Some s → IsStepOf (codes "dump") rest s
+dump_sound : IsSound (command (codes "dump ") dump_of)
 unfolding dump_of
-dump_sound rest s e =
-    option_map_some _ (followed_by number (followed_by number (number_within 1 64)) rest) s e (λ v f g.
-    let r = IsReading-dump.sound rest v f in
-    rw (← g) (ap (λ w. codes "dump" ++ 32 ∷ w) r.0, r.1))
+dump_sound = made_sound (codes "dump ") IsReading-dump (record { spelled = λ v. refl; fits = λ v f. f })
 
-skipped : {A : Type 0} (b : Bool) (o : Option A) (x : A) → cond b None o ≡ Some x → (b ≡ false) × (o ≡ Some x)
-skipped true o x e = cc
-skipped false o x e = (refl, e)
-
-pair_sound : (rest : List ℕ) (s : Step) → pair_of rest ≡ Some s → IsStepOf (codes "pair") rest s
+pair_sound : IsSound (command (codes "pair ") pair_of)
 unfolding pair_of
 pair_sound rest s e =
-    option_and_then_some _ (followed_by number (followed_by number type_of) rest) s e (λ v f g.
+    option_and_then_some _ (followed_by number (followed_by number type_read) rest) s e (λ v f g.
     let r = IsReading-pair.sound rest v f in
     let a : (eqb v.0 v.1.0 ≡ false) × (Some (Between v.0 v.1.0 v.1.1) ≡ Some s) = skipped (eqb v.0 v.1.0) (Some (Between v.0 v.1.0 v.1.1)) s g in
-    let same : Between v.0 v.1.0 v.1.1 ≡ s = some_same _ s a.1 in
-    rw (← same) (ap (λ w. codes "pair" ++ 32 ∷ w) r.0, (eqb-false v.0 v.1.0 a.0, r.1)))
+    let same : Between v.0 v.1.0 v.1.1 ≡ s = same_Some _ s a.1 in
+    rw (← same) (ap (λ w. codes "pair " ++ w) r.0, (eqb-false v.0 v.1.0 a.0, r.1)))
 
-chosen : {A : Type 0} (b : Bool) (o p : Option A) (x : A) → cond b o p ≡ Some x → ((b ≡ true) × (o ≡ Some x)) ⊎ ((b ≡ false) × (p ≡ Some x))
-chosen true o p x e = inl (refl, e)
-chosen false o p x e = inr (refl, e)
+abbrev AreSound : List Command → Type 0
+AreSound [] = Unit {0}
+AreSound (c ∷ commands) = IsSound c × AreSound commands
 
-same_bytes : (xs ys : List ℕ) → bytes_eq xs ys ≡ true → xs ≡ ys
-same_bytes xs ys e = (bytes_eq-Decides xs ys).0 e
+-- by the first command that a line begins with
+read_by_sound : (commands : List Command) (line : List ℕ) (s : Step) → AreSound commands → read_by commands line ≡ Some s → (spelling s ≡ line) × HasLine s
+read_by_sound [] line s h e = absurd (none-some s e)
+read_by_sound (c ∷ commands) line s h e = by_front (behind c.front line) refl (read_by_sound commands line s h.1) e
+  where
+    by_front : (o : Option (List ℕ)) → behind c.front line ≡ o → (read_by commands line ≡ Some s → (spelling s ≡ line) × HasLine s) → option_map_or c.read o (read_by commands line) ≡ Some s → (spelling s ≡ line) × HasLine s
+    by_front None f others e = others e
+    by_front (Some rest) f others e = rw (behind_sound c.front line rest f) (h.0 rest s e)
 
--- one command of several
-one_command : (command word rest : List ℕ) (s : Step) (o p : Option Step) → cond (bytes_eq command word) o p ≡ Some s → (o ≡ Some s → IsStepOf word rest s) → (p ≡ Some s → IsStepOf command rest s) → IsStepOf command rest s
-one_command command word rest s o p e here other =
-    elim (chosen (bytes_eq command word) o p s e) [
-      | inl t ↦ rw (same_bytes command word t.0) (here t.1)
-      | inr t ↦ other t.1
-    ]
-
-end_with_sound : (command rest : List ℕ) (s : Step) → end_step_with command rest ≡ Some s → IsStepOf command rest s
-unfolding end_step_with
-end_with_sound command rest s e =
-    one_command command (codes "write") rest s (write_of rest) _ e (write_sound rest s) (λ e.
-    one_command command (codes "read") rest s (read_of rest) _ e (read_sound rest s) (λ e.
-    one_command command (codes "event") rest s (event_of rest) _ e (event_sound rest s) (λ e.
-    one_command command (codes "drop-write") rest s (drop_write_of rest) _ e (drop_write_sound rest s) (λ e.
-    one_command command (codes "drop-read") rest s (drop_read_of rest) None e (drop_read_sound rest s) (λ e. cc)))))
-
-with_sound : (command rest : List ℕ) (s : Step) → step_with command rest ≡ Some s → IsStepOf command rest s
-unfolding step_with
-with_sound command rest s e =
-    one_command command (codes "guest") rest s (guest_of rest) _ e (guest_sound rest s) (λ e.
-    one_command command (codes "pair") rest s (pair_of rest) _ e (pair_sound rest s) (λ e.
-    one_command command (codes "poke") rest s (poke_of rest) _ e (poke_sound rest s) (λ e.
-    one_command command (codes "dump") rest s (dump_of rest) _ e (dump_sound rest s) (end_with_sound command rest s))))
+all_sound : AreSound (often ++ seldom)
+all_sound = (write_sound, (read_sound, (event_sound, (poke_sound, (dump_sound, (guest_sound, (pair_sound, (drop_write_sound, (drop_read_sound, tt)))))))))
 
 pub step_sound : (line : List ℕ) (s : Step) → step_of line ≡ Some s → (spelling s ≡ line) × HasLine s
 unfolding step_of
-step_sound line s e =
-    option_and_then_some _ (cut_at 32 line) s e (λ p f g.
-    rw (cut_sound 32 line p f) (with_sound p.0 p.1 s g))
+step_sound line s e = read_by_sound (often ++ seldom) line s all_sound e
 
 -- what is spelled is read as the step
 
 pub step_complete : (s : Step) → HasLine s → step_of (spelling s) ≡ Some s
-unfolding step_of step_with end_step_with guest_of pair_of write_of read_of drop_write_of drop_read_of event_of poke_of dump_of
-step_complete (Guest size) h =
-    rw (cut_complete 32 (codes "guest") (decimal size) (without 32 (codes "guest") refl), IsReading-number.complete size h) refl
+unfolding step_of behind guest_of pair_of write_of read_of drop_write_of drop_read_of event_of poke_of dump_of
+step_complete (Guest size) h = rw (IsReading-number.complete size h) refl
 step_complete (Between writer reader ty) h =
-    rw (cut_complete 32 (codes "pair") (decimal writer ++ 32 ∷ (decimal reader ++ 32 ∷ type_word ty)) (without 32 (codes "pair") refl), IsReading-pair.complete (writer, (reader, ty)) h.1, ne_eqb writer reader h.0) refl
+    rw (IsReading-pair.complete (writer, (reader, ty)) h.1, ne_eqb writer reader h.0) refl
 step_complete (Write guest ty handle address count) h =
-    let v : Operands = (guest, (ty, (handle, (address, count)))) in
-    rw (cut_complete 32 (codes "write") (operands_word v) (without 32 (codes "write") refl), IsReading-operands.complete v h) refl
+    rw (IsReading-operands.complete (guest, (ty, (handle, (address, count)))) h) refl
 step_complete (Read guest ty handle address count) h =
-    let v : Operands = (guest, (ty, (handle, (address, count)))) in
-    rw (cut_complete 32 (codes "read") (operands_word v) (without 32 (codes "read") refl), IsReading-operands.complete v h) refl
-step_complete (DropWrite guest ty handle) h =
-    let v : NamedEnd = (guest, (ty, handle)) in
-    rw (cut_complete 32 (codes "drop-write") (named_end_word v) (without 32 (codes "drop-write") refl), IsReading-named_end.complete v h) refl
-step_complete (DropRead guest ty handle) h =
-    let v : NamedEnd = (guest, (ty, handle)) in
-    rw (cut_complete 32 (codes "drop-read") (named_end_word v) (without 32 (codes "drop-read") refl), IsReading-named_end.complete v h) refl
-step_complete (Event guest handle) h =
-    rw (cut_complete 32 (codes "event") (decimal guest ++ 32 ∷ decimal handle) (without 32 (codes "event") refl), IsReading-event.complete (guest, handle) h) refl
-step_complete (Poke guest address bytes) h =
-    rw (cut_complete 32 (codes "poke") (decimal guest ++ 32 ∷ (decimal address ++ 32 ∷ hex_pairs bytes)) (without 32 (codes "poke") refl), IsReading-poke.complete (guest, (address, bytes)) h) refl
-step_complete (Dump guest address len) h =
-    rw (cut_complete 32 (codes "dump") (decimal guest ++ 32 ∷ (decimal address ++ 32 ∷ decimal len)) (without 32 (codes "dump") refl), IsReading-dump.complete (guest, (address, len)) h) refl
+    rw (IsReading-operands.complete (guest, (ty, (handle, (address, count)))) h) refl
+step_complete (DropWrite guest ty handle) h = rw (IsReading-named_end.complete (guest, (ty, handle)) h) refl
+step_complete (DropRead guest ty handle) h = rw (IsReading-named_end.complete (guest, (ty, handle)) h) refl
+step_complete (Event guest handle) h = rw (IsReading-event.complete (guest, handle) h) refl
+step_complete (Poke guest address bytes) h = rw (IsReading-poke.complete (guest, (address, bytes)) h) refl
+step_complete (Dump guest address len) h = rw (IsReading-dump.complete (guest, (address, len)) h) refl
 
 -- each step that has a line is plain
 pub plain : (s : Step) → HasLine s → IsPlain s

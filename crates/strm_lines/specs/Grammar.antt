@@ -44,8 +44,8 @@ abbrev pub IsU32 : ℕ → Type 0
 IsU32 n = n < 2 ^ 32
 
 -- a number from low to high
-abbrev pub IsWithin : ℕ → ℕ → ℕ → Type 0
-IsWithin low high n = (low ≤ n) × (n ≤ high)
+abbrev pub IsBetween : ℕ → ℕ → ℕ → Type 0
+IsBetween low high n = (low ≤ n) × (n ≤ high)
 
 -- the bytes of one line: 1 to 64
 pub record IsLineBytes (bytes : List ℕ) : Type 0 where
@@ -77,4 +77,4 @@ HasLine (DropWrite guest ty handle) = IsNamedEnd guest ty handle
 HasLine (DropRead guest ty handle) = IsNamedEnd guest ty handle
 HasLine (Event guest handle) = IsU32 guest × IsU32 handle
 HasLine (Poke guest address bytes) = IsU32 guest × (IsU32 address × IsLineBytes bytes)
-HasLine (Dump guest address len) = IsU32 guest × (IsU32 address × IsWithin 1 64 len)
+HasLine (Dump guest address len) = IsU32 guest × (IsU32 address × IsBetween 1 64 len)

@@ -1,5 +1,5 @@
 -- The lines of an input, and what they spell. Ours.
-use Rattle.std.specs.Prelude.{◌≡◌, ◌≢◌, ◌⊎◌, ℕ, ◌-◌, ◌<◌, ◌≤◌, ◌==◌, List, [], ◌∷◌, length, map, take, slice_get, All, if◌then◌else◌, Some}
+use Rattle.std.specs.Prelude.{◌≡◌, ◌≢◌, ◌⊎◌, ℕ, ◌+◌, ◌-◌, ◌<◌, ◌≤◌, ◌==◌, List, [], ◌∷◌, length, map, take, slice_get, All, if◌then◌else◌, Some}
 use Rattle.strm_machine.specs.declared.steps.Step.{Step}
 use Rattle.strm_lines.specs.Grammar.{spelling, HasLine}
 
@@ -12,6 +12,11 @@ on_first b (line ∷ lines) = (b ∷ line) ∷ lines
 unfoldable pub lines_of : List ℕ → List (List ℕ)
 lines_of [] = []
 lines_of (b ∷ bytes) = if b == 10 then [] ∷ lines_of bytes else on_first b (lines_of bytes)
+
+-- the number of line feeds
+unfoldable pub feeds : List ℕ → ℕ
+feeds [] = 0
+feeds (b ∷ bytes) = if b == 10 then 1 + feeds bytes else feeds bytes
 
 -- an input over the limits: 16,777,216 bytes and 262,144 lines
 abbrev pub IsTooLong : List ℕ → Type 0

@@ -3,10 +3,17 @@ use Rattle.std.specs.Prelude.{◌≡◌, ◌≢◌}
 use Rattle.strm_codes.specs.declared.scalars.Scalar.TheVariants.{U8}
 use Rattle.strm_codes.specs.declared.payloads.Payload.TheVariants.{One}
 use Rattle.strm_codes.specs.declared.codes.TransmitIndex.TheVariants.{Stream}
+use Rattle.strm_machine.specs.Acts.{act_of}
+use Rattle.strm_machine.specs.declared.acts.Act.{Act}
+use Rattle.strm_machine.specs.declared.acts.Act.TheVariants.{Make}
+use Rattle.strm_machine.specs.declared.acts.Making.TheVariants.{Between}
 use Rattle.strm_machine.specs.declared.steps.Step.{Step}
-use Rattle.strm_machine.specs.declared.steps.Step.TheVariants.{Between}
 
--- a new stream carries bytes, from one guest to another
+-- a stream that is made carries bytes, from one guest to another
+abbrev pub MakesPlain : Act → Type 0
+MakesPlain (Make (Between writer reader ty)) = (ty ≡ Stream (One U8)) × (writer ≢ reader)
+MakesPlain _ = Unit {0}
+
+-- the same of what a step does
 abbrev pub IsPlain : Step → Type 0
-IsPlain (Between writer reader ty) = (ty ≡ Stream (One U8)) × (writer ≢ reader)
-IsPlain _ = Unit {0}
+IsPlain step = MakesPlain (act_of step)

@@ -1,6 +1,6 @@
 -- How a line is read, word by word: the inverse of `spelling`, as `parse` shows. Ours.
-use Rattle.std.specs.Prelude.{ℕ, ◌+◌, ◌-◌, ◌*◌, ◌%◌, ◌^◌, ◌==◌, ◌&&◌, ◌||◌, not, nat_lt, nat_le, Bool, List, [], ◌∷◌, length, codes, if◌then◌else◌, Option, Some, None, option_and_then}
-use Rattle.std.specs.Option.{option_map}
+use Rattle.std.specs.Prelude.{ℕ, ◌+◌, ◌-◌, ◌*◌, ◌%◌, ◌^◌, ◌==◌, ◌&&◌, ◌||◌, not, nat_lt, nat_le, Bool, List, [], ◌∷◌, ◌++◌, length, take, drop, codes, if◌then◌else◌, Option, Some, None, option_and_then}
+use Rattle.std.specs.Option.{option_map, option_map_or}
 use Rattle.std.specs.Str.{bytes_eq}
 use Rattle.strm_codes.specs.declared.scalars.Scalar.TheVariants.{U8}
 use Rattle.strm_codes.specs.declared.payloads.Payload.TheVariants.{One}
@@ -51,6 +51,13 @@ unfoldable pub number : List ℕ → Option ℕ
 number [] = None
 number (c ∷ cs) = if (c == 48) && nat_lt 0 (length cs) then None else digits_from 0 (c ∷ cs)
 
+-- the number that begins with n and goes on to the first space, and what follows that
+unfoldable pub read_to : ℕ → List ℕ → Option (ℕ × List ℕ)
+read_to n line = do
+  parts ← cut_at 32 line
+  x ← digits_from n parts.0
+  Some (x, parts.1)
+
 -- a number from low to high
 unfoldable pub number_within : ℕ → ℕ → List ℕ → Option ℕ
 number_within low high word = do
@@ -80,18 +87,18 @@ hex word =
     then None else pairs_from word
 
 -- the one type that lines name
-unfoldable pub type_of : List ℕ → Option TransmitIndex
-type_of word = if bytes_eq word (codes "stream:u8") then Some (Stream (One U8)) else None
+unfoldable pub type_read : List ℕ → Option TransmitIndex
+type_read word = if bytes_eq word (codes "stream:u8") then Some (Stream (One U8)) else None
 
 -- the words behind `write` and `read`: guest, type, handle, address and count
 unfoldable pub operands_of : List ℕ → Option (ℕ × (TransmitIndex × (ℕ × (ℕ × ℕ))))
 operands_of rest =
-    followed_by number (followed_by type_of
+    followed_by number (followed_by type_read
     (followed_by number (followed_by number number))) rest
 
 -- the words behind `drop-write` and `drop-read`: guest, type and handle
 unfoldable pub named_end_of : List ℕ → Option (ℕ × (TransmitIndex × ℕ))
-named_end_of rest = followed_by number (followed_by type_of number) rest
+named_end_of rest = followed_by number (followed_by type_read number) rest
 
 -- the step behind each command, from its arguments
 
@@ -102,7 +109,7 @@ guest_of rest = option_map Guest (number rest)
 -- pair W R T, of two guests
 unfoldable pub pair_of : List ℕ → Option Step
 pair_of rest = do
-  v ← followed_by number (followed_by number type_of) rest
+  v ← followed_by number (followed_by number type_read) rest
   if v.0 == v.1.0 then None else Some (Between v.0 v.1.0 v.1.1)
 
 -- write G T H A N
@@ -136,26 +143,37 @@ dump_of rest =
     option_map (λ v. Dump v.0 v.1.0 v.1.1)
     (followed_by number (followed_by number (number_within 1 64)) rest)
 
--- the step of a command on an end, and its arguments
-unfoldable pub end_step_with : List ℕ → List ℕ → Option Step
-end_step_with command rest =
-    if bytes_eq command (codes "write") then write_of rest
-    else (if bytes_eq command (codes "read") then read_of rest
-    else (if bytes_eq command (codes "event") then event_of rest
-    else (if bytes_eq command (codes "drop-write") then drop_write_of rest
-    else (if bytes_eq command (codes "drop-read") then drop_read_of rest else None))))
+-- what follows these bytes at the front of a line
+unfoldable pub behind : List ℕ → List ℕ → Option (List ℕ)
+behind front line =
+    if bytes_eq (take (length front) line) front then Some (drop (length front) line) else None
 
--- the step of a command and its arguments
-unfoldable pub step_with : List ℕ → List ℕ → Option Step
-step_with command rest =
-    if bytes_eq command (codes "guest") then guest_of rest
-    else (if bytes_eq command (codes "pair") then pair_of rest
-    else (if bytes_eq command (codes "poke") then poke_of rest
-    else (if bytes_eq command (codes "dump") then dump_of rest
-    else end_step_with command rest)))
+-- a command: what its lines begin with, and the step behind its arguments
+pub record Command : Type 0 where
+  pub front : List ℕ
+  pub read : List ℕ → Option Step
+
+-- a command by what its lines begin with, its space included
+abbrev pub command : List ℕ → (List ℕ → Option Step) → Command
+command front read = record { front = front; read = read }
+
+-- the commands that most lines are made of
+abbrev pub often : List Command
+often =
+    command (codes "write ") write_of ∷ command (codes "read ") read_of ∷ command (codes "event ") event_of
+    ∷ command (codes "poke ") poke_of ∷ command (codes "dump ") dump_of ∷ []
+
+-- and the others
+abbrev pub seldom : List Command
+seldom =
+    command (codes "guest ") guest_of ∷ command (codes "pair ") pair_of
+    ∷ command (codes "drop-write ") drop_write_of ∷ command (codes "drop-read ") drop_read_of ∷ []
+
+-- the step of the first of these commands that a line begins with
+abbrev pub read_by : List Command → List ℕ → Option Step
+read_by [] line = None
+read_by (c ∷ commands) line = option_map_or c.read (behind c.front line) (read_by commands line)
 
 -- the step that a line spells, where it spells one
 unfoldable pub step_of : List ℕ → Option Step
-step_of line = do
-  p ← cut_at 32 line
-  step_with p.0 p.1
+step_of line = read_by (often ++ seldom) line

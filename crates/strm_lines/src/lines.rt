@@ -2,28 +2,29 @@
 //!
 //! Source: ours.
 
-ghost use Rattle.std.specs.Prelude.{◌≡◌};
-ghost use Rattle.std.specs.Option.{option_map};
-ghost use Rattle.strm_lines.specs.Reading.{operands_of, named_end_of, guest_of, pair_of, write_of, read_of, drop_write_of, drop_read_of, event_of, poke_of, dump_of, end_step_with, step_with, step_of};
+ghost use Rattle.std.specs.Prelude.{◌≡◌, ◌<◌, ◌++◌, is_some, vec_len, vec_capacity};
+ghost use Rattle.std.specs.Option.{option_map, option_to_list};
+ghost use Rattle.strm_lines.specs.Reading.{operands_of, named_end_of, guest_of, pair_of, write_of, read_of, drop_write_of, drop_read_of, event_of, poke_of, dump_of, seldom, read_by, step_of};
 
-use crate::words::{cut, hex, leading_number, leading_type, number, number_within, transmit_type};
-use strm_codes::codes::TransmitIndex;
+use crate::words::{
+    behind, hex, leading_number, leading_type, number, number_within, transmit_type,
+};
+use strm_machine::acts::NamedEnd;
 use strm_machine::steps::Step;
 
 // What `write` and `read` name.
 #[derive(Clone, Copy)]
 struct Operands {
-    guest: u32,
-    ty: TransmitIndex,
-    handle: u32,
+    end: NamedEnd,
     address: u32,
     count: u32,
 }
 
+#[inline(always)]
 #[tactic(auto, unfolding(crate::specs::Reading::operands_of))]
 fn read_operands(rest: &[u8]) -> Option<Operands>
-    ensures { option_map (λ o. (o.guest, (o.ty, (o.handle, (o.address, o.count))))) result
-        ≡ operands_of rest.now }
+    ensures { option_map (λ o. (o.end.guest, (o.end.ty, (o.end.handle, (o.address, o.count)))))
+        result ≡ operands_of rest.now }
 {
     let (guest, rest) = leading_number(rest)?;
     let Some((ty, rest)) = leading_type(rest) else {
@@ -33,20 +34,10 @@ fn read_operands(rest: &[u8]) -> Option<Operands>
     let (address, rest) = leading_number(rest)?;
     let count = number(rest)?;
     Some(Operands {
-        guest,
-        ty,
-        handle,
+        end: NamedEnd { guest, ty, handle },
         address,
         count,
     })
-}
-
-// What `drop-write` and `drop-read` name.
-#[derive(Clone, Copy)]
-struct NamedEnd {
-    guest: u32,
-    ty: TransmitIndex,
-    handle: u32,
 }
 
 #[tactic(auto, unfolding(crate::specs::Reading::named_end_of))]
@@ -87,12 +78,11 @@ fn write_line(rest: &[u8]) -> Option<Step>
     ensures { result ≡ write_of rest.now }
 {
     let Operands {
-        guest,
-        ty,
-        handle,
+        end,
         address,
         count,
     } = read_operands(rest)?;
+    let NamedEnd { guest, ty, handle } = end;
     Some(Step::Write {
         guest,
         ty,
@@ -107,12 +97,11 @@ fn read_line(rest: &[u8]) -> Option<Step>
     ensures { result ≡ read_of rest.now }
 {
     let Operands {
-        guest,
-        ty,
-        handle,
+        end,
         address,
         count,
     } = read_operands(rest)?;
+    let NamedEnd { guest, ty, handle } = end;
     Some(Step::Read {
         guest,
         ty,
@@ -175,49 +164,62 @@ fn dump_line(rest: &[u8]) -> Option<Step>
     })
 }
 
-// The step of a command on an end, and its arguments.
-#[tactic(auto, unfolding(crate::specs::Reading::end_step_with))]
-fn end_step_with(command: &[u8], rest: &[u8]) -> Option<Step>
-    ensures { result ≡ end_step_with command.now rest.now }
+// Keeps what was read, where something was.
+#[inline(always)]
+fn keep<T: Copy>(items: &mut Vec<T>, read: Option<T>) -> bool
+    requires room { vec_len items.old < vec_capacity items.old }
+    ensures items { items.new.items ≡ items.old.items ++ option_to_list read }
+    ensures found { result ≡ is_some read }
+    ensures capacity { vec_capacity items.new ≡ vec_capacity items.old }
 {
-    if command == b"write".as_slice() {
-        write_line(rest)
-    } else if command == b"read".as_slice() {
-        read_line(rest)
-    } else if command == b"event".as_slice() {
-        event_line(rest)
-    } else if command == b"drop-write".as_slice() {
-        drop_write_line(rest)
-    } else if command == b"drop-read".as_slice() {
-        drop_read_line(rest)
-    } else {
-        None
+    match read {
+        Some(item) => {
+            items.push_reserved(item);
+            true
+        }
+        None => false,
     }
 }
 
-// The step of a command and its arguments.
-#[tactic(auto, unfolding(crate::specs::Reading::step_with))]
-fn step_with(command: &[u8], rest: &[u8]) -> Option<Step>
-    ensures { result ≡ step_with command.now rest.now }
+// Keeps the step of a line that begins with a command of the second half.
+fn keep_seldom(steps: &mut Vec<Step>, line: &[u8]) -> bool
+    requires room { vec_len steps.old < vec_capacity steps.old }
+    ensures items { steps.new.items ≡ steps.old.items ++ option_to_list (read_by seldom line.now) }
+    ensures found { result ≡ is_some (read_by seldom line.now) }
+    ensures capacity { vec_capacity steps.new ≡ vec_capacity steps.old }
 {
-    if command == b"guest".as_slice() {
-        guest_line(rest)
-    } else if command == b"pair".as_slice() {
-        pair_line(rest)
-    } else if command == b"poke".as_slice() {
-        poke_line(rest)
-    } else if command == b"dump".as_slice() {
-        dump_line(rest)
+    if let Some(rest) = behind(line, b"guest ") {
+        keep(steps, guest_line(rest))
+    } else if let Some(rest) = behind(line, b"pair ") {
+        keep(steps, pair_line(rest))
+    } else if let Some(rest) = behind(line, b"drop-write ") {
+        keep(steps, drop_write_line(rest))
+    } else if let Some(rest) = behind(line, b"drop-read ") {
+        keep(steps, drop_read_line(rest))
     } else {
-        end_step_with(command, rest)
+        false
     }
 }
 
-// The step that a line spells, where it spells one.
+// Keeps the step that a line spells, where it spells one: each is made where it is to lie.
 #[tactic(auto, unfolding(crate::specs::Reading::step_of))]
-pub(crate) fn step_of_line(line: &[u8]) -> Option<Step>
-    ensures { result ≡ step_of line.now }
+pub(crate) fn keep_line(steps: &mut Vec<Step>, line: &[u8]) -> bool
+    requires room { vec_len steps.old < vec_capacity steps.old }
+    ensures items { steps.new.items ≡ steps.old.items ++ option_to_list (step_of line.now) }
+    ensures found { result ≡ is_some (step_of line.now) }
+    ensures capacity { vec_capacity steps.new ≡ vec_capacity steps.old }
 {
-    let (command, rest) = cut(line, b' ')?;
-    step_with(command, rest)
+    if let Some(rest) = behind(line, b"write ") {
+        keep(steps, write_line(rest))
+    } else if let Some(rest) = behind(line, b"read ") {
+        keep(steps, read_line(rest))
+    } else if let Some(rest) = behind(line, b"event ") {
+        keep(steps, event_line(rest))
+    } else if let Some(rest) = behind(line, b"poke ") {
+        keep(steps, poke_line(rest))
+    } else if let Some(rest) = behind(line, b"dump ") {
+        keep(steps, dump_line(rest))
+    } else {
+        keep_seldom(steps, line)
+    }
 }

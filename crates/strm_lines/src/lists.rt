@@ -21,6 +21,16 @@ fn push_item<T: Copy>(items: &mut Vec<T>, item: &T) -> Result<(), OutOfMemory>
     }
 }
 
+// Makes room for so many items more.
+fn reserve_items<T>(items: &mut Vec<T>, additional: usize) -> Result<(), OutOfMemory>
+    ensures { items.new.items ≡ items.old.items }
+{
+    match items.reserve(additional) {
+        Ok(()) => Ok(()),
+        Err(_) => Err(OutOfMemory),
+    }
+}
+
 /// A list of steps.
 #[derive(Drop)]
 pub struct Steps {
@@ -44,6 +54,20 @@ impl Steps {
         Steps {
             items: Vec::new(alloc),
         }
+    }
+
+    // These steps.
+    pub(crate) fn from_vec(items: Vec<Step>) -> Steps
+        ensures { result ≡ items.items }
+    {
+        Steps { items }
+    }
+
+    /// Asks at once for room for so many steps more.
+    pub fn reserve(&mut self, additional: usize) -> Result<(), OutOfMemory>
+        ensures { self.new ≡ self.old }
+    {
+        reserve_items(&mut self.items, additional)
     }
 
     /// Adds a step at the end.
@@ -85,6 +109,13 @@ impl Replies {
         Replies {
             items: Vec::new(alloc),
         }
+    }
+
+    /// Asks at once for room for so many replies more.
+    pub fn reserve(&mut self, additional: usize) -> Result<(), OutOfMemory>
+        ensures { self.new ≡ self.old }
+    {
+        reserve_items(&mut self.items, additional)
     }
 
     /// Adds a reply at the end.
@@ -165,6 +196,13 @@ impl TextBytes {
         TextBytes {
             items: Vec::new(alloc),
         }
+    }
+
+    /// Asks at once for room for so many bytes more.
+    pub fn reserve(&mut self, additional: usize) -> Result<(), OutOfMemory>
+        ensures { self.new ≡ self.old }
+    {
+        reserve_items(&mut self.items, additional)
     }
 
     /// Adds a byte at the end.

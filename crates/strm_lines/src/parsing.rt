@@ -3,17 +3,15 @@
 //! Source: ours.
 
 ghost use Rattle.std.specs.Prelude.{◌≡◌, ◌≢◌, ◌∷◌, ◌≤◌, ◌<◌, ◌↔◌, ℕ, List, length, All, IfOk, MatchResult, Err};
-ghost use Rattle.memchr.specs.Find.{is_byte, places};
 ghost use Rattle.strm_machine.specs.declared.steps.Step.{Step};
 ghost use Rattle.strm_lines.specs.Plain.{IsPlain};
-ghost use Rattle.strm_lines.specs.Lines.{lines_of, Spells, IsFirstBad, IsTooLong};
+ghost use Rattle.strm_lines.specs.Lines.{lines_of, feeds, Spells, IsFirstBad, IsTooLong};
 ghost use Rattle.strm_lines.specs.declared.parsing.ParseError.TheVariants.{OutOfMemory as WantOfMemory};
 
-use crate::lines::step_of_line;
+use crate::lines::keep_line;
 use crate::lists::Steps;
-use memchr::{memchr, memchr_iter};
-use std::alloc::Global;
-use strm_codes::counts::OutOfMemory;
+use memchr::memchr;
+use std::alloc::{AllocError, Global};
 use thiserror::Error;
 
 /// The most bytes of an input.
@@ -36,10 +34,10 @@ pub enum ParseError {
     OutOfMemory,
 }
 
-impl From<OutOfMemory> for ParseError {
+impl From<AllocError> for ParseError {
     ghost from_gives = { λ _ e. e ≡ WantOfMemory };
 
-    fn from(_error: OutOfMemory) -> ParseError {
+    fn from(_error: AllocError) -> ParseError {
         ParseError::OutOfMemory
     }
 }
@@ -58,10 +56,14 @@ pub fn parse(alloc: Global, bytes: &[u8]) -> Result<Steps, ParseError>
         ¬ IsTooLong bytes.now →
         MatchResult result (λ found. found ≡ steps) (λ error. error ≡ ParseError.OutOfMemory) }
 {
-    if bytes.len() > MAX_BYTES || count_lines(bytes) > MAX_LINES {
+    if bytes.len() > MAX_BYTES {
         return Err(ParseError::TooLong);
     }
-    parse_lines(alloc, bytes)
+    let lines = count_lines(bytes);
+    if lines > MAX_LINES {
+        return Err(ParseError::TooLong);
+    }
+    parse_lines(alloc, bytes, lines)
 }
 
 // The number of lines.
@@ -79,34 +81,59 @@ fn count_lines(bytes: &[u8]) -> usize
     }
 }
 
+// The most bytes whose line feeds a byte can count, in whole vectors of 32.
+const FEW: usize = 224;
+
 // The number of line feeds.
 fn count_feeds(bytes: &[u8]) -> usize
-    ensures exact { result ≡ length (places (is_byte 10) bytes.now) }
+    ensures exact { result ≡ feeds bytes.now }
     ensures most { result ≤ length bytes.now }
 {
-    memchr_iter(b'\n', bytes).count()
+    let mut count = 0;
+    let mut rest = bytes;
+    while rest.len() > FEW {
+        let (few, after) = rest.split_at(FEW);
+        count += count_few_feeds(few) as usize;
+        rest = after;
+    }
+    count + count_few_feeds(rest) as usize
 }
 
-// The steps of an input within the limits.
-fn parse_lines(alloc: Global, bytes: &[u8]) -> Result<Steps, ParseError>
-    requires { length (lines_of bytes.now) ≤ 262144 }
+// The number of line feeds among a few bytes.
+fn count_few_feeds(bytes: &[u8]) -> u8
+    requires few { length bytes.now ≤ 224 }
+    ensures exact { result ≡ feeds bytes.now }
+    ensures most { result ≤ length bytes.now }
+{
+    let mut count = 0u8;
+    for byte in bytes {
+        if *byte == b'\n' {
+            count += 1;
+        }
+    }
+    count
+}
+
+// The steps of an input of so many lines.
+fn parse_lines(alloc: Global, bytes: &[u8], lines: usize) -> Result<Steps, ParseError>
+    requires lines { lines ≡ length (lines_of bytes.now) }
+    requires few { lines ≤ 262144 }
     ensures ok { IfOk result (λ steps. Spells (lines_of bytes.now) steps) }
     ensures within { result ≢ Err ParseError.TooLong }
     ensures bad_line { (line : ℕ) → result ≡ Err (ParseError.BadLine line) →
         IsFirstBad (lines_of bytes.now) line }
 {
-    let mut steps = Steps::new(alloc);
+    let mut steps = Vec::with_capacity(alloc, lines)?;
     let mut rest = bytes;
     while !rest.is_empty() {
         let (line, after) = first_line(rest);
-        let Some(step) = step_of_line(line) else {
-            let line = steps.as_slice().len() as u32 + 1;
+        if !keep_line(&mut steps, line) {
+            let line = steps.len() as u32 + 1;
             return Err(ParseError::BadLine { line });
-        };
-        steps.push(step)?;
+        }
         rest = after;
     }
-    Ok(steps)
+    Ok(Steps::from_vec(steps))
 }
 
 // The first line, and what follows its line feed.

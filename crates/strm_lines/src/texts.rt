@@ -10,23 +10,23 @@ use crate::lists::TextBytes;
 use itoa::{Buffer, Integer};
 use std::alloc::Global;
 use strm_codes::counts::OutOfMemory;
+use strm_codes::refusals::Refusal;
 use strm_machine::replies::{Pair, Reply};
+
+// The lower-case hexadecimal digits.
+const DIGITS: [u8; 16] = *b"0123456789abcdef";
 
 // A lower-case hexadecimal digit.
 fn hex_digit(nibble: u8) -> u8
     requires { nibble < 16 }
     ensures { result ≡ hex_digit nibble }
 {
-    if nibble < 10 {
-        b'0' + nibble
-    } else {
-        b'a' - 10 + nibble
-    }
+    DIGITS[nibble as usize]
 }
 
-// A word as eight digits.
-fn hex_word(word: u32) -> [u8; 8]
-    ensures { result ≡ hex_word word }
+// A word as eight digits, and a line feed.
+fn hex_line(word: u32) -> [u8; 9]
+    ensures { result ≡ ended (hex_word word) }
 {
     let first = (word / 0x100_0000) as u8;
     let second = (word / 0x1_0000 % 0x100) as u8;
@@ -41,6 +41,7 @@ fn hex_word(word: u32) -> [u8; 8]
         hex_digit(third % 16),
         hex_digit(fourth / 16),
         hex_digit(fourth % 16),
+        b'\n',
     ]
 }
 
@@ -52,52 +53,63 @@ fn push_number<I: Integer>(out: &mut TextBytes, number: I) -> Result<(), OutOfMe
     out.push_slice(buffer.format(number).as_bytes())
 }
 
-// Adds bytes as pairs of digits.
+// Adds bytes as pairs of digits, and a line feed.
 fn push_hex(out: &mut TextBytes, bytes: &[u8]) -> Result<(), OutOfMemory>
     requires { length bytes.now ≤ 64 }
-    ensures { OnOk result (out.new ≡ out.old ++ hex_pairs bytes.now) }
+    ensures { OnOk result (out.new ≡ out.old ++ ended (hex_pairs bytes.now)) }
 {
-    let mut digits = [0u8; 128];
+    let mut digits = [b'\n'; 129];
     for k in 0..bytes.len() {
         digits[2 * k] = hex_digit(bytes[k] / 16);
         digits[2 * k + 1] = hex_digit(bytes[k] % 16);
     }
-    out.push_slice(&digits[..2 * bytes.len()])
+    digits[2 * bytes.len()] = b'\n';
+    out.push_slice(&digits[..2 * bytes.len() + 1])
 }
 
-// Adds the text of a new stream.
+// Adds the line of a new stream.
 fn push_pair(out: &mut TextBytes, pair: &Pair) -> Result<(), OutOfMemory>
-    ensures { OnOk result (out.new ≡ out.old ++ reply_text (Reply.Pair pair.now)) }
+    ensures { OnOk result (out.new ≡ out.old ++ ended (reply_text (Reply.Pair pair.now))) }
 {
     out.push_slice(b"read ")?;
     push_number(out, pair.read)?;
     out.push_slice(b" write ")?;
     push_number(out, pair.write)?;
     out.push_slice(b" stream ")?;
-    push_number(out, pair.stream)
+    push_number(out, pair.stream)?;
+    out.push(b'\n')
 }
 
-// Adds the text of a reply.
+// Adds the line of a refusal.
+fn push_refusal(out: &mut TextBytes, refusal: Refusal) -> Result<(), OutOfMemory>
+    ensures { OnOk result (out.new ≡ out.old ++ ended (reply_text (Reply.Refused refusal))) }
+{
+    out.push_slice(b"refused ")?;
+    out.push_slice(refusal.name().as_bytes())?;
+    out.push(b'\n')
+}
+
+// Adds the line of a reply.
 fn push_reply(out: &mut TextBytes, reply: &Reply) -> Result<(), OutOfMemory>
-    ensures { OnOk result (out.new ≡ out.old ++ reply_text reply.now) }
+    ensures { OnOk result (out.new ≡ out.old ++ ended (reply_text reply.now)) }
 {
     match reply {
-        Reply::Done => out.push_slice(b"ok"),
-        Reply::Number(number) => push_number(out, *number),
-        Reply::Pair(pair) => push_pair(out, pair),
-        Reply::Code(code) => out.push_slice(&hex_word(code.encode())),
-        Reply::Event(Some(code)) => out.push_slice(&hex_word(code.encode())),
-        Reply::Event(None) => out.push_slice(b"none"),
+        Reply::Code(code) | Reply::Event(Some(code)) => out.push_slice(&hex_line(code.encode())),
+        Reply::Event(None) => out.push_slice(b"none\n"),
+        Reply::Done => out.push_slice(b"ok\n"),
         Reply::Bytes(bytes) => push_hex(out, bytes.as_slice()),
-        Reply::Refused(refusal) => {
-            out.push_slice(b"refused ")?;
-            out.push_slice(refusal.name().as_bytes())
+        Reply::Number(number) => {
+            push_number(out, *number)?;
+            out.push(b'\n')
         }
+        Reply::Pair(pair) => push_pair(out, pair),
+        Reply::Refused(refusal) => push_refusal(out, *refusal),
         Reply::BadItem { stream } => {
             out.push_slice(b"bad-item stream ")?;
-            push_number(out, *stream)
+            push_number(out, *stream)?;
+            out.push(b'\n')
         }
-        Reply::StoreTrapped => out.push_slice(b"store-trapped"),
+        Reply::StoreTrapped => out.push_slice(b"store-trapped\n"),
     }
 }
 
@@ -105,9 +117,10 @@ fn push_reply(out: &mut TextBytes, reply: &Reply) -> Result<(), OutOfMemory>
 pub fn push_replies(out: &mut TextBytes, replies: &[Reply]) -> Result<(), OutOfMemory>
     ensures ok { OnOk result (out.new ≡ out.old ++ reply_lines replies.now) }
 {
+    // Most lines are a code's. Where there is no room for all, each asks for its own.
+    let _room = out.reserve(replies.len().saturating_mul(9));
     for reply in replies {
         push_reply(out, reply)?;
-        out.push(b'\n')?;
     }
     Ok(())
 }

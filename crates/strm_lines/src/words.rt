@@ -2,27 +2,25 @@
 //!
 //! Source: ours.
 
-ghost use Rattle.std.specs.Prelude.{◌≡◌, ◌%◌, ◌≤◌, ◌<◌, length, Some, None};
+ghost use Rattle.std.specs.Prelude.{◌≡◌, ◌%◌, ◌≤◌, ◌<◌, false, IsTrue, length, drop, slice_index_or, Some, None};
 ghost use Rattle.std.specs.Option.{option_map};
-ghost use Rattle.strm_lines.specs.Reading.{cut_at, leading, number, number_within, nibble, pairs_from, hex, type_of};
+ghost use Rattle.strm_lines.specs.Reading.{behind, leading, is_digit, number, read_to, number_within, nibble, pairs_from, hex, type_read};
 
 use strm_codes::codes::TransmitIndex;
 use strm_codes::payloads::Payload;
 use strm_codes::scalars::Scalar;
 use strm_machine::chunks::Chunk;
 
-// What comes before and after the first such byte.
-pub(crate) fn cut(bytes: &[u8], at: u8) -> Option<(&[u8], &[u8])>
-    ensures { option_map (λ p. (p.0.now, p.1.now)) result ≡ cut_at at bytes.now }
+// What follows these bytes at the front of a line.
+#[inline(always)]
+#[tactic(auto, unfolding(crate::specs::Reading::behind))]
+pub(crate) fn behind<'a, const N: usize>(line: &'a [u8], front: &[u8; N]) -> Option<&'a [u8]>
+    ensures { option_map (λ rest. rest.now) result ≡ behind front.now line.now }
 {
-    for k in 0..bytes.len() {
-        if bytes[k] == at {
-            let (front, _) = bytes.split_at(k);
-            let (_, rest) = bytes.split_at(k + 1);
-            return Some((front, rest));
-        }
+    match line.split_first_chunk::<N>() {
+        Some((first, rest)) => { if *first == *front { Some(rest) } else { None } }
+        None => None,
     }
-    None
 }
 
 // A number in decimal, below 2^32 and without leading zeros.
@@ -60,20 +58,60 @@ pub(crate) fn number_within(word: &[u8], low: u32, high: u32) -> Option<u32>
     }
 }
 
+// Whether a number can stand before a first space: a digit does, a zero alone.
+fn may_begin_number(line: &[u8]) -> bool
+    ensures no { result ≡ false → leading number line.now ≡ None }
+    ensures yes { IsTrue result → leading number line.now ≡ read_to 0 line.now }
+{
+    if line.len() < 2 {
+        return false;
+    }
+    if !line[0].is_ascii_digit() {
+        return false;
+    }
+    line[0] != b'0' || line[1] == b' '
+}
+
 // The number before the first space, and what follows it.
-#[tactic(auto, unfolding(crate::specs::Reading::leading))]
 pub(crate) fn leading_number(line: &[u8]) -> Option<(u32, &[u8])>
     ensures { option_map (λ p. (p.0, p.1.now)) result ≡ leading number line.now }
 {
-    let (word, rest) = cut(line, b' ')?;
-    let number = number(word)?;
+    if !may_begin_number(line) {
+        return None;
+    }
+    let mut number = 0u32;
+    for k in 0..line.len() {
+        let byte = line[k];
+        if !byte.is_ascii_digit() {
+            return behind_number(number, line, k);
+        }
+        let next = 10 * u64::from(number) + u64::from(byte - b'0');
+        if next >= 1 << 32 {
+            return None;
+        }
+        number = next as u32;
+    }
+    None
+}
+
+// A number that ends at this place, where a space does.
+#[inline(always)]
+fn behind_number(number: u32, line: &[u8], at: usize) -> Option<(u32, &[u8])>
+    requires inside { at < length line.now }
+    requires digit { is_digit (slice_index_or line.now at 0) ≡ false }
+    ensures { option_map (λ p. (p.0, p.1.now)) result ≡ read_to number (drop at line.now) }
+{
+    if line[at] != b' ' {
+        return None;
+    }
+    let (_, rest) = line.split_at(at + 1);
     Some((number, rest))
 }
 
 // The type of a stream or future.
-#[tactic(auto, unfolding(crate::specs::Reading::type_of))]
+#[tactic(auto, unfolding(crate::specs::Reading::type_read))]
 pub(crate) fn transmit_type(word: &[u8]) -> Option<TransmitIndex>
-    ensures { result ≡ type_of word.now }
+    ensures { result ≡ type_read word.now }
 {
     if word == b"stream:u8".as_slice() {
         Some(TransmitIndex::Stream(Payload::One(Scalar::U8)))
@@ -83,13 +121,13 @@ pub(crate) fn transmit_type(word: &[u8]) -> Option<TransmitIndex>
 }
 
 // The type before the first space, and what follows it.
-#[tactic(auto, unfolding(crate::specs::Reading::leading))]
 pub(crate) fn leading_type(line: &[u8]) -> Option<(TransmitIndex, &[u8])>
-    ensures { option_map (λ p. (p.0, p.1.now)) result ≡ leading type_of line.now }
+    ensures { option_map (λ p. (p.0, p.1.now)) result ≡ leading type_read line.now }
 {
-    let (word, rest) = cut(line, b' ')?;
-    let ty = transmit_type(word)?;
-    Some((ty, rest))
+    match behind(line, b"stream:u8 ") {
+        Some(rest) => Some((TransmitIndex::Stream(Payload::One(Scalar::U8)), rest)),
+        None => None,
+    }
 }
 
 // What a lower-case hexadecimal digit stands for, and 16 for any other byte.

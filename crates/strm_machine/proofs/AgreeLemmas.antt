@@ -3,14 +3,11 @@
 use Rattle.std.proofs.Common.{◌≡◌, ℕ, Bool, true, false, refl, sym, ap, ◌∙◌, inl, inr}
 use Rattle.std.specs.Prelude.{Ok, Err, ◌⊎◌, ◌==◌}
 use Rattle.std.proofs.lemmas.Bool.{and_parts, cases_eq, eqb-true}
-use Rattle.strm_machine.specs.Sides.{same_side}
-use Rattle.strm_machine.specs.Tests.{Name, side_of}
+use Rattle.strm_machine.specs.Words.{same_side, Name, Gone, Side, Writing, Reading, is_end}
+use Rattle.strm_machine.specs.Tests.{side_of}
 use Rattle.strm_machine.specs.declared.streams.Owner.{Owner}
-use Rattle.strm_machine.specs.declared.streams.Owner.TheVariants.{Held, Gone}
-use Rattle.strm_machine.specs.declared.streams.Side.{Side}
-use Rattle.strm_machine.specs.declared.streams.Side.TheVariants.{Writing, Reading}
+use Rattle.strm_machine.specs.declared.streams.Owner.TheVariants.{Held}
 use Rattle.strm_machine.proofs.SideLemmas.{same_side_is}
-use Rattle.strm_machine.specs.Moments.{is_end}
 
 -- ## One end or another
 

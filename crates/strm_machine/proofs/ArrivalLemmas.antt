@@ -6,24 +6,19 @@ use Rattle.std.proofs.lemmas.List.{get_or_past, get_or-replicate, length-replica
 use Rattle.std.proofs.lemmas.List.Elements.{All-nil, All-cons, All-set, All-get_or}
 use Rattle.std.proofs.lemmas.Option.{option_and_then_some}
 use Rattle.strm_codes.specs.Scalars.{size_of}
-use Rattle.strm_codes.specs.Layout.{scalars_of, item_size, gap_before}
-use Rattle.strm_codes.specs.declared.scalars.Scalar.{Scalar}
-use Rattle.strm_codes.specs.declared.payloads.Payload.{Payload}
-use Rattle.strm_memory.specs.Bytes.{to_le, put_at, IsBytes}
+use Rattle.strm_machine.specs.Words.{Guest, scalars_of, item_size, Scalar, Payload, put_at, items_at, stored_at, no_guest, guest_in, memory_in, with_memory, carried, sizes_of, IsPlaced, Operation, items_in}
+use Rattle.strm_codes.specs.Layout.{gap_before}
+use Rattle.strm_memory.specs.Bytes.{to_le, IsBytes}
 use Rattle.strm_memory.specs.Numbers.{lowered}
-use Rattle.strm_memory.specs.Items.{decode_from, encode_from, decode, encode, items, stored, items_at, stored_at}
+use Rattle.strm_memory.specs.Items.{decode_from, encode_from, decode, encode, items, stored}
 use Rattle.strm_memory.proofs.ByteLemmas.{IsBytes-drop, IsBytes-take}
 use Rattle.strm_memory.proofs.CopyLemmas.{option_map_some}
 use Rattle.strm_memory.proofs.RegionLemmas.{items_at-copied}
-use Rattle.strm_machine.specs.State.{Guest, no_guest, guest_in, memory_in, with_memory}
-use Rattle.strm_machine.specs.Meetings.{carried}
-use Rattle.strm_machine.specs.Soundness.{sizes_of, IsPlaced}
-use Rattle.strm_machine.specs.declared.streams.Operation.{Operation}
 use Rattle.strm_machine.proofs.BoundLemmas.{within}
 use Rattle.strm_machine.proofs.CarryLemmas.{no_scalars}
 use Rattle.strm_machine.proofs.StateLemmas.{memory_in-with_memory}
 use Rattle.strm_machine.proofs.TurnLemmas.{front_inside}
-use Rattle.strm_machine.specs.Moments.{decoded, items_in}
+use Rattle.strm_machine.specs.Moments.{decoded}
 
 -- ## Bytes
 
@@ -154,19 +149,20 @@ same_stored ss source memory from to n xs h l e =
       ]
     ]
 
-pub carried_arrives : (guests after : List Guest) (payload : Payload) (write read : Operation) (n : ℕ) → AreBytes guests → read.guest < length guests → n ≤ read.left → IsPlaced (sizes_of guests) payload read → carried guests payload write read n ≡ Some after → Arrives guests after payload write read n
-carried_arrives guests after payload write read n h there fit placed e =
-    let ss = scalars_of payload in
-    let source = memory_in guests write.guest in
-    let memory = memory_in guests read.guest in
-    option_map_some _ (items_at ss source write.address n) after e
-    (λ xs p q.
-    let new = stored_at ss memory read.address xs in
-    let room = within (length memory) ss read.address n (front_inside guests payload read n fit placed) in
-    let same = same_stored ss source memory write.address read.address n xs (memory_bytes guests write.guest h) room p in
-    let here : memory_in after read.guest ≡ new = ap (λ gs. memory_in gs read.guest) (sym q) ∙ memory_in-with_memory guests read.guest new there in
-    record {
-      brings = ap (λ m. decoded ss (drop read.address m) n) here ∙ same.0;
-      whole = subst (λ m. All IsSome (decoded ss (drop read.address m) n)) (sym here) same.1;
-      bytes = subst AreBytes q (AreBytes-with_memory guests read.guest new (IsBytes-stored_at ss memory read.address xs (memory_bytes guests read.guest h)) h);
-    })
+module _ (guests after : List Guest) (payload : Payload) (write read : Operation) (n : ℕ) where
+  pub carried_arrives : AreBytes guests → read.guest < length guests → n ≤ read.left → IsPlaced (sizes_of guests) payload read → carried guests payload write read n ≡ Some after → Arrives guests after payload write read n
+  carried_arrives h there fit placed e =
+      let ss = scalars_of payload in
+      let source = memory_in guests write.guest in
+      let memory = memory_in guests read.guest in
+      option_map_some _ (items_at ss source write.address n) after e
+      (λ xs p q.
+      let new = stored_at ss memory read.address xs in
+      let room = within (length memory) ss read.address n (front_inside guests payload read n fit placed) in
+      let same = same_stored ss source memory write.address read.address n xs (memory_bytes guests write.guest h) room p in
+      let here : memory_in after read.guest ≡ new = ap (λ gs. memory_in gs read.guest) (sym q) ∙ memory_in-with_memory guests read.guest new there in
+      record {
+        brings = ap (λ m. decoded ss (drop read.address m) n) here ∙ same.0;
+        whole = subst (λ m. All IsSome (decoded ss (drop read.address m) n)) (sym here) same.1;
+        bytes = subst AreBytes q (AreBytes-with_memory guests read.guest new (IsBytes-stored_at ss memory read.address xs (memory_bytes guests read.guest h)) h);
+      })

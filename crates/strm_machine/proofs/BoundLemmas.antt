@@ -3,11 +3,8 @@ use Rattle.std.proofs.Common.{◌≡◌, ℕ, ◌+◌, ◌-◌, ◌*◌, ◌<◌
 use Rattle.std.proofs.lemmas.Bool.Decides.{nat_tests}
 use Rattle.std.proofs.lemmas.List.Sums.{get_or-le-sum_by}
 use Rattle.std.specs.Prelude.{nat_lt, ◌&&◌, ◌^◌, sum}
-use Rattle.strm_codes.specs.Layout.{item_size}
-use Rattle.strm_codes.specs.declared.scalars.Scalar.{Scalar}
+use Rattle.strm_machine.specs.Words.{item_size, Scalar, items_at, stored_at, put_at}
 use Rattle.strm_machine.specs.State.{memory_limit}
-use Rattle.strm_memory.specs.Items.{items_at, stored_at}
-use Rattle.strm_memory.specs.Bytes.{put_at}
 use Rattle.strm_memory.specs.Region.{is_out_of_bounds, bytes_out_of_bounds}
 use Rattle.strm_memory.proofs.RegionLemmas.{length-items, length-stored}
 use Rattle.strm_memory.proofs.ByteLemmas.{length-put_at}
@@ -66,7 +63,9 @@ address_room sizes g ss address n l h s a =
 
 -- bytes put where they don't pass the end keep the memory's length
 pub length-poked : (memory : List ℕ) (address : ℕ) (bytes : List ℕ) → bytes_out_of_bounds (length memory) address (length bytes) ≡ false → length (put_at memory address bytes) ≡ length memory
-length-poked memory address [] h = let e : length (drop (address + 0) memory) ≡ length memory - address = rw add-zero (length-drop address memory) in omega (arith, e, length-append (take address memory ++ []) (drop (address + 0) memory), length-append (take address memory) [], length-take address memory)
+length-poked memory address [] h =
+    let e : length (drop (address + 0) memory) ≡ length memory - address = rw add-zero (length-drop address memory) in
+    omega (arith, e, length-append (take address memory ++ []) (drop (address + 0) memory), length-append (take address memory) [], length-take address memory)
 length-poked memory address (b ∷ bytes) h = length-put_at memory address (b ∷ bytes) (inside (length memory) address (length (b ∷ bytes)) h (omega arith))
   where
     inside : (size address count : ℕ) → bytes_out_of_bounds size address count ≡ false → 0 < count → address + count ≤ size

@@ -4,25 +4,29 @@ use Rattle.std.proofs.lemmas.List.{take-append-drop}
 use Rattle.strm_memory.proofs.RegionLemmas.{items-number_or_none}
 use Rattle.std.specs.Prelude.{IsSomeAnd, IsSome}
 use Rattle.std.specs.Option.{option_map}
-use Rattle.strm_codes.specs.declared.payloads.Payload.{Payload}
+use Rattle.strm_machine.specs.Words.{Guest, Payload, Scalar, scalars_of, item_size, items_at, stored_at, memory_in, with_memory, carried, Operation}
 use Rattle.strm_codes.specs.declared.payloads.Payload.TheVariants.{Nothing}
-use Rattle.strm_codes.specs.declared.scalars.Scalar.{Scalar}
 use Rattle.strm_codes.specs.Scalars.{size_of}
-use Rattle.strm_codes.specs.Layout.{scalars_of, item_size, gap_before}
+use Rattle.strm_codes.specs.Layout.{gap_before}
 use Rattle.strm_codes.proofs.LayoutLemmas.{IsWidth-size_of, le-end_offset}
-use Rattle.strm_memory.specs.Items.{items_at, stored, stored_at, encode_from}
-use Rattle.strm_machine.specs.State.{Guest, memory_in, with_memory}
-use Rattle.strm_machine.specs.Meetings.{carried}
-use Rattle.strm_machine.specs.declared.streams.Operation.{Operation}
+use Rattle.strm_memory.specs.Items.{stored, encode_from}
 use Rattle.strm_machine.proofs.StateLemmas.{with_memory-same}
 
--- the items lifted, and the reader's memory with them
-pub carried_some : (guests : List Guest) (payload : Payload) (write read : Operation) (n : ℕ) (memory : List ℕ) → IsSomeAnd (items_at (scalars_of payload) (memory_in guests write.guest) write.address n) (λ xs. memory ≡ stored_at (scalars_of payload) (memory_in guests read.guest) read.address xs) → carried guests payload write read n ≡ Some (with_memory guests read.guest memory)
-carried_some guests payload write read n memory h = both (items_at (scalars_of payload) (memory_in guests write.guest) write.address n) h
-  where
-    both : (o : Option (List (List ℤ))) → IsSomeAnd o (λ xs. memory ≡ stored_at (scalars_of payload) (memory_in guests read.guest) read.address xs) → option_map (λ xs. with_memory guests read.guest (stored_at (scalars_of payload) (memory_in guests read.guest) read.address xs)) o ≡ Some (with_memory guests read.guest memory)
-    both None k = absurd k
-    both (Some xs) k = ap (λ m. Some (with_memory guests read.guest m)) (sym k)
+module _ (guests : List Guest) (payload : Payload) (write read : Operation) (n : ℕ) where
+  -- the items that are lifted
+  abbrev lifted : Option (List (List ℤ))
+  lifted = items_at (scalars_of payload) (memory_in guests write.guest) write.address n
+
+  -- the reader's memory with them
+  abbrev filled : List (List ℤ) → List ℕ
+  filled xs = stored_at (scalars_of payload) (memory_in guests read.guest) read.address xs
+
+  some_filled : (memory : List ℕ) (o : Option (List (List ℤ))) → IsSomeAnd o (λ xs. memory ≡ filled xs) → option_map (λ xs. with_memory guests read.guest (filled xs)) o ≡ Some (with_memory guests read.guest memory)
+  some_filled memory None k = absurd k
+  some_filled memory (Some xs) k = ap (λ m. Some (with_memory guests read.guest m)) (sym k)
+
+  pub carried_some : (memory : List ℕ) → IsSomeAnd lifted (λ xs. memory ≡ filled xs) → carried guests payload write read n ≡ Some (with_memory guests read.guest memory)
+  carried_some memory h = some_filled memory lifted h
 
 pub carried_none : (guests : List Guest) (payload : Payload) (write read : Operation) (n : ℕ) → items_at (scalars_of payload) (memory_in guests write.guest) write.address n ≡ None → carried guests payload write read n ≡ None
 carried_none guests payload write read n e = rw e refl

@@ -1,14 +1,6 @@
 -- What one moment may do to an end of a stream: five changes, by which the law of conservation goes.
 use Rattle.std.proofs.Common.{◌≡◌, ℕ, ◌+◌, ◌*◌, ◌≤◌, ℤ, List, [], ◌∷◌, Option, None, Some}
-use Rattle.strm_codes.specs.Layout.{scalars_of, item_size}
-use Rattle.strm_codes.specs.declared.codes.ReturnCode.{ReturnCode}
-use Rattle.strm_machine.specs.State.{Guest, stream_at}
-use Rattle.strm_machine.specs.Sides.{end_of}
-use Rattle.strm_machine.specs.declared.streams.Side.{Side}
-use Rattle.strm_machine.specs.declared.streams.Side.TheVariants.{Writing}
-use Rattle.strm_machine.specs.declared.streams.Stream.{Stream}
-use Rattle.strm_machine.specs.declared.streams.Operation.{Operation}
-use Rattle.strm_machine.specs.Moments.{Moment, Call, report_in, accepted_in, count_reported, k_of, items_in, got_in}
+use Rattle.strm_machine.specs.Words.{Guest, scalars_of, item_size, ReturnCode, stream_at, end_of, Side, Writing, Stream, Operation, Moment, Call, report_in, accepted_in, count_reported, k_of, items_in, got_in}
 
 -- what the law sees of one moment on one end of a stream
 pub record Scene : Type 0 where

@@ -1,15 +1,10 @@
 -- The two ends of a stream, mine and the opposite one, after a change of mine or of both.
-use Rattle.std.proofs.Common.{◌≡◌, ℕ, ◌+◌, ◌-◌, ◌^◌, ◌≤◌, Bool, true, false, min, Option, Some, None, refl, sym, subst, ap, ⊎_elim}
-use Rattle.std.specs.Prelude.{◌&&◌, ◌||◌, ◌⊎◌}
+use Rattle.std.proofs.Common.{◌≡◌, ℕ, ◌≤◌, Bool, true, false, Option, Some, None, refl, sym, subst, ap, ⊎_elim}
+use Rattle.std.specs.Prelude.{◌&&◌, ◌⊎◌}
 use Rattle.std.proofs.lemmas.Bool.{and_right}
-use Rattle.strm_machine.specs.Sides.{opposite, same_side, end_of, with_end, with_operation, write_of, read_of}
-use Rattle.strm_machine.specs.Turns.{is_future, with_received}
-use Rattle.strm_machine.specs.declared.streams.Side.{Side}
-use Rattle.strm_machine.specs.declared.streams.Side.TheVariants.{Writing, Reading}
-use Rattle.strm_machine.specs.declared.streams.Operation.{Operation}
-use Rattle.strm_machine.specs.declared.streams.End.{End}
-use Rattle.strm_machine.specs.declared.streams.Stream.{Stream}
-use Rattle.strm_machine.specs.Soundness.{type_of, both_open, is_opened}
+use Rattle.strm_machine.specs.Words.{opposite, same_side, end_of, with_end, with_operation, with_received, Side, Writing, Reading, Operation, End, Stream, both_open}
+use Rattle.strm_machine.specs.Sides.{write_of, read_of}
+use Rattle.strm_machine.specs.Soundness.{type_of, is_opened}
 
 -- what holds of a side and of the opposite one holds of each
 pub each_side : (P : Side → Type 0) (side : Side) → P side → P (opposite side) → (other : Side) → P other
@@ -75,9 +70,10 @@ turned_both Writing stream mine theirs = record { mine_is = refl; theirs_is = re
 turned_both Reading stream mine theirs = record { mine_is = refl; theirs_is = refl; payload = refl; kind = refl; pass = refl; count = refl }
 
 -- theirs goes on with n items
-pub turned_moves : (side : Side) (stream : Stream) (theirs : Operation) (n : ℕ) (o : Option Operation) → (end_of side stream).operation ≡ o → IsTurned side stream (with_operation (opposite side) (with_received stream n) theirs) o (Some theirs) (stream.passed || is_future stream.kind) (min (stream.received + n) (2 ^ 128 - 1))
-turned_moves Writing stream theirs n o e = record { mine_is = e; theirs_is = refl; payload = refl; kind = refl; pass = refl; count = refl }
-turned_moves Reading stream theirs n o e = record { mine_is = e; theirs_is = refl; payload = refl; kind = refl; pass = refl; count = refl }
+module _ (stream : Stream) (theirs : Operation) (n : ℕ) where
+  pub turned_moves : (side : Side) (o : Option Operation) → (end_of side stream).operation ≡ o → IsTurned side stream (with_operation (opposite side) (with_received stream n) theirs) o (Some theirs) (with_received stream n).passed (with_received stream n).received
+  turned_moves Writing o e = record { mine_is = e; theirs_is = refl; payload = refl; kind = refl; pass = refl; count = refl }
+  turned_moves Reading o e = record { mine_is = e; theirs_is = refl; payload = refl; kind = refl; pass = refl; count = refl }
 
 -- ## What stays of an end
 

@@ -4,21 +4,12 @@ use Rattle.std.proofs.Common.{◌≡◌, Bool, true, false, Option, Some, None, 
 use Rattle.std.specs.Prelude.{◌&&◌, not, is_some, if◌then◌else◌, IsSomeAnd}
 use Rattle.std.specs.Option.{option_map}
 use Rattle.std.proofs.lemmas.Bool.{cond_both}
-use Rattle.strm_codes.specs.declared.codes.ReturnCode.{ReturnCode}
+use Rattle.strm_machine.specs.Words.{ReturnCode, TransmitKind, AStream, Future, end_of, report_on, told_end, as_report, count_reported, k_of, Gone, Side, Operation, End, Stream}
 use Rattle.strm_codes.specs.declared.codes.StreamResult.{StreamResult}
 use Rattle.strm_codes.specs.declared.codes.StreamResult.TheVariants.{Completed, Dropped, Cancelled}
-use Rattle.strm_codes.specs.declared.codes.TransmitKind.{TransmitKind}
-use Rattle.strm_codes.specs.declared.codes.TransmitKind.TheVariants.{Stream as AStream, Future}
 use Rattle.strm_events.specs.Reports.{outcome_code, report_of, left_pending}
-use Rattle.strm_machine.specs.Sides.{end_of}
-use Rattle.strm_machine.specs.Endings.{pending_of, is_other_gone, report_on, told_end}
+use Rattle.strm_machine.specs.Endings.{pending_of, is_other_gone}
 use Rattle.strm_machine.specs.Tests.{is_busy}
-use Rattle.strm_machine.specs.Moments.{as_report, count_reported, k_of}
-use Rattle.strm_machine.specs.declared.streams.Owner.TheVariants.{Gone}
-use Rattle.strm_machine.specs.declared.streams.Side.{Side}
-use Rattle.strm_machine.specs.declared.streams.Operation.{Operation}
-use Rattle.strm_machine.specs.declared.streams.End.{End}
-use Rattle.strm_machine.specs.declared.streams.Stream.{Stream}
 use Rattle.strm_machine.proofs.EndLemmas.{IsLeft}
 use Rattle.strm_machine.proofs.SoundLemmas.{left_told}
 use Rattle.strm_machine.proofs.TallyLemmas.{AreOne, Tallies, one_on, count_reported-dropped}

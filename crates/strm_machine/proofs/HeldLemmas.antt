@@ -1,29 +1,18 @@
 -- Handles and ends agree after every step, by its shape: no step makes a handle or an end alone, or takes one.
-use Rattle.std.proofs.Common.{◌≡◌, ◌≢◌, ℕ, ◌^◌, ◌<◌, Bool, true, false, List, [], ◌∷◌, ◌++◌, length, get_or, set, Option, Some, None, refl, sym, ap, ◌∙◌, subst, arith, ⊎_elim, length-set}
+use Rattle.std.proofs.Common.{◌≡◌, ◌≢◌, ℕ, ◌<◌, Bool, true, false, List, [], ◌∷◌, ◌++◌, length, get_or, set, Option, Some, None, refl, sym, ap, ◌∙◌, subst, arith, ⊎_elim, length-set}
 use Rattle.std.specs.Prelude.{if◌then◌else◌}
 use Rattle.std.proofs.lemmas.Bool.{cases_eq}
 use Rattle.std.proofs.lemmas.List.{get_or-set_same, get_or_push, get_or_past}
-use Rattle.strm_codes.specs.declared.codes.ReturnCode.{ReturnCode}
-use Rattle.strm_codes.specs.declared.codes.TransmitIndex.{TransmitIndex}
+use Rattle.strm_machine.specs.Words.{Guest, ReturnCode, TransmitIndex, Handles, removed, Entry, State, no_stream, guest_in, with_handles, stream_at, end_of, with_end, Turn, Name, named, stream_named, Reaction, written_back, is_end, Act, Gone, Side, Writing, Reading, End, Stream}
 use Rattle.strm_codes.specs.declared.codes.TransmitIndex.TheVariants as index
-use Rattle.strm_handles.specs.Handles.{Handles, entry_at, next_index, inserted, removed, IsTable}
+use Rattle.strm_handles.specs.Handles.{handle_limit, entry_at, next_index, inserted, IsTable}
 use Rattle.strm_handles.specs.Lookups.{end_rep_in, end_rep_of}
-use Rattle.strm_handles.specs.declared.entries.Entry.{Entry}
 use Rattle.strm_handles.proofs.HandleLemmas.{IsTable-inserted, IsTable-removed, entry_at-next_index, entry_at-inserted-same, entry_at-inserted-other, entry_at-removed-same, entry_at-removed-other}
-use Rattle.strm_machine.specs.State.{State, Guest, no_stream, guest_in, with_handles, idle_end, stream_at}
-use Rattle.strm_machine.specs.Sides.{end_of, with_end}
-use Rattle.strm_machine.specs.Turns.{Turn}
-use Rattle.strm_machine.specs.Tests.{Name, named, stream_named}
+use Rattle.strm_machine.specs.State.{idle_end}
 use Rattle.strm_machine.specs.Making.{read_entry, write_entry, with_read_end, made_stream, made_pair, with_stream}
-use Rattle.strm_machine.specs.Reactions.{Reaction, written_back, reaction}
+use Rattle.strm_machine.specs.Reactions.{reaction}
 use Rattle.strm_machine.specs.Soundness as machine
-use Rattle.strm_machine.specs.Moments.{is_end}
-use Rattle.strm_machine.specs.declared.acts.Act.{Act}
-use Rattle.strm_machine.specs.declared.streams.Owner.TheVariants.{Held, Gone}
-use Rattle.strm_machine.specs.declared.streams.Side.{Side}
-use Rattle.strm_machine.specs.declared.streams.Side.TheVariants.{Writing, Reading}
-use Rattle.strm_machine.specs.declared.streams.End.{End}
-use Rattle.strm_machine.specs.declared.streams.Stream.{Stream}
+use Rattle.strm_machine.specs.declared.streams.Owner.TheVariants.{Held}
 use Rattle.strm_machine.proofs.AgreeLemmas.{Agree, Agree-same, Agree-more, Agree-less}
 use Rattle.strm_machine.proofs.EndLemmas.{with_end-replaces}
 use Rattle.strm_machine.proofs.NamedEndLemmas.{end_itself}
@@ -71,45 +60,50 @@ names-with guests g handles n l same k handle ne =
 names-here : (guests : List Guest) (g : ℕ) (handles : Handles) (n : ℕ) (o : Option Entry) → g < length guests → entry_at handles n ≡ o → names_in (with_handles guests g handles) g n ≡ end_rep_in o
 names-here guests g handles n o l e = ap (λ t. end_rep_of t n) (handles-with_same guests g handles l) ∙ ap end_rep_in e
 
--- a handle is inserted, and an end that was gone is held under it
-IsHeld-inserted : (guests : List Guest) (streams more : List Stream) (g : ℕ) (e : Entry) (s : ℕ) (side : Side) → g < length guests → next_index (guest_in guests g).handles < 2 ^ 28
-    → is_end s side (end_rep_in (Some e)) ≡ true → owner_in streams s side ≡ Gone → owner_in more s side ≡ Held g (next_index (guest_in guests g).handles)
-    → ((k : ℕ) (other : Side) → ((k ≡ s) × (other ≡ side) → ⊥) → owner_in more k other ≡ owner_in streams k other)
-    → IsHeld guests streams → IsHeld (with_handles guests g (inserted (guest_in guests g).handles e)) more
-IsHeld-inserted guests streams more g e s side l small is gone owned rest h =
-    let old = (guest_in guests g).handles in
-    let n = next_index old in
-    let new = inserted old e in
-    let sound : IsTable old = h.tables g in
-    record {
-      tables = tables-with guests g new l (IsTable-inserted old e sound small) h.tables;
-      agree = Agree-more (names_in guests) (names_in (with_handles guests g new)) (owner_in streams) (owner_in more) h.agree g n s side
-          (names-with guests g new n l (λ i ne. entry_at-inserted-other old e i ne)) rest
-          (λ k other. ap (λ o. is_end k other (end_rep_in o)) (entry_at-next_index old sound))
-          (ap (is_end s side) (names-here guests g new n (Some e) l (entry_at-inserted-same old e sound)) ∙ is)
-          gone owned;
-    }
-
 -- a number that names an end stands for an entry
 entry_there : (s : ℕ) (side : Side) (o : Option Entry) → is_end s side (end_rep_in o) ≡ true → (e : Entry) × (o ≡ Some e)
 entry_there s side None is = cc
 entry_there s side (Some e) is = (e, refl)
 
--- a handle is removed, and the end that it named is gone
-IsHeld-removed : (guests : List Guest) (streams more : List Stream) (g handle s : ℕ) (side : Side) → g < length guests → is_end s side (names_in guests g handle) ≡ true → owner_in more s side ≡ Gone
-    → ((k : ℕ) (other : Side) → ((k ≡ s) × (other ≡ side) → ⊥) → owner_in more k other ≡ owner_in streams k other)
-    → IsHeld guests streams → IsHeld (with_handles guests g (removed (guest_in guests g).handles handle)) more
-IsHeld-removed guests streams more g handle s side l is gone rest h =
-    let old = (guest_in guests g).handles in
-    let new = removed old handle in
-    let found = entry_there s side (entry_at old handle) is in
-    record {
-      tables = tables-with guests g new l (IsTable-removed old handle found.0 found.1 (h.tables g)) h.tables;
-      agree = Agree-less (names_in guests) (names_in (with_handles guests g new)) (owner_in streams) (owner_in more) h.agree g handle s side
-          (names-with guests g new handle l (λ i ne. entry_at-removed-other old handle i ne)) rest is
-          (λ k other. ap (is_end k other) (names-here guests g new handle None l (entry_at-removed-same old handle)))
-          gone;
-    }
+-- the owners of all ends but one stay
+abbrev OthersStay : List Stream → List Stream → ℕ → Side → Type 0
+OthersStay streams more s side = (k : ℕ) (other : Side) → ((k ≡ s) × (other ≡ side) → ⊥) → owner_in more k other ≡ owner_in streams k other
+
+module _ (guests : List Guest) (streams more : List Stream) (g : ℕ) where
+  -- the guest's table
+  abbrev table : Handles
+  table = (guest_in guests g).handles
+
+  module _ (s : ℕ) (side : Side) (l : g < length guests) (rest : OthersStay streams more s side) (h : IsHeld guests streams) where
+    -- a handle is inserted, and an end that was gone is held under it
+    IsHeld-inserted : (e : Entry) → next_index table < handle_limit → is_end s side (end_rep_in (Some e)) ≡ true → owner_in streams s side ≡ Gone → owner_in more s side ≡ Held g (next_index table) → IsHeld (with_handles guests g (inserted table e)) more
+    IsHeld-inserted e small is gone owned =
+        let old = (guest_in guests g).handles in
+        let n = next_index old in
+        let new = inserted old e in
+        let sound : IsTable old = h.tables g in
+        record {
+          tables = tables-with guests g new l (IsTable-inserted old e sound small) h.tables;
+          agree = Agree-more (names_in guests) (names_in (with_handles guests g new)) (owner_in streams) (owner_in more) h.agree g n s side
+              (names-with guests g new n l (λ i ne. entry_at-inserted-other old e i ne)) rest
+              (λ k other. ap (λ o. is_end k other (end_rep_in o)) (entry_at-next_index old sound))
+              (ap (is_end s side) (names-here guests g new n (Some e) l (entry_at-inserted-same old e sound)) ∙ is)
+              gone owned;
+        }
+
+    -- a handle is removed, and the end that it named is gone
+    IsHeld-removed : (handle : ℕ) → is_end s side (names_in guests g handle) ≡ true → owner_in more s side ≡ Gone → IsHeld (with_handles guests g (removed table handle)) more
+    IsHeld-removed handle is gone =
+        let old = (guest_in guests g).handles in
+        let new = removed old handle in
+        let found = entry_there s side (entry_at old handle) is in
+        record {
+          tables = tables-with guests g new l (IsTable-removed old handle found.0 found.1 (h.tables g)) h.tables;
+          agree = Agree-less (names_in guests) (names_in (with_handles guests g new)) (owner_in streams) (owner_in more) h.agree g handle s side
+              (names-with guests g new handle l (λ i ne. entry_at-removed-other old handle i ne)) rest is
+              (λ k other. ap (is_end k other) (names-here guests g new handle None l (entry_at-removed-same old handle)))
+              gone;
+        }
 
 -- ## Reads and writes
 
@@ -149,15 +143,19 @@ owner-set_beside streams s side e k other ne =
     (cases_eq k s)
 
 -- a handle that is freed named the end that is gone; else handles and owners are as they were
-sets_held : (state : State) (frees : Bool) (g handle s : ℕ) (side : Side) (e : End) → g < length state.guests → s < length state.streams → is_end s side (names_in state.guests g handle) ≡ true → e.owner ≡ (if frees then Gone else (end_of side (stream_at state s)).owner)
-    → StateIsHeld state → IsHeld (guests_after frees state.guests g handle) (set state.streams s (with_end side (stream_at state s) e))
-sets_held state true g handle s side e there made is owner h =
-    IsHeld-removed state.guests state.streams (set state.streams s (with_end side (stream_at state s) e)) g handle s side there is
-    (owner-set_here state.streams s side e made ∙ owner) (λ k other. owner-set_beside state.streams s side e k other) h
-sets_held state false g handle s side e there made is owner h =
-    IsHeld-same state.guests state.guests state.streams (set state.streams s (with_end side (stream_at state s) e))
-    (λ k. refl)
-    (λ k other. owner-set_stays state.streams s (with_end side (stream_at state s) e) k other (with_end-owners side (stream_at state s) e owner)) h
+module _ (state : State) (g handle s : ℕ) (side : Side) (e : End) where
+  -- the streams with the end that is set
+  abbrev streams_set : List Stream
+  streams_set = set state.streams s (with_end side (stream_at state s) e)
+
+  sets_held : (frees : Bool) → g < length state.guests → s < length state.streams → is_end s side (names_in state.guests g handle) ≡ true → e.owner ≡ (if frees then Gone else (end_of side (stream_at state s)).owner) → StateIsHeld state → IsHeld (guests_after frees state.guests g handle) streams_set
+  sets_held true there made is owner h =
+      IsHeld-removed state.guests state.streams streams_set g s side there (λ k other. owner-set_beside state.streams s side e k other) h handle is
+      (owner-set_here state.streams s side e made ∙ owner)
+  sets_held false there made is owner h =
+      IsHeld-same state.guests state.guests state.streams streams_set
+      (λ k. refl)
+      (λ k other. owner-set_stays state.streams s (with_end side (stream_at state s) e) k other (with_end-owners side (stream_at state s) e owner)) h
 
 -- ## A stream more
 
@@ -184,12 +182,10 @@ between_held state writer reader ty fits h =
     let whole = made_stream ty writer pair.write reader pair.read in
     let half : Stream = record whole { writer = idle_end Gone } in
     let many : writer < length held = omega (arith, fits.writer_there, length-set state.guests reader (record (guest_in state.guests reader) { handles = inserted (guest_in state.guests reader).handles (read_entry ty s) })) in
-    let first = IsHeld-inserted state.guests streams (streams ++ half ∷ []) reader (read_entry ty s) s Reading fits.reader_there fits.read
-    (read_entry-end ty s) (ap (λ st. st.reader.owner) (get_or_past streams s no_stream (omega arith))) (owner-made streams half Reading)
-    (λ k other. half_other streams half refl k other) h in
-    IsHeld-inserted held (streams ++ half ∷ []) (streams ++ whole ∷ []) writer (write_entry ty s) s Writing many fits.write
-    (write_entry-end ty s) (owner-made streams half Writing) (owner-made streams whole Writing)
-    (λ k other. whole_other streams whole half refl k other) first
+    let first = IsHeld-inserted state.guests streams (streams ++ half ∷ []) reader s Reading fits.reader_there (λ k other. half_other streams half refl k other) h
+    (read_entry ty s) fits.read (read_entry-end ty s) (ap (λ st. st.reader.owner) (get_or_past streams s no_stream (omega arith))) (owner-made streams half Reading) in
+    IsHeld-inserted held (streams ++ half ∷ []) (streams ++ whole ∷ []) writer s Writing many (λ k other. whole_other streams whole half refl k other) first
+    (write_entry ty s) fits.write (write_entry-end ty s) (owner-made streams half Writing) (owner-made streams whole Writing)
   where
     half_other : (streams : List Stream) (half : Stream) → half.writer.owner ≡ Gone → (k : ℕ) (other : Side) → ((k ≡ length streams) × (other ≡ Reading) → ⊥) → owner_in (streams ++ half ∷ []) k other ≡ owner_in streams k other
     half_other streams half e k Writing ne = owner-push_same streams half k Writing e
@@ -212,7 +208,7 @@ shape-held state act r h (ByTurn side end address count a e o) =
     let t = turn_on state side end address count in
     rw e (turn_held state (stream_named (named state end)) t t.code (operate-keeps state side end address count o) h)
 shape-held state act r h (BySetting reply x e set) =
-    rw e (sets_held state x.frees x.guest x.handle x.stream x.side x.end set.found.there set.found.made set.found.held set.becomes.owner h)
+    rw e (sets_held state x.guest x.handle x.stream x.side x.end x.frees set.found.there set.found.made set.found.held set.becomes.owner h)
 shape-held state act r h (ByPair writer reader ty a e fits) = rw e (between_held state writer reader ty fits h)
 shape-held state act r h (ByGuest size a e fits) = rw e (guests_held state _ (λ g. handles-more state.guests _ g refl) h)
 shape-held state act r h (ByPoke g address bytes a e fits) =

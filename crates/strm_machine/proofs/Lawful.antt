@@ -2,13 +2,7 @@
 use Rattle.std.proofs.Common.{◌≡◌, ℕ, ◌+◌, ◌^◌, ◌<◌, ◌≤◌, false, length}
 use Rattle.std.specs.Prelude.{All, IsSome}
 use Rattle.strm_memory.specs.Bytes.{IsBytes}
-use Rattle.strm_machine.specs.State.{State, stream_at}
-use Rattle.strm_machine.specs.Soundness.{IsSound}
-use Rattle.strm_machine.specs.Reactions.{Reaction}
-use Rattle.strm_machine.specs.declared.streams.Side.{Side}
-use Rattle.strm_machine.specs.declared.acts.Act.{Act}
-use Rattle.strm_machine.specs.Moments.{Moment, received, got_in}
-use Rattle.strm_machine.specs.Soundness.{both_open}
+use Rattle.strm_machine.specs.Words.{State, stream_at, IsSound, Reaction, Side, Act, Moment, received, got_in, both_open}
 use Rattle.strm_machine.proofs.Changes.{scene, Change}
 use Rattle.strm_machine.proofs.TallyLemmas.{Tallies}
 

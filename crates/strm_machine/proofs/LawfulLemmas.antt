@@ -5,30 +5,12 @@ use Rattle.std.specs.Prelude.{All, IsSome, ◌⊎◌}
 use Rattle.std.proofs.lemmas.Bool.{cond-true}
 use Rattle.std.proofs.lemmas.List.{get_or-set_same, set-get_or, get_or_append_left}
 use Rattle.std.proofs.lemmas.List.Elements.{All-push, All-set}
-use Rattle.strm_codes.specs.declared.codes.ReturnCode.{ReturnCode}
-use Rattle.strm_codes.specs.declared.codes.TransmitIndex.{TransmitIndex}
-use Rattle.strm_handles.specs.Handles.{Handles, removed}
+use Rattle.strm_machine.specs.Words.{Guest, ReturnCode, TransmitIndex, Handles, removed, State, no_stream, guest_in, memory_in, with_handles, stream_at, opposite, same_side, end_of, with_end, Turn, named, stream_named, sizes_of, both_open, Reaction, goes, written_back, operates, Moment, names, as_report, report_in, accepted, k_of, items_in, received, NamedEnd, Poke, Act, Make, OnMemory, Side, Writing, Reading, Operation, End, Stream, Reply}
 use Rattle.strm_memory.specs.Bytes.{IsBytes}
-use Rattle.strm_machine.specs.State.{State, Guest, no_stream, guest_in, memory_in, with_handles, stream_at}
-use Rattle.strm_machine.specs.Sides.{opposite, same_side, end_of, with_end}
-use Rattle.strm_machine.specs.Turns.{Turn}
-use Rattle.strm_machine.specs.Tests.{named, stream_named}
 use Rattle.strm_machine.specs.Making.{made_stream, made_pair, with_stream}
-use Rattle.strm_machine.specs.Soundness.{sizes_of, both_open}
-use Rattle.strm_machine.specs.Reactions.{Reaction, goes, written, written_back, operates, reaction}
-use Rattle.strm_machine.specs.Moments.{Moment, names, code_told, as_report, report_in, accepted, k_of, place_of, read_place, items_in, received, PutsBytes}
-use Rattle.strm_machine.specs.declared.acts.NamedEnd.{NamedEnd}
+use Rattle.strm_machine.specs.Reactions.{written, reaction}
+use Rattle.strm_machine.specs.Moments.{code_told, place_of, read_place, PutsBytes}
 use Rattle.strm_machine.specs.declared.acts.Making.TheVariants as makings
-use Rattle.strm_machine.specs.declared.acts.EndAct.TheVariants.{Operate}
-use Rattle.strm_machine.specs.declared.acts.MemoryAct.TheVariants.{Poke}
-use Rattle.strm_machine.specs.declared.acts.Act.{Act}
-use Rattle.strm_machine.specs.declared.acts.Act.TheVariants.{Make, OnEnd, OnMemory}
-use Rattle.strm_machine.specs.declared.streams.Side.{Side}
-use Rattle.strm_machine.specs.declared.streams.Side.TheVariants.{Writing, Reading}
-use Rattle.strm_machine.specs.declared.streams.Operation.{Operation}
-use Rattle.strm_machine.specs.declared.streams.End.{End}
-use Rattle.strm_machine.specs.declared.streams.Stream.{Stream}
-use Rattle.strm_machine.specs.declared.replies.Reply.{Reply}
 use Rattle.strm_machine.specs.declared.replies.Reply.TheVariants as replies
 use Rattle.strm_machine.proofs.SideLemmas.{same_side-itself, end_placed}
 use Rattle.strm_machine.proofs.SoundLemmas.{guests_after, IsSound-guests, IsSound-turn, IsSound-with_stream, IsSound-set}
@@ -43,7 +25,7 @@ use Rattle.strm_machine.proofs.TallyLemmas.{Tallies, begins_by, Tallies-with_end
 use Rattle.strm_machine.proofs.MomentLemmas.{Seen, seen_reacts, Untold, unnamed, untold, nothing_got, seen_counted, end_still, seen_same, quiet_reacts, set_reacts}
 use Rattle.strm_machine.proofs.TurnChangeLemmas.{scene_of, Does, Unturned, DoesBy, turn_does, still}
 use Rattle.strm_machine.proofs.Lawful.{IsLawful, HasRoom, as_moment, Reacts}
-use Rattle.strm_machine.proofs.Shapes.{stream_on, begun_on, turn_on, Operates, Setting, set_by, Sets, Shape, ByTurn, BySetting, ByPair, ByGuest, ByPoke, ByRest}
+use Rattle.strm_machine.proofs.Shapes.{operating, stream_on, begun_on, turn_on, Operates, Setting, set_by, Sets, Shape, ByTurn, BySetting, ByPair, ByGuest, ByPoke, ByRest}
 use Rattle.strm_machine.proofs.ShapeLemmas.{reaction-shape}
 
 -- ## Reads and writes
@@ -63,31 +45,13 @@ seen here r act reply before after guests others =
       got = items_in before.payload others place.guest place.address (after.received - before.received);
     }
 
-operation_seen : (side other : Side) (here r : Bool) (end : NamedEnd) (address count : ℕ) (code : ReturnCode) (before after : Stream) (guests : List Guest) (t : Turn) → here ≡ same_side side other → r ≡ same_side side Reading → after ≡ t.stream
-    → ◌≡◌ {A = Scene} (seen here r (OnEnd side end (Operate address count)) (replies.Code code) before after guests t.guests) (scene_of side other guests before (begun_on end address count) code t)
-operation_seen Writing other here r end address count code before after guests t e f h = rw (e, f, h) refl
-operation_seen Reading other here r end address count code before after guests t e f h = rw (e, f, h) refl
+module _ (end : NamedEnd) (address count : ℕ) (code : ReturnCode) (before after : Stream) (guests : List Guest) (t : Turn) where
+  abbrev seen_as : Side → Bool → Bool → Scene
+  seen_as side here r = seen here r (operating side end address count) (replies.Code code) before after guests t.guests
 
--- a read or write that answers a code
-answered_reacts : (state : State) (side : Side) (end : NamedEnd) (address count : ℕ) (s : ℕ) (t : Turn) (code : ReturnCode) → IsLawful state → IsFound state (OnEnd side end (Operate address count)) end.guest end.handle s side → TurnKeeps state.guests (stream_at state s) t
-    → Does side state.guests (stream_at state s) (begun_on end address count) code t → Reacts state (OnEnd side end (Operate address count)) (goes (replies.Code code) (written state s t))
-answered_reacts state side end address count s t code h found keeps d =
-    let act = OnEnd side end (Operate address count) in
-    let stream = stream_at state s in
-    let mine = begun_on end address count in
-    let m = as_moment state act (goes (replies.Code code) (written state s t)) in
-    let after : stream_at m.after s ≡ t.stream = get_or-set_same state.streams s t.stream no_stream found.made in
-    let same : (other : Side) → scene s other m ≡ scene_of side other state.guests stream mine code t = λ other. operation_seen side other (names s other state act) (names s Reading state act) end address count code stream (stream_at m.after s) state.guests t
-    (named_itself state act s side other found.named) (named_itself state act s side Reading found.named) after in
-    set_reacts state act (replies.Code code) t.guests s side t.stream found.named h keeps.stream.kind
-    (record {
-      change = λ other. subst (Change other) (sym (same other)) (d.change other);
-      whole = subst (All IsSome) (sym (ap (λ v. v.got) (same Reading))) d.whole;
-      most = subst (λ st. st.received ≤ stream.received + 2 ^ 28) (sym after) d.most;
-      apart = ap both_open after ∙ d.apart;
-      tallies = subst Tallies (sym after) d.tallies;
-    })
-    (IsSound-turn state s t keeps h.sound) d.bytes
+  operation_seen : (side other : Side) (here r : Bool) → here ≡ same_side side other → r ≡ same_side side Reading → after ≡ t.stream → ◌≡◌ {A = Scene} (seen_as side here r) (scene_of side other guests before (begun_on end address count) code t)
+  operation_seen Writing other here r e f h = rw (e, f, h) refl
+  operation_seen Reading other here r e f h = rw (e, f, h) refl
 
 -- one that finds a bad item: but for the trap nothing has changed
 trapped_reacts : (state : State) (act : Act) (s : ℕ) (t : Turn) → IsLawful state → TurnKeeps state.guests (stream_at state s) t → Unturned state.guests (stream_at state s) t → Reacts state act (goes (replies.BadItem s) (record (written state s t) { trapped = true }))
@@ -98,20 +62,40 @@ trapped_reacts state act s t h keeps u =
     (record { named = sound.named; placed = sound.placed; small = sound.small })
     (subst AreBytes (sym u.same_guests) h.bytes)
 
-turn_reacts : (state : State) (side : Side) (end : NamedEnd) (address count : ℕ) (s : ℕ) (t : Turn) (code : Option ReturnCode) → IsLawful state → IsFound state (OnEnd side end (Operate address count)) end.guest end.handle s side → TurnKeeps state.guests (stream_at state s) t
-    → DoesBy side state.guests (stream_at state s) (begun_on end address count) t code → Reacts state (OnEnd side end (Operate address count)) (written_back state s t code)
-turn_reacts state side end address count s t None h found keeps d = trapped_reacts state (OnEnd side end (Operate address count)) s t h keeps d
-turn_reacts state side end address count s t (Some code) h found keeps d = answered_reacts state side end address count s t code h found keeps d
+module _ (state : State) (side : Side) (end : NamedEnd) (address count : ℕ) (s : ℕ) (t : Turn)
+    (h : IsLawful state) (found : IsFound state (operating side end address count) end.guest end.handle s side) (keeps : TurnKeeps state.guests (stream_at state s) t) where
+  -- one that answers a code
+  answered_reacts : (code : ReturnCode) → Does side state.guests (stream_at state s) (begun_on end address count) code t → Reacts state (operating side end address count) (goes (replies.Code code) (written state s t))
+  answered_reacts code d =
+      let act = operating side end address count in
+      let stream = stream_at state s in
+      let mine = begun_on end address count in
+      let m = as_moment state act (goes (replies.Code code) (written state s t)) in
+      let after : stream_at m.after s ≡ t.stream = get_or-set_same state.streams s t.stream no_stream found.made in
+      let same : (other : Side) → scene s other m ≡ scene_of side other state.guests stream mine code t = λ other. operation_seen end address count code stream (stream_at m.after s) state.guests t side other (names s other state act) (names s Reading state act)
+      (named_itself state act s side other found.named) (named_itself state act s side Reading found.named) after in
+      set_reacts state act (replies.Code code) t.guests s side t.stream found.named h keeps.stream.kind
+      (record {
+        change = λ other. subst (Change other) (sym (same other)) (d.change other);
+        whole = subst (All IsSome) (sym (ap (λ v. v.got) (same Reading))) d.whole;
+        most = subst (λ st. st.received ≤ stream.received + 2 ^ 28) (sym after) d.most;
+        apart = ap both_open after ∙ d.apart;
+        tallies = subst Tallies (sym after) d.tallies;
+      })
+      (IsSound-turn state s t keeps h.sound) d.bytes
 
-operates_reacts : (state : State) (side : Side) (end : NamedEnd) (address count : ℕ) → IsLawful state → HasRoom state → Operates state side end address count → Reacts state (OnEnd side end (Operate address count)) (operates state side end address count)
+  turn_reacts : (code : Option ReturnCode) → DoesBy side state.guests (stream_at state s) (begun_on end address count) t code → Reacts state (operating side end address count) (written_back state s t code)
+  turn_reacts None d = trapped_reacts state (operating side end address count) s t h keeps d
+  turn_reacts (Some code) d = answered_reacts code d
+
+operates_reacts : (state : State) (side : Side) (end : NamedEnd) (address count : ℕ) → IsLawful state → HasRoom state → Operates state side end address count → Reacts state (operating side end address count) (operates state side end address count)
 operates_reacts state side end address count h room o =
     let s = stream_named (named state end) in
     let stream = stream_on state end in
     let mine = begun_on end address count in
     let t = turn_on state side end address count in
     let begins = begins_by side end.ty stream end.guest address count o.kind o.unended in
-    turn_reacts state side end address count s t t.code h o.found
-    (operate-keeps state side end address count o)
+    turn_reacts state side end address count s t h o.found (operate-keeps state side end address count o) t.code
     (turn_does side state.guests stream mine h.bytes (room s) refl o.placed (h.tallies s) begins o.idle (end_placed (opposite side) (sizes_of state.guests) stream o.streams))
 
 -- ## A stream set to another
@@ -121,16 +105,16 @@ none_either true x e = e
 none_either false x e = refl
 
 -- one moment at the end that was set, by its operation before and after
-told_change : (side : Side) (v : Scene) (report : Option ReturnCode) (o q : Option Operation) → v.report ≡ report → v.taken ≡ [] → v.got ≡ [] → v.after.payload ≡ v.before.payload → v.after.received ≡ v.before.received
-    → (end_of side v.before).operation ≡ o → (end_of side v.after).operation ≡ q → IsTold v.before.kind report o q → Change side v
-told_change side v report None None r takes nothing payload count was is t =
-    RestChange (record { was = was; is = is; takes = takes; counts = ap (k_of v.before.kind 0) r ∙ t; same = count; nothing = nothing })
-told_change side v report None (Some q) r takes nothing payload count was is t = absurd t
-told_change side v None (Some o) None r takes nothing payload count was is t = absurd t
-told_change side v (Some code) (Some o) None r takes nothing payload count was is t =
-    BySettling o code (record { was = was; is = is; takes = takes; report = r; counts = t; same = count; nothing = nothing })
-told_change side v report (Some o) (Some q) r takes nothing payload count was is t =
-    still side v takes (r ∙ t.0) nothing payload count (is ∙ ap Some t.1 ∙ sym was)
+module _ (side : Side) (v : Scene) (takes : v.taken ≡ []) (nothing : v.got ≡ []) (payload : v.after.payload ≡ v.before.payload) (count : v.after.received ≡ v.before.received) where
+  told_change : (report : Option ReturnCode) (o q : Option Operation) → v.report ≡ report → (end_of side v.before).operation ≡ o → (end_of side v.after).operation ≡ q → IsTold v.before.kind report o q → Change side v
+  told_change report None None r was is t =
+      RestChange (record { was = was; is = is; takes = takes; counts = ap (k_of v.before.kind 0) r ∙ t; same = count; nothing = nothing })
+  told_change report None (Some q) r was is t = absurd t
+  told_change None (Some o) None r was is t = absurd t
+  told_change (Some code) (Some o) None r was is t =
+      BySettling o code (record { was = was; is = is; takes = takes; report = r; counts = t; same = count; nothing = nothing })
+  told_change report (Some o) (Some q) r was is t =
+      still side v takes (r ∙ t.0) nothing payload count (is ∙ ap Some t.1 ∙ sym was)
 
 -- the end that is set is told its code, and the opposite one stays
 setting_seen : (state : State) (act : Act) (reply : Reply) (x : Setting) → IsLawful state → Sets state act reply x → Seen x.stream (as_moment state act (goes reply (set_by state x)))
@@ -148,9 +132,8 @@ setting_seen state act reply x h set =
     let untold = unnamed s (opposite side) m (named_itself state act s side (opposite side) named ∙ same_side-opposite side) in
     seen_counted s m
     (each_side (λ other. Change other (scene s other m)) side
-    (told_change side (scene s side m) (as_report (code_told reply)) (end_of side stream).operation x.end.operation report
-    (none_either (names s side state act) _ (set.untaken (report_in s side m)))
-    (nothing_got s m replaced.count).0 replaced.payload replaced.count refl (ap (λ (e : End). e.operation) replaced.here) (becomes.told (h.tallies s)))
+    (told_change side (scene s side m) (none_either (names s side state act) _ (set.untaken (report_in s side m))) (nothing_got s m replaced.count).0 replaced.payload replaced.count
+    (as_report (code_told reply)) (end_of side stream).operation x.end.operation report refl (ap (λ (e : End). e.operation) replaced.here) (becomes.told (h.tallies s)))
     (end_still s (opposite side) m untold (record { operation = ap (λ (e : End). e.operation) replaced.other; payload = replaced.payload; kind = replaced.kind; count = replaced.count })))
     replaced.count
     (ap both_open after ∙ with_end-apart side stream x.end becomes.left (h.apart s))

@@ -3,18 +3,9 @@ use Rattle.std.proofs.Common.{◌≡◌, ℕ, ◌+◌, ◌^◌, ◌<◌, ◌≤�
 use Rattle.std.specs.Prelude.{All, IsSome, ◌==◌, ◌&&◌}
 use Rattle.std.proofs.lemmas.Bool.{cases_eq, ne_eqb, cond-false}
 use Rattle.std.proofs.lemmas.List.{get_or-set_same, get_or-set_other, length-set}
-use Rattle.strm_codes.specs.declared.codes.ReturnCode.{ReturnCode}
-use Rattle.strm_machine.specs.State.{State, Guest, no_stream, stream_at}
-use Rattle.strm_machine.specs.Sides.{same_side}
-use Rattle.strm_machine.specs.Soundness.{IsSound}
-use Rattle.strm_machine.specs.Reactions.{Reaction, goes}
-use Rattle.strm_machine.specs.declared.streams.Side.{Side}
-use Rattle.strm_machine.specs.declared.streams.Stream.{Stream}
-use Rattle.strm_machine.specs.declared.acts.Act.{Act}
-use Rattle.strm_machine.specs.declared.replies.Reply.{Reply}
+use Rattle.strm_machine.specs.Words.{Guest, ReturnCode, State, no_stream, stream_at, same_side, IsSound, Reaction, goes, Side, Stream, Act, Reply, Moment, names, as_report, report_in, accepted, accepted_in, received, got_in, both_open}
 use Rattle.strm_machine.specs.declared.replies.Reply.TheVariants as replies
-use Rattle.strm_machine.specs.Moments.{Moment, names, is_named, code_told, as_report, report_in, accepted, accepted_in, received, target, got_in}
-use Rattle.strm_machine.specs.Soundness.{both_open}
+use Rattle.strm_machine.specs.Moments.{is_named, code_told, target}
 use Rattle.strm_machine.proofs.Changes.{scene, Change}
 use Rattle.strm_machine.proofs.ArrivalLemmas.{AreBytes}
 use Rattle.strm_machine.proofs.EndLemmas.{Stays, stays_same}
@@ -109,18 +100,19 @@ set_kind streams s k stream e l =
     ]
 
 -- a step on one stream
-pub set_reacts : (state : State) (act : Act) (reply : Reply) (guests : List Guest) (s : ℕ) (side : Side) (stream : Stream) → NamesEnd state act s side → IsLawful state → stream.kind ≡ (stream_at state s).kind
-    → Seen s (as_moment state act (goes reply (record state { guests = guests; streams = set state.streams s stream })))
-    → IsSound (record state { guests = guests; streams = set state.streams s stream }) → AreBytes guests
-    → Reacts state act (goes reply (record state { guests = guests; streams = set state.streams s stream }))
-set_reacts state act reply guests s side stream named h kind seen sound bytes =
-    let r = goes reply (record state { guests = guests; streams = set state.streams s stream }) in
-    seen_reacts state act r
-    (λ k. elim (cases_eq k s) [
-      | inl e ↦ subst (λ j. Seen j (as_moment state act r)) (sym e) seen
-      | inr ne ↦ (let other : s == k ≡ false = ne_eqb s k (λ q. ne (sym q)) in
-          let quiet : (end : Side) → names k end state act ≡ false = λ end. named k end ∙ ap (λ b. b && same_side side end) other in
-          seen_same k (as_moment state act r) (λ end. unnamed k end (as_moment state act r) (quiet end)) (get_or-set_other state.streams s k stream no_stream ne) (h.apart k) (h.tallies k))
-    ])
-    (λ k l. record { there = omega (arith, l, length-set state.streams s stream); kind = set_kind state.streams s k stream kind l })
-    sound bytes
+module _ (state : State) (act : Act) (reply : Reply) (guests : List Guest) (s : ℕ) (side : Side) (stream : Stream) where
+  abbrev set_to : State
+  set_to = record state { guests = guests; streams = set state.streams s stream }
+
+  pub set_reacts : NamesEnd state act s side → IsLawful state → stream.kind ≡ (stream_at state s).kind → Seen s (as_moment state act (goes reply set_to)) → IsSound set_to → AreBytes guests → Reacts state act (goes reply set_to)
+  set_reacts named h kind seen sound bytes =
+      let r = goes reply set_to in
+      seen_reacts state act r
+      (λ k. elim (cases_eq k s) [
+        | inl e ↦ subst (λ j. Seen j (as_moment state act r)) (sym e) seen
+        | inr ne ↦ (let other : s == k ≡ false = ne_eqb s k (λ q. ne (sym q)) in
+            let quiet : (end : Side) → names k end state act ≡ false = λ end. named k end ∙ ap (λ b. b && same_side side end) other in
+            seen_same k (as_moment state act r) (λ end. unnamed k end (as_moment state act r) (quiet end)) (get_or-set_other state.streams s k stream no_stream ne) (h.apart k) (h.tallies k))
+      ])
+      (λ k l. record { there = omega (arith, l, length-set state.streams s stream); kind = set_kind state.streams s k stream kind l })
+      sound bytes

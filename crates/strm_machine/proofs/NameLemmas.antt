@@ -5,27 +5,20 @@ use Rattle.std.proofs.lemmas.Bool.{cases_lt}
 use Rattle.std.proofs.Math.ListN.{get_or-map}
 use Rattle.std.proofs.lemmas.List.{length-map, get_or_past}
 use Rattle.std.proofs.lemmas.List.Elements.{All-get_or}
-use Rattle.strm_codes.specs.declared.codes.TransmitIndex.{TransmitIndex}
+use Rattle.strm_machine.specs.Words.{TransmitIndex, Payload, kind_of, payload_of, TransmitKind, AStream, Future, Handles, Entry, NamedEnd, State, guest_in, no_stream, stream_at, Name, named, end_named, IsSound}
 use Rattle.strm_codes.specs.declared.codes.TransmitIndex.TheVariants as index
-use Rattle.strm_codes.specs.declared.payloads.Payload.{Payload}
 use Rattle.strm_codes.specs.declared.payloads.Payload.TheVariants.{Nothing}
 use Rattle.strm_codes.specs.Sameness.{same_payload}
 use Rattle.strm_codes.proofs.SamenessLemmas.{Decides-same_payload}
-use Rattle.strm_codes.specs.Types.{kind_of, payload_of}
-use Rattle.strm_codes.specs.declared.codes.TransmitKind.{TransmitKind}
-use Rattle.strm_codes.specs.declared.codes.TransmitKind.TheVariants.{Stream as AStream, Future}
-use Rattle.strm_handles.specs.Handles.{Handles, entry_in, entry_at}
+use Rattle.strm_handles.specs.Handles.{entry_in, entry_at}
 use Rattle.strm_handles.specs.Lookups.{typed, stream_in, future_in, end_rep_in, ◌>>=◌}
-use Rattle.strm_handles.specs.declared.entries.Entry.{Entry}
 use Rattle.strm_handles.specs.declared.entries.Entry.TheVariants as entries
 use Rattle.strm_handles.specs.declared.entries.TransmitEnd.{TransmitEnd}
 use Rattle.strm_handles.specs.declared.entries.TransmitLocalState.{TransmitLocalState}
 use Rattle.strm_handles.specs.declared.errors.HandleError.{HandleError}
 use Rattle.strm_handles.specs.declared.errors.HandleError.TheVariants as errors
-use Rattle.strm_machine.specs.declared.acts.NamedEnd.{NamedEnd}
-use Rattle.strm_machine.specs.State.{State, guest_in, no_stream, stream_at}
-use Rattle.strm_machine.specs.Tests.{Name, named, end_named, named_by}
-use Rattle.strm_machine.specs.Soundness.{type_with, type_of, types_of, is_idle_state, IsNamed, EntryIsNamed, IsSound}
+use Rattle.strm_machine.specs.Tests.{named_by}
+use Rattle.strm_machine.specs.Soundness.{type_with, type_of, types_of, is_idle_state, IsNamed, EntryIsNamed}
 use Rattle.strm_machine.proofs.SoundLemmas.{AreNamed-at}
 
 pub entry_named : (types : List TransmitIndex) (es : List (Option Entry)) (n : ℕ) → All (EntryIsNamed types) es → EntryIsNamed types (entry_in es n)
@@ -142,16 +135,6 @@ IsEndError errors.Busy = ⊥
 IsEndError errors.Lent = ⊥
 IsEndError errors.TooManyLends = ⊥
 IsEndError errors.OutOfMemory = ⊥
-
-pub end_rep_in-error : (o : Option Entry) → IfErr (end_rep_in o) IsEndError
-end_rep_in-error None = tt
-end_rep_in-error (Some (entries.Stream end)) = tt
-end_rep_in-error (Some (entries.Future end)) = tt
-end_rep_in-error (Some (entries.ResourceOwn resource lends)) = tt
-end_rep_in-error (Some (entries.ResourceBorrow resource scope)) = tt
-end_rep_in-error (Some (entries.ErrorContext rep)) = tt
-end_rep_in-error (Some (entries.Subtask rep is_host)) = tt
-end_rep_in-error (Some (entries.WaitableSet rep)) = tt
 
 -- the refusals that a look-up of an end has
 abbrev pub IsNameError : HandleError → Type 0

@@ -4,28 +4,18 @@ use Rattle.std.specs.Prelude.{IfOk, is_ok, is_some, ◌==◌, ◌&&◌, ◌||◌
 use Rattle.std.proofs.lemmas.Bool.{not-false, ne_eqb, and_from, eq-eqb}
 use Rattle.std.proofs.lemmas.List.{length-map}
 use Rattle.strm_codes.specs.Sameness.{same_payload}
-use Rattle.strm_codes.specs.Types.{kind_of, payload_of}
-use Rattle.strm_codes.specs.declared.codes.TransmitIndex.{TransmitIndex}
+use Rattle.strm_machine.specs.Words.{kind_of, payload_of, TransmitIndex, Payload, Handles, Entry, State, guest_in, stream_at, same_side, end_of, Name, named, end_named, stream_named, has_ended, first_of, IsSound, is_end, names, NamedEnd, Act, Make, OnEnd, OnMemory, Side, Stream}
 use Rattle.strm_codes.specs.declared.codes.TransmitIndex.TheVariants as index
-use Rattle.strm_codes.specs.declared.payloads.Payload.{Payload}
-use Rattle.strm_handles.specs.Handles.{Handles, entry_at}
+use Rattle.strm_handles.specs.Handles.{entry_at}
 use Rattle.strm_handles.specs.Lookups.{◌>>=◌, stream_in, future_in, end_rep_in, end_rep_of}
-use Rattle.strm_handles.specs.declared.entries.Entry.{Entry}
 use Rattle.strm_handles.specs.declared.entries.Entry.TheVariants as entries
 use Rattle.strm_handles.specs.declared.entries.TransmitEnd.{TransmitEnd}
 use Rattle.strm_handles.specs.declared.errors.HandleError.TheVariants as errors
-use Rattle.strm_machine.specs.State.{State, guest_in, stream_at}
-use Rattle.strm_machine.specs.Sides.{same_side, end_of}
-use Rattle.strm_machine.specs.Tests.{Name, named, named_by, end_named, stream_named, side_of, side_named, is_busy, has_ended}
-use Rattle.strm_machine.specs.Refusals.{first_of, end_reasons_of, event_reasons}
-use Rattle.strm_machine.specs.Soundness.{type_of, types_of, EntryIsNamed, IsSound}
-use Rattle.strm_machine.specs.Moments.{is_end, names}
-use Rattle.strm_machine.specs.declared.acts.NamedEnd.{NamedEnd}
+use Rattle.strm_machine.specs.Tests.{named_by, side_of, side_named, is_busy}
+use Rattle.strm_machine.specs.Refusals.{end_reasons_of, event_reasons}
+use Rattle.strm_machine.specs.Soundness.{type_of, types_of, EntryIsNamed}
 use Rattle.strm_machine.specs.declared.acts.EndAct.{EndAct}
-use Rattle.strm_machine.specs.declared.acts.Act.{Act}
-use Rattle.strm_machine.specs.declared.acts.Act.TheVariants.{Make, OnEnd, Event, OnMemory}
-use Rattle.strm_machine.specs.declared.streams.Side.{Side}
-use Rattle.strm_machine.specs.declared.streams.Stream.{Stream}
+use Rattle.strm_machine.specs.declared.acts.Act.TheVariants.{Event}
 use Rattle.strm_machine.proofs.NameLemmas.{entry_named, named_there, named_payload, named_kind, end_named_there}
 use Rattle.strm_machine.proofs.RefusalLemmas.{not_refused, neither, EventFits}
 use Rattle.strm_machine.proofs.SideLemmas.{same_side_is, same_side-itself}

@@ -3,16 +3,11 @@ use Rattle.std.proofs.Common.{◌≡◌, ℕ, min, take, drop, arith, Bool, true
 use Rattle.std.proofs.lemmas.Bool.{cond_both}
 use Rattle.std.specs.Option.{option_or}
 use Rattle.strm_codes.specs.declared.refusals.Refusal.{Refusal}
-use Rattle.strm_machine.specs.State.{State, memory_in}
-use Rattle.strm_machine.specs.Tests.{named, stream_named}
-use Rattle.strm_machine.specs.declared.streams.Side.{Side}
-use Rattle.strm_machine.specs.Refusals.{Reason, first_of, operation_reasons, dropping_reasons, bytes_reasons, refusal}
-use Rattle.strm_machine.specs.Reactions.{Reaction, goes, operates, drops, performs, unless_refused, reaction}
-use Rattle.strm_machine.specs.declared.acts.NamedEnd.{NamedEnd}
-use Rattle.strm_machine.specs.declared.acts.EndAct.TheVariants.{Operate, Drop}
+use Rattle.strm_machine.specs.Words.{State, memory_in, named, stream_named, Side, first_of, Reaction, goes, operates, NamedEnd, Operate, Act, OnEnd, OnMemory}
+use Rattle.strm_machine.specs.Refusals.{Reason, dropping_reasons, bytes_reasons, refusal}
+use Rattle.strm_machine.specs.Reactions.{drops, performs, unless_refused, reaction}
+use Rattle.strm_machine.specs.declared.acts.EndAct.TheVariants.{Drop}
 use Rattle.strm_machine.specs.declared.acts.MemoryAct.TheVariants.{Dump}
-use Rattle.strm_machine.specs.declared.acts.Act.{Act}
-use Rattle.strm_machine.specs.declared.acts.Act.TheVariants.{OnEnd, OnMemory}
 use Rattle.strm_machine.specs.declared.replies.Reply.TheVariants as replies
 
 unless_refused-by : (P : Reaction → Type 0) (state : State) (act : Act) (o : Option Refusal) → refusal state act ≡ o → ((r : Refusal) → refusal state act ≡ Some r → P (goes (replies.Refused r) state)) → (refusal state act ≡ None → P (performs state act)) → P (unless_refused state act o)
@@ -51,10 +46,6 @@ first_of-append [] ys = refl
 first_of-append (x ∷ xs) ys = or_cond x.holds x.refusal (first_of (xs ++ ys)) (first_of xs) (first_of ys) (first_of-append xs ys)
 
 -- a read or write of an end
-pub refusal-operate : (state : State) (side : Side) (end : NamedEnd) (address count : ℕ) → refusal state (OnEnd side end (Operate address count)) ≡ first_of (operation_reasons state side end address count)
-unfolding refusal
-refusal-operate state side end address count = refl
-
 pub performs-operate : (state : State) (side : Side) (end : NamedEnd) (address count : ℕ) → performs state (OnEnd side end (Operate address count)) ≡ operates state side end address count
 unfolding performs
 performs-operate state side end address count = refl

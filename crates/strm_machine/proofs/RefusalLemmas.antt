@@ -6,26 +6,19 @@ use Rattle.std.proofs.lemmas.List.{length-map}
 use Rattle.std.specs.Prelude.{IfErr, IsOk, nat_lt, nat_le, ◌||◌, ◌&&◌, not, IsTrue}
 use Rattle.strm_codes.specs.declared.refusals.Refusal.{Refusal}
 use Rattle.strm_codes.specs.declared.refusals.Refusal.TheVariants as refusals
-use Rattle.strm_codes.specs.declared.payloads.Payload.{Payload}
-use Rattle.strm_codes.specs.declared.codes.TransmitIndex.{TransmitIndex}
+use Rattle.strm_machine.specs.Words.{Payload, TransmitIndex, kind_of, payload_of, State, guest_in, stream_at, opposite, same_side, end_of, sizes_of, IsPlaced, Name, named, end_named, stream_named, has_ended, first_of, NamedEnd, Poke, Make, OnMemory, Side, Stream}
 use Rattle.strm_codes.specs.declared.codes.TransmitIndex.TheVariants as index
-use Rattle.strm_codes.specs.Types.{kind_of, payload_of}
 use Rattle.strm_memory.specs.Items.{is_number_or_none}
-use Rattle.strm_machine.specs.State.{State, memory_limit, guest_limit, stream_limit, guest_in, stream_at, handles_in_use, bytes_in_use}
-use Rattle.strm_machine.specs.Sides.{opposite, same_side, end_of}
+use Rattle.strm_machine.specs.State.{memory_limit, guest_limit, stream_limit, handles_in_use, bytes_in_use}
 use Rattle.strm_machine.specs.Meetings.{begun}
-use Rattle.strm_machine.specs.Soundness.{sizes_of, IsPlaced}
-use Rattle.strm_machine.specs.Tests.{Name, is_no_handle, are_handles_full, are_places_full, are_streams_full, is_memory_too_big, are_guests_full, is_unknown_guest, are_bytes_out_of_bounds, named, end_named, stream_named, side_named, is_too_big, items_asked, is_out_of_bounds, is_busy, has_ended, owes_value, is_open_of, is_within_one_guest}
+use Rattle.strm_machine.specs.Tests.{is_no_handle, are_handles_full, are_places_full, are_streams_full, is_memory_too_big, are_guests_full, is_unknown_guest, are_bytes_out_of_bounds, side_named, is_too_big, items_asked, is_out_of_bounds, is_busy, owes_value, is_open_of, is_within_one_guest}
 use Rattle.strm_handles.specs.Handles.{handle_limit, next_index}
 use Rattle.strm_codes.specs.Counts.{count_limit}
 use Rattle.strm_machine.specs.Making.{writer_index}
-use Rattle.strm_machine.specs.Refusals.{Reason, first_of, region_reasons, handle_reasons, end_reasons_of, event_reasons, where_, named_reasons, side_reasons, dropping_reasons, bytes_reasons, refusal}
-use Rattle.strm_machine.specs.declared.acts.NamedEnd.{NamedEnd}
+use Rattle.strm_machine.specs.Refusals.{Reason, region_reasons, handle_reasons, end_reasons_of, event_reasons, where_, named_reasons, side_reasons, dropping_reasons, bytes_reasons, refusal}
 use Rattle.strm_machine.specs.declared.acts.Making.TheVariants.{Guest, Between}
-use Rattle.strm_machine.specs.declared.acts.MemoryAct.TheVariants.{Poke, Dump}
-use Rattle.strm_machine.specs.declared.acts.Act.TheVariants.{Make, Event, OnMemory}
-use Rattle.strm_machine.specs.declared.streams.Side.{Side}
-use Rattle.strm_machine.specs.declared.streams.Stream.{Stream}
+use Rattle.strm_machine.specs.declared.acts.MemoryAct.TheVariants.{Dump}
+use Rattle.strm_machine.specs.declared.acts.Act.TheVariants.{Event}
 use Rattle.strm_machine.proofs.TurnLemmas.{size_in}
 use Rattle.strm_machine.proofs.NameLemmas.{IsNameError, named_by-error}
 use Rattle.strm_handles.specs.declared.errors.HandleError.TheVariants as errors

@@ -1,25 +1,19 @@
 -- Every step has a shape: the one place of the proofs that looks at all acts.
 use Rattle.std.proofs.Common.{◌≡◌, ℕ, true, false, None, refl}
 use Rattle.std.specs.Prelude.{◌++◌}
-use Rattle.strm_machine.specs.State.{State, stream_at}
-use Rattle.strm_machine.specs.Sides.{end_of}
-use Rattle.strm_machine.specs.Endings.{report_on, told_end, delivered, dropped}
-use Rattle.strm_machine.specs.Tests.{named, end_named, stream_named, side_named}
-use Rattle.strm_machine.specs.Refusals.{first_of, region_reasons, handle_reasons, end_reasons, operation_reasons, dropping_reasons, refusal}
+use Rattle.strm_machine.specs.Words.{State, stream_at, end_of, report_on, told_end, named, end_named, stream_named, first_of, IsSound, NamedEnd, Operate, Poke, Act, Make, OnEnd, OnMemory, Gone, Side}
+use Rattle.strm_machine.specs.Endings.{delivered, dropped}
+use Rattle.strm_machine.specs.Tests.{side_named}
+use Rattle.strm_machine.specs.Refusals.{region_reasons, handle_reasons, end_reasons, operation_reasons, dropping_reasons, refusal}
 use Rattle.strm_machine.specs.Reactions.{tells, drops, on_end, makes, on_memory, performs, reaction}
-use Rattle.strm_machine.specs.Soundness.{IsSound}
-use Rattle.strm_machine.specs.declared.acts.NamedEnd.{NamedEnd}
 use Rattle.strm_machine.specs.declared.acts.Making.{Making}
 use Rattle.strm_machine.specs.declared.acts.Making.TheVariants.{Guest, Between}
 use Rattle.strm_machine.specs.declared.acts.EndAct.{EndAct}
-use Rattle.strm_machine.specs.declared.acts.EndAct.TheVariants.{Operate, Drop}
+use Rattle.strm_machine.specs.declared.acts.EndAct.TheVariants.{Drop}
 use Rattle.strm_machine.specs.declared.acts.MemoryAct.{MemoryAct}
-use Rattle.strm_machine.specs.declared.acts.MemoryAct.TheVariants.{Poke, Dump}
-use Rattle.strm_machine.specs.declared.acts.Act.{Act}
-use Rattle.strm_machine.specs.declared.acts.Act.TheVariants.{Make, OnEnd, Event, OnMemory}
+use Rattle.strm_machine.specs.declared.acts.MemoryAct.TheVariants.{Dump}
+use Rattle.strm_machine.specs.declared.acts.Act.TheVariants.{Event}
 use Rattle.strm_machine.specs.declared.replies.Reply.TheVariants as replies
-use Rattle.strm_machine.specs.declared.streams.Owner.TheVariants.{Gone}
-use Rattle.strm_machine.specs.declared.streams.Side.{Side}
 use Rattle.strm_machine.proofs.ReactionLemmas.{reaction-by}
 use Rattle.strm_machine.proofs.RefusalLemmas.{none_of_both, NamedFits, named_ok, region_fits, placed_begun, event_fits, drop_fits, pair_fits, guest_fits, poke_fits}
 use Rattle.strm_machine.proofs.NamedEndLemmas.{IsFound, end_fits, found_payload, found_kind, on_end-found, event-found}

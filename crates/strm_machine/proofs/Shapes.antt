@@ -1,33 +1,21 @@
 -- What a step does by its shape: the few ways in which steps change a state, and what is known of each.
 use Rattle.std.proofs.Common.{◌≡◌, ℕ, Bool, false, List, [], length, set, Option, None}
-use Rattle.strm_codes.specs.Types.{kind_of}
-use Rattle.strm_codes.specs.declared.codes.ReturnCode.{ReturnCode}
-use Rattle.strm_codes.specs.declared.codes.TransmitIndex.{TransmitIndex}
-use Rattle.strm_machine.specs.State.{State, stream_at}
-use Rattle.strm_machine.specs.Sides.{end_of, with_end}
+use Rattle.strm_machine.specs.Words.{kind_of, ReturnCode, TransmitIndex, State, stream_at, end_of, with_end, Turn, named, stream_named, has_ended, Reaction, goes, operates, sizes_of, IsPlaced, StreamIsPlaced, accepted, NamedEnd, Operate, Poke, Act, Make, OnEnd, OnMemory, Reply, Side, Operation, End, Stream}
 use Rattle.strm_machine.specs.Meetings.{begun}
-use Rattle.strm_machine.specs.Turns.{Turn, turn}
-use Rattle.strm_machine.specs.Tests.{named, stream_named, items_asked, has_ended}
-use Rattle.strm_machine.specs.Reactions.{Reaction, goes, operates, makes, on_memory}
-use Rattle.strm_machine.specs.Soundness.{sizes_of, IsPlaced, StreamIsPlaced}
-use Rattle.strm_machine.specs.Moments.{code_told, accepted}
-use Rattle.strm_machine.specs.declared.acts.NamedEnd.{NamedEnd}
+use Rattle.strm_machine.specs.Turns.{turn}
+use Rattle.strm_machine.specs.Tests.{items_asked}
+use Rattle.strm_machine.specs.Reactions.{makes, on_memory}
+use Rattle.strm_machine.specs.Moments.{code_told}
 use Rattle.strm_machine.specs.declared.acts.Making.TheVariants.{Guest, Between}
-use Rattle.strm_machine.specs.declared.acts.EndAct.TheVariants.{Operate}
-use Rattle.strm_machine.specs.declared.acts.MemoryAct.TheVariants.{Poke}
-use Rattle.strm_machine.specs.declared.acts.Act.{Act}
-use Rattle.strm_machine.specs.declared.acts.Act.TheVariants.{Make, OnEnd, OnMemory}
-use Rattle.strm_machine.specs.declared.replies.Reply.{Reply}
-use Rattle.strm_machine.specs.declared.streams.Side.{Side}
-use Rattle.strm_machine.specs.declared.streams.Operation.{Operation}
-use Rattle.strm_machine.specs.declared.streams.End.{End}
-use Rattle.strm_machine.specs.declared.streams.Stream.{Stream}
 use Rattle.strm_machine.proofs.RefusalLemmas.{GuestFits, BytesFit, PairFits}
 use Rattle.strm_machine.proofs.NamedEndLemmas.{IsFound}
 use Rattle.strm_machine.proofs.SoundLemmas.{guests_after}
 use Rattle.strm_machine.proofs.EndingLemmas.{Becomes}
 
 -- ## A read or write
+
+abbrev pub operating : Side → NamedEnd → ℕ → ℕ → Act
+operating side end address count = OnEnd side end (Operate address count)
 
 abbrev pub stream_on : State → NamedEnd → Stream
 stream_on state end = stream_at state (stream_named (named state end))
@@ -40,7 +28,7 @@ turn_on state side end address count = turn side state.guests (stream_on state e
 
 -- where nothing refuses it
 pub record Operates (state : State) (side : Side) (end : NamedEnd) (address count : ℕ) : Type 0 where
-  pub found : IsFound state (OnEnd side end (Operate address count)) end.guest end.handle (stream_named (named state end)) side
+  pub found : IsFound state (operating side end address count) end.guest end.handle (stream_named (named state end)) side
   pub idle : (end_of side (stream_on state end)).operation ≡ None
   pub unended : has_ended side (kind_of end.ty) (stream_on state end) ≡ false
   pub kind : (stream_on state end).kind ≡ kind_of end.ty
@@ -74,7 +62,7 @@ pub record Sets (state : State) (act : Act) (reply : Reply) (x : Setting) : Type
 -- ## All shapes
 
 pub data Shape (state : State) (act : Act) (r : Reaction) : Type 0 where
-  ByTurn : (side : Side) (end : NamedEnd) (address count : ℕ) → act ≡ OnEnd side end (Operate address count) → r ≡ operates state side end address count → Operates state side end address count → Shape state act r
+  ByTurn : (side : Side) (end : NamedEnd) (address count : ℕ) → act ≡ operating side end address count → r ≡ operates state side end address count → Operates state side end address count → Shape state act r
   BySetting : (reply : Reply) (x : Setting) → r ≡ goes reply (set_by state x) → Sets state act reply x → Shape state act r
   ByPair : (writer reader : ℕ) (ty : TransmitIndex) → act ≡ Make (Between writer reader ty) → r ≡ makes state (Between writer reader ty) → PairFits state writer reader ty → Shape state act r
   ByGuest : (size : ℕ) → act ≡ Make (Guest size) → r ≡ makes state (Guest size) → GuestFits state size → Shape state act r

@@ -1,18 +1,9 @@
 -- A stream after a change on one side: its type and owners stay, and its operations lie in memory.
 use Rattle.std.proofs.Common.{true, ◌≡◌, ℕ, ◌≤◌, List, Option, Some, None, refl, ◌∙◌, arith}
-use Rattle.strm_codes.specs.declared.payloads.Payload.{Payload}
-use Rattle.strm_codes.specs.Layout.{scalars_of}
-use Rattle.strm_machine.specs.Sides.{same_side, end_of, with_end, with_operation, read_of}
-use Rattle.strm_machine.specs.Meetings.{advanced}
-use Rattle.strm_machine.specs.Endings.{report_on, told_end, delivered}
+use Rattle.strm_machine.specs.Words.{Payload, scalars_of, same_side, end_of, with_end, with_operation, advanced, report_on, told_end, ReturnCode, IsPlaced, OperationIsPlaced, StreamIsPlaced, Side, Writing, Reading, Operation, End, Stream}
+use Rattle.strm_machine.specs.Sides.{read_of}
+use Rattle.strm_machine.specs.Endings.{delivered}
 use Rattle.strm_events.specs.Reports.{left_pending}
-use Rattle.strm_codes.specs.declared.codes.ReturnCode.{ReturnCode}
-use Rattle.strm_machine.specs.Soundness.{IsPlaced, OperationIsPlaced, StreamIsPlaced}
-use Rattle.strm_machine.specs.declared.streams.Side.{Side}
-use Rattle.strm_machine.specs.declared.streams.Side.TheVariants.{Writing, Reading}
-use Rattle.strm_machine.specs.declared.streams.Operation.{Operation}
-use Rattle.strm_machine.specs.declared.streams.End.{End}
-use Rattle.strm_machine.specs.declared.streams.Stream.{Stream}
 use Rattle.strm_machine.proofs.BoundLemmas.{not_out-rest}
 
 -- a side is the same as itself, and as no other

@@ -7,30 +7,18 @@ use Rattle.std.proofs.lemmas.Bool.{cases_lt}
 use Rattle.std.proofs.lemmas.List.{get_or_past, length-map, map-append, get_or_append_left, map-set, get_or_push}
 use Rattle.std.proofs.lemmas.List.Elements.{All-set, All-push, All-weaker, All-get_or, All-nil}
 use Rattle.std.proofs.lemmas.List.Sums.{sum_by-append}
-use Rattle.strm_codes.specs.declared.codes.TransmitIndex.{TransmitIndex}
+use Rattle.strm_machine.specs.Words.{Guest, TransmitIndex, Payload, kind_of, payload_of, Handles, removed, no_handles, Entry, State, no_guest, no_stream, guest_in, with_handles, stream_at, Turn, ReturnCode, end_of, with_end, Gone, End, Writing, Reading, Side, sizes_of, IsPlaced, OperationIsPlaced, StreamIsPlaced, IsSound, Operation, Stream}
 use Rattle.strm_codes.specs.declared.codes.TransmitIndex.TheVariants as index
-use Rattle.strm_codes.specs.declared.payloads.Payload.{Payload}
 use Rattle.strm_codes.specs.declared.payloads.Payload.TheVariants.{Nothing}
-use Rattle.strm_codes.specs.Types.{kind_of, payload_of}
-use Rattle.strm_handles.specs.Handles.{Handles, inserted, inserted_in, entries_with, removed, no_handles}
-use Rattle.strm_handles.specs.declared.entries.Entry.{Entry}
+use Rattle.strm_handles.specs.Handles.{inserted, inserted_in, entries_with}
 use Rattle.strm_handles.specs.declared.entries.Entry.TheVariants as entries
 use Rattle.strm_handles.specs.declared.entries.TransmitEnd.{TransmitEnd}
 use Rattle.strm_handles.specs.Ends.{read_end, write_end}
-use Rattle.strm_machine.specs.State.{memory_limit, State, Guest, no_guest, no_stream, guest_in, with_handles, stream_at}
-use Rattle.strm_machine.specs.Turns.{Turn}
+use Rattle.strm_machine.specs.State.{memory_limit}
 use Rattle.strm_events.specs.Reports.{left_pending}
-use Rattle.strm_codes.specs.declared.codes.ReturnCode.{ReturnCode}
-use Rattle.strm_machine.specs.Sides.{end_of, with_end}
-use Rattle.strm_machine.specs.Endings.{report_on, told_end, delivered, dropped}
-use Rattle.strm_machine.specs.declared.streams.Owner.TheVariants.{Gone}
-use Rattle.strm_machine.specs.declared.streams.End.{End}
-use Rattle.strm_machine.specs.declared.streams.Side.TheVariants.{Writing, Reading}
-use Rattle.strm_machine.specs.declared.streams.Side.{Side}
+use Rattle.strm_machine.specs.Endings.{dropped}
 use Rattle.strm_machine.specs.Making.{read_entry, write_entry, with_read_end, with_ends, made_stream, made_pair, with_stream}
-use Rattle.strm_machine.specs.Soundness.{sizes_of, handles_of, type_with, type_of, types_of, is_idle_state, IsNamed, EntryIsNamed, AreNamed, IsPlaced, OperationIsPlaced, StreamIsPlaced, IsSound}
-use Rattle.strm_machine.specs.declared.streams.Operation.{Operation}
-use Rattle.strm_machine.specs.declared.streams.Stream.{Stream}
+use Rattle.strm_machine.specs.Soundness.{handles_of, type_with, type_of, types_of, is_idle_state, IsNamed, EntryIsNamed, AreNamed}
 use Rattle.strm_machine.proofs.TurnLemmas.{GuestsKeep, TurnKeeps}
 use Rattle.strm_machine.proofs.EndLemmas.{IsLeft, left_by, with_end-type}
 
@@ -212,28 +200,21 @@ with_end-placed : (side : Side) (sizes : List ℕ) (stream : Stream) (e : End) �
 with_end-placed Writing sizes stream e left h = record { writer = left_by (OperationIsPlaced sizes stream.payload) stream.writer.operation e.operation left h.writer tt; reader = h.reader }
 with_end-placed Reading sizes stream e left h = record { writer = h.writer; reader = left_by (OperationIsPlaced sizes stream.payload) stream.reader.operation e.operation left h.reader tt }
 
--- an end of one stream is another, with its operation or none, and its handle is freed or not
-pub IsSound-set : (state : State) (frees : Bool) (g handle s : ℕ) (side : Side) (e : End) → s < length state.streams → IsLeft (end_of side (stream_at state s)).operation e.operation → IsSound state
-    → IsSound (record state { guests = guests_after frees state.guests g handle; streams = set state.streams s (with_end side (stream_at state s) e) })
-IsSound-set state frees g handle s side e l left h =
-    let stream = stream_at state s in
-    IsSound-freed frees (record state { streams = set state.streams s (with_end side stream e) }) g handle
-    (IsSound-stream state s (with_end side stream e) (with_end-type side stream e) (with_end-placed side (sizes_of state.guests) stream e left (placed_at state s l h)) h)
+module _ (state : State) (frees : Bool) (g handle s : ℕ) (side : Side) (e : End) where
+  -- an end of one stream is another, with its operation or none, and its handle is freed or not
+  pub IsSound-set : s < length state.streams → IsLeft (end_of side (stream_at state s)).operation e.operation → IsSound state → IsSound (record state { guests = guests_after frees state.guests g handle; streams = set state.streams s (with_end side (stream_at state s) e) })
+  IsSound-set l left h =
+      let stream = stream_at state s in
+      IsSound-freed frees (record state { streams = set state.streams s (with_end side stream e) }) g handle
+      (IsSound-stream state s (with_end side stream e) (with_end-type side stream e) (with_end-placed side (sizes_of state.guests) stream e left (placed_at state s l h)) h)
 
 -- an operation whose end is told
 pub left_told : (code : Option ReturnCode) (o : Option Operation) → IsLeft o (left_pending code o)
 left_told None o = inl refl
 left_told (Some code) o = inr refl
 
--- an end was told its report
-pub IsSound-delivered : (state : State) (s : ℕ) (side : Side) → s < length state.streams → IsSound state → IsSound (record state { streams = set state.streams s (delivered side (stream_at state s)) })
-unfolding delivered
-IsSound-delivered state s side l h =
-    let stream = stream_at state s in
-    IsSound-set state false 0 0 s side (told_end (report_on side stream) (end_of side stream)) l (left_told (report_on side stream) (end_of side stream).operation) h
-
 -- an end was dropped, and its handle freed
-pub IsSound-dropped : (state : State) (s : ℕ) (side : Side) (g handle : ℕ) → s < length state.streams → IsSound state → IsSound (record state { guests = with_handles state.guests g (removed (guest_in state.guests g).handles handle); streams = set state.streams s (dropped side (stream_at state s)) })
+pub IsSound-dropped : (state : State) (s : ℕ) (side : Side) (g handle : ℕ) → s < length state.streams → IsSound state → IsSound (record state { guests = guests_after true state.guests g handle; streams = set state.streams s (dropped side (stream_at state s)) })
 unfolding dropped
 IsSound-dropped state s side g handle l h =
     IsSound-set state true g handle s side (record (end_of side (stream_at state s)) { owner = Gone }) l (inl refl) h

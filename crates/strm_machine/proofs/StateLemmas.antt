@@ -2,7 +2,7 @@
 use Rattle.std.proofs.Common.{◌≡◌, ◌≢◌, ℕ, ◌<◌, List, length, refl, ap, inl, inr}
 use Rattle.std.proofs.lemmas.Bool.{cases_lt}
 use Rattle.std.proofs.lemmas.List.{get_or-set_same, get_or-set_other, set-set, set-get_or, set_past}
-use Rattle.strm_machine.specs.State.{Guest, no_guest, guest_in, memory_in, with_memory}
+use Rattle.strm_machine.specs.Words.{Guest, no_guest, guest_in, memory_in, with_memory}
 
 -- a memory written back as it was
 pub with_memory-same : (guests : List Guest) (g : ℕ) → with_memory guests g (memory_in guests g) ≡ guests

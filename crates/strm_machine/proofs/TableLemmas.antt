@@ -4,15 +4,10 @@ use Rattle.std.proofs.Math.Seq.{map-set_same}
 use Rattle.std.proofs.Math.ListN.{get_or-map}
 use Rattle.std.proofs.lemmas.Bool.{cases_eq}
 use Rattle.std.proofs.lemmas.List.{get_or-set_same, get_or-set_other}
-use Rattle.strm_handles.specs.Handles.{Handles, no_handles, IsTable}
-use Rattle.strm_machine.specs.State.{Guest, no_guest, no_stream, guest_in, with_memory, with_handles}
-use Rattle.strm_machine.specs.Sides.{end_of, with_end}
+use Rattle.strm_machine.specs.Words.{Guest, Handles, no_handles, no_guest, no_stream, guest_in, with_memory, with_handles, end_of, with_end, Side, Writing, Reading, End, Stream}
+use Rattle.strm_handles.specs.Handles.{IsTable}
 use Rattle.strm_machine.specs.Soundness.{handles_of}
 use Rattle.strm_machine.specs.declared.streams.Owner.{Owner}
-use Rattle.strm_machine.specs.declared.streams.Side.{Side}
-use Rattle.strm_machine.specs.declared.streams.Side.TheVariants.{Writing, Reading}
-use Rattle.strm_machine.specs.declared.streams.End.{End}
-use Rattle.strm_machine.specs.declared.streams.Stream.{Stream}
 
 -- ## Guests
 

@@ -4,26 +4,15 @@ use Rattle.std.proofs.Common.{◌≡◌, ℕ, ◌+◌, ◌-◌, ◌≤◌, Bool,
 use Rattle.std.specs.Prelude.{if◌then◌else◌, ◌||◌}
 use Rattle.std.proofs.lemmas.Bool.{le-ltb}
 use Rattle.strm_codes.specs.Codes.{completed_code}
-use Rattle.strm_codes.specs.Types.{kind_of}
+use Rattle.strm_machine.specs.Words.{kind_of, TransmitIndex, TransmitKind, AStream, Future, Payload, opposite, end_of, with_end, advanced, has_ended, Side, Writing, Reading, Operation, Stream, End, count_reported}
 use Rattle.strm_codes.specs.declared.codes.ReturnCode.TheVariants as codes
 use Rattle.strm_codes.specs.declared.codes.StreamResult.TheVariants.{Completed}
-use Rattle.strm_codes.specs.declared.codes.TransmitIndex.{TransmitIndex}
 use Rattle.strm_codes.specs.declared.codes.TransmitIndex.TheVariants as index
-use Rattle.strm_codes.specs.declared.codes.TransmitKind.{TransmitKind}
-use Rattle.strm_codes.specs.declared.codes.TransmitKind.TheVariants.{Stream as AStream, Future}
-use Rattle.strm_codes.specs.declared.payloads.Payload.{Payload}
-use Rattle.strm_machine.specs.Sides.{opposite, end_of, with_end}
-use Rattle.strm_machine.specs.Meetings.{begun, advanced}
+use Rattle.strm_machine.specs.Meetings.{begun}
 use Rattle.strm_machine.specs.Turns.{is_future}
-use Rattle.strm_machine.specs.Tests.{items_asked, has_ended}
-use Rattle.strm_machine.specs.declared.streams.Side.{Side}
-use Rattle.strm_machine.specs.declared.streams.Side.TheVariants.{Writing, Reading}
-use Rattle.strm_machine.specs.declared.streams.Operation.{Operation}
-use Rattle.strm_machine.specs.declared.streams.Stream.{Stream}
-use Rattle.strm_machine.specs.declared.streams.End.{End}
+use Rattle.strm_machine.specs.Tests.{items_asked}
 use Rattle.strm_machine.proofs.EndLemmas.{IsLeft, left_by}
 use Rattle.strm_machine.proofs.RefusalLemmas.{neither}
-use Rattle.strm_machine.specs.Moments.{count_reported}
 
 -- ## Operations of one item
 

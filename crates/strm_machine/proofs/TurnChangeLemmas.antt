@@ -5,25 +5,15 @@ use Rattle.std.proofs.lemmas.Bool.{cond_both, eqb-true, le-ltb}
 use Rattle.std.proofs.lemmas.List.{length-map}
 use Rattle.std.proofs.lemmas.List.Elements.{All-nil}
 use Rattle.strm_codes.specs.Codes.{completed_code}
-use Rattle.strm_codes.specs.Layout.{scalars_of}
-use Rattle.strm_codes.specs.declared.codes.ReturnCode.{ReturnCode}
+use Rattle.strm_machine.specs.Words.{Guest, scalars_of, ReturnCode, TransmitKind, AStream, Future, Payload, opposite, same_side, end_of, with_end, with_operation, advanced, carried, Turn, with_received, sizes_of, IsPlaced, OperationIsPlaced, Side, Writing, Reading, Operation, Stream, Call, as_report, count_reported, k_of, items_in, both_open}
 use Rattle.strm_codes.specs.declared.codes.ReturnCode.TheVariants as codes
-use Rattle.strm_codes.specs.declared.codes.TransmitKind.{TransmitKind}
-use Rattle.strm_codes.specs.declared.codes.TransmitKind.TheVariants.{Stream as AStream, Future}
-use Rattle.strm_codes.specs.declared.payloads.Payload.{Payload}
-use Rattle.strm_machine.specs.State.{Guest, is_gone}
-use Rattle.strm_machine.specs.Sides.{opposite, same_side, end_of, with_end, with_operation, write_of, read_of}
-use Rattle.strm_machine.specs.Meetings.{advanced, carried}
-use Rattle.strm_machine.specs.Turns.{Turn, answers, waits, with_received, moves, completes_alone, rendezvous_by, rendezvous, finds, turn}
-use Rattle.strm_machine.specs.Soundness.{sizes_of, IsPlaced, OperationIsPlaced}
-use Rattle.strm_machine.specs.declared.streams.Side.{Side}
-use Rattle.strm_machine.specs.declared.streams.Side.TheVariants.{Writing, Reading}
-use Rattle.strm_machine.specs.declared.streams.Operation.{Operation}
-use Rattle.strm_machine.specs.declared.streams.Stream.{Stream}
+use Rattle.strm_machine.specs.State.{is_gone}
+use Rattle.strm_machine.specs.Sides.{write_of, read_of}
+use Rattle.strm_machine.specs.Turns.{answers, waits, moves, completes_alone, rendezvous_by, rendezvous, finds, turn}
 use Rattle.strm_machine.specs.declared.streams.Meeting.{Meeting}
 use Rattle.strm_machine.proofs.SideLemmas.{read_of-placed}
-use Rattle.strm_machine.specs.Moments.{Call, Place, as_report, count_reported, k_of, place_of, items_in}
-use Rattle.strm_machine.specs.Soundness.{both_open, is_opened}
+use Rattle.strm_machine.specs.Moments.{Place, place_of}
+use Rattle.strm_machine.specs.Soundness.{is_opened}
 use Rattle.strm_machine.proofs.Changes.{Scene, Change, ByRest, ByGoing, ByOpening, ByServing}
 use Rattle.strm_machine.proofs.EndLemmas.{each_side, apart_by, write_mine, write_theirs, read_fits, write_none, read_none, IsTurned, turned_not, turned_end, turned_both, turned_moves}
 use Rattle.strm_machine.proofs.TallyLemmas.{AreOne, IsUnmoved, none_unmoved, unmoved_on, Tallies-by, IsOne-advanced, one_at, none_one, Tallies, one_on, PassesOne-by, count_passed, Begins, count_reported-completed, count_reported-dropped}
@@ -137,27 +127,52 @@ got_at : (payload : Payload) (guests : List Guest) (o : Option Operation) (p : O
 got_at payload guests o p k n e f = rw (e, f) refl
 
 -- items are received where the read of the two has its own
-got_moved : (side : Side) (stream : Stream) (mine theirs : Operation) (t : Turn) (n : ℕ) → (end_of (opposite side) stream).operation ≡ Some theirs → t.stream.received - stream.received ≡ n
-    → got_by side stream mine t ≡ items_in stream.payload t.guests (read_of side mine theirs).guest (read_of side mine theirs).address n
-got_moved Writing stream mine theirs t n is rise = got_at stream.payload t.guests stream.reader.operation theirs (t.stream.received - stream.received) n is rise
-got_moved Reading stream mine theirs t n is rise = ap (λ j. items_in stream.payload t.guests mine.guest mine.address j) rise
+module _ (stream : Stream) (mine theirs : Operation) (t : Turn) (n : ℕ) (rise : t.stream.received - stream.received ≡ n) where
+  got_moved : (side : Side) → (end_of (opposite side) stream).operation ≡ Some theirs → got_by side stream mine t ≡ items_in stream.payload t.guests (read_of side mine theirs).guest (read_of side mine theirs).address n
+  got_moved Writing is = got_at stream.payload t.guests stream.reader.operation theirs (t.stream.received - stream.received) n is rise
+  got_moved Reading is = ap (λ j. items_in stream.payload t.guests mine.guest mine.address j) rise
 
 report-completed : (kind : TransmitKind) (n : ℕ) → as_report (Some (completed_code kind n)) ≡ Some (completed_code kind n)
 report-completed AStream n = refl
 report-completed Future n = refl
-
-some_placed : (sizes : List ℕ) (payload : Payload) (q : Option Operation) (o : Operation) → q ≡ Some o → OperationIsPlaced sizes payload q → IsPlaced sizes payload o
-some_placed sizes payload None o e h = cc
-some_placed sizes payload (Some p) o e h = let r : p ≡ o = cc in subst (IsPlaced sizes payload) r h
 
 pub there : (guests : List Guest) (payload : Payload) (o : Operation) → IsPlaced (sizes_of guests) payload o → o.guest < length guests
 there guests payload o h = omega (arith, h.there, length-map guests (λ g. length g.memory))
 
 -- ## One read or write
 
-module _ (side : Side) (guests : List Guest) (stream : Stream) (mine : Operation) (bytes : AreBytes guests) (room : stream.received + 2 ^ 28 < 2 ^ 128) (start : mine.moved ≡ 0) (placed : IsPlaced (sizes_of guests) stream.payload mine) (tallies : Tallies stream) (begins : stream.kind ≡ Future → Begins stream mine) (idle : (end_of side stream).operation ≡ None) where
+-- mine moves n items with the open operation of the opposite end
+record Moving (side : Side) (guests : List Guest) (stream : Stream) (mine theirs : Operation) (n : ℕ) : Type 0 where
+  is : (end_of (opposite side) stream).operation ≡ Some theirs
+  held : IsPlaced (sizes_of guests) stream.payload theirs
+  fit : n ≤ mine.left
+  fits : n ≤ theirs.left
+  ready : theirs.is_open ≡ true
+  one : stream.kind ≡ Future → n ≡ 1
+
+-- what is known of the opposite end's operation where a call waits
+record IsPassed (stream : Stream) (theirs : Option Operation) : Type 0 where
+  closed : is_opened theirs ≡ false
+  unmoved : IsUnmoved theirs
+  one : stream.kind ≡ Future → AreOne theirs
+
+module _ (side : Side) (guests : List Guest) (stream : Stream) (mine : Operation)
+    (bytes : AreBytes guests) (room : stream.received + 2 ^ 28 < 2 ^ 128) (start : mine.moved ≡ 0) (placed : IsPlaced (sizes_of guests) stream.payload mine)
+    (tallies : Tallies stream) (begins : stream.kind ≡ Future → Begins stream mine) (idle : (end_of side stream).operation ≡ None) where
   abbrev found : Option Operation
   found = (end_of (opposite side) stream).operation
+
+  -- what is to be shown of a turn
+  abbrev DoesTurn : Turn → Type 0
+  DoesTurn t = DoesBy side guests stream mine t t.code
+
+  -- the guests after n items were carried
+  abbrev Carries : Operation → ℕ → Option (List Guest) → Type 0
+  Carries theirs n o = carried guests stream.payload (write_of side mine theirs) (read_of side mine theirs) n ≡ o
+
+  -- what is seen of a call that waits at the opposite end
+  abbrev theirs_seen : Stream → Scene
+  theirs_seen new = scene_of side (opposite side) guests stream mine codes.Blocked (answers codes.Blocked guests new)
 
   -- a call that is answered at once, with nothing moved
   answered : (code : ReturnCode) (new : Stream) → IsTurned side stream new None found stream.passed stream.received → count_reported stream.kind code ≡ 0 → as_report (Some code) ≡ Some code → Does side guests stream mine code (answers code guests new)
@@ -185,9 +200,8 @@ module _ (side : Side) (guests : List Guest) (stream : Stream) (mine : Operation
       }
 
   -- a call that waits, where the opposite end, as it is then, isn't open
-  opens : (new : Stream) (theirs : Option Operation) → IsTurned side stream new (Some mine) theirs stream.passed stream.received → is_opened theirs ≡ false → IsUnmoved theirs → (stream.kind ≡ Future → AreOne theirs)
-      → Change (opposite side) (scene_of side (opposite side) guests stream mine codes.Blocked (answers codes.Blocked guests new)) → Does side guests stream mine codes.Blocked (answers codes.Blocked guests new)
-  opens new theirs t closed unmoved one change =
+  opens : (new : Stream) (theirs : Option Operation) → IsTurned side stream new (Some mine) theirs stream.passed stream.received → IsPassed stream theirs → Change (opposite side) (theirs_seen new) → Does side guests stream mine codes.Blocked (answers codes.Blocked guests new)
+  opens new theirs t p change =
       let place = place_by side stream mine in
       record {
         change = each_side (λ other. Change other (scene_of side other guests stream mine codes.Blocked (answers codes.Blocked guests new))) side
@@ -207,11 +221,11 @@ module _ (side : Side) (guests : List Guest) (stream : Stream) (mine : Operation
             change;
         whole = none_whole stream.payload guests place.guest place.address new.received stream.received t.count;
         most = omega (arith, t.count);
-        apart = apart_by (opposite side) new (ap is_opened t.theirs_is ∙ closed);
+        apart = apart_by (opposite side) new (ap is_opened t.theirs_is ∙ p.closed);
         bytes = bytes;
-        tallies = Tallies-by side new (subst IsUnmoved (sym t.mine_is) (λ e. start)) (subst IsUnmoved (sym t.theirs_is) unmoved)
+        tallies = Tallies-by side new (subst IsUnmoved (sym t.mine_is) (λ e. start)) (subst IsUnmoved (sym t.theirs_is) p.unmoved)
             (λ k. let f : stream.kind ≡ Future = sym t.kind ∙ k in
-            PassesOne-by side new (subst AreOne (sym t.mine_is) (begins f).one) (subst AreOne (sym t.theirs_is) (one f)) (rw (t.count, t.pass) (tallies.one f).count));
+            PassesOne-by side new (subst AreOne (sym t.mine_is) (begins f).one) (subst AreOne (sym t.theirs_is) (p.one f)) (rw (t.count, t.pass) (tallies.one f).count));
       }
 
   -- where the opposite end stays as it is
@@ -220,8 +234,8 @@ module _ (side : Side) (guests : List Guest) (stream : Stream) (mine : Operation
       let new = with_operation side stream mine in
       let t = turned_end side stream (record (end_of side stream) { operation = Some mine }) in
       let place = place_by side stream mine in
-      opens new found t closed (unmoved_on (opposite side) stream tallies) (λ k. one_on (opposite side) stream (tallies.one k))
-      (still (opposite side) (scene_of side (opposite side) guests stream mine codes.Blocked (answers codes.Blocked guests new)) (taken-theirs side mine codes.Blocked) (report-theirs side codes.Blocked) (none_got stream.payload guests place.guest place.address new.received stream.received t.count) t.payload t.count t.theirs_is)
+      opens new found t (record { closed = closed; unmoved = unmoved_on (opposite side) stream tallies; one = λ k. one_on (opposite side) stream (tallies.one k) })
+      (still (opposite side) (theirs_seen new) (taken-theirs side mine codes.Blocked) (report-theirs side codes.Blocked) (none_got stream.payload guests place.guest place.address new.received stream.received t.count) t.payload t.count t.theirs_is)
 
   -- where its operation has met, with nothing moved
   waits_met : (theirs : Operation) → found ≡ Some theirs → theirs.left ≡ 0 → (stream.kind ≡ Future → theirs.left ≡ 1) → Does side guests stream mine codes.Blocked (waits side guests (with_operation (opposite side) stream (advanced stream.payload theirs 0)) mine)
@@ -231,7 +245,7 @@ module _ (side : Side) (guests : List Guest) (stream : Stream) (mine : Operation
       let t = turned_both side stream mine p in
       let place = place_by side stream mine in
       let closed : theirs.left - 0 ≤ 0 = omega (arith, none) in
-      opens new (Some p) t (le-ltb 0 (theirs.left - 0) closed) (λ e. cc) (λ k. absurd (omega (arith, none, left k)))
+      opens new (Some p) t (record { closed = le-ltb 0 (theirs.left - 0) closed; unmoved = λ e. cc; one = λ k. absurd (omega (arith, none, left k)) })
       (ByGoing theirs p 0 (record {
         was = is;
         is = t.theirs_is;
@@ -247,22 +261,21 @@ module _ (side : Side) (guests : List Guest) (stream : Stream) (mine : Operation
       }))
 
   -- a call that moves n items with an open operation
-  moved : (theirs : Operation) (n : ℕ) (after : List Guest) → found ≡ Some theirs → IsPlaced (sizes_of guests) stream.payload theirs → n ≤ mine.left → n ≤ theirs.left → theirs.is_open ≡ true → (stream.kind ≡ Future → n ≡ 1) → carried guests stream.payload (write_of side mine theirs) (read_of side mine theirs) n ≡ Some after
-      → Does side guests stream mine (completed_code stream.kind n) (moves side guests stream mine theirs n (Some after))
-  moved theirs n after is held fit fits ready one e =
+  moved : (theirs : Operation) (n : ℕ) (after : List Guest) → Moving side guests stream mine theirs n → Carries theirs n (Some after) → Does side guests stream mine (completed_code stream.kind n) (moves side guests stream mine theirs n (Some after))
+  moved theirs n after h e =
       let read = read_of side mine theirs in
       let write = write_of side mine theirs in
-      let laid : IsPlaced (sizes_of guests) stream.payload read = read_of-placed side (sizes_of guests) stream.payload mine theirs placed held in
-      let arrives = carried_arrives guests after stream.payload write read n bytes (there guests stream.payload read laid) (read_fits mine theirs side n fit fits) laid e in
+      let laid : IsPlaced (sizes_of guests) stream.payload read = read_of-placed side (sizes_of guests) stream.payload mine theirs placed h.held in
+      let arrives = carried_arrives guests after stream.payload write read n bytes (there guests stream.payload read laid) (read_fits mine theirs side n h.fit h.fits) laid e in
       let small : n < 2 ^ 28 = omega (arith, placed.counted) in
       let more = rose stream.received n room small in
       let p = advanced stream.payload theirs n in
       let new = with_operation (opposite side) (with_received stream n) p in
-      let t = turned_moves side stream p n None idle in
+      let t = turned_moves stream p n side None idle in
       let code = completed_code stream.kind n in
       let turned = answers code after new in
-      let got : got_by side stream mine turned ≡ items_in stream.payload after read.guest read.address n = got_moved side stream mine theirs turned n is (omega (arith, more, t.count)) in
-      let count = count_reported-completed stream.kind n one in
+      let got : got_by side stream mine turned ≡ items_in stream.payload after read.guest read.address n = got_moved stream mine theirs turned n (omega (arith, more, t.count)) side h.is in
+      let count = count_reported-completed stream.kind n h.one in
       let came : (o : Operation) → write ≡ o → got_by side stream mine turned ≡ items_in stream.payload guests o.guest o.address n = λ o f. got ∙ arrives.brings ∙ ap (λ w. items_in stream.payload guests w.guest w.address n) f in
       record {
         change = each_side (λ other. Change other (scene_of side other guests stream mine code turned)) side
@@ -276,7 +289,7 @@ module _ (side : Side) (guests : List Guest) (stream : Stream) (mine : Operation
               brings = λ f. came mine (write_mine mine theirs side f) ∙ ap (λ j. items_in stream.payload guests mine.guest mine.address j) (sym count);
             }))
             (ByGoing theirs p n (record {
-              was = is;
+              was = h.is;
               is = t.theirs_is;
               takes = taken-theirs side mine code;
               unreported = report-theirs side code;
@@ -296,50 +309,45 @@ module _ (side : Side) (guests : List Guest) (stream : Stream) (mine : Operation
             (λ k. let f : stream.kind ≡ Future = sym t.kind ∙ k in
             let was = tallies.one f in
             PassesOne-by side new (none_one (end_of side new).operation t.mine_is)
-            (subst AreOne (sym t.theirs_is) (IsOne-advanced stream.payload theirs n ready (one f) (one_at found theirs is (one_on (opposite side) stream was))))
-            (rw t.pass (count_passed stream.received n new.received stream.passed stream.kind f (begins f).unpassed was.count (one f) (t.count ∙ more))));
+            (subst AreOne (sym t.theirs_is) (IsOne-advanced stream.payload theirs n h.ready (h.one f) (one_at found theirs h.is (one_on (opposite side) stream was))))
+            (rw t.pass (count_passed stream.received n new.received stream.passed stream.kind f (begins f).unpassed was.count (h.one f) (t.count ∙ more))));
       }
 
-  carries : (theirs : Operation) (n : ℕ) (o : Option (List Guest)) → found ≡ Some theirs → IsPlaced (sizes_of guests) stream.payload theirs → n ≤ mine.left → n ≤ theirs.left → theirs.is_open ≡ true → (stream.kind ≡ Future → n ≡ 1) → carried guests stream.payload (write_of side mine theirs) (read_of side mine theirs) n ≡ o
-      → DoesBy side guests stream mine (moves side guests stream mine theirs n o) (moves side guests stream mine theirs n o).code
-  carries theirs n None is held fit fits ready one e = record { same_guests = refl; same_stream = refl }
-  carries theirs n (Some after) is held fit fits ready one e = moved theirs n after is held fit fits ready one e
+  carries : (theirs : Operation) (n : ℕ) (o : Option (List Guest)) → Moving side guests stream mine theirs n → Carries theirs n o → DoesTurn (moves side guests stream mine theirs n o)
+  carries theirs n None h e = record { same_guests = refl; same_stream = refl }
+  carries theirs n (Some after) h e = moved theirs n after h e
 
   -- one of the two has nothing left and completes alone
-  alone : (who : Side) (theirs : Operation) → found ≡ Some theirs → (stream.kind ≡ Future → theirs.left ≡ 1) → (same_side who side ≡ true → mine.left ≡ 0) × (same_side who side ≡ false → theirs.left ≡ 0)
-      → DoesBy side guests stream mine (completes_alone who side guests stream mine theirs) (completes_alone who side guests stream mine theirs).code
+  alone : (who : Side) (theirs : Operation) → found ≡ Some theirs → (stream.kind ≡ Future → theirs.left ≡ 1) → (same_side who side ≡ true → mine.left ≡ 0) × (same_side who side ≡ false → theirs.left ≡ 0) → DoesTurn (completes_alone who side guests stream mine theirs)
   alone who theirs is left none =
-      cond_both (same_side who side) _ _ (λ (t : Turn). DoesBy side guests stream mine t t.code)
+      cond_both (same_side who side) _ _ DoesTurn
       (λ e. answered (completed_code stream.kind 0) stream (turned_not side stream None idle) (count_reported-completed stream.kind 0 (λ k. omega (arith, none.0 e, (begins k).left))) (report-completed stream.kind 0))
       (λ e. waits_met theirs is (none.1 e) left)
 
-  meet : (theirs : Operation) → found ≡ Some theirs → IsPlaced (sizes_of guests) stream.payload theirs → theirs.is_open ≡ true → DoesBy side guests stream mine (rendezvous side guests stream mine theirs) (rendezvous side guests stream mine theirs).code
+  meet : (theirs : Operation) → found ≡ Some theirs → IsPlaced (sizes_of guests) stream.payload theirs → theirs.is_open ≡ true → DoesTurn (rendezvous side guests stream mine theirs)
   meet theirs is held ready =
       let write = write_of side mine theirs in
       let read = read_of side mine theirs in
       let left : stream.kind ≡ Future → theirs.left ≡ 1 = λ k. (one_at found theirs is (one_on (opposite side) stream (tallies.one k))).ready ready in
-      let P : Meeting → Type 0 = λ m. DoesBy side guests stream mine (rendezvous_by m side guests stream mine theirs) (rendezvous_by m side guests stream mine theirs).code in
+      let P : Meeting → Type 0 = λ m. DoesTurn (rendezvous_by m side guests stream mine theirs) in
       cond_both (write.left == 0) _ _ P
       (λ e. alone Writing theirs is left (write_none mine theirs side (eqb-true write.left 0 e)))
       (λ e. cond_both (read.left == 0) _ _ P
       (λ f. alone Reading theirs is left (read_none mine theirs side (eqb-true read.left 0 f)))
-      (λ f. carries theirs (min mine.left theirs.left) _ is held (omega arith) (omega arith) ready (λ k. omega (arith, (begins k).left, left k)) refl))
+      (λ f. carries theirs (min mine.left theirs.left) _ (record { is = is; held = held; fit = omega arith; fits = omega arith; ready = ready; one = λ k. omega (arith, (begins k).left, left k) }) refl))
 
-  finds_does : (o : Option Operation) → found ≡ o → OperationIsPlaced (sizes_of guests) stream.payload o → DoesBy side guests stream mine (finds side guests stream mine o) (finds side guests stream mine o).code
+  finds_does : (o : Option Operation) → found ≡ o → OperationIsPlaced (sizes_of guests) stream.payload o → DoesTurn (finds side guests stream mine o)
   finds_does None is held = waits_still (ap is_opened is)
   finds_does (Some theirs) is held =
-      cond_both theirs.is_open _ _ (λ (t : Turn). DoesBy side guests stream mine t t.code)
+      cond_both theirs.is_open _ _ DoesTurn
       (λ e. meet theirs is held e)
       (λ e. waits_still (ap is_opened is ∙ e))
 
   -- whichever of the two it is, where its end has no operation yet
-  pub turn_does : OperationIsPlaced (sizes_of guests) stream.payload found → DoesBy side guests stream mine (turn side guests stream mine) (turn side guests stream mine).code
+  pub turn_does : OperationIsPlaced (sizes_of guests) stream.payload found → DoesTurn (turn side guests stream mine)
   unfolding turn
   turn_does held =
       let end = record (end_of side stream) { told = true } in
-      cond_both (is_gone (end_of (opposite side) stream).owner) _ _ (λ (t : Turn). DoesBy side guests stream mine t t.code)
-      (λ e. answered (codes.Dropped 0) (with_end side stream end) (by_idle (turned_end side stream end)) (count_reported-dropped stream.kind) refl)
+      cond_both (is_gone (end_of (opposite side) stream).owner) _ _ DoesTurn
+      (λ e. answered (codes.Dropped 0) (with_end side stream end) (subst (λ o. IsTurned side stream (with_end side stream end) o found stream.passed stream.received) idle (turned_end side stream end)) (count_reported-dropped stream.kind) refl)
       (λ e. finds_does found refl held)
-    where
-      by_idle : IsTurned side stream (with_end side stream (record (end_of side stream) { told = true })) (end_of side stream).operation found stream.passed stream.received → IsTurned side stream (with_end side stream (record (end_of side stream) { told = true })) None found stream.passed stream.received
-      by_idle t = record { mine_is = t.mine_is ∙ idle; theirs_is = t.theirs_is; payload = t.payload; kind = t.kind; pass = t.pass; count = t.count }

@@ -5,20 +5,12 @@ use Rattle.std.proofs.Math.Seq.{map-set_same}
 use Rattle.std.proofs.Math.ListN.{get_or-map}
 use Rattle.std.proofs.lemmas.Bool.{cond_both}
 use Rattle.std.specs.Option.{option_map}
-use Rattle.strm_codes.specs.declared.payloads.Payload.{Payload}
-use Rattle.strm_codes.specs.declared.scalars.Scalar.{Scalar}
-use Rattle.strm_codes.specs.Layout.{scalars_of}
-use Rattle.strm_memory.specs.Items.{items_at, stored_at}
+use Rattle.strm_machine.specs.Words.{Guest, Payload, Scalar, scalars_of, items_at, stored_at, no_guest, guest_in, memory_in, with_memory, opposite, same_side, end_of, with_operation, advanced, carried, Turn, with_received, sizes_of, IsPlaced, OperationIsPlaced, StreamIsPlaced, Side, Writing, Reading, Operation, Stream}
 use Rattle.strm_memory.specs.Region.{is_out_of_bounds}
-use Rattle.strm_machine.specs.State.{Guest, no_guest, guest_in, memory_in, with_memory, is_gone}
-use Rattle.strm_machine.specs.Sides.{opposite, same_side, end_of, with_operation, write_of, read_of}
-use Rattle.strm_machine.specs.Meetings.{advanced, carried}
-use Rattle.strm_machine.specs.Turns.{Turn, waits, with_received, moves, completes_alone, rendezvous_by, finds, turn}
-use Rattle.strm_machine.specs.Soundness.{sizes_of, handles_of, IsPlaced, OperationIsPlaced, StreamIsPlaced}
-use Rattle.strm_machine.specs.declared.streams.Side.{Side}
-use Rattle.strm_machine.specs.declared.streams.Side.TheVariants.{Writing, Reading}
-use Rattle.strm_machine.specs.declared.streams.Operation.{Operation}
-use Rattle.strm_machine.specs.declared.streams.Stream.{Stream}
+use Rattle.strm_machine.specs.State.{is_gone}
+use Rattle.strm_machine.specs.Sides.{write_of, read_of}
+use Rattle.strm_machine.specs.Turns.{waits, moves, completes_alone, rendezvous_by, finds, turn}
+use Rattle.strm_machine.specs.Soundness.{handles_of}
 use Rattle.strm_machine.specs.declared.streams.Meeting.{Meeting}
 use Rattle.strm_machine.specs.declared.streams.Meeting.TheVariants.{BothComplete, WriteCompletes, ReadCompletes}
 use Rattle.strm_machine.proofs.BoundLemmas.{not_out-front, length-stored_region}
@@ -46,18 +38,23 @@ with_memory-keeps guests g memory e = record {
 pub size_in : (guests : List Guest) (g : ℕ) → get_or (sizes_of guests) g 0 ≡ length (memory_in guests g)
 size_in guests g = get_or-map (λ h. length h.memory) guests g no_guest
 
-carried_from : (guests : List Guest) (ss : List Scalar) (write read : Operation) (n : ℕ) (after : List Guest) (o : Option (List (List ℤ))) → is_out_of_bounds (length (memory_in guests read.guest)) ss read.address n ≡ false → items_at ss (memory_in guests write.guest) write.address n ≡ o → option_map (λ xs. with_memory guests read.guest (stored_at ss (memory_in guests read.guest) read.address xs)) o ≡ Some after → GuestsKeep guests after
-carried_from guests ss write read n after None inside i f = cc
-carried_from guests ss write read n after (Some xs) inside i f =
-    let same : with_memory guests read.guest (stored_at ss (memory_in guests read.guest) read.address xs) ≡ after = cc in
-    rw (← same) (with_memory-keeps guests read.guest _ (length-stored_region ss (memory_in guests write.guest) (memory_in guests read.guest) write.address read.address n xs i inside))
+-- the guests with items stored where a read is to have them
+abbrev filled_with : List Scalar → List Guest → Operation → List (List ℤ) → List Guest
+filled_with ss guests read xs = with_memory guests read.guest (stored_at ss (memory_in guests read.guest) read.address xs)
+
+module _ (guests : List Guest) (ss : List Scalar) (write read : Operation) (n : ℕ) (after : List Guest) (inside : is_out_of_bounds (length (memory_in guests read.guest)) ss read.address n ≡ false) where
+  carried_from : (o : Option (List (List ℤ))) → items_at ss (memory_in guests write.guest) write.address n ≡ o → option_map (filled_with ss guests read) o ≡ Some after → GuestsKeep guests after
+  carried_from None i f = cc
+  carried_from (Some xs) i f =
+      let same : filled_with ss guests read xs ≡ after = cc in
+      rw (← same) (with_memory-keeps guests read.guest _ (length-stored_region ss (memory_in guests write.guest) (memory_in guests read.guest) write.address read.address n xs i inside))
 
 -- the guests after items were carried
 pub carried-keeps : (guests : List Guest) (payload : Payload) (write read : Operation) (n : ℕ) (after : List Guest) → n ≤ read.left → IsPlaced (sizes_of guests) payload read → carried guests payload write read n ≡ Some after → GuestsKeep guests after
 carried-keeps guests payload write read n after k q e =
     let ss = scalars_of payload in
     let inside = not_out-front _ ss read.address read.left n k q.inside in
-    carried_from guests ss write read n after (items_at ss (memory_in guests write.guest) write.address n) (rw (size_in guests read.guest) at inside) refl e
+    carried_from guests ss write read n after (rw (size_in guests read.guest) at inside) (items_at ss (memory_in guests write.guest) write.address n) refl e
 
 -- an end that another has met, and then n items more were received
 advanced-keeps : (side : Side) (sizes : List ℕ) (stream : Stream) (theirs : Operation) (n : ℕ) → StreamIsPlaced sizes stream → IsPlaced sizes stream.payload theirs → n ≤ theirs.left → StreamKeeps sizes stream (with_operation side (with_received stream n) (advanced stream.payload theirs n))
@@ -82,12 +79,17 @@ least-write : (side : Side) (mine theirs : Operation) → min mine.left theirs.l
 least-write Writing mine theirs = omega arith
 least-write Reading mine theirs = omega arith
 
-moves-keeps : (side : Side) (guests : List Guest) (stream : Stream) (mine theirs : Operation) (o : Option (List Guest)) → AreReady guests stream mine theirs → carried guests stream.payload (write_of side mine theirs) (read_of side mine theirs) (min mine.left theirs.left) ≡ o → TurnKeeps guests stream (moves side guests stream mine theirs (min mine.left theirs.left) o)
-moves-keeps side guests stream mine theirs None h e = record { guests = all_kept guests; stream = kept (sizes_of guests) stream h.placed }
-moves-keeps side guests stream mine theirs (Some after) h e = record {
-  guests = carried-keeps guests stream.payload (write_of side mine theirs) (read_of side mine theirs) (min mine.left theirs.left) after (least-write side mine theirs) (read_of-placed side (sizes_of guests) stream.payload mine theirs h.mine_placed h.theirs_placed) e;
-  stream = advanced-keeps (opposite side) (sizes_of guests) stream theirs (min mine.left theirs.left) h.placed h.theirs_placed (omega arith);
-}
+module _ (side : Side) (guests : List Guest) (stream : Stream) (mine theirs : Operation) where
+  -- the items that both have left
+  abbrev both_left : ℕ
+  both_left = min mine.left theirs.left
+
+  moves-keeps : (o : Option (List Guest)) → AreReady guests stream mine theirs → carried guests stream.payload (write_of side mine theirs) (read_of side mine theirs) both_left ≡ o → TurnKeeps guests stream (moves side guests stream mine theirs both_left o)
+  moves-keeps None h e = record { guests = all_kept guests; stream = kept (sizes_of guests) stream h.placed }
+  moves-keeps (Some after) h e = record {
+    guests = carried-keeps guests stream.payload (write_of side mine theirs) (read_of side mine theirs) both_left after (least-write side mine theirs) (read_of-placed side (sizes_of guests) stream.payload mine theirs h.mine_placed h.theirs_placed) e;
+    stream = advanced-keeps (opposite side) (sizes_of guests) stream theirs both_left h.placed h.theirs_placed (omega arith);
+  }
 
 alone-keeps : (who side : Side) (guests : List Guest) (stream : Stream) (mine theirs : Operation) → AreReady guests stream mine theirs → TurnKeeps guests stream (completes_alone who side guests stream mine theirs)
 alone-keeps who side guests stream mine theirs h =
@@ -104,12 +106,13 @@ rendezvous_by-keeps BothComplete side guests stream mine theirs h = moves-keeps 
 rendezvous_by-keeps WriteCompletes side guests stream mine theirs h = alone-keeps Writing side guests stream mine theirs h
 rendezvous_by-keeps ReadCompletes side guests stream mine theirs h = alone-keeps Reading side guests stream mine theirs h
 
-finds-keeps : (side : Side) (guests : List Guest) (stream : Stream) (mine : Operation) (o : Option Operation) → StreamIsPlaced (sizes_of guests) stream → IsPlaced (sizes_of guests) stream.payload mine → OperationIsPlaced (sizes_of guests) stream.payload o → TurnKeeps guests stream (finds side guests stream mine o)
-finds-keeps side guests stream mine None h p q = waits-keeps side guests stream mine h p
-finds-keeps side guests stream mine (Some theirs) h p q =
-    cond_both theirs.is_open _ _ (TurnKeeps guests stream)
-    (λ e. rendezvous_by-keeps _ side guests stream mine theirs (record { placed = h; mine_placed = p; theirs_placed = q }))
-    (λ e. waits-keeps side guests stream mine h p)
+module _ (side : Side) (guests : List Guest) (stream : Stream) (mine : Operation) (h : StreamIsPlaced (sizes_of guests) stream) (p : IsPlaced (sizes_of guests) stream.payload mine) where
+  finds-keeps : (o : Option Operation) → OperationIsPlaced (sizes_of guests) stream.payload o → TurnKeeps guests stream (finds side guests stream mine o)
+  finds-keeps None q = waits-keeps side guests stream mine h p
+  finds-keeps (Some theirs) q =
+      cond_both theirs.is_open _ _ (TurnKeeps guests stream)
+      (λ e. rendezvous_by-keeps _ side guests stream mine theirs (record { placed = h; mine_placed = p; theirs_placed = q }))
+      (λ e. waits-keeps side guests stream mine h p)
 
 -- a read or write of n items that lie in memory
 pub turn-keeps : (side : Side) (guests : List Guest) (stream : Stream) (mine : Operation) → StreamIsPlaced (sizes_of guests) stream → IsPlaced (sizes_of guests) stream.payload mine → TurnKeeps guests stream (turn side guests stream mine)
@@ -120,7 +123,7 @@ turn-keeps side guests stream mine h p =
       guests = all_kept guests;
       stream = with_end-keeps side (sizes_of guests) stream (record (end_of side stream) { told = true }) h refl (end_placed side (sizes_of guests) stream h);
     })
-    (λ e. finds-keeps side guests stream mine _ h p (end_placed (opposite side) (sizes_of guests) stream h))
+    (λ e. finds-keeps side guests stream mine h p _ (end_placed (opposite side) (sizes_of guests) stream h))
 
 -- the first n items that an operation has left lie in its guest's memory
 pub front_inside : (guests : List Guest) (payload : Payload) (operation : Operation) (n : ℕ) → n ≤ operation.left → IsPlaced (sizes_of guests) payload operation → is_out_of_bounds (length (memory_in guests operation.guest)) (scalars_of payload) operation.address n ≡ false

@@ -5,21 +5,17 @@ use Rattle.std.proofs.Math.Seq.{map-set_same}
 use Rattle.std.proofs.lemmas.Bool.{cases_eq, cases_lt, cond_both}
 use Rattle.std.proofs.lemmas.Bool.Decides.{nat_tests}
 use Rattle.std.proofs.lemmas.List.{append_assoc, get_or-set_same, get_or_append_left, length-map, take-append-drop}
-use Rattle.strm_codes.specs.Layout.{item_size, scalars_of}
-use Rattle.strm_codes.specs.declared.codes.ReturnCode.{ReturnCode}
-use Rattle.strm_codes.specs.declared.codes.TransmitIndex.{TransmitIndex}
-use Rattle.strm_codes.specs.declared.payloads.Payload.{Payload}
-use Rattle.strm_codes.specs.declared.scalars.Scalar.{Scalar}
-use Rattle.strm_handles.specs.Handles.{Handles, inserted, removed, no_handles}
+use Rattle.strm_machine.specs.Words.{Guest, item_size, scalars_of, ReturnCode, TransmitIndex, Payload, Scalar, Handles, removed, no_handles, Moment, names, received, advanced, carried, Reaction, goes, operates, written_back, end_of, opposite, same_side, with_operation, IsPlaced, IsSound, OperationIsPlaced, sizes_of, State, guest_in, memory_in, no_guest, no_stream, stream_at, with_handles, with_memory, named, stream_named, Turn, with_received, Operation, Side, Reading, Writing, Stream, put_at, items_at, stored_at, NamedEnd, Poke, Act, Make, OnMemory}
+use Rattle.strm_handles.specs.Handles.{inserted}
 use Rattle.strm_machine.proofs.EndLemmas.{read_fits}
 use Rattle.strm_machine.proofs.Lawful.{HasRoom, as_moment}
 use Rattle.strm_machine.proofs.NamedEndLemmas.{named_itself}
 use Rattle.strm_machine.proofs.RefusalLemmas.{BytesFit}
 use Rattle.strm_machine.proofs.SoundStepLemmas.{operate-keeps, poke-keeps}
-use Rattle.strm_machine.proofs.Shapes.{stream_on, begun_on, turn_on, Operates, set_by, Shape, ByTurn, BySetting, ByPair, ByGuest, ByPoke, ByRest}
+use Rattle.strm_machine.proofs.Shapes.{operating, stream_on, begun_on, turn_on, Operates, set_by, Shape, ByTurn, BySetting, ByPair, ByGuest, ByPoke, ByRest}
 use Rattle.strm_machine.proofs.ShapeLemmas.{reaction-shape}
 use Rattle.strm_machine.proofs.TurnChangeLemmas.{place_by, rose, there}
-use Rattle.strm_machine.specs.Moments.{Moment, Place, names, place_of, read_place, received, target}
+use Rattle.strm_machine.specs.Moments.{Place, place_of, read_place, target}
 use Rattle.strm_machine.specs.Untouched.{LiesApart, Region, StaysAside, bytes_of, poked_by, received_by}
 use Rattle.strm_machine.proofs.BoundLemmas.{within}
 use Rattle.strm_machine.proofs.CarryLemmas.{carried-nothing}
@@ -28,30 +24,17 @@ use Rattle.strm_machine.proofs.SoundLemmas.{guests_after}
 use Rattle.strm_machine.proofs.StateLemmas.{memory_in-with_memory, memory_in-with_memory_other}
 use Rattle.strm_machine.proofs.TurnLemmas.{front_inside, size_in}
 use Rattle.strm_machine.specs.Making.{read_entry, with_stream}
-use Rattle.strm_machine.specs.Meetings.{advanced, carried}
-use Rattle.strm_machine.specs.Reactions.{Reaction, goes, operates, makes, on_memory, reaction, written_back}
-use Rattle.strm_machine.specs.Sides.{end_of, opposite, read_of, same_side, with_operation, write_of}
-use Rattle.strm_machine.specs.Soundness.{IsPlaced, IsSound, OperationIsPlaced, sizes_of}
-use Rattle.strm_machine.specs.State.{Guest, State, guest_in, is_gone, memory_in, no_guest, no_stream, stream_at, with_handles, with_memory}
-use Rattle.strm_machine.specs.Tests.{named, stream_named}
-use Rattle.strm_machine.specs.Turns.{Turn, completes_alone, finds, rendezvous_by, moves, turn, with_received}
+use Rattle.strm_machine.specs.Reactions.{makes, on_memory, reaction}
+use Rattle.strm_machine.specs.Sides.{read_of, write_of}
+use Rattle.strm_machine.specs.State.{is_gone}
+use Rattle.strm_machine.specs.Turns.{completes_alone, finds, rendezvous_by, moves, turn}
 use Rattle.strm_machine.specs.declared.streams.Meeting.{Meeting}
 use Rattle.strm_machine.specs.declared.streams.Meeting.TheVariants.{BothComplete, ReadCompletes, WriteCompletes}
-use Rattle.strm_machine.specs.declared.streams.Operation.{Operation}
-use Rattle.strm_machine.specs.declared.streams.Side.{Side}
-use Rattle.strm_machine.specs.declared.streams.Side.TheVariants.{Reading, Writing}
-use Rattle.strm_machine.specs.declared.streams.Stream.{Stream}
 use Rattle.strm_memory.proofs.CopyLemmas.{option_map_some}
 use Rattle.strm_memory.proofs.RegionLemmas.{bytes_at-put_at_apart, bytes_at-stored_at, length-items, stored_at-nil}
-use Rattle.strm_memory.specs.Bytes.{IsApart, bytes_at, put_at}
-use Rattle.strm_memory.specs.Items.{items_at, stored_at}
+use Rattle.strm_memory.specs.Bytes.{IsApart, bytes_at}
 use Rattle.strm_memory.specs.Region.{bytes_out_of_bounds}
-use Rattle.strm_machine.specs.declared.acts.NamedEnd.{NamedEnd}
 use Rattle.strm_machine.specs.declared.acts.Making.TheVariants as makings
-use Rattle.strm_machine.specs.declared.acts.EndAct.TheVariants.{Operate}
-use Rattle.strm_machine.specs.declared.acts.MemoryAct.TheVariants.{Poke}
-use Rattle.strm_machine.specs.declared.acts.Act.{Act}
-use Rattle.strm_machine.specs.declared.acts.Act.TheVariants.{Make, OnEnd, OnMemory}
 use Rattle.std.specs.Prelude.{replicate}
 
 -- ## Memories
@@ -124,12 +107,17 @@ positive : (a b : ℕ) → 0 < a → 0 < b → 0 < a * b
 positive a b h k = grind arith
 
 -- items of some bytes that are stored in a region
-stored_stays : (ss : List Scalar) (memory : List ℕ) (address n : ℕ) (xs : List (List ℤ)) (other size : ℕ) → length xs ≡ n → (0 < n → 0 < item_size ss → address + item_size ss * n ≤ length memory) → 0 < item_size ss → (0 < size → 0 < item_size ss * n → IsApart address (item_size ss * n) other size) → bytes_at (stored_at ss memory address xs) other size ≡ bytes_at memory other size
-stored_stays ss memory address n xs other zero e room some apart = refl
-stored_stays ss memory address zero [] other (suc size) e room some apart = rw (stored_at-nil ss memory address) refl
-stored_stays ss memory address zero (x ∷ xs) other (suc size) e room some apart = absurd (omega (arith, e))
-stored_stays ss memory address (suc n) xs other (suc size) e room some apart =
-    bytes_at-stored_at ss memory address xs other (suc size) (rw e (room (omega arith) some)) (rw e (apart (omega arith) (positive (item_size ss) (suc n) some (omega arith))))
+module _ (ss : List Scalar) (memory : List ℕ) (address other : ℕ) (some : 0 < item_size ss) where
+  -- a region of n items is apart from so many other bytes
+  abbrev LiesBeside : ℕ → ℕ → Type 0
+  LiesBeside n size = 0 < size → 0 < item_size ss * n → IsApart address (item_size ss * n) other size
+
+  stored_stays : (n : ℕ) (xs : List (List ℤ)) (size : ℕ) → length xs ≡ n → (0 < n → 0 < item_size ss → address + item_size ss * n ≤ length memory) → LiesBeside n size → bytes_at (stored_at ss memory address xs) other size ≡ bytes_at memory other size
+  stored_stays n xs zero e room apart = refl
+  stored_stays zero [] (suc size) e room apart = rw (stored_at-nil ss memory address) refl
+  stored_stays zero (x ∷ xs) (suc size) e room apart = absurd (omega (arith, e))
+  stored_stays (suc n) xs (suc size) e room apart =
+      bytes_at-stored_at ss memory address xs other (suc size) (rw e (room (omega arith) some)) (rw e (apart (omega arith) (positive (item_size ss) (suc n) some (omega arith))))
 
 -- where n items of a read that waits or is called are received
 abbrev region_of : Payload → Operation → ℕ → Region
@@ -146,7 +134,7 @@ carried_stays guests after payload write read n there fit placed e r l apart =
           let room = within (length memory) ss read.address n (front_inside guests payload read n fit placed) in
           ap (λ gs. bytes_of gs r) (sym q)
           ∙ bytes_with guests read.guest (stored_at ss memory read.address xs) r there
-          (λ f. stored_stays ss memory read.address n xs r.place.address r.size (length-items ss _ n xs p) room some (apart f)))
+          (λ f. stored_stays ss memory read.address r.place.address some n xs r.size (length-items ss _ n xs p) room (apart f)))
     ]
   where
     option_same : (a b : List Guest) → Some a ≡ Some b → a ≡ b
@@ -173,7 +161,11 @@ module _ (side : Side) (guests : List Guest) (stream : Stream) (mine : Operation
   abbrev Stays : Turn → Type 0
   Stays t = BytesStay guests t.guests (region_by side stream mine t)
 
-  carries_stay : (theirs : Operation) (n : ℕ) (o : Option (List Guest)) → (end_of (opposite side) stream).operation ≡ Some theirs → IsPlaced (sizes_of guests) stream.payload theirs → n ≤ mine.left → n ≤ theirs.left → carried guests stream.payload (write_of side mine theirs) (read_of side mine theirs) n ≡ o → Stays (moves side guests stream mine theirs n o)
+  -- the guests after n items were carried
+  abbrev Carries : Operation → ℕ → Option (List Guest) → Type 0
+  Carries theirs n o = carried guests stream.payload (write_of side mine theirs) (read_of side mine theirs) n ≡ o
+
+  carries_stay : (theirs : Operation) (n : ℕ) (o : Option (List Guest)) → (end_of (opposite side) stream).operation ≡ Some theirs → IsPlaced (sizes_of guests) stream.payload theirs → n ≤ mine.left → n ≤ theirs.left → Carries theirs n o → Stays (moves side guests stream mine theirs n o)
   carries_stay theirs n None is held fit fits e r l apart = refl
   carries_stay theirs n (Some after) is held fit fits e r l apart =
       let read = read_of side mine theirs in
@@ -181,7 +173,8 @@ module _ (side : Side) (guests : List Guest) (stream : Stream) (mine : Operation
       let more = rose stream.received n room (omega (arith, placed.counted)) in
       let new = with_operation (opposite side) (with_received stream n) (advanced stream.payload theirs n) in
       let rise : new.received - stream.received ≡ n = omega (arith, more, received-with_operation (opposite side) (with_received stream n) (advanced stream.payload theirs n)) in
-      let here : region_by side stream mine (moves side guests stream mine theirs n (Some after)) ≡ region_of stream.payload read n = region_same (place_by side stream mine) (place_of (Some read)) _ _ (place_by-read side stream mine theirs is) (ap (λ k. item_size (scalars_of stream.payload) * k) rise) in
+      let here : region_by side stream mine (moves side guests stream mine theirs n (Some after)) ≡ region_of stream.payload read n =
+      region_same (place_by side stream mine) (place_of (Some read)) _ _ (place_by-read side stream mine theirs is) (ap (λ k. item_size (scalars_of stream.payload) * k) rise) in
       carried_stays guests after stream.payload (write_of side mine theirs) read n (there guests stream.payload read laid) (read_fits mine theirs side n fit fits) laid e r l (subst (LiesApart r) here apart)
 
   alone_stays : (who : Side) (theirs : Operation) → Stays (completes_alone who side guests stream mine theirs)
@@ -207,7 +200,7 @@ module _ (side : Side) (guests : List Guest) (stream : Stream) (mine : Operation
       (λ e. finds_stay (end_of (opposite side) stream).operation refl held)
 
 -- where the act of a call has its items, by whether it names the read end
-target_by : (side : Side) (b : Bool) (end : NamedEnd) (address count : ℕ) (stream : Stream) → b ≡ same_side side Reading → cond b (read_place (OnEnd side end (Operate address count)) (place_of stream.reader.operation)) (place_of stream.reader.operation) ≡ place_by side stream (begun_on end address count)
+target_by : (side : Side) (b : Bool) (end : NamedEnd) (address count : ℕ) (stream : Stream) → b ≡ same_side side Reading → cond b (read_place (operating side end address count) (place_of stream.reader.operation)) (place_of stream.reader.operation) ≡ place_by side stream (begun_on end address count)
 target_by Writing b end address count stream e = rw e refl
 target_by Reading b end address count stream e = rw e refl
 
@@ -219,10 +212,10 @@ back_stream : (state : State) (s : ℕ) (t : Turn) (code : Option ReturnCode) �
 back_stream state s t None l = get_or-set_same state.streams s t.stream no_stream l
 back_stream state s t (Some code) l = get_or-set_same state.streams s t.stream no_stream l
 
-operates_stays : (state : State) (side : Side) (end : NamedEnd) (address count : ℕ) → HasRoom state → Operates state side end address count → StaysAside (as_moment state (OnEnd side end (Operate address count)) (operates state side end address count))
+operates_stays : (state : State) (side : Side) (end : NamedEnd) (address count : ℕ) → HasRoom state → Operates state side end address count → StaysAside (as_moment state (operating side end address count) (operates state side end address count))
 operates_stays state side end address count room o =
     let s = stream_named (named state end) in
-    let act = OnEnd side end (Operate address count) in
+    let act = operating side end address count in
     let stream = stream_on state end in
     let mine = begun_on end address count in
     let t = turn_on state side end address count in

@@ -12,3 +12,4 @@ pub mod Plays
 pub mod Soundness
 pub mod Moments
 pub mod Untouched
+pub mod Words

@@ -13,9 +13,25 @@ use Rattle.strm_memory.specs.Numbers.{lifted}
 use Rattle.strm_memory.specs.Items.{decode_from, decode, items}
 use Rattle.strm_memory.specs.Copies.{settled, copied_from, copied, copied_column, copied_columns, is_good_column, are_good_columns}
 use Rattle.strm_memory.proofs.ByteLemmas.{set-put_at, take-one, length-put_at, put_at-behind, put_at-append}
-use Rattle.strm_memory.proofs.FieldLemmas.{IsField, drop_field, put_field, length-settled, is_some-both}
+use Rattle.strm_memory.proofs.FieldLemmas.{IsField, drop_field, from_on, put_field, length-settled, is_some-both}
 use Rattle.strm_memory.proofs.ItemLemmas.{sweep_more}
 use Rattle.strm_memory.proofs.CopyLemmas.{lifted_no_char}
+
+-- what becomes of bytes where a field of so many items is copied over them
+abbrev column : (List ℕ → List ℕ) → ℕ → ℕ → ℕ → List ℕ → ℕ → List ℕ → List ℕ
+column F width start size source n bytes = copied_column F width start size source bytes n
+
+-- the same of all fields from an offset on
+abbrev columns : ℕ → List Scalar → ℕ → List ℕ → ℕ → List ℕ → List ℕ
+columns at ss size source n bytes = copied_columns at ss size source bytes n
+
+-- the same of items one after the other
+abbrev copies : List Scalar → List ℕ → ℕ → List ℕ → List ℕ
+copies ss source n bytes = copied ss source bytes n
+
+-- a scalar's bytes at an address stand for a number
+abbrev is_good_at : Scalar → List ℕ → ℕ → Bool
+is_good_at s source address = is_some (lifted s (le (bytes_at source address (size_of s))))
 
 -- ## One item more, in a loop over the items of a column
 
@@ -23,7 +39,15 @@ use Rattle.strm_memory.proofs.CopyLemmas.{lifted_no_char}
 pub flag_copied : (source m : List ℕ) (from to x : ℕ) → from < length source → to < length m → x ≡ min (get_or source from 0) 1 → set m to x ≡ put_at m to (settled Flag (bytes_at source from 1))
 flag_copied source m from to x h l e = rw (e, take-one source from h) (set-put_at m to (min (get_or source from 0) 1) l)
 
-pub column_more : (F : List ℕ → List ℕ) (width start size : ℕ) (source m : List ℕ) (from to k n : ℕ) → k < n → to ≤ length m → take (to + size) (put_at m (to + start) (F (bytes_at source (from + start) width))) ++ copied_column F width start size (drop (from + size) source) (drop (to + size) (put_at m (to + start) (F (bytes_at source (from + start) width)))) (n - (k + 1)) ≡ take to m ++ copied_column F width start size (drop from source) (drop to m) (n - k)
+-- a field of the items from an address on, copied to those from another on
+abbrev column_on : (List ℕ → List ℕ) → ℕ → ℕ → ℕ → List ℕ → ℕ → ℕ → ℕ → List ℕ → List ℕ
+column_on F width start size source from to n m = from_on (column F width start size (drop from source) n) to m
+
+-- the field of the first of them
+abbrev field_on : (List ℕ → List ℕ) → ℕ → ℕ → List ℕ → ℕ → ℕ → List ℕ → List ℕ
+field_on F width start source from to m = put_at m (to + start) (F (bytes_at source (from + start) width))
+
+pub column_more : (F : List ℕ → List ℕ) (width start size : ℕ) (source m : List ℕ) (from to k n : ℕ) → k < n → to ≤ length m → column_on F width start size source (from + size) (to + size) (n - (k + 1)) (field_on F width start source from to m) ≡ column_on F width start size source from to (n - k) m
 unfolding copied_column
 column_more F width start size source m from to k n h l =
     let s : n - k ≡ suc (n - (k + 1)) = omega arith in
@@ -35,7 +59,7 @@ pub column_none : (F : List ℕ → List ℕ) (width start size : ℕ) (source m
 unfolding copied_column
 column_none F width start size source m to n = let z : n - n ≡ 0 = omega arith in rw z (take-append-drop to m)
 
-pub good_column_more : (s : Scalar) (start size : ℕ) (source : List ℕ) (from k n : ℕ) (b : Bool) → k < n → b ≡ is_some (lifted s (le (bytes_at source (from + start) (size_of s)))) → is_good_column s start size (drop from source) (n - k) ≡ b && is_good_column s start size (drop (from + size) source) (n - (k + 1))
+pub good_column_more : (s : Scalar) (start size : ℕ) (source : List ℕ) (from k n : ℕ) (b : Bool) → k < n → b ≡ is_good_at s source (from + start) → is_good_column s start size (drop from source) (n - k) ≡ b && is_good_column s start size (drop (from + size) source) (n - (k + 1))
 unfolding is_good_column
 good_column_more s start size source from k n b h e =
     let c : n - k ≡ suc (n - (k + 1)) = omega arith in
@@ -47,9 +71,17 @@ good_column_none s start size source n = let z : n - n ≡ 0 = omega arith in rw
 
 -- ## One field more, in a loop over the fields
 
-pub columns_step : (ss : List Scalar) (k at start width : ℕ) (s : Scalar) (size : ℕ) (source m : List ℕ) (from to n : ℕ) → IsField ss k at start width s → to ≤ length m → take to (take to m ++ copied_column (settled s) (size_of s) start size (drop from source) (drop to m) n) ++ copied_columns (start + width) (drop (k + 1) ss) size (drop from source) (drop to (take to m ++ copied_column (settled s) (size_of s) start size (drop from source) (drop to m) n)) n ≡ take to m ++ copied_columns at (drop k ss) size (drop from source) (drop to m) n
+-- the k-th field of so many items, copied
+abbrev with_column : Scalar → ℕ → ℕ → List ℕ → ℕ → ℕ → List ℕ → List ℕ
+with_column s start size source to n m = from_on (column (settled s) (size_of s) start size source n) to m
+
+-- the fields from the k-th on, copied
+abbrev fields_on : List Scalar → ℕ → List ℕ → ℕ → ℕ → ℕ → ℕ → List ℕ → List ℕ
+fields_on ss size source to n k at m = from_on (columns at (drop k ss) size source n) to m
+
+pub columns_step : (ss : List Scalar) (k at start width : ℕ) (s : Scalar) (size : ℕ) (source m : List ℕ) (to n : ℕ) → IsField ss k at start width s → to ≤ length m → fields_on ss size source to n (k + 1) (start + width) (with_column s start size source to n m) ≡ fields_on ss size source to n k at m
 unfolding copied_columns
-columns_step ss k at start width s size source m from to n f h =
+columns_step ss k at start width s size source m to n f h =
     let front : length (take to m) ≡ to = length-take-le to m h in
     rw (drop_field ss k at start width s f, f.begins, f.takes, take_at (take to m) _ to front, drop_at (take to m) _ to front) refl
 
@@ -57,7 +89,11 @@ pub columns_end : (ss : List Scalar) (k at size : ℕ) (source m : List ℕ) (to
 unfolding copied_columns
 columns_end ss k at size source m to n h = rw (drop_all k ss h) (take-append-drop to m)
 
-pub good_columns_step : (ss : List Scalar) (k at start width : ℕ) (s : Scalar) (size : ℕ) (source : List ℕ) (n : ℕ) (b : Bool) → IsField ss k at start width s → b ≡ is_good_column s start size source n → are_good_columns at (drop k ss) size source n ≡ b && are_good_columns (start + width) (drop (k + 1) ss) size source n
+-- the fields from the k-th on are good
+abbrev good_from : List Scalar → ℕ → List ℕ → ℕ → ℕ → ℕ → Bool
+good_from ss size source n k at = are_good_columns at (drop k ss) size source n
+
+pub good_columns_step : (ss : List Scalar) (k at start width : ℕ) (s : Scalar) (size : ℕ) (source : List ℕ) (n : ℕ) (b : Bool) → IsField ss k at start width s → b ≡ is_good_column s start size source n → good_from ss size source n k at ≡ b && good_from ss size source n (k + 1) (start + width)
 unfolding are_good_columns
 good_columns_step ss k at start width s size source n b f e = rw (e, drop_field ss k at start width s f, f.begins, f.takes) refl
 
@@ -115,7 +151,7 @@ item_of-copied_from at (s ∷ ss) source bytes h l =
     ∙ put_field bytes at gap (size_of s) new (copied_from (start + size_of s) ss (drop (start + size_of s) source)) n room
     ∙ rw (drop-drop gap at source, drop-drop (gap + size_of s) at source, ← add_assoc at gap (size_of s)) refl
 
-columns-suc : (at : ℕ) (ss : List Scalar) (size : ℕ) (source bytes : List ℕ) (n : ℕ) → end_offset at ss ≤ size → size ≤ length source → size ≤ length bytes → copied_columns at ss size source bytes (suc n) ≡ take size (item_of at ss source bytes) ++ copied_columns at ss size (drop size source) (drop size (item_of at ss source bytes)) n
+columns-suc : (at : ℕ) (ss : List Scalar) (size : ℕ) (source bytes : List ℕ) (n : ℕ) → end_offset at ss ≤ size → size ≤ length source → size ≤ length bytes → columns at ss size source (suc n) bytes ≡ from_on (columns at ss size (drop size source) n) size (item_of at ss source bytes)
 unfolding copied_columns copied_column item_of
 columns-suc at [] size source bytes n e h l = sym (take-append-drop size bytes)
 columns-suc at (s ∷ ss) size source bytes n e h l =
@@ -159,7 +195,7 @@ length-copied_from ss source bytes h l =
     sym (ap length same) ∙ length-item_of 0 ss source bytes (omega arith) (omega arith)
 
 -- n + m items are n items and then m
-copied-add : (ss : List Scalar) (source bytes : List ℕ) (n m : ℕ) → item_size ss * n ≤ length source → item_size ss * n ≤ length bytes → copied ss source bytes (n + m) ≡ take (item_size ss * n) (copied ss source bytes n) ++ copied ss (drop (item_size ss * n) source) (drop (item_size ss * n) (copied ss source bytes n)) m
+copied-add : (ss : List Scalar) (source bytes : List ℕ) (n m : ℕ) → item_size ss * n ≤ length source → item_size ss * n ≤ length bytes → copied ss source bytes (n + m) ≡ from_on (copies ss (drop (item_size ss * n) source) m) (item_size ss * n) (copied ss source bytes n)
 unfolding copied
 copied-add ss source bytes zero m h l =
     let e : zero + m ≡ m = omega arith in
@@ -183,21 +219,26 @@ copied-add ss source bytes (suc n) m h l =
 
 -- ## A block of items more, in a loop over blocks
 
-pub block_more : (ss : List Scalar) (source m : List ℕ) (from to size done block n : ℕ) → size ≡ item_size ss → done + block ≤ n → from + size * n ≤ length source → to + size * n ≤ length m → take (to + size * (done + block)) (take (to + size * done) m ++ copied ss (drop (from + size * done) source) (drop (to + size * done) m) block) ++ copied ss (drop (from + size * (done + block)) source) (drop (to + size * (done + block)) (take (to + size * done) m ++ copied ss (drop (from + size * done) source) (drop (to + size * done) m) block)) (n - (done + block)) ≡ take (to + size * done) m ++ copied ss (drop (from + size * done) source) (drop (to + size * done) m) (n - done)
-block_more ss source m from to size done block n e h k l =
-    let a = from + size * done in
-    let b = to + size * done in
-    let w = item_size ss * block in
-    let split : n - done ≡ block + (n - (done + block)) = omega arith in
-    let fits : size * done + size * block ≤ size * n = grind arith in
-    let same : w ≡ size * block = ap (λ x. x * block) (sym e) in
-    let f : from + size * (done + block) ≡ a + w = omega (arith, same) in
-    let t : to + size * (done + block) ≡ b + w = omega (arith, same) in
-    let p : a + w ≤ length source = omega (arith, same, fits, k) in
-    let q : b + w ≤ length m = omega (arith, same, fits, l) in
-    let whole = copied ss (drop a source) (drop b m) block in
-    rw (f, t, split, copied-add ss (drop a source) (drop b m) block (n - (done + block)) (omega (arith, p, length-drop a source)) (omega (arith, q, length-drop b m)), drop-drop w a source)
-    (sweep_more m b w whole (λ bytes. copied ss (drop (a + w) source) bytes (n - (done + block))) (omega (arith, q)))
+module _ (ss : List Scalar) (source : List ℕ) (from to size : ℕ) where
+  -- so many items copied from the k-th on
+  abbrev copied_block : ℕ → ℕ → List ℕ → List ℕ
+  copied_block k n m = from_on (copies ss (drop (from + size * k) source) n) (to + size * k) m
+
+  pub block_more : (m : List ℕ) (done block n : ℕ) → size ≡ item_size ss → done + block ≤ n → from + size * n ≤ length source → to + size * n ≤ length m → copied_block (done + block) (n - (done + block)) (copied_block done block m) ≡ copied_block done (n - done) m
+  block_more m done block n e h k l =
+      let a = from + size * done in
+      let b = to + size * done in
+      let w = item_size ss * block in
+      let split : n - done ≡ block + (n - (done + block)) = omega arith in
+      let fits : size * done + size * block ≤ size * n = grind arith in
+      let same : w ≡ size * block = ap (λ x. x * block) (sym e) in
+      let f : from + size * (done + block) ≡ a + w = omega (arith, same) in
+      let t : to + size * (done + block) ≡ b + w = omega (arith, same) in
+      let p : a + w ≤ length source = omega (arith, same, fits, k) in
+      let q : b + w ≤ length m = omega (arith, same, fits, l) in
+      let whole = copied ss (drop a source) (drop b m) block in
+      rw (f, t, split, copied-add ss (drop a source) (drop b m) block (n - (done + block)) (omega (arith, p, length-drop a source)) (omega (arith, q, length-drop b m)), drop-drop w a source)
+      (sweep_more m b w whole (λ bytes. copied ss (drop (a + w) source) bytes (n - (done + block))) (omega (arith, q)))
 
 pub copied_none : (ss : List Scalar) (source m : List ℕ) (to n : ℕ) → take to m ++ copied ss source (drop to m) (n - n) ≡ m
 unfolding copied
@@ -220,11 +261,11 @@ pub both_step : (a b c d x : Bool) → d ≡ (b && c) → (a && d) ≡ x → ((a
 both_step true b c d x e f = sym e ∙ f
 both_step false b c d x e f = f
 
-pub both_true : (a : Bool) → (a && true) ≡ a
-both_true true = refl
-both_true false = refl
+-- the fields from an offset on stand for numbers
+abbrev are_decoded : ℕ → List Scalar → List ℕ → Bool
+are_decoded at ss source = is_some (decode_from at ss (drop at source))
 
-decoded-cons : (at : ℕ) (s : Scalar) (ss : List Scalar) (source : List ℕ) → is_some (decode_from at (s ∷ ss) (drop at source)) ≡ (is_some (lifted s (le (bytes_at source (at + gap_before at (size_of s)) (size_of s)))) && is_some (decode_from (at + gap_before at (size_of s) + size_of s) ss (drop (at + gap_before at (size_of s) + size_of s) source)))
+decoded-cons : (at : ℕ) (s : Scalar) (ss : List Scalar) (source : List ℕ) → are_decoded at (s ∷ ss) source ≡ (is_good_at s source (at + gap_before at (size_of s)) && are_decoded (at + gap_before at (size_of s) + size_of s) ss source)
 unfolding decode_from
 decoded-cons at s ss source =
     let gap = gap_before at (size_of s) in

@@ -55,7 +55,11 @@ IsSomeAnd-from : {A : Type 0} (o : Option A) (P : A → Type 0) → is_some o �
 IsSomeAnd-from None P e k = cc
 IsSomeAnd-from (Some x) P e k = k x refl
 
-pub stored_at_from_copied : (ss : List Scalar) (n : ℕ) (source m new : List ℕ) (from to : ℕ) → IsBytes source → from + item_size ss * n ≤ length source → is_some (items_at ss source from n) ≡ true → new ≡ take to m ++ copied ss (drop from source) (drop to m) n → IsSomeAnd (items_at ss source from n) (λ xs. new ≡ stored_at ss m to xs)
+-- so many items of a source, stored in a memory: what it is then
+abbrev pub IsCopy : List Scalar → List ℕ → ℕ → ℕ → List ℕ → ℕ → List ℕ → Type 0
+IsCopy ss source from n m to new = IsSomeAnd (items_at ss source from n) (λ xs. new ≡ stored_at ss m to xs)
+
+pub stored_at_from_copied : (ss : List Scalar) (n : ℕ) (source m new : List ℕ) (from to : ℕ) → IsBytes source → from + item_size ss * n ≤ length source → is_some (items_at ss source from n) ≡ true → new ≡ take to m ++ copied ss (drop from source) (drop to m) n → IsCopy ss source from n m to new
 stored_at_from_copied ss n source m new from to h l e f =
     IsSomeAnd-from (items ss (drop from source) n) _ e
     (λ xs p. f ∙ ap (λ b. take to m ++ b) (copied-items ss n (drop from source) (drop to m) xs (IsBytes-drop source from h) (omega (arith, l, length-drop from source)) p))
@@ -144,7 +148,7 @@ numbers_copied s (suc n) source bytes t l =
     )
     (simp append_assoc)
 
-pub numbers_copied_at : (s : Scalar) (n : ℕ) (source m new : List ℕ) (from to len : ℕ) → is_whole_number s ≡ true → IsBytes source → from + item_size (s ∷ []) * n ≤ length source → len ≡ item_size (s ∷ []) * n → new ≡ put_at m to (take len (drop from source)) → IsSomeAnd (items_at (s ∷ []) source from n) (λ xs. new ≡ stored_at (s ∷ []) m to xs)
+pub numbers_copied_at : (s : Scalar) (n : ℕ) (source m new : List ℕ) (from to len : ℕ) → is_whole_number s ≡ true → IsBytes source → from + item_size (s ∷ []) * n ≤ length source → len ≡ item_size (s ∷ []) * n → new ≡ put_at m to (take len (drop from source)) → IsCopy (s ∷ []) source from n m to new
 numbers_copied_at s n source m new from to len t h l e f =
     let room : size_of s * n ≤ length (drop from source) = rw (← item_size-one s) (omega (arith, l, length-drop from source)) in
     let size : length (take (item_size (s ∷ []) * n) (drop from source)) ≡ item_size (s ∷ []) * n = length-take-le (item_size (s ∷ []) * n) (drop from source) (omega (arith, l, length-drop from source)) in
@@ -157,7 +161,7 @@ unfolding copied copied_from
 nothing_copied zero source bytes = refl
 nothing_copied (suc n) source bytes = nothing_copied n source bytes
 
-pub nothing_copied_at : (n : ℕ) (source m : List ℕ) (from to : ℕ) → IsBytes source → from + item_size [] * n ≤ length source → IsSomeAnd (items_at [] source from n) (λ xs. m ≡ stored_at [] m to xs)
+pub nothing_copied_at : (n : ℕ) (source m : List ℕ) (from to : ℕ) → IsBytes source → from + item_size [] * n ≤ length source → IsCopy [] source from n m to m
 nothing_copied_at n source m from to h l =
     stored_at_from_copied [] n source m m from to h l (items-no_char [] n (drop from source) tt)
     (rw (nothing_copied n (drop from source) (drop to m)) (sym (take-append-drop to m)))
@@ -167,8 +171,12 @@ pub never_none : {A : Type 0} (o : Option A) → is_some o ≡ true → (false �
 never_none None e = cc
 never_none (Some x) e = (λ f. cc, λ f. cc)
 
+-- the bytes of so many items
+abbrev bytes_of : Payload → ℕ → ℕ
+bytes_of payload n = item_size (scalars_of payload) * n
+
 -- bytes moved within one memory are numbers moved
-pub moved_items : (payload : Payload) (n : ℕ) (m new : List ℕ) (from to len : ℕ) → IsTrue (is_number_or_none payload) → IsBytes m → from + item_size (scalars_of payload) * n ≤ length m → len ≡ item_size (scalars_of payload) * n → new ≡ put_at m to (bytes_at m from len) → IsSomeAnd (items_at (scalars_of payload) m from n) (λ xs. new ≡ stored_at (scalars_of payload) m to xs)
+pub moved_items : (payload : Payload) (n : ℕ) (m new : List ℕ) (from to len : ℕ) → IsTrue (is_number_or_none payload) → IsBytes m → from + bytes_of payload n ≤ length m → len ≡ bytes_of payload n → new ≡ put_at m to (bytes_at m from len) → IsCopy (scalars_of payload) m from n m to new
 moved_items Nothing n m new from to len t h l e f =
     let z : len ≡ 0 = omega arith in
     let place : to + 0 ≡ to = omega arith in

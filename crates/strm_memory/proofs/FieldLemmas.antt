@@ -43,8 +43,12 @@ next_within ss k at h =
     let s = get_or ss k Flag in
     field_within ss k at (at + gap_before at (size_of s)) (size_of s) s (record { inside = h; scalar = refl; begins = refl; takes = refl })
 
+-- the bytes with what F makes of those from an address on
+abbrev pub from_on : (List ℕ → List ℕ) → ℕ → List ℕ → List ℕ
+from_on F address m = take address m ++ F (drop address m)
+
 -- after one field, whatever F does with the bytes behind it
-pub put_field : (m : List ℕ) (at gap size : ℕ) (new : List ℕ) (F : List ℕ → List ℕ) → length new ≡ size → at + gap + size ≤ length m → take (at + gap + size) (put_at m (at + gap) new) ++ F (drop (at + gap + size) (put_at m (at + gap) new)) ≡ take at m ++ (take gap (drop at m) ++ new ++ F (drop (gap + size) (drop at m)))
+pub put_field : (m : List ℕ) (at gap size : ℕ) (new : List ℕ) (F : List ℕ → List ℕ) → length new ≡ size → at + gap + size ≤ length m → from_on F (at + gap + size) (put_at m (at + gap) new) ≡ take at m ++ (take gap (drop at m) ++ new ++ F (drop (gap + size) (drop at m)))
 put_field m at gap size new F e h =
     let front : length (take (at + gap) m ++ new) ≡ at + gap + size = rw (length-append, length-take-le (at + gap) m (omega arith), e) refl in
     let behind : drop (gap + size) (drop at m) ≡ drop (at + gap + length new) m = rw (drop-drop, e) (ap (λ n. drop n m) (omega arith)) in
@@ -67,7 +71,19 @@ is_some-both None p f = refl
 is_some-both (Some x) None f = refl
 is_some-both (Some x) (Some y) f = refl
 
-decode_cons : (s : Scalar) (ss : List Scalar) (source : List ℕ) (from at gap : ℕ) (o : Option ℤ) → gap ≡ gap_before at (size_of s) → lifted s (le (take (size_of s) (drop (from + (at + gap)) source))) ≡ o → decode_from at (s ∷ ss) (drop (from + at) source) ≡ option_and_then (λ x. option_map (λ xs. x ∷ xs) (decode_from (at + gap + size_of s) ss (drop (from + (at + gap + size_of s)) source))) o
+-- the number that a field's bytes at an address stand for
+abbrev number_at : Scalar → List ℕ → ℕ → Option ℤ
+number_at s source address = lifted s (le (take (size_of s) (drop address source)))
+
+-- the numbers of the fields from an offset on, of an item that lies from an address on
+abbrev decoded_at : List ℕ → ℕ → ℕ → List Scalar → Option (List ℤ)
+decoded_at source from at ss = decode_from at ss (drop (from + at) source)
+
+-- one number before others, where they are there
+abbrev before : Option ℤ → Option (List ℤ) → Option (List ℤ)
+before o rest = option_and_then (λ x. option_map (λ xs. x ∷ xs) rest) o
+
+decode_cons : (s : Scalar) (ss : List Scalar) (source : List ℕ) (from at gap : ℕ) (o : Option ℤ) → gap ≡ gap_before at (size_of s) → number_at s source (from + (at + gap)) ≡ o → decoded_at source from at (s ∷ ss) ≡ before o (decoded_at source from (at + gap + size_of s) ss)
 unfolding decode_from
 decode_cons s ss source from at gap o f e =
     let b : from + (at + gap + size_of s) ≡ from + at + (gap + size_of s) = omega arith in
@@ -82,14 +98,18 @@ pub with_front-more : {A : Type 0} (front : List A) (x : A) (o : Option (List A)
 with_front-more front x None = refl
 with_front-more front x (Some xs) = ap Some (append_assoc front (x ∷ []) xs)
 
+-- these numbers, and then those of the fields from the k-th on
+abbrev lifts : List ℕ → ℕ → List Scalar → List ℤ → ℕ → ℕ → Option (List ℤ)
+lifts source from ss front k at = with_front front (decoded_at source from at (drop k ss))
+
 -- one field lifted
-pub decode_step : (ss : List Scalar) (k at start size : ℕ) (s : Scalar) (source : List ℕ) (from : ℕ) (front : List ℤ) (x : ℤ) → IsField ss k at start size s → Some x ≡ lifted s (le (take (size_of s) (drop (from + start) source))) → with_front (front ++ x ∷ []) (decode_from (start + size) (drop (k + 1) ss) (drop (from + (start + size)) source)) ≡ with_front front (decode_from at (drop k ss) (drop (from + at) source))
+pub decode_step : (ss : List Scalar) (k at start size : ℕ) (s : Scalar) (source : List ℕ) (from : ℕ) (front : List ℤ) (x : ℤ) → IsField ss k at start size s → Some x ≡ number_at s source (from + start) → lifts source from ss (front ++ x ∷ []) (k + 1) (start + size) ≡ lifts source from ss front k at
 decode_step ss k at start size s source from front x f e =
     let e' = rw f.begins at (sym e) in
     rw (drop_field ss k at start size s f, f.begins, f.takes, decode_cons s (drop (k + 1) ss) source from at (gap_before at (size_of s)) (Some x) refl e')
     (with_front-more front x _)
 
-pub decode_stop : (ss : List Scalar) (k at start size : ℕ) (s : Scalar) (source : List ℕ) (from : ℕ) (front : List ℤ) → IsField ss k at start size s → None ≡ lifted s (le (take (size_of s) (drop (from + start) source))) → with_front front (decode_from at (drop k ss) (drop (from + at) source)) ≡ None
+pub decode_stop : (ss : List Scalar) (k at start size : ℕ) (s : Scalar) (source : List ℕ) (from : ℕ) (front : List ℤ) → IsField ss k at start size s → None ≡ number_at s source (from + start) → lifts source from ss front k at ≡ None
 decode_stop ss k at start size s source from front f e =
     let e' = rw f.begins at (sym e) in
     rw (drop_field ss k at start size s f, decode_cons s (drop (k + 1) ss) source from at (gap_before at (size_of s)) None refl e') refl
@@ -98,21 +118,47 @@ pub decode_end : (ss : List Scalar) (k at : ℕ) (source : List ℕ) (front : Li
 unfolding decode_from
 decode_end ss k at source front h = rw (drop_all k ss h) (ap Some (append-nil front))
 
-encode_cons : (s : Scalar) (ss : List Scalar) (m : List ℕ) (x : ℤ) (xs : List ℤ) (to at gap : ℕ) → gap ≡ gap_before at (size_of s) → to + at + gap + size_of s ≤ length m → take (to + at + gap + size_of s) (put_at m (to + at + gap) (to_le (size_of s) (lowered s x))) ++ encode_from (at + gap + size_of s) ss (drop (to + at + gap + size_of s) (put_at m (to + at + gap) (to_le (size_of s) (lowered s x)))) xs ≡ take (to + at) m ++ encode_from at (s ∷ ss) (drop (to + at) m) (x ∷ xs)
+-- the bytes of a number in a field
+abbrev field_bytes : Scalar → ℤ → List ℕ
+field_bytes s x = to_le (size_of s) (lowered s x)
+
+-- what becomes of the bytes from an offset on where these numbers are stored in those fields
+abbrev encoded : ℕ → List Scalar → List ℤ → List ℕ → List ℕ
+encoded at ss xs bytes = encode_from at ss bytes xs
+
+-- the same of the fields from the k-th on
+abbrev lowers : ℕ → List Scalar → List ℤ → ℕ → ℕ → List ℕ → List ℕ
+lowers to ss xs k at m = from_on (encoded at (drop k ss) (drop k xs)) (to + at) m
+
+-- a number put in a field at an address
+abbrev with_field : Scalar → ℤ → ℕ → List ℕ → List ℕ
+with_field s x address m = put_at m address (field_bytes s x)
+
+-- a number put in a field at an address, and these numbers in the fields behind it, which begin from an offset on
+abbrev put_first : Scalar → ℤ → ℕ → ℕ → List Scalar → List ℤ → List ℕ → List ℕ
+put_first s x address on ss xs m =
+    from_on (encoded on ss xs) (address + size_of s) (put_at m address (field_bytes s x))
+
+encode_cons : (s : Scalar) (ss : List Scalar) (m : List ℕ) (x : ℤ) (xs : List ℤ) (at from gap : ℕ) → gap ≡ gap_before at (size_of s) → from + gap + size_of s ≤ length m → put_first s x (from + gap) (at + gap + size_of s) ss xs m ≡ from_on (encoded at (s ∷ ss) (x ∷ xs)) from m
 unfolding encode_from
-encode_cons s ss m x xs to at gap f h =
-    rw (← f) (put_field m (to + at) gap (size_of s) (to_le (size_of s) (lowered s x)) (λ b. encode_from (at + gap + size_of s) ss b xs) (length-to_le (size_of s) (lowered s x)) h)
+encode_cons s ss m x xs at from gap f h =
+    rw (← f) (put_field m from gap (size_of s) (to_le (size_of s) (lowered s x)) (λ b. encode_from (at + gap + size_of s) ss b xs) (length-to_le (size_of s) (lowered s x)) h)
+
+-- the number of a field
+pub record IsNumberAt (xs : List ℤ) (k : ℕ) (x : ℤ) : Type 0 where
+  pub inside : k < length xs
+  pub is : get_or xs k (pos 0) ≡ x
 
 -- one field lowered
-pub encode_step : (ss : List Scalar) (k at start size : ℕ) (s : Scalar) (m : List ℕ) (to : ℕ) (xs : List ℤ) (x : ℤ) → IsField ss k at start size s → k < length xs → get_or xs k (pos 0) ≡ x → to + start + size ≤ length m → take (to + (start + size)) (put_at m (to + start) (to_le (size_of s) (lowered s x))) ++ encode_from (start + size) (drop (k + 1) ss) (drop (to + (start + size)) (put_at m (to + start) (to_le (size_of s) (lowered s x)))) (drop (k + 1) xs) ≡ take (to + at) m ++ encode_from at (drop k ss) (drop (to + at) m) (drop k xs)
-encode_step ss k at start size s m to xs x f l e h =
+pub encode_step : (ss : List Scalar) (k at start size : ℕ) (s : Scalar) (m : List ℕ) (to : ℕ) (xs : List ℤ) (x : ℤ) → IsField ss k at start size s → IsNumberAt xs k x → to + start + size ≤ length m → lowers to ss xs (k + 1) (start + size) (with_field s x (to + start) m) ≡ lowers to ss xs k at m
+encode_step ss k at start size s m to xs x f n h =
     let gap = gap_before at (size_of s) in
-    let here : drop k xs ≡ x ∷ drop (k + 1) xs = drop_more xs k (pos 0) l ∙ ap (λ y. y ∷ drop (k + 1) xs) e in
+    let here : drop k xs ≡ x ∷ drop (k + 1) xs = drop_more xs k (pos 0) n.inside ∙ ap (λ y. y ∷ drop (k + 1) xs) n.is in
     let a : to + (at + gap + size_of s) ≡ to + at + gap + size_of s = omega arith in
     let p : to + (at + gap) ≡ to + at + gap = omega arith in
     let room : to + at + gap + size_of s ≤ length m = omega (arith, h, f.begins, f.takes) in
     rw (drop_field ss k at start size s f, here, f.begins, f.takes, a, p)
-    (encode_cons s (drop (k + 1) ss) m x (drop (k + 1) xs) to at gap refl room)
+    (encode_cons s (drop (k + 1) ss) m x (drop (k + 1) xs) at (to + at) gap refl room)
 
 pub encode_end : (ss : List Scalar) (k at n : ℕ) (m : List ℕ) (xs : List ℤ) → length ss ≤ k → take n m ++ encode_from at (drop k ss) (drop n m) xs ≡ m
 unfolding encode_from

@@ -9,7 +9,7 @@ use Rattle.strm_codes.specs.Layout.{item_size}
 use Rattle.strm_codes.specs.declared.scalars.Scalar.{Scalar}
 use Rattle.strm_codes.specs.Items.{FitsItem}
 use Rattle.strm_memory.specs.Items.{decode, encode, items, stored, AreItems, IsFirstBad}
-use Rattle.strm_memory.proofs.FieldLemmas.{is_some-both, with_front, with_front-more}
+use Rattle.strm_memory.proofs.FieldLemmas.{is_some-both, from_on, with_front, with_front-more}
 
 pub item_fits : (k n size : ℕ) → k < n → size * k + size ≤ size * n
 item_fits k n size h = grind arith
@@ -23,8 +23,12 @@ sweep_more m at size e F h =
     let u : drop (at + size) (take at m ++ e) ≡ drop size e = rw s (drop-append-add (take at m) e size) in
     rw (t, u) (append_assoc (take at m) (take size e) (F (drop size e)))
 
+-- these items, and then so many that lie from an address on
+abbrev with_items : List (List ℤ) → List Scalar → List ℕ → ℕ → ℕ → Option (List (List ℤ))
+with_items front ss source at n = with_front front (items ss (drop at source) n)
+
 -- one item lifted
-pub items_step : (ss : List Scalar) (source : List ℕ) (at k n size : ℕ) (front : List (List ℤ)) (x : List ℤ) → k < n → size ≡ item_size ss → Some x ≡ decode ss (drop at source) → with_front (front ++ x ∷ []) (items ss (drop (at + size) source) (n - (k + 1))) ≡ with_front front (items ss (drop at source) (n - k))
+pub items_step : (ss : List Scalar) (source : List ℕ) (at k n size : ℕ) (front : List (List ℤ)) (x : List ℤ) → k < n → size ≡ item_size ss → Some x ≡ decode ss (drop at source) → with_items (front ++ x ∷ []) ss source (at + size) (n - (k + 1)) ≡ with_items front ss source at (n - k)
 unfolding items
 items_step ss source at k n size front x h e d =
     let s : n - k ≡ suc (n - (k + 1)) = omega arith in
@@ -84,8 +88,12 @@ all_lifted ss source n old new o h =
     both None e = cc
     both (Some xs) e = cc
 
+-- what becomes of bytes where these items are stored from their front on
+abbrev stores : List Scalar → List (List ℤ) → List ℕ → List ℕ
+stores ss xs bytes = stored ss bytes xs
+
 -- one item lowered
-pub stored_step : (ss : List Scalar) (m : List ℕ) (at k size : ℕ) (xs : List (List ℤ)) (x : List ℤ) → k < length xs → x ≡ get_or xs k x → size ≡ item_size ss → at ≤ length m → take (at + size) (take at m ++ encode ss (drop at m) x) ++ stored ss (drop (at + size) (take at m ++ encode ss (drop at m) x)) (drop (k + 1) xs) ≡ take at m ++ stored ss (drop at m) (drop k xs)
+pub stored_step : (ss : List Scalar) (m : List ℕ) (at k size : ℕ) (xs : List (List ℤ)) (x : List ℤ) → k < length xs → x ≡ get_or xs k x → size ≡ item_size ss → at ≤ length m → from_on (stores ss (drop (k + 1) xs)) (at + size) (from_on (λ b. encode ss b x) at m) ≡ from_on (stores ss (drop k xs)) at m
 unfolding stored
 stored_step ss m at k size xs x h e s less =
     let here : drop k xs ≡ x ∷ drop (k + 1) xs = drop_more xs k x h ∙ ap (λ y. y ∷ drop (k + 1) xs) (sym e) in
@@ -138,8 +146,12 @@ good_add ss source from n m =
 pub block_fits : (size done block n : ℕ) → done + block ≤ n → size * done + size * block ≤ size * n
 block_fits size done block n h = omega (arith, mul-le-mul_left size h)
 
+-- so many items lie behind the first k of a size
+abbrev good_in : List Scalar → List ℕ → ℕ → ℕ → ℕ → ℕ → Bool
+good_in ss source from size k n = is_some (items ss (drop (from + size * k) source) n)
+
 -- a block of items looked at
-pub good_block : (ss : List Scalar) (source : List ℕ) (from size done block n : ℕ) (b : Bool) → size ≡ item_size ss → done + block ≤ n → b ≡ is_some (items ss (drop (from + size * done) source) block) → is_some (items ss (drop (from + size * done) source) (n - done)) ≡ (b && is_some (items ss (drop (from + size * (done + block)) source) (n - (done + block))))
+pub good_block : (ss : List Scalar) (source : List ℕ) (from size done block n : ℕ) (b : Bool) → size ≡ item_size ss → done + block ≤ n → b ≡ good_in ss source from size done block → good_in ss source from size done (n - done) ≡ (b && good_in ss source from size (done + block) (n - (done + block)))
 good_block ss source from size done block n b e h g =
     let split : n - done ≡ block + (n - (done + block)) = omega arith in
     let same : item_size ss * block ≡ size * block = ap (λ x. x * block) (sym e) in

@@ -1,19 +1,15 @@
 -- What is known of regions of items, for the crates above.
 --
 -- Storing keeps the memory's length and every byte outside its region (`length-stored_at`,
--- `bytes_at-stored_at`, `items_at-stored_at_apart`), as does a put of bytes (`length-put_at`,
--- `bytes_at-put_at_apart`, `items_at-put_at_apart`). What was stored is what lies there (`items_at-stored_at`), and
--- so is what was copied (`items_at-copied`). A region's items depend on its own bytes alone (`items_at-same`);
--- n + m items are n items and then m (`items_at-join`, `items_at-split`, `stored_at-append`). What lies somewhere
--- are items (`AreItems-items`), as many as were asked for (`length-items`); any bytes are items of a number
--- (`items-number_or_none`). `items` and `stored` unfold by `items-zero`, `items-suc`, `stored-nil` and
--- `stored-cons`.
+-- `bytes_at-stored_at`), as does a put of bytes (`length-put_at`, `bytes_at-put_at_apart`). What was stored is what
+-- lies there (`items_at-stored_at`), and so is what was copied (`items_at-copied`). What lies somewhere are items
+-- (`AreItems-items`), as many as were asked for (`length-items`); any bytes are items of a number
+-- (`items-number_or_none`).
 use Rattle.std.proofs.Common.{◌≡◌, ℕ, zero, suc, ◌+◌, ◌*◌, ◌≤◌, ◌-◌, ℤ, List, [], ◌∷◌, ◌++◌, length, take, drop, Option, Some, None, true, inl, inr, refl, sym, subst, ap, ◌∙◌, append_assoc, arith, length-append, length-drop}
 use Rattle.std.proofs.lemmas.List.{take_at, drop_at, length-take-le, drop-drop, drop-take, take-take, take-append-drop}
 use Rattle.std.proofs.lemmas.Option.{option_and_then_some}
-use Rattle.std.proofs.Math.Seq.{take-append-add, drop-append-add}
-use Rattle.std.specs.Prelude.{All, is_some, IsSome, IfSome, IsTrue, option_and_then}
-use Rattle.std.specs.Option.{option_map}
+use Rattle.std.proofs.Math.Seq.{drop-append-add}
+use Rattle.std.specs.Prelude.{All, is_some, IsSome, IfSome, IsTrue}
 use Rattle.strm_codes.specs.Scalars.{size_of}
 use Rattle.strm_codes.specs.Layout.{scalars_of, gap_before, end_offset, item_size}
 use Rattle.strm_codes.proofs.LayoutLemmas.{le-end_offset}
@@ -27,7 +23,6 @@ use Rattle.strm_memory.specs.Items.{decode_from, encode_from, decode, encode, it
 use Rattle.strm_memory.proofs.ByteLemmas.{length-to_le, le-to_le, le-take-lt, IsBytes-drop}
 use Rattle.strm_memory.proofs.NumberLemmas.{IsLifted, IsLifted-fits, FitsScalar-lifted}
 use Rattle.strm_memory.proofs.FieldLemmas.{IsNumber-FitsItem}
-use Rattle.strm_memory.proofs.ItemLemmas.{items-add}
 use Rattle.strm_memory.proofs.CopyLemmas.{option_map_some, items-no_char, number_no_char}
 
 -- ## One item
@@ -115,21 +110,9 @@ made_value o ss bytes xs h e few made v = same o (made (few, IsNumber-FitsItem s
 
 -- ## So many items from the front of the bytes
 
-pub items-zero : (ss : List Scalar) (bytes : List ℕ) → items ss bytes 0 ≡ Some []
-unfolding items
-items-zero ss bytes = refl
-
-pub items-suc : (ss : List Scalar) (bytes : List ℕ) (n : ℕ) → items ss bytes (suc n) ≡ option_and_then (λ x. option_map (λ xs. x ∷ xs) (items ss (drop (item_size ss) bytes) n)) (decode ss bytes)
-unfolding items
-items-suc ss bytes n = refl
-
 pub stored-nil : (ss : List Scalar) (bytes : List ℕ) → stored ss bytes [] ≡ bytes
 unfolding stored
 stored-nil ss bytes = refl
-
-pub stored-cons : (ss : List Scalar) (bytes : List ℕ) (x : List ℤ) (xs : List (List ℤ)) → stored ss bytes (x ∷ xs) ≡ take (item_size ss) (encode ss bytes x) ++ stored ss (drop (item_size ss) (encode ss bytes x)) xs
-unfolding stored
-stored-cons ss bytes x xs = refl
 
 pub length-items : (ss : List Scalar) (bytes : List ℕ) (n : ℕ) (xs : List (List ℤ)) → items ss bytes n ≡ Some xs → length xs ≡ n
 unfolding items
@@ -160,18 +143,6 @@ items-number_or_none payload bytes n t = some (items (scalars_of payload) bytes 
     good (One s) t = items-no_char (s ∷ []) n bytes (number_no_char s t)
     good (Tuple shape) t = cc
 
--- a region's items depend on its own bytes alone
-pub items-take : (ss : List Scalar) (bytes : List ℕ) (n k : ℕ) → item_size ss * n ≤ k → items ss (take k bytes) n ≡ items ss bytes n
-unfolding items
-items-take ss bytes zero k h = refl
-items-take ss bytes (suc n) k h =
-    let w = item_size ss in
-    let room : w + w * n ≤ k = omega (arith, h) in
-    let a : w + (k - w) ≡ k = omega (arith, room) in
-    let first : decode ss (take k bytes) ≡ decode ss bytes = decode_from-take 0 ss bytes k (omega (arith, room)) in
-    let rest : drop w (take k bytes) ≡ take (k - w) (drop w bytes) = subst (λ j. drop w (take j bytes) ≡ take (k - w) (drop w bytes)) a (drop-take w (k - w) bytes) in
-    rw (first, rest, items-take ss (drop w bytes) n (k - w) (omega (arith, room))) refl
-
 pub length-stored : (ss : List Scalar) (bytes : List ℕ) (xs : List (List ℤ)) → item_size ss * length xs ≤ length bytes → length (stored ss bytes xs) ≡ length bytes
 unfolding stored
 length-stored ss bytes [] l = refl
@@ -199,24 +170,6 @@ drop-stored ss bytes (x ∷ xs) l =
     let behind : drop w e ≡ drop w bytes = drop-encode_from 0 ss bytes x w (omega (arith, room)) (omega arith) in
     rw more (sym (drop-drop (w * length xs) w (take w e ++ stored ss (drop w e) xs)) ∙ ap (drop (w * length xs)) cut ∙ rest ∙ ap (drop (w * length xs)) behind ∙ drop-drop (w * length xs) w bytes)
 
--- some items and then others, stored
-pub stored-append : (ss : List Scalar) (bytes : List ℕ) (xs ys : List (List ℤ)) → item_size ss * length xs ≤ length bytes → stored ss bytes (xs ++ ys) ≡ take (item_size ss * length xs) (stored ss bytes xs) ++ stored ss (drop (item_size ss * length xs) (stored ss bytes xs)) ys
-unfolding stored
-stored-append ss bytes [] ys l = let z : item_size ss * length {A = List ℤ} [] ≡ 0 = omega arith in rw z refl
-stored-append ss bytes (x ∷ xs) ys l =
-    let w = item_size ss in
-    let e = encode ss bytes x in
-    let rest = stored ss (drop w e) xs in
-    let more : w * length (x ∷ xs) ≡ w + w * length xs = omega arith in
-    let room : w + w * length xs ≤ length bytes = omega (arith, l) in
-    let n : length e ≡ length bytes = length-encode_from 0 ss bytes x (omega (arith, room)) in
-    let size : length (take w e) ≡ w = length-take-le w e (omega (arith, n, room)) in
-    let place : w + w * length xs ≡ length (take w e) + w * length xs = omega (arith, size) in
-    let front : take (w + w * length xs) (take w e ++ rest) ≡ take w e ++ take (w * length xs) rest = rw place (take-append-add (take w e) rest (w * length xs)) in
-    let behind : drop (w + w * length xs) (take w e ++ rest) ≡ drop (w * length xs) rest = rw place (drop-append-add (take w e) rest (w * length xs)) in
-    rw (more, front, behind, stored-append ss (drop w e) xs ys (omega (arith, n, room, length-drop w e)))
-    (sym (append_assoc (take w e) (take (w * length xs) rest) (stored ss (drop (w * length xs) rest) ys)))
-
 -- items that fit, stored and read
 pub items-stored : (ss : List Scalar) (bytes : List ℕ) (xs : List (List ℤ)) → AreItems ss xs → item_size ss * length xs ≤ length bytes → items ss (stored ss bytes xs) (length xs) ≡ Some xs
 unfolding items stored
@@ -236,31 +189,12 @@ items-stored ss bytes (x ∷ xs) h l =
 
 -- ## At an address
 
-pub items_at-zero : (ss : List Scalar) (memory : List ℕ) (address : ℕ) → items_at ss memory address 0 ≡ Some []
-items_at-zero ss memory address = items-zero ss (drop address memory)
-
 pub stored_at-nil : (ss : List Scalar) (memory : List ℕ) (address : ℕ) → stored_at ss memory address [] ≡ memory
 stored_at-nil ss memory address = rw (stored-nil ss (drop address memory)) (take-append-drop address memory)
 
--- n + m items are n items and then m
-pub items_at-join : (ss : List Scalar) (memory : List ℕ) (address n m : ℕ) (xs ys : List (List ℤ)) → items_at ss memory address n ≡ Some xs → items_at ss memory (address + item_size ss * n) m ≡ Some ys → items_at ss memory address (n + m) ≡ Some (xs ++ ys)
-items_at-join ss memory address n m xs ys e f =
-    rw (items-add ss (drop address memory) n m, e, drop-drop (item_size ss * n) address memory, f) refl
-
-pub items_at-split : (ss : List Scalar) (memory : List ℕ) (address n m : ℕ) (zs : List (List ℤ)) → items_at ss memory address (n + m) ≡ Some zs → (items_at ss memory address n ≡ Some (take n zs)) × (items_at ss memory (address + item_size ss * n) m ≡ Some (drop n zs))
-items_at-split ss memory address n m zs e =
-    let k = item_size ss * n in
-    option_and_then_some _ (items_at ss memory address n) zs (sym (items-add ss (drop address memory) n m) ∙ e)
-    (λ xs p q. option_map_some _ (items ss (drop k (drop address memory)) m) zs q
-    (λ ys u v.
-    let size : length xs ≡ n = length-items ss (drop address memory) n xs p in
-    rw (← v, take_at xs ys n size, drop_at xs ys n size) (p, ap (λ b. items ss b m) (sym (drop-drop k address memory)) ∙ u)))
-
--- a region's items depend on its own bytes alone
-pub items_at-same : (ss : List Scalar) (memory other : List ℕ) (address n : ℕ) → bytes_at other address (item_size ss * n) ≡ bytes_at memory address (item_size ss * n) → items_at ss other address n ≡ items_at ss memory address n
-items_at-same ss memory other address n e =
-    let k = item_size ss * n in
-    sym (items-take ss (drop address other) n k (omega arith)) ∙ ap (λ b. items ss b n) e ∙ items-take ss (drop address memory) n k (omega arith)
+-- the bytes that these items take
+abbrev pub bytes_of : List Scalar → List (List ℤ) → ℕ
+bytes_of ss xs = item_size ss * length xs
 
 pub length-stored_at : (ss : List Scalar) (memory : List ℕ) (address : ℕ) (xs : List (List ℤ)) → address + item_size ss * length xs ≤ length memory → length (stored_at ss memory address xs) ≡ length memory
 length-stored_at ss memory address xs h =
@@ -280,19 +214,6 @@ items_at-copied ss source memory from to n xs h l e =
     let size : length xs ≡ n = length-items ss (drop from source) n xs e in
     let fit : AreItems ss xs = AreItems-items ss (drop from source) n xs (IsBytes-drop source from h) e in
     subst (λ k. items_at ss (stored_at ss memory to xs) to k ≡ Some xs) size (items_at-stored_at ss memory to xs fit (rw size l))
-
--- some items and then others, stored
-pub stored_at-append : (ss : List Scalar) (memory : List ℕ) (address : ℕ) (xs ys : List (List ℤ)) → address + item_size ss * length xs ≤ length memory → stored_at ss memory address (xs ++ ys) ≡ stored_at ss (stored_at ss memory address xs) (address + item_size ss * length xs) ys
-stored_at-append ss memory address xs ys h =
-    let k = item_size ss * length xs in
-    let front = take address memory in
-    let rest = stored ss (drop address memory) xs in
-    let n : length front ≡ address = length-take-le address memory (omega arith) in
-    let place : address + k ≡ length front + k = omega (arith, n) in
-    let before : take (address + k) (front ++ rest) ≡ front ++ take k rest = rw place (take-append-add front rest k) in
-    let behind : drop (address + k) (front ++ rest) ≡ drop k rest = rw place (drop-append-add front rest k) in
-    rw (before, behind, stored-append ss (drop address memory) xs ys (omega (arith, length-drop address memory)))
-    (sym (append_assoc front (take k rest) (stored ss (drop k rest) ys)))
 
 -- ## Bytes outside a region
 
@@ -321,21 +242,12 @@ drop-stored_at ss memory address xs h =
     cut ∙ drop-stored ss (drop address memory) xs (omega (arith, length-drop address memory)) ∙ drop-drop k address memory
 
 -- items stored in a region leave the bytes of a region apart
-pub bytes_at-stored_at : (ss : List Scalar) (memory : List ℕ) (address : ℕ) (xs : List (List ℤ)) (other n : ℕ) → address + item_size ss * length xs ≤ length memory → IsApart address (item_size ss * length xs) other n → bytes_at (stored_at ss memory address xs) other n ≡ bytes_at memory other n
+pub bytes_at-stored_at : (ss : List Scalar) (memory : List ℕ) (address : ℕ) (xs : List (List ℤ)) (other n : ℕ) → address + bytes_of ss xs ≤ length memory → IsApart address (bytes_of ss xs) other n → bytes_at (stored_at ss memory address xs) other n ≡ bytes_at memory other n
 bytes_at-stored_at ss memory address xs other n h apart =
     elim apart [
       | inl behind ↦ same_behind memory (stored_at ss memory address xs) (address + item_size ss * length xs) other n (drop-stored_at ss memory address xs h) behind
       | inr before ↦ same_before memory (stored_at ss memory address xs) address other n (take-stored_at ss memory address xs (omega arith)) before
     ]
-
--- and its items
-pub items_at-stored_at_apart : (ss : List Scalar) (memory : List ℕ) (address : ℕ) (xs : List (List ℤ)) (ts : List Scalar) (other n : ℕ) → address + item_size ss * length xs ≤ length memory → IsApart address (item_size ss * length xs) other (item_size ts * n) → items_at ts (stored_at ss memory address xs) other n ≡ items_at ts memory other n
-items_at-stored_at_apart ss memory address xs ts other n h apart =
-    items_at-same ts memory (stored_at ss memory address xs) other n (bytes_at-stored_at ss memory address xs other (item_size ts * n) h apart)
-
--- bytes lie where they were put
-pub bytes_at-put_at : (memory : List ℕ) (address : ℕ) (new : List ℕ) → address + length new ≤ length memory → bytes_at (put_at memory address new) address (length new) ≡ new
-bytes_at-put_at memory address new h = (middle (take address memory) new (drop (address + length new) memory) address (length new) (length-take-le address memory (omega arith)) refl).0
 
 -- and leave the bytes of a region apart
 pub bytes_at-put_at_apart : (memory : List ℕ) (address : ℕ) (new : List ℕ) (other n : ℕ) → address + length new ≤ length memory → IsApart address (length new) other n → bytes_at (put_at memory address new) other n ≡ bytes_at memory other n
@@ -345,8 +257,3 @@ bytes_at-put_at_apart memory address new other n h apart =
       | inl behind ↦ same_behind memory (put_at memory address new) (address + length new) other n (middle (take address memory) new (drop (address + length new) memory) address (length new) front refl).1 behind
       | inr before ↦ same_before memory (put_at memory address new) address other n (rw append_assoc (take_at (take address memory) (new ++ drop (address + length new) memory) address front)) before
     ]
-
--- and its items
-pub items_at-put_at_apart : (memory : List ℕ) (address : ℕ) (new : List ℕ) (ss : List Scalar) (other n : ℕ) → address + length new ≤ length memory → IsApart address (length new) other (item_size ss * n) → items_at ss (put_at memory address new) other n ≡ items_at ss memory other n
-items_at-put_at_apart memory address new ss other n h apart =
-    items_at-same ss memory (put_at memory address new) other n (bytes_at-put_at_apart memory address new other (item_size ss * n) h apart)

@@ -5,10 +5,8 @@ use Rattle.std.proofs.Common.{◌≡◌, ℕ, ◌<◌, min, Bool, true, false, c
 use Rattle.std.proofs.lemmas.Bool.{cases_lt}
 use Rattle.std.proofs.lemmas.List.{get_or_past}
 use Rattle.std.proofs.lemmas.List.Elements.{All-set, All-push, All-get_or}
-use Rattle.strm_codes.specs.declared.codes.TransmitIndex.{TransmitIndex}
 use Rattle.strm_codes.specs.declared.codes.ReturnCode.{ReturnCode}
 use Rattle.strm_codes.specs.declared.payloads.Payload.{Payload}
-use Rattle.strm_codes.specs.declared.refusals.Refusal.{Refusal}
 use Rattle.strm_codes.specs.Layout.{scalars_of}
 use Rattle.strm_codes.specs.Types.{payload_of}
 use Rattle.strm_memory.specs.Items.{items_at, stored_at, is_number_or_none}
@@ -17,11 +15,17 @@ use Rattle.strm_machine.specs.State.{State, Guest, memory_in, with_memory, strea
 use Rattle.strm_machine.specs.Sides.{opposite, same_side, end_of, with_end, with_operation, write_of, read_of}
 use Rattle.strm_machine.specs.Meetings.{advanced, carried, begun}
 use Rattle.strm_machine.specs.Tests.{named, end_named, stream_named, side_named, items_asked}
-use Rattle.strm_machine.specs.Turns.{Turn, waits, with_received, moves, completes_alone, meets_by, finds, turn}
+use Rattle.strm_machine.specs.Turns.{Turn, waits, with_received, moves, completes_alone, rendezvous_by, finds, turn}
 use Rattle.strm_machine.specs.Endings.{delivered, dropped}
 use Rattle.strm_machine.specs.Making.{with_stream}
-use Rattle.strm_machine.specs.Refusals.{refusal}
-use Rattle.strm_machine.specs.Reactions.{Reaction, goes, written_back, operates, tells, drops, performs, unless_refused, react}
+use Rattle.strm_machine.specs.Acts.{act_of}
+use Rattle.strm_machine.specs.Reactions.{Reaction, written_back, operates, tells, drops, performs, reaction, react}
+use Rattle.strm_machine.specs.declared.acts.Act.{Act}
+use Rattle.strm_machine.specs.declared.acts.Act.TheVariants.{Make, OnEnd, Event, OnMemory}
+use Rattle.strm_machine.specs.declared.acts.EndAct.TheVariants.{Operate, Drop}
+use Rattle.strm_machine.specs.declared.acts.Making.TheVariants.{Guest as MakeGuest, Between}
+use Rattle.strm_machine.specs.declared.acts.MemoryAct.TheVariants.{Poke, Dump}
+use Rattle.strm_machine.specs.declared.acts.NamedEnd.{NamedEnd}
 use Rattle.strm_machine.specs.declared.streams.Side.{Side}
 use Rattle.strm_machine.specs.declared.streams.Side.TheVariants.{Writing, Reading}
 use Rattle.strm_machine.specs.declared.streams.Operation.{Operation}
@@ -30,12 +34,12 @@ use Rattle.strm_machine.specs.declared.streams.Stream.{Stream}
 use Rattle.strm_machine.specs.declared.streams.Meeting.{Meeting}
 use Rattle.strm_machine.specs.declared.streams.Meeting.TheVariants.{BothComplete, WriteCompletes, ReadCompletes}
 use Rattle.strm_machine.specs.declared.steps.Step.{Step}
-use Rattle.strm_machine.specs.declared.steps.Step.TheVariants as steps
 use Rattle.strm_machine.specs.declared.replies.Reply.TheVariants as replies
-use Rattle.strm_lines.specs.Plain.{IsPlain}
+use Rattle.strm_machine.proofs.ReactionLemmas.{reaction-by}
+use Rattle.strm_transmit.specs.Meets.{is_settled}
+use Rattle.strm_lines.specs.Plain.{MakesPlain, IsPlain}
 use Rattle.strm_session.specs.declared.runs.RunCause.{RunCause}
 use Rattle.strm_session.specs.declared.runs.RunCause.TheVariants as causes
-use Rattle.strm_session.proofs.PlayLemmas.{is_halt}
 
 abbrev pub StreamIsCalm : Stream → Type 0
 StreamIsCalm stream = IsTrue (is_number_or_none stream.payload)
@@ -80,16 +84,16 @@ alone-calm who side guests stream mine theirs =
     (record { code = refl; payload = refl })
     (record { code = then.code; payload = then.payload ∙ with_end-payload (opposite side) stream _ })
 
-meets_by-calm : (meeting : Meeting) (side : Side) (guests : List Guest) (stream : Stream) (mine theirs : Operation) → StreamIsCalm stream → TurnIsCalm stream (meets_by meeting side guests stream mine theirs)
-meets_by-calm BothComplete side guests stream mine theirs h = moves-calm side guests stream mine theirs (min mine.left theirs.left) _ (carried-some guests stream.payload (write_of side mine theirs) (read_of side mine theirs) (min mine.left theirs.left) h)
-meets_by-calm WriteCompletes side guests stream mine theirs h = alone-calm Writing side guests stream mine theirs
-meets_by-calm ReadCompletes side guests stream mine theirs h = alone-calm Reading side guests stream mine theirs
+rendezvous_by-calm : (meeting : Meeting) (side : Side) (guests : List Guest) (stream : Stream) (mine theirs : Operation) → StreamIsCalm stream → TurnIsCalm stream (rendezvous_by meeting side guests stream mine theirs)
+rendezvous_by-calm BothComplete side guests stream mine theirs h = moves-calm side guests stream mine theirs (min mine.left theirs.left) _ (carried-some guests stream.payload (write_of side mine theirs) (read_of side mine theirs) (min mine.left theirs.left) h)
+rendezvous_by-calm WriteCompletes side guests stream mine theirs h = alone-calm Writing side guests stream mine theirs
+rendezvous_by-calm ReadCompletes side guests stream mine theirs h = alone-calm Reading side guests stream mine theirs
 
 finds-calm : (side : Side) (guests : List Guest) (stream : Stream) (mine : Operation) (o : Option Operation) → StreamIsCalm stream → TurnIsCalm stream (finds side guests stream mine o)
 finds-calm side guests stream mine None h = waits-calm side guests stream mine
 finds-calm side guests stream mine (Some theirs) h =
     cond_both (TurnIsCalm stream) theirs.is_open _ _
-    (meets_by-calm _ side guests stream mine theirs h)
+    (rendezvous_by-calm _ side guests stream mine theirs h)
     (waits-calm side guests stream mine)
 
 turn-calm : (side : Side) (guests : List Guest) (stream : Stream) (mine : Operation) → StreamIsCalm stream → TurnIsCalm stream (turn side guests stream mine)
@@ -99,9 +103,9 @@ turn-calm side guests stream mine h =
     (record { code = refl; payload = with_end-payload side stream _ })
     (finds-calm side guests stream mine _ h)
 
--- a step that does not halt, and leaves such streams
+-- a step that is settled, and leaves such streams
 pub record ReactsCalmly (reaction : Reaction) : Type 0 where
-  pub goes_on : is_halt reaction.reply ≡ false
+  pub goes_on : is_settled reaction.reply ≡ true
   pub calm : AreCalm reaction.state.streams
 
 calm_at : (state : State) (s : ℕ) → AreCalm state.streams → StreamIsCalm (stream_at state s)
@@ -115,10 +119,10 @@ written-calm : (state : State) (s : ℕ) (t : Turn) (code : Option ReturnCode) �
 written-calm state s t None c p h = cc
 written-calm state s t (Some code) c p h = record { goes_on = refl; calm = All-set StreamIsCalm state.streams s t.stream p h }
 
-operates-calm : (state : State) (side : Side) (g : ℕ) (ty : TransmitIndex) (handle address count : ℕ) → AreCalm state.streams → ReactsCalmly (operates state side g ty handle address count)
-operates-calm state side g ty handle address count h =
-    let s = stream_named (named state g ty handle) in
-    let mine = begun g address (items_asked ty count) in
+operates-calm : (state : State) (side : Side) (end : NamedEnd) (address count : ℕ) → AreCalm state.streams → ReactsCalmly (operates state side end address count)
+operates-calm state side end address count h =
+    let s = stream_named (named state end) in
+    let mine = begun end.guest address (items_asked end.ty count) in
     let t = turn side state.guests (stream_at state s) mine in
     let here = calm_at state s h in
     let turned = turn-calm side state.guests (stream_at state s) mine here in
@@ -132,35 +136,33 @@ tells-calm : (state : State) (s : ℕ) (side : Side) → AreCalm state.streams �
 unfolding delivered
 tells-calm state s side h = record { goes_on = refl; calm = again-calm state s _ (with_end-payload side (stream_at state s) _) h }
 
-drops-calm : (state : State) (s : ℕ) (side : Side) (g handle : ℕ) → AreCalm state.streams → ReactsCalmly (drops state s side g handle)
+drops-calm : (state : State) (s : ℕ) (side : Side) (end : NamedEnd) → AreCalm state.streams → ReactsCalmly (drops state s side end)
 unfolding dropped
-drops-calm state s side g handle h = record { goes_on = refl; calm = again-calm state s _ (with_end-payload side (stream_at state s) _) h }
+drops-calm state s side end h = record { goes_on = refl; calm = again-calm state s _ (with_end-payload side (stream_at state s) _) h }
 
-performs-calm : (state : State) (step : Step) → IsPlain step → AreCalm state.streams → ReactsCalmly (performs state step)
+performs-calm : (state : State) (act : Act) → MakesPlain act → AreCalm state.streams → ReactsCalmly (performs state act)
 unfolding performs with_stream
-performs-calm state (steps.Guest size) p h = record { goes_on = refl; calm = h }
-performs-calm state (steps.Between writer reader ty) p h =
+performs-calm state (OnEnd side end (Operate address count)) p h = operates-calm state side end address count h
+performs-calm state (OnEnd side end Drop) p h = drops-calm state (stream_named (named state end)) side end h
+performs-calm state (Make (MakeGuest size)) p h = record { goes_on = refl; calm = h }
+performs-calm state (Make (Between writer reader ty)) p h =
     let number : IsTrue (is_number_or_none (payload_of ty)) = rw p.0 refl in
     record { goes_on = refl; calm = All-push StreamIsCalm state.streams _ h number }
-performs-calm state (steps.Write g ty handle address count) p h = operates-calm state Writing g ty handle address count h
-performs-calm state (steps.Read g ty handle address count) p h = operates-calm state Reading g ty handle address count h
-performs-calm state (steps.DropWrite g ty handle) p h = drops-calm state (stream_named (named state g ty handle)) Writing g handle h
-performs-calm state (steps.DropRead g ty handle) p h = drops-calm state (stream_named (named state g ty handle)) Reading g handle h
-performs-calm state (steps.Event g handle) p h =
+performs-calm state (Event g handle) p h =
     let name = end_named state g handle in tells-calm state (stream_named name) (side_named name) h
-performs-calm state (steps.Poke g address bytes) p h = record { goes_on = refl; calm = h }
-performs-calm state (steps.Dump g address len) p h = record { goes_on = refl; calm = h }
+performs-calm state (OnMemory g (Poke address bytes)) p h = record { goes_on = refl; calm = h }
+performs-calm state (OnMemory g (Dump address len)) p h = record { goes_on = refl; calm = h }
 
-unless-calm : (state : State) (step : Step) (o : Option Refusal) → IsPlain step → AreCalm state.streams → ReactsCalmly (unless_refused state step o)
-unless-calm state step (Some r) p h = record { goes_on = refl; calm = h }
-unless-calm state step None p h = performs-calm state step p h
+-- a plain act on a store that is not trapped
+reaction-calm : (state : State) (act : Act) → state.trapped ≡ false → MakesPlain act → AreCalm state.streams → ReactsCalmly (reaction state act)
+reaction-calm state act t p h =
+    reaction-by ReactsCalmly state act (λ e. absurd (let wrong : true ≡ false = sym e ∙ t in cc))
+    (λ r e. record { goes_on = refl; calm = h })
+    (λ e. performs-calm state act p h)
 
 -- a plain step on a store that is not trapped
 pub react-calm : (state : State) (step : Step) → state.trapped ≡ false → IsPlain step → AreCalm state.streams → ReactsCalmly (react state step)
-unfolding react
-react-calm state step t p h =
-    let same : unless_refused state step (refusal state step) ≡ react state step = sym (ap (λ b. cond b (goes replies.StoreTrapped state) (unless_refused state step (refusal state step))) t) in
-    subst ReactsCalmly same (unless-calm state step (refusal state step) p h)
+react-calm state step t p h = reaction-calm state (act_of step) t p h
 
 pub plain_at : (list : List Step) (k : ℕ) (step : Step) → k < length list → get_or list k step ≡ step → All IsPlain list → IsPlain step
 plain_at list k step l g h = subst IsPlain g (All-get_or IsPlain list k step l h)
@@ -169,4 +171,4 @@ plain_at list k step l g h = subst IsPlain g (All-get_or IsPlain list k step l h
 pub calm_cause : (state : State) (step : Step) (cause : RunCause) → state.trapped ≡ false → IsPlain step → AreCalm state.streams → ((stream : ℕ) → cause ≡ causes.BadItem stream → (react state step).reply ≡ replies.BadItem stream) → cause ≡ causes.OutOfMemory
 calm_cause state step causes.OutOfMemory t p h f = refl
 calm_cause state step (causes.BadItem stream) t p h f =
-    let wrong : false ≡ true = sym (react-calm state step t p h).goes_on ∙ ap is_halt (f stream refl) in cc
+    let wrong : true ≡ false = sym (react-calm state step t p h).goes_on ∙ ap is_settled (f stream refl) in cc

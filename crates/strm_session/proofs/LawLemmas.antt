@@ -1,27 +1,60 @@
 -- What the laws of every run say of one that came to its end.
-use Rattle.std.proofs.Common.{◌≡◌, ◌≤◌, List, [], length, sym, subst}
+use Rattle.std.proofs.Common.{◌≡◌, ℕ, ◌≤◌, List, [], ◌∷◌, ◌++◌, length, take, refl, sym, subst, append_assoc, arith}
 use Rattle.std.specs.Prelude.{All}
+use Rattle.std.proofs.lemmas.List.{take_at, length-take}
+use Rattle.std.proofs.lemmas.List.Elements.{All-nil, All-cons, All-take}
 use Rattle.strm_machine.specs.State.{State}
+use Rattle.strm_machine.specs.Reactions.{react}
 use Rattle.strm_machine.specs.Plays.{play, Ends}
 use Rattle.strm_machine.specs.declared.steps.Step.{Step}
 use Rattle.strm_machine.specs.declared.replies.Reply.{Reply}
-use Rattle.strm_laws.specs.Conservation.{moments, last, replies_of}
+use Rattle.strm_machine.specs.Moments.{moment_of}
+use Rattle.strm_laws.specs.Conservation.{moments, last}
 use Rattle.strm_laws.specs.Laws.{HasBytes, AreSteps}
+use Rattle.strm_machine.specs.Untouched.{StaysAside}
 use Rattle.strm_laws.proofs.Replies.{play-ends}
-use Rattle.strm_laws.proofs.Conserved as conserved
-use Rattle.strm_laws.proofs.LawfulRuns as lawful
-use Rattle.strm_session.specs.Runs.{start, IsKept}
+use Rattle.strm_session.specs.Runs.{start, HasLaws, IsKept}
 
-last_kept : (steps : List Step) (replies : List Reply) → AreSteps steps → replies ≡ replies_of (moments start steps) → IsKept steps replies (last start steps)
-last_kept steps replies a e = record {
-  told = e;
-  conserves = λ s. conserved.conserves 0 _ steps s a;
-  stands = λ s. conserved.stands 0 _ steps s a;
-  apart = λ s. lawful.apart 0 _ steps s a;
-  counted = λ s. lawful.counted 0 _ steps s a;
-}
+-- the laws of whichever steps
+abbrev pub LawsHold : Type 0
+LawsHold = (steps : List Step) → AreSteps steps → HasLaws (moments start steps) (last start steps)
 
-pub run_kept : (steps : List Step) (replies : List Reply) (state : State) → length steps ≤ 4294967295 → All HasBytes steps → play [] start steps ≡ Ends replies state → IsKept steps replies state
-run_kept steps replies state few bytes e =
+-- the law of one step behind others
+abbrev pub AsideHolds : Type 0
+AsideHolds = (steps : List Step) (step : Step) → AreSteps (steps ++ step ∷ []) → StaysAside (moment_of (last start steps) step)
+
+AreSteps-take : (n : ℕ) (steps : List Step) → AreSteps steps → AreSteps (take n steps)
+AreSteps-take n steps a = record { few = omega (arith, length-take n steps, a.few); bytes = All-take HasBytes n steps a.bytes }
+
+AreSteps-front : (xs ys : List Step) → AreSteps (xs ++ ys) → AreSteps xs
+AreSteps-front xs ys a = subst AreSteps (take_at xs ys (length xs) refl) (AreSteps-take (length xs) (xs ++ ys) a)
+
+last-push : (state : State) (front : List Step) (step : Step) → last state (front ++ step ∷ []) ≡ (react (last state front) step).state
+last-push state [] step = refl
+last-push state (first ∷ front) step = last-push (react state first).state front step
+
+-- each moment of steps behind others
+aside_from : AsideHolds → (front steps : List Step) → AreSteps (front ++ steps) → All StaysAside (moments (last start front) steps)
+aside_from each front [] a = All-nil StaysAside
+aside_from each front (step ∷ more) a =
+    let longer : AreSteps ((front ++ step ∷ []) ++ more) = subst AreSteps (sym (append_assoc front (step ∷ []) more)) a in
+    let here = each front step (AreSteps-front (front ++ step ∷ []) more longer) in
+    let rest = aside_from each (front ++ step ∷ []) more longer in
+    All-cons StaysAside (moment_of (last start front) step) (moments (react (last start front) step).state more) here
+    (subst (λ state. All StaysAside (moments state more)) (last-push start front step) rest)
+
+pub run_kept : LawsHold → AsideHolds → (steps : List Step) (replies : List Reply) (state : State) → length steps ≤ 4294967295 → All HasBytes steps → play [] start steps ≡ Ends replies state → IsKept steps replies state
+run_kept laws each steps replies state few bytes e =
     let p = play-ends [] start steps replies state e in
-    subst (IsKept steps replies) (sym p.0) (last_kept steps replies (record { few = few; bytes = bytes }) p.1)
+    let a : AreSteps steps = record { few = few; bytes = bytes } in
+    record {
+      told = p.1;
+      ends = p.0;
+      laws = λ n. laws (take n steps) (AreSteps-take n steps a);
+      aside = aside_from each [] steps a;
+    }
+
+-- the same of the first of the steps
+pub front_kept : LawsHold → AsideHolds → (steps : List Step) (n : ℕ) (replies : List Reply) (state : State) → length steps ≤ 4294967295 → All HasBytes (take n steps) → play [] start (take n steps) ≡ Ends replies state → IsKept (take n steps) replies state
+front_kept laws each steps n replies state few bytes e =
+    run_kept laws each (take n steps) replies state (omega (arith, length-take n steps)) bytes e

@@ -1,7 +1,7 @@
 -- Bytes that leave the front of what a source has left, and that a sink appends, in pieces.
 use Rattle.std.proofs.Common.{None, Some, Option, append_assoc, ◌≡◌, ℕ, ◌+◌, ◌≤◌, List, ◌++◌, length, take, drop, sym, ◌∙◌, ap, arith, length-drop, length-take-le, drop-drop}
 use Rattle.std.proofs.Math.Seq.{take-add}
-use Rattle.std.specs.Io.KnownBytes.{Appends, Consumes, Keeps}
+use Rattle.std.specs.Io.KnownBytes.{Appends, Consumes}
 use Rattle.std.proofs.lemmas.List.{take_at, take-append-drop}
 
 -- the first n of the bytes from a place on stand at the front of out, and the others are left
@@ -23,23 +23,9 @@ Appends-append (Some old) (Some mid) (Some new) xs ys p q = rw (q, p, append_ass
 pub Appends-take : (a b c : Option (List ℕ)) (bytes : List ℕ) (d n : ℕ) → Appends a b (take d bytes) → Appends b c (take n (drop d bytes)) → Appends a c (take (d + n) bytes)
 Appends-take a b c bytes d n p q = rw take-add (Appends-append a b c (take d bytes) (take n (drop d bytes)) p q)
 
--- what is appended, and then kept
-pub Appends-keeps : (a b c : Option (List ℕ)) (xs : List ℕ) → Appends a b xs → Keeps b c → Appends a c xs
-Appends-keeps None b c xs p q = tt
-Appends-keeps (Some old) None c xs p q = absurd p
-Appends-keeps (Some old) (Some mid) None xs p q = absurd q
-Appends-keeps (Some old) (Some mid) (Some new) xs p q = q ∙ p
-
 -- what is read in pieces
 pub Consumes-append : (a b c : Option (List ℕ)) (xs ys : List ℕ) → Consumes a b xs → Consumes b c ys → Consumes a c (xs ++ ys)
 Consumes-append None b c xs ys p q = tt
 Consumes-append (Some old) None c xs ys p q = absurd p
 Consumes-append (Some old) (Some mid) None xs ys p q = absurd q
 Consumes-append (Some old) (Some mid) (Some new) xs ys p q = rw (p, q, append_assoc)
-
--- what is read, and then kept
-pub Consumes-keeps : (a b c : Option (List ℕ)) (xs : List ℕ) → Consumes a b xs → Keeps b c → Consumes a c xs
-Consumes-keeps None b c xs p q = tt
-Consumes-keeps (Some old) None c xs p q = absurd p
-Consumes-keeps (Some old) (Some mid) None xs p q = absurd q
-Consumes-keeps (Some old) (Some mid) (Some new) xs p q = rw q p

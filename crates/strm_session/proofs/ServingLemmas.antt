@@ -6,7 +6,8 @@ use Rattle.std.specs.Prelude.{codes}
 use Rattle.strm_machine.specs.declared.steps.Step.{Step}
 use Rattle.strm_session.specs.Faults.{Rose}
 use Rattle.strm_lines.specs.Lines.{lines_of, Spells, IsFirstBad, IsTooLong}
-use Rattle.strm_session.specs.Serving.{IsRun, Tells}
+use Rattle.strm_session.specs.Serving.{IsRun, IsAnswer}
+use Rattle.std.specs.Io.KnownBytes.{IsAtEnd}
 use Rattle.strm_lines.proofs.LineLemmas.{spelled_not_bad}
 
 -- of one word, which it is
@@ -17,22 +18,6 @@ one_word f (y ∷ []) x word l e = (
   (λ q. let first : f y ≡ word = cc in ap f e ∙ first),
 )
 one_word f (y ∷ z ∷ more) x word l e = absurd (omega (arith, l))
-
--- what is told of an input that was read is told of its source
-pub told_of_source : (words : List (List ℕ)) (left : Option (List ℕ)) (before after : ℕ) (input : List ℕ) (status : ℕ) (text : List ℕ) → IsRun words → IfSome left (λ bytes. input ≡ bytes) → Tells (codes "run" ∷ []) (Some input) before after status text → Tells words left before after status text
-told_of_source words None before after input status text r e h = record {
-  known = h.known;
-  runs = λ _. r;
-  done = λ _. tt;
-  usage = λ s. absurd ((h.usage s).0 refl);
-  bad_line = λ s. let bad = h.bad_line s in (bad.0, tt, bad.2);
-  too_long = λ s. (tt, (h.too_long s).1);
-  read_fault = h.read_fault;
-  within = λ _ _ _. tt;
-}
-told_of_source words (Some bytes) before after input status text r e h =
-    subst (λ w. Tells w (Some bytes) before after status text) (sym r)
-    (subst (λ b. Tells (codes "run" ∷ []) (Some b) before after status text) e h)
 
 zero_of : (status : ℕ) → status ≤ 4 → status ≢ 1 → status ≢ 2 → status ≢ 3 → status ≢ 4 → status ≡ 0
 zero_of status l a b c d = omega (arith, l, a, b, c, d)
@@ -46,43 +31,75 @@ three_of status a d n = ⊎_elim (λ e. e) (λ e. absurd (n e)) (cases_eq status
 one_of : (status : ℕ) → (status ≢ 1 → ⊥) → status ≡ 1
 one_of status n = ⊎_elim (λ e. e) (λ e. absurd (n e)) (cases_eq status 1)
 
-module _ (words : List (List ℕ)) (before after status : ℕ) (text input : List ℕ) (h : Tells words (Some input) before after status text) (r : IsRun words) (calm : Rose before after → ⊥) where
-  not_usage : status ≢ 1
-  not_usage q = (h.usage q).0 r
+module _ {words : List (List ℕ)} {rest : Option (List ℕ)} {before after status : ℕ} {text : List ℕ} where
+  -- what is told of an input that was read is told of its source, which is at its end then
+  pub told_of_source : (left : Option (List ℕ)) (input : List ℕ) → IsRun words → IfSome left (λ bytes. input ≡ bytes) → IsAtEnd rest → IsAnswer (codes "run" ∷ []) (Some input) (Some []) before after status text → IsAnswer words left rest before after status text
+  told_of_source None input r e end h = record {
+    known = h.known;
+    runs = λ _. r;
+    done = λ _. tt;
+    usage = λ s. absurd ((h.usage s).0 refl);
+    bad_line = λ s. let bad = h.bad_line s in (bad.0, tt, bad.2);
+    too_long = λ s. (tt, (h.too_long s).1);
+    read_fault = h.read_fault;
+    within = λ _ _ _. tt;
+    whole = λ _ _ _. end;
+    whole_lines = λ _ _ _ _. end;
+  }
+  told_of_source (Some bytes) input r e end h =
+      let k = subst (λ b. IsAnswer (codes "run" ∷ []) (Some b) (Some []) before after status text) e h in
+      record {
+        known = k.known;
+        runs = λ _. r;
+        done = k.done;
+        usage = λ s. absurd ((k.usage s).0 refl);
+        bad_line = k.bad_line;
+        too_long = k.too_long;
+        read_fault = k.read_fault;
+        within = k.within;
+        whole = λ _ _ _. end;
+        whole_lines = λ _ _ _ _. end;
+      }
 
-  not_fault : status ≢ 4
-  not_fault q = calm (h.read_fault q).0
+  module _ (input : List ℕ) (h : IsAnswer words (Some input) rest before after status text) (r : IsRun words) (calm : Rose before after → ⊥) where
+    not_usage : status ≢ 1
+    not_usage q = (h.usage q).0 r
 
-  -- where nothing is amiss the run is done
-  done_of : (steps : List Step) → Spells (lines_of input) steps → (IsTooLong input → ⊥) → status ≡ 0
-  done_of steps s long =
-      zero_of status h.known not_usage
-      (λ q. let bad = h.bad_line q in spelled_not_bad (lines_of input) steps bad.0 s bad.1)
-      (λ q. long (h.too_long q).0) not_fault
+    not_fault : status ≢ 4
+    not_fault q = calm (h.read_fault q).0
 
-  -- a bad line is told
-  bad_line_of : (line : ℕ) → IsFirstBad (lines_of input) line → (IsTooLong input → ⊥) → status ≡ 2
-  bad_line_of line bad long =
-      two_of status h.known
-      (λ q. let done = h.done q in spelled_not_bad (lines_of input) done.steps line done.spelled bad)
-      not_usage (λ q. long (h.too_long q).0) not_fault
+    -- where nothing is amiss the run is done
+    done_of : (steps : List Step) → Spells (lines_of input) steps → (IsTooLong input → ⊥) → status ≡ 0
+    done_of steps s long =
+        zero_of status h.known not_usage
+        (λ q. let bad = h.bad_line q in spelled_not_bad (lines_of input) steps bad.0 s bad.1)
+        (λ q. long (h.too_long q).0) not_fault
 
-  -- and so is an input over the limits
-  too_long_of : IsTooLong input → status ≡ 3
-  too_long_of long = three_of status not_usage not_fault (λ q. h.within not_usage q not_fault long)
+    -- a bad line is told
+    bad_line_of : (line : ℕ) → IsFirstBad (lines_of input) line → (IsTooLong input → ⊥) → status ≡ 2
+    bad_line_of line bad long =
+        two_of status h.known
+        (λ q. let done = h.done q in spelled_not_bad (lines_of input) done.steps line done.spelled bad)
+        not_usage (λ q. long (h.too_long q).0) not_fault
 
--- the same of a source that has this input left, where nothing fails
-pub told_done : (words : List (List ℕ)) (left : Option (List ℕ)) (before after : ℕ) (status : ℕ) (text : List ℕ) (input : List ℕ) (steps : List Step) → Tells words left before after status text → IsRun words → left ≡ Some input → (Rose before after → ⊥) → Spells (lines_of input) steps → (IsTooLong input → ⊥) → status ≡ 0
-told_done words left before after status text input steps h r e calm s long =
-    done_of words before after status text input (subst (λ l. Tells words l before after status text) e h) r calm steps s long
+    -- and so is an input over the limits
+    too_long_of : IsTooLong input → status ≡ 3
+    too_long_of long = three_of status not_usage not_fault (λ q. h.within not_usage q not_fault long)
 
-pub told_bad_line : (words : List (List ℕ)) (left : Option (List ℕ)) (before after : ℕ) (status : ℕ) (text : List ℕ) (input : List ℕ) (line : ℕ) → Tells words left before after status text → IsRun words → left ≡ Some input → (Rose before after → ⊥) → IsFirstBad (lines_of input) line → (IsTooLong input → ⊥) → status ≡ 2
-told_bad_line words left before after status text input line h r e calm bad long =
-    bad_line_of words before after status text input (subst (λ l. Tells words l before after status text) e h) r calm line bad long
+  module _ (left : Option (List ℕ)) (input : List ℕ) (h : IsAnswer words left rest before after status text) where
+    -- of a source that has this input left, where nothing fails
+    told_input : left ≡ Some input → IsAnswer words (Some input) rest before after status text
+    told_input e = subst (λ l. IsAnswer words l rest before after status text) e h
 
-pub told_too_long : (words : List (List ℕ)) (left : Option (List ℕ)) (before after : ℕ) (status : ℕ) (text : List ℕ) (input : List ℕ) → Tells words left before after status text → IsRun words → left ≡ Some input → (Rose before after → ⊥) → IsTooLong input → status ≡ 3
-told_too_long words left before after status text input h r e calm long =
-    too_long_of words before after status text input (subst (λ l. Tells words l before after status text) e h) r calm long
+    pub told_done : IsRun words → left ≡ Some input → (Rose before after → ⊥) → (steps : List Step) → Spells (lines_of input) steps → (IsTooLong input → ⊥) → status ≡ 0
+    told_done r e calm = done_of input (told_input e) r calm
 
-pub told_usage : (words : List (List ℕ)) (left : Option (List ℕ)) (before after : ℕ) (status : ℕ) (text : List ℕ) → Tells words left before after status text → (IsRun words → ⊥) → status ≡ 1
-told_usage words left before after status text h r = one_of status (λ q. r (h.runs q))
+    pub told_bad_line : IsRun words → left ≡ Some input → (Rose before after → ⊥) → (line : ℕ) → IsFirstBad (lines_of input) line → (IsTooLong input → ⊥) → status ≡ 2
+    told_bad_line r e calm = bad_line_of input (told_input e) r calm
+
+    pub told_too_long : IsRun words → left ≡ Some input → (Rose before after → ⊥) → IsTooLong input → status ≡ 3
+    told_too_long r e calm = too_long_of input (told_input e) r calm
+
+  -- other words are told how to call the program
+  pub told_usage : (left : Option (List ℕ)) → IsAnswer words left rest before after status text → (IsRun words → ⊥) → status ≡ 1
+  told_usage left h r = one_of status (λ q. r (h.runs q))

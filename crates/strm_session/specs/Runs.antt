@@ -1,14 +1,17 @@
--- Runs of the program: where they begin, where they stop, what was received. Ours.
-use Rattle.std.specs.Prelude.{◌≡◌, ℕ, ◌+◌, min, false, List, [], length, map, take}
+-- Runs of the program: where they begin and stop, what was received, and what holds. Ours.
+use Rattle.std.specs.Prelude.{◌≡◌, ℕ, ◌+◌, ◌≤◌, min, false, List, [], ◌++◌, length, map, take, All}
+use Rattle.strm_codes.specs.declared.codes.TransmitKind.TheVariants.{Future}
 use Rattle.strm_machine.specs.State.{State, empty, stream_at}
 use Rattle.strm_machine.specs.Plays.{play, Ends, Halts}
+use Rattle.strm_machine.specs.Moments.{Moment}
+use Rattle.strm_machine.specs.Soundness.{IsSound, both_open}
 use Rattle.strm_machine.specs.declared.streams.Side.{Side}
 use Rattle.strm_machine.specs.declared.steps.Step.{Step}
 use Rattle.strm_machine.specs.declared.replies.Reply.{Reply}
 use Rattle.strm_machine.specs.declared.replies.Reply.TheVariants as replies
-use Rattle.strm_laws.specs.Conservation.{moments, replies_of, calls}
-use Rattle.strm_machine.specs.Soundness.{both_open}
-use Rattle.strm_laws.specs.Laws.{Conserves, waiting, Stands, AreCounted}
+use Rattle.strm_laws.specs.Conservation.{moments, last, replies_of, calls, got}
+use Rattle.strm_laws.specs.Laws.{Conserves, waiting, Stands, AreCounted, HandlesHold, HandlesAreSingle}
+use Rattle.strm_machine.specs.Untouched.{StaysAside}
 use Rattle.strm_session.specs.declared.runs.RunCause.{RunCause}
 use Rattle.strm_session.specs.declared.runs.RunCause.TheVariants as causes
 
@@ -17,28 +20,48 @@ abbrev pub start : State
 start = empty 0 (record { handles = 1000000; places = 1000000 })
 
 -- what was received on each stream, in items
-abbrev pub received : State → List ℕ
-received state = map (λ s. s.received) state.streams
+abbrev pub counts_of : State → List ℕ
+counts_of state = map (λ s. s.received) state.streams
 
 -- the number of the step behind those that were answered, from 1, and not above the last number
 abbrev pub next_step : List Reply → ℕ
 next_step told = min (length told + 1) 4294967295
 
--- why a run stops behind these replies, at the step of their number: the machine halts there, or
--- these are its replies to the steps before
-abbrev pub StopsBy : List Step → List Reply → RunCause → Type 0
-StopsBy steps told (causes.BadItem stream) =
-    play [] start steps ≡ Halts told (replies.BadItem stream)
-StopsBy steps told causes.OutOfMemory =
-    (state : State) × (play [] start (take (length told) steps) ≡ Ends told state)
-
--- the laws of a run, on each stream: the replies are those of its moments, of which the account
--- speaks; what was received is what was handed over, and what both ends report; a read or write that
--- waits has moved what it says; never are two sides open; the items of each operation are a count
-pub record IsKept (steps : List Step) (replies : List Reply) (end : State) : Type 0 where
-  pub told : replies ≡ replies_of (moments start steps)
-  pub conserves : (s : ℕ) → Conserves s (moments start steps) end
+-- the laws of a run with these moments, which ends here: on each stream what was received is what was
+-- handed over, and what both ends report; a read or write that waits has moved what it says; a future
+-- passes one item at most; never are two sides open; the items of each operation are a count; handles
+-- and ends agree, one handle an end; and the state is sound
+pub record HasLaws (all : List Moment) (end : State) : Type 0 where
+  pub conserves : (s : ℕ) → Conserves s all end
   pub stands : (s : ℕ) (side : Side) →
-      Stands (stream_at end s).payload (waiting s side end) (calls s side (moments start steps))
+      Stands (stream_at end s).payload (waiting s side end) (calls s side all)
+  pub passes_one : (s : ℕ) → (stream_at end s).kind ≡ Future → length (got s all) ≤ 1
   pub apart : (s : ℕ) → both_open (stream_at end s) ≡ false
   pub counted : (s : ℕ) → AreCounted (stream_at end s)
+  pub hold : HandlesHold end
+  pub single : HandlesAreSingle end
+  pub sound : IsSound end
+
+-- the replies are those of the run's moments, and the state is that after the last; the laws hold
+-- after each step, the last one too, and in each all bytes stay that are neither poked nor received
+pub record IsKept (steps : List Step) (replies : List Reply) (end : State) : Type 0 where
+  pub told : replies ≡ replies_of (moments start steps)
+  pub ends : end ≡ last start steps
+  pub laws : (n : ℕ) → HasLaws (moments start (take n steps)) (last start (take n steps))
+  pub aside : All StaysAside (moments start steps)
+
+-- why a run stops at the step behind these replies: the machine halts there; or memory was wanted,
+-- and the machine goes on from that step, or there is none
+abbrev pub StopsAt : List Step → List Reply → RunCause → Type 0
+StopsAt steps told (causes.BadItem stream) =
+    play [] start steps ≡ Halts told (replies.BadItem stream)
+StopsAt steps told causes.OutOfMemory =
+    (more : List Reply) × (state : State)
+    × (play [] start (take (length told + 1) steps) ≡ Ends (told ++ more) state)
+
+-- a run stops behind these replies: they are the machine's to the steps before, which keep the laws
+pub record StopsBy (steps : List Step) (told : List Reply) (cause : RunCause) : Type 0 where
+  pub state : State
+  pub before : play [] start (take (length told) steps) ≡ Ends told state
+  pub kept : IsKept (take (length told) steps) told state
+  pub at : StopsAt steps told cause

@@ -1,12 +1,13 @@
 -- What the program writes, and why. Ours.
-use Rattle.std.specs.Prelude.{◌≡◌, ◌≢◌, ◌≤◌, ℕ, List, [], ◌∷◌, codes, Option, Some, IfSome}
+use Rattle.std.specs.Prelude.{◌≡◌, ◌≢◌, ◌≤◌, ℕ, List, [], ◌∷◌, length, codes, Option, Some, IfSome}
+use Rattle.std.specs.Io.KnownBytes.{IsAtEnd}
 use Rattle.strm_machine.specs.State.{State}
 use Rattle.strm_machine.specs.Plays.{play, Ends}
 use Rattle.strm_machine.specs.declared.steps.Step.{Step}
 use Rattle.strm_machine.specs.declared.replies.Reply.{Reply}
 use Rattle.strm_session.specs.Faults.{Rose}
 use Rattle.strm_lines.specs.Lines.{lines_of, Spells, IsFirstBad, IsTooLong}
-use Rattle.strm_session.specs.Runs.{start, received, IsKept}
+use Rattle.strm_session.specs.Runs.{start, counts_of, IsKept}
 use Rattle.strm_lines.specs.Text.{transcript_text, usage_text, bad_line_text, too_long_text, read_fault_text}
 
 -- the words behind the program's name tell it to run
@@ -23,12 +24,12 @@ pub record IsTranscript (input text : List ℕ) : Type 0 where
   pub state : State
   pub played : play [] start steps ≡ Ends replies state
   pub kept : IsKept steps replies state
-  pub text_is : text ≡ transcript_text replies (received state)
+  pub text_is : text ≡ transcript_text replies (counts_of state)
 
 -- a status below 5 and its text, by why they come: from the program's words, the bytes that the
--- source had left, where these are told, and the source's faults before and after
-pub record Tells (words : List (List ℕ)) (left : Option (List ℕ)) (before after status : ℕ)
-    (text : List ℕ) : Type 0 where
+-- source had left before and has left after, where these are told, and its faults before and after
+pub record IsAnswer (words : List (List ℕ)) (left rest : Option (List ℕ))
+    (before after status : ℕ) (text : List ℕ) : Type 0 where
   pub known : status ≤ 4
   pub runs : status ≢ 1 → IsRun words
   pub done : status ≡ 0 → IfSome left (λ input. IsTranscript input text)
@@ -39,6 +40,10 @@ pub record Tells (words : List (List ℕ)) (left : Option (List ℕ)) (before af
   pub read_fault : status ≡ 4 → Rose before after × (text ≡ read_fault_text)
   -- the limits are tested before the lines
   pub within : status ≢ 1 → status ≢ 3 → status ≢ 4 → IfSome left (λ input. ¬ IsTooLong input)
+  -- the source was read to its end; where the input is too long, unless its bytes are too many
+  pub whole : status ≢ 1 → status ≢ 3 → status ≢ 4 → IsAtEnd rest
+  pub whole_lines : status ≡ 3 → (input : List ℕ) → left ≡ Some input →
+      length input ≤ 16777216 → IsAtEnd rest
 
 -- the program is told to run, the source has this input left, and neither source nor sink fails
 pub record IsFaultless (words : List (List ℕ)) (left : Option (List ℕ)) (input : List ℕ)

@@ -2,19 +2,28 @@
 //!
 //! Source: ours.
 
-ghost use Rattle.std.specs.Prelude.{◌≡◌, ◌≢◌, ◌≤◌, ◌∷◌, ◌++◌, ◌+◌, [], List, ℕ, false, length, All, IfOk, IfErr, OnOk, OnErr, Err};
+ghost use Rattle.std.specs.Prelude.{◌≡◌, ◌≢◌, ◌≤◌, ◌∷◌, ◌++◌, ◌+◌, [], List, ℕ, true, false, length, take, All, IfOk, IfErr, OnOk, OnErr, Err};
+ghost use Rattle.strm_codes.specs.declared.refusals.Refusal.{Refusal};
 ghost use Rattle.strm_machine.specs.State.{State, stream_at};
-ghost use Rattle.strm_machine.specs.Reactions.{goes, react};
+ghost use Rattle.strm_machine.specs.Reactions.{react};
 ghost use Rattle.strm_machine.specs.Plays.{play, Ends, Halts};
 ghost use Rattle.strm_machine.specs.declared.streams.Side.{Side};
 ghost use Rattle.strm_machine.specs.declared.steps.Step.{Step};
 ghost use Rattle.strm_machine.specs.declared.replies.Reply.TheVariants.{BadItem as IsBadItem};
-ghost use Rattle.strm_laws.specs.Laws.{HasBytes};
+ghost use Rattle.strm_machine.specs.declared.replies.Reply.{Reply};
+ghost use Rattle.strm_machine.specs.Moments.{moment_of};
+ghost use Rattle.strm_laws.specs.Conservation.{moments, last};
+ghost use Rattle.strm_laws.specs.Laws.{HasBytes, AreSteps};
+ghost use Rattle.strm_machine.specs.Untouched.{StaysAside};
 ghost use Rattle.strm_lines.specs.Plain.{IsPlain};
-ghost use Rattle.strm_session.specs.Runs.{start, received, next_step, StopsBy, IsKept};
+ghost use Rattle.strm_session.specs.Runs.{start, counts_of, next_step, HasLaws, IsKept, StopsAt, StopsBy};
 
 use std::alloc::Global;
 use strm_codes::counts::OutOfMemory;
+use strm_laws::laws::{
+    conservation, futures_pass_one, handles_hold_their_ends, never_two_open, other_bytes_stay,
+    states_are_sound, totals_are_counts,
+};
 use strm_lines::lists::{Counts, Replies};
 use strm_machine::limits::Limits;
 use strm_machine::replies::Reply;
@@ -65,25 +74,44 @@ pub struct RunStop {
 pub fn run(alloc: Global, steps: &[Step]) -> Result<Transcript, RunStop>
     requires few { length steps.now ≤ 4294967295 }
     ensures ok { IfOk result (λ t. play [] start steps.now ≡ Ends t.replies t.store) }
-    ensures moved { IfOk result (λ t. t.moved ≡ received t.store) }
+    ensures received { IfOk result (λ t. t.moved ≡ counts_of t.store) }
     ensures stop { IfErr result (λ stop. StopsBy steps.now stop.replies stop.cause) }
     ensures at { IfErr result (λ stop. stop.at ≡ next_step stop.replies) }
 
-    // On each stream, what was received is, in order, the first k items of each accepted write, k
-    // the count reported, each as it lay in the writer's memory just before it was copied; and the
-    // reads report as many.
+    // After each step: on each stream, what was received is, in order, the first k items of each
+    // accepted write, k the count reported, each as it lay in the writer's memory just before it
+    // was copied; the reads report as many; and the other laws of every run.
     ensures kept { IfOk result (λ t. IsKept steps.now t.replies t.store) }
 
     // Streams of bytes have no bad item.
     ensures plain { All IsPlain steps.now →
         IfErr result (λ stop. stop.cause ≡ RunCause.OutOfMemory) }
 {
+    laws_hold();
     let mut store = Store::new(alloc, 0, PROGRAM_LIMITS);
     let mut replies = Replies::new(alloc);
+    // Where there is no room for all, each reply asks for its own.
+    let _room = replies.reserve(steps.len());
     match play_steps(&mut store, &mut replies, steps) {
         Ok(()) => finished(alloc, store, replies),
         Err(cause) => Err(stopped(cause, replies)),
     }
+}
+
+// What the laws say of every run. It does nothing.
+fn laws_hold()
+    ensures laws { (steps : List Step) → AreSteps steps →
+        HasLaws (moments start steps) (last start steps) }
+    ensures aside { (steps : List Step) (step : Step) → AreSteps (steps ++ step ∷ []) →
+        StaysAside (moment_of (last start steps) step) }
+{
+    conservation();
+    futures_pass_one();
+    never_two_open();
+    totals_are_counts();
+    states_are_sound();
+    handles_hold_their_ends();
+    other_bytes_stay();
 }
 
 // A run that stopped behind these replies.
@@ -102,7 +130,7 @@ fn stopped(cause: RunCause, replies: Replies) -> RunStop
 fn finished(alloc: Global, store: Store, replies: Replies) -> Result<Transcript, RunStop>
     requires few { length replies ≤ 4294967295 }
     ensures ok { IfOk result (λ t. (t.replies ≡ replies) × (t.store ≡ store)) }
-    ensures moved { IfOk result (λ t. t.moved ≡ received store) }
+    ensures received { IfOk result (λ t. t.moved ≡ counts_of store) }
     ensures stop { IfErr result (λ stop. stop ≡ record {
       at = next_step replies;
       cause = RunCause.OutOfMemory;
@@ -121,7 +149,7 @@ fn finished(alloc: Global, store: Store, replies: Replies) -> Result<Transcript,
 
 // What was received on each stream.
 fn counts(alloc: Global, store: &Store) -> Result<Counts, OutOfMemory>
-    ensures { IfOk result (λ counts. counts ≡ received store.now) }
+    ensures { IfOk result (λ counts. counts ≡ counts_of store.now) }
 {
     let mut counts = Counts::new(alloc);
     for stream in 0..store.streams() {
@@ -138,10 +166,12 @@ fn play_steps(store: &mut Store, replies: &mut Replies, steps: &[Step]) -> Resul
     requires begins { store.old ≡ start }
     requires none { replies.old ≡ [] }
     ensures ok { OnOk result (play [] start steps.now ≡ Ends replies.new store.new) }
-    ensures stop { IfErr result (λ cause. StopsBy steps.now replies.new cause) }
+    ensures before { OnErr result ((state : State)
+        × (play [] start (take (length replies.new) steps.now) ≡ Ends replies.new state)) }
+    ensures stop { IfErr result (λ cause. StopsAt steps.now replies.new cause) }
     ensures all { OnOk result (length replies.new ≡ length steps.now) }
     ensures count { length replies.new ≤ length steps.now }
-    ensures bytes { OnOk result (All HasBytes steps.now) }
+    ensures bytes { All HasBytes (take (length replies.new) steps.now) }
     ensures plain { All IsPlain steps.now →
         IfErr result (λ cause. cause ≡ RunCause.OutOfMemory) }
 {
@@ -170,6 +200,10 @@ fn step_once(store: &mut Store, replies: &mut Replies, step: &Step) -> Result<()
         (play replies.old store.old (step.now ∷ more) ≡ play replies.new store.new more) }
     ensures bad_item { (more : List Step) (stream : ℕ) → result ≡ Err (RunCause.BadItem stream) →
         play replies.old store.old (step.now ∷ more) ≡ Halts replies.old (IsBadItem stream) }
+
+    // Memory is wanted only where the machine goes on.
+    ensures memory { result ≡ Err RunCause.OutOfMemory → (reply : Reply) × (state : State)
+        × (play replies.old store.old (step.now ∷ []) ≡ Ends (replies.old ++ reply ∷ []) state) }
     ensures goes_on { OnOk result (store.new.trapped ≡ false) }
     ensures next { OnOk result (store.new ≡ (react store.old step.now).state) }
     ensures cause { (stream : ℕ) → result ≡ Err (RunCause.BadItem stream) →
@@ -177,14 +211,26 @@ fn step_once(store: &mut Store, replies: &mut Replies, step: &Step) -> Result<()
     ensures one { OnOk result (length replies.new ≡ length replies.old + 1) }
     ensures err { OnErr result (replies.new ≡ replies.old) }
 {
-    let reply = match answered(store, step) {
-        Ok(reply) => reply,
-        Err(_) => return Err(RunCause::OutOfMemory),
-    };
-    match &reply {
-        Reply::BadItem { stream } => Err(RunCause::BadItem { stream: *stream }),
-        Reply::StoreTrapped => unreachable!(),
-        _ => keep(replies, &reply),
+    let answer = apply(store, step);
+    match &answer {
+        Ok(reply) => keep(replies, reply),
+        Err(error) => Err(cause_of(*error)),
+    }
+}
+
+// Why a run stops where the store did not do a step.
+fn cause_of(error: StoreError) -> RunCause
+    requires refused { (refusal : Refusal) → error ≢ StoreError.Refused refusal }
+    requires trapped { error ≢ StoreError.StoreTrapped }
+    ensures bad_item { (stream : ℕ) → result ≡ RunCause.BadItem stream →
+        error ≡ StoreError.BadItem stream }
+    ensures memory { result ≡ RunCause.OutOfMemory → error ≡ StoreError.OutOfMemory }
+{
+    match error {
+        StoreError::BadItem { stream } => RunCause::BadItem { stream },
+        StoreError::OutOfMemory => RunCause::OutOfMemory,
+        StoreError::Refused(_) => unreachable!(),
+        StoreError::StoreTrapped => unreachable!(),
     }
 }
 
@@ -197,18 +243,5 @@ fn keep(replies: &mut Replies, reply: &Reply) -> Result<(), RunCause>
     match replies.push(*reply) {
         Ok(()) => Ok(()),
         Err(_) => Err(RunCause::OutOfMemory),
-    }
-}
-
-// The machine's reply to a step.
-fn answered(store: &mut Store, step: &Step) -> Result<Reply, OutOfMemory>
-    ensures { IfOk result (λ reply. react store.old step.now ≡ goes reply store.new) }
-{
-    match apply(store, step) {
-        Ok(reply) => Ok(reply),
-        Err(StoreError::Refused(refusal)) => Ok(Reply::Refused(refusal)),
-        Err(StoreError::BadItem { stream }) => Ok(Reply::BadItem { stream }),
-        Err(StoreError::StoreTrapped) => Ok(Reply::StoreTrapped),
-        Err(StoreError::OutOfMemory) => Err(OutOfMemory),
     }
 }

@@ -9,11 +9,11 @@ ghost use Rattle.strm_machine.specs.Plays.{play, Ends};
 ghost use Rattle.strm_machine.specs.State.{State};
 ghost use Rattle.strm_machine.specs.declared.replies.Reply.{Reply};
 ghost use Rattle.strm_lines.specs.Plain.{IsPlain};
-ghost use Rattle.strm_session.specs.Runs.{start, received, IsKept};
+ghost use Rattle.strm_session.specs.Runs.{start, counts_of, IsKept};
 ghost use Rattle.strm_lines.specs.Text.{transcript_text};
 ghost use Rattle.strm_session.specs.Faults.{Rose, TakesPart};
 ghost use Rattle.strm_lines.specs.Lines.{lines_of, Spells, IsFirstBad, IsTooLong};
-ghost use Rattle.strm_session.specs.Serving.{IsRun, Tells, IsFaultless};
+ghost use Rattle.strm_session.specs.Serving.{IsRun, IsAnswer, IsFaultless};
 
 use crate::ports::{Sink, Source};
 use crate::runs::{RunCause, run};
@@ -57,11 +57,11 @@ pub fn serve<S: Source, K: Sink>(
     sink: &mut K,
 ) -> u8
     ensures told { result ≢ WRITE_FAULT → result ≢ OUT_OF_MEMORY → (text : List ℕ)
-        × Tells (map string_bytes words.now.items) (S.left source.old)
+        × IsAnswer (map string_bytes words.now.items) (S.left source.old) (S.left source.new)
         (S.faults source.old) (S.faults source.new) result text
         × Appends (K.taken sink.old) (K.taken sink.new) text }
     ensures part { result ≡ WRITE_FAULT → (status : ℕ) × (text : List ℕ)
-        × Tells (map string_bytes words.now.items) (S.left source.old)
+        × IsAnswer (map string_bytes words.now.items) (S.left source.old) (S.left source.new)
         (S.faults source.old) (S.faults source.new) status text
         × TakesPart (K.taken sink.old) (K.taken sink.new) text }
     ensures write_fault { result ≡ WRITE_FAULT → Rose (K.faults sink.old) (K.faults sink.new) }
@@ -106,7 +106,7 @@ fn answer_words<S: Source>(
     source: &mut S,
 ) -> Result<Answer, OutOfMemory>
     ensures told { IfOk result (λ a.
-        Tells (map string_bytes words.now.items) (S.left source.old)
+        IsAnswer (map string_bytes words.now.items) (S.left source.old) (S.left source.new)
         (S.faults source.old) (S.faults source.new) a.status a.text) }
     ensures read { (front : List ℕ) × Consumes (S.left source.old) (S.left source.new) front
         × (length front ≤ MAX_BYTES + 1) }
@@ -143,7 +143,7 @@ fn fixed(alloc: Global, status: u8, text: &[u8]) -> Result<Answer, OutOfMemory>
 // What is to be written for an input that was read.
 fn answer_input(alloc: Global, input: &[u8]) -> Result<Answer, OutOfMemory>
     ensures { (before after : ℕ) → IfOk result (λ a.
-        Tells (codes "run" ∷ []) (Some input.now) before after a.status a.text) }
+        IsAnswer (codes "run" ∷ []) (Some input.now) (Some []) before after a.status a.text) }
 {
     match parse(alloc, input) {
         Ok(steps) => answer_steps(alloc, steps.as_slice()),
@@ -167,7 +167,7 @@ fn answer_steps(alloc: Global, steps: &[Step]) -> Result<Answer, OutOfMemory>
     ensures text { IfOk result (λ a. (replies : List Reply) × (state : State)
         × (play [] start steps.now ≡ Ends replies state)
         × IsKept steps.now replies state
-        × (a.text ≡ transcript_text replies (received state))) }
+        × (a.text ≡ transcript_text replies (counts_of state))) }
 {
     match run(alloc, steps) {
         Ok(transcript) => {

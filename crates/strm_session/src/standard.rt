@@ -2,7 +2,10 @@
 //!
 //! Source: ours, over std's `Read` and `Write`.
 
-ghost use Rattle.std.specs.Prelude.{◌≡◌};
+ghost use Rattle.std.specs.Prelude.{◌≡◌, ◌<◌, ◌≤◌, ◌↔◌, [], length, IsOk, IfOk, IfSome, OnErr};
+ghost use Rattle.std.specs.Io.{ReadsAtMost, WritesAtMost};
+ghost use Rattle.std.specs.Io.KnownBytes.{ReadConsumes, WriteAppends};
+ghost use Rattle.strm_session.specs.Faults.{Rose, one_more};
 
 use crate::ports::{Failed, Sink, Source};
 use std::io::{Read, Stdin, Stdout, Write};
@@ -29,9 +32,26 @@ impl<R: Read> Source for StdinSource<R> {
 
     ghost faults = { λ s. s.faults };
 
-    fn read(&mut self, out: &mut [u8]) -> Result<usize, Failed> {
+    fn read(&mut self, out: &mut [u8]) -> Result<usize, Failed>
+        requires { 0 < length out.old }
+        ensures most { ReadsAtMost result out.new }
+        ensures bytes { ReadConsumes (⟦<StdinSource<R> as Source>⟧.left self.old)
+            (⟦<StdinSource<R> as Source>⟧.left self.new) result out.new }
+        ensures end { IfOk result (λ n. IfSome (⟦<StdinSource<R> as Source>⟧.left self.old)
+            (λ bytes. (n ≡ 0) ↔ (bytes ≡ []))) }
+        ensures later { ⟦<StdinSource<R> as Source>⟧.faults self.old
+            ≤ ⟦<StdinSource<R> as Source>⟧.faults self.new }
+        ensures failed { OnErr result (Rose (⟦<StdinSource<R> as Source>⟧.faults self.old)
+            (⟦<StdinSource<R> as Source>⟧.faults self.new)) }
+
+        // No other call raises the count, and each failed one by one.
+        ensures stays { IfOk result (λ n. ⟦<StdinSource<R> as Source>⟧.faults self.new
+            ≡ ⟦<StdinSource<R> as Source>⟧.faults self.old) }
+        ensures rises { OnErr result (⟦<StdinSource<R> as Source>⟧.faults self.new
+            ≡ one_more (⟦<StdinSource<R> as Source>⟧.faults self.old)) }
+    {
         match self.inner.read(out) {
-            Ok(count) => Ok(count),
+            Ok(given) => Ok(given),
             Err(_) => {
                 self.faults = self.faults.saturating_add(1);
                 Err(Failed)
@@ -62,7 +82,26 @@ impl<W: Write> Sink for StdoutSink<W> {
 
     ghost faults = { λ s. s.faults };
 
-    fn write(&mut self, bytes: &[u8]) -> Result<usize, Failed> {
+    fn write(&mut self, bytes: &[u8]) -> Result<usize, Failed>
+        ensures most { WritesAtMost result bytes.now }
+        ensures bytes { WriteAppends (⟦<StdoutSink<W> as Sink>⟧.taken self.old)
+            (⟦<StdoutSink<W> as Sink>⟧.taken self.new) result bytes.now }
+        ensures later { ⟦<StdoutSink<W> as Sink>⟧.faults self.old
+            ≤ ⟦<StdoutSink<W> as Sink>⟧.faults self.new }
+        ensures failed { OnErr result (Rose (⟦<StdoutSink<W> as Sink>⟧.faults self.old)
+            (⟦<StdoutSink<W> as Sink>⟧.faults self.new)) }
+        ensures stuck { 0 < length bytes.now → IfOk result (λ n.
+            n ≡ 0 → Rose (⟦<StdoutSink<W> as Sink>⟧.faults self.old)
+            (⟦<StdoutSink<W> as Sink>⟧.faults self.new)) }
+
+        // No other call raises the count, and each that failed or took nothing by one.
+        ensures stays { IfOk result (λ n. 0 < n → ⟦<StdoutSink<W> as Sink>⟧.faults self.new
+            ≡ ⟦<StdoutSink<W> as Sink>⟧.faults self.old) }
+        ensures none { IfOk result (λ n. n ≡ 0 → ⟦<StdoutSink<W> as Sink>⟧.faults self.new
+            ≡ one_more (⟦<StdoutSink<W> as Sink>⟧.faults self.old)) }
+        ensures rises { OnErr result (⟦<StdoutSink<W> as Sink>⟧.faults self.new
+            ≡ one_more (⟦<StdoutSink<W> as Sink>⟧.faults self.old)) }
+    {
         match self.inner.write(bytes) {
             Ok(0) => {
                 self.faults = self.faults.saturating_add(1);

@@ -1,4 +1,4 @@
-use Rattle.std.proofs.Common.{◌≡◌, ◌++◌, length, map}
+use Rattle.std.proofs.Common.{◌≡◌, ◌++◌, ◌≤◌, length, map, vec_capacity}
 use Rattle.std.specs.Prelude.{All}
 use Rattle.strm_lines.specs.Grammar.{spelling, HasLine}
 use Rattle.strm_lines.specs.Lines.{lines_of}
@@ -6,8 +6,9 @@ use Rattle.strm_lines.proofs.parsing.parse_lines.Given as goal
 
 abbrev pub invariant-loop-rest : goal.invariant-loop-rest
 invariant-loop-rest l = record {
-  lines : lines_of l.bytes ≡ map spelling l.steps ++ lines_of l.rest;
-  have : All HasLine l.steps;
+  lines : lines_of l.bytes ≡ map spelling l.steps.items ++ lines_of l.rest;
+  have : All HasLine l.steps.items;
+  room : l.lines ≤ vec_capacity l.steps;
 }
 
 abbrev pub decreases-loop-rest : goal.decreases-loop-rest

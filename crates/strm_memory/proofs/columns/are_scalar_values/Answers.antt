@@ -1,7 +1,8 @@
 use Rattle.std.proofs.Common.{◌≡◌, ◌+◌, ◌∙◌, arith, drop, sym, ap, ◌&&◌}
 use Rattle.strm_codes.specs.declared.scalars.Scalar.TheVariants.{Char}
+use Rattle.std.proofs.Math.Bool.{and-true}
 use Rattle.strm_memory.specs.Bytes.{le, bytes_at}
-use Rattle.strm_memory.proofs.ColumnLemmas.{good_column_more, good_column_none, lifted_char, both_step, both_true}
+use Rattle.strm_memory.proofs.ColumnLemmas.{good_column_more, good_column_none, lifted_char, both_step}
 use Rattle.strm_memory.proofs.columns.are_scalar_values.Goals as goal
 
 pub loop-k-preserved : goal.loop-k-preserved
@@ -19,6 +20,6 @@ loop-k-preserved c =
 pub returns : goal.returns
 returns c =
     let e : c.loop-k._k ≡ c.args.column.count = omega arith in
-    sym (both_true c.loop-k.good)
+    sym (and-true c.loop-k.good)
     ∙ ap (λ b. c.loop-k.good && b) (sym (good_column_none Char c.args.column.start c.args.column.size (drop (c.args.from + c.loop-k.done) c.args.source.now) c.args.column.count))
     ∙ rw e at c.loop-k.invariant.rest

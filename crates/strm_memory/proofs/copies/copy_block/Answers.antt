@@ -12,7 +12,7 @@ loop-k-preserved c =
     record {
       ends = end_step c.args.fields.now c.loop-k.k c.loop-k.at c.field_start-start.result c.size.result s field ∙ c.loop-k.invariant.ends;
       rest = rw c.copy_column.ensures
-          (columns_step c.args.fields.now c.loop-k.k c.loop-k.at c.field_start-start.result c.size.result s c.args.size c.args.source.now c.loop-k.destination c.args.from c.args.to c.args.count field (omega arith)
+          (columns_step c.args.fields.now c.loop-k.k c.loop-k.at c.field_start-start.result c.size.result s c.args.size (drop c.args.from c.args.source.now) c.loop-k.destination c.args.to c.args.count field (omega arith)
           ∙ c.loop-k.invariant.rest);
     }
 

@@ -14,7 +14,7 @@ loop-done-preserved c = record {
   some = omega arith;
   inside = omega arith;
   rest = rw c.copy_block.ensures
-      (block_more c.args.fields.now c.args.source.now c.loop-done.destination c.args.from c.args.to c.args.size c.loop-done.done c.min-block.result c.args.count c.requires.size (omega arith) c.requires.source_holds (omega arith)
+      (block_more c.args.fields.now c.args.source.now c.args.from c.args.to c.args.size c.loop-done.destination c.loop-done.done c.min-block.result c.args.count c.requires.size (omega arith) c.requires.source_holds (omega arith)
       ∙ c.loop-done.invariant.rest);
 }
 

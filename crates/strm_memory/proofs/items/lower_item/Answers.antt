@@ -18,7 +18,7 @@ loop-k-preserved c =
       ends = end_step c.args.fields.now c.loop-k.k c.loop-k.at c.field_start-start.result c.size.result s field ∙ c.loop-k.invariant.ends;
       fits = (fits_step c.args.fields.now c.loop-k.k xs (omega arith) l c.loop-k.invariant.fits).1;
       rest = rw (rw (to_z-of_z w128 x wide) at c.lower_field.ensures)
-          (encode_step c.args.fields.now c.loop-k.k c.loop-k.at c.field_start-start.result c.size.result s c.loop-k.bytes c.args.to xs x field l refl (omega arith)
+          (encode_step c.args.fields.now c.loop-k.k c.loop-k.at c.field_start-start.result c.size.result s c.loop-k.bytes c.args.to xs x field (record { inside = l; is = refl }) (omega arith)
           ∙ c.loop-k.invariant.rest);
     }
 

@@ -1,4 +1,4 @@
-use Rattle.std.proofs.Common.{rules, subst, [], Err, take, sym, ap, ◌∙◌, arith}
+use Rattle.std.proofs.Common.{rules, subst, ◌≡◌, [], Err, length, take, sym, ap, ◌∙◌, arith}
 use Rattle.std.specs.Prelude.{All}
 use Rattle.std.proofs.lemmas.List.{take_all, take_more, append-nil}
 use Rattle.std.proofs.lemmas.List.Elements.{All-push}
@@ -7,13 +7,27 @@ use Rattle.strm_machine.specs.State.{State}
 use Rattle.strm_machine.specs.Plays.{play}
 use Rattle.strm_session.specs.Runs.{start}
 use Rattle.strm_session.proofs.CalmLemmas.{AreCalm, plain_at, react-calm, calm_cause}
-use Rattle.strm_session.proofs.PlayLemmas.{stops, played_more}
+use Rattle.strm_session.proofs.PlayLemmas.{stops, stopped_before, played_more}
 use Rattle.strm_session.proofs.runs.play_steps.Goals as goal
 
 pub returns-in-Err-clause-stop : goal.returns-in-Err-clause-stop
 returns-in-Err-clause-stop c =
-    stops c.args.steps.now c.loop-step.step-index _ c.loop-step.replies c.step_once.new.replies c.loop-step.store c.in-Err.cause c.loop-step-test.true (sym c.step-item.is) c.loop-step.invariant.count c.in-Err.ensures.err c.loop-step.invariant.so_far
-    (λ more stream e. c.in-Err.ensures.bad_item more stream (ap Err e))
+    rw c.in-Err.ensures.err
+    (stops c.args.steps.now c.loop-step.step-index _ c.loop-step.replies c.loop-step.store c.in-Err.cause
+    (record { inside = c.loop-step-test.true; is = sym c.step-item.is }) c.loop-step.invariant.count c.loop-step.invariant.so_far (record {
+      bad = λ more stream e. c.in-Err.ensures.bad_item more stream (ap Err e);
+      memory = λ e. c.in-Err.ensures.memory (ap Err e);
+    }))
+
+pub returns-in-Err-clause-before : goal.returns-in-Err-clause-before
+returns-in-Err-clause-before c =
+    rw c.in-Err.ensures.err
+    (c.loop-step.store, stopped_before c.args.steps.now c.loop-step.step-index c.loop-step.replies c.loop-step.store c.loop-step.invariant.count c.loop-step.invariant.so_far)
+
+pub returns-in-Err-clause-bytes : goal.returns-in-Err-clause-bytes
+returns-in-Err-clause-bytes c =
+    let count : c.loop-step.step-index ≡ length c.step_once.new.replies = sym (ap length c.in-Err.ensures.err ∙ c.loop-step.invariant.count) in
+    subst (λ n. All HasBytes (take n c.args.steps.now)) count c.loop-step.invariant.bytes
 
 pub returns-clause-ok : goal.returns-clause-ok
 returns-clause-ok c =
@@ -28,7 +42,7 @@ returns-in-Err-clause-plain c = λ h.
 
 pub loop-step-preserved : goal.loop-step-preserved
 loop-step-preserved c = record {
-  so_far = played_more c.args.steps.now c.loop-step.step-index c.step-item.result c.loop-step.replies c.step_once.new.replies c.loop-step.store c.step_once.new.store c.loop-step-test.true (sym c.step-item.is) c.loop-step.invariant.so_far c.in_default.ensures.ok;
+  so_far = played_more c.args.steps.now c.loop-step.step-index c.step-item.result c.loop-step.replies c.step_once.new.replies c.loop-step.store c.step_once.new.store (record { inside = c.loop-step-test.true; is = sym c.step-item.is }) c.loop-step.invariant.so_far c.in_default.ensures.ok;
   running = search rules;
   calm = λ h.
       let plain = plain_at c.args.steps.now c.loop-step.step-index _ c.loop-step-test.true (sym c.step-item.is) h in
@@ -41,4 +55,4 @@ loop-step-preserved c = record {
 
 pub returns-clause-bytes : goal.returns-clause-bytes
 returns-clause-bytes c =
-    subst (All HasBytes) (take_all c.loop-step.step-index c.args.steps.now (omega (arith, c.loop-step-test.false))) c.loop-step.invariant.bytes
+    subst (λ n. All HasBytes (take n c.args.steps.now)) (sym c.loop-step.invariant.count) c.loop-step.invariant.bytes

@@ -4,16 +4,16 @@ use Rattle.strm_session.proofs.serving.serve.Goals as goal
 
 pub returns-in-Ok-write_whole-clause-complete : goal.returns-in-Ok-write_whole-clause-complete
 returns-in-Ok-write_whole-clause-complete g c = λ input steps f s long.
-    inl (told_done _ (g.S.Source.left c.args.source.now) _ _ c.in-Ok.answer.status c.in-Ok.answer.text input steps c.in-Ok.ensures.told f.run f.input_is f.source s long)
+    inl (told_done (g.S.Source.left c.args.source.now) input c.in-Ok.ensures.told f.run f.input_is f.source steps s long)
 
 pub returns-in-Ok-write_whole-clause-bad_line : goal.returns-in-Ok-write_whole-clause-bad_line
 returns-in-Ok-write_whole-clause-bad_line g c = λ input line f bad long.
-    inl (told_bad_line _ (g.S.Source.left c.args.source.now) _ _ c.in-Ok.answer.status c.in-Ok.answer.text input line c.in-Ok.ensures.told f.run f.input_is f.source bad long)
+    inl (told_bad_line (g.S.Source.left c.args.source.now) input c.in-Ok.ensures.told f.run f.input_is f.source line bad long)
 
 pub returns-in-Ok-write_whole-clause-too_long : goal.returns-in-Ok-write_whole-clause-too_long
 returns-in-Ok-write_whole-clause-too_long g c = λ input f long.
-    inl (told_too_long _ (g.S.Source.left c.args.source.now) _ _ c.in-Ok.answer.status c.in-Ok.answer.text input c.in-Ok.ensures.told f.run f.input_is f.source long)
+    inl (told_too_long (g.S.Source.left c.args.source.now) input c.in-Ok.ensures.told f.run f.input_is f.source long)
 
 pub returns-in-Ok-write_whole-clause-usage : goal.returns-in-Ok-write_whole-clause-usage
 returns-in-Ok-write_whole-clause-usage g c = λ r _.
-    inl (told_usage _ (g.S.Source.left c.args.source.now) _ _ c.in-Ok.answer.status c.in-Ok.answer.text c.in-Ok.ensures.told r)
+    inl (told_usage (g.S.Source.left c.args.source.now) c.in-Ok.ensures.told r)

@@ -1,0 +1,16 @@
+use Rattle.strm_session.proofs.runs.laws_hold.Goals as goal
+
+pub returns-clause-laws : goal.returns-clause-laws
+returns-clause-laws c = λ steps a. record {
+  conserves = λ s. c.conservation.ensures.conserves 0 _ steps s a;
+  stands = λ s side. c.conservation.ensures.stands 0 _ steps s side a;
+  passes_one = λ s. c.futures_pass_one.ensures 0 _ steps s a;
+  apart = λ s. c.never_two_open.ensures 0 _ steps s a;
+  counted = λ s. c.totals_are_counts.ensures 0 _ steps s a;
+  hold = c.handles_hold_their_ends.ensures.holds 0 _ steps;
+  single = c.handles_hold_their_ends.ensures.single 0 _ steps;
+  sound = c.states_are_sound.ensures 0 _ steps;
+}
+
+pub returns-clause-aside : goal.returns-clause-aside
+returns-clause-aside c = λ steps step a. c.other_bytes_stay.ensures 0 _ steps step a
