@@ -19,7 +19,7 @@ use strm_codes::scalars::Scalar;
 /// Turns without an argument: about a million inserts and as many removals.
 const TURNS: u32 = 2_000_000;
 
-/// The payload of every stream in the handle tables.
+/// The payload of every stream in the handle tables, and without a second argument of the rounds'.
 const BYTES: Payload = Payload::One(Scalar::U8);
 
 fn main(rt: HostRuntime) -> io::Result<()> {
@@ -35,7 +35,23 @@ fn main(rt: HostRuntime) -> io::Result<()> {
         }
         Err(error) => return eprintln!(rt; "{error:?}"),
     }
-    time_rounds(&rt, turns)
+    let items = match env::args(&rt)?.nth(2) {
+        Some(word) => payload(word.as_str()),
+        None => BYTES,
+    };
+    time_rounds(&rt, items, turns)
+}
+
+// The payload of a word, bytes if it is none: the compiler does not know which.
+fn payload(word: &str) -> Payload {
+    match word {
+        "nothing" => Payload::Nothing,
+        "char" => Payload::One(Scalar::Char),
+        "u16" => Payload::One(Scalar::U16),
+        "u32" => Payload::One(Scalar::U32),
+        "u64" => Payload::One(Scalar::U64),
+        _ => BYTES,
+    }
 }
 
 // Inserts and removals in mixed order, on a table of up to 32,768 handles.
@@ -86,15 +102,15 @@ fn time_renewals(rt: &HostRuntime, filled: &mut Filled, turns: u32) -> io::Resul
 }
 
 // Rounds of three calls on a store.
-fn time_rounds(rt: &HostRuntime, turns: u32) -> io::Result<()> {
+fn time_rounds(rt: &HostRuntime, items: Payload, turns: u32) -> io::Result<()> {
     let start = Instant::now(rt)?;
-    match rounds::run(rt.alloc(), turns) {
+    match rounds::run(rt.alloc(), items, turns) {
         Ok(told) => {
             let spent = start.elapsed(rt)?.as_nanos();
             let (words, received) = (told.words, told.received);
             println!(rt; "words {words} received {received}")?;
             let round = spent / u128::from(turns).max(1);
-            eprintln!(rt; "a write, a read and an event of 8 bytes: {round} ns")
+            eprintln!(rt; "a write, a read and an event of 8 items: {round} ns")
         }
         Err(error) => eprintln!(rt; "{error:?}"),
     }

@@ -1,27 +1,27 @@
-//! Rounds on a store: a write of 8 bytes waits, a read takes them, and the write is told.
+//! Rounds on a store: a write of 8 items waits, a read takes them, and the write is told.
 
 use std::alloc::Global;
 use strm_codes::codes::{ReturnCode, TransmitIndex};
 use strm_codes::payloads::Payload;
-use strm_codes::scalars::Scalar;
 use strm_machine::limits::Limits;
 use strm_transmit::errors::StoreError;
 use strm_transmit::store::Store;
 
-const BYTES: Payload = Payload::One(Scalar::U8);
-
 /// The bytes of each guest's memory.
 const SIZE: u32 = 1_048_576;
 
-/// The bytes of a write.
-const LENGTH: u32 = 8;
+/// The items of a write.
+const COUNT: u32 = 8;
+
+/// Where writes begin, 8 bytes apart, so that 8 items of up to 8 bytes lie in memory.
+const PLACES: u32 = 65_536;
 
 const LIMITS: Limits = Limits {
     handles: 2,
     places: 3,
 };
 
-/// What the rounds add up to: the words of all codes that were answered or told, and the bytes
+/// What the rounds add up to: the words of all codes that were answered or told, and the items
 /// received.
 #[derive(Clone, Copy)]
 pub struct Told {
@@ -29,17 +29,17 @@ pub struct Told {
     pub received: u128,
 }
 
-/// So many rounds on a new store with a stream of bytes from one guest to another.
-pub fn run(alloc: Global, rounds: u32) -> Result<Told, StoreError> {
+/// So many rounds on a new store with a stream from one guest to another.
+pub fn run(alloc: Global, items: Payload, rounds: u32) -> Result<Told, StoreError> {
     let mut store = Store::new(alloc, 0, LIMITS);
     let writer = store.add_guest(SIZE)?;
     let reader = store.add_guest(SIZE)?;
-    let pair = store.new_between(writer, reader, TransmitIndex::Stream(BYTES))?;
+    let pair = store.new_between(writer, reader, TransmitIndex::Stream(items))?;
     let mut words = 0u64;
     for round in 0..rounds {
-        let address = round % (SIZE / LENGTH) * LENGTH;
-        let written = store.stream_write(writer, BYTES, pair.write, address, LENGTH)?;
-        let read = store.stream_read(reader, BYTES, pair.read, address, LENGTH)?;
+        let address = round % PLACES * 8;
+        let written = store.stream_write(writer, items, pair.write, address, COUNT)?;
+        let read = store.stream_read(reader, items, pair.read, address, COUNT)?;
         let told = store
             .take_event(writer, pair.write)?
             .unwrap_or(ReturnCode::Blocked);

@@ -96,6 +96,10 @@ unfolding dropped
 live_before Writing stream e = not_gone (is_gone stream.writer.owner) (is_gone stream.reader.owner) e
 live_before Reading stream e = not_gone-right (is_gone stream.writer.owner) (is_gone stream.reader.owner) (with_true (is_gone stream.writer.owner) e)
 
+-- how many streams are lost where one becomes another
+abbrev pub lost_by : Stream → Stream → ℕ
+lost_by old new = bool_byte (is_live old && not (is_live new))
+
 -- an end was dropped, and its handle freed
 pub record DropsEnd (old new : Inside) (s : ℕ) (side : Side) (g handle lost : ℕ) : Type 0 where
   pub same : SameBut old new
@@ -103,11 +107,11 @@ pub record DropsEnd (old new : Inside) (s : ℕ) (side : Side) (g handle lost : 
   pub live : live_in (seen new.guests.items) + 1 ≡ live_in (seen old.guests.items)
   pub guests : seen new.guests.items ≡ with_handles (seen old.guests.items) g (removed (guest_in (seen old.guests.items) g).handles handle)
   pub streams : new.streams.items ≡ set old.streams.items s (dropped side (stream_at (state_of old) s))
-  pub lost_is : lost ≡ bool_byte (is_live (stream_at (state_of old) s) && not (is_live (dropped side (stream_at (state_of old) s))))
+  pub lost_is : lost ≡ lost_by (stream_at (state_of old) s) (dropped side (stream_at (state_of old) s))
   pub live_streams : new.live_streams ≡ old.live_streams - lost
   pub bytes : new.bytes ≡ old.bytes
 
-pub lost_fits : (old : Inside) (s : ℕ) (side : Side) (lost : ℕ) → s < length old.streams.items → lost ≡ bool_byte (is_live (stream_at (state_of old) s) && not (is_live (dropped side (stream_at (state_of old) s)))) → IsStore old → lost ≤ old.live_streams
+pub lost_fits : (old : Inside) (s : ℕ) (side : Side) (lost : ℕ) → s < length old.streams.items → lost ≡ lost_by (stream_at (state_of old) s) (dropped side (stream_at (state_of old) s)) → IsStore old → lost ≤ old.live_streams
 lost_fits old s side lost l e i =
     let stream = stream_at (state_of old) s in
     let sum = live_sum old.streams.items s (dropped side stream) l in
@@ -153,8 +157,12 @@ told_ok (Err v) told h = cc
 same_name : (end : TransmitEnd) (name : ℕ × TransmitLocalState) → ◌≡◌ {A = Name} (Ok (end.rep, end.state)) (Ok name) → ◌≡◌ {A = ℕ × TransmitLocalState} name (end.rep, end.state)
 same_name end name e = cc
 
+-- an end that is found, and then removable by its state
+abbrev IsRemovable : {A B : Type 0} → Result TransmitEnd HandleError → (TransmitLocalState → Result A HandleError) → (TransmitEnd → A → B) → Type 0
+IsRemovable r first told = without_value (r >>= (λ e. first e.state >>= (λ x. Ok (told e x)))) ≡ Ok tt
+
 -- an end that was found, and is then found to be removable
-found_removable : {A B : Type 0} (r : Result TransmitEnd HandleError) (first : TransmitLocalState → Result A HandleError) (told : TransmitEnd → A → B) (name : ℕ × TransmitLocalState) → (r >>= (λ e. Ok (e.rep, e.state))) ≡ Ok name → IsOk (first name.1) → without_value (r >>= (λ e. first e.state >>= (λ x. Ok (told e x)))) ≡ Ok tt
+found_removable : {A B : Type 0} (r : Result TransmitEnd HandleError) (first : TransmitLocalState → Result A HandleError) (told : TransmitEnd → A → B) (name : ℕ × TransmitLocalState) → (r >>= (λ e. Ok (e.rep, e.state))) ≡ Ok name → IsOk (first name.1) → IsRemovable r first told
 found_removable (Err e) first told name f k = cc
 found_removable (Ok end) first told name f k =
     told_ok (first end.state) (told end) (subst (λ (n : ℕ × TransmitLocalState). IsOk (first n.1)) (same_name end name f) k)
@@ -190,9 +198,9 @@ drop_there old side end s i e same =
 -- the stream that an index read, dropped on a side
 pub record DropIs (old : Inside) (s : ℕ) (side : Side) (after : Stream) (lost : ℕ) : Type 0 where
   pub stream : after ≡ dropped side (stream_at (state_of old) s)
-  pub lost_is : lost ≡ bool_byte (is_live (stream_at (state_of old) s) && not (is_live (dropped side (stream_at (state_of old) s))))
+  pub lost_is : lost ≡ lost_by (stream_at (state_of old) s) (dropped side (stream_at (state_of old) s))
 
-pub drop_is : (old : Inside) (s : ℕ) (side : Side) (x after : Stream) (removed : Bool) (lost : ℕ) → s < length old.streams.items → x ≡ get_or old.streams.items s x → after ≡ dropped side x → removed ≡ (is_live x && not (is_live after)) → lost ≡ bool_byte removed → DropIs old s side after lost
-drop_is old s side x after removed lost l e a r n =
+pub drop_is : (old : Inside) (s : ℕ) (side : Side) (x after : Stream) (lost : ℕ) → s < length old.streams.items → x ≡ get_or old.streams.items s x → after ≡ dropped side x → lost ≡ lost_by x after → DropIs old s side after lost
+drop_is old s side x after lost l e a n =
     let here = stream_at-there old s x l e in
-    record { stream = rw here a; lost_is = rw (here, ← a, ← r) n }
+    record { stream = rw here a; lost_is = rw (here, ← a) n }

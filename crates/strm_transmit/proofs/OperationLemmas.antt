@@ -40,8 +40,12 @@ both_found {S = S} {U = U} xs ys v x w y e f =
     ap (λ a. pair_found a v) q.same ∙ ap (pair_found y) p.same
     ∙ ap (λ o. or_found o (y, x)) (sym (first_of-append xs ys ∙ ap (λ o. option_or o (first_of ys)) p.none ∙ q.none))
 
+-- what was found of an end by its handle: the stream and the side
+abbrev FoundEnd : Type 0
+FoundEnd = ℕ × Side
+
 -- the end that a handle names was found, and then a refusal of that end
-pub end_refused : {U : Type 0} (xs : List Reason) (ys : ℕ → Side → List Reason) (found wanted : ℕ × Side) (r : Refusal) (value : U) → Ok found ≡ or_found (first_of xs) wanted → Some r ≡ first_of (ys found.0 found.1) → Err r ≡ or_found (first_of (xs ++ ys wanted.0 wanted.1)) value
+pub end_refused : {U : Type 0} (xs : List Reason) (ys : ℕ → Side → List Reason) (found wanted : FoundEnd) (r : Refusal) (value : U) → Ok found ≡ or_found (first_of xs) wanted → Some r ≡ first_of (ys found.0 found.1) → Err r ≡ or_found (first_of (xs ++ ys wanted.0 wanted.1)) value
 end_refused xs ys found wanted r value e f =
     let p = found_ok (first_of xs) found wanted e in
     ap (λ o. or_found o value)
@@ -51,7 +55,7 @@ end_refused xs ys found wanted r value e f =
     ∙ sym f))
 
 -- and no refusal of it
-pub end_found : (xs : List Reason) (ys : ℕ → Side → List Reason) (found wanted : ℕ × Side) → Ok found ≡ or_found (first_of xs) wanted → None ≡ first_of (ys found.0 found.1) → Ok found.0 ≡ or_found (first_of (xs ++ ys wanted.0 wanted.1)) wanted.0
+pub end_found : (xs : List Reason) (ys : ℕ → Side → List Reason) (found wanted : FoundEnd) → Ok found ≡ or_found (first_of xs) wanted → None ≡ first_of (ys found.0 found.1) → Ok found.0 ≡ or_found (first_of (xs ++ ys wanted.0 wanted.1)) wanted.0
 end_found xs ys found wanted e f =
     let p = found_ok (first_of xs) found wanted e in
     ap (λ (q : ℕ × Side). stream_found q.0) p.same

@@ -1,7 +1,6 @@
 -- The walk of every call: a trapped store answers nothing else, what may not be done is refused, and
 -- what may be done is what the machine performs. A call gives its test and its doing.
 use Rattle.std.proofs.Common.{◌≡◌, ap, Bool, true, false, cond, Option, Some, None, Result, Ok, Err, refl, sym, subst, ◌∙◌}
-use Rattle.std.specs.Prelude.{IfOk}
 use Rattle.strm_codes.specs.declared.refusals.Refusal.{Refusal}
 use Rattle.strm_machine.specs.State.{State}
 use Rattle.strm_machine.specs.Refusals.{refusal}
@@ -48,16 +47,11 @@ is_admitted {V = V} state act wanted found value e a = trapped_or state.trapped 
     trapped_or true t k = cc
     trapped_or false t k = passed (refusal state act) t refl k
 
--- what is known of what was found
-pub found_has : {V : Type 0} (state : State) (act : Act) (wanted : V) (found : Result V Refusal) (value : V) (P : V → Type 0) → IsAdmitted state act wanted found value → IfOk found P → P value
-found_has state act wanted found value P a p = let k = rw a.here at p in k
-
 -- an act that was admitted does with what was found what the machine performs
 pub reacts : {V : Type 0} (state : State) (act : Act) (wanted : V) (found : Result V Refusal) (value : V) (does : V → Reaction) → IsAdmitted state act wanted found value → performs state act ≡ does wanted → reaction state act ≡ does value
 reacts state act wanted found value does a p =
     reaction-performs state act a.untrapped a.none ∙ p ∙ ap does (sym a.same)
 
 -- so a doing that is what the machine performs is the call
-pub meets_admitted : {V : Type 0} (old new : State) (act : Act) (reply : Result Reply StoreError) (wanted : V) (found : Result V Refusal) (value : V) (does : V → Reaction) → IsAdmitted old act wanted found value → performs old act ≡ does wanted → Meets old new reply (does value) → Meets old new reply (reaction old act)
-meets_admitted old new act reply wanted found value does a p m =
-    subst (Meets old new reply) (sym (reacts old act wanted found value does a p)) m
+pub meets_admitted : (old new : State) (act : Act) (reply : Result Reply StoreError) (done : Reaction) → reaction old act ≡ done → Meets old new reply done → Meets old new reply (reaction old act)
+meets_admitted old new act reply done e m = subst (Meets old new reply) (sym e) m

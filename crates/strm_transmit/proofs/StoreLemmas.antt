@@ -202,6 +202,11 @@ IsStore-turn old new s t l keeps h i =
 pub stream_at-there : (s : Inside) (stream : ℕ) (x : Stream) → stream < length s.streams.items → x ≡ get_or s.streams.items stream x → stream_at (state_of s) stream ≡ x
 stream_at-there s stream x l e = get_or_default s.streams.items stream no_stream x l ∙ sym e
 
+-- the stream that is made
+abbrev pub stream_made : Inside → ℕ → ℕ → TransmitIndex → Stream
+stream_made old writer reader ty =
+    let pair = made_pair (state_of old) writer reader ty in made_stream ty writer pair.write reader pair.read
+
 -- one stream more, with its two ends in their guests' tables
 pub record MakesStream (old new : Inside) (writer reader : ℕ) (ty : TransmitIndex) : Type 0 where
   pub same : SameBut old new
@@ -210,7 +215,7 @@ pub record MakesStream (old new : Inside) (writer reader : ℕ) (ty : TransmitIn
   pub live_streams : new.live_streams ≡ old.live_streams + 1
   pub bytes : new.bytes ≡ old.bytes
   pub guests : seen new.guests.items ≡ with_ends (seen old.guests.items) writer reader ty (length old.streams.items)
-  pub streams : new.streams.items ≡ old.streams.items ++ made_stream ty writer (made_pair (state_of old) writer reader ty).write reader (made_pair (state_of old) writer reader ty).read ∷ []
+  pub streams : new.streams.items ≡ old.streams.items ++ stream_made old writer reader ty ∷ []
 
 state_of-made : (old new : Inside) (writer reader : ℕ) (ty : TransmitIndex) → MakesStream old new writer reader ty → state_of new ≡ with_stream (state_of old) writer reader ty
 unfolding with_stream
@@ -232,7 +237,7 @@ IsStore-made old new writer reader ty h e s =
     let sizes : sizes_of (seen new.guests.items) ≡ sizes_of (seen old.guests.items) = ap sizes_of h.guests ∙ sizes-made (seen old.guests.items) writer reader ty (length old.streams.items) in
     let bytes : bytes_in_use (state_of new) ≡ bytes_in_use (state_of old) = same_bytes (seen old.guests.items) (seen new.guests.items) sizes in
     let count = same_count (seen old.guests.items) (seen new.guests.items) sizes in
-    let stream = made_stream ty writer (made_pair (state_of old) writer reader ty).write reader (made_pair (state_of old) writer reader ty).read in
+    let stream = stream_made old writer reader ty in
     let live : count_by is_live new.streams.items ≡ count_by is_live old.streams.items + 1 = ap (count_by is_live) h.streams ∙ sum_by-push live_weight old.streams.items stream in
     record {
       sound = subst IsSound (sym (state_of-made old new writer reader ty h)) (IsSound-with_stream (state_of old) writer reader ty s.sound);
@@ -249,9 +254,9 @@ abbrev pub numbers_of : Inside → ℕ → ℕ → TransmitIndex → ℕ → ℕ
 numbers_of old writer reader ty stream =
     (next_index (guest_in (seen old.guests.items) reader).handles, next_index (guest_in (with_read_end (seen old.guests.items) reader ty stream) writer).handles)
 
-pub joined_is : (old : Inside) (writer reader : ℕ) (ty : TransmitIndex) (stream : ℕ) (numbers : ℕ × ℕ) (joined : Stream) → stream ≡ length old.streams.items → numbers ≡ numbers_of old writer reader ty stream → joined ≡ made_stream ty writer numbers.1 reader numbers.0 → joined ≡ made_stream ty writer (made_pair (state_of old) writer reader ty).write reader (made_pair (state_of old) writer reader ty).read
-joined_is old writer reader ty stream numbers joined e n j =
-    j ∙ ap (λ (k : ℕ × ℕ). made_stream ty writer k.1 reader k.0) (n ∙ ap (numbers_of old writer reader ty) e)
+pub joined_is : (old : Inside) (writer reader : ℕ) (ty : TransmitIndex) (numbers : ℕ × ℕ) (joined : Stream) → numbers ≡ numbers_of old writer reader ty (length old.streams.items) → joined ≡ made_stream ty writer numbers.1 reader numbers.0 → joined ≡ stream_made old writer reader ty
+joined_is old writer reader ty numbers joined n j =
+    j ∙ ap (λ (k : ℕ × ℕ). made_stream ty writer k.1 reader k.0) n
 
 abbrev as_pair : ℕ × ℕ → ℕ → Pair
 as_pair numbers stream = record { read = numbers.0; write = numbers.1; stream = stream }

@@ -10,9 +10,11 @@ use Rattle.strm_machine.specs.declared.streams.Side.TheVariants.{Writing, Readin
 use Rattle.strm_machine.specs.State as machine
 use Rattle.strm_transmit.specs.declared.guests.Guest.{Guest}
 
+-- a guest as the machine's: its memory, and what its handles stand for
 abbrev pub guest_of : Guest → machine.Guest
 guest_of g = record { memory = g.memory; handles = g.table.handles }
 
+-- the guests, as the machine's
 abbrev pub seen : List Guest → List machine.Guest
 seen guests = map guest_of guests
 

@@ -1,10 +1,11 @@
--- The store's fields as the machine's state, and what they keep: counters that agree with it.
+-- The store's fields as the machine's state, and what they keep: counters that agree with it. Ours.
 use Rattle.std.specs.Prelude.{◌≡◌, ◌≤◌, length, count_by}
 use Rattle.strm_machine.specs.State.{State, is_live, handles_in_use, bytes_in_use}
 use Rattle.strm_machine.specs.Soundness.{IsSound}
 use Rattle.strm_transmit.specs.Guests.{seen}
 use Rattle.strm_transmit.specs.declared.store.Store.TheInside.{Inside}
 
+-- the machine's state, of which counters and room are no part
 abbrev pub state_of : Inside → State
 state_of s = record {
   tag = s.tag;

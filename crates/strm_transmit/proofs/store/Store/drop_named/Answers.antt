@@ -1,3 +1,4 @@
+use mir.Val.{bool_byte}
 use Rattle.std.proofs.Common.{refl, sym, ◌∙◌, ap, set, arith}
 use Rattle.std.proofs.lemmas.List.{length-map}
 use Rattle.strm_machine.proofs.ReactionLemmas.{refusal-drop}
@@ -30,16 +31,16 @@ pub overflow_sub-self : goal.overflow_sub-self
 overflow_sub-self c =
     let there = drop_there c.self.inside c.args.side c.args.end.now c.args.stream c.self.invariant
     (rw (← c.self.view_is) at c.requires.may) (rw (← c.self.view_is) at c.requires.stream) in
-    let drop = drop_is c.self.inside c.args.stream c.args.side c.index_mut.result.now c.drop_end-is_removed.new.stream c.drop_end-is_removed.result c.from.result
-    there c.index_mut.ensures.value c.drop_end-is_removed.ensures.stream c.drop_end-is_removed.ensures.removed c.from.ensures in
+    let drop = drop_is c.self.inside c.args.stream c.args.side c.index_mut.result.now c.drop_end-is_removed.new.stream c.from.result
+    there c.index_mut.ensures.value c.drop_end-is_removed.ensures.stream (c.from.ensures ∙ ap bool_byte c.drop_end-is_removed.ensures.removed) in
     lost_fits c.self.inside c.args.stream c.args.side c.from.result there drop.lost_is c.self.invariant
 
 pub invariant_of-self : goal.invariant_of-self
 invariant_of-self c =
     let there = drop_there c.self.inside c.args.side c.args.end.now c.args.stream c.self.invariant
     (rw (← c.self.view_is) at c.requires.may) (rw (← c.self.view_is) at c.requires.stream) in
-    let drop = drop_is c.self.inside c.args.stream c.args.side c.index_mut.result.now c.drop_end-is_removed.new.stream c.drop_end-is_removed.result c.from.result
-    there c.index_mut.ensures.value c.drop_end-is_removed.ensures.stream c.drop_end-is_removed.ensures.removed c.from.ensures in
+    let drop = drop_is c.self.inside c.args.stream c.args.side c.index_mut.result.now c.drop_end-is_removed.new.stream c.from.result
+    there c.index_mut.ensures.value c.drop_end-is_removed.ensures.stream (c.from.ensures ∙ ap bool_byte c.drop_end-is_removed.ensures.removed) in
     IsStore-dropped c.self.inside _ c.args.stream c.args.side c.args.end.now.guest c.args.end.now.handle c.from.result there
     (record {
       same = record { tag = refl; limits = refl; trapped = refl };

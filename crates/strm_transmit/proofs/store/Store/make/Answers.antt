@@ -8,7 +8,7 @@ use Rattle.strm_machine.specs.State.{guest_in}
 use Rattle.strm_machine.specs.Making.{with_read_end, with_ends}
 use Rattle.strm_machine.specs.declared.streams.Stream.{Stream}
 use Rattle.strm_transmit.specs.Guests.{guest_of, seen}
-use Rattle.strm_transmit.proofs.StoreLemmas.{MakesStream, IsStore-made, performs-made, joined_is, pair_is}
+use Rattle.strm_transmit.proofs.StoreLemmas.{MakesStream, IsStore-made, performs-made, numbers_of, joined_is, pair_is}
 use Rattle.strm_transmit.specs.Inside.{state_of}
 use Rattle.strm_transmit.proofs.store.Store.make.Goals as goal
 
@@ -47,7 +47,8 @@ pub invariant_of-self-in-Ok-insert_ends : goal.invariant_of-self-in-Ok-insert_en
 invariant_of-self-in-Ok-insert_ends c =
     let old = c.self.inside in
     let number : c.len-stream.result ≡ length old.streams.items = omega (arith, c.len-stream.ensures, old.streams.ok) in
-    let joined = joined_is old c.args.writer c.args.reader c.args.ty c.len-stream.result c.in-Ok-insert_ends.numbers c.made_stream-joined.result number c.in-Ok-insert_ends.ensures.numbers
+    let joined = joined_is old c.args.writer c.args.reader c.args.ty c.in-Ok-insert_ends.numbers c.made_stream-joined.result
+    (c.in-Ok-insert_ends.ensures.numbers ∙ ap (numbers_of old c.args.writer c.args.reader c.args.ty) number)
     (rw (c.made_stream-joined.ensures, c.idle_end.ensures, c.idle_end-in-Ok-insert_ends.ensures) refl) in
     let made : MakesStream c.self.inside (record c.self.inside { counter = c.insert_ends.new.counter; guests = c.insert_ends.new.guests; streams = c.place.new.items; live_streams = c.self.inside.live_streams + 1 }) c.args.writer c.args.reader c.args.ty = record {
       same = record { tag = refl; limits = refl; trapped = refl };
@@ -64,7 +65,8 @@ pub returns-in-Ok-insert_ends : goal.returns-in-Ok-insert_ends
 returns-in-Ok-insert_ends c =
     let old = c.self.inside in
     let number : c.len-stream.result ≡ length old.streams.items = omega (arith, c.len-stream.ensures, old.streams.ok) in
-    let joined = joined_is old c.args.writer c.args.reader c.args.ty c.len-stream.result c.in-Ok-insert_ends.numbers c.made_stream-joined.result number c.in-Ok-insert_ends.ensures.numbers
+    let joined = joined_is old c.args.writer c.args.reader c.args.ty c.in-Ok-insert_ends.numbers c.made_stream-joined.result
+    (c.in-Ok-insert_ends.ensures.numbers ∙ ap (numbers_of old c.args.writer c.args.reader c.args.ty) number)
     (rw (c.made_stream-joined.ensures, c.idle_end.ensures, c.idle_end-in-Ok-insert_ends.ensures) refl) in
     let made : MakesStream c.self.inside (record c.self.inside { counter = c.insert_ends.new.counter; guests = c.insert_ends.new.guests; streams = c.place.new.items; live_streams = c.self.inside.live_streams + 1 }) c.args.writer c.args.reader c.args.ty = record {
       same = record { tag = refl; limits = refl; trapped = refl };

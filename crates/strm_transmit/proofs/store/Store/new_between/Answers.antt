@@ -4,7 +4,7 @@ use Rattle.strm_machine.specs.declared.acts.Act.TheVariants.{Make}
 use Rattle.strm_machine.specs.declared.acts.Making.TheVariants.{Between}
 use Rattle.strm_machine.specs.declared.replies.Reply.TheVariants as replies
 use Rattle.strm_transmit.specs.Meets.{replied}
-use Rattle.strm_transmit.proofs.StepLemmas.{is_admitted, meets_admitted, meets_not_admitted}
+use Rattle.strm_transmit.proofs.StepLemmas.{is_admitted, reacts, meets_admitted, meets_not_admitted}
 use Rattle.strm_transmit.proofs.store.Store.new_between.Goals as goal
 
 pub make-requires : goal.make-requires
@@ -12,9 +12,9 @@ make-requires c = (is_admitted _ _ _ _ _ (c.pair_fits.ensures c.args.ty) c.in-Ok
 
 pub returns-in-Ok : goal.returns-in-Ok
 returns-in-Ok c = record {
-  meets = meets_admitted c.args.self.now c.make.new.self _ (replied replies.Pair c.make.result) _ _ _
-      (λ _. performs c.args.self.now (Make (Between c.args.writer c.args.reader c.args.ty)))
-      (is_admitted _ _ _ _ _ (c.pair_fits.ensures c.args.ty) c.in-Ok.ensures.exact) refl c.make.ensures;
+  meets = meets_admitted c.args.self.now c.make.new.self _ (replied replies.Pair c.make.result) _
+      (reacts _ _ _ _ _ (λ _. performs c.args.self.now (Make (Between c.args.writer c.args.reader c.args.ty))) (is_admitted _ _ _ _ _ (c.pair_fits.ensures c.args.ty) c.in-Ok.ensures.exact) refl)
+      c.make.ensures;
 }
 
 pub returns-in-Err : goal.returns-in-Err
