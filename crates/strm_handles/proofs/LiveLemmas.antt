@@ -2,16 +2,9 @@
 use Rattle.std.proofs.Common.{◌≡◌, ℕ, ◌+◌, ◌-◌, ◌<◌, ◌≤◌, Bool, true, false, Option, Some, None, refl, arith}
 use Rattle.std.proofs.lemmas.Bool.Decides.{Decides-eqb}
 use Rattle.std.specs.Prelude.{Result, Ok, Err, IfOk, OnOk, ◌==◌, if◌then◌else◌, nat_le}
-use Rattle.strm_codes.specs.declared.payloads.Payload.{Payload}
-use Rattle.strm_handles.specs.declared.entries.Entry.{Entry}
+use Rattle.strm_handles.specs.Words.{Payload, Entry, RemovedResource, Scope, TransmitEnd, TransmitLocalState, TypedResource, HandleError}
 use Rattle.strm_handles.specs.declared.entries.Entry.TheVariants.{ResourceOwn, ResourceBorrow, Stream, Future, ErrorContext, Subtask, WaitableSet}
-use Rattle.strm_handles.specs.declared.entries.RemovedResource.{RemovedResource}
 use Rattle.strm_handles.specs.declared.entries.RemovedResource.TheVariants.{Own, Borrow}
-use Rattle.strm_handles.specs.declared.entries.Scope.{Scope}
-use Rattle.strm_handles.specs.declared.entries.TransmitEnd.{TransmitEnd}
-use Rattle.strm_handles.specs.declared.entries.TransmitLocalState.{TransmitLocalState}
-use Rattle.strm_handles.specs.declared.entries.TypedResource.{TypedResource}
-use Rattle.strm_handles.specs.declared.errors.HandleError.{HandleError}
 use Rattle.strm_handles.specs.declared.errors.HandleError.TheVariants.{Lent, TooManyLends, HandleLimit}
 use Rattle.strm_handles.specs.Changes.{Inserts, Removes}
 use Rattle.strm_handles.specs.Counters.{Counter, counted, uncounted}

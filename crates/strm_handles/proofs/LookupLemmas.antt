@@ -1,13 +1,10 @@
 -- What a look-up of an end says of the number's entry, and back.
 use Rattle.std.proofs.Common.{◌≡◌, ℕ, ◌+◌, Bool, true, false, Option, Some, None, refl, sym, ap, ◌∙◌, arith}
 use Rattle.std.specs.Prelude.{Result, Ok, Err, IfOk, if◌then◌else◌}
-use Rattle.strm_codes.specs.declared.payloads.Payload.{Payload}
+use Rattle.strm_handles.specs.Words.{Payload, Entry, TransmitEnd, HandleError}
 use Rattle.strm_codes.specs.Sameness.{same_payload}
 use Rattle.strm_codes.proofs.SamenessLemmas.{Decides-same_payload}
-use Rattle.strm_handles.specs.declared.entries.Entry.{Entry}
 use Rattle.strm_handles.specs.declared.entries.Entry.TheVariants.{Stream, Future}
-use Rattle.strm_handles.specs.declared.entries.TransmitEnd.{TransmitEnd}
-use Rattle.strm_handles.specs.declared.errors.HandleError.{HandleError}
 use Rattle.strm_handles.specs.declared.errors.HandleError.TheVariants.{IndexOverflow, HandleLimit, WrongType}
 use Rattle.strm_handles.specs.Handles.{Handles, Table, entry_at, next_index, inserted, removed, live_of, IsTable}
 use Rattle.strm_handles.specs.Changes.{Inserts}

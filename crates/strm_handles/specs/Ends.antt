@@ -1,11 +1,8 @@
 -- The ends of streams and futures in a table: new ones, their state, and what their removal answers.
 -- wasmtime, `handle_table.rs`, the calls of these names.
 use Rattle.std.specs.Prelude.{ℕ, Bool, true, false, Result, Ok, Err}
-use Rattle.strm_codes.specs.declared.payloads.Payload.{Payload}
-use Rattle.strm_handles.specs.declared.entries.TransmitEnd.{TransmitEnd}
-use Rattle.strm_handles.specs.declared.entries.TransmitLocalState.{TransmitLocalState}
+use Rattle.strm_handles.specs.Words.{Payload, TransmitEnd, TransmitLocalState, HandleError}
 use Rattle.strm_handles.specs.declared.entries.TransmitLocalState.TheVariants as state
-use Rattle.strm_handles.specs.declared.errors.HandleError.{HandleError}
 use Rattle.strm_handles.specs.declared.errors.HandleError.TheVariants.{WrongEnd, Busy}
 use Rattle.strm_handles.specs.Handles.{Handles}
 use Rattle.strm_handles.specs.Lookups.{◌>>=◌, stream_of, future_of}

@@ -1,12 +1,9 @@
 -- Resources that are lent and removed.
 -- wasmtime, `handle_table.rs`, `resource_lend`, `resource_undo_lend` and `remove_resource`.
 use Rattle.std.specs.Prelude.{ℕ, ◌+◌, ◌-◌, ◌<◌, ◌==◌, nat_le, Bool, true, false, if◌then◌else◌, Option, Some, None, Result, Ok, Err}
-use Rattle.strm_handles.specs.declared.entries.Entry.{Entry}
+use Rattle.strm_handles.specs.Words.{Entry, RemovedResource, TypedResourceIndex, HandleError}
 use Rattle.strm_handles.specs.declared.entries.Entry.TheVariants as entry
-use Rattle.strm_handles.specs.declared.entries.RemovedResource.{RemovedResource}
 use Rattle.strm_handles.specs.declared.entries.RemovedResource.TheVariants as removed
-use Rattle.strm_handles.specs.declared.entries.TypedResourceIndex.{TypedResourceIndex}
-use Rattle.strm_handles.specs.declared.errors.HandleError.{HandleError}
 use Rattle.strm_handles.specs.declared.errors.HandleError.TheVariants.{UnknownHandle, WrongKind, Lent, TooManyLends, HandleLimit}
 use Rattle.strm_handles.specs.Counters.{Counter}
 use Rattle.strm_handles.specs.Handles.{Handles, entry_at, with_entry}

@@ -6,3 +6,4 @@ pub mod Lookups
 pub mod Ends
 pub mod Lends
 pub mod Live
+pub mod Words

@@ -1,17 +1,10 @@
 -- What the look-ups of a table answer: each refusal in its order, else what the entry tells.
 -- wasmtime, `handle_table.rs`, the calls of these names; Canonical ABI, "Table State".
 use Rattle.std.specs.Prelude.{ℕ, ◌==◌, Bool, if◌then◌else◌, Option, Some, None, Result, Ok, Err}
-use Rattle.strm_codes.specs.declared.payloads.Payload.{Payload}
+use Rattle.strm_handles.specs.Words.{Payload, Entry, TransmitEnd, TransmitLocalState, TypedResource, TypedResourceIndex, Waitable, HandleError}
 use Rattle.strm_codes.specs.Sameness.{same_payload}
-use Rattle.strm_handles.specs.declared.entries.Entry.{Entry}
 use Rattle.strm_handles.specs.declared.entries.Entry.TheVariants as entry
-use Rattle.strm_handles.specs.declared.entries.TransmitEnd.{TransmitEnd}
-use Rattle.strm_handles.specs.declared.entries.TransmitLocalState.{TransmitLocalState}
-use Rattle.strm_handles.specs.declared.entries.TypedResource.{TypedResource}
-use Rattle.strm_handles.specs.declared.entries.TypedResourceIndex.{TypedResourceIndex}
-use Rattle.strm_handles.specs.declared.entries.Waitable.{Waitable}
 use Rattle.strm_handles.specs.declared.entries.Waitable.TheVariants as waitable
-use Rattle.strm_handles.specs.declared.errors.HandleError.{HandleError}
 use Rattle.strm_handles.specs.declared.errors.HandleError.TheVariants.{UnknownHandle, WrongKind, WrongType}
 use Rattle.strm_handles.specs.Handles.{HandlesOf, Handles, entry_at}
 

@@ -3,12 +3,8 @@
 //! Meaning: `Live.antt`. Ours; wasmtime, `handle_table.rs`, `HandleCounter`.
 
 ghost use Rattle.std.specs.Prelude.{◌≡◌, ℕ, ◌<◌, ◌≤◌, ◌↔◌, if◌then◌else◌, Result, Err, IfOk, OnOk};
-ghost use Rattle.strm_codes.specs.declared.payloads.Payload.{Payload};
-ghost use Rattle.strm_handles.specs.declared.entries.Entry.{Entry};
+ghost use Rattle.strm_handles.specs.Words.{Payload, Entry, TransmitLocalState, TypedResourceIndex, HandleError};
 ghost use Rattle.strm_handles.specs.declared.entries.Entry.TheVariants as entry;
-ghost use Rattle.strm_handles.specs.declared.entries.TransmitLocalState.{TransmitLocalState};
-ghost use Rattle.strm_handles.specs.declared.entries.TypedResourceIndex.{TypedResourceIndex};
-ghost use Rattle.strm_handles.specs.declared.errors.HandleError.{HandleError};
 ghost use Rattle.strm_handles.specs.declared.errors.HandleError.TheVariants.{IndexOverflow, HandleLimit};
 ghost use Rattle.strm_handles.specs.Handles.{handle_limit, Handles, TableOf, Table, no_handles, entry_at, next_index, with_entry, lends_of, live_of, occupied, IsTable};
 ghost use Rattle.strm_handles.specs.Changes.{Inserts, Removes};
