@@ -5,10 +5,7 @@ use Rattle.std.proofs.Common.{◌≡◌, ℕ, ◌<◌, min, Bool, true, false, c
 use Rattle.std.proofs.lemmas.Bool.{cases_lt}
 use Rattle.std.proofs.lemmas.List.{get_or_past}
 use Rattle.std.proofs.lemmas.List.Elements.{All-set, All-push, All-get_or}
-use Rattle.strm_codes.specs.declared.codes.ReturnCode.{ReturnCode}
-use Rattle.strm_codes.specs.declared.payloads.Payload.{Payload}
-use Rattle.strm_codes.specs.Layout.{scalars_of}
-use Rattle.strm_codes.specs.Types.{payload_of}
+use Rattle.strm_machine.specs.Words.{ReturnCode, Payload, scalars_of, payload_of, act_of}
 use Rattle.strm_memory.specs.Items.{items_at, stored_at, is_number_or_none}
 use Rattle.strm_memory.proofs.RegionLemmas.{items-number_or_none}
 use Rattle.strm_machine.specs.State.{State, Guest, memory_in, with_memory, stream_at, no_stream, is_gone}
@@ -18,7 +15,6 @@ use Rattle.strm_machine.specs.Tests.{named, end_named, stream_named, side_named,
 use Rattle.strm_machine.specs.Turns.{Turn, waits, with_received, moves, completes_alone, rendezvous_by, finds, turn}
 use Rattle.strm_machine.specs.Endings.{delivered, dropped}
 use Rattle.strm_machine.specs.Making.{with_stream}
-use Rattle.strm_machine.specs.Acts.{act_of}
 use Rattle.strm_machine.specs.Reactions.{Reaction, written_back, operates, tells, drops, performs, reaction, react}
 use Rattle.strm_machine.specs.declared.acts.Act.{Act}
 use Rattle.strm_machine.specs.declared.acts.Act.TheVariants.{Make, OnEnd, Event, OnMemory}

@@ -2,13 +2,11 @@
 use Rattle.std.proofs.Math.Seq.{split_at}
 use Rattle.std.proofs.lemmas.List.{take_more, append-nil}
 use Rattle.std.proofs.Common.{◌≡◌, ℕ, ◌+◌, ◌<◌, true, false, List, [], ◌∷◌, ◌++◌, length, take, drop, get_or, suc, Option, Some, None, refl, sym, ap, ◌∙◌, subst, append_assoc}
-use Rattle.strm_codes.specs.declared.codes.ReturnCode.{ReturnCode}
-use Rattle.strm_machine.specs.State.{State, stream_at}
+use Rattle.strm_machine.specs.Words.{ReturnCode, State, stream_at, act_of}
 use Rattle.strm_machine.specs.Turns.{Turn, turn}
 use Rattle.strm_machine.specs.Tests.{named, stream_named, items_asked}
 use Rattle.strm_machine.specs.Meetings.{begun}
 use Rattle.strm_machine.specs.Making.{with_stream}
-use Rattle.strm_machine.specs.Acts.{act_of}
 use Rattle.strm_machine.specs.Reactions.{Reaction, goes, written_back, performs, reaction, react}
 use Rattle.strm_machine.specs.Plays.{Played, Ends, Halts, after_step, play}
 use Rattle.strm_machine.specs.declared.acts.Act.{Act}

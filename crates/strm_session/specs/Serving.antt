@@ -1,5 +1,5 @@
 -- What the program writes, and why. Ours.
-use Rattle.std.specs.Prelude.{◌≡◌, ◌≢◌, ◌≤◌, ℕ, List, [], ◌∷◌, length, codes, Option, Some, IfSome}
+use Rattle.std.specs.Prelude.{◌≡◌, ◌≢◌, ◌≤◌, ◌⊎◌, ℕ, List, [], ◌∷◌, length, codes, Option, Some, IfSome}
 use Rattle.std.specs.Io.KnownBytes.{IsAtEnd}
 use Rattle.strm_machine.specs.State.{State}
 use Rattle.strm_machine.specs.Plays.{play, Ends}
@@ -44,6 +44,10 @@ pub record IsAnswer (words : List (List ℕ)) (left rest : Option (List ℕ))
   pub whole : status ≢ 1 → status ≢ 3 → status ≢ 4 → IsAtEnd rest
   pub whole_lines : status ≡ 3 → (input : List ℕ) → left ≡ Some input →
       length input ≤ 16777216 → IsAtEnd rest
+
+-- the statuses of the program
+abbrev pub IsStatus : ℕ → Type 0
+IsStatus status = (status ≤ 5) ⊎ (status ≡ 9)
 
 -- the program is told to run, the source has this input left, and neither source nor sink fails
 pub record IsFaultless (words : List (List ℕ)) (left : Option (List ℕ)) (input : List ℕ)

@@ -13,7 +13,7 @@ ghost use Rattle.strm_session.specs.Runs.{start, counts_of, IsKept};
 ghost use Rattle.strm_lines.specs.Text.{transcript_text};
 ghost use Rattle.strm_session.specs.Faults.{Rose, TakesPart};
 ghost use Rattle.strm_lines.specs.Lines.{lines_of, Spells, IsFirstBad, IsTooLong};
-ghost use Rattle.strm_session.specs.Serving.{IsRun, IsAnswer, IsFaultless};
+ghost use Rattle.strm_session.specs.Serving.{IsRun, IsAnswer, IsStatus, IsFaultless};
 
 use crate::ports::{Sink, Source};
 use crate::runs::{RunCause, run};
@@ -56,6 +56,7 @@ pub fn serve<S: Source, K: Sink>(
     source: &mut S,
     sink: &mut K,
 ) -> u8
+    ensures known { IsStatus result }
     ensures told { result ≢ WRITE_FAULT → result ≢ OUT_OF_MEMORY → (text : List ℕ)
         × IsAnswer (map string_bytes words.now.items) (S.left source.old) (S.left source.new)
         (S.faults source.old) (S.faults source.new) result text
