@@ -5,17 +5,16 @@ use Rattle.std.specs.Option.{option_map, option_to_list}
 use Rattle.std.proofs.lemmas.Bool.Decides.{eqb_tells}
 use Rattle.std.proofs.lemmas.Bool.{cases_lt, ne_eqb}
 use Rattle.std.proofs.lemmas.List.{take_more, append-nil, take_at, length-map, map-append, get_or_at}
-use Rattle.std.proofs.lemmas.List.Elements.{All-push, All-head, All-tail, All-weaker}
+use Rattle.std.proofs.lemmas.List.Elements.{All-push, All-head, All-tail}
 use Rattle.std.proofs.lemmas.Option.{slice_get-get_or, same_Some}
 use Rattle.strm_machine.specs.declared.steps.Step.{Step}
 use Rattle.strm_lines.specs.declared.parsing.ParseError.{ParseError}
 use Rattle.strm_lines.specs.declared.parsing.ParseError.TheVariants as error
-use Rattle.strm_lines.specs.Plain.{IsPlain}
 use Rattle.strm_lines.specs.Grammar.{spelling, HasLine}
 use Rattle.strm_lines.specs.Lines.{on_first, lines_of, feeds, Spells, IsFirstBad}
 use Rattle.strm_lines.specs.Reading.{cut_at, step_of}
 use Rattle.strm_lines.proofs.CutLemmas.{option_map_some}
-use Rattle.strm_lines.proofs.StepLemmas.{step_sound, step_complete, plain}
+use Rattle.strm_lines.proofs.StepLemmas.{step_sound, step_complete}
 
 -- the first line ends at the first line feed
 pub lines-cut : (bytes : List ℕ) (p : List ℕ × List ℕ) → cut_at 10 bytes ≡ Some p → lines_of bytes ≡ p.0 ∷ lines_of p.1

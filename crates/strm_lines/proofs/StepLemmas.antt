@@ -153,12 +153,5 @@ step_complete (Dump guest address len) h = rw (IsReading-dump.complete (guest, (
 
 -- each step that has a line is plain
 pub plain : (s : Step) → HasLine s → IsPlain s
-plain (Guest size) h = tt
 plain (Between writer reader ty) h = (h.1.1.1, h.0)
-plain (Write guest ty handle address count) h = tt
-plain (Read guest ty handle address count) h = tt
-plain (DropWrite guest ty handle) h = tt
-plain (DropRead guest ty handle) h = tt
-plain (Event guest handle) h = tt
-plain (Poke guest address bytes) h = tt
-plain (Dump guest address len) h = tt
+plain _ h = tt

@@ -2,7 +2,7 @@
 use Rattle.std.proofs.Common.{◌≡◌, ℕ, ◌≤◌, List, [], ◌∷◌, ◌++◌, length, take, refl, sym, subst, append_assoc, arith}
 use Rattle.std.specs.Prelude.{All}
 use Rattle.std.proofs.lemmas.List.{take_at, length-take}
-use Rattle.std.proofs.lemmas.List.Elements.{All-nil, All-cons, All-take}
+use Rattle.std.proofs.lemmas.List.Elements.{All-nil, All-cons}
 use Rattle.strm_machine.specs.State.{State}
 use Rattle.strm_machine.specs.Reactions.{react}
 use Rattle.strm_machine.specs.Plays.{play, Ends}
@@ -12,6 +12,7 @@ use Rattle.strm_machine.specs.Moments.{moment_of}
 use Rattle.strm_laws.specs.Conservation.{moments, last}
 use Rattle.strm_laws.specs.Laws.{HasBytes, AreSteps}
 use Rattle.strm_machine.specs.Untouched.{StaysAside}
+use Rattle.strm_laws.proofs.LawfulRuns.{AreSteps-take}
 use Rattle.strm_laws.proofs.Replies.{play-ends}
 use Rattle.strm_session.specs.Runs.{start, HasLaws, IsKept}
 
@@ -23,11 +24,8 @@ LawsHold = (steps : List Step) → AreSteps steps → HasLaws (moments start ste
 abbrev pub AsideHolds : Type 0
 AsideHolds = (steps : List Step) (step : Step) → AreSteps (steps ++ step ∷ []) → StaysAside (moment_of (last start steps) step)
 
-AreSteps-take : (n : ℕ) (steps : List Step) → AreSteps steps → AreSteps (take n steps)
-AreSteps-take n steps a = record { few = omega (arith, length-take n steps, a.few); bytes = All-take HasBytes n steps a.bytes }
-
-AreSteps-front : (xs ys : List Step) → AreSteps (xs ++ ys) → AreSteps xs
-AreSteps-front xs ys a = subst AreSteps (take_at xs ys (length xs) refl) (AreSteps-take (length xs) (xs ++ ys) a)
+AreSteps-before : (xs ys : List Step) → AreSteps (xs ++ ys) → AreSteps xs
+AreSteps-before xs ys a = subst AreSteps (take_at xs ys (length xs) refl) (AreSteps-take (xs ++ ys) (length xs) a)
 
 last-push : (state : State) (front : List Step) (step : Step) → last state (front ++ step ∷ []) ≡ (react (last state front) step).state
 last-push state [] step = refl
@@ -38,7 +36,7 @@ aside_from : AsideHolds → (front steps : List Step) → AreSteps (front ++ ste
 aside_from each front [] a = All-nil StaysAside
 aside_from each front (step ∷ more) a =
     let longer : AreSteps ((front ++ step ∷ []) ++ more) = subst AreSteps (sym (append_assoc front (step ∷ []) more)) a in
-    let here = each front step (AreSteps-front (front ++ step ∷ []) more longer) in
+    let here = each front step (AreSteps-before (front ++ step ∷ []) more longer) in
     let rest = aside_from each (front ++ step ∷ []) more longer in
     All-cons StaysAside (moment_of (last start front) step) (moments (react (last start front) step).state more) here
     (subst (λ state. All StaysAside (moments state more)) (last-push start front step) rest)
@@ -50,7 +48,7 @@ run_kept laws each steps replies state few bytes e =
     record {
       told = p.1;
       ends = p.0;
-      laws = λ n. laws (take n steps) (AreSteps-take n steps a);
+      laws = λ n. laws (take n steps) (AreSteps-take steps n a);
       aside = aside_from each [] steps a;
     }
 

@@ -13,9 +13,9 @@ use Rattle.strm_machine.specs.Reactions.{Reaction, goes, written_back, performs,
 use Rattle.strm_machine.specs.Plays.{Played, Ends, Halts, after_step, play}
 use Rattle.strm_machine.specs.declared.acts.Act.{Act}
 use Rattle.strm_machine.specs.declared.acts.Act.TheVariants.{Make, OnEnd, Event, OnMemory}
-use Rattle.strm_machine.specs.declared.acts.EndAct.TheVariants.{Operate, Drop}
-use Rattle.strm_machine.specs.declared.acts.Making.TheVariants.{Guest, Between}
-use Rattle.strm_machine.specs.declared.acts.MemoryAct.TheVariants.{Poke, Dump}
+use Rattle.strm_machine.specs.declared.acts.EndAct.TheVariants.{Operate}
+use Rattle.strm_machine.specs.declared.acts.Making.TheVariants.{Guest}
+use Rattle.strm_machine.specs.declared.acts.MemoryAct.TheVariants.{Poke}
 use Rattle.strm_machine.specs.declared.steps.Step.{Step}
 use Rattle.strm_machine.specs.declared.replies.Reply.{Reply}
 use Rattle.strm_machine.specs.declared.replies.Reply.TheVariants as replies
@@ -62,12 +62,12 @@ performs-runs state (OnEnd side end (Operate address count)) h =
     let s = stream_named (named state end) in
     let t = turn side state.guests (stream_at state s) (begun end.guest address (items_asked end.ty count)) in
     written-runs state s t t.code h
-performs-runs state (OnEnd side end Drop) h = record { trapped = λ e. cc; goes_on = λ e. h }
+performs-runs state (OnEnd side end _) h = record { trapped = λ e. cc; goes_on = λ e. h }
 performs-runs state (Make (Guest size)) h = record { trapped = λ e. cc; goes_on = λ e. h }
-performs-runs state (Make (Between writer reader ty)) h = record { trapped = λ e. cc; goes_on = λ e. h }
+performs-runs state (Make _) h = record { trapped = λ e. cc; goes_on = λ e. h }
 performs-runs state (Event g handle) h = record { trapped = λ e. cc; goes_on = λ e. h }
 performs-runs state (OnMemory g (Poke address bytes)) h = record { trapped = λ e. cc; goes_on = λ e. h }
-performs-runs state (OnMemory g (Dump address len)) h = record { trapped = λ e. cc; goes_on = λ e. h }
+performs-runs state (OnMemory g _) h = record { trapped = λ e. cc; goes_on = λ e. h }
 
 pub reaction-runs : (state : State) (act : Act) → state.trapped ≡ false → RunsOn (reaction state act)
 reaction-runs state act h =
