@@ -1,8 +1,13 @@
 -- Items carried from one guest's memory to another's, by the memories taken out, filled and put back.
 use Rattle.std.proofs.Common.{◌≡◌, ◌≢◌, ℕ, List, [], Option, Some, None, Result, Ok, Err, refl, sym, ap, ◌∙◌, IsNone, IsErr, OnOk, OnErr}
 use Rattle.std.specs.Prelude.{IsSomeAnd, ◌↔◌}
-use Rattle.strm_machine.specs.Words.{Payload, scalars_of, items_at, stored_at, Guest, memory_in, with_memory, carried, Operation}
+use Rattle.strm_codes.specs.declared.payloads.Payload.{Payload}
+use Rattle.strm_codes.specs.Layout.{scalars_of}
+use Rattle.strm_memory.specs.Items.{items_at, stored_at}
 use Rattle.strm_memory.specs.declared.copies.BadItem.{BadItem}
+use Rattle.strm_machine.specs.State.{Guest, memory_in, with_memory}
+use Rattle.strm_machine.specs.Meetings.{carried}
+use Rattle.strm_machine.specs.declared.streams.Operation.{Operation}
 use Rattle.strm_machine.proofs.StateLemmas.{with_memory-same, with_memory-twice, memory_in-with_memory_other}
 use Rattle.strm_machine.proofs.CarryLemmas.{carried_some, carried_none}
 

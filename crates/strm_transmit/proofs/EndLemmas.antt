@@ -3,16 +3,20 @@ use Rattle.std.proofs.Common.{◌≡◌, ℕ, zero, suc, ◌+◌, ◌<◌, ◌�
 use Rattle.std.specs.Prelude.{IsOk}
 use Rattle.std.proofs.lemmas.List.{get_or-map, get_or-set_same, map-set, set-get_or, length-map}
 use Rattle.std.proofs.lemmas.List.Sums.{sum_by-set}
-use Rattle.strm_machine.specs.Words.{TransmitIndex, Payload, Handles, removed, no_guest, guest_in, with_handles, Side, Writing, Reading}
+use Rattle.strm_codes.specs.declared.codes.TransmitIndex.{TransmitIndex}
 use Rattle.strm_codes.specs.declared.codes.TransmitIndex.TheVariants as index
-use Rattle.strm_handles.specs.Handles.{Table, lends_of, live_of}
+use Rattle.strm_codes.specs.declared.payloads.Payload.{Payload}
+use Rattle.strm_handles.specs.Handles.{Handles, Table, lends_of, live_of, removed}
 use Rattle.strm_handles.specs.Ends.{without_value}
 use Rattle.strm_handles.specs.Lookups.{◌>>=◌, stream_of, future_of}
 use Rattle.strm_handles.specs.declared.entries.TransmitEnd.{TransmitEnd}
 use Rattle.strm_handles.specs.declared.errors.HandleError.{HandleError}
 use Rattle.strm_handles.proofs.LookupLemmas.{live_of-removed-stream, live_of-removed-future}
 use Rattle.strm_machine.specs.State as machine
+use Rattle.strm_machine.specs.State.{no_guest, guest_in, with_handles}
 use Rattle.strm_machine.specs.Making.{end_entry}
+use Rattle.strm_machine.specs.declared.streams.Side.{Side}
+use Rattle.strm_machine.specs.declared.streams.Side.TheVariants.{Writing, Reading}
 use Rattle.strm_transmit.specs.Guests.{guest_of, seen, room_in, live_in, removable}
 use Rattle.strm_transmit.specs.declared.guests.Guest.{Guest}
 use Rattle.strm_transmit.proofs.GuestLemmas.{guest_in-seen}

@@ -2,9 +2,10 @@
 use Rattle.std.proofs.Common.{◌≡◌, ℕ, ◌+◌, ◌-◌, ◌<◌, ◌≤◌, Bool, true, false, cond, List, length, get_or, set, Result, Ok, Err, None, refl, sym, ap, ◌∙◌, subst, arith}
 use Rattle.std.specs.Prelude.{◌&&◌, not, IsOk, IfOk}
 use mir.Val.{bool_byte}
-use Rattle.strm_machine.specs.Words.{TransmitIndex, Handles, removed, State, no_stream, guest_in, with_handles, stream_at, Turn, Name, named, stream_named, NamedEnd, OnEnd, sizes_of, IsSound, same_side, Side, Writing, Reading, Stream}
+use Rattle.strm_codes.specs.declared.codes.TransmitIndex.{TransmitIndex}
 use Rattle.strm_codes.specs.declared.codes.TransmitIndex.TheVariants as index
 use Rattle.strm_handles.specs.Counters.{Counter, uncounted}
+use Rattle.strm_handles.specs.Handles.{Handles, removed}
 use Rattle.strm_handles.specs.Ends.{without_value, readable, writable}
 use Rattle.strm_handles.specs.Lookups.{◌>>=◌, stream_of, future_of}
 use Rattle.strm_handles.specs.declared.entries.TransmitEnd.{TransmitEnd}
@@ -12,12 +13,19 @@ use Rattle.strm_handles.specs.declared.entries.TransmitLocalState.{TransmitLocal
 use Rattle.strm_handles.specs.declared.entries.TransmitLocalState.TheVariants as states
 use Rattle.strm_handles.specs.declared.errors.HandleError.{HandleError}
 use Rattle.strm_machine.specs.State as machine
-use Rattle.strm_machine.specs.State.{is_gone, is_live}
+use Rattle.strm_machine.specs.State.{State, no_stream, guest_in, with_handles, stream_at, is_gone, is_live}
+use Rattle.strm_machine.specs.Turns.{Turn}
 use Rattle.strm_machine.specs.Endings.{delivered, dropped}
-use Rattle.strm_machine.specs.Tests.{named_by, side_named, side_of}
+use Rattle.strm_machine.specs.Tests.{Name, named, named_by, stream_named, side_named, side_of}
 use Rattle.strm_machine.specs.Refusals.{refusal}
+use Rattle.strm_machine.specs.declared.acts.NamedEnd.{NamedEnd}
 use Rattle.strm_machine.specs.declared.acts.EndAct.TheVariants.{Drop}
-use Rattle.strm_machine.specs.Soundness.{is_idle_state}
+use Rattle.strm_machine.specs.declared.acts.Act.TheVariants.{OnEnd}
+use Rattle.strm_machine.specs.Soundness.{sizes_of, is_idle_state, IsSound}
+use Rattle.strm_machine.specs.Sides.{same_side}
+use Rattle.strm_machine.specs.declared.streams.Side.{Side}
+use Rattle.strm_machine.specs.declared.streams.Side.TheVariants.{Writing, Reading}
+use Rattle.strm_machine.specs.declared.streams.Stream.{Stream}
 use Rattle.strm_machine.proofs.NameLemmas.{named_there, named_idle}
 use Rattle.strm_machine.proofs.ReactionLemmas.{refusal-drop}
 use Rattle.strm_machine.proofs.RefusalLemmas.{named_ok, drop_fits}

@@ -1,10 +1,12 @@
 -- The walk of every call: a trapped store answers nothing else, what may not be done is refused, and
 -- what may be done is what the machine performs. A call gives its test and its doing.
 use Rattle.std.proofs.Common.{◌≡◌, ap, Bool, true, false, cond, Option, Some, None, Result, Ok, Err, refl, sym, subst, ◌∙◌}
-use Rattle.strm_machine.specs.Words.{State, Reaction, Act, Reply}
 use Rattle.strm_codes.specs.declared.refusals.Refusal.{Refusal}
+use Rattle.strm_machine.specs.State.{State}
 use Rattle.strm_machine.specs.Refusals.{refusal}
-use Rattle.strm_machine.specs.Reactions.{performs, reaction}
+use Rattle.strm_machine.specs.Reactions.{Reaction, performs, reaction}
+use Rattle.strm_machine.specs.declared.acts.Act.{Act}
+use Rattle.strm_machine.specs.declared.replies.Reply.{Reply}
 use Rattle.strm_machine.proofs.ReactionLemmas.{reaction-trapped, reaction-refused, reaction-performs}
 use Rattle.strm_transmit.specs.Meets.{Meets, as_answer, admitted, or_found}
 use Rattle.strm_transmit.specs.declared.errors.StoreError.{StoreError}

@@ -3,21 +3,26 @@ use Rattle.std.proofs.Common.{◌≡◌, ℕ, cond, get_or, set, ◌+◌, ◌<�
 use Rattle.std.specs.Prelude.{sum, count_by}
 use Rattle.std.proofs.lemmas.List.{map-append, length-map, length-replicate, length-set, get_or_default}
 use Rattle.std.proofs.lemmas.List.Sums.{sum_by-append, sum_by-set, sum-map}
-use Rattle.strm_machine.specs.Words.{Turn, Stream, Handles, no_handles, put_at, State, guest_in, no_stream, stream_at, memory_in, with_memory, IsSound, sizes_of, goes, Poke, Make, OnMemory, TransmitIndex}
+use Rattle.strm_machine.specs.Turns.{Turn}
+use Rattle.strm_machine.specs.declared.streams.Stream.{Stream}
 use Rattle.strm_handles.specs.Counters.{Counter, counted}
-use Rattle.strm_handles.specs.Handles.{live_of, next_index}
+use Rattle.strm_handles.specs.Handles.{Handles, no_handles, live_of, next_index}
 use Rattle.strm_handles.proofs.HandleLemmas.{live_of-no_handles}
 use Rattle.strm_machine.specs.State as machine
-use Rattle.strm_machine.specs.State.{is_live, handles_in_use, bytes_in_use}
-use Rattle.strm_machine.specs.Soundness.{handles_of}
+use Rattle.strm_memory.specs.Bytes.{put_at}
+use Rattle.strm_machine.specs.State.{State, guest_in, no_stream, stream_at, memory_in, with_memory, is_live, handles_in_use, bytes_in_use}
+use Rattle.strm_machine.specs.Soundness.{IsSound, sizes_of, handles_of}
 use Rattle.strm_machine.specs.Refusals.{refusal}
-use Rattle.strm_machine.specs.Reactions.{performs}
+use Rattle.strm_machine.specs.Reactions.{goes, performs}
 use Rattle.strm_machine.specs.declared.acts.Making.TheVariants.{Guest, Between}
+use Rattle.strm_machine.specs.declared.acts.MemoryAct.TheVariants.{Poke}
+use Rattle.strm_machine.specs.declared.acts.Act.TheVariants.{Make, OnMemory}
 use Rattle.strm_machine.specs.declared.replies.Reply.TheVariants as replies
 use Rattle.strm_machine.proofs.RefusalLemmas.{guest_fits, poke_fits, pair_fits}
 use Rattle.strm_machine.proofs.SoundLemmas.{IsSound-guest, IsSound-guests, IsSound-turn, IsSound-with_stream, sizes_of-with_handles}
 use Rattle.strm_machine.proofs.BoundLemmas.{length-poked}
 use Rattle.strm_machine.proofs.TurnLemmas.{GuestsKeep, TurnKeeps, with_memory-keeps}
+use Rattle.strm_codes.specs.declared.codes.TransmitIndex.{TransmitIndex}
 use Rattle.strm_machine.specs.Making.{with_read_end, with_ends, made_stream, made_pair, with_stream}
 use Rattle.strm_machine.specs.declared.replies.Pair.{Pair}
 use Rattle.strm_transmit.specs.Guests.{guest_of, seen, live_in}
