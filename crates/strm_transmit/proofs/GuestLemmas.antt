@@ -1,5 +1,6 @@
 -- The store's guests as the machine's: one of them read, or changed.
-use Rattle.std.proofs.Common.{◌≡◌, ℕ, ◌<◌, List, length, get_or, set, sym, ap, ◌∙◌}
+use Rattle.std.proofs.Common.{◌≡◌, ℕ, ◌<◌, false, List, length, get_or, set, Result, Ok, Err, sym, ap, ◌∙◌}
+use Rattle.std.specs.Prelude.{is_err, OnOk}
 use Rattle.std.proofs.lemmas.List.{get_or-map, map-set}
 use Rattle.strm_handles.specs.Handles.{Table}
 use Rattle.strm_machine.specs.State as machine
@@ -23,3 +24,8 @@ seen-with_handles guests g x table l e =
 
 pub memory_in-seen : (guests : List Guest) (g : ℕ) (x : Guest) → g < length guests → x ≡ get_or guests g x → memory_in (seen guests) g ≡ x.memory
 memory_in-seen guests g x l e = ap (λ (k : machine.Guest). k.memory) (guest_in-seen guests g x l e)
+
+-- what holds of a call that answered, where it did
+pub was_ok : {T E : Type 0} (r : Result T E) (P : Type 0) → is_err r ≡ false → OnOk r P → P
+was_ok (Ok v) P e p = p
+was_ok (Err v) P e p = cc

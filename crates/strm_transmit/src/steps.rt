@@ -28,6 +28,7 @@ pub fn apply(store: &mut Store, step: &Step) -> Result<Reply, StoreError>
 }
 
 // A refusal is a reply.
+#[inline(always)]
 fn reply(answer: Result<Reply, StoreError>) -> Result<Reply, StoreError>
     ensures { result ≡ refused_too answer }
 {
@@ -45,6 +46,7 @@ fn done(_nothing: ()) -> Reply
 }
 
 // The one call that an act names.
+#[inline(always)]
 fn perform(store: &mut Store, act: Act) -> Result<Reply, StoreError>
     ensures meets { Meets store.old store.new result (reaction store.old act) }
     ensures settled { IfOk result (λ reply. IsTrue (is_settled reply)) }
@@ -72,6 +74,7 @@ fn make(store: &mut Store, making: Making) -> Result<Reply, StoreError>
 }
 
 // What is done to the end that is named.
+#[inline(always)]
 fn on_end(store: &mut Store, side: Side, end: &NamedEnd, act: EndAct) -> Result<Reply, StoreError>
     ensures meets { Meets store.old store.new result
         (reaction store.old (acts.OnEnd side end.now act)) }
@@ -87,6 +90,7 @@ fn on_end(store: &mut Store, side: Side, end: &NamedEnd, act: EndAct) -> Result<
 }
 
 // What is done to a guest's memory.
+#[inline(always)]
 fn on_memory(store: &mut Store, guest: u32, act: MemoryAct) -> Result<Reply, StoreError>
     ensures meets { Meets store.old store.new result
         (reaction store.old (acts.OnMemory guest act)) }

@@ -34,7 +34,7 @@ use strm_codes::refusals::Refusal;
 use strm_handles::entries::TransmitLocalState;
 use strm_handles::errors::HandleError;
 use strm_machine::acts::NamedEnd;
-use strm_machine::streams::{Operation, Owner, Side, Stream};
+use strm_machine::streams::{Operation, Side, Stream};
 use strm_memory::memories::RegionError;
 
 // The items that a call asks for: a future's is one.

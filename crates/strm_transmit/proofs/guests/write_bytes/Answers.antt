@@ -1,14 +1,9 @@
-use Rattle.std.proofs.Common.{◌≡◌, ◌∙◌, Result, Ok, Err, false, sym, ap}
-use Rattle.std.specs.Prelude.{is_err, OnOk}
+use Rattle.std.proofs.Common.{◌∙◌, sym, ap}
 use Rattle.strm_memory.specs.Bytes.{put_at}
 use Rattle.strm_machine.specs.State.{with_memory}
 use Rattle.strm_transmit.specs.Guests.{seen}
-use Rattle.strm_transmit.proofs.GuestLemmas.{seen-with_memory, memory_in-seen}
+use Rattle.strm_transmit.proofs.GuestLemmas.{seen-with_memory, memory_in-seen, was_ok}
 use Rattle.strm_transmit.proofs.guests.write_bytes.Goals as goal
-
-was_ok : {T E : Type 0} (r : Result T E) (P : Type 0) → is_err r ≡ false → OnOk r P → P
-was_ok (Ok v) P e p = p
-was_ok (Err v) P e p = cc
 
 pub returns-clause-guests : goal.returns-clause-guests
 returns-clause-guests c =
