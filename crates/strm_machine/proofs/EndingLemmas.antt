@@ -1,18 +1,19 @@
 -- What an event and a drop make of the end that they name: facts of one stream and its new end, from
 -- which all laws of such a step follow.
-use Rattle.std.proofs.Common.{◌≡◌, Bool, true, false, Option, Some, None, refl, sym, subst, inl}
+use Rattle.std.proofs.Common.{◌≡◌, Bool, true, false, cond, Option, Some, None, refl, sym, subst, inl, inr}
 use Rattle.std.specs.Prelude.{◌&&◌, not, is_some, if◌then◌else◌, IsSomeAnd}
 use Rattle.std.specs.Option.{option_map}
 use Rattle.std.proofs.lemmas.Bool.{cond_both}
 use Rattle.strm_machine.specs.Words.{ReturnCode, TransmitKind, AStream, Future, end_of, report_on, told_end, as_report, count_reported, k_of, Gone, Side, Operation, End, Stream}
+use Rattle.strm_codes.specs.declared.codes.ReturnCode.TheVariants as codes
 use Rattle.strm_codes.specs.declared.codes.StreamResult.{StreamResult}
 use Rattle.strm_codes.specs.declared.codes.StreamResult.TheVariants.{Completed, Dropped, Cancelled}
 use Rattle.strm_events.specs.Reports.{outcome_code, report_of, left_pending}
-use Rattle.strm_machine.specs.Endings.{pending_of, is_other_gone}
+use Rattle.strm_machine.specs.Endings.{pending_of, is_other_gone, cancel_answer, code_of_cancel}
 use Rattle.strm_machine.specs.Tests.{is_busy}
 use Rattle.strm_machine.proofs.EndLemmas.{IsLeft}
 use Rattle.strm_machine.proofs.SoundLemmas.{left_told}
-use Rattle.strm_machine.proofs.TallyLemmas.{AreOne, Tallies, one_on, count_reported-dropped}
+use Rattle.strm_machine.proofs.TallyLemmas.{AreOne, IsUnmoved, unmoved_on, Tallies, one_on, count_reported-dropped}
 
 -- ## What is known of an end that becomes another
 
@@ -73,5 +74,40 @@ pub gone-becomes : (side : Side) (stream : Stream) → is_busy side stream ≡ f
 gone-becomes side stream e = record {
   left = inl refl;
   told = λ tallies. idle_told stream.kind (end_of side stream).operation e;
+  owner = refl;
+}
+
+-- ## An operation is cancelled
+
+-- the same count as that of the report, and none of what has not met
+cancelled_told : (kind : TransmitKind) (o : Operation) (code : Option ReturnCode) → (code ≡ None → o.moved ≡ 0) → Tells kind (Some o) code → IsTold kind (as_report (Some (cancel_answer kind code))) (Some o) None
+cancelled_told AStream o None unmoved t = sym (unmoved refl)
+cancelled_told Future o None unmoved t = sym (unmoved refl)
+cancelled_told AStream o (Some (codes.Completed n)) unmoved t = t
+cancelled_told AStream o (Some (codes.Dropped n)) unmoved t = t
+cancelled_told AStream o (Some (codes.Cancelled n)) unmoved t = t
+cancelled_told AStream o (Some codes.Blocked) unmoved t = t
+cancelled_told Future o (Some code) unmoved t = t
+
+unmet : (b : Bool) {A : Type 0} (x : A) (behind : Option A) → cond b (Some x) behind ≡ None → b ≡ false
+unmet true x behind e = cc
+unmet false x behind e = refl
+
+-- an operation without a report has not met
+unreported : (kind : TransmitKind) (o : Operation) (gone told passed : Bool) → IsUnmoved (Some o) → report_of kind (Some (pending_of o)) gone told passed ≡ None → o.moved ≡ 0
+unreported AStream o true told passed h e = cc
+unreported AStream o false told passed h e = h (unmet o.met _ _ e)
+unreported Future o gone told passed h e = h (unmet o.met _ _ e)
+
+cancel_told : (stream : Stream) (o : Option Operation) (gone told : Bool) → is_some o ≡ true → IsUnmoved o → (stream.kind ≡ Future → AreOne o) → IsTold stream.kind (as_report (Some (cancel_answer stream.kind (report_of stream.kind (option_map pending_of o) gone told stream.passed)))) o None
+cancel_told stream None gone told e h one = cc
+cancel_told stream (Some o) gone told e h one =
+    let code = report_of stream.kind (option_map pending_of (Some o)) gone told stream.passed in
+    cancelled_told stream.kind o code (unreported stream.kind o gone told stream.passed h) (report_told stream.kind (Some o) gone told stream.passed one)
+
+pub cancelled-becomes : (side : Side) (stream : Stream) → is_busy side stream ≡ true → Becomes side stream (told_end (Some (code_of_cancel side stream)) (end_of side stream)) (Some (code_of_cancel side stream)) false
+cancelled-becomes side stream e = record {
+  left = inr refl;
+  told = λ tallies. cancel_told stream (end_of side stream).operation (is_other_gone side stream) (end_of side stream).told e (unmoved_on side stream tallies) (λ k. one_on side stream (tallies.one k));
   owner = refl;
 }

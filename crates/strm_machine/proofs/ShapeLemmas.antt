@@ -1,25 +1,28 @@
 -- Every step has a shape: the one place of the proofs that looks at all acts.
 use Rattle.std.proofs.Common.{◌≡◌, ℕ, true, false, None, refl}
 use Rattle.std.specs.Prelude.{◌++◌}
+use Rattle.strm_codes.specs.declared.refusals.Refusal.TheVariants as refusals
+use Rattle.std.proofs.lemmas.Bool.{not-false}
+use Rattle.std.specs.Prelude.{not, [], ◌∷◌, Some}
 use Rattle.strm_machine.specs.Words.{State, stream_at, end_of, report_on, told_end, named, end_named, stream_named, first_of, IsSound, NamedEnd, Operate, Poke, Act, Make, OnEnd, OnMemory, Gone, Side}
-use Rattle.strm_machine.specs.Endings.{delivered, dropped}
-use Rattle.strm_machine.specs.Tests.{side_named}
-use Rattle.strm_machine.specs.Refusals.{region_reasons, handle_reasons, end_reasons, operation_reasons, dropping_reasons, refusal}
-use Rattle.strm_machine.specs.Reactions.{tells, drops, on_end, makes, on_memory, performs, reaction}
+use Rattle.strm_machine.specs.Endings.{delivered, dropped, code_of_cancel, cancelled}
+use Rattle.strm_machine.specs.Tests.{side_named, is_busy}
+use Rattle.strm_machine.specs.Refusals.{where_, cancelling_reasons, region_reasons, handle_reasons, end_reasons, operation_reasons, dropping_reasons, refusal}
+use Rattle.strm_machine.specs.Reactions.{tells, drops, cancels, on_end, makes, on_memory, performs, reaction}
 use Rattle.strm_machine.specs.declared.acts.Making.{Making}
 use Rattle.strm_machine.specs.declared.acts.Making.TheVariants.{Guest, Between}
 use Rattle.strm_machine.specs.declared.acts.EndAct.{EndAct}
-use Rattle.strm_machine.specs.declared.acts.EndAct.TheVariants.{Drop}
+use Rattle.strm_machine.specs.declared.acts.EndAct.TheVariants.{Drop, Cancel}
 use Rattle.strm_machine.specs.declared.acts.MemoryAct.{MemoryAct}
 use Rattle.strm_machine.specs.declared.acts.MemoryAct.TheVariants.{Dump}
 use Rattle.strm_machine.specs.declared.acts.Act.TheVariants.{Event}
 use Rattle.strm_machine.specs.declared.replies.Reply.TheVariants as replies
 use Rattle.strm_machine.proofs.ReactionLemmas.{reaction-by}
-use Rattle.strm_machine.proofs.RefusalLemmas.{none_of_both, NamedFits, named_ok, region_fits, placed_begun, event_fits, drop_fits, pair_fits, guest_fits, poke_fits}
+use Rattle.strm_machine.proofs.RefusalLemmas.{named_fits, not_refused, named_fits, not_refused, none_of_both, NamedFits, named_ok, region_fits, placed_begun, event_fits, drop_fits, pair_fits, guest_fits, poke_fits}
 use Rattle.strm_machine.proofs.NamedEndLemmas.{IsFound, end_fits, found_payload, found_kind, on_end-found, event-found}
 use Rattle.strm_machine.proofs.SideLemmas.{same_side_is}
 use Rattle.strm_machine.proofs.SoundLemmas.{placed_at}
-use Rattle.strm_machine.proofs.EndingLemmas.{told-becomes, gone-becomes}
+use Rattle.strm_machine.proofs.EndingLemmas.{told-becomes, gone-becomes, cancelled-becomes}
 use Rattle.strm_machine.proofs.Shapes.{stream_on, Operates, Shape, ByTurn, BySetting, ByPair, ByGuest, ByPoke, ByRest}
 
 -- ## What is done to the end that is named
@@ -56,10 +59,22 @@ drop-shape state side end h e =
     BySetting replies.Done (record { guest = end.guest; handle = end.handle; stream = s; side = side; end = record (end_of side stream) { owner = Gone }; frees = true }) refl
     (record { found = named-found state side end Drop h (record { there = fits.there; found = fits.found; same = fits.same }); becomes = gone-becomes side stream fits.idle; untaken = λ report. refl })
 
+cancel-shape : (state : State) (side : Side) (end : NamedEnd) → IsSound state → first_of (cancelling_reasons state side end) ≡ None → Shape state (OnEnd side end Cancel) (cancels state (stream_named (named state end)) side)
+unfolding cancelled
+cancel-shape state side end h e =
+    let s = stream_named (named state end) in
+    let stream = stream_at state s in
+    let code = code_of_cancel side stream in
+    let fits = named_fits state side end (where_ (not (is_busy side stream)) refusals.NoPending ∷ []) e in
+    let busy = not_refused (not (is_busy side stream)) _ _ fits.1 in
+    BySetting (replies.Code code) (record { guest = end.guest; handle = end.handle; stream = s; side = side; end = told_end (Some code) (end_of side stream); frees = false }) refl
+    (record { found = named-found state side end Cancel h fits.0; becomes = cancelled-becomes side stream (not-false (is_busy side stream) busy.0); untaken = λ report. refl })
+
 on_end-shape : (state : State) (side : Side) (end : NamedEnd) (act : EndAct) → IsSound state → refusal state (OnEnd side end act) ≡ None → Shape state (OnEnd side end act) (on_end state side end act)
 unfolding refusal
 on_end-shape state side end (Operate address count) h e = ByTurn side end address count refl refl (operate-fits state side end address count h e)
 on_end-shape state side end Drop h e = drop-shape state side end h e
+on_end-shape state side end Cancel h e = cancel-shape state side end h e
 
 -- ## What else is done
 

@@ -3,7 +3,7 @@ use Rattle.std.specs.Prelude.{ℕ}
 use Rattle.strm_codes.specs.declared.codes.TransmitIndex.{TransmitIndex}
 use Rattle.strm_machine.specs.declared.acts.NamedEnd.{NamedEnd}
 use Rattle.strm_machine.specs.declared.acts.Making.TheVariants.{Guest, Between}
-use Rattle.strm_machine.specs.declared.acts.EndAct.TheVariants.{Operate, Drop}
+use Rattle.strm_machine.specs.declared.acts.EndAct.TheVariants.{Operate, Drop, Cancel}
 use Rattle.strm_machine.specs.declared.acts.MemoryAct.TheVariants.{Poke, Dump}
 use Rattle.strm_machine.specs.declared.acts.Act.{Act}
 use Rattle.strm_machine.specs.declared.acts.Act.TheVariants.{Make, OnEnd, Event, OnMemory}
@@ -25,6 +25,8 @@ act_of (steps.Read guest ty handle address count) =
     OnEnd Reading (end_named_by guest ty handle) (Operate address count)
 act_of (steps.DropWrite guest ty handle) = OnEnd Writing (end_named_by guest ty handle) Drop
 act_of (steps.DropRead guest ty handle) = OnEnd Reading (end_named_by guest ty handle) Drop
+act_of (steps.CancelWrite guest ty handle) = OnEnd Writing (end_named_by guest ty handle) Cancel
+act_of (steps.CancelRead guest ty handle) = OnEnd Reading (end_named_by guest ty handle) Cancel
 act_of (steps.Event guest handle) = Event guest handle
 act_of (steps.Poke guest address bytes) = OnMemory guest (Poke address bytes)
 act_of (steps.Dump guest address len) = OnMemory guest (Dump address len)

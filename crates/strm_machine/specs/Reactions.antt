@@ -7,7 +7,7 @@ use Rattle.strm_memory.specs.Bytes.{put_at}
 use Rattle.strm_machine.specs.State.{State, guest_in, memory_in, with_memory, with_handles, stream_at}
 use Rattle.strm_machine.specs.Meetings.{begun}
 use Rattle.strm_machine.specs.Turns.{Turn, turn}
-use Rattle.strm_machine.specs.Endings.{report_on, delivered, dropped}
+use Rattle.strm_machine.specs.Endings.{report_on, delivered, dropped, code_of_cancel, cancelled}
 use Rattle.strm_machine.specs.Tests.{named, end_named, stream_named, side_named, items_asked}
 use Rattle.strm_machine.specs.Refusals.{refusal}
 use Rattle.strm_machine.specs.Making.{made_pair, with_stream}
@@ -19,7 +19,7 @@ use Rattle.strm_machine.specs.declared.acts.NamedEnd.{NamedEnd}
 use Rattle.strm_machine.specs.declared.acts.Making.{Making}
 use Rattle.strm_machine.specs.declared.acts.Making.TheVariants.{Guest, Between}
 use Rattle.strm_machine.specs.declared.acts.EndAct.{EndAct}
-use Rattle.strm_machine.specs.declared.acts.EndAct.TheVariants.{Operate, Drop}
+use Rattle.strm_machine.specs.declared.acts.EndAct.TheVariants.{Operate, Drop, Cancel}
 use Rattle.strm_machine.specs.declared.acts.MemoryAct.{MemoryAct}
 use Rattle.strm_machine.specs.declared.acts.MemoryAct.TheVariants.{Poke, Dump}
 use Rattle.strm_machine.specs.declared.acts.Act.{Act}
@@ -79,10 +79,17 @@ drops state s side end =
     goes replies.Done
     (with_stream_at (without_handle state end.guest end.handle) s (dropped side (stream_at state s)))
 
+-- the operation of the end of stream s is cancelled
+abbrev pub cancels : State → ℕ → Side → Reaction
+cancels state s side =
+    let stream = stream_at state s in
+    goes (replies.Code (code_of_cancel side stream)) (with_stream_at state s (cancelled side stream))
+
 -- what is done to the end that is named
 abbrev pub on_end : State → Side → NamedEnd → EndAct → Reaction
 on_end state side end (Operate address count) = operates state side end address count
 on_end state side end Drop = drops state (stream_named (named state end)) side end
+on_end state side end Cancel = cancels state (stream_named (named state end)) side
 
 -- what is made
 abbrev pub makes : State → Making → Reaction

@@ -18,7 +18,7 @@ use Rattle.strm_machine.specs.declared.acts.NamedEnd.{NamedEnd}
 use Rattle.strm_machine.specs.declared.acts.Making.{Making}
 use Rattle.strm_machine.specs.declared.acts.Making.TheVariants.{Guest, Between}
 use Rattle.strm_machine.specs.declared.acts.EndAct.{EndAct}
-use Rattle.strm_machine.specs.declared.acts.EndAct.TheVariants.{Operate, Drop}
+use Rattle.strm_machine.specs.declared.acts.EndAct.TheVariants.{Operate, Drop, Cancel}
 use Rattle.strm_machine.specs.declared.acts.MemoryAct.{MemoryAct}
 use Rattle.strm_machine.specs.declared.acts.MemoryAct.TheVariants.{Poke, Dump}
 use Rattle.strm_machine.specs.declared.acts.Act.{Act}
@@ -108,10 +108,18 @@ abbrev pub dropping_reasons : State → Side → NamedEnd → List Reason
 dropping_reasons state side end =
     named_reasons state end (drop_reasons state side end.ty (named state end))
 
+-- a cancel of the end that is named
+abbrev pub cancelling_reasons : State → Side → NamedEnd → List Reason
+cancelling_reasons state side end =
+    named_reasons state end
+    (side_reasons side (side_named (named state end))
+    (where_ (not (is_busy side (stream_at state (stream_named (named state end))))) refusals.NoPending ∷ []))
+
 -- whatever is done to the end that is named
 abbrev pub on_end_reasons : State → Side → NamedEnd → EndAct → List Reason
 on_end_reasons state side end (Operate address count) = operation_reasons state side end address count
 on_end_reasons state side end Drop = dropping_reasons state side end
+on_end_reasons state side end Cancel = cancelling_reasons state side end
 
 -- the end that an event is asked of
 abbrev pub event_reasons : Name → List Reason

@@ -41,6 +41,8 @@ pub enum EndAct {
     Operate { address: u32, count: u32 },
     /// It is dropped.
     Drop,
+    /// Its read or write is cancelled.
+    Cancel,
 }
 
 /// What is done to the bytes of a guest's memory, from `address` on.
@@ -121,6 +123,16 @@ impl Act {
                 side: Side::Reading,
                 end: NamedEnd { guest, ty, handle },
                 act: EndAct::Drop,
+            },
+            Step::CancelWrite { guest, ty, handle } => Act::OnEnd {
+                side: Side::Writing,
+                end: NamedEnd { guest, ty, handle },
+                act: EndAct::Cancel,
+            },
+            Step::CancelRead { guest, ty, handle } => Act::OnEnd {
+                side: Side::Reading,
+                end: NamedEnd { guest, ty, handle },
+                act: EndAct::Cancel,
             },
             Step::Event { guest, handle } => Act::Event { guest, handle },
             Step::Poke {

@@ -47,6 +47,18 @@ pub enum Step {
         ty: TransmitIndex,
         handle: u32,
     },
+    /// `canon stream.cancel-write` or `canon future.cancel-write`.
+    CancelWrite {
+        guest: u32,
+        ty: TransmitIndex,
+        handle: u32,
+    },
+    /// `canon stream.cancel-read` or `canon future.cancel-read`.
+    CancelRead {
+        guest: u32,
+        ty: TransmitIndex,
+        handle: u32,
+    },
     /// What an end is to be told, whatever its type: an event of `canon waitable-set.poll`.
     Event {
         guest: u32,
