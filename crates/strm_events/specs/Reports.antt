@@ -1,6 +1,6 @@
--- What an end of a stream or future is told, and what telling it leaves.
--- Canonical ABI, `Waitable` with its pending event, and the events of `canon stream.{read,write}` and
--- `canon future.{read,write}`; wasmtime, `futures_and_streams.rs`, the events of a waitable. Ours: a
+-- What an end of a stream or future is told, what telling it leaves, and what a cancel answers.
+-- Canonical ABI, `Waitable` with its pending event, the events of `canon stream.{read,write}` and
+-- `canon future.{read,write}`, and `canon stream.cancel-{read,write}`; wasmtime, `futures_and_streams.rs`, the events of a waitable. Ours: a
 -- report is computed when it is asked for.
 use Rattle.std.specs.Prelude.{ℕ, Bool, true, false, ◌&&◌, ◌||◌, not, if◌then◌else◌, Option, Some, None}
 use Rattle.strm_codes.specs.Codes.{completed_code}
@@ -56,3 +56,13 @@ left_pending (Some code) pending = None
 abbrev pub told_after : Option ReturnCode → Bool → Bool
 told_after None told = told
 told_after (Some code) told = told || is_dropped code
+
+-- what a cancel answers of a report: a stream's Completed as Cancelled, any other as it is
+abbrev pub cancelled_code : TransmitKind → ReturnCode → ReturnCode
+cancelled_code Stream (codes.Completed n) = codes.Cancelled n
+cancelled_code _ code = code
+
+-- what a cancel answers: of a report this, and where there is none yet, that nothing was moved
+abbrev pub cancel_answer : TransmitKind → Option ReturnCode → ReturnCode
+cancel_answer kind None = codes.Cancelled 0
+cancel_answer kind (Some code) = cancelled_code kind code

@@ -1,11 +1,12 @@
-//! The report of an end, and its delivery.
+//! The report of an end, its delivery, and what a cancel makes of it.
 //!
-//! Meaning: `Reports.antt`. Source: Canonical ABI, the pending event of a waitable; wasmtime,
-//! `futures_and_streams.rs`, `TransmitState` and the events of `guest_read` and `guest_write`.
+//! Meaning: `Reports.antt`. Source: Canonical ABI, the pending event of a waitable, and
+//! `canon stream.cancel-{read,write}`; wasmtime, `futures_and_streams.rs`, `TransmitState`, the
+//! events of `guest_read` and `guest_write`, and `guest_cancel_read` and `guest_cancel_write`.
 
 ghost use Rattle.std.specs.Prelude.{◌≡◌};
 ghost use Rattle.std.specs.Option.{option_map};
-ghost use Rattle.strm_events.specs.Reports.{outcome_code, report_of, left_pending, told_after};
+ghost use Rattle.strm_events.specs.Reports.{outcome_code, report_of, left_pending, told_after, cancelled_code};
 
 use strm_codes::codes::{ReturnCode, StreamResult, TransmitKind};
 use strm_codes::counts::ItemCount;
@@ -79,4 +80,15 @@ pub fn deliver(
         *told = true;
     }
     Some(code)
+}
+
+/// What a cancel answers of a report: a stream's Completed is Cancelled, of as many items, and any
+/// other code stays.
+pub fn cancelled(kind: TransmitKind, code: ReturnCode) -> ReturnCode
+    ensures { result ≡ cancelled_code kind code }
+{
+    match (kind, code) {
+        (TransmitKind::Stream, ReturnCode::Completed(items)) => ReturnCode::Cancelled(items),
+        (_, code) => code,
+    }
 }

@@ -6,11 +6,11 @@ use Rattle.std.specs.Option.{option_map, option_map_or}
 use Rattle.std.proofs.lemmas.Option.{option_and_then_some, same_Some, none-some}
 use Rattle.strm_codes.specs.declared.codes.TransmitIndex.{TransmitIndex}
 use Rattle.strm_machine.specs.declared.steps.Step.{Step}
-use Rattle.strm_machine.specs.declared.steps.Step.TheVariants.{Guest, Between, Write, Read, DropWrite, DropRead, Event, Poke, Dump}
+use Rattle.strm_machine.specs.declared.steps.Step.TheVariants.{Guest, Between, Write, Read, DropWrite, DropRead, CancelWrite, CancelRead, Event, Poke, Dump}
 use Rattle.strm_lines.specs.Words.{hex_pairs, type_word}
 use Rattle.strm_lines.specs.Plain.{IsPlain}
 use Rattle.strm_lines.specs.Grammar.{spelling, HasLine, IsU32, IsBetween, IsLineBytes, IsByteStream}
-use Rattle.strm_lines.specs.Reading.{Command, command, behind, read_by, often, seldom, followed_by, number, number_within, hex, type_read, operands_of, named_end_of, guest_of, pair_of, write_of, read_of, drop_write_of, drop_read_of, event_of, poke_of, dump_of, step_of}
+use Rattle.strm_lines.specs.Reading.{Command, command, behind, read_by, often, seldom, followed_by, number, number_within, hex, type_read, operands_of, named_end_of, guest_of, pair_of, write_of, read_of, drop_write_of, drop_read_of, cancel_write_of, cancel_read_of, event_of, poke_of, dump_of, step_of}
 use Rattle.strm_lines.proofs.ChoiceLemmas.{skipped}
 use Rattle.strm_lines.proofs.CutLemmas.{option_map_some}
 use Rattle.strm_lines.proofs.ReadingLemmas.{IsReading, IsReading-number, IsWord-number, IsReading-within, IsReading-hex, IsReading-type, IsWord-type, IsReading-followed_by, behind_sound}
@@ -93,6 +93,14 @@ drop_read_sound : IsSound (command (codes "drop-read ") drop_read_of)
 unfolding drop_read_of
 drop_read_sound = made_sound (codes "drop-read ") IsReading-named_end (record { spelled = λ v. refl; fits = λ v f. f })
 
+cancel_write_sound : IsSound (command (codes "cancel-write ") cancel_write_of)
+unfolding cancel_write_of
+cancel_write_sound = made_sound (codes "cancel-write ") IsReading-named_end (record { spelled = λ v. refl; fits = λ v f. f })
+
+cancel_read_sound : IsSound (command (codes "cancel-read ") cancel_read_of)
+unfolding cancel_read_of
+cancel_read_sound = made_sound (codes "cancel-read ") IsReading-named_end (record { spelled = λ v. refl; fits = λ v f. f })
+
 event_sound : IsSound (command (codes "event ") event_of)
 unfolding event_of
 event_sound = made_sound (codes "event ") IsReading-event (record { spelled = λ v. refl; fits = λ v f. f })
@@ -128,7 +136,7 @@ read_by_sound (c ∷ commands) line s h e = by_front (behind c.front line) refl 
     by_front (Some rest) f others e = rw (behind_sound c.front line rest f) (h.0 rest s e)
 
 all_sound : AreSound (often ++ seldom)
-all_sound = (write_sound, (read_sound, (event_sound, (poke_sound, (dump_sound, (guest_sound, (pair_sound, (drop_write_sound, (drop_read_sound, tt)))))))))
+all_sound = (write_sound, (read_sound, (event_sound, (poke_sound, (dump_sound, (guest_sound, (pair_sound, (drop_write_sound, (drop_read_sound, (cancel_write_sound, (cancel_read_sound, tt)))))))))))
 
 pub step_sound : (line : List ℕ) (s : Step) → step_of line ≡ Some s → (spelling s ≡ line) × HasLine s
 unfolding step_of
@@ -137,7 +145,7 @@ step_sound line s e = read_by_sound (often ++ seldom) line s all_sound e
 -- what is spelled is read as the step
 
 pub step_complete : (s : Step) → HasLine s → step_of (spelling s) ≡ Some s
-unfolding step_of behind guest_of pair_of write_of read_of drop_write_of drop_read_of event_of poke_of dump_of
+unfolding step_of behind guest_of pair_of write_of read_of drop_write_of drop_read_of cancel_write_of cancel_read_of event_of poke_of dump_of
 step_complete (Guest size) h = rw (IsReading-number.complete size h) refl
 step_complete (Between writer reader ty) h =
     rw (IsReading-pair.complete (writer, (reader, ty)) h.1, ne_eqb writer reader h.0) refl
@@ -147,6 +155,8 @@ step_complete (Read guest ty handle address count) h =
     rw (IsReading-operands.complete (guest, (ty, (handle, (address, count)))) h) refl
 step_complete (DropWrite guest ty handle) h = rw (IsReading-named_end.complete (guest, (ty, handle)) h) refl
 step_complete (DropRead guest ty handle) h = rw (IsReading-named_end.complete (guest, (ty, handle)) h) refl
+step_complete (CancelWrite guest ty handle) h = rw (IsReading-named_end.complete (guest, (ty, handle)) h) refl
+step_complete (CancelRead guest ty handle) h = rw (IsReading-named_end.complete (guest, (ty, handle)) h) refl
 step_complete (Event guest handle) h = rw (IsReading-event.complete (guest, handle) h) refl
 step_complete (Poke guest address bytes) h = rw (IsReading-poke.complete (guest, (address, bytes)) h) refl
 step_complete (Dump guest address len) h = rw (IsReading-dump.complete (guest, (address, len)) h) refl

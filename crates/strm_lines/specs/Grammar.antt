@@ -6,7 +6,7 @@ use Rattle.strm_codes.specs.declared.payloads.Payload.TheVariants.{One}
 use Rattle.strm_codes.specs.declared.codes.TransmitIndex.{TransmitIndex}
 use Rattle.strm_codes.specs.declared.codes.TransmitIndex.TheVariants.{Stream}
 use Rattle.strm_machine.specs.declared.steps.Step.{Step}
-use Rattle.strm_machine.specs.declared.steps.Step.TheVariants.{Guest, Between, Write, Read, DropWrite, DropRead, Event, Poke, Dump}
+use Rattle.strm_machine.specs.declared.steps.Step.TheVariants.{Guest, Between, Write, Read, DropWrite, DropRead, CancelWrite, CancelRead, Event, Poke, Dump}
 use Rattle.strm_lines.specs.Words.{hex_pairs, type_word}
 
 -- words in a row, exactly one space between each two
@@ -18,7 +18,7 @@ abbrev pub operands : ℕ → TransmitIndex → ℕ → ℕ → ℕ → List (Li
 operands guest ty handle address count =
     decimal guest ∷ type_word ty ∷ decimal handle ∷ decimal address ∷ decimal count ∷ []
 
--- the words behind `drop-write` and `drop-read`
+-- the words behind the drops and the cancels
 abbrev pub named_end : ℕ → TransmitIndex → ℕ → List (List ℕ)
 named_end guest ty handle = decimal guest ∷ type_word ty ∷ decimal handle ∷ []
 
@@ -33,6 +33,8 @@ spelling (Read guest ty handle address count) =
     words (codes "read" ∷ operands guest ty handle address count)
 spelling (DropWrite guest ty handle) = words (codes "drop-write" ∷ named_end guest ty handle)
 spelling (DropRead guest ty handle) = words (codes "drop-read" ∷ named_end guest ty handle)
+spelling (CancelWrite guest ty handle) = words (codes "cancel-write" ∷ named_end guest ty handle)
+spelling (CancelRead guest ty handle) = words (codes "cancel-read" ∷ named_end guest ty handle)
 spelling (Event guest handle) = words (codes "event" ∷ decimal guest ∷ decimal handle ∷ [])
 spelling (Poke guest address bytes) =
     words (codes "poke" ∷ decimal guest ∷ decimal address ∷ hex_pairs bytes ∷ [])
@@ -62,7 +64,7 @@ abbrev pub AreOperands : ℕ → TransmitIndex → ℕ → ℕ → ℕ → Type 
 AreOperands guest ty handle address count =
     IsU32 guest × (IsByteStream ty × (IsU32 handle × (IsU32 address × IsU32 count)))
 
--- what `drop-write` and `drop-read` can name
+-- what the drops and the cancels can name
 abbrev pub IsNamedEnd : ℕ → TransmitIndex → ℕ → Type 0
 IsNamedEnd guest ty handle = IsU32 guest × (IsByteStream ty × IsU32 handle)
 
@@ -75,6 +77,8 @@ HasLine (Write guest ty handle address count) = AreOperands guest ty handle addr
 HasLine (Read guest ty handle address count) = AreOperands guest ty handle address count
 HasLine (DropWrite guest ty handle) = IsNamedEnd guest ty handle
 HasLine (DropRead guest ty handle) = IsNamedEnd guest ty handle
+HasLine (CancelWrite guest ty handle) = IsNamedEnd guest ty handle
+HasLine (CancelRead guest ty handle) = IsNamedEnd guest ty handle
 HasLine (Event guest handle) = IsU32 guest × IsU32 handle
 HasLine (Poke guest address bytes) = IsU32 guest × (IsU32 address × IsLineBytes bytes)
 HasLine (Dump guest address len) = IsU32 guest × (IsU32 address × IsBetween 1 64 len)

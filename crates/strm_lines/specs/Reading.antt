@@ -7,7 +7,7 @@ use Rattle.strm_codes.specs.declared.payloads.Payload.TheVariants.{One}
 use Rattle.strm_codes.specs.declared.codes.TransmitIndex.{TransmitIndex}
 use Rattle.strm_codes.specs.declared.codes.TransmitIndex.TheVariants.{Stream}
 use Rattle.strm_machine.specs.declared.steps.Step.{Step}
-use Rattle.strm_machine.specs.declared.steps.Step.TheVariants.{Guest, Between, Write, Read, DropWrite, DropRead, Event, Poke, Dump}
+use Rattle.strm_machine.specs.declared.steps.Step.TheVariants.{Guest, Between, Write, Read, DropWrite, DropRead, CancelWrite, CancelRead, Event, Poke, Dump}
 
 -- a reading, and then another of what it found
 infixl 10 ◌>>=◌
@@ -96,7 +96,7 @@ operands_of rest =
     followed_by number (followed_by type_read
     (followed_by number (followed_by number number))) rest
 
--- the words behind `drop-write` and `drop-read`: guest, type and handle
+-- the words behind the drops and the cancels: guest, type and handle
 unfoldable pub named_end_of : List ℕ → Option (ℕ × (TransmitIndex × ℕ))
 named_end_of rest = followed_by number (followed_by type_read number) rest
 
@@ -127,6 +127,14 @@ drop_write_of rest = option_map (λ v. DropWrite v.0 v.1.0 v.1.1) (named_end_of 
 -- drop-read G T H
 unfoldable pub drop_read_of : List ℕ → Option Step
 drop_read_of rest = option_map (λ v. DropRead v.0 v.1.0 v.1.1) (named_end_of rest)
+
+-- cancel-write G T H
+unfoldable pub cancel_write_of : List ℕ → Option Step
+cancel_write_of rest = option_map (λ v. CancelWrite v.0 v.1.0 v.1.1) (named_end_of rest)
+
+-- cancel-read G T H
+unfoldable pub cancel_read_of : List ℕ → Option Step
+cancel_read_of rest = option_map (λ v. CancelRead v.0 v.1.0 v.1.1) (named_end_of rest)
 
 -- event G H
 unfoldable pub event_of : List ℕ → Option Step
@@ -167,7 +175,8 @@ often =
 abbrev pub seldom : List Command
 seldom =
     command (codes "guest ") guest_of ∷ command (codes "pair ") pair_of
-    ∷ command (codes "drop-write ") drop_write_of ∷ command (codes "drop-read ") drop_read_of ∷ []
+    ∷ command (codes "drop-write ") drop_write_of ∷ command (codes "drop-read ") drop_read_of
+    ∷ command (codes "cancel-write ") cancel_write_of ∷ command (codes "cancel-read ") cancel_read_of ∷ []
 
 -- the step of the first of these commands that a line begins with
 abbrev pub read_by : List Command → List ℕ → Option Step

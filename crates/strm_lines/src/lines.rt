@@ -4,7 +4,7 @@
 
 ghost use Rattle.std.specs.Prelude.{◌≡◌, ◌<◌, ◌++◌, is_some, vec_len, vec_capacity};
 ghost use Rattle.std.specs.Option.{option_map, option_to_list};
-ghost use Rattle.strm_lines.specs.Reading.{operands_of, named_end_of, guest_of, pair_of, write_of, read_of, drop_write_of, drop_read_of, event_of, poke_of, dump_of, seldom, read_by, step_of};
+ghost use Rattle.strm_lines.specs.Reading.{operands_of, named_end_of, guest_of, pair_of, write_of, read_of, drop_write_of, drop_read_of, cancel_write_of, cancel_read_of, event_of, poke_of, dump_of, seldom, read_by, step_of};
 
 use crate::words::{
     behind, hex, leading_number, leading_type, number, number_within, transmit_type,
@@ -127,6 +127,22 @@ fn drop_read_line(rest: &[u8]) -> Option<Step>
     Some(Step::DropRead { guest, ty, handle })
 }
 
+#[tactic(auto, unfolding(crate::specs::Reading::cancel_write_of))]
+fn cancel_write_line(rest: &[u8]) -> Option<Step>
+    ensures { result ≡ cancel_write_of rest.now }
+{
+    let NamedEnd { guest, ty, handle } = read_named_end(rest)?;
+    Some(Step::CancelWrite { guest, ty, handle })
+}
+
+#[tactic(auto, unfolding(crate::specs::Reading::cancel_read_of))]
+fn cancel_read_line(rest: &[u8]) -> Option<Step>
+    ensures { result ≡ cancel_read_of rest.now }
+{
+    let NamedEnd { guest, ty, handle } = read_named_end(rest)?;
+    Some(Step::CancelRead { guest, ty, handle })
+}
+
 #[tactic(auto, unfolding(crate::specs::Reading::event_of))]
 fn event_line(rest: &[u8]) -> Option<Step>
     ensures { result ≡ event_of rest.now }
@@ -196,6 +212,10 @@ fn keep_seldom(steps: &mut Vec<Step>, line: &[u8]) -> bool
         keep(steps, drop_write_line(rest))
     } else if let Some(rest) = behind(line, b"drop-read ") {
         keep(steps, drop_read_line(rest))
+    } else if let Some(rest) = behind(line, b"cancel-write ") {
+        keep(steps, cancel_write_line(rest))
+    } else if let Some(rest) = behind(line, b"cancel-read ") {
+        keep(steps, cancel_read_line(rest))
     } else {
         false
     }

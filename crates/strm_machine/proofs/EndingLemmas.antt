@@ -1,4 +1,4 @@
--- What an event and a drop make of the end that they name: facts of one stream and its new end, from
+-- What an event, a drop and a cancel make of the end that they name: facts of one stream and its new end, from
 -- which all laws of such a step follow.
 use Rattle.std.proofs.Common.{◌≡◌, Bool, true, false, cond, Option, Some, None, refl, sym, subst, inl, inr}
 use Rattle.std.specs.Prelude.{◌&&◌, not, is_some, if◌then◌else◌, IsSomeAnd}
@@ -8,8 +8,8 @@ use Rattle.strm_machine.specs.Words.{ReturnCode, TransmitKind, AStream, Future, 
 use Rattle.strm_codes.specs.declared.codes.ReturnCode.TheVariants as codes
 use Rattle.strm_codes.specs.declared.codes.StreamResult.{StreamResult}
 use Rattle.strm_codes.specs.declared.codes.StreamResult.TheVariants.{Completed, Dropped, Cancelled}
-use Rattle.strm_events.specs.Reports.{outcome_code, report_of, left_pending}
-use Rattle.strm_machine.specs.Endings.{pending_of, is_other_gone, cancel_answer, code_of_cancel}
+use Rattle.strm_events.specs.Reports.{outcome_code, report_of, left_pending, cancel_answer}
+use Rattle.strm_machine.specs.Endings.{pending_of, is_other_gone, code_of_cancel}
 use Rattle.strm_machine.specs.Tests.{is_busy}
 use Rattle.strm_machine.proofs.EndLemmas.{IsLeft}
 use Rattle.strm_machine.proofs.SoundLemmas.{left_told}

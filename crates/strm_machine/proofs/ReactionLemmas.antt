@@ -5,8 +5,8 @@ use Rattle.std.specs.Option.{option_or}
 use Rattle.strm_codes.specs.declared.refusals.Refusal.{Refusal}
 use Rattle.strm_machine.specs.Words.{State, memory_in, named, stream_named, Side, first_of, Reaction, goes, operates, NamedEnd, Operate, Act, OnEnd, OnMemory}
 use Rattle.strm_machine.specs.Refusals.{Reason, dropping_reasons, bytes_reasons, refusal}
-use Rattle.strm_machine.specs.Reactions.{drops, performs, unless_refused, reaction}
-use Rattle.strm_machine.specs.declared.acts.EndAct.TheVariants.{Drop}
+use Rattle.strm_machine.specs.Reactions.{drops, cancels, performs, unless_refused, reaction}
+use Rattle.strm_machine.specs.declared.acts.EndAct.TheVariants.{Drop, Cancel}
 use Rattle.strm_machine.specs.declared.acts.MemoryAct.TheVariants.{Dump}
 use Rattle.strm_machine.specs.declared.replies.Reply.TheVariants as replies
 
@@ -58,6 +58,11 @@ refusal-drop state side end = refl
 pub performs-drop : (state : State) (side : Side) (end : NamedEnd) → performs state (OnEnd side end Drop) ≡ drops state (stream_named (named state end)) side end
 unfolding performs
 performs-drop state side end = refl
+
+-- a cancel of an end
+pub performs-cancel : (state : State) (side : Side) (end : NamedEnd) → performs state (OnEnd side end Cancel) ≡ cancels state (stream_named (named state end)) side
+unfolding performs
+performs-cancel state side end = refl
 
 least : (len : ℕ) → min (min len 64) 64 ≡ min len 64
 least len = omega arith

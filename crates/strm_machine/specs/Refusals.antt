@@ -108,12 +108,18 @@ abbrev pub dropping_reasons : State → Side → NamedEnd → List Reason
 dropping_reasons state side end =
     named_reasons state end (drop_reasons state side end.ty (named state end))
 
+-- the end that is named in a cancel
+abbrev pub cancel_reasons_of : Stream → Side → Side → List Reason
+cancel_reasons_of stream side named =
+    side_reasons side named (where_ (not (is_busy side stream)) refusals.NoPending ∷ [])
+
+-- the same, of the stream that the handle names
+abbrev pub cancel_reasons : State → Side → Name → List Reason
+cancel_reasons state side name = cancel_reasons_of (stream_at state (stream_named name)) side (side_named name)
+
 -- a cancel of the end that is named
 abbrev pub cancelling_reasons : State → Side → NamedEnd → List Reason
-cancelling_reasons state side end =
-    named_reasons state end
-    (side_reasons side (side_named (named state end))
-    (where_ (not (is_busy side (stream_at state (stream_named (named state end))))) refusals.NoPending ∷ []))
+cancelling_reasons state side end = named_reasons state end (cancel_reasons state side (named state end))
 
 -- whatever is done to the end that is named
 abbrev pub on_end_reasons : State → Side → NamedEnd → EndAct → List Reason

@@ -13,12 +13,12 @@ use Rattle.strm_machine.specs.Sides.{opposite, same_side, end_of, with_end, with
 use Rattle.strm_machine.specs.Meetings.{advanced, carried, begun}
 use Rattle.strm_machine.specs.Tests.{named, end_named, stream_named, side_named, items_asked}
 use Rattle.strm_machine.specs.Turns.{Turn, waits, with_received, moves, completes_alone, rendezvous_by, finds, turn}
-use Rattle.strm_machine.specs.Endings.{delivered, dropped}
+use Rattle.strm_machine.specs.Endings.{delivered, cancelled, dropped}
 use Rattle.strm_machine.specs.Making.{with_stream}
-use Rattle.strm_machine.specs.Reactions.{Reaction, written_back, operates, tells, drops, performs, reaction, react}
+use Rattle.strm_machine.specs.Reactions.{Reaction, written_back, operates, tells, drops, cancels, performs, reaction, react}
 use Rattle.strm_machine.specs.declared.acts.Act.{Act}
 use Rattle.strm_machine.specs.declared.acts.Act.TheVariants.{Make, OnEnd, Event, OnMemory}
-use Rattle.strm_machine.specs.declared.acts.EndAct.TheVariants.{Operate, Drop}
+use Rattle.strm_machine.specs.declared.acts.EndAct.TheVariants.{Operate, Drop, Cancel}
 use Rattle.strm_machine.specs.declared.acts.Making.TheVariants.{Guest as MakeGuest, Between}
 use Rattle.strm_machine.specs.declared.acts.MemoryAct.TheVariants.{Poke, Dump}
 use Rattle.strm_machine.specs.declared.acts.NamedEnd.{NamedEnd}
@@ -136,10 +136,15 @@ drops-calm : (state : State) (s : ℕ) (side : Side) (end : NamedEnd) → AreCal
 unfolding dropped
 drops-calm state s side end h = record { goes_on = refl; calm = again-calm state s _ (with_end-payload side (stream_at state s) _) h }
 
+cancels-calm : (state : State) (s : ℕ) (side : Side) → AreCalm state.streams → ReactsCalmly (cancels state s side)
+unfolding cancelled
+cancels-calm state s side h = record { goes_on = refl; calm = again-calm state s _ (with_end-payload side (stream_at state s) _) h }
+
 performs-calm : (state : State) (act : Act) → MakesPlain act → AreCalm state.streams → ReactsCalmly (performs state act)
 unfolding performs with_stream
 performs-calm state (OnEnd side end (Operate address count)) p h = operates-calm state side end address count h
 performs-calm state (OnEnd side end Drop) p h = drops-calm state (stream_named (named state end)) side end h
+performs-calm state (OnEnd side end Cancel) p h = cancels-calm state (stream_named (named state end)) side h
 performs-calm state (Make (MakeGuest size)) p h = record { goes_on = refl; calm = h }
 performs-calm state (Make (Between writer reader ty)) p h =
     let number : IsTrue (is_number_or_none (payload_of ty)) = rw p.0 refl in

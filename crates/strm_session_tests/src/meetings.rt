@@ -20,7 +20,7 @@ const TWO_GUESTS: &str = "guest 16\nguest 16\npair 0 1 stream:u8\n";
 const TWO_NUMBERS: &str = "0\n1\nread 1 write 1 stream 0\n";
 
 // Whether lines behind those of two guests are answered so, and end so.
-fn is_answered(alloc: Global, lines: &str, replies: &str) -> Result<bool, Fail> {
+pub(crate) fn is_answered(alloc: Global, lines: &str, replies: &str) -> Result<bool, Fail> {
     let input = format!(in alloc; "{}{}", TWO_GUESTS, lines)?;
     let expected = format!(in alloc; "{}{}", TWO_NUMBERS, replies)?;
     let (status, text) = served(alloc, &["run"], input.as_bytes(), (99, 99))?;

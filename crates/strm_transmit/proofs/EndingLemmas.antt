@@ -15,13 +15,13 @@ use Rattle.strm_handles.specs.declared.errors.HandleError.{HandleError}
 use Rattle.strm_machine.specs.State as machine
 use Rattle.strm_machine.specs.State.{State, no_stream, guest_in, with_handles, stream_at, is_gone, is_live}
 use Rattle.strm_machine.specs.Turns.{Turn}
-use Rattle.strm_machine.specs.Endings.{delivered, dropped}
+use Rattle.strm_machine.specs.Endings.{dropped}
 use Rattle.strm_machine.specs.Tests.{Name, named, named_by, stream_named, side_named, side_of}
 use Rattle.strm_machine.specs.Refusals.{refusal}
 use Rattle.strm_machine.specs.declared.acts.NamedEnd.{NamedEnd}
 use Rattle.strm_machine.specs.declared.acts.EndAct.TheVariants.{Drop}
 use Rattle.strm_machine.specs.declared.acts.Act.TheVariants.{OnEnd}
-use Rattle.strm_machine.specs.Soundness.{sizes_of, is_idle_state, IsSound}
+use Rattle.strm_machine.specs.Soundness.{sizes_of, is_idle_state, IsSound, StreamIsPlaced}
 use Rattle.strm_machine.specs.Sides.{same_side}
 use Rattle.strm_machine.specs.declared.streams.Side.{Side}
 use Rattle.strm_machine.specs.declared.streams.Side.TheVariants.{Writing, Reading}
@@ -29,7 +29,7 @@ use Rattle.strm_machine.specs.declared.streams.Stream.{Stream}
 use Rattle.strm_machine.proofs.NameLemmas.{named_there, named_idle}
 use Rattle.strm_machine.proofs.ReactionLemmas.{refusal-drop}
 use Rattle.strm_machine.proofs.RefusalLemmas.{named_ok, drop_fits}
-use Rattle.strm_machine.proofs.SideLemmas.{same_side_is, delivered-keeps}
+use Rattle.strm_machine.proofs.SideLemmas.{same_side_is, StreamKeeps}
 use Rattle.strm_machine.proofs.SoundLemmas.{IsSound-dropped, sizes_of-with_handles, placed_at}
 use Rattle.strm_transmit.specs.Guests.{seen, live_in, removable}
 use Rattle.strm_transmit.specs.Inside.{state_of, IsStore}
@@ -37,25 +37,25 @@ use Rattle.strm_transmit.specs.declared.store.Store.TheInside.{Inside}
 use Rattle.strm_transmit.proofs.StoreLemmas.{SameBut, IsStore-stream, IsStore-turn, live_sum, stream_at-there}
 use Rattle.strm_machine.proofs.TurnLemmas.{all_kept}
 
--- an end was told its report
-pub record TellsEnd (old new : Inside) (s : ℕ) (side : Side) : Type 0 where
+-- a stream became another, and nothing else changed
+pub record SetsStream (old new : Inside) (s : ℕ) (stream : Stream) : Type 0 where
   pub same : SameBut old new
   pub counter : new.counter ≡ old.counter
   pub guests : new.guests ≡ old.guests
   pub live_streams : new.live_streams ≡ old.live_streams
   pub bytes : new.bytes ≡ old.bytes
-  pub streams : new.streams.items ≡ set old.streams.items s (delivered side (stream_at (state_of old) s))
+  pub streams : new.streams.items ≡ set old.streams.items s stream
 
--- the turn of a stream that was told, with all guests as they were
-abbrev told_turn : List machine.Guest → Side → Stream → Turn
-told_turn guests side stream = record { code = None; guests = guests; stream = delivered side stream }
+-- the turn of a stream that became another, with all guests as they were
+abbrev set_turn : List machine.Guest → Stream → Turn
+set_turn guests stream = record { code = None; guests = guests; stream = stream }
 
-pub IsStore-told : (old new : Inside) (s : ℕ) (side : Side) → s < length old.streams.items → TellsEnd old new s side → IsStore old → IsStore new
-IsStore-told old new s side l h i =
-    let stream = stream_at (state_of old) s in
+-- the stream as it was kept its type and its owners, and its operations lie in memory
+pub IsStore-set : (old new : Inside) (s : ℕ) (stream : Stream) → s < length old.streams.items → (StreamIsPlaced (sizes_of (seen old.guests.items)) (stream_at (state_of old) s) → StreamKeeps (sizes_of (seen old.guests.items)) (stream_at (state_of old) s) stream) → SetsStream old new s stream → IsStore old → IsStore new
+IsStore-set old new s stream l keeps h i =
     let guests = seen old.guests.items in
-    IsStore-turn old new s (told_turn guests side stream) l
-    (record { guests = all_kept guests; stream = delivered-keeps side (sizes_of guests) stream (placed_at (state_of old) s l i.sound) })
+    IsStore-turn old new s (set_turn guests stream) l
+    (record { guests = all_kept guests; stream = keeps (placed_at (state_of old) s l i.sound) })
     (record {
       tag = h.same.tag;
       limits = h.same.limits;

@@ -1,17 +1,20 @@
-//! How operations and ends end: an end is told its report, or is dropped.
+//! How operations and ends end: an end is told its report, its operation is cancelled, or it is
+//! dropped.
 //!
 //! Meaning: `Endings.antt` of `strm_machine`. Source: Canonical ABI, the events of reads and writes,
-//! and `canon stream.drop-{readable,writable}`; wasmtime, `host_drop_writer` and `host_drop_reader`.
+//! `canon stream.cancel-{read,write}` and `canon stream.drop-{readable,writable}`; wasmtime,
+//! `guest_cancel_read`, `guest_cancel_write`, `host_drop_writer` and `host_drop_reader`.
 
-ghost use Rattle.std.specs.Prelude.{◌≡◌, ◌&&◌, not};
+ghost use Rattle.std.specs.Prelude.{◌≡◌, ◌&&◌, not, Some};
 ghost use Rattle.std.specs.Option.{option_map};
-ghost use Rattle.strm_events.specs.Reports.{report_of};
+ghost use Rattle.strm_events.specs.Reports.{report_of, cancel_answer};
 ghost use Rattle.strm_machine.specs.State.{is_live};
-ghost use Rattle.strm_machine.specs.Endings.{pending_of, report_on, told_end, delivered, dropped};
+ghost use Rattle.strm_machine.specs.Endings.{pending_of, is_other_gone, report_on, told_end, delivered, code_of_cancel, cancelled, dropped};
 
 use crate::sides::{end_of, opposite};
 use strm_codes::codes::{ReturnCode, TransmitKind};
-use strm_events::reports::{Pending, deliver};
+use strm_codes::counts::ItemCount;
+use strm_events::reports::{Pending, cancelled, deliver};
 use strm_machine::streams::{End, Operation, Owner, Side, Stream};
 
 // Of an operation, what its report may depend on.
@@ -29,6 +32,14 @@ fn pending(operation: &Option<Operation>) -> Option<Pending>
         }),
         None => None,
     }
+}
+
+// Whether the end on the other side of a side is gone.
+#[inline(always)]
+fn is_other_gone(side: Side, stream: &Stream) -> bool
+    ensures { result ≡ is_other_gone side stream.now }
+{
+    end_of(stream, opposite(side)).owner == Owner::Gone
 }
 
 // Tells an end of a stream its report, if it has one; its operation has ended then.
@@ -58,11 +69,41 @@ pub fn deliver_report(stream: &mut Stream, side: Side) -> Option<ReturnCode>
     ensures code { result ≡ report_on side stream.old }
     ensures stream { stream.new ≡ delivered side stream.old }
 {
-    let is_other_gone = end_of(stream, opposite(side)).owner == Owner::Gone;
+    let is_other_gone = is_other_gone(side, stream);
     let (kind, passed) = (stream.kind, stream.passed);
     match side {
         Side::Writing => tell_end(&mut stream.writer, kind, is_other_gone, passed),
         Side::Reading => tell_end(&mut stream.reader, kind, is_other_gone, passed),
+    }
+}
+
+// Cancels the operation of an end: it has ended, and the end was told its report as a cancel answers
+// it, or that nothing was moved.
+fn cancel_end(end: &mut End, kind: TransmitKind, is_other_gone: bool, passed: bool) -> ReturnCode
+    ensures code { result ≡ cancel_answer kind
+        (report_of kind (option_map pending_of end.old.operation) is_other_gone end.old.told passed) }
+    ensures end { end.new ≡ told_end (Some result) end.old }
+{
+    match tell_end(end, kind, is_other_gone, passed) {
+        Some(code) => cancelled(kind, code),
+        None => {
+            end.operation = None;
+            ReturnCode::Cancelled(ItemCount::ZERO)
+        }
+    }
+}
+
+/// Cancels the operation of the end on a side.
+#[tactic(auto, unfolding(strm_machine::specs::Endings::cancelled))]
+pub fn cancel_operation(stream: &mut Stream, side: Side) -> ReturnCode
+    ensures code { result ≡ code_of_cancel side stream.old }
+    ensures stream { stream.new ≡ cancelled side stream.old }
+{
+    let is_other_gone = is_other_gone(side, stream);
+    let (kind, passed) = (stream.kind, stream.passed);
+    match side {
+        Side::Writing => cancel_end(&mut stream.writer, kind, is_other_gone, passed),
+        Side::Reading => cancel_end(&mut stream.reader, kind, is_other_gone, passed),
     }
 }
 

@@ -86,6 +86,7 @@ fn on_end(store: &mut Store, side: Side, end: &NamedEnd, act: EndAct) -> Result<
             store.operate(side, end, address, count).map(Reply::Code)
         }
         EndAct::Drop => store.drop_side(side, end).map(done),
+        EndAct::Cancel => store.cancel_side(side, end).map(Reply::Code),
     }
 }
 

@@ -7,6 +7,7 @@ ghost use Rattle.std.specs.Prelude.{◌≡◌, ◌≢◌, Err, ◌<◌, ◌↔�
 ghost use Rattle.strm_codes.specs.Types.{kind_of, payload_of};
 ghost use Rattle.strm_machine.specs.State.{empty, is_live, stream_at, memory_in};
 
+mod cancels;
 mod endings;
 mod making;
 mod memories;

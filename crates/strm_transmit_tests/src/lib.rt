@@ -1,6 +1,9 @@
 //! The store by example, in public calls alone.
 #![tactic(auto)]
 
+#[cfg(test)]
+mod cancels;
+
 use std::test::Fail;
 use strm_codes::codes::{ReturnCode, TransmitIndex};
 use strm_codes::counts::ItemCount;

@@ -1,15 +1,22 @@
 use Rattle.std.proofs.Common.{refl, ap, ◌∙◌, sym, set}
 use Rattle.strm_machine.specs.Endings.{delivered}
+use Rattle.strm_machine.specs.State.{stream_at}
+use Rattle.strm_machine.specs.Soundness.{sizes_of}
 use Rattle.strm_machine.specs.declared.streams.Stream.{Stream}
+use Rattle.strm_machine.proofs.SideLemmas.{delivered-keeps}
+use Rattle.strm_transmit.specs.Guests.{seen}
+use Rattle.strm_transmit.specs.Inside.{state_of}
 use Rattle.strm_transmit.proofs.StoreLemmas.{stream_at-there}
-use Rattle.strm_transmit.proofs.EndingLemmas.{IsStore-told}
+use Rattle.strm_transmit.proofs.EndingLemmas.{IsStore-set}
 use Rattle.strm_transmit.proofs.store.Store.tell.Goals as goal
 
 pub invariant_of-self : goal.invariant_of-self
 invariant_of-self c =
     let there = rw (← c.self.view_is) at c.requires in
     let here = stream_at-there c.self.inside c.args.stream c.index_mut.result.now there c.index_mut.ensures.value in
-    IsStore-told c.self.inside _ c.args.stream c.args.side there
+    let stream = stream_at (state_of c.self.inside) c.args.stream in
+    IsStore-set c.self.inside _ c.args.stream (delivered c.args.side stream) there
+    (delivered-keeps c.args.side (sizes_of (seen c.self.inside.guests.items)) stream)
     (record {
       same = record { tag = refl; limits = refl; trapped = refl };
       counter = refl;
