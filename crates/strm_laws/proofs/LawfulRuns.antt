@@ -8,7 +8,7 @@ use Rattle.strm_machine.specs.Words.{Payload, act_of, State, empty, no_stream, s
 use Rattle.strm_machine.specs.declared.limits.Limits.{Limits}
 use Rattle.strm_machine.specs.declared.streams.Operation.{Operation}
 use Rattle.strm_machine.specs.declared.steps.Step.{Step}
-use Rattle.strm_machine.specs.Soundness.{AreNamed}
+use Rattle.strm_machine.specs.Soundness.{AreNamed, AreUnmoved}
 use Rattle.strm_machine.proofs.Lawful.{IsLawful, Reacts}
 use Rattle.strm_machine.proofs.LawfulLemmas.{reacts}
 use Rattle.strm_machine.proofs.SoundStepLemmas.{reaction-sound}
@@ -85,6 +85,9 @@ lawful tag limits run a = lawful_from (empty tag limits) run (IsReady-empty tag 
 
 pub apart : (tag : ℕ) (limits : Limits) (run : List Step) (s : ℕ) → AreSteps run → both_open (stream_at (last (empty tag limits) run) s) ≡ false
 apart tag limits run s a = (lawful tag limits run a).apart s
+
+pub unmoved : (tag : ℕ) (limits : Limits) (run : List Step) (s : ℕ) → AreSteps run → AreUnmoved (stream_at (last (empty tag limits) run) s)
+unmoved tag limits run s a = let tallies = (lawful tag limits run a).tallies s in (tallies.writing, tallies.reading)
 
 OperationIsPlaced-counted : (sizes : List ℕ) (payload : Payload) (o : Option Operation) → OperationIsPlaced sizes payload o → IsCounted o
 OperationIsPlaced-counted sizes payload None p = tt

@@ -10,7 +10,7 @@ ghost use Rattle.strm_machine.specs.declared.streams.Side.{Side};
 ghost use Rattle.strm_machine.specs.declared.steps.Step.{Step};
 ghost use Rattle.strm_machine.specs.Moments.{moment_of};
 ghost use Rattle.strm_laws.specs.Conservation.{moments, last, calls, got};
-ghost use Rattle.strm_machine.specs.Soundness.{IsSound, both_open};
+ghost use Rattle.strm_machine.specs.Soundness.{IsSound, both_open, AreUnmoved};
 ghost use Rattle.strm_laws.specs.Laws.{AreSteps, Conserves, waiting, Stands, AreCounted, HandlesHold, HandlesAreSingle};
 ghost use Rattle.strm_machine.specs.Untouched.{StaysAside};
 
@@ -40,6 +40,12 @@ pub fn futures_pass_one()
 pub fn never_two_open()
     ensures { (tag : ℕ) (limits : Limits) (run : List Step) (s : ℕ) → AreSteps run →
         both_open (stream_at (last (empty tag limits) run) s) ≡ false }
+{}
+
+/// A read or write that has not met has moved nothing: so a cancel of it says Cancelled of no item.
+pub fn unmet_has_moved_none()
+    ensures { (tag : ℕ) (limits : Limits) (run : List Step) (s : ℕ) → AreSteps run →
+        AreUnmoved (stream_at (last (empty tag limits) run) s) }
 {}
 
 /// The items of an operation, those that it moved and those that it has left, are below 2^28

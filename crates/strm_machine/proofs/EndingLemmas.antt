@@ -13,7 +13,8 @@ use Rattle.strm_machine.specs.Endings.{pending_of, is_other_gone, code_of_cancel
 use Rattle.strm_machine.specs.Tests.{is_busy}
 use Rattle.strm_machine.proofs.EndLemmas.{IsLeft}
 use Rattle.strm_machine.proofs.SoundLemmas.{left_told}
-use Rattle.strm_machine.proofs.TallyLemmas.{AreOne, IsUnmoved, unmoved_on, Tallies, one_on, count_reported-dropped}
+use Rattle.strm_machine.specs.Soundness.{IsUnmoved}
+use Rattle.strm_machine.proofs.TallyLemmas.{AreOne, unmoved_on, Tallies, one_on, count_reported-dropped}
 
 -- ## What is known of an end that becomes another
 

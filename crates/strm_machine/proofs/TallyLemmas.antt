@@ -11,6 +11,7 @@ use Rattle.strm_codes.specs.declared.codes.TransmitIndex.TheVariants as index
 use Rattle.strm_machine.specs.Meetings.{begun}
 use Rattle.strm_machine.specs.Turns.{is_future}
 use Rattle.strm_machine.specs.Tests.{items_asked}
+use Rattle.strm_machine.specs.Soundness.{IsUnmoved}
 use Rattle.strm_machine.proofs.EndLemmas.{IsLeft, left_by}
 use Rattle.strm_machine.proofs.RefusalLemmas.{neither}
 
@@ -72,11 +73,6 @@ PassesOne-by Writing stream h k e = record { writing = h; reading = k; count = e
 PassesOne-by Reading stream h k e = record { writing = k; reading = h; count = e }
 
 -- ## Any stream
-
--- an operation that has not met has moved nothing
-abbrev pub IsUnmoved : Option Operation → Type 0
-IsUnmoved None = Unit {0}
-IsUnmoved (Some o) = o.met ≡ false → o.moved ≡ 0
 
 pub none_unmoved : (q : Option Operation) → q ≡ None → IsUnmoved q
 none_unmoved q e = subst IsUnmoved (sym e) tt

@@ -16,7 +16,8 @@ use Rattle.strm_machine.specs.Moments.{Place, place_of}
 use Rattle.strm_machine.specs.Soundness.{is_opened}
 use Rattle.strm_machine.proofs.Changes.{Scene, Change, ByRest, ByGoing, ByOpening, ByServing}
 use Rattle.strm_machine.proofs.EndLemmas.{each_side, apart_by, write_mine, write_theirs, read_fits, write_none, read_none, IsTurned, turned_not, turned_end, turned_both, turned_moves}
-use Rattle.strm_machine.proofs.TallyLemmas.{AreOne, IsUnmoved, none_unmoved, unmoved_on, Tallies-by, IsOne-advanced, one_at, none_one, Tallies, one_on, PassesOne-by, count_passed, Begins, count_reported-completed, count_reported-dropped}
+use Rattle.strm_machine.specs.Soundness.{IsUnmoved}
+use Rattle.strm_machine.proofs.TallyLemmas.{AreOne, none_unmoved, unmoved_on, Tallies-by, IsOne-advanced, one_at, none_one, Tallies, one_on, PassesOne-by, count_passed, Begins, count_reported-completed, count_reported-dropped}
 use Rattle.strm_machine.proofs.ArrivalLemmas.{AreBytes, decoded-zero, carried_arrives}
 
 -- ## What is seen

@@ -4,7 +4,7 @@ use Rattle.strm_codes.specs.declared.codes.TransmitKind.TheVariants.{Future}
 use Rattle.strm_machine.specs.State.{State, empty, stream_at}
 use Rattle.strm_machine.specs.Plays.{play, Ends, Halts}
 use Rattle.strm_machine.specs.Moments.{Moment}
-use Rattle.strm_machine.specs.Soundness.{IsSound, both_open}
+use Rattle.strm_machine.specs.Soundness.{IsSound, both_open, AreUnmoved}
 use Rattle.strm_machine.specs.declared.streams.Side.{Side}
 use Rattle.strm_machine.specs.declared.steps.Step.{Step}
 use Rattle.strm_machine.specs.declared.replies.Reply.{Reply}
@@ -28,15 +28,16 @@ abbrev pub next_step : List Reply → ℕ
 next_step told = min (length told + 1) 4294967295
 
 -- the laws of a run with these moments, which ends here: on each stream what was received is what was
--- handed over, and what both ends report; a read or write that waits has moved what it says; a future
--- passes one item at most; never are two sides open; the items of each operation are a count; handles
--- and ends agree, one handle an end; and the state is sound
+-- handed over, and what both ends report; a read or write that waits has moved what it says, and one
+-- that has not met nothing; a future passes one item at most; never are two sides open; the items of
+-- each operation are a count; handles and ends agree, one handle an end; and the state is sound
 pub record HasLaws (all : List Moment) (end : State) : Type 0 where
   pub conserves : (s : ℕ) → Conserves s all end
   pub stands : (s : ℕ) (side : Side) →
       Stands (stream_at end s).payload (waiting s side end) (calls s side all)
   pub passes_one : (s : ℕ) → (stream_at end s).kind ≡ Future → length (got s all) ≤ 1
   pub apart : (s : ℕ) → both_open (stream_at end s) ≡ false
+  pub unmoved : (s : ℕ) → AreUnmoved (stream_at end s)
   pub counted : (s : ℕ) → AreCounted (stream_at end s)
   pub hold : HandlesHold end
   pub single : HandlesAreSingle end

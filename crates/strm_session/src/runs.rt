@@ -22,7 +22,7 @@ use std::alloc::Global;
 use strm_codes::counts::OutOfMemory;
 use strm_laws::laws::{
     conservation, futures_pass_one, handles_hold_their_ends, never_two_open, other_bytes_stay,
-    states_are_sound, totals_are_counts,
+    states_are_sound, totals_are_counts, unmet_has_moved_none,
 };
 use strm_lines::lists::{Counts, Replies};
 use strm_machine::limits::Limits;
@@ -108,6 +108,7 @@ fn laws_hold()
     conservation();
     futures_pass_one();
     never_two_open();
+    unmet_has_moved_none();
     totals_are_counts();
     states_are_sound();
     handles_hold_their_ends();

@@ -6,6 +6,7 @@ returns-clause-laws c = λ steps a. record {
   stands = λ s side. c.conservation.ensures.stands 0 _ steps s side a;
   passes_one = λ s. c.futures_pass_one.ensures 0 _ steps s a;
   apart = λ s. c.never_two_open.ensures 0 _ steps s a;
+  unmoved = λ s. c.unmet_has_moved_none.ensures 0 _ steps s a;
   counted = λ s. c.totals_are_counts.ensures 0 _ steps s a;
   hold = c.handles_hold_their_ends.ensures.holds 0 _ steps;
   single = c.handles_hold_their_ends.ensures.single 0 _ steps;
