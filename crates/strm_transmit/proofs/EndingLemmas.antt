@@ -1,4 +1,5 @@
--- The store after an end was told its report, or dropped and its handle freed.
+-- The store after an end was told its report or its operation cancelled, or after it was dropped and
+-- its handle freed.
 use Rattle.std.proofs.Common.{◌≡◌, ℕ, ◌+◌, ◌-◌, ◌<◌, ◌≤◌, Bool, true, false, cond, List, length, get_or, set, Result, Ok, Err, None, refl, sym, ap, ◌∙◌, subst, arith}
 use Rattle.std.specs.Prelude.{◌&&◌, not, IsOk, IfOk}
 use mir.Val.{bool_byte}
@@ -50,8 +51,14 @@ pub record SetsStream (old new : Inside) (s : ℕ) (stream : Stream) : Type 0 wh
 abbrev set_turn : List machine.Guest → Stream → Turn
 set_turn guests stream = record { code = None; guests = guests; stream = stream }
 
--- the stream as it was kept its type and its owners, and its operations lie in memory
-pub IsStore-set : (old new : Inside) (s : ℕ) (stream : Stream) → s < length old.streams.items → (StreamIsPlaced (sizes_of (seen old.guests.items)) (stream_at (state_of old) s) → StreamKeeps (sizes_of (seen old.guests.items)) (stream_at (state_of old) s) stream) → SetsStream old new s stream → IsStore old → IsStore new
+-- a stream has the type and the owners of the one before it, and its operations lie in memory as theirs
+abbrev Follows : Inside → ℕ → Stream → Type 0
+Follows old s stream =
+    let sizes = sizes_of (seen old.guests.items) in
+    let before = stream_at (state_of old) s in
+    StreamIsPlaced sizes before → StreamKeeps sizes before stream
+
+pub IsStore-set : (old new : Inside) (s : ℕ) (stream : Stream) → s < length old.streams.items → Follows old s stream → SetsStream old new s stream → IsStore old → IsStore new
 IsStore-set old new s stream l keeps h i =
     let guests = seen old.guests.items in
     IsStore-turn old new s (set_turn guests stream) l
