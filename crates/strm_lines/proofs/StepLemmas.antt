@@ -6,11 +6,11 @@ use Rattle.std.specs.Option.{option_map, option_map_or}
 use Rattle.std.proofs.lemmas.Option.{option_and_then_some, same_Some, none-some}
 use Rattle.strm_codes.specs.declared.codes.TransmitIndex.{TransmitIndex}
 use Rattle.strm_machine.specs.declared.steps.Step.{Step}
-use Rattle.strm_machine.specs.declared.steps.Step.TheVariants.{Guest, Between, Write, Read, DropWrite, DropRead, CancelWrite, CancelRead, Event, Poke, Dump}
+use Rattle.strm_machine.specs.declared.steps.Step.TheVariants.{Guest, New, Between, Write, Read, DropWrite, DropRead, CancelWrite, CancelRead, Event, Poke, Dump}
 use Rattle.strm_lines.specs.Words.{hex_pairs, type_word}
 use Rattle.strm_lines.specs.Plain.{IsPlain}
 use Rattle.strm_lines.specs.Grammar.{spelling, HasLine, IsU32, IsBetween, IsLineBytes, IsByteStream}
-use Rattle.strm_lines.specs.Reading.{Command, command, behind, read_by, often, seldom, followed_by, number, number_within, hex, type_read, operands_of, named_end_of, guest_of, pair_of, write_of, read_of, drop_write_of, drop_read_of, cancel_write_of, cancel_read_of, event_of, poke_of, dump_of, step_of}
+use Rattle.strm_lines.specs.Reading.{Command, command, behind, read_by, often, seldom, followed_by, number, number_within, hex, type_read, operands_of, named_end_of, guest_of, new_of, pair_of, write_of, read_of, drop_write_of, drop_read_of, cancel_write_of, cancel_read_of, event_of, poke_of, dump_of, step_of}
 use Rattle.strm_lines.proofs.ChoiceLemmas.{skipped}
 use Rattle.strm_lines.proofs.CutLemmas.{option_map_some}
 use Rattle.strm_lines.proofs.ReadingLemmas.{IsReading, IsReading-number, IsWord-number, IsReading-within, IsReading-hex, IsReading-type, IsWord-type, IsReading-followed_by, behind_sound}
@@ -46,6 +46,9 @@ IsReading-named_end = IsReading-followed_by IsReading-number IsWord-number (IsRe
 IsReading-event : IsReading (followed_by number number) (λ v. decimal v.0 ++ 32 ∷ decimal v.1) (λ v. IsU32 v.0 × IsU32 v.1)
 IsReading-event = IsReading-followed_by IsReading-number IsWord-number IsReading-number
 
+IsReading-new : IsReading (followed_by number type_read) (λ v. decimal v.0 ++ 32 ∷ type_word v.1) (λ v. IsU32 v.0 × IsByteStream v.1)
+IsReading-new = IsReading-followed_by IsReading-number IsWord-number IsReading-type
+
 IsReading-pair : IsReading (followed_by number (followed_by number type_read)) (λ v. decimal v.0 ++ 32 ∷ (decimal v.1.0 ++ 32 ∷ type_word v.1.1)) (λ v. IsU32 v.0 × (IsU32 v.1.0 × IsByteStream v.1.1))
 IsReading-pair = IsReading-followed_by IsReading-number IsWord-number (IsReading-followed_by IsReading-number IsWord-number IsReading-type)
 
@@ -76,6 +79,10 @@ module _ {V : Type 0} {read : List ℕ → Option V} {write : V → List ℕ} {I
 guest_sound : IsSound (command (codes "guest ") guest_of)
 unfolding guest_of
 guest_sound = made_sound (codes "guest ") IsReading-number (record { spelled = λ v. refl; fits = λ v f. f })
+
+new_sound : IsSound (command (codes "new ") new_of)
+unfolding new_of
+new_sound = made_sound (codes "new ") IsReading-new (record { spelled = λ v. refl; fits = λ v f. f })
 
 write_sound : IsSound (command (codes "write ") write_of)
 unfolding write_of
@@ -136,7 +143,7 @@ read_by_sound (c ∷ commands) line s h e = by_front (behind c.front line) refl 
     by_front (Some rest) f others e = rw (behind_sound c.front line rest f) (h.0 rest s e)
 
 all_sound : AreSound (often ++ seldom)
-all_sound = (write_sound, (read_sound, (event_sound, (poke_sound, (dump_sound, (guest_sound, (pair_sound, (drop_write_sound, (drop_read_sound, (cancel_write_sound, (cancel_read_sound, tt)))))))))))
+all_sound = (write_sound, (read_sound, (event_sound, (poke_sound, (dump_sound, (guest_sound, (new_sound, (pair_sound, (drop_write_sound, (drop_read_sound, (cancel_write_sound, (cancel_read_sound, tt))))))))))))
 
 pub step_sound : (line : List ℕ) (s : Step) → step_of line ≡ Some s → (spelling s ≡ line) × HasLine s
 unfolding step_of
@@ -145,8 +152,9 @@ step_sound line s e = read_by_sound (often ++ seldom) line s all_sound e
 -- what is spelled is read as the step
 
 pub step_complete : (s : Step) → HasLine s → step_of (spelling s) ≡ Some s
-unfolding step_of behind guest_of pair_of write_of read_of drop_write_of drop_read_of cancel_write_of cancel_read_of event_of poke_of dump_of
+unfolding step_of behind guest_of new_of pair_of write_of read_of drop_write_of drop_read_of cancel_write_of cancel_read_of event_of poke_of dump_of
 step_complete (Guest size) h = rw (IsReading-number.complete size h) refl
+step_complete (New guest ty) h = rw (IsReading-new.complete (guest, ty) h) refl
 step_complete (Between writer reader ty) h =
     rw (IsReading-pair.complete (writer, (reader, ty)) h.1, ne_eqb writer reader h.0) refl
 step_complete (Write guest ty handle address count) h =
@@ -163,5 +171,6 @@ step_complete (Dump guest address len) h = rw (IsReading-dump.complete (guest, (
 
 -- each step that has a line is plain
 pub plain : (s : Step) → HasLine s → IsPlain s
-plain (Between writer reader ty) h = (h.1.1.1, h.0)
+plain (New guest ty) h = h.1
+plain (Between writer reader ty) h = h.1.1.1
 plain _ h = tt

@@ -6,7 +6,7 @@ use Rattle.strm_codes.specs.declared.payloads.Payload.TheVariants.{One}
 use Rattle.strm_codes.specs.declared.codes.TransmitIndex.{TransmitIndex}
 use Rattle.strm_codes.specs.declared.codes.TransmitIndex.TheVariants.{Stream}
 use Rattle.strm_machine.specs.declared.steps.Step.{Step}
-use Rattle.strm_machine.specs.declared.steps.Step.TheVariants.{Guest, Between, Write, Read, DropWrite, DropRead, CancelWrite, CancelRead, Event, Poke, Dump}
+use Rattle.strm_machine.specs.declared.steps.Step.TheVariants.{Guest, New, Between, Write, Read, DropWrite, DropRead, CancelWrite, CancelRead, Event, Poke, Dump}
 use Rattle.strm_lines.specs.Words.{hex_pairs, type_word}
 
 -- words in a row, exactly one space between each two
@@ -25,6 +25,7 @@ named_end guest ty handle = decimal guest ∷ type_word ty ∷ decimal handle �
 -- the line of a step, without its line feed; numbers are decimal, without leading zeros
 abbrev pub spelling : Step → List ℕ
 spelling (Guest size) = words (codes "guest" ∷ decimal size ∷ [])
+spelling (New guest ty) = words (codes "new" ∷ decimal guest ∷ type_word ty ∷ [])
 spelling (Between writer reader ty) =
     words (codes "pair" ∷ decimal writer ∷ decimal reader ∷ type_word ty ∷ [])
 spelling (Write guest ty handle address count) =
@@ -71,6 +72,7 @@ IsNamedEnd guest ty handle = IsU32 guest × (IsByteStream ty × IsU32 handle)
 -- the steps that have a line
 abbrev pub HasLine : Step → Type 0
 HasLine (Guest size) = IsU32 size
+HasLine (New guest ty) = IsU32 guest × IsByteStream ty
 HasLine (Between writer reader ty) =
     (writer ≢ reader) × (IsU32 writer × (IsU32 reader × IsByteStream ty))
 HasLine (Write guest ty handle address count) = AreOperands guest ty handle address count

@@ -7,7 +7,7 @@ use Rattle.strm_codes.specs.declared.payloads.Payload.TheVariants.{One}
 use Rattle.strm_codes.specs.declared.codes.TransmitIndex.{TransmitIndex}
 use Rattle.strm_codes.specs.declared.codes.TransmitIndex.TheVariants.{Stream}
 use Rattle.strm_machine.specs.declared.steps.Step.{Step}
-use Rattle.strm_machine.specs.declared.steps.Step.TheVariants.{Guest, Between, Write, Read, DropWrite, DropRead, CancelWrite, CancelRead, Event, Poke, Dump}
+use Rattle.strm_machine.specs.declared.steps.Step.TheVariants.{Guest, New, Between, Write, Read, DropWrite, DropRead, CancelWrite, CancelRead, Event, Poke, Dump}
 
 -- a reading, and then another of what it found
 infixl 10 ◌>>=◌
@@ -106,6 +106,10 @@ named_end_of rest = followed_by number (followed_by type_read number) rest
 unfoldable pub guest_of : List ℕ → Option Step
 guest_of rest = option_map Guest (number rest)
 
+-- new G T
+unfoldable pub new_of : List ℕ → Option Step
+new_of rest = option_map (λ v. New v.0 v.1) (followed_by number type_read rest)
+
 -- pair W R T, of two guests
 unfoldable pub pair_of : List ℕ → Option Step
 pair_of rest = do
@@ -174,7 +178,7 @@ often =
 -- and the others
 abbrev pub seldom : List Command
 seldom =
-    command (codes "guest ") guest_of ∷ command (codes "pair ") pair_of
+    command (codes "guest ") guest_of ∷ command (codes "new ") new_of ∷ command (codes "pair ") pair_of
     ∷ command (codes "drop-write ") drop_write_of ∷ command (codes "drop-read ") drop_read_of
     ∷ command (codes "cancel-write ") cancel_write_of ∷ command (codes "cancel-read ") cancel_read_of ∷ []
 

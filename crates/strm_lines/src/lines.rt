@@ -4,7 +4,7 @@
 
 ghost use Rattle.std.specs.Prelude.{◌≡◌, ◌<◌, ◌++◌, is_some, vec_len, vec_capacity};
 ghost use Rattle.std.specs.Option.{option_map, option_to_list};
-ghost use Rattle.strm_lines.specs.Reading.{operands_of, named_end_of, guest_of, pair_of, write_of, read_of, drop_write_of, drop_read_of, cancel_write_of, cancel_read_of, event_of, poke_of, dump_of, seldom, read_by, step_of};
+ghost use Rattle.strm_lines.specs.Reading.{operands_of, named_end_of, guest_of, new_of, pair_of, write_of, read_of, drop_write_of, drop_read_of, cancel_write_of, cancel_read_of, event_of, poke_of, dump_of, seldom, read_by, step_of};
 
 use crate::words::{
     behind, hex, leading_number, leading_type, number, number_within, transmit_type,
@@ -58,6 +58,15 @@ fn guest_line(rest: &[u8]) -> Option<Step>
 {
     let size = number(rest)?;
     Some(Step::Guest { size })
+}
+
+#[tactic(auto, unfolding(crate::specs::Reading::new_of))]
+fn new_line(rest: &[u8]) -> Option<Step>
+    ensures { result ≡ new_of rest.now }
+{
+    let (guest, rest) = leading_number(rest)?;
+    let ty = transmit_type(rest)?;
+    Some(Step::New { guest, ty })
 }
 
 #[tactic(auto, unfolding(crate::specs::Reading::pair_of))]
@@ -206,6 +215,8 @@ fn keep_seldom(steps: &mut Vec<Step>, line: &[u8]) -> bool
 {
     if let Some(rest) = behind(line, b"guest ") {
         keep(steps, guest_line(rest))
+    } else if let Some(rest) = behind(line, b"new ") {
+        keep(steps, new_line(rest))
     } else if let Some(rest) = behind(line, b"pair ") {
         keep(steps, pair_line(rest))
     } else if let Some(rest) = behind(line, b"drop-write ") {

@@ -18,6 +18,7 @@ end_named_by guest ty handle = record { guest = guest; ty = ty; handle = handle 
 -- what a step does
 abbrev pub act_of : Step → Act
 act_of (steps.Guest size) = Make (Guest size)
+act_of (steps.New guest ty) = Make (Between guest guest ty)
 act_of (steps.Between writer reader ty) = Make (Between writer reader ty)
 act_of (steps.Write guest ty handle address count) =
     OnEnd Writing (end_named_by guest ty handle) (Operate address count)

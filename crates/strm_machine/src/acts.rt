@@ -25,7 +25,7 @@ pub enum Making {
     Guest {
         size: u32,
     },
-    /// A stream or future from one guest to another.
+    /// A stream or future from one guest to another, which may be the same.
     Between {
         writer: u32,
         reader: u32,
@@ -88,6 +88,13 @@ impl Act {
         match *step {
             Step::Guest { size } => Act::Make {
                 making: Making::Guest { size },
+            },
+            Step::New { guest, ty } => Act::Make {
+                making: Making::Between {
+                    writer: guest,
+                    reader: guest,
+                    ty,
+                },
             },
             Step::Between { writer, reader, ty } => Act::Make {
                 making: Making::Between { writer, reader, ty },

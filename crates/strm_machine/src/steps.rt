@@ -13,6 +13,11 @@ pub enum Step {
     Guest {
         size: u32,
     },
+    /// `canon stream.new` or `canon future.new`: the guest gets both ends.
+    New {
+        guest: u32,
+        ty: TransmitIndex,
+    },
     /// A stream or future from one guest to another. Ours: `canon stream.new` and a transfer.
     Between {
         writer: u32,

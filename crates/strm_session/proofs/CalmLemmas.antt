@@ -147,7 +147,7 @@ performs-calm state (OnEnd side end Drop) p h = drops-calm state (stream_named (
 performs-calm state (OnEnd side end Cancel) p h = cancels-calm state (stream_named (named state end)) side h
 performs-calm state (Make (MakeGuest size)) p h = record { goes_on = refl; calm = h }
 performs-calm state (Make (Between writer reader ty)) p h =
-    let number : IsTrue (is_number_or_none (payload_of ty)) = rw p.0 refl in
+    let number : IsTrue (is_number_or_none (payload_of ty)) = rw p refl in
     record { goes_on = refl; calm = All-push StreamIsCalm state.streams _ h number }
 performs-calm state (Event g handle) p h =
     let name = end_named state g handle in tells-calm state (stream_named name) (side_named name) h

@@ -7,6 +7,7 @@ ghost use Rattle.std.specs.Prelude.{◌≡◌, ◌<◌, ◌||◌, ◌++◌, ◌�
 ghost use Rattle.std.specs.Vec.{vec_capacity};
 ghost use Rattle.strm_codes.specs.Types.{kind_of, payload_of};
 ghost use Rattle.strm_codes.specs.declared.codes.TransmitIndex.{TransmitIndex};
+ghost use Rattle.strm_codes.specs.declared.codes.TransmitIndex.TheVariants as index;
 ghost use Rattle.strm_handles.specs.Handles.{next_index};
 ghost use Rattle.strm_machine.specs.State.{guest_in, idle_end};
 ghost use Rattle.strm_machine.specs.Making.{writer_index};
@@ -24,6 +25,7 @@ use crate::ends::insert_ends;
 use crate::errors::StoreError;
 use crate::store::Store;
 use strm_codes::codes::TransmitIndex;
+use strm_codes::payloads::Payload;
 use strm_codes::refusals::Refusal;
 use strm_handles::entries::MAX_HANDLE;
 use strm_machine::replies::Pair;
@@ -190,5 +192,23 @@ impl Store {
             Ok(()) => self.make(writer, reader, ty),
             Err(error) => Err(error),
         }
+    }
+
+    /// A stream whose ends one guest gets: their handles go into its table, the read end's first.
+    /// Refused as `new_between` is.
+    pub fn stream_new(&mut self, guest: u32, payload: Payload) -> Result<Pair, StoreError>
+        ensures meets { Meets self.old self.new (replied replies.Pair result)
+            (react self.old (steps.New guest (index.Stream payload))) }
+    {
+        self.new_between(guest, guest, TransmitIndex::Stream(payload))
+    }
+
+    /// A future whose ends one guest gets: their handles go into its table, the read end's first.
+    /// Refused as `new_between` is.
+    pub fn future_new(&mut self, guest: u32, payload: Payload) -> Result<Pair, StoreError>
+        ensures meets { Meets self.old self.new (replied replies.Pair result)
+            (react self.old (steps.New guest (index.Future payload))) }
+    {
+        self.new_between(guest, guest, TransmitIndex::Future(payload))
     }
 }
