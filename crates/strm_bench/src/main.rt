@@ -4,15 +4,18 @@
 //! Sums go to standard output and are the same in every run; times go to standard error.
 #![tactic(auto)]
 
+mod copies;
 mod draws;
 mod filled;
 mod guests;
 mod rounds;
 mod tables;
 
+use crate::copies::{COUNTS, Copies};
 use crate::filled::{COUNT, Filled};
 use std::time::Instant;
 use std::{env, io};
+use strm_codes::counts::ItemCount;
 use strm_codes::payloads::Payload;
 use strm_codes::scalars::Scalar;
 
@@ -39,7 +42,13 @@ fn main(rt: HostRuntime) -> io::Result<()> {
         Some(word) => payload(word.as_str()),
         None => BYTES,
     };
-    time_rounds(&rt, items, turns)
+    time_rounds(&rt, items, turns)?;
+    for (name, payload) in copies::layouts() {
+        for count in COUNTS {
+            time_copies(&rt, name, payload, count, turns)?;
+        }
+    }
+    Ok(())
 }
 
 // The payload of a word, bytes if it is none: the compiler does not know which.
@@ -111,6 +120,31 @@ fn time_rounds(rt: &HostRuntime, items: Payload, turns: u32) -> io::Result<()> {
             println!(rt; "words {words} received {received}")?;
             let round = spent / u128::from(turns).max(1);
             eprintln!(rt; "a write, a read and an event of 8 items: {round} ns")
+        }
+        Err(error) => eprintln!(rt; "{error:?}"),
+    }
+}
+
+// Copies of so many items each, as many as there are items in all.
+fn time_copies(
+    rt: &HostRuntime,
+    name: &str,
+    payload: Payload,
+    count: u32,
+    items: u32,
+) -> io::Result<()> {
+    let each = ItemCount::new(count).unwrap_or(ItemCount::ZERO);
+    match Copies::new(rt.alloc(), payload, each) {
+        Ok(mut copies) => {
+            let rounds = items / count.max(1);
+            let start = Instant::now(rt)?;
+            copies.repeat(rounds);
+            let spent = start.elapsed(rt)?.as_nanos();
+            let sum = copies.sum();
+            println!(rt; "copied {count} of {name}: {sum}")?;
+            let copied = u128::from(rounds).saturating_mul(u128::from(count));
+            let item = spent.saturating_mul(1000) / copied.max(1);
+            eprintln!(rt; "{name} {count} {item}")
         }
         Err(error) => eprintln!(rt; "{error:?}"),
     }

@@ -1,8 +1,10 @@
 -- Numbers as bytes.
-use Rattle.std.proofs.Common.{◌≡◌, ℕ, zero, suc, ◌+◌, ◌*◌, ◌^◌, ◌<◌, ◌≤◌, ◌%◌, ◌/◌, ◌-◌, List, [], ◌∷◌, ◌++◌, length, take, drop, get_or, set, refl, sym, ap, add-one, append_assoc, arith, length-drop, length-append}
+use Rattle.std.proofs.Common.{◌≡◌, ℕ, zero, suc, ◌+◌, ◌*◌, ◌^◌, ◌<◌, ◌≤◌, ◌%◌, ◌/◌, ◌-◌, List, [], ◌∷◌, ◌++◌, length, take, drop, get_or, set, refl, sym, ap, add-one, append_assoc, arith, length-drop, length-append, ◌∙◌}
 use Rattle.std.proofs.lemmas.List.{length-take-le, drop-drop, get_or-drop, drop_more, set_split, take_more_set, drop-set-lt, take-append-le, drop-append-le}
+use Rattle.std.proofs.lemmas.Simd.{put_chunk_is}
 use Rattle.std.proofs.Math.Seq.{take-add}
 use Rattle.std.proofs.Math.Nat.{pow-suc}
+use lib.Lanes.{put_chunk}
 use Rattle.strm_memory.specs.Bytes.{le, to_le, put_at, IsBytes}
 
 pub le-append : (xs ys : List ℕ) → le (xs ++ ys) ≡ le xs + 256 ^ length xs * le ys
@@ -105,3 +107,10 @@ put_at-behind m to start new =
 pub put_at-append : (xs ys : List ℕ) (start : ℕ) (new : List ℕ) → start + length new ≤ length xs → put_at (xs ++ ys) start new ≡ put_at xs start new ++ ys
 put_at-append xs ys start new h =
     rw (take-append-le start xs ys (omega arith), drop-append-le (start + length new) xs ys h) (simp append_assoc)
+
+-- bytes stored as a vector's lanes
+pub put_chunk-put_at : (m : List ℕ) (to : ℕ) (new : List ℕ) → to + length new ≤ length m → put_chunk to m new ≡ put_at m to new
+put_chunk-put_at m to new h =
+    put_chunk_is to m new h
+    ∙ ap (λ rest. take to m ++ (new ++ rest)) (drop-drop (length new) to m)
+    ∙ sym (append_assoc (take to m) new (drop (to + length new) m))

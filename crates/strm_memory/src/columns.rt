@@ -10,6 +10,7 @@ ghost use Rattle.strm_memory.specs.Bytes.{put_at, bytes_at};
 ghost use Rattle.strm_memory.specs.Copies.{settled, copied_column, is_good_column};
 
 use crate::numbers::{is_scalar_value, load_4};
+use std::simd::Simd;
 use strm_codes::scalars::Scalar;
 
 // The field at an offset of each of so many items of a size, in bytes.
@@ -90,12 +91,12 @@ pub(crate) fn copy_column(
 {
     match scalar {
         Scalar::Bool => copy_bools(source, from, destination, to, column),
-        Scalar::S8 | Scalar::U8 => copy_widths(source, from, destination, to, 1, column),
-        Scalar::S16 | Scalar::U16 => copy_widths(source, from, destination, to, 2, column),
+        Scalar::S8 | Scalar::U8 => copy_widths::<1>(source, from, destination, to, column),
+        Scalar::S16 | Scalar::U16 => copy_widths::<2>(source, from, destination, to, column),
         Scalar::S32 | Scalar::U32 | Scalar::Char => {
-            copy_widths(source, from, destination, to, 4, column)
+            copy_widths::<4>(source, from, destination, to, column)
         }
-        Scalar::S64 | Scalar::U64 => copy_widths(source, from, destination, to, 8, column),
+        Scalar::S64 | Scalar::U64 => copy_widths::<8>(source, from, destination, to, column),
     }
 }
 
@@ -145,33 +146,36 @@ fn copy_flags(source: &[u8], from: usize, destination: &mut [u8], to: usize, col
 
 // Copies a field's bytes as they are.
 #[inline(always)]
-fn copy_widths(
+fn copy_widths<const N: usize>(
     source: &[u8],
     from: usize,
     destination: &mut [u8],
     to: usize,
-    width: usize,
     column: Column,
 )
-    requires inside { column.start + width ≤ column.size }
+    requires inside { column.start + N ≤ column.size }
     requires source_holds { from + column.size * column.count ≤ length source.now }
     requires destination_holds { to + column.size * column.count ≤ length destination.old }
     ensures { destination.new ≡ take to destination.old
-        ++ copied_column (λ bytes. bytes) width column.start column.size
+        ++ copied_column (λ bytes. bytes) N column.start column.size
         (drop from source.now) (drop to destination.old) column.count }
 {
     let Column { start, size, count } = column;
     let mut done = 0;
     for _k in 0..count {
-        copy_bytes(
-            source,
-            from + done + start,
-            destination,
-            to + done + start,
-            width,
-        );
+        copy_lanes::<N>(source, from + done + start, destination, to + done + start);
         done += size;
     }
+}
+
+// So many bytes by one load and one store, whether or not the two overlap.
+#[inline(always)]
+fn copy_lanes<const N: usize>(source: &[u8], from: usize, destination: &mut [u8], to: usize)
+    requires source_holds { from + N ≤ length source.now }
+    requires destination_holds { to + N ≤ length destination.old }
+    ensures { destination.new ≡ put_at destination.old to (bytes_at source.now from N) }
+{
+    Simd::<u8, N>::from_slice(&source[from..]).copy_to_slice(&mut destination[to..]);
 }
 
 // So many bytes, as they are.
