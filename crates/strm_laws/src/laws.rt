@@ -1,11 +1,15 @@
 //! The laws, for whichever steps; most speak of at most 4,294,967,295 (`AreSteps`).
 //!
-//! Meaning: `Laws.antt`, `Conservation.antt` and `Untouched.antt`. Ours.
+//! Meaning: `Laws.antt`, `Conservation.antt`, and `Untouched.antt` and `Asked.antt` of
+//! `strm_machine`. Ours.
 
-ghost use Rattle.std.specs.Prelude.{◌≡◌, ℕ, ◌≤◌, List, [], ◌∷◌, ◌++◌, length, false};
+ghost use Rattle.std.specs.Prelude.{◌≡◌, ◌↔◌, ℕ, ◌≤◌, List, [], ◌∷◌, ◌++◌, length, true, false};
 ghost use Rattle.strm_codes.specs.declared.codes.TransmitKind.TheVariants.{Future};
-ghost use Rattle.strm_machine.specs.State.{empty, stream_at};
+ghost use Rattle.strm_machine.specs.State.{State, empty, stream_at};
+ghost use Rattle.strm_machine.specs.Reactions.{react};
+ghost use Rattle.strm_machine.specs.Asked.{HasBadItem};
 ghost use Rattle.strm_machine.specs.declared.limits.Limits.{Limits};
+ghost use Rattle.strm_machine.specs.declared.replies.Reply.TheVariants as replies;
 ghost use Rattle.strm_machine.specs.declared.streams.Side.{Side};
 ghost use Rattle.strm_machine.specs.declared.steps.Step.{Step};
 ghost use Rattle.strm_machine.specs.Moments.{moment_of};
@@ -77,4 +81,22 @@ pub fn handles_hold_their_ends()
 pub fn other_bytes_stay()
     ensures { (tag : ℕ) (limits : Limits) (run : List Step) (step : Step) →
         AreSteps (run ++ step ∷ []) → StaysAside (moment_of (last (empty tag limits) run) step) }
+{}
+
+/// A step stops at a bad item exactly where one of the items that it asks to move at once is none, in
+/// whichever state. Then none of them moves: guests, their memories and handles, and all streams stay as
+/// they were, and the store is trapped. Nothing else traps a store, and a trapped one answers
+/// StoreTrapped to every step, and stays as it is.
+pub fn bad_items_move_nothing()
+    ensures cause { (state : State) (step : Step) (s : ℕ) → state.trapped ≡ false →
+        ((react state step).reply ≡ replies.BadItem s) ↔ HasBadItem state step s }
+    ensures nothing_moves { (state : State) (step : Step) (s : ℕ) →
+        (react state step).reply ≡ replies.BadItem s →
+        (react state step).state ≡ record state { trapped = true } }
+    ensures traps { (state : State) (step : Step) → state.trapped ≡ false →
+        (react state step).state.trapped ≡ true → (s : ℕ) × HasBadItem state step s }
+    ensures trapped { (state : State) (step : Step) →
+        ((react state step).reply ≡ replies.StoreTrapped) ↔ (state.trapped ≡ true) }
+    ensures stays { (state : State) (step : Step) → state.trapped ≡ true →
+        (react state step).state ≡ state }
 {}

@@ -24,3 +24,4 @@ pub mod AgreeLemmas
 pub mod TableLemmas
 pub mod HeldLemmas
 pub mod UntouchedLemmas
+pub mod AskedLemmas

@@ -9,6 +9,7 @@ pub mod Refusals
 pub mod Making
 pub mod Reactions
 pub mod Plays
+pub mod Asked
 pub mod Soundness
 pub mod Moments
 pub mod Untouched

@@ -1,6 +1,7 @@
 -- How a call of the store is a step of the machine. Ours.
 use Rattle.std.specs.Prelude.{Bool, false, ◌≡◌, true, Option, Some, None, Result, Ok, Err, if◌then◌else◌}
 use Rattle.strm_codes.specs.declared.refusals.Refusal.{Refusal}
+pub use Rattle.strm_machine.specs.Plays.{is_settled}
 use Rattle.strm_machine.specs.Acts.{act_of}
 use Rattle.strm_machine.specs.State.{State}
 use Rattle.strm_machine.specs.Reactions.{Reaction, goes}
@@ -18,12 +19,6 @@ is_done (replies.Refused refusal) = false
 is_done (replies.BadItem stream) = false
 is_done replies.StoreTrapped = false
 is_done _ = true
-
--- a reply of a step that is done or refused; after any other a run stops
-abbrev pub is_settled : Reply → Bool
-is_settled (replies.BadItem stream) = false
-is_settled replies.StoreTrapped = false
-is_settled _ = true
 
 -- the store's answer and the state after it are the machine's. A refusal, a store that was trapped
 -- and want of memory leave the state as it was; want of memory comes only where the machine does the
