@@ -32,7 +32,7 @@ use Rattle.strm_machine.proofs.ReactionLemmas.{refusal-drop}
 use Rattle.strm_machine.proofs.RefusalLemmas.{named_ok, drop_fits}
 use Rattle.strm_machine.proofs.SideLemmas.{same_side_is, StreamKeeps}
 use Rattle.strm_machine.proofs.SoundLemmas.{IsSound-dropped, sizes_of-with_handles, placed_at}
-use Rattle.strm_transmit.specs.Guests.{seen, live_in, removable}
+use Rattle.strm_turns.specs.Guests.{seen, live_in, removable}
 use Rattle.strm_transmit.specs.Inside.{state_of, IsStore}
 use Rattle.strm_transmit.specs.declared.store.Store.TheInside.{Inside}
 use Rattle.strm_transmit.proofs.StoreLemmas.{SameBut, IsStore-stream, IsStore-turn, live_sum, stream_at-there}

@@ -25,9 +25,9 @@ use Rattle.strm_machine.proofs.TurnLemmas.{GuestsKeep, TurnKeeps, with_memory-ke
 use Rattle.strm_codes.specs.declared.codes.TransmitIndex.{TransmitIndex}
 use Rattle.strm_machine.specs.Making.{with_read_end, with_ends, made_stream, made_pair, with_stream}
 use Rattle.strm_machine.specs.declared.replies.Pair.{Pair}
-use Rattle.strm_transmit.specs.Guests.{guest_of, seen, live_in}
+use Rattle.strm_turns.specs.Guests.{guest_of, seen, live_in}
 use Rattle.strm_transmit.specs.Inside.{state_of, IsStore}
-use Rattle.strm_transmit.specs.declared.guests.Guest as ours
+use Rattle.strm_turns.specs.declared.guests.Guest as ours
 use Rattle.strm_transmit.specs.declared.store.Store.TheInside.{Inside}
 
 -- fields that a call leaves as they were

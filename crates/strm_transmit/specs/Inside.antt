@@ -2,7 +2,7 @@
 use Rattle.std.specs.Prelude.{◌≡◌, ◌≤◌, length, count_by}
 use Rattle.strm_machine.specs.State.{State, is_live, handles_in_use, bytes_in_use}
 use Rattle.strm_machine.specs.Soundness.{IsSound}
-use Rattle.strm_transmit.specs.Guests.{seen}
+use Rattle.strm_turns.specs.Guests.{seen}
 use Rattle.strm_transmit.specs.declared.store.Store.TheInside.{Inside}
 
 -- the machine's state, of which counters and room are no part

@@ -1,4 +1,2 @@
-pub mod Guests
-pub mod Taking
 pub mod Inside
 pub mod Meets

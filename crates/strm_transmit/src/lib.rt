@@ -5,14 +5,9 @@
 //! `strm_handles` and the memories of `strm_memory`.
 #![tactic(auto)]
 
-mod endings;
-mod ends;
 pub mod errors;
-mod guests;
-mod sides;
 pub mod steps;
 pub mod store;
-mod turns;
 
 pub use strm_machine::chunks::Chunk;
 pub use strm_machine::limits::Limits;

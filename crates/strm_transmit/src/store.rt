@@ -13,9 +13,7 @@ mod making;
 mod memories;
 mod operations;
 
-use crate::endings::is_live;
 use crate::errors::StoreError;
-use crate::guests::Guest;
 use std::alloc::Global;
 use std::marker::Model;
 use strm_codes::codes::{TransmitIndex, TransmitKind};
@@ -23,6 +21,8 @@ use strm_codes::refusals::Refusal;
 use strm_handles::counters::HandleCounter;
 use strm_machine::limits::Limits;
 use strm_machine::streams::Stream;
+use strm_turns::endings::is_live;
+use strm_turns::guests::Guest;
 
 /// Guests and the streams between them.
 #[derive(Drop)]

@@ -15,15 +15,15 @@ ghost use Rattle.strm_machine.specs.declared.replies.Reply.TheVariants as replie
 ghost use Rattle.strm_machine.specs.declared.steps.Step.TheVariants as steps;
 ghost use Rattle.strm_transmit.specs.Meets.{Meets, replied, or_found};
 
-use crate::endings::cancel_operation;
 use crate::errors::StoreError;
-use crate::sides::{is_busy, same_side};
 use crate::store::Store;
 use strm_codes::codes::{ReturnCode, TransmitIndex};
 use strm_codes::payloads::Payload;
 use strm_codes::refusals::Refusal;
 use strm_machine::acts::NamedEnd;
 use strm_machine::streams::{Side, Stream};
+use strm_turns::endings::cancel_operation;
+use strm_turns::sides::{is_busy, same_side};
 
 // Why there is nothing to cancel.
 fn cancel_refusal(side: Side, stream: &Stream, named_side: Side) -> Option<Refusal>

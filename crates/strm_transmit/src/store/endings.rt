@@ -17,10 +17,7 @@ ghost use Rattle.strm_machine.specs.declared.steps.Step.TheVariants as steps;
 ghost use Rattle.strm_machine.proofs.NameLemmas.{IsEndError};
 ghost use Rattle.strm_transmit.specs.Meets.{Meets, replied, or_found};
 
-use crate::endings::{deliver_report, drop_end};
-use crate::ends::remove_end;
 use crate::errors::StoreError;
-use crate::sides::{is_busy, same_side};
 use crate::store::Store;
 use crate::store::operations::side_of;
 use strm_codes::codes::{ReturnCode, TransmitIndex, TransmitKind};
@@ -30,6 +27,9 @@ use strm_handles::entries::TransmitLocalState;
 use strm_handles::errors::HandleError;
 use strm_machine::acts::NamedEnd;
 use strm_machine::streams::{Side, Stream};
+use strm_turns::endings::{deliver_report, drop_end};
+use strm_turns::ends::remove_end;
+use strm_turns::sides::{is_busy, same_side};
 
 // Whether a future's write end still owes its value.
 fn owes_value(side: Side, kind: TransmitKind, stream: &Stream) -> bool

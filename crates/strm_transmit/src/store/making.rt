@@ -21,7 +21,6 @@ ghost use Rattle.strm_machine.specs.declared.steps.Step.TheVariants as steps;
 ghost use Rattle.strm_machine.specs.declared.streams.Owner.TheVariants.{Held};
 ghost use Rattle.strm_transmit.specs.Meets.{Meets, replied, or_found};
 
-use crate::ends::insert_ends;
 use crate::errors::StoreError;
 use crate::store::Store;
 use strm_codes::codes::TransmitIndex;
@@ -30,6 +29,7 @@ use strm_codes::refusals::Refusal;
 use strm_handles::entries::MAX_HANDLE;
 use strm_machine::replies::Pair;
 use strm_machine::streams::{End, Owner, Stream};
+use strm_turns::ends::insert_ends;
 
 /// The streams of a store, at most.
 const MOST_STREAMS: usize = 4_294_967_295;

@@ -13,12 +13,12 @@ ghost use Rattle.strm_machine.specs.declared.steps.Step.TheVariants as steps;
 ghost use Rattle.strm_transmit.specs.Meets.{Meets, replied, or_found};
 
 use crate::errors::StoreError;
-use crate::guests::{Guest, read_bytes, write_bytes};
 use crate::store::Store;
 use strm_codes::refusals::Refusal;
 use strm_handles::tables::HandleTable;
 use strm_machine::chunks::Chunk;
 use strm_memory::memories::GuestMemory;
+use strm_turns::guests::{Guest, read_bytes, write_bytes};
 
 /// The bytes of all memories together, at most.
 const MOST_BYTES: u64 = 268_435_456;

@@ -23,10 +23,7 @@ ghost use Rattle.strm_machine.proofs.NameLemmas.{IsNameError};
 ghost use Rattle.strm_transmit.specs.Meets.{Meets, replied, or_found};
 
 use crate::errors::StoreError;
-use crate::guests::memory;
-use crate::sides::{end_of, is_busy, opposite, same_side};
 use crate::store::Store;
-use crate::turns::{begin, take_turn};
 use strm_codes::codes::{ReturnCode, TransmitIndex, TransmitKind};
 use strm_codes::counts::{ItemCount, StreamOpTooBig};
 use strm_codes::payloads::Payload;
@@ -36,6 +33,9 @@ use strm_handles::errors::HandleError;
 use strm_machine::acts::NamedEnd;
 use strm_machine::streams::{Operation, Side, Stream};
 use strm_memory::memories::RegionError;
+use strm_turns::guests::memory;
+use strm_turns::sides::{end_of, is_busy, opposite, same_side};
+use strm_turns::turns::{begin, take_turn};
 
 // The items that a call asks for: a future's is one.
 #[inline(always)]

@@ -3,7 +3,7 @@ use Rattle.std.proofs.Common.{refl, sym, ◌∙◌, ap, set, arith}
 use Rattle.std.proofs.lemmas.List.{length-map}
 use Rattle.strm_machine.proofs.ReactionLemmas.{refusal-drop}
 use Rattle.strm_machine.proofs.RefusalLemmas.{drop_fits}
-use Rattle.strm_transmit.specs.Guests.{guest_of}
+use Rattle.strm_turns.specs.Guests.{guest_of}
 use Rattle.strm_transmit.specs.Inside.{state_of}
 use Rattle.strm_transmit.proofs.EndingLemmas.{removable_named, drop_there, drop_is, lost_fits, IsStore-dropped}
 use Rattle.strm_transmit.proofs.store.Store.drop_named.Goals as goal

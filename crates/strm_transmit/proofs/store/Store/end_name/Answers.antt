@@ -3,9 +3,9 @@ use Rattle.std.proofs.lemmas.List.{length-map}
 use Rattle.strm_handles.specs.Lookups.{end_rep_of}
 use Rattle.strm_machine.specs.State.{Guest}
 use Rattle.strm_machine.proofs.NameLemmas.{end_named_there}
-use Rattle.strm_transmit.specs.Guests.{guest_of}
+use Rattle.strm_turns.specs.Guests.{guest_of}
 use Rattle.strm_transmit.specs.Inside.{state_of}
-use Rattle.strm_transmit.proofs.GuestLemmas.{guest_in-seen}
+use Rattle.strm_turns.proofs.GuestLemmas.{guest_in-seen}
 use Rattle.strm_transmit.proofs.store.Store.end_name.Goals as goal
 
 pub returns-clause-there : goal.returns-clause-there

@@ -2,7 +2,7 @@ use Rattle.std.proofs.Common.{ap, sym, refl, ◌∙◌, set}
 use Rattle.strm_machine.specs.Turns.{Turn, turn}
 use Rattle.strm_machine.proofs.TurnLemmas.{turn-keeps}
 use Rattle.strm_machine.proofs.SoundLemmas.{placed_at}
-use Rattle.strm_transmit.specs.Guests.{seen}
+use Rattle.strm_turns.specs.Guests.{seen}
 use Rattle.strm_transmit.specs.Inside.{state_of}
 use Rattle.strm_transmit.proofs.StoreLemmas.{IsStore-turn, stream_at-there}
 use Rattle.strm_transmit.proofs.store.Store.take.Goals as goal

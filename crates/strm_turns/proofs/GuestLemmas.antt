@@ -1,0 +1,31 @@
+-- The store's guests as the machine's: one of them read, or changed.
+use Rattle.std.proofs.Common.{◌≡◌, ℕ, ◌<◌, false, List, length, get_or, set, Result, Ok, Err, sym, ap, ◌∙◌}
+use Rattle.std.specs.Prelude.{is_err, OnOk}
+use Rattle.std.proofs.lemmas.List.{get_or-map, map-set}
+use Rattle.strm_handles.specs.Handles.{Table}
+use Rattle.strm_machine.specs.State as machine
+use Rattle.strm_machine.specs.State.{no_guest, guest_in, memory_in, with_memory, with_handles}
+use Rattle.strm_turns.specs.Guests.{guest_of, seen}
+use Rattle.strm_turns.specs.declared.guests.Guest.{Guest}
+
+-- the guest that an index read
+pub guest_in-seen : (guests : List Guest) (g : ℕ) (x : Guest) → g < length guests → x ≡ get_or guests g x → guest_in (seen guests) g ≡ guest_of x
+guest_in-seen guests g x l e = get_or-map guest_of guests g x no_guest l ∙ ap guest_of (sym e)
+
+pub seen-with_memory : (guests : List Guest) (g : ℕ) (x : Guest) (memory : List ℕ) → g < length guests → x ≡ get_or guests g x → seen (set guests g (record { memory = memory; table = x.table })) ≡ with_memory (seen guests) g memory
+seen-with_memory guests g x memory l e =
+    map-set guest_of guests g (record { memory = memory; table = x.table })
+    ∙ ap (λ (k : machine.Guest). set (seen guests) g (record k { memory = memory })) (sym (guest_in-seen guests g x l e))
+
+pub seen-with_handles : (guests : List Guest) (g : ℕ) (x : Guest) (table : Table) → g < length guests → x ≡ get_or guests g x → seen (set guests g (record { memory = x.memory; table = table })) ≡ with_handles (seen guests) g table.handles
+seen-with_handles guests g x table l e =
+    map-set guest_of guests g (record { memory = x.memory; table = table })
+    ∙ ap (λ (k : machine.Guest). set (seen guests) g (record k { handles = table.handles })) (sym (guest_in-seen guests g x l e))
+
+pub memory_in-seen : (guests : List Guest) (g : ℕ) (x : Guest) → g < length guests → x ≡ get_or guests g x → memory_in (seen guests) g ≡ x.memory
+memory_in-seen guests g x l e = ap (λ (k : machine.Guest). k.memory) (guest_in-seen guests g x l e)
+
+-- what holds of a call that answered, where it did
+pub was_ok : {T E : Type 0} (r : Result T E) (P : Type 0) → is_err r ≡ false → OnOk r P → P
+was_ok (Ok v) P e p = p
+was_ok (Err v) P e p = cc

@@ -1,0 +1,3 @@
+pub mod GuestLemmas
+pub mod CarryingLemmas
+pub mod EndLemmas

@@ -1,0 +1,34 @@
+-- The store's guests, seen as the machine's: the room of their tables is no part of them. Ours.
+use Rattle.std.specs.Prelude.{ℕ, List, map, sum_by, slice_index_or, Result}
+use Rattle.strm_codes.specs.declared.codes.TransmitIndex.{TransmitIndex}
+use Rattle.strm_codes.specs.declared.codes.TransmitIndex.TheVariants as index
+use Rattle.strm_handles.specs.Handles.{Handles, live_of}
+use Rattle.strm_handles.specs.Ends.{without_value, stream_readable_of, stream_writable_of, future_readable_of, future_writable_of}
+use Rattle.strm_handles.specs.declared.errors.HandleError.{HandleError}
+use Rattle.strm_machine.specs.declared.streams.Side.{Side}
+use Rattle.strm_machine.specs.declared.streams.Side.TheVariants.{Writing, Reading}
+use Rattle.strm_machine.specs.State as machine
+use Rattle.strm_turns.specs.declared.guests.Guest.{Guest}
+
+-- a guest as the machine's: its memory, and what its handles stand for
+abbrev pub guest_of : Guest → machine.Guest
+guest_of g = record { memory = g.memory; handles = g.table.handles }
+
+-- the guests, as the machine's
+abbrev pub seen : List Guest → List machine.Guest
+seen guests = map guest_of guests
+
+-- how many inserts the table of a guest takes without memory
+abbrev pub room_in : List Guest → ℕ → ℕ
+room_in guests g = slice_index_or (map (λ (k : Guest). k.table.room) guests) g 0
+
+-- the live handles of guests together
+abbrev pub live_in : List machine.Guest → ℕ
+live_in guests = sum_by (λ (g : machine.Guest). live_of g.handles) guests
+
+-- what a table answers to the removal of an end
+abbrev pub removable : Side → TransmitIndex → Handles → ℕ → Result (Unit {0}) HandleError
+removable Writing (index.Stream payload) handles handle = without_value (stream_writable_of handles payload handle)
+removable Reading (index.Stream payload) handles handle = without_value (stream_readable_of handles payload handle)
+removable Writing (index.Future payload) handles handle = without_value (future_writable_of handles payload handle)
+removable Reading (index.Future payload) handles handle = without_value (future_readable_of handles payload handle)

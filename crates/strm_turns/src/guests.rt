@@ -1,0 +1,77 @@
+//! Guests: a memory and a handle table each.
+//!
+//! Source: wasmtime, the component instances that a store keeps.
+
+ghost use Rattle.std.specs.Prelude.{◌≡◌, ◌<◌, ◌≤◌, [], length, take, drop, false};
+ghost use Rattle.strm_memory.specs.Bytes.{put_at};
+ghost use Rattle.strm_memory.specs.Region.{bytes_out_of_bounds};
+ghost use Rattle.strm_machine.specs.State.{memory_in, with_memory};
+ghost use Rattle.strm_turns.specs.Guests.{seen};
+
+use std::alloc::Global;
+use std::mem;
+use strm_handles::tables::HandleTable;
+use strm_memory::memories::GuestMemory;
+
+/// A guest.
+#[derive(Drop)]
+pub struct Guest {
+    pub memory: GuestMemory,
+    pub table: HandleTable,
+}
+
+/// The memory of a guest.
+#[inline(always)]
+pub fn memory(guests: &Vec<Guest>, guest: usize) -> &GuestMemory
+    requires { guest < length guests.now.items }
+    ensures { result.now ≡ memory_in (seen guests.now.items) guest }
+{
+    &guests[guest].memory
+}
+
+/// Takes a guest's memory out, and leaves no bytes.
+#[inline(always)]
+pub fn take_memory(alloc: Global, guests: &mut Vec<Guest>, guest: usize) -> GuestMemory
+    requires { guest < length guests.old.items }
+    ensures memory { result ≡ memory_in (seen guests.old.items) guest }
+    ensures rest { seen guests.new.items ≡ with_memory (seen guests.old.items) guest [] }
+    ensures count { length guests.new.items ≡ length guests.old.items }
+{
+    mem::replace(&mut guests[guest].memory, GuestMemory::empty(alloc))
+}
+
+/// Gives a guest another memory.
+#[inline(always)]
+pub fn put_memory(guests: &mut Vec<Guest>, guest: usize, memory: GuestMemory)
+    requires { guest < length guests.old.items }
+    ensures guests { seen guests.new.items ≡ with_memory (seen guests.old.items) guest memory }
+    ensures count { length guests.new.items ≡ length guests.old.items }
+{
+    guests[guest].memory = memory;
+}
+
+/// Puts bytes into a guest's memory.
+pub fn write_bytes(guests: &mut Vec<Guest>, guest: usize, address: u32, bytes: &[u8])
+    requires there { guest < length guests.old.items }
+    requires inside { bytes_out_of_bounds (length (memory_in (seen guests.old.items) guest)) address
+        (length bytes.now) ≡ false }
+    ensures guests { seen guests.new.items ≡ with_memory (seen guests.old.items) guest
+        (put_at (memory_in (seen guests.old.items) guest) address bytes.now) }
+    ensures count { length guests.new.items ≡ length guests.old.items }
+{
+    let memory = &mut guests[guest].memory;
+    let _ = memory.store(address, bytes);
+}
+
+/// So many bytes of a guest's memory.
+pub fn read_bytes(guests: &Vec<Guest>, guest: usize, address: u32, len: u32) -> &[u8]
+    requires there { guest < length guests.now.items }
+    requires inside { bytes_out_of_bounds (length (memory_in (seen guests.now.items) guest)) address
+        len ≡ false }
+    ensures exact { result.now ≡ take len (drop address (memory_in (seen guests.now.items) guest)) }
+    ensures most { length result.now ≤ len }
+{
+    let bytes = memory(guests, guest).bytes();
+    let from = (address as usize).min(bytes.len());
+    &bytes[from..from + len as usize]
+}

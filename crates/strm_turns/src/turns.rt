@@ -1,0 +1,359 @@
+//! What one read or write does to its stream and to the guests.
+//!
+//! Meaning: `Turns.antt` and `Meetings.antt` of `strm_machine`. Source: Component Model, "Stream
+//! Readiness"; wasmtime, `guest_write` and `guest_read`, which are one function here.
+
+ghost use Rattle.std.specs.Prelude.{◌≡◌, ◌≢◌, ◌+◌, ◌*◌, ◌^◌, ◌<◌, ◌≤◌, List, true, sum, length, min, Some, None, Ok, OnOk, OnErr};
+ghost use Rattle.strm_codes.specs.Layout.{scalars_of, item_size};
+ghost use Rattle.strm_machine.specs.Sides.{opposite, end_of, with_end, write_of, read_of};
+ghost use Rattle.strm_machine.specs.Tests.{is_open_of};
+ghost use Rattle.strm_machine.specs.State as machine;
+ghost use Rattle.strm_machine.specs.State.{memory_in};
+ghost use Rattle.strm_memory.specs.Region.{is_out_of_bounds};
+ghost use Rattle.strm_memory.specs.Items.{items_at, stored_at, is_number_or_none};
+ghost use Rattle.std.specs.Prelude.{IsTrue, IsSomeAnd};
+ghost use Rattle.std.specs.Prelude.{false};
+ghost use Rattle.strm_machine.specs.Meetings.{begun, advanced, meeting_of, carried};
+ghost use Rattle.strm_machine.specs.Turns.{with_received, answers, completes_alone, moves, rendezvous, turn};
+ghost use Rattle.strm_machine.specs.Soundness.{sizes_of, IsPlaced, StreamIsPlaced};
+ghost use Rattle.strm_turns.specs.Guests.{seen};
+ghost use Rattle.strm_turns.specs.Taking.{taken};
+
+use crate::guests::{Guest, memory, put_memory, take_memory};
+use crate::sides::{end_of, opposite, same_side, set_operation};
+use std::alloc::Global;
+use strm_codes::codes::{ReturnCode, StreamResult, TransmitKind};
+use strm_codes::counts::ItemCount;
+use strm_codes::payloads::Payload;
+use strm_machine::streams::{Meeting, Operation, Owner, Side, Stream};
+use strm_memory::copies::BadItem;
+use strm_memory::memories::GuestMemory;
+use strm_memory::moves::copy_within_items;
+
+/// A read or write of so many items that is just called.
+#[inline(always)]
+pub fn begin(guest: u32, address: u32, count: ItemCount) -> Operation
+    ensures { result ≡ begun guest address count }
+{
+    Operation {
+        guest,
+        address,
+        left: count,
+        moved: ItemCount::ZERO,
+        is_open: true,
+        met: false,
+        asked: false,
+        outcome: StreamResult::Completed,
+    }
+}
+
+// A waiting operation of which so many items more were moved.
+#[inline(always)]
+fn advance(payload: Payload, operation: &Operation, count: ItemCount) -> Operation
+    requires left { count ≤ operation.now.left }
+    requires counted { operation.now.moved + count < 2 ^ 28 }
+    requires room { operation.now.address + item_size (scalars_of payload) * count < 2 ^ 32 }
+    ensures { result ≡ advanced payload operation.now count }
+{
+    let mut next = *operation;
+    next.address += payload.size() * count.as_u32();
+    next.left = operation.left.sub(count);
+    next.moved = operation.moved.add(count);
+    next.is_open = next.left.as_u32() > 0;
+    next.met = true;
+    next.outcome = StreamResult::Completed;
+    next
+}
+
+#[inline(always)]
+fn meeting(write: ItemCount, read: ItemCount) -> Meeting
+    ensures { result ≡ meeting_of write read }
+{
+    if write.equals_u32(0) {
+        Meeting::WriteCompletes
+    } else if read.equals_u32(0) {
+        Meeting::ReadCompletes
+    } else {
+        Meeting::BothComplete
+    }
+}
+
+// So many items more were received.
+#[inline(always)]
+fn receive(stream: &mut Stream, count: ItemCount)
+    ensures { stream.new ≡ with_received stream.old count }
+{
+    stream.passed = stream.passed || stream.kind == TransmitKind::Future;
+    stream.received = stream.received.saturating_add(u128::from(count.as_u32()));
+}
+
+// The other end is gone, which this end learns.
+fn learn(stream: &mut Stream, side: Side)
+    ensures { stream.new ≡ with_end side stream.old
+        (record (end_of side stream.old) { told = true }) }
+{
+    match side {
+        Side::Writing => stream.writer.told = true,
+        Side::Reading => stream.reader.told = true,
+    }
+}
+
+// A side completes alone.
+fn complete_alone(
+    stream: &mut Stream,
+    who: Side,
+    side: Side,
+    mine: Operation,
+    theirs: Operation,
+) -> ReturnCode
+    requires counted { theirs.moved < 2 ^ 28 }
+    requires room { theirs.address < 2 ^ 32 }
+    ensures { (guests : List machine.Guest) →
+        completes_alone who side guests stream.old mine theirs ≡ answers result guests stream.new }
+{
+    if same_side(who, side) {
+        return ReturnCode::completed(stream.kind, ItemCount::ZERO);
+    }
+    let stopped = advance(stream.payload, &theirs, ItemCount::ZERO);
+    set_operation(stream, opposite(side), stopped);
+    set_operation(stream, side, mine);
+    ReturnCode::Blocked
+}
+
+#[inline(always)]
+fn lesser(one: ItemCount, other: ItemCount) -> ItemCount
+    ensures { result ≡ min one other }
+{
+    if one.as_u32() < other.as_u32() {
+        one
+    } else {
+        other
+    }
+}
+
+// Items move within the memory of one guest.
+fn carry_within(
+    alloc: Global,
+    guests: &mut Vec<Guest>,
+    payload: Payload,
+    write: &Operation,
+    read: &Operation,
+    count: ItemCount,
+)
+    requires same { write.now.guest ≡ read.now.guest }
+    requires there { read.now.guest < length guests.old.items }
+    requires numbers { IsTrue (is_number_or_none payload) }
+    requires source { write.now.address + item_size (scalars_of payload) * count
+        ≤ length (memory_in (seen guests.old.items) read.now.guest) }
+    requires target { read.now.address + item_size (scalars_of payload) * count
+        ≤ length (memory_in (seen guests.old.items) read.now.guest) }
+    ensures carried { carried (seen guests.old.items) payload write.now read.now count
+        ≡ Some (seen guests.new.items) }
+    ensures length { length guests.new.items ≡ length guests.old.items }
+{
+    let to = read.guest as usize;
+    let mut memory = take_memory(alloc, guests, to);
+    move_within(&mut memory, write.address, read.address, payload, count);
+    put_memory(guests, to, memory);
+}
+
+fn move_within(memory: &mut GuestMemory, from: u32, to: u32, payload: Payload, count: ItemCount)
+    requires numbers { IsTrue (is_number_or_none payload) }
+    requires source { from + item_size (scalars_of payload) * count ≤ length memory.old }
+    requires target { to + item_size (scalars_of payload) * count ≤ length memory.old }
+    ensures { IsSomeAnd (items_at (scalars_of payload) memory.old from count)
+        (λ xs. memory.new ≡ stored_at (scalars_of payload) memory.old to xs) }
+{
+    copy_within_items(memory.bytes_mut(), from, to, payload, count);
+}
+
+// Items move from the memory of one guest to another's.
+#[inline(always)]
+fn carry_between(
+    alloc: Global,
+    guests: &mut Vec<Guest>,
+    payload: Payload,
+    write: &Operation,
+    read: &Operation,
+    count: ItemCount,
+) -> Result<(), BadItem>
+    requires apart { write.now.guest ≢ read.now.guest }
+    requires writer { write.now.guest < length guests.old.items }
+    requires reader { read.now.guest < length guests.old.items }
+    requires source { write.now.address + item_size (scalars_of payload) * count
+        ≤ length (memory_in (seen guests.old.items) write.now.guest) }
+    requires target { read.now.address + item_size (scalars_of payload) * count
+        ≤ length (memory_in (seen guests.old.items) read.now.guest) }
+    ensures ok { OnOk result (carried (seen guests.old.items) payload write.now read.now count
+        ≡ Some (seen guests.new.items)) }
+    ensures bad { OnErr result (carried (seen guests.old.items) payload write.now read.now count
+        ≡ None) }
+    ensures err { OnErr result (seen guests.new.items ≡ seen guests.old.items) }
+    ensures length { length guests.new.items ≡ length guests.old.items }
+{
+    let to = read.guest as usize;
+    let mut target = take_memory(alloc, guests, to);
+    let source = memory(guests, write.guest as usize);
+    let moved = target.receive(read.address, source, write.address, payload, count);
+    put_memory(guests, to, target);
+    moved
+}
+
+// Items move from where the write's next ones lie to where the read's are to lie.
+#[inline(always)]
+fn carry(
+    alloc: Global,
+    guests: &mut Vec<Guest>,
+    payload: Payload,
+    write: &Operation,
+    read: &Operation,
+    count: ItemCount,
+) -> Result<(), BadItem>
+    requires writer { write.now.guest < length guests.old.items }
+    requires reader { read.now.guest < length guests.old.items }
+    requires numbers { write.now.guest ≡ read.now.guest → IsTrue (is_number_or_none payload) }
+    requires source { is_out_of_bounds (length (memory_in (seen guests.old.items) write.now.guest))
+        (scalars_of payload) write.now.address count ≡ false }
+    requires target { is_out_of_bounds (length (memory_in (seen guests.old.items) read.now.guest))
+        (scalars_of payload) read.now.address count ≡ false }
+    requires some { 0 < count }
+    ensures ok { OnOk result (carried (seen guests.old.items) payload write.now read.now count
+        ≡ Some (seen guests.new.items)) }
+    ensures bad { OnErr result (carried (seen guests.old.items) payload write.now read.now count
+        ≡ None) }
+    ensures err { OnErr result (seen guests.new.items ≡ seen guests.old.items) }
+    ensures length { length guests.new.items ≡ length guests.old.items }
+{
+    if payload.size() == 0 {
+        return Ok(());
+    }
+    if write.guest == read.guest {
+        carry_within(alloc, guests, payload, write, read, count);
+        return Ok(());
+    }
+    carry_between(alloc, guests, payload, write, read, count)
+}
+
+// Items move from the side that writes to the one that reads.
+#[inline(always)]
+fn carry_from(
+    alloc: Global,
+    guests: &mut Vec<Guest>,
+    payload: Payload,
+    side: Side,
+    mine: &Operation,
+    theirs: &Operation,
+    count: ItemCount,
+) -> Result<(), BadItem>
+    requires mine { IsPlaced (sizes_of (seen guests.old.items)) payload mine.now }
+    requires theirs { IsPlaced (sizes_of (seen guests.old.items)) payload theirs.now }
+    requires numbers { mine.now.guest ≡ theirs.now.guest → IsTrue (is_number_or_none payload) }
+    requires mine_left { count ≤ mine.now.left }
+    requires theirs_left { count ≤ theirs.now.left }
+    requires some { 0 < count }
+    ensures ok { OnOk result (carried (seen guests.old.items) payload (write_of side mine.now theirs.now)
+        (read_of side mine.now theirs.now) count ≡ Some (seen guests.new.items)) }
+    ensures bad { OnErr result (carried (seen guests.old.items) payload (write_of side mine.now theirs.now)
+        (read_of side mine.now theirs.now) count ≡ None) }
+    ensures err { OnErr result (seen guests.new.items ≡ seen guests.old.items) }
+{
+    match side {
+        Side::Writing => carry(alloc, guests, payload, mine, theirs, count),
+        Side::Reading => carry(alloc, guests, payload, theirs, mine, count),
+    }
+}
+
+// Both complete: items move, the caller completes, and the waiting side has met.
+#[inline(always)]
+fn exchange(
+    alloc: Global,
+    guests: &mut Vec<Guest>,
+    stream: &mut Stream,
+    side: Side,
+    mine: &Operation,
+    theirs: &Operation,
+) -> Result<ReturnCode, BadItem>
+    requires mine { IsPlaced (sizes_of (seen guests.old.items)) stream.old.payload mine.now }
+    requires theirs { IsPlaced (sizes_of (seen guests.old.items)) stream.old.payload theirs.now }
+    requires numbers { mine.now.guest ≡ theirs.now.guest
+        → IsTrue (is_number_or_none stream.old.payload) }
+    requires some { 0 < min mine.now.left theirs.now.left }
+    requires room { theirs.now.address
+        + item_size (scalars_of stream.old.payload) * min mine.now.left theirs.now.left < 2 ^ 32 }
+    ensures { moves side (seen guests.old.items) stream.old mine.now theirs.now
+        (min mine.now.left theirs.now.left)
+        (carried (seen guests.old.items) stream.old.payload (write_of side mine.now theirs.now)
+        (read_of side mine.now theirs.now) (min mine.now.left theirs.now.left))
+        ≡ taken result guests.new.items stream.new }
+{
+    let count = lesser(mine.left, theirs.left);
+    match carry_from(alloc, guests, stream.payload, side, mine, theirs, count) {
+        Ok(()) => {
+            receive(stream, count);
+            let met = advance(stream.payload, theirs, count);
+            set_operation(stream, opposite(side), met);
+            Ok(ReturnCode::completed(stream.kind, count))
+        }
+        Err(bad_item) => Err(bad_item),
+    }
+}
+
+// Mine is called where theirs is open.
+#[inline(always)]
+fn meet(
+    alloc: Global,
+    guests: &mut Vec<Guest>,
+    stream: &mut Stream,
+    side: Side,
+    mine: Operation,
+    theirs: Operation,
+) -> Result<ReturnCode, BadItem>
+    requires mine { IsPlaced (sizes_of (seen guests.old.items)) stream.old.payload mine }
+    requires theirs { IsPlaced (sizes_of (seen guests.old.items)) stream.old.payload theirs }
+    requires numbers { mine.guest ≡ theirs.guest → IsTrue (is_number_or_none stream.old.payload) }
+    requires sizes { sum (sizes_of (seen guests.old.items)) ≤ 268435456 }
+    ensures { rendezvous side (seen guests.old.items) stream.old mine theirs
+        ≡ taken result guests.new.items stream.new }
+{
+    let met = match side {
+        Side::Writing => meeting(mine.left, theirs.left),
+        Side::Reading => meeting(theirs.left, mine.left),
+    };
+    match met {
+        Meeting::BothComplete => exchange(alloc, guests, stream, side, &mine, &theirs),
+        Meeting::WriteCompletes => Ok(complete_alone(stream, Side::Writing, side, mine, theirs)),
+        Meeting::ReadCompletes => Ok(complete_alone(stream, Side::Reading, side, mine, theirs)),
+    }
+}
+
+/// A read or write of a guest, by what it finds on the other side. After a bad item nothing has
+/// changed.
+#[inline(always)]
+#[tactic(auto, unfolding(strm_machine::specs::Turns::turn))]
+pub fn take_turn(
+    alloc: Global,
+    guests: &mut Vec<Guest>,
+    stream: &mut Stream,
+    side: Side,
+    mine: Operation,
+) -> Result<ReturnCode, BadItem>
+    requires placed { StreamIsPlaced (sizes_of (seen guests.old.items)) stream.old }
+    requires mine { IsPlaced (sizes_of (seen guests.old.items)) stream.old.payload mine }
+    requires sizes { sum (sizes_of (seen guests.old.items)) ≤ 268435456 }
+    requires numbers { IsTrue (is_open_of mine.guest (end_of (opposite side) stream.old).operation)
+        → IsTrue (is_number_or_none stream.old.payload) }
+    ensures { turn side (seen guests.old.items) stream.old mine
+        ≡ taken result guests.new.items stream.new }
+{
+    if end_of(stream, opposite(side)).owner == Owner::Gone {
+        learn(stream, side);
+        return Ok(ReturnCode::Dropped(ItemCount::ZERO));
+    }
+    match end_of(stream, opposite(side)).operation {
+        Some(theirs) if theirs.is_open => meet(alloc, guests, stream, side, mine, theirs),
+        _ => {
+            set_operation(stream, side, mine);
+            Ok(ReturnCode::Blocked)
+        }
+    }
+}
