@@ -35,6 +35,7 @@ pub(crate) fn is_good_column(source: &[u8], from: usize, scalar: Scalar, column:
 }
 
 // The same of characters. With a constant size the compiler makes vector code of the loop.
+#[inline(never)]
 fn are_chars(source: &[u8], from: usize, column: Column) -> bool
     requires inside { column.start + 4 ≤ column.size }
     requires holds { from + column.size * column.count ≤ length source.now }
@@ -89,18 +90,19 @@ pub(crate) fn copy_column(
         ++ copied_column (settled scalar) (size_of scalar) column.start column.size
         (drop from source.now) (drop to destination.old) column.count }
 {
-    match scalar {
-        Scalar::Bool => copy_bools(source, from, destination, to, column),
-        Scalar::S8 | Scalar::U8 => copy_widths::<1>(source, from, destination, to, column),
-        Scalar::S16 | Scalar::U16 => copy_widths::<2>(source, from, destination, to, column),
-        Scalar::S32 | Scalar::U32 | Scalar::Char => {
-            copy_widths::<4>(source, from, destination, to, column)
-        }
-        Scalar::S64 | Scalar::U64 => copy_widths::<8>(source, from, destination, to, column),
+    if matches!(scalar, Scalar::Bool) {
+        return copy_bools(source, from, destination, to, column);
+    }
+    match scalar.size() {
+        1 => copy_widths::<1>(source, from, destination, to, column),
+        2 => copy_widths::<2>(source, from, destination, to, column),
+        4 => copy_widths::<4>(source, from, destination, to, column),
+        _ => copy_widths::<8>(source, from, destination, to, column),
     }
 }
 
 // Copies a flag. With a constant size the compiler makes vector code of the loop.
+#[inline(never)]
 fn copy_bools(source: &[u8], from: usize, destination: &mut [u8], to: usize, column: Column)
     requires inside { column.start + 1 ≤ column.size }
     requires source_holds { from + column.size * column.count ≤ length source.now }
@@ -144,8 +146,9 @@ fn copy_flags(source: &[u8], from: usize, destination: &mut [u8], to: usize, col
     }
 }
 
-// Copies a field's bytes as they are.
-#[inline(always)]
+// Copies a field's bytes as they are. Out of line, so that each width has a loop of its own that needs few
+// registers.
+#[inline(never)]
 fn copy_widths<const N: usize>(
     source: &[u8],
     from: usize,

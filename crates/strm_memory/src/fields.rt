@@ -22,17 +22,14 @@ pub(crate) fn field_start(fields: &[Scalar], k: usize, at: usize) -> usize
     next_start(at, fields[k])
 }
 
-// Where a scalar begins that may begin at an offset. Each divisor is a constant.
+// Where a scalar begins that may begin at an offset. Its size is a power of two, so a mask will do.
 fn next_start(at: usize, scalar: Scalar) -> usize
     requires { at + gap_before at (size_of scalar) + size_of scalar < 2 ^ 64 }
     ensures { result ≡ at + gap_before at (size_of scalar) }
 {
-    match scalar {
-        Scalar::Bool | Scalar::S8 | Scalar::U8 => at,
-        Scalar::S16 | Scalar::U16 => (at + 1) / 2 * 2,
-        Scalar::S32 | Scalar::U32 | Scalar::Char => (at + 3) / 4 * 4,
-        Scalar::S64 | Scalar::U64 => (at + 7) / 8 * 8,
-    }
+    let size = scalar.size() as usize;
+    let over = at & (size - 1);
+    at + ((size - over) & (size - 1))
 }
 
 // The number that a field's bytes stand for.
