@@ -192,6 +192,11 @@ items-stored ss bytes (x ∷ xs) h l =
 pub stored_at-nil : (ss : List Scalar) (memory : List ℕ) (address : ℕ) → stored_at ss memory address [] ≡ memory
 stored_at-nil ss memory address = rw (stored-nil ss (drop address memory)) (take-append-drop address memory)
 
+-- one item stored is its encoding
+pub stored_at-one : (ss : List Scalar) (memory : List ℕ) (address : ℕ) (x : List ℤ) → stored_at ss memory address (x ∷ []) ≡ take address memory ++ encode ss (drop address memory) x
+unfolding stored
+stored_at-one ss memory address x = ap (λ l. take address memory ++ l) (take-append-drop (item_size ss) (encode ss (drop address memory) x))
+
 -- the bytes that these items take
 abbrev pub bytes_of : List Scalar → List (List ℤ) → ℕ
 bytes_of ss xs = item_size ss * length xs

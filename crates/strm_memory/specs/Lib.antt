@@ -4,3 +4,4 @@ pub mod Items
 pub mod Copies
 pub mod Region
 pub mod Lending
+pub mod Apart

@@ -2,7 +2,7 @@
 //!
 //! Source: Canonical ABI, "Loading" and "Storing", for lists of records.
 
-ghost use Rattle.std.specs.Prelude.{◌≡◌, ℕ, ◌+◌, ◌*◌, ◌<◌, ◌≤◌, ◌++◌, length, take, drop, Err, IsErrOf, IsSomeAnd, OnOk, OnErr, vec_len, vec_capacity};
+ghost use Rattle.std.specs.Prelude.{◌≡◌, ℕ, ◌+◌, ◌*◌, ◌<◌, ◌≤◌, [], ◌∷◌, ◌++◌, length, take, drop, Err, IsErrOf, IsSomeAnd, OnOk, OnErr, vec_len, vec_capacity};
 ghost use Rattle.strm_codes.specs.Items.{FitsItem};
 ghost use Rattle.strm_codes.specs.Layout.{scalars_of, end_offset, item_size};
 ghost use Rattle.strm_memory.specs.Items.{decode, encode, items, items_at, stored, stored_at, AreItems, IsFirstBad};
@@ -85,6 +85,24 @@ pub(crate) fn lift_fields(
         at += size;
     }
     Ok(())
+}
+
+/// The item that lies in the bytes from a place on; none where it holds a character that is no
+/// Unicode scalar value. Takes no memory.
+pub fn lift_item_at(bytes: &[u8], from: usize, payload: Payload) -> Option<Value>
+    requires { from + item_size (scalars_of payload) ≤ length bytes.now }
+    ensures { result ≡ decode (scalars_of payload) (drop from bytes.now) }
+{
+    lift_item(payload.scalars(), bytes, from)
+}
+
+/// Stores one item in the bytes from a place on. Padding stays as it was. Takes no memory.
+pub fn lower_item_at(item: &Value, payload: Payload, bytes: &mut [u8], to: usize)
+    requires fits { FitsItem (scalars_of payload) item.now }
+    requires holds { to + item_size (scalars_of payload) ≤ length bytes.old }
+    ensures { bytes.new ≡ stored_at (scalars_of payload) bytes.old to (item.now ∷ []) }
+{
+    lower_item(payload.scalars(), item, bytes, to);
 }
 
 // The item that lies there, or none.

@@ -12,3 +12,5 @@ pub mod laws;
 pub mod memories;
 pub mod moves;
 mod numbers;
+pub mod payloaded;
+pub mod typed_fields;

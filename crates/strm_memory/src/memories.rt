@@ -67,6 +67,21 @@ impl GuestMemory {
         }
     }
 
+    /// The memory that consists of these bytes. Takes no memory.
+    pub fn of_bytes(bytes: Vec<u8>) -> GuestMemory
+        ensures { result ≡ bytes.items }
+    {
+        GuestMemory { bytes }
+    }
+
+    /// All bytes, and no memory behind. Takes no memory.
+    pub fn into_bytes(self) -> Vec<u8>
+        ensures { result.items ≡ self }
+    {
+        let GuestMemory { bytes } = self;
+        bytes
+    }
+
     /// How many bytes there are.
     pub fn len(&self) -> usize
         ensures { result ≡ length self.now }
