@@ -1,4 +1,3 @@
-pub mod PortLemmas
 pub mod PlayLemmas
 pub mod CalmLemmas
 pub mod ServingLemmas

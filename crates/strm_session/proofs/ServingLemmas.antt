@@ -4,7 +4,7 @@ use Rattle.std.proofs.Common.{◌≡◌, ◌≢◌, ℕ, ◌≤◌, List, [], �
 use Rattle.std.proofs.lemmas.Bool.{cases_eq}
 use Rattle.std.specs.Prelude.{codes}
 use Rattle.strm_machine.specs.declared.steps.Step.{Step}
-use Rattle.strm_session.specs.Faults.{Rose}
+use Rattle.strm_ports.specs.Faults.{Rose}
 use Rattle.strm_lines.specs.Lines.{lines_of, Spells, IsFirstBad, IsTooLong}
 use Rattle.strm_session.specs.Serving.{IsRun, IsAnswer}
 use Rattle.std.specs.Io.KnownBytes.{IsAtEnd}

@@ -1,5 +1,3 @@
-pub mod Faults
-pub mod InMemory
 pub mod Runs
 pub mod Serving
 pub use Rattle.strm_lines.specs.Words
@@ -8,3 +6,5 @@ pub use Rattle.strm_lines.specs.Plain
 pub use Rattle.strm_lines.specs.Lines
 pub use Rattle.strm_lines.specs.Reading
 pub use Rattle.strm_lines.specs.Text
+pub use Rattle.strm_ports.specs.Faults
+pub use Rattle.strm_ports.specs.InMemory

@@ -5,7 +5,7 @@ use Rattle.strm_machine.specs.State.{State}
 use Rattle.strm_machine.specs.Plays.{play, Ends}
 use Rattle.strm_machine.specs.declared.steps.Step.{Step}
 use Rattle.strm_machine.specs.declared.replies.Reply.{Reply}
-use Rattle.strm_session.specs.Faults.{Rose}
+use Rattle.strm_ports.specs.Faults.{Rose}
 use Rattle.strm_lines.specs.Lines.{lines_of, Spells, IsFirstBad, IsTooLong}
 use Rattle.strm_session.specs.Runs.{start, counts_of, IsKept}
 use Rattle.strm_lines.specs.Text.{transcript_text, usage_text, bad_line_text, too_long_text, read_fault_text}

@@ -11,19 +11,19 @@ ghost use Rattle.strm_machine.specs.declared.replies.Reply.{Reply};
 ghost use Rattle.strm_lines.specs.Plain.{IsPlain};
 ghost use Rattle.strm_session.specs.Runs.{start, counts_of, IsKept};
 ghost use Rattle.strm_lines.specs.Text.{transcript_text};
-ghost use Rattle.strm_session.specs.Faults.{Rose, TakesPart};
+ghost use Rattle.strm_ports.specs.Faults.{Rose, TakesPart};
 ghost use Rattle.strm_lines.specs.Lines.{lines_of, Spells, IsFirstBad, IsTooLong};
 ghost use Rattle.strm_session.specs.Serving.{IsRun, IsAnswer, IsStatus, IsFaultless};
 
-use crate::ports::{Sink, Source};
 use crate::runs::{RunCause, run};
 use crate::texts::{bad_line_text, read_fault_text, text, too_long_text, usage_text};
-use crate::whole::{InputError, read_all, write_whole};
 use std::alloc::Global;
 use strm_codes::counts::OutOfMemory;
 use strm_lines::lists::TextBytes;
 use strm_lines::parsing::{MAX_BYTES, ParseError, parse};
 use strm_machine::steps::Step;
+use strm_ports::ports::{Sink, Source};
+use strm_ports::whole::{InputError, read_all, write_whole};
 
 /// The statuses of the program.
 pub const DONE: u8 = 0;

@@ -1,6 +1,6 @@
 use Rattle.std.proofs.Common.{arith}
-use Rattle.strm_session.proofs.PortLemmas.{Appends-take}
-use Rattle.strm_session.proofs.whole.write_whole.Goals as goal
+use Rattle.strm_ports.proofs.PortLemmas.{Appends-take}
+use Rattle.strm_ports.proofs.whole.write_whole.Goals as goal
 
 pub loop-done-preserved : goal.loop-done-preserved
 loop-done-preserved g c = record {

@@ -5,7 +5,7 @@
 ghost use Rattle.std.specs.Prelude.{◌≡◌, ℕ, List, [], ◌<◌, ◌≤◌, ◌↔◌, length, Option, IfSome, IfOk, OnErr};
 ghost use Rattle.std.specs.Io.{ReadsAtMost, WritesAtMost};
 ghost use Rattle.std.specs.Io.KnownBytes.{ReadConsumes, WriteAppends};
-ghost use Rattle.strm_session.specs.Faults.{Rose};
+ghost use Rattle.strm_ports.specs.Faults.{Rose};
 
 /// A read or a write failed: what is left, or what was taken, is as it was.
 #[derive(Clone, Copy, Debug, PartialEq, Eq)]

@@ -5,8 +5,8 @@
 ghost use Rattle.std.specs.Prelude.{◌≡◌, ◌+◌, ◌<◌, ◌≤◌, ℕ, List, length, IfOk, OnOk, OnErr, IfSome, Err, vec_len};
 ghost use Rattle.std.specs.Io.{ReadsAtMost};
 ghost use Rattle.std.specs.Io.KnownBytes.{Appends, Consumes, IsAtEnd, ReadConsumes};
-ghost use Rattle.strm_session.specs.Faults.{Rose, TakesPart};
-ghost use Rattle.strm_session.specs.declared.whole.InputError.TheVariants.{Fault, OutOfMemory as WantOfMemory};
+ghost use Rattle.strm_ports.specs.Faults.{Rose, TakesPart};
+ghost use Rattle.strm_ports.specs.declared.whole.InputError.TheVariants.{Fault, OutOfMemory as WantOfMemory};
 
 use crate::ports::{Failed, Sink, Source};
 use std::alloc::{AllocError, Global};

@@ -5,7 +5,7 @@
 ghost use Rattle.std.specs.Prelude.{◌≡◌, ◌<◌, ◌≤◌, ◌↔◌, [], length, IsOk, IfOk, IfSome, OnErr};
 ghost use Rattle.std.specs.Io.{ReadsAtMost, WritesAtMost};
 ghost use Rattle.std.specs.Io.KnownBytes.{ReadConsumes, WriteAppends};
-ghost use Rattle.strm_session.specs.Faults.{Rose, one_more};
+ghost use Rattle.strm_ports.specs.Faults.{Rose, one_more};
 
 use crate::ports::{Failed, Sink, Source};
 use std::io::{Read, Stdin, Stdout, Write};

@@ -5,7 +5,7 @@
 ghost use Rattle.std.specs.Prelude.{◌≡◌, ◌∷◌, ◌++◌, ◌+◌, ◌<◌, ◌≤◌, ◌↔◌, [], length, take, drop, min, IsTrue, IsErr, IfOk, IfSome, OnErr, Contains, Err, vec_len};
 ghost use Rattle.std.specs.Io.{ReadsAtMost, WritesAtMost};
 ghost use Rattle.std.specs.Io.KnownBytes.{ReadConsumes, WriteAppends};
-ghost use Rattle.strm_session.specs.Faults.{Rose, one_more};
+ghost use Rattle.strm_ports.specs.Faults.{Rose, one_more};
 
 use crate::ports::{Failed, Sink, Source};
 use std::alloc::Global;
@@ -31,7 +31,7 @@ pub struct BytesSource {
 
 impl Model for BytesSource {
     ghost use Rattle.std.specs.Prelude.{◌<◌, ◌≤◌, drop, vec_len};
-    ghost use Rattle.strm_session.specs.InMemory.{SourceState};
+    ghost use Rattle.strm_ports.specs.InMemory.{SourceState};
 
     ghost Value = { SourceState };
 
@@ -72,7 +72,7 @@ impl BytesSource {
 
 impl Source for BytesSource {
     ghost use Rattle.std.specs.Prelude.{Some};
-    ghost use Rattle.strm_session.specs.InMemory.{source_given, source_failed};
+    ghost use Rattle.strm_ports.specs.InMemory.{source_given, source_failed};
 
     ghost left = { λ s. Some s.left };
 
@@ -119,7 +119,7 @@ pub struct BytesSink {
 
 impl Model for BytesSink {
     ghost use Rattle.std.specs.Prelude.{◌<◌, ◌≤◌};
-    ghost use Rattle.strm_session.specs.InMemory.{SinkState};
+    ghost use Rattle.strm_ports.specs.InMemory.{SinkState};
 
     ghost Value = { SinkState };
 
@@ -177,7 +177,7 @@ impl BytesSink {
 
 impl Sink for BytesSink {
     ghost use Rattle.std.specs.Prelude.{Some};
-    ghost use Rattle.strm_session.specs.InMemory.{sink_given, sink_failed, sink_starved};
+    ghost use Rattle.strm_ports.specs.InMemory.{sink_given, sink_failed, sink_starved};
 
     ghost taken = { λ s. Some s.taken };
 

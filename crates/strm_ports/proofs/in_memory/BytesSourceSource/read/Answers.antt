@@ -1,7 +1,7 @@
 use Rattle.std.proofs.Common.{◌≡◌, ◌+◌, ◌-◌, ◌≤◌, length, drop, ap, arith}
 use Rattle.std.proofs.lemmas.List.{drop_all}
-use Rattle.strm_session.proofs.PortLemmas.{given_front}
-use Rattle.strm_session.proofs.in_memory.BytesSourceSource.read.Goals as goal
+use Rattle.strm_ports.proofs.PortLemmas.{given_front}
+use Rattle.strm_ports.proofs.in_memory.BytesSourceSource.read.Goals as goal
 
 pub returns-clause-bytes : goal.returns-clause-bytes
 returns-clause-bytes c =
