@@ -66,6 +66,13 @@ abbrev pub transcript_text : List Reply → List ℕ → List ℕ
 transcript_text replies moved =
     reply_lines replies ++ stream_lines 0 moved ++ ended (done_text (length replies))
 
+-- the text of a run that stopped: the replies before, the number of the step that stopped it, from
+-- 1, and what that step answered
+abbrev pub stopped_text : List Reply → Reply → List ℕ
+stopped_text replies answer =
+    reply_lines replies
+    ++ ended (words (codes "stopped" ∷ decimal (length replies + 1) ∷ reply_text answer ∷ []))
+
 -- what is written where the words of the program are none of its own
 abbrev pub usage_text : List ℕ
 usage_text = ended (codes "usage: strm run | strm gen N SEED")

@@ -4,7 +4,7 @@
 
 ghost use Rattle.std.specs.Prelude.{◌≡◌, ◌++◌, ◌≤◌, ◌<◌, length, codes, decimal, IfOk, OnOk};
 ghost use Rattle.strm_lines.specs.Words.{hex_digit, hex_pairs};
-ghost use Rattle.strm_lines.specs.Text.{ended, hex_word, reply_text, reply_lines, stream_text, stream_lines, done_text, transcript_text, usage_text, bad_line_text, too_long_text, read_fault_text};
+ghost use Rattle.strm_lines.specs.Text.{ended, hex_word, reply_text, reply_lines, stream_text, stream_lines, done_text, transcript_text, stopped_text, usage_text, bad_line_text, too_long_text, read_fault_text};
 
 use crate::lists::TextBytes;
 use itoa::{Buffer, Integer};
@@ -168,6 +168,24 @@ pub fn transcript_text(
     push_replies(&mut out, replies)?;
     push_streams(&mut out, moved)?;
     push_done(&mut out, replies.len())?;
+    Ok(out)
+}
+
+/// The text of a run that stopped, from the replies before and from what the step that stopped it
+/// answered.
+pub fn stopped_text(
+    alloc: Global,
+    replies: &[Reply],
+    answer: &Reply,
+) -> Result<TextBytes, OutOfMemory>
+    ensures ok { IfOk result (λ text. text ≡ stopped_text replies.now answer.now) }
+{
+    let mut out = TextBytes::new(alloc);
+    push_replies(&mut out, replies)?;
+    out.push_slice(b"stopped ")?;
+    push_number(&mut out, replies.len() + 1)?;
+    out.push(b' ')?;
+    push_reply(&mut out, answer)?;
     Ok(out)
 }
 

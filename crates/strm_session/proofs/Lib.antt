@@ -1,4 +1,4 @@
 pub mod PlayLemmas
-pub mod CalmLemmas
+pub mod StopLemmas
 pub mod ServingLemmas
 pub mod LawLemmas

@@ -18,6 +18,9 @@ use Rattle.strm_machine.specs.declared.steps.Step.{Step}
 use Rattle.strm_machine.specs.declared.replies.Reply.{Reply}
 use Rattle.strm_machine.specs.declared.replies.Reply.TheVariants as replies
 use Rattle.strm_machine.proofs.ReactionLemmas.{reaction-by}
+use Rattle.strm_machine.proofs.AskedLemmas.{reply-bad, bad-traps, bad-keeps}
+use Rattle.std.proofs.lemmas.Option.{slice_get-get_or}
+use Rattle.std.specs.Prelude.{slice_get}
 use Rattle.strm_transmit.specs.Meets.{is_done, is_settled}
 use Rattle.strm_session.specs.Runs.{start, StopsAt}
 use Rattle.strm_session.specs.declared.runs.RunCause.{RunCause}
@@ -77,6 +80,34 @@ reaction-runs state act h =
 pub RunsOn-to : (state next : State) (step : Step) (reply : Reply) → state.trapped ≡ false → react state step ≡ goes reply next → RunsOn (goes reply next)
 RunsOn-to state next step reply h e = subst RunsOn e (reaction-runs state (act_of step) h)
 
+settled_of : (told : List Reply) (reply : Reply) (state : State) (next : List Reply → State → Played) (all : List Reply) (end : State) → after_step told reply state next ≡ Ends all end → is_settled reply ≡ true
+settled_of told replies.Done state next all end e = refl
+settled_of told (replies.Number n) state next all end e = refl
+settled_of told (replies.Pair pair) state next all end e = refl
+settled_of told (replies.Code code) state next all end e = refl
+settled_of told (replies.Event code) state next all end e = refl
+settled_of told (replies.Bytes bytes) state next all end e = refl
+settled_of told (replies.Refused r) state next all end e = refl
+settled_of told (replies.BadItem s) state next all end e = cc
+settled_of told replies.StoreTrapped state next all end e = cc
+
+-- a play that ends leaves a store that is not trapped, and goes on from there
+pub record LeadsTo (told : List Reply) (state : State) (steps : List Step) (all : List Reply) (end : State) : Type 0 where
+  pub goes_on : (more : List Step) → play told state (steps ++ more) ≡ play all end more
+  pub running : end.trapped ≡ false
+
+pub play-leads : (told : List Reply) (state : State) (steps : List Step) (all : List Reply) (end : State) → state.trapped ≡ false → play told state steps ≡ Ends all end → LeadsTo told state steps all end
+play-leads told state [] all end t e =
+    let same : state ≡ end = cc in
+    let replies_same : told ≡ all = cc in
+    record { goes_on = λ more. ap (λ r. play r state more) replies_same ∙ ap (λ s. play all s more) same; running = rw (sym same) t }
+play-leads told state (step ∷ steps) all end t e =
+    let r = react state step in
+    let h = settled_of told r.reply r.state (λ told' state'. play told' state' steps) all end e in
+    let goes = λ (more : List Step). play-goes told state r.state step more r.reply h refl in
+    let rest = play-leads (told ++ r.reply ∷ []) r.state steps all end ((reaction-runs state (act_of step) t).goes_on h) (sym (goes steps) ∙ e) in
+    record { goes_on = λ more. goes (steps ++ more) ∙ rest.goes_on more; running = rest.running }
+
 -- a reply of a step that is done
 done_settled : (reply : Reply) → is_done reply ≡ true → is_settled reply ≡ true
 done_settled replies.Done e = refl
@@ -90,13 +121,13 @@ done_settled (replies.BadItem s) e = cc
 done_settled replies.StoreTrapped e = cc
 
 -- the machine goes on from a step
-abbrev pub GoesOn : List Reply → State → Step → Type 0
-GoesOn told state step = (reply : Reply) × (next : State) × (play told state (step ∷ []) ≡ Ends (told ++ reply ∷ []) next)
+abbrev pub StepGoesOn : List Reply → State → Step → Type 0
+StepGoesOn told state step = (reply : Reply) × (next : State) × (play told state (step ∷ []) ≡ Ends (told ++ reply ∷ []) next)
 
-pub goes_on_to : (told : List Reply) (state next : State) (step : Step) (reply : Reply) → is_settled reply ≡ true → react state step ≡ goes reply next → GoesOn told state step
+pub goes_on_to : (told : List Reply) (state next : State) (step : Step) (reply : Reply) → is_settled reply ≡ true → react state step ≡ goes reply next → StepGoesOn told state step
 goes_on_to told state next step reply h e = (reply, next, play-goes told state next step [] reply h e)
 
-pub goes_on_done : (told : List Reply) (state : State) (step : Step) → is_done (react state step).reply ≡ true → GoesOn told state step
+pub goes_on_done : (told : List Reply) (state : State) (step : Step) → is_done (react state step).reply ≡ true → StepGoesOn told state step
 goes_on_done told state step h = goes_on_to told state (react state step).state step (react state step).reply (done_settled (react state step).reply h) refl
 
 -- the first k steps were answered so, and led there
@@ -111,25 +142,31 @@ pub record IsAt (steps : List Step) (k : ℕ) (step : Step) : Type 0 where
 take-at : (steps : List Step) (k : ℕ) (step : Step) → IsAt steps k step → take (k + 1) steps ≡ take k steps ++ step ∷ []
 take-at steps k step h = take_more steps k step h.inside ∙ ap (λ s. take k steps ++ s ∷ []) h.is
 
--- why a step stops a run: the machine halts at it, or goes on from it
-pub record Stops (told : List Reply) (state : State) (step : Step) (cause : RunCause) : Type 0 where
-  pub bad : (more : List Step) (stream : ℕ) → cause ≡ causes.BadItem stream → play told state (step ∷ more) ≡ Halts told (replies.BadItem stream)
-  pub memory : cause ≡ causes.OutOfMemory → GoesOn told state step
-
--- where the step of number k stops a run
-pub stops : (steps : List Step) (k : ℕ) (step : Step) (told : List Reply) (state : State) (cause : RunCause) → IsAt steps k step → length told ≡ k → HaveLed steps k told state → Stops told state step cause → StopsAt steps told cause
-stops steps k step told state (causes.BadItem stream) h n led stop =
-    let cut : steps ≡ take k steps ++ step ∷ drop (suc k) steps = split_at steps k step h.inside ∙ ap (λ s. take k steps ++ s ∷ drop (suc k) steps) h.is in
-    ap (play [] start) cut ∙ led (step ∷ drop (suc k) steps) ∙ stop.bad (drop (suc k) steps) stream refl
-stops steps k step told state causes.OutOfMemory h n led stop =
-    let w = stop.memory refl in
-    let cut : take (length told + 1) steps ≡ take k steps ++ step ∷ [] = ap (λ m. take (m + 1) steps) n ∙ take-at steps k step h in
-    (w.0 ∷ [], w.1, ap (play [] start) cut ∙ led (step ∷ []) ∙ w.2)
-
 -- the replies so far are those to the steps before
 pub stopped_before : (steps : List Step) (k : ℕ) (told : List Reply) (state : State) → length told ≡ k → HaveLed steps k told state → play [] start (take (length told) steps) ≡ Ends told state
 stopped_before steps k told state n led =
     ap (λ m. play [] start (take m steps)) n ∙ ap (play [] start) (sym (append-nil (take k steps))) ∙ led []
+
+-- why a step stops a run: the machine answers a bad item, or goes on from it
+pub record Stops (told : List Reply) (state : State) (step : Step) (cause : RunCause) : Type 0 where
+  pub bad : (stream : ℕ) → cause ≡ causes.BadItem stream → (react state step).reply ≡ replies.BadItem stream
+  pub memory : cause ≡ causes.OutOfMemory → StepGoesOn told state step
+
+-- where the step of number k stops a run
+pub stops : (steps : List Step) (k : ℕ) (step : Step) (told : List Reply) (state : State) (cause : RunCause) → IsAt steps k step → length told ≡ k → HaveLed steps k told state → state.trapped ≡ false → Stops told state step cause → StopsAt steps told state cause
+stops steps k step told state (causes.BadItem stream) h n led t stop =
+    let answered = stop.bad stream refl in
+    let bad = reply-bad state step stream t answered in
+    let cut : steps ≡ take k steps ++ step ∷ drop (suc k) steps = split_at steps k step h.inside ∙ ap (λ s. take k steps ++ s ∷ drop (suc k) steps) h.is in
+    record {
+      asks = record { before = stopped_before steps k told state n led; step = step; next = ap (slice_get steps) n ∙ slice_get-get_or steps k step h.inside ∙ ap Some h.is; bad = bad };
+      halts = ap (play [] start) cut ∙ led (step ∷ drop (suc k) steps) ∙ play-halts told state (record state { trapped = true }) step (drop (suc k) steps) stream (bad-traps state step stream t bad);
+      stays = bad-keeps state step stream answered;
+    }
+stops steps k step told state causes.OutOfMemory h n led t stop =
+    let w = stop.memory refl in
+    let cut : take (length told + 1) steps ≡ take k steps ++ step ∷ [] = ap (λ m. take (m + 1) steps) n ∙ take-at steps k step h in
+    (w.0 ∷ [], w.1, ap (play [] start) cut ∙ led (step ∷ []) ∙ w.2)
 
 -- one step more
 pub played_more : (steps : List Step) (k : ℕ) (step : Step) (told told' : List Reply) (state state' : State) → IsAt steps k step → HaveLed steps k told state → ((more : List Step) → play told state (step ∷ more) ≡ play told' state' more) → HaveLed steps (k + 1) told' state'

@@ -1,6 +1,6 @@
 -- The words of the program, and what a status tells.
 use Rattle.std.specs.Prelude.{IfSome}
-use Rattle.std.proofs.Common.{◌≡◌, ◌≢◌, ℕ, ◌≤◌, List, [], ◌∷◌, length, map, get_or, Option, Some, None, refl, sym, ap, ◌∙◌, subst, ⊎_elim, arith}
+use Rattle.std.proofs.Common.{◌≡◌, ◌≢◌, ◌⊎◌, ℕ, ◌≤◌, List, [], ◌∷◌, length, map, get_or, Option, Some, None, refl, sym, ap, ◌∙◌, subst, ⊎_elim, arith}
 use Rattle.std.proofs.lemmas.Bool.{cases_eq}
 use Rattle.std.specs.Prelude.{codes}
 use Rattle.strm_machine.specs.declared.steps.Step.{Step}
@@ -8,7 +8,11 @@ use Rattle.strm_ports.specs.Faults.{Rose}
 use Rattle.strm_lines.specs.Lines.{lines_of, Spells, IsFirstBad, IsTooLong}
 use Rattle.strm_session.specs.Serving.{IsRun, IsAnswer}
 use Rattle.std.specs.Io.KnownBytes.{IsAtEnd}
-use Rattle.strm_lines.proofs.LineLemmas.{spelled_not_bad}
+use Rattle.strm_lines.proofs.LineLemmas.{one_spelling, spelled_not_bad}
+use Rattle.strm_machine.specs.State.{State}
+use Rattle.strm_machine.specs.declared.replies.Reply.{Reply}
+use Rattle.strm_session.specs.Runs.{AsksBad, AsksItems}
+use Rattle.strm_session.proofs.StopLemmas.{ends-asks}
 
 -- of one word, which it is
 pub one_word : {X : Type 0} (f : X → List ℕ) (items : List X) (x : X) (word : List ℕ) → length items ≡ 1 → x ≡ get_or items 0 x → (f x ≡ word → map f items ≡ word ∷ []) × (map f items ≡ word ∷ [] → f x ≡ word)
@@ -19,11 +23,18 @@ one_word f (y ∷ []) x word l e = (
 )
 one_word f (y ∷ z ∷ more) x word l e = absurd (omega (arith, l))
 
-zero_of : (status : ℕ) → status ≤ 4 → status ≢ 1 → status ≢ 2 → status ≢ 3 → status ≢ 4 → status ≡ 0
-zero_of status l a b c d = omega (arith, l, a, b, c, d)
+-- the statuses of a text
+abbrev Known : ℕ → Type 0
+Known status = (status ≤ 4) ⊎ (status ≡ 8)
 
-two_of : (status : ℕ) → status ≤ 4 → status ≢ 0 → status ≢ 1 → status ≢ 3 → status ≢ 4 → status ≡ 2
-two_of status l a b c d = omega (arith, l, a, b, c, d)
+zero_of : (status : ℕ) → Known status → status ≢ 1 → status ≢ 2 → status ≢ 3 → status ≢ 4 → status ≢ 8 → status ≡ 0
+zero_of status k a b c d e = ⊎_elim (λ l. omega (arith, l, a, b, c, d)) (λ q. absurd (e q)) k
+
+two_of : (status : ℕ) → Known status → status ≢ 0 → status ≢ 1 → status ≢ 3 → status ≢ 4 → status ≢ 8 → status ≡ 2
+two_of status k a b c d e = ⊎_elim (λ l. omega (arith, l, a, b, c, d)) (λ q. absurd (e q)) k
+
+eight_of : (status : ℕ) → Known status → status ≢ 0 → status ≢ 1 → status ≢ 2 → status ≢ 3 → status ≢ 4 → status ≡ 8
+eight_of status k z a b c d = ⊎_elim (λ l. absurd (omega (arith, l, z, a, b, c, d))) (λ q. q) k
 
 three_of : (status : ℕ) → status ≢ 1 → status ≢ 4 → (status ≢ 3 → ⊥) → status ≡ 3
 three_of status a d n = ⊎_elim (λ e. e) (λ e. absurd (n e)) (cases_eq status 3)
@@ -42,6 +53,7 @@ module _ {words : List (List ℕ)} {rest : Option (List ℕ)} {before after stat
     bad_line = λ s. let bad = h.bad_line s in (bad.0, tt, bad.2);
     too_long = λ s. (tt, (h.too_long s).1);
     read_fault = h.read_fault;
+    stopped = λ _. tt;
     within = λ _ _ _. tt;
     whole = λ _ _ _. end;
     whole_lines = λ _ _ _ _. end;
@@ -56,6 +68,7 @@ module _ {words : List (List ℕ)} {rest : Option (List ℕ)} {before after stat
         bad_line = k.bad_line;
         too_long = k.too_long;
         read_fault = k.read_fault;
+        stopped = k.stopped;
         within = k.within;
         whole = λ _ _ _. end;
         whole_lines = λ _ _ _ _. end;
@@ -68,19 +81,37 @@ module _ {words : List (List ℕ)} {rest : Option (List ℕ)} {before after stat
     not_fault : status ≢ 4
     not_fault q = calm (h.read_fault q).0
 
-    -- where nothing is amiss the run is done
-    done_of : (steps : List Step) → Spells (lines_of input) steps → (IsTooLong input → ⊥) → status ≡ 0
-    done_of steps s long =
-        zero_of status h.known not_usage
-        (λ q. let bad = h.bad_line q in spelled_not_bad (lines_of input) steps bad.0 s bad.1)
-        (λ q. long (h.too_long q).0) not_fault
+    module _ (long : IsTooLong input → ⊥) where
+      module _ (steps : List Step) (s : Spells (lines_of input) steps) where
+        no_bad_line : status ≢ 2
+        no_bad_line q = let bad = h.bad_line q in spelled_not_bad (lines_of input) steps bad.0 s bad.1
 
-    -- a bad line is told
-    bad_line_of : (line : ℕ) → IsFirstBad (lines_of input) line → (IsTooLong input → ⊥) → status ≡ 2
-    bad_line_of line bad long =
-        two_of status h.known
-        (λ q. let done = h.done q in spelled_not_bad (lines_of input) done.steps line done.spelled bad)
-        not_usage (λ q. long (h.too_long q).0) not_fault
+        -- where nothing is amiss the run is done
+        done_of : AsksItems steps → status ≡ 0
+        done_of items =
+            zero_of status h.known not_usage no_bad_line (λ q. long (h.too_long q).0) not_fault
+            (λ q.
+            let stopped = h.stopped q in
+            let same = one_spelling (lines_of input) stopped.steps steps stopped.spelled s in
+            subst AsksItems (sym same) items stopped.replies stopped.stop.state stopped.stream stopped.stop.at.asks)
+
+        -- and where a bad item is asked for it stops
+        bad_item_of : (told : List Reply) (state : State) (stream : ℕ) → AsksBad steps told state stream → status ≡ 8
+        bad_item_of told state stream a =
+            eight_of status h.known
+            (λ q.
+            let done = h.done q in
+            let same = one_spelling (lines_of input) done.steps steps done.spelled s in
+            subst AsksItems same (ends-asks done.steps done.replies done.state done.played) told state stream a)
+            not_usage no_bad_line (λ q. long (h.too_long q).0) not_fault
+
+      -- a bad line is told
+      bad_line_of : (line : ℕ) → IsFirstBad (lines_of input) line → status ≡ 2
+      bad_line_of line bad =
+          two_of status h.known
+          (λ q. let done = h.done q in spelled_not_bad (lines_of input) done.steps line done.spelled bad)
+          not_usage (λ q. long (h.too_long q).0) not_fault
+          (λ q. let stopped = h.stopped q in spelled_not_bad (lines_of input) stopped.steps line stopped.spelled bad)
 
     -- and so is an input over the limits
     too_long_of : IsTooLong input → status ≡ 3
@@ -91,10 +122,13 @@ module _ {words : List (List ℕ)} {rest : Option (List ℕ)} {before after stat
     told_input : left ≡ Some input → IsAnswer words (Some input) rest before after status text
     told_input e = subst (λ l. IsAnswer words l rest before after status text) e h
 
-    pub told_done : IsRun words → left ≡ Some input → (Rose before after → ⊥) → (steps : List Step) → Spells (lines_of input) steps → (IsTooLong input → ⊥) → status ≡ 0
+    pub told_done : IsRun words → left ≡ Some input → (Rose before after → ⊥) → (IsTooLong input → ⊥) → (steps : List Step) → Spells (lines_of input) steps → AsksItems steps → status ≡ 0
     told_done r e calm = done_of input (told_input e) r calm
 
-    pub told_bad_line : IsRun words → left ≡ Some input → (Rose before after → ⊥) → (line : ℕ) → IsFirstBad (lines_of input) line → (IsTooLong input → ⊥) → status ≡ 2
+    pub told_bad_item : IsRun words → left ≡ Some input → (Rose before after → ⊥) → (IsTooLong input → ⊥) → (steps : List Step) → Spells (lines_of input) steps → (told : List Reply) (state : State) (stream : ℕ) → AsksBad steps told state stream → status ≡ 8
+    told_bad_item r e calm = bad_item_of input (told_input e) r calm
+
+    pub told_bad_line : IsRun words → left ≡ Some input → (Rose before after → ⊥) → (IsTooLong input → ⊥) → (line : ℕ) → IsFirstBad (lines_of input) line → status ≡ 2
     told_bad_line r e calm = bad_line_of input (told_input e) r calm
 
     pub told_too_long : IsRun words → left ≡ Some input → (Rose before after → ⊥) → IsTooLong input → status ≡ 3

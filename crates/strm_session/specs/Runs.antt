@@ -1,8 +1,10 @@
 -- Runs of the program: where they begin and stop, what was received, and what holds. Ours.
-use Rattle.std.specs.Prelude.{◌≡◌, ℕ, ◌+◌, ◌≤◌, min, false, List, [], ◌++◌, length, map, take, All}
+use Rattle.std.specs.Prelude.{◌≡◌, ℕ, ◌+◌, ◌≤◌, ◌<◌, min, true, false, List, [], ◌++◌, length, map, take, slice_get, All, Some}
 use Rattle.strm_codes.specs.declared.codes.TransmitKind.TheVariants.{Future}
 use Rattle.strm_machine.specs.State.{State, empty, stream_at}
+use Rattle.strm_machine.specs.Reactions.{react}
 use Rattle.strm_machine.specs.Plays.{play, Ends, Halts}
+use Rattle.strm_machine.specs.Asked.{HasBadItem}
 use Rattle.strm_machine.specs.Moments.{Moment}
 use Rattle.strm_machine.specs.Soundness.{IsSound, both_open, AreUnmoved}
 use Rattle.strm_machine.specs.declared.streams.Side.{Side}
@@ -51,18 +53,45 @@ pub record IsKept (steps : List Step) (replies : List Reply) (end : State) : Typ
   pub laws : (n : ℕ) → HasLaws (moments start (take n steps)) (last start (take n steps))
   pub aside : All StaysAside (moments start steps)
 
--- why a run stops at the step behind these replies: the machine halts there; or memory was wanted,
--- and the machine goes on from that step, or there is none
-abbrev pub StopsAt : List Step → List Reply → RunCause → Type 0
-StopsAt steps told (causes.BadItem stream) =
-    play [] start steps ≡ Halts told (replies.BadItem stream)
-StopsAt steps told causes.OutOfMemory =
+-- the step behind these replies, in the state that the steps before it lead to, asks for items on
+-- stream s of which one is none
+pub record AsksBad (steps : List Step) (told : List Reply) (state : State) (s : ℕ) : Type 0 where
+  pub before : play [] start (take (length told) steps) ≡ Ends told state
+  pub step : Step
+  pub next : slice_get steps (length told) ≡ Some step
+  pub bad : HasBadItem state step s
+
+-- each item that a run of these steps asks for is an item
+abbrev pub AsksItems : List Step → Type 0
+AsksItems steps = (told : List Reply) (state : State) (s : ℕ) → ¬ AsksBad steps told state s
+
+-- a run stops at a bad item: the machine halts at the step that asks for it, and there all stays as
+-- it was, but that the store is trapped
+pub record StopsBad (steps : List Step) (told : List Reply) (state : State) (s : ℕ) : Type 0 where
+  pub asks : AsksBad steps told state s
+  pub halts : play [] start steps ≡ Halts told (replies.BadItem s)
+  pub stays : (react state asks.step).state ≡ record state { trapped = true }
+
+-- a run stops for want of memory: the machine goes on from the step behind these replies, or there
+-- is none
+abbrev pub GoesOn : List Step → List Reply → Type 0
+GoesOn steps told =
     (more : List Reply) × (state : State)
     × (play [] start (take (length told + 1) steps) ≡ Ends (told ++ more) state)
+
+-- why a run stops behind these replies, which lead to this state
+abbrev pub StopsAt : List Step → List Reply → State → RunCause → Type 0
+StopsAt steps told state (causes.BadItem s) = StopsBad steps told state s
+StopsAt steps told state causes.OutOfMemory = GoesOn steps told
 
 -- a run stops behind these replies: they are the machine's to the steps before, which keep the laws
 pub record StopsBy (steps : List Step) (told : List Reply) (cause : RunCause) : Type 0 where
   pub state : State
   pub before : play [] start (take (length told) steps) ≡ Ends told state
   pub kept : IsKept (take (length told) steps) told state
-  pub at : StopsAt steps told cause
+  pub at : StopsAt steps told state cause
+
+-- a run that stops so stops at this bad item, or earlier, for want of memory
+abbrev pub StopsIn : List Reply → ℕ → List Reply → RunCause → Type 0
+StopsIn told s replies (causes.BadItem stream) = (replies ≡ told) × (stream ≡ s)
+StopsIn told s replies causes.OutOfMemory = length replies < length told

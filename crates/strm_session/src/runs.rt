@@ -2,11 +2,11 @@
 //!
 //! Source: ours.
 
-ghost use Rattle.std.specs.Prelude.{◌≡◌, ◌≢◌, ◌≤◌, ◌∷◌, ◌++◌, ◌+◌, [], List, ℕ, true, false, length, take, All, IfOk, IfErr, OnOk, OnErr, Err};
+ghost use Rattle.std.specs.Prelude.{◌≡◌, ◌≢◌, ◌≤◌, ◌∷◌, ◌++◌, ◌+◌, [], List, ℕ, true, false, length, take, All, IfOk, IfErr, IsErr, OnOk, OnErr, Err};
 ghost use Rattle.strm_codes.specs.declared.refusals.Refusal.{Refusal};
 ghost use Rattle.strm_machine.specs.State.{State, stream_at};
 ghost use Rattle.strm_machine.specs.Reactions.{react};
-ghost use Rattle.strm_machine.specs.Plays.{play, Ends, Halts};
+ghost use Rattle.strm_machine.specs.Plays.{play, Ends};
 ghost use Rattle.strm_machine.specs.declared.streams.Side.{Side};
 ghost use Rattle.strm_machine.specs.declared.steps.Step.{Step};
 ghost use Rattle.strm_machine.specs.declared.replies.Reply.TheVariants.{BadItem as IsBadItem};
@@ -15,8 +15,7 @@ ghost use Rattle.strm_machine.specs.Moments.{moment_of};
 ghost use Rattle.strm_laws.specs.Conservation.{moments, last};
 ghost use Rattle.strm_laws.specs.Laws.{HasBytes, AreSteps};
 ghost use Rattle.strm_machine.specs.Untouched.{StaysAside};
-ghost use Rattle.strm_lines.specs.Plain.{IsPlain};
-ghost use Rattle.strm_session.specs.Runs.{start, counts_of, next_step, HasLaws, IsKept, StopsAt, StopsBy};
+ghost use Rattle.strm_session.specs.Runs.{start, counts_of, next_step, HasLaws, IsKept, AsksBad, AsksItems, StopsAt, StopsBy, StopsIn};
 
 use std::alloc::Global;
 use strm_codes::counts::OutOfMemory;
@@ -83,8 +82,10 @@ pub fn run(alloc: Global, steps: &[Step]) -> Result<Transcript, RunStop>
     // was copied; the reads report as many; and the other laws of every run.
     ensures kept { IfOk result (λ t. IsKept steps.now t.replies t.store) }
 
-    // Streams of bytes have no bad item.
-    ensures plain { All IsPlain steps.now →
+    // A bad item stops it at the step that asks for it, and nothing else but want of memory does.
+    ensures bad_item { (told : List Reply) (state : State) (s : ℕ) → AsksBad steps.now told state s →
+        IsErr result × IfErr result (λ stop. StopsIn told s stop.replies stop.cause) }
+    ensures items { AsksItems steps.now →
         IfErr result (λ stop. stop.cause ≡ RunCause.OutOfMemory) }
 {
     laws_hold();
@@ -167,14 +168,12 @@ fn play_steps(store: &mut Store, replies: &mut Replies, steps: &[Step]) -> Resul
     requires begins { store.old ≡ start }
     requires none { replies.old ≡ [] }
     ensures ok { OnOk result (play [] start steps.now ≡ Ends replies.new store.new) }
-    ensures before { OnErr result ((state : State)
-        × (play [] start (take (length replies.new) steps.now) ≡ Ends replies.new state)) }
-    ensures stop { IfErr result (λ cause. StopsAt steps.now replies.new cause) }
+    ensures stop { IfErr result (λ cause. (state : State)
+        × (play [] start (take (length replies.new) steps.now) ≡ Ends replies.new state)
+        × StopsAt steps.now replies.new state cause) }
     ensures all { OnOk result (length replies.new ≡ length steps.now) }
     ensures count { length replies.new ≤ length steps.now }
     ensures bytes { All HasBytes (take (length replies.new) steps.now) }
-    ensures plain { All IsPlain steps.now →
-        IfErr result (λ cause. cause ≡ RunCause.OutOfMemory) }
 {
     for step in steps {
         sound(step);
@@ -199,16 +198,13 @@ fn step_once(store: &mut Store, replies: &mut Replies, step: &Step) -> Result<()
     requires { store.old.trapped ≡ false }
     ensures ok { (more : List Step) → OnOk result
         (play replies.old store.old (step.now ∷ more) ≡ play replies.new store.new more) }
-    ensures bad_item { (more : List Step) (stream : ℕ) → result ≡ Err (RunCause.BadItem stream) →
-        play replies.old store.old (step.now ∷ more) ≡ Halts replies.old (IsBadItem stream) }
+    ensures bad_item { (stream : ℕ) → result ≡ Err (RunCause.BadItem stream) →
+        (react store.old step.now).reply ≡ IsBadItem stream }
 
     // Memory is wanted only where the machine goes on.
     ensures memory { result ≡ Err RunCause.OutOfMemory → (reply : Reply) × (state : State)
         × (play replies.old store.old (step.now ∷ []) ≡ Ends (replies.old ++ reply ∷ []) state) }
     ensures goes_on { OnOk result (store.new.trapped ≡ false) }
-    ensures next { OnOk result (store.new ≡ (react store.old step.now).state) }
-    ensures cause { (stream : ℕ) → result ≡ Err (RunCause.BadItem stream) →
-        (react store.old step.now).reply ≡ IsBadItem stream }
     ensures one { OnOk result (length replies.new ≡ length replies.old + 1) }
     ensures err { OnErr result (replies.new ≡ replies.old) }
 {

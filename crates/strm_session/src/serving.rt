@@ -2,25 +2,23 @@
 //!
 //! Source: ours.
 
-ghost use Rattle.std.specs.Prelude.{◌≡◌, ◌≢◌, ◌≤◌, ◌+◌, ◌⊎◌, ◌↔◌, ◌∷◌, ℕ, List, [], length, map, codes, All, IfOk, IsTrue, Some, string_bytes};
+ghost use Rattle.std.specs.Prelude.{◌≡◌, ◌≢◌, ◌≤◌, ◌+◌, ◌⊎◌, ◌↔◌, ◌∷◌, ℕ, List, [], length, map, codes, IfOk, IsTrue, Some, string_bytes};
 ghost use Rattle.std.specs.Io.KnownBytes.{Appends, Consumes};
 ghost use Rattle.strm_machine.specs.declared.steps.Step.{Step};
-ghost use Rattle.strm_machine.specs.Plays.{play, Ends};
 ghost use Rattle.strm_machine.specs.State.{State};
 ghost use Rattle.strm_machine.specs.declared.replies.Reply.{Reply};
-ghost use Rattle.strm_lines.specs.Plain.{IsPlain};
-ghost use Rattle.strm_session.specs.Runs.{start, counts_of, IsKept};
-ghost use Rattle.strm_lines.specs.Text.{transcript_text};
+ghost use Rattle.strm_session.specs.Runs.{AsksBad, AsksItems};
 ghost use Rattle.strm_ports.specs.Faults.{Rose, TakesPart};
 ghost use Rattle.strm_lines.specs.Lines.{lines_of, Spells, IsFirstBad, IsTooLong};
-ghost use Rattle.strm_session.specs.Serving.{IsRun, IsAnswer, IsStatus, IsFaultless};
+ghost use Rattle.strm_session.specs.Serving.{IsRun, IsAnswer, IsStatus, IsFaultless, IsTranscript, IsStopped};
 
 use crate::runs::{RunCause, run};
-use crate::texts::{bad_line_text, read_fault_text, text, too_long_text, usage_text};
+use crate::texts::{bad_line_text, read_fault_text, stopped_text, text, too_long_text, usage_text};
 use std::alloc::Global;
 use strm_codes::counts::OutOfMemory;
 use strm_lines::lists::TextBytes;
 use strm_lines::parsing::{MAX_BYTES, ParseError, parse};
+use strm_machine::replies::Reply;
 use strm_machine::steps::Step;
 use strm_ports::ports::{Sink, Source};
 use strm_ports::whole::{InputError, read_all, write_whole};
@@ -37,6 +35,8 @@ pub const TOO_LONG: u8 = 3;
 pub const READ_FAULT: u8 = 4;
 
 pub const WRITE_FAULT: u8 = 5;
+
+pub const BAD_ITEM: u8 = 8;
 
 pub const OUT_OF_MEMORY: u8 = 9;
 
@@ -71,13 +71,20 @@ pub fn serve<S: Source, K: Sink>(
         × (length front ≤ MAX_BYTES + 1) }
     ensures unread { ¬ IsRun (map string_bytes words.now.items) → source.new ≡ source.old }
 
-    // What is in the grammar and the limits is run and written, but for faults and want of memory;
-    // else the first bad line is told, or that the input is over the limits, or how to call it.
+    // What is in the grammar and the limits and asks for items alone is run and written, but for
+    // faults and want of memory; else the bad item is told, the first bad line, that the input is
+    // over the limits, or how to call it.
     ensures complete { (input : List ℕ) (steps : List Step) →
         IsFaultless (map string_bytes words.now.items) (S.left source.old) input
         (S.faults source.old) (S.faults source.new) (K.faults sink.old) (K.faults sink.new) →
-        Spells (lines_of input) steps → ¬ IsTooLong input →
+        Spells (lines_of input) steps → ¬ IsTooLong input → AsksItems steps →
         (result ≡ DONE) ⊎ (result ≡ OUT_OF_MEMORY) }
+    ensures bad_item { (input : List ℕ) (steps : List Step) →
+        IsFaultless (map string_bytes words.now.items) (S.left source.old) input
+        (S.faults source.old) (S.faults source.new) (K.faults sink.old) (K.faults sink.new) →
+        Spells (lines_of input) steps → ¬ IsTooLong input →
+        (told : List Reply) (state : State) (s : ℕ) → AsksBad steps told state s →
+        (result ≡ BAD_ITEM) ⊎ (result ≡ OUT_OF_MEMORY) }
     ensures bad_line { (input : List ℕ) (line : ℕ) →
         IsFaultless (map string_bytes words.now.items) (S.left source.old) input
         (S.faults source.old) (S.faults source.new) (K.faults sink.old) (K.faults sink.new) →
@@ -162,13 +169,12 @@ fn answer_input(alloc: Global, input: &[u8]) -> Result<Answer, OutOfMemory>
 
 // What is to be written for a list of steps.
 fn answer_steps(alloc: Global, steps: &[Step]) -> Result<Answer, OutOfMemory>
-    requires plain { All IsPlain steps.now }
     requires few { length steps.now ≤ 4294967295 }
-    ensures status { IfOk result (λ a. a.status ≡ DONE) }
-    ensures text { IfOk result (λ a. (replies : List Reply) × (state : State)
-        × (play [] start steps.now ≡ Ends replies state)
-        × IsKept steps.now replies state
-        × (a.text ≡ transcript_text replies (counts_of state))) }
+    ensures known { IfOk result (λ a. (a.status ≡ DONE) ⊎ (a.status ≡ BAD_ITEM)) }
+    ensures done { (input : List ℕ) → Spells (lines_of input) steps.now →
+        IfOk result (λ a. a.status ≡ DONE → IsTranscript input a.text) }
+    ensures stopped { (input : List ℕ) → Spells (lines_of input) steps.now →
+        IfOk result (λ a. a.status ≡ BAD_ITEM → IsStopped input a.text) }
 {
     match run(alloc, steps) {
         Ok(transcript) => {
@@ -176,8 +182,15 @@ fn answer_steps(alloc: Global, steps: &[Step]) -> Result<Answer, OutOfMemory>
             Ok(Answer { status: DONE, text })
         }
         Err(stop) => match stop.cause {
+            RunCause::BadItem { stream } => {
+                let reply = Reply::BadItem { stream };
+                let text = stopped_text(alloc, stop.replies.as_slice(), &reply)?;
+                Ok(Answer {
+                    status: BAD_ITEM,
+                    text,
+                })
+            }
             RunCause::OutOfMemory => Err(OutOfMemory),
-            RunCause::BadItem { .. } => unreachable!(),
         },
     }
 }

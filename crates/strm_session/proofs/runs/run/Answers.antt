@@ -1,4 +1,4 @@
-use Rattle.std.proofs.Common.{◌≡◌, ◌+◌, [], length, take, sym, subst, ap, ◌∙◌, arith}
+use Rattle.std.proofs.Common.{◌≡◌, ◌+◌, [], Err, length, take, sym, subst, ap, ◌∙◌, arith}
 use Rattle.std.specs.Prelude.{All}
 use Rattle.std.proofs.lemmas.List.{take_all, append-nil}
 use Rattle.std.proofs.lemmas.Result.{IfErr-weaker, IfOk-weaker}
@@ -6,17 +6,18 @@ use Rattle.strm_laws.specs.Laws.{HasBytes}
 use Rattle.strm_machine.specs.Plays.{play, Ends}
 use Rattle.strm_session.specs.Runs.{start}
 use Rattle.strm_session.proofs.LawLemmas.{run_kept, front_kept}
+use Rattle.strm_session.proofs.StopLemmas.{answers-in, answers-items}
 use Rattle.strm_session.proofs.runs.run.Goals as goal
 
 pub returns-in-Err-clause-stop : goal.returns-in-Err-clause-stop
 returns-in-Err-clause-stop c =
     let told = c.play_steps.new.replies in
-    let before = c.in-Err.ensures.before in
+    let stop = c.in-Err.ensures.stop in
     rw c.stopped.ensures (record {
-      state = before.0;
-      before = before.1;
-      kept = front_kept c.laws_hold.ensures.laws c.laws_hold.ensures.aside c.args.steps.now (length told) told before.0 c.requires.few c.in-Err.ensures.bytes before.1;
-      at = c.in-Err.ensures.stop;
+      state = stop.0;
+      before = stop.1;
+      kept = front_kept c.laws_hold.ensures.laws c.laws_hold.ensures.aside c.args.steps.now (length told) told stop.0 c.requires.few c.in-Err.ensures.bytes stop.1;
+      at = stop.2;
     })
 
 pub returns-in-Ok-clause-stop : goal.returns-in-Ok-clause-stop
@@ -42,3 +43,20 @@ returns-in-Ok-clause-kept c =
     let bytes = subst (All HasBytes) all c.in-Ok.ensures.bytes in
     let kept = run_kept c.laws_hold.ensures.laws c.laws_hold.ensures.aside c.args.steps.now c.play_steps.new.replies c.play_steps.new.store c.requires.few bytes c.in-Ok.ensures.ok in
     IfOk-weaker c.finished.result _ _ (λ t e. rw (e.0, e.1) kept) c.finished.ensures.ok
+
+pub returns-in-Err-clause-bad_item : goal.returns-in-Err-clause-bad_item
+returns-in-Err-clause-bad_item c =
+    answers-in c.args.steps.now (Err c.stopped.result) tt (returns-in-Err-clause-stop c)
+
+pub returns-in-Err-clause-items : goal.returns-in-Err-clause-items
+returns-in-Err-clause-items c =
+    answers-items c.args.steps.now (Err c.stopped.result) (returns-in-Err-clause-stop c)
+
+pub returns-in-Ok-clause-bad_item : goal.returns-in-Ok-clause-bad_item
+returns-in-Ok-clause-bad_item c =
+    let ok = IfOk-weaker c.finished.result _ (λ t. play [] start c.args.steps.now ≡ Ends t.replies t.store) (λ t e. rw (e.0, e.1) c.in-Ok.ensures.ok) c.finished.ensures.ok in
+    answers-in c.args.steps.now c.finished.result ok (returns-in-Ok-clause-stop c)
+
+pub returns-in-Ok-clause-items : goal.returns-in-Ok-clause-items
+returns-in-Ok-clause-items c =
+    answers-items c.args.steps.now c.finished.result (returns-in-Ok-clause-stop c)

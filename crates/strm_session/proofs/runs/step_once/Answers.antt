@@ -3,7 +3,7 @@ use Rattle.strm_machine.specs.Reactions.{Reaction}
 use Rattle.std.proofs.lemmas.Result.{on_ok_weaker}
 use Rattle.strm_machine.specs.declared.replies.Reply.TheVariants as replies
 use Rattle.strm_session.specs.declared.runs.RunCause.TheVariants as causes
-use Rattle.strm_session.proofs.PlayLemmas.{play-halts, RunsOn-to, goes_on_to, goes_on_done}
+use Rattle.strm_session.proofs.PlayLemmas.{RunsOn-to, goes_on_to, goes_on_done}
 use Rattle.strm_session.proofs.runs.step_once.Goals as goal
 
 same_Err : {T E : Type 0} (x y : E) → ◌≡◌ {A = Result T E} (Err x) (Err y) → x ≡ y
@@ -31,13 +31,7 @@ returns-in-Err-clause-memory c = λ e.
     goes_on_done c.args.replies.now c.args.store.now c.args.step.now meets.0
 
 pub returns-in-Err-clause-bad_item : goal.returns-in-Err-clause-bad_item
-returns-in-Err-clause-bad_item c = λ more stream e.
-    let error = c.cause_of.ensures.bad_item stream (same_Err _ (causes.BadItem stream) e) in
-    let meets = rw (c.in-Err.is, error) at c.apply-answer.ensures.meets in
-    play-halts c.args.replies.now c.args.store.now c.apply-answer.new.store c.args.step.now more stream meets.0
-
-pub returns-in-Err-clause-cause : goal.returns-in-Err-clause-cause
-returns-in-Err-clause-cause c = λ stream e.
+returns-in-Err-clause-bad_item c = λ stream e.
     let error = c.cause_of.ensures.bad_item stream (same_Err _ (causes.BadItem stream) e) in
     let meets = rw (c.in-Err.is, error) at c.apply-answer.ensures.meets in
     ap (λ (r : Reaction). r.reply) meets.0

@@ -1,14 +1,18 @@
 use Rattle.std.proofs.Common.{inl}
-use Rattle.strm_session.proofs.ServingLemmas.{told_done, told_bad_line, told_too_long, told_usage}
+use Rattle.strm_session.proofs.ServingLemmas.{told_done, told_bad_item, told_bad_line, told_too_long, told_usage}
 use Rattle.strm_session.proofs.serving.serve.Goals as goal
 
 pub returns-in-Ok-write_whole-clause-complete : goal.returns-in-Ok-write_whole-clause-complete
-returns-in-Ok-write_whole-clause-complete g c = λ input steps f s long.
-    inl (told_done (g.S.Source.left c.args.source.now) input c.in-Ok.ensures.told f.run f.input_is f.source steps s long)
+returns-in-Ok-write_whole-clause-complete g c = λ input steps f s long items.
+    inl (told_done (g.S.Source.left c.args.source.now) input c.in-Ok.ensures.told f.run f.input_is f.source long steps s items)
+
+pub returns-in-Ok-write_whole-clause-bad_item : goal.returns-in-Ok-write_whole-clause-bad_item
+returns-in-Ok-write_whole-clause-bad_item g c = λ input steps f s long told state stream a.
+    inl (told_bad_item (g.S.Source.left c.args.source.now) input c.in-Ok.ensures.told f.run f.input_is f.source long steps s told state stream a)
 
 pub returns-in-Ok-write_whole-clause-bad_line : goal.returns-in-Ok-write_whole-clause-bad_line
 returns-in-Ok-write_whole-clause-bad_line g c = λ input line f bad long.
-    inl (told_bad_line (g.S.Source.left c.args.source.now) input c.in-Ok.ensures.told f.run f.input_is f.source line bad long)
+    inl (told_bad_line (g.S.Source.left c.args.source.now) input c.in-Ok.ensures.told f.run f.input_is f.source long line bad)
 
 pub returns-in-Ok-write_whole-clause-too_long : goal.returns-in-Ok-write_whole-clause-too_long
 returns-in-Ok-write_whole-clause-too_long g c = λ input f long.
