@@ -6,7 +6,7 @@ use Rattle.std.proofs.lemmas.Bool.Decides.{eqb_tells}
 use Rattle.std.proofs.lemmas.List.{set-get_or}
 use Rattle.std.specs.Option.{option_map}
 use Rattle.strm_codes.specs.declared.codes.ReturnCode.{ReturnCode}
-use Rattle.strm_machine.specs.Words.{Guest, Payload, scalars_of, items_at, memory_in, with_memory, stored_at, no_stream, act_of, State, stream_at, end_of, opposite, same_side, carried, Turn, named, stream_named, Reaction, goes, operates, react, NamedEnd, Operate, Poke, Act, Make, OnEnd, OnMemory, Side, Writing, Reading, Operation, Stream, Step}
+use Rattle.strm_machine.specs.Words.{Guest, Payload, scalars_of, items_at, memory_in, with_memory, stored_at, no_stream, act_of, State, stream_at, end_of, opposite, same_side, carried, Turn, named, stream_named, Reaction, goes, operates, react, NamedEnd, Operate, Poke, OnEnd, Side, Writing, Reading, Operation, Stream, Step}
 use Rattle.strm_machine.specs.State.{is_gone}
 use Rattle.strm_machine.specs.Sides.{write_of, read_of}
 use Rattle.strm_machine.specs.Meetings.{meeting_of, begun}
@@ -14,18 +14,19 @@ use Rattle.strm_machine.specs.Turns.{learns, waits, moves, completes_alone, rend
 use Rattle.strm_machine.specs.Tests.{items_asked}
 use Rattle.strm_machine.specs.Refusals.{refusal}
 use Rattle.strm_machine.specs.Making.{with_stream}
-use Rattle.strm_machine.specs.Reactions.{written_back, on_stream, performs}
+use Rattle.strm_machine.specs.Reactions.{written_back, on_stream, on_end, makes, on_memory, performs}
 use Rattle.strm_machine.specs.Plays.{is_settled}
 use Rattle.strm_machine.specs.Asked.{HasBadItem}
 use Rattle.strm_machine.specs.declared.streams.Meeting.{Meeting}
 use Rattle.strm_machine.specs.declared.streams.Meeting.TheVariants.{BothComplete, WriteCompletes, ReadCompletes}
+use Rattle.strm_machine.specs.declared.acts.Making.{Making}
 use Rattle.strm_machine.specs.declared.acts.Making.TheVariants.{Guest as MakeGuest, Between}
-use Rattle.strm_machine.specs.declared.acts.EndAct.TheVariants.{Drop, Cancel}
+use Rattle.strm_machine.specs.declared.acts.EndAct.{EndAct}
+use Rattle.strm_machine.specs.declared.acts.MemoryAct.{MemoryAct}
 use Rattle.strm_machine.specs.declared.acts.MemoryAct.TheVariants.{Dump}
-use Rattle.strm_machine.specs.declared.acts.Act.TheVariants.{Event}
 use Rattle.strm_machine.specs.declared.replies.Reply.TheVariants as replies
 use Rattle.strm_machine.proofs.CarryLemmas.{carried_none}
-use Rattle.strm_machine.proofs.ReactionLemmas.{reaction-by, reaction-trapped, reaction-performs, performs-operate}
+use Rattle.strm_machine.proofs.ReactionLemmas.{reaction-by, reaction-trapped, reaction-performs, performs-on_end, performs-by}
 
 -- ## Who completes
 
@@ -118,21 +119,19 @@ module _ (side : Side) (guests : List Guest) (stream : Stream) (mine : Operation
 -- ## What stops a store
 
 -- a step that is done: a run goes on, and the store is trapped only where it was
-pub record GoesOn (state : State) (r : Reaction) : Type 0 where
+pub record Proceeds (state : State) (r : Reaction) : Type 0 where
   pub settled : is_settled r.reply ≡ true
   pub trapped : r.state.trapped ≡ state.trapped
 
--- a read or write, or a step that is done
-pub performs-by : (P : Reaction → Type 0) (state : State) (act : Act) → ((side : Side) (end : NamedEnd) (address count : ℕ) → act ≡ OnEnd side end (Operate address count) → P (operates state side end address count)) → ((r : Reaction) → GoesOn state r → P r) → P (performs state act)
-unfolding performs with_stream
-performs-by P state (OnEnd side end (Operate address count)) operated done = operated side end address count refl
-performs-by P state (OnEnd side end Drop) operated done = done _ (record { settled = refl; trapped = refl })
-performs-by P state (OnEnd side end Cancel) operated done = done _ (record { settled = refl; trapped = refl })
-performs-by P state (Event g handle) operated done = done _ (record { settled = refl; trapped = refl })
-performs-by P state (Make (MakeGuest size)) operated done = done _ (record { settled = refl; trapped = refl })
-performs-by P state (Make (Between writer reader ty)) operated done = done _ (record { settled = refl; trapped = refl })
-performs-by P state (OnMemory g (Poke address bytes)) operated done = done _ (record { settled = refl; trapped = refl })
-performs-by P state (OnMemory g (Dump address len)) operated done = done _ (record { settled = refl; trapped = refl })
+-- what is made, and what is done to a memory
+makes-goes : (state : State) (making : Making) → Proceeds state (makes state making)
+unfolding with_stream
+makes-goes state (MakeGuest size) = record { settled = refl; trapped = refl }
+makes-goes state (Between writer reader ty) = record { settled = refl; trapped = refl }
+
+memory-goes : (state : State) (g : ℕ) (act : MemoryAct) → Proceeds state (on_memory state g act)
+memory-goes state g (Poke address bytes) = record { settled = refl; trapped = refl }
+memory-goes state g (Dump address len) = record { settled = refl; trapped = refl }
 
 -- ## A read or write
 
@@ -150,12 +149,12 @@ bad-traps state step s t h =
     let a = h.asked in
     reaction-performs state (act_of step) t a.unrefused
     ∙ ap (performs state) a.does
-    ∙ performs-operate state a.side a.end a.address a.count
+    ∙ performs-on_end state a.side a.end (Operate a.address a.count)
     ∙ ap (λ n. on_stream state n a.side (begun a.end.guest a.address (items_asked a.end.ty a.count))) a.stream
     ∙ ap (on_stream state s a.side) (sym a.begins)
     ∙ on_stream-bad state s a.side a.mine (record { theirs = a.theirs; there = a.there; waits = a.waits; opened = a.opened; asks = a.asks; left = a.left; bad = h.bad })
 
-module _ (P : Reaction → Type 0) (state : State) (step : Step) (bad : (s : ℕ) → HasBadItem state step s → P (trapped_by state s)) (done : (r : Reaction) → GoesOn state r → P r) where
+module _ (P : Reaction → Type 0) (state : State) (step : Step) (bad : (s : ℕ) → HasBadItem state step s → P (trapped_by state s)) (done : (r : Reaction) → Proceeds state r → P r) where
   module _ (side : Side) (end : NamedEnd) (address count : ℕ) (does : act_of step ≡ OnEnd side end (Operate address count)) (unrefused : refusal state (act_of step) ≡ None) where
     abbrev s : ℕ
     s = stream_named (named state end)
@@ -181,13 +180,23 @@ module _ (P : Reaction → Type 0) (state : State) (step : Step) (bad : (s : ℕ
     operates-by : P (operates state side end address count)
     operates-by = by_code t.code refl
 
+  end-by : (side : Side) (end : NamedEnd) (act : EndAct) → act_of step ≡ OnEnd side end act → refusal state (act_of step) ≡ None → P (on_end state side end act)
+  end-by side end (Operate address count) does e = operates-by side end address count does e
+  end-by side end _ does e = done _ (record { settled = refl; trapped = refl })
+
   -- a store that is not trapped goes on, or a bad item is asked for
   pub react-by : state.trapped ≡ false → P (react state step)
   react-by untrapped =
       reaction-by P state (act_of step)
       (λ e. absurd (let wrong : true ≡ false = sym e ∙ untrapped in cc))
       (λ r e. done _ (record { settled = refl; trapped = refl }))
-      (λ e. performs-by P state (act_of step) (λ side end address count does. operates-by side end address count does e) done)
+      (λ e.
+      performs-by (λ act r. act_of step ≡ act → P r) state
+      (λ making does. done _ (makes-goes state making))
+      (λ side end act does. end-by side end act does e)
+      (λ g handle does. done _ (record { settled = refl; trapped = refl }))
+      (λ g act does. done _ (memory-goes state g act))
+      (act_of step) refl)
 
 -- ## Both ways
 

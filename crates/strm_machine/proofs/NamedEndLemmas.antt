@@ -4,7 +4,7 @@ use Rattle.std.specs.Prelude.{IfOk, is_ok, is_some, ◌==◌, ◌&&◌, ◌||◌
 use Rattle.std.proofs.lemmas.Bool.{not-false, ne_eqb, and_from, eq-eqb}
 use Rattle.std.proofs.lemmas.List.{length-map}
 use Rattle.strm_codes.specs.Sameness.{same_payload}
-use Rattle.strm_machine.specs.Words.{kind_of, payload_of, TransmitIndex, Payload, Handles, Entry, State, guest_in, stream_at, same_side, end_of, Name, named, end_named, stream_named, has_ended, first_of, IsSound, is_end, names, NamedEnd, Act, Make, OnEnd, OnMemory, Side, Stream}
+use Rattle.strm_machine.specs.Words.{kind_of, payload_of, TransmitIndex, Payload, Handles, Entry, State, guest_in, stream_at, same_side, end_of, Name, named, end_named, stream_named, has_ended, first_of, IsSound, is_end, names, NamedEnd, Act, OnEnd, Side, Stream}
 use Rattle.strm_codes.specs.declared.codes.TransmitIndex.TheVariants as index
 use Rattle.strm_handles.specs.Handles.{entry_at}
 use Rattle.strm_handles.specs.Lookups.{◌>>=◌, stream_in, future_in, end_rep_in, end_rep_of}
@@ -100,8 +100,7 @@ is_end-unmade n s side (Err error) l h = refl
 pub names-unmade : (state : State) (act : Act) (s : ℕ) (side : Side) → IsSound state → length state.streams ≤ s → names s side state act ≡ false
 names-unmade state (OnEnd on end act) s side h l = is_end-unmade (length state.streams) s side (named state end) l (named_there state end (named state end) h refl)
 names-unmade state (Event g handle) s side h l = is_end-unmade (length state.streams) s side (end_named state g handle) l (end_named_there state g handle (end_named state g handle) h refl)
-names-unmade state (Make making) s side h l = refl
-names-unmade state (OnMemory g act) s side h l = refl
+names-unmade state _ s side h l = refl
 
 -- ## Look-ups with a type and without
 

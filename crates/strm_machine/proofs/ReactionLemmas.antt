@@ -3,10 +3,14 @@ use Rattle.std.proofs.Common.{◌≡◌, ℕ, min, take, drop, arith, Bool, true
 use Rattle.std.proofs.lemmas.Bool.{cond_both}
 use Rattle.std.specs.Option.{option_or}
 use Rattle.strm_codes.specs.declared.refusals.Refusal.{Refusal}
-use Rattle.strm_machine.specs.Words.{State, memory_in, named, stream_named, Side, first_of, Reaction, goes, operates, NamedEnd, Operate, Act, OnEnd, OnMemory}
-use Rattle.strm_machine.specs.Refusals.{Reason, dropping_reasons, bytes_reasons, refusal}
-use Rattle.strm_machine.specs.Reactions.{drops, cancels, performs, unless_refused, reaction}
-use Rattle.strm_machine.specs.declared.acts.EndAct.TheVariants.{Drop, Cancel}
+use Rattle.strm_machine.specs.Words.{State, memory_in, end_named, stream_named, Side, first_of, Reaction, goes, NamedEnd, Act, Make, OnEnd, OnMemory}
+use Rattle.strm_machine.specs.Tests.{side_named}
+use Rattle.strm_machine.specs.Refusals.{Reason, on_end_reasons, bytes_reasons, refusal}
+use Rattle.strm_machine.specs.Reactions.{makes, on_end, tells, on_memory, performs, unless_refused, reaction}
+use Rattle.strm_machine.specs.declared.acts.Making.{Making}
+use Rattle.strm_machine.specs.declared.acts.EndAct.{EndAct}
+use Rattle.strm_machine.specs.declared.acts.MemoryAct.{MemoryAct}
+use Rattle.strm_machine.specs.declared.acts.Act.TheVariants.{Event}
 use Rattle.strm_machine.specs.declared.acts.MemoryAct.TheVariants.{Dump}
 use Rattle.strm_machine.specs.declared.replies.Reply.TheVariants as replies
 
@@ -45,24 +49,22 @@ pub first_of-append : (xs ys : List Reason) → first_of (xs ++ ys) ≡ option_o
 first_of-append [] ys = refl
 first_of-append (x ∷ xs) ys = or_cond x.holds x.refusal (first_of (xs ++ ys)) (first_of xs) (first_of ys) (first_of-append xs ys)
 
--- a read or write of an end
-pub performs-operate : (state : State) (side : Side) (end : NamedEnd) (address count : ℕ) → performs state (OnEnd side end (Operate address count)) ≡ operates state side end address count
-unfolding performs
-performs-operate state side end address count = refl
-
--- a drop of an end
-pub refusal-drop : (state : State) (side : Side) (end : NamedEnd) → refusal state (OnEnd side end Drop) ≡ first_of (dropping_reasons state side end)
+-- what is done to an end
+pub refusal-on_end : (state : State) (side : Side) (end : NamedEnd) (act : EndAct) → refusal state (OnEnd side end act) ≡ first_of (on_end_reasons state side end act)
 unfolding refusal
-refusal-drop state side end = refl
+refusal-on_end state side end act = refl
 
-pub performs-drop : (state : State) (side : Side) (end : NamedEnd) → performs state (OnEnd side end Drop) ≡ drops state (stream_named (named state end)) side end
+pub performs-on_end : (state : State) (side : Side) (end : NamedEnd) (act : EndAct) → performs state (OnEnd side end act) ≡ on_end state side end act
 unfolding performs
-performs-drop state side end = refl
+performs-on_end state side end act = refl
 
--- a cancel of an end
-pub performs-cancel : (state : State) (side : Side) (end : NamedEnd) → performs state (OnEnd side end Cancel) ≡ cancels state (stream_named (named state end)) side
+-- what holds of the four ways that an act can go holds of each act
+pub performs-by : (P : Act → Reaction → Type 0) (state : State) → ((making : Making) → P (Make making) (makes state making)) → ((side : Side) (end : NamedEnd) (act : EndAct) → P (OnEnd side end act) (on_end state side end act)) → ((g handle : ℕ) → P (Event g handle) (tells state (stream_named (end_named state g handle)) (side_named (end_named state g handle)))) → ((g : ℕ) (act : MemoryAct) → P (OnMemory g act) (on_memory state g act)) → (act : Act) → P act (performs state act)
 unfolding performs
-performs-cancel state side end = refl
+performs-by P state made ended told moved (Make making) = made making
+performs-by P state made ended told moved (OnEnd side end act) = ended side end act
+performs-by P state made ended told moved (Event g handle) = told g handle
+performs-by P state made ended told moved (OnMemory g act) = moved g act
 
 least : (len : ℕ) → min (min len 64) 64 ≡ min len 64
 least len = omega arith

@@ -15,8 +15,9 @@ use Rattle.strm_machine.specs.Tests.{is_no_handle, are_handles_full, are_places_
 use Rattle.strm_handles.specs.Handles.{handle_limit, next_index}
 use Rattle.strm_codes.specs.Counts.{count_limit}
 use Rattle.strm_machine.specs.Making.{writer_index}
-use Rattle.strm_machine.specs.Refusals.{Reason, region_reasons, handle_reasons, end_reasons_of, event_reasons, where_, named_reasons, side_reasons, dropping_reasons, bytes_reasons, refusal}
+use Rattle.strm_machine.specs.Refusals.{Reason, region_reasons, handle_reasons, end_reasons_of, event_reasons, where_, side_reasons, on_end_reasons, bytes_reasons, refusal}
 use Rattle.strm_machine.specs.declared.acts.Making.TheVariants.{Guest, Between}
+use Rattle.strm_machine.specs.declared.acts.EndAct.TheVariants.{Drop}
 use Rattle.strm_machine.specs.declared.acts.MemoryAct.TheVariants.{Dump}
 use Rattle.strm_machine.specs.declared.acts.Act.TheVariants.{Event}
 use Rattle.strm_machine.proofs.TurnLemmas.{size_in}
@@ -177,7 +178,7 @@ pub record NamedFits (state : State) (side : Side) (end : NamedEnd) : Type 0 whe
   pub found : first_of (handle_reasons (named state end)) ≡ None
   pub same : same_side side (side_named (named state end)) ≡ true
 
-pub named_fits : (state : State) (side : Side) (end : NamedEnd) (more : List Reason) → first_of (named_reasons state end (side_reasons side (side_named (named state end)) more)) ≡ None → NamedFits state side end × (first_of more ≡ None)
+pub named_fits : (state : State) (side : Side) (end : NamedEnd) (more : List Reason) → first_of (where_ (is_unknown_guest state end.guest) refusals.UnknownGuest ∷ (handle_reasons (named state end) ++ side_reasons side (side_named (named state end)) more)) ≡ None → NamedFits state side end × (first_of more ≡ None)
 named_fits state side end more e =
     let name = named state end in
     let first = not_refused (is_unknown_guest state end.guest) _ _ e in
@@ -192,7 +193,7 @@ pub record DropFits (state : State) (side : Side) (end : NamedEnd) : Type 0 wher
   pub same : same_side side (side_named (named state end)) ≡ true
   pub idle : is_busy side (stream_at state (stream_named (named state end))) ≡ false
 
-pub drop_fits : (state : State) (side : Side) (end : NamedEnd) → first_of (dropping_reasons state side end) ≡ None → DropFits state side end
+pub drop_fits : (state : State) (side : Side) (end : NamedEnd) → first_of (on_end_reasons state side end Drop) ≡ None → DropFits state side end
 drop_fits state side end e =
     let name = named state end in
     let stream = stream_at state (stream_named name) in

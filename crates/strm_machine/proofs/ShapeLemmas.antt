@@ -1,4 +1,4 @@
--- Every step has a shape: the one place of the proofs that looks at all acts.
+-- Every step has a shape.
 use Rattle.std.proofs.Common.{◌≡◌, ℕ, true, false, None, refl}
 use Rattle.std.specs.Prelude.{◌++◌}
 use Rattle.strm_codes.specs.declared.refusals.Refusal.TheVariants as refusals
@@ -7,7 +7,7 @@ use Rattle.std.specs.Prelude.{not, [], ◌∷◌, Some}
 use Rattle.strm_machine.specs.Words.{State, stream_at, end_of, report_on, told_end, named, end_named, stream_named, first_of, IsSound, NamedEnd, Operate, Poke, Act, Make, OnEnd, OnMemory, Gone, Side}
 use Rattle.strm_machine.specs.Endings.{delivered, dropped, code_of_cancel, cancelled}
 use Rattle.strm_machine.specs.Tests.{side_named, is_busy}
-use Rattle.strm_machine.specs.Refusals.{where_, cancelling_reasons, region_reasons, handle_reasons, end_reasons, operation_reasons, dropping_reasons, refusal}
+use Rattle.strm_machine.specs.Refusals.{where_, region_reasons, handle_reasons, own_reasons, on_end_reasons, refusal}
 use Rattle.strm_machine.specs.Reactions.{tells, drops, cancels, on_end, makes, on_memory, performs, reaction}
 use Rattle.strm_machine.specs.declared.acts.Making.{Making}
 use Rattle.strm_machine.specs.declared.acts.Making.TheVariants.{Guest, Between}
@@ -17,7 +17,7 @@ use Rattle.strm_machine.specs.declared.acts.MemoryAct.{MemoryAct}
 use Rattle.strm_machine.specs.declared.acts.MemoryAct.TheVariants.{Dump}
 use Rattle.strm_machine.specs.declared.acts.Act.TheVariants.{Event}
 use Rattle.strm_machine.specs.declared.replies.Reply.TheVariants as replies
-use Rattle.strm_machine.proofs.ReactionLemmas.{reaction-by}
+use Rattle.strm_machine.proofs.ReactionLemmas.{reaction-by, performs-by}
 use Rattle.strm_machine.proofs.RefusalLemmas.{named_fits, not_refused, named_fits, not_refused, none_of_both, NamedFits, named_ok, region_fits, placed_begun, event_fits, drop_fits, pair_fits, guest_fits, poke_fits}
 use Rattle.strm_machine.proofs.NamedEndLemmas.{IsFound, end_fits, found_payload, found_kind, on_end-found, event-found}
 use Rattle.strm_machine.proofs.SideLemmas.{same_side_is}
@@ -27,12 +27,12 @@ use Rattle.strm_machine.proofs.Shapes.{stream_on, Operates, Shape, ByTurn, BySet
 
 -- ## What is done to the end that is named
 
-operate-fits : (state : State) (side : Side) (end : NamedEnd) (address count : ℕ) → IsSound state → first_of (operation_reasons state side end address count) ≡ None → Operates state side end address count
+operate-fits : (state : State) (side : Side) (end : NamedEnd) (address count : ℕ) → IsSound state → first_of (on_end_reasons state side end (Operate address count)) ≡ None → Operates state side end address count
 operate-fits state side end address count h e =
     let name = named state end in
     let stream = stream_on state end in
-    let first = none_of_both (region_reasons state end.guest end.ty address count) (handle_reasons name ++ end_reasons state side end.guest end.ty name) e in
-    let second = none_of_both (handle_reasons name) (end_reasons state side end.guest end.ty name) first.1 in
+    let first = none_of_both (region_reasons state end.guest end.ty address count) (handle_reasons name ++ own_reasons state side end (Operate address count)) e in
+    let second = none_of_both (handle_reasons name) (own_reasons state side end (Operate address count)) first.1 in
     let region = region_fits state end.guest end.ty address count first.0 in
     let ok = named_ok state end second.0 in
     let fits = end_fits stream side end.guest end.ty (side_named name) second.1 in
@@ -50,7 +50,7 @@ operate-fits state side end address count h e =
 named-found : (state : State) (side : Side) (end : NamedEnd) (act : EndAct) → IsSound state → NamedFits state side end → IsFound state (OnEnd side end act) end.guest end.handle (stream_named (named state end)) side
 named-found state side end act h fits = on_end-found state side end act h fits.there (named_ok state end fits.found) (same_side_is side (side_named (named state end)) fits.same)
 
-drop-shape : (state : State) (side : Side) (end : NamedEnd) → IsSound state → first_of (dropping_reasons state side end) ≡ None → Shape state (OnEnd side end Drop) (drops state (stream_named (named state end)) side end)
+drop-shape : (state : State) (side : Side) (end : NamedEnd) → IsSound state → first_of (on_end_reasons state side end Drop) ≡ None → Shape state (OnEnd side end Drop) (drops state (stream_named (named state end)) side end)
 unfolding dropped
 drop-shape state side end h e =
     let s = stream_named (named state end) in
@@ -59,7 +59,7 @@ drop-shape state side end h e =
     BySetting replies.Done (record { guest = end.guest; handle = end.handle; stream = s; side = side; end = record (end_of side stream) { owner = Gone }; frees = true }) refl
     (record { found = named-found state side end Drop h (record { there = fits.there; found = fits.found; same = fits.same }); becomes = gone-becomes side stream fits.idle; untaken = λ report. refl })
 
-cancel-shape : (state : State) (side : Side) (end : NamedEnd) → IsSound state → first_of (cancelling_reasons state side end) ≡ None → Shape state (OnEnd side end Cancel) (cancels state (stream_named (named state end)) side)
+cancel-shape : (state : State) (side : Side) (end : NamedEnd) → IsSound state → first_of (on_end_reasons state side end Cancel) ≡ None → Shape state (OnEnd side end Cancel) (cancels state (stream_named (named state end)) side)
 unfolding cancelled
 cancel-shape state side end h e =
     let s = stream_named (named state end) in
@@ -102,16 +102,17 @@ memory-shape state g (Dump address len) e = ByRest _ refl refl
 
 -- ## Every step
 
-performs-shape : (state : State) (act : Act) → IsSound state → refusal state act ≡ None → Shape state act (performs state act)
-unfolding performs
-performs-shape state (Make making) h e = make-shape state making e
-performs-shape state (OnEnd side end act) h e = on_end-shape state side end act h e
-performs-shape state (Event g handle) h e = event-shape state g handle h e
-performs-shape state (OnMemory g act) h e = memory-shape state g act e
+performs-shape : (state : State) → IsSound state → (act : Act) → refusal state act ≡ None → Shape state act (performs state act)
+performs-shape state h =
+    performs-by (λ act r. refusal state act ≡ None → Shape state act r) state
+    (make-shape state)
+    (λ side end act. on_end-shape state side end act h)
+    (λ g handle. event-shape state g handle h)
+    (memory-shape state)
 
 pub reaction-shape : (state : State) (act : Act) → IsSound state → Shape state act (reaction state act)
 reaction-shape state act h =
     reaction-by (Shape state act) state act
     (λ e. ByRest replies.StoreTrapped refl refl)
     (λ r e. ByRest (replies.Refused r) refl refl)
-    (λ e. performs-shape state act h e)
+    (performs-shape state h act)

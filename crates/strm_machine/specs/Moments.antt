@@ -22,7 +22,7 @@ use Rattle.strm_machine.specs.declared.acts.EndAct.{EndAct}
 use Rattle.strm_machine.specs.declared.acts.EndAct.TheVariants.{Operate}
 use Rattle.strm_machine.specs.declared.acts.MemoryAct.TheVariants.{Poke}
 use Rattle.strm_machine.specs.declared.acts.Act.{Act}
-use Rattle.strm_machine.specs.declared.acts.Act.TheVariants.{Make, OnEnd, Event, OnMemory}
+use Rattle.strm_machine.specs.declared.acts.Act.TheVariants.{OnEnd, Event, OnMemory}
 use Rattle.strm_machine.specs.declared.streams.Side.{Side}
 use Rattle.strm_machine.specs.declared.streams.Side.TheVariants.{Reading}
 use Rattle.strm_machine.specs.declared.streams.Operation.{Operation}
@@ -59,8 +59,7 @@ is_end s side (Err error) = false
 abbrev pub names : ℕ → Side → State → Act → Bool
 names s side state (OnEnd on end act) = is_end s side (named state end)
 names s side state (Event g handle) = is_end s side (end_named state g handle)
-names s side state (Make making) = false
-names s side state (OnMemory g act) = false
+names s side state _ = false
 
 -- the same of the act of a moment
 abbrev pub is_named : ℕ → Side → Moment → Bool

@@ -70,24 +70,7 @@ end_reasons_of stream side g ty named =
     ∷ where_ (is_within_one_guest g side ty stream) refusals.IntraComponent
     ∷ []
 
--- the same, of the stream that the handle names
-abbrev pub end_reasons : State → Side → ℕ → TransmitIndex → Name → List Reason
-end_reasons state side g ty name = end_reasons_of (stream_at state (stream_named name)) side g ty (side_named name)
-
--- a read or write of the end that is named
-abbrev pub operation_reasons : State → Side → NamedEnd → ℕ → ℕ → List Reason
-operation_reasons state side end address count =
-    region_reasons state end.guest end.ty address count
-    ++ (handle_reasons (named state end) ++ end_reasons state side end.guest end.ty (named state end))
-
--- of what is done to the end that is named, but a read or write: the guest, the handle, and then the
--- reasons of its own
-abbrev pub named_reasons : State → NamedEnd → List Reason → List Reason
-named_reasons state end more =
-    where_ (is_unknown_guest state end.guest) refusals.UnknownGuest
-    ∷ (handle_reasons (named state end) ++ more)
-
--- the first of these: the handle is the other end
+-- in a drop or a cancel: the handle is the other end
 abbrev pub side_reasons : Side → Side → List Reason → List Reason
 side_reasons side named more = where_ (not (same_side side named)) refusals.WrongEnd ∷ more
 
@@ -99,33 +82,33 @@ drop_reasons_of stream side ty named =
     ∷ where_ (owes_value side (kind_of ty) stream) refusals.FutureWithoutValue
     ∷ [])
 
--- the same, of the stream that the handle names
-abbrev pub drop_reasons : State → Side → TransmitIndex → Name → List Reason
-drop_reasons state side ty name = drop_reasons_of (stream_at state (stream_named name)) side ty (side_named name)
-
--- a drop of the end that is named
-abbrev pub dropping_reasons : State → Side → NamedEnd → List Reason
-dropping_reasons state side end =
-    named_reasons state end (drop_reasons state side end.ty (named state end))
-
 -- the end that is named in a cancel
 abbrev pub cancel_reasons_of : Stream → Side → Side → List Reason
 cancel_reasons_of stream side named =
     side_reasons side named (where_ (not (is_busy side stream)) refusals.NoPending ∷ [])
 
--- the same, of the stream that the handle names
-abbrev pub cancel_reasons : State → Side → Name → List Reason
-cancel_reasons state side name = cancel_reasons_of (stream_at state (stream_named name)) side (side_named name)
+-- what stands before the handle: for a read or write the guest, the count and the region
+abbrev pub front_reasons : State → NamedEnd → EndAct → List Reason
+front_reasons state end (Operate address count) = region_reasons state end.guest end.ty address count
+front_reasons state end _ = where_ (is_unknown_guest state end.guest) refusals.UnknownGuest ∷ []
 
--- a cancel of the end that is named
-abbrev pub cancelling_reasons : State → Side → NamedEnd → List Reason
-cancelling_reasons state side end = named_reasons state end (cancel_reasons state side (named state end))
+-- what stands behind it: the end that is named, by what is done to it
+abbrev pub own_reasons_of : Stream → Side → NamedEnd → EndAct → Side → List Reason
+own_reasons_of stream side end (Operate address count) named =
+    end_reasons_of stream side end.guest end.ty named
+own_reasons_of stream side end Drop named = drop_reasons_of stream side end.ty named
+own_reasons_of stream side end Cancel named = cancel_reasons_of stream side named
+
+-- the same, of the stream that the handle names
+abbrev pub own_reasons : State → Side → NamedEnd → EndAct → List Reason
+own_reasons state side end act =
+    own_reasons_of (stream_at state (stream_named (named state end))) side end act
+    (side_named (named state end))
 
 -- whatever is done to the end that is named
 abbrev pub on_end_reasons : State → Side → NamedEnd → EndAct → List Reason
-on_end_reasons state side end (Operate address count) = operation_reasons state side end address count
-on_end_reasons state side end Drop = dropping_reasons state side end
-on_end_reasons state side end Cancel = cancelling_reasons state side end
+on_end_reasons state side end act =
+    front_reasons state end act ++ (handle_reasons (named state end) ++ own_reasons state side end act)
 
 -- the end that an event is asked of
 abbrev pub event_reasons : Name → List Reason

@@ -35,6 +35,7 @@ fn good_lines(rt: HostRuntime) -> Result<(), Fail> {
         "",
         "guest 0\n",
         "guest 4294967295",
+        "new 0 stream:u8\n",
         "pair 0 1 stream:u8\n",
         "write 0 stream:u8 1 4294967295 268435455\n",
         "write 0 stream:u8 1 0 268435456\n",
@@ -95,7 +96,8 @@ fn bad_lines(rt: HostRuntime) -> Result<(), Fail> {
         "poke 0 0 0g",
         "dump 0 0 0",
         "dump 0 0 65",
-        "new 0 stream:u8",
+        "new 0",
+        "new 0 stream:u8 1",
         "drive",
     ];
     for line in lines {

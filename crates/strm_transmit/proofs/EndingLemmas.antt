@@ -28,7 +28,7 @@ use Rattle.strm_machine.specs.declared.streams.Side.{Side}
 use Rattle.strm_machine.specs.declared.streams.Side.TheVariants.{Writing, Reading}
 use Rattle.strm_machine.specs.declared.streams.Stream.{Stream}
 use Rattle.strm_machine.proofs.NameLemmas.{named_there, named_idle}
-use Rattle.strm_machine.proofs.ReactionLemmas.{refusal-drop}
+use Rattle.strm_machine.proofs.ReactionLemmas.{refusal-on_end}
 use Rattle.strm_machine.proofs.RefusalLemmas.{named_ok, drop_fits}
 use Rattle.strm_machine.proofs.SideLemmas.{same_side_is, StreamKeeps}
 use Rattle.strm_machine.proofs.SoundLemmas.{IsSound-dropped, sizes_of-with_handles, placed_at}
@@ -184,7 +184,7 @@ removable_idle Reading (index.Future payload) handles handle name e i s = found_
 -- an end that may be dropped can be removed from its table
 pub removable_named : (state : State) (side : Side) (end : NamedEnd) → IsSound state → refusal state (OnEnd side end Drop) ≡ None → removable side end.ty (guest_in state.guests end.guest).handles end.handle ≡ Ok tt
 removable_named state side end h e =
-    let fits = drop_fits state side end (sym (refusal-drop state side end) ∙ e) in
+    let fits = drop_fits state side end (sym (refusal-on_end state side end Drop) ∙ e) in
     by_name (named state end) refl (named_idle state end (named state end) h refl) (named_ok state end fits.found) fits.same
   where
     by_name : (r : Name) → named state end ≡ r → IfOk r (λ name. is_idle_state name.1 ≡ true) → IsOk r → same_side side (side_named r) ≡ true → removable side end.ty (guest_in state.guests end.guest).handles end.handle ≡ Ok tt
@@ -195,7 +195,7 @@ removable_named state side end h e =
 pub drop_there : (old : Inside) (side : Side) (end : NamedEnd) (s : ℕ) → IsStore old → refusal (state_of old) (OnEnd side end Drop) ≡ None → s ≡ stream_named (named (state_of old) end) → s < length old.streams.items
 drop_there old side end s i e same =
     let state = state_of old in
-    let fits = drop_fits state side end (sym (refusal-drop state side end) ∙ e) in
+    let fits = drop_fits state side end (sym (refusal-on_end state side end Drop) ∙ e) in
     rw same (by_name (named state end) (named_there state end (named state end) i.sound refl) (named_ok state end fits.found))
   where
     by_name : (r : Name) → IfOk r (λ name. name.0 < length old.streams.items) → IsOk r → stream_named r < length old.streams.items

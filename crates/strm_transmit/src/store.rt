@@ -7,11 +7,11 @@ ghost use Rattle.std.specs.Prelude.{◌≡◌, ◌≢◌, Err, ◌<◌, ◌↔�
 ghost use Rattle.strm_codes.specs.Types.{kind_of, payload_of};
 ghost use Rattle.strm_machine.specs.State.{empty, is_live, stream_at, memory_in};
 
-mod cancels;
 mod endings;
 mod making;
 mod memories;
 mod operations;
+mod refusals;
 
 use crate::errors::StoreError;
 use std::alloc::Global;

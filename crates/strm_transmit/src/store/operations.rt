@@ -4,37 +4,32 @@
 //! `canon stream.{read,write}` and `canon future.{read,write}`; wasmtime, `guest_read` and
 //! `guest_write`.
 
-ghost use Rattle.std.specs.Prelude.{◌≡◌, ◌≢◌, ◌<◌, ◌++◌, ◌↔◌, length, true, false, Err, IfOk, IfErr, OnOk, IsTrue, IsErr};
-ghost use Rattle.strm_codes.specs.Types.{payload_of};
+ghost use Rattle.std.specs.Prelude.{◌≡◌, ◌≢◌, ◌<◌, ◌↔◌, length, true, false, Err, IfOk, OnOk, IsTrue, IsErr};
 ghost use Rattle.strm_codes.specs.declared.codes.TransmitIndex.TheVariants as index;
 ghost use Rattle.strm_memory.specs.Items.{is_number_or_none};
 ghost use Rattle.strm_machine.specs.State.{stream_at};
 ghost use Rattle.strm_machine.specs.Meetings.{begun};
 ghost use Rattle.strm_machine.specs.Sides.{opposite, end_of};
-ghost use Rattle.strm_machine.specs.Tests.{is_too_big, items_asked, named, stream_named, side_named, side_of, has_ended, is_within_one_guest, is_open_of};
-ghost use Rattle.strm_machine.specs.Refusals.{first_of, ended_refusal, region_reasons, handle_reasons, end_reasons, end_reasons_of, refusal};
+ghost use Rattle.strm_machine.specs.Tests.{is_too_big, items_asked, named, stream_named, is_open_of};
+ghost use Rattle.strm_machine.specs.Refusals.{first_of, region_reasons, refusal};
 ghost use Rattle.strm_machine.specs.Reactions.{react, reaction, on_stream};
 ghost use Rattle.strm_machine.specs.Soundness.{sizes_of, IsPlaced};
 ghost use Rattle.strm_machine.specs.declared.acts.Act.TheVariants.{OnEnd};
 ghost use Rattle.strm_machine.specs.declared.acts.EndAct.TheVariants.{Operate};
 ghost use Rattle.strm_machine.specs.declared.replies.Reply.TheVariants as replies;
 ghost use Rattle.strm_machine.specs.declared.steps.Step.TheVariants as steps;
-ghost use Rattle.strm_machine.proofs.NameLemmas.{IsNameError};
 ghost use Rattle.strm_transmit.specs.Meets.{Meets, replied, or_found};
 
 use crate::errors::StoreError;
 use crate::store::Store;
-use strm_codes::codes::{ReturnCode, TransmitIndex, TransmitKind};
+use strm_codes::codes::{ReturnCode, TransmitIndex};
 use strm_codes::counts::{ItemCount, StreamOpTooBig};
 use strm_codes::payloads::Payload;
 use strm_codes::refusals::Refusal;
-use strm_handles::entries::TransmitLocalState;
-use strm_handles::errors::HandleError;
-use strm_machine::acts::NamedEnd;
-use strm_machine::streams::{Operation, Side, Stream};
+use strm_machine::acts::{EndAct, NamedEnd};
+use strm_machine::streams::{Operation, Side};
 use strm_memory::memories::RegionError;
 use strm_turns::guests::memory;
-use strm_turns::sides::{end_of, is_busy, opposite, same_side};
 use strm_turns::turns::{begin, take_turn};
 
 // The items that a call asks for: a future's is one.
@@ -48,89 +43,6 @@ fn items_asked(ty: TransmitIndex, count: u32) -> Result<ItemCount, StreamOpTooBi
         TransmitIndex::Stream(_) => ItemCount::new(count),
         TransmitIndex::Future(_) => ItemCount::new(1),
     }
-}
-
-// The side of an end, by a table's state of it.
-#[inline(always)]
-pub(crate) fn side_of(state: TransmitLocalState) -> Side
-    ensures { result ≡ side_of state }
-{
-    match state {
-        TransmitLocalState::Write { .. } => Side::Writing,
-        TransmitLocalState::Read { .. } => Side::Reading,
-        TransmitLocalState::Busy { reading } => {
-            if reading {
-                Side::Reading
-            } else {
-                Side::Writing
-            }
-        }
-    }
-}
-
-// Whether a read or write of this end can't be any more.
-#[inline(always)]
-fn has_ended(side: Side, kind: TransmitKind, stream: &Stream) -> bool
-    ensures { result ≡ has_ended side kind stream.now }
-{
-    match (kind, side) {
-        (TransmitKind::Stream, _) => end_of(stream, side).told,
-        (TransmitKind::Future, Side::Writing) => stream.writer.told || stream.passed,
-        (TransmitKind::Future, Side::Reading) => stream.passed,
-    }
-}
-
-fn ended_refusal(side: Side, kind: TransmitKind) -> Refusal
-    ensures { result ≡ ended_refusal side kind }
-{
-    match (side, kind) {
-        (Side::Writing, TransmitKind::Stream) => Refusal::WriteToDroppedStream,
-        (Side::Writing, TransmitKind::Future) => Refusal::WriteToDroppedFuture,
-        (Side::Reading, TransmitKind::Stream) => Refusal::ReadFromDroppedStream,
-        (Side::Reading, TransmitKind::Future) => Refusal::FutureAlreadyRead,
-    }
-}
-
-// Whether any bytes are items of a payload.
-#[inline(always)]
-fn is_number_or_none(payload: Payload) -> bool
-    ensures { result ≡ is_number_or_none payload }
-{
-    match payload {
-        Payload::Nothing => true,
-        Payload::One(scalar) => scalar.is_whole_number(),
-        Payload::Tuple(_) => false,
-    }
-}
-
-// Whether an open operation of its guest waits on the other side, for items that don't move there.
-#[inline(always)]
-fn is_within_one_guest(side: Side, end: &NamedEnd, stream: &Stream) -> bool
-    ensures { result ≡ is_within_one_guest end.now.guest side end.now.ty stream.now }
-{
-    let is_open_of_guest = match &end_of(stream, opposite(side)).operation {
-        Some(theirs) => theirs.is_open && theirs.guest == end.guest,
-        None => false,
-    };
-    is_open_of_guest && !is_number_or_none(end.ty.payload())
-}
-
-// Why an end may not read or write now.
-#[inline(always)]
-fn end_refusal(side: Side, end: &NamedEnd, stream: &Stream, named_side: Side) -> Option<Refusal>
-    ensures { result
-        ≡ first_of (end_reasons_of stream.now side end.now.guest end.now.ty named_side) }
-{
-    if !same_side(side, named_side) || is_busy(side, stream) {
-        return Some(Refusal::ConcurrentFutureStreamOp);
-    }
-    if has_ended(side, end.ty.kind(), stream) {
-        return Some(ended_refusal(side, end.ty.kind()));
-    }
-    if is_within_one_guest(side, end, stream) {
-        return Some(Refusal::IntraComponent);
-    }
-    None
 }
 
 impl Store {
@@ -156,62 +68,6 @@ impl Store {
         }
     }
 
-    // What a guest's table answers for a handle.
-    #[inline(always)]
-    fn name(&self, end: &NamedEnd) -> Result<(u32, TransmitLocalState), HandleError>
-        requires { end.now.guest < length self.now.guests }
-        ensures exact { result ≡ named self.now end.now }
-        ensures there { IfOk result (λ name. name.0 < length self.now.streams) }
-        ensures payload { IfOk result (λ name.
-            (stream_at self.now name.0).payload ≡ payload_of end.now.ty) }
-        ensures others { IfErr result IsNameError }
-    {
-        let guest = &self.guests[end.guest as usize];
-        match end.ty {
-            TransmitIndex::Stream(payload) => guest.table.stream_rep(payload, end.handle),
-            TransmitIndex::Future(payload) => guest.table.future_rep(payload, end.handle),
-        }
-    }
-
-    // The stream and the side of the end that a handle of a type names.
-    #[inline(always)]
-    pub(crate) fn handle_found(&self, end: &NamedEnd) -> Result<(u32, Side), Refusal>
-        requires { end.now.guest < length self.now.guests }
-        ensures exact { result ≡ or_found (first_of (handle_reasons (named self.now end.now)))
-            (stream_named (named self.now end.now), side_named (named self.now end.now)) }
-        ensures there { IfOk result (λ found. found.0 < length self.now.streams) }
-        ensures payload { IfOk result (λ found.
-            (stream_at self.now found.0).payload ≡ payload_of end.now.ty) }
-    {
-        match self.name(end) {
-            Ok(name) => Ok((name.0, side_of(name.1))),
-            Err(HandleError::UnknownHandle) => Err(Refusal::UnknownHandle),
-            Err(HandleError::WrongKind) => Err(Refusal::WrongKind),
-            Err(HandleError::WrongType) => Err(Refusal::WrongType),
-            Err(_) => unreachable!(),
-        }
-    }
-
-    // The stream whose end a handle names, where that end may read or write now.
-    #[inline(always)]
-    fn found(&self, side: Side, end: &NamedEnd) -> Result<u32, Refusal>
-        requires { end.now.guest < length self.now.guests }
-        ensures exact { result ≡ or_found (first_of (handle_reasons (named self.now end.now)
-            ++ end_reasons self.now side end.now.guest end.now.ty (named self.now end.now)))
-            (stream_named (named self.now end.now)) }
-        ensures there { IfOk result (λ stream. stream < length self.now.streams) }
-        ensures payload { IfOk result (λ stream.
-            (stream_at self.now stream).payload ≡ payload_of end.now.ty) }
-    {
-        match self.handle_found(end) {
-            Ok(named) => match end_refusal(side, end, self.stream(named.0), named.1) {
-                Some(refusal) => Err(refusal),
-                None => Ok(named.0),
-            },
-            Err(refusal) => Err(refusal),
-        }
-    }
-
     // The stream and the items of a read or write that nothing refuses.
     #[inline(always)]
     #[tactic(auto, unfolding(strm_machine::specs::Refusals::refusal))]
@@ -233,7 +89,7 @@ impl Store {
             → IsTrue (is_number_or_none (stream_at self.now found.0).payload)) }
     {
         match self.region(end, address, count) {
-            Ok(items) => match self.found(side, end) {
+            Ok(items) => match self.found(side, end, EndAct::Operate { address, count }) {
                 Ok(stream) => Ok((stream, items)),
                 Err(refusal) => Err(refusal),
             },

@@ -1,7 +1,8 @@
 use mir.Val.{bool_byte}
 use Rattle.std.proofs.Common.{refl, sym, ◌∙◌, ap, set, arith}
 use Rattle.std.proofs.lemmas.List.{length-map}
-use Rattle.strm_machine.proofs.ReactionLemmas.{refusal-drop}
+use Rattle.strm_machine.specs.declared.acts.EndAct.TheVariants.{Drop}
+use Rattle.strm_machine.proofs.ReactionLemmas.{refusal-on_end}
 use Rattle.strm_machine.proofs.RefusalLemmas.{drop_fits}
 use Rattle.strm_turns.specs.Guests.{guest_of}
 use Rattle.strm_transmit.specs.Inside.{state_of}
@@ -15,7 +16,7 @@ remove_end-requires-clause-idle c =
 pub remove_end-requires-clause-there : goal.remove_end-requires-clause-there
 remove_end-requires-clause-there c =
     let fits = drop_fits (state_of c.self.inside) c.args.side c.args.end.now
-    (sym (refusal-drop (state_of c.self.inside) c.args.side c.args.end.now) ∙ (rw (← c.self.view_is) at c.requires.may)) in
+    (sym (refusal-on_end (state_of c.self.inside) c.args.side c.args.end.now Drop) ∙ (rw (← c.self.view_is) at c.requires.may)) in
     omega (arith, fits.there, length-map c.self.inside.guests.items guest_of)
 
 pub index_mut-requires : goal.index_mut-requires

@@ -1,7 +1,8 @@
 use Rattle.strm_machine.specs.Meetings.{begun}
 use Rattle.strm_machine.specs.Reactions.{on_stream}
 use Rattle.strm_machine.specs.declared.replies.Reply.TheVariants as replies
-use Rattle.strm_machine.proofs.ReactionLemmas.{performs-operate}
+use Rattle.strm_machine.specs.declared.acts.EndAct.TheVariants.{Operate}
+use Rattle.strm_machine.proofs.ReactionLemmas.{performs-on_end}
 use Rattle.strm_transmit.specs.Meets.{replied}
 use Rattle.strm_transmit.proofs.StepLemmas.{is_admitted, reacts, meets_admitted, meets_not_admitted}
 use Rattle.strm_transmit.proofs.store.Store.operate.Goals as goal
@@ -11,7 +12,7 @@ returns-in-Ok-clause-meets c =
     meets_admitted c.args.self.now c.take.new.self _ (replied replies.Code c.take.result) _
     (reacts _ _ _ _ _ (λ q. on_stream c.args.self.now q.0 c.args.side (begun c.args.end.now.guest c.args.address q.1))
     (is_admitted _ _ _ _ _ c.operation_found.ensures.exact c.in-Ok.ensures.exact)
-    (performs-operate c.args.self.now c.args.side c.args.end.now c.args.address c.args.count))
+    (performs-on_end c.args.self.now c.args.side c.args.end.now (Operate c.args.address c.args.count)))
     (rw c.begin.ensures at c.take.ensures.meets)
 
 pub returns-in-Err-clause-meets : goal.returns-in-Err-clause-meets
