@@ -5,3 +5,4 @@ pub mod ItemLemmas
 pub mod CopyLemmas
 pub mod ColumnLemmas
 pub mod RegionLemmas
+pub mod AppendLemmas

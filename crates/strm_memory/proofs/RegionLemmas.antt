@@ -75,7 +75,7 @@ drop-encode_from at (s ∷ ss) bytes (x ∷ xs) k l h =
     rw split (sym (drop-drop (k - (gap + size_of s)) (gap + size_of s) whole) ∙ ap (drop (k - (gap + size_of s))) cut ∙ rest ∙ drop-drop (k - (gap + size_of s)) (gap + size_of s) bytes)
 
 -- an item depends on its own bytes alone
-decode_from-take : (at : ℕ) (ss : List Scalar) (bytes : List ℕ) (k : ℕ) → end_offset at ss ≤ at + k → decode_from at ss (take k bytes) ≡ decode_from at ss bytes
+pub decode_from-take : (at : ℕ) (ss : List Scalar) (bytes : List ℕ) (k : ℕ) → end_offset at ss ≤ at + k → decode_from at ss (take k bytes) ≡ decode_from at ss bytes
 unfolding decode_from
 decode_from-take at [] bytes k h = refl
 decode_from-take at (s ∷ ss) bytes k h =

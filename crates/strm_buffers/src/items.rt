@@ -1,0 +1,140 @@
+//! Items kept as their bytes.
+//!
+//! Source: ours. Layout: Canonical ABI, "Loading" and "Storing".
+
+ghost use Rattle.std.specs.Prelude.{◌≡◌, ℕ, ◌+◌, ◌*◌, ◌<◌, ◌≤◌, [], ◌∷◌, ◌++◌, length, take, drop, replicate, slice_get, Some, IfOk, OnOk, OnErr};
+ghost use Rattle.strm_codes.specs.Layout.{scalars_of, item_size};
+ghost use Rattle.strm_codes.specs.Items.{FitsItem};
+ghost use Rattle.strm_memory.specs.Items.{stored_at};
+
+use std::alloc::Global;
+use std::marker::Model;
+use strm_codes::counts::OutOfMemory;
+use strm_codes::payloads::Payload;
+use strm_codes::values::Value;
+use strm_memory::items::{lift_item_at, lower_item_at};
+
+/// Fewer than 4,294,967,295 values of one payload.
+#[derive(Drop)]
+pub struct Items {
+    payload: Payload,
+    bytes: Vec<u8>,
+    // Where the first item lies; nothing stands behind the last.
+    start: usize,
+    len: usize,
+}
+
+impl Model for Items {
+    ghost use Rattle.strm_buffers.specs.Listing.{TypedItems, kept_items, AreKept};
+
+    ghost Value = { TypedItems };
+
+    ghost view = { λ s. kept_items s.payload s.bytes.items s.start s.len };
+
+    ghost invariant = { λ s. AreKept s.payload s.bytes.items s.start s.len };
+}
+
+impl Items {
+    /// No items. Takes no memory.
+    pub fn new(alloc: Global, payload: Payload) -> Items
+        ensures payload { result.payload ≡ payload }
+        ensures items { result.items ≡ [] }
+    {
+        Items {
+            payload,
+            bytes: Vec::new(alloc),
+            start: 0,
+            len: 0,
+        }
+    }
+
+    /// What one item is.
+    pub fn payload(&self) -> Payload
+        ensures { result ≡ self.now.payload }
+    {
+        self.payload
+    }
+
+    /// How many items there are.
+    pub fn len(&self) -> usize
+        ensures exact { result ≡ length self.now.items }
+        ensures most { result < 4294967295 }
+    {
+        self.len
+    }
+
+    /// An item, from 0.
+    pub fn get(&self, index: usize) -> Value
+        requires { index < length self.now.items }
+        ensures exact { slice_get self.now.items index ≡ Some result }
+        ensures fits { FitsItem (scalars_of self.now.payload) result }
+    {
+        let size = self.payload.size() as usize;
+        match lift_item_at(&self.bytes, self.start + size * index, self.payload) {
+            Some(item) => item,
+            None => unreachable!(),
+        }
+    }
+
+    /// Adds an item behind the others. After `OutOfMemory` nothing has changed.
+    pub fn push(&mut self, item: &Value) -> Result<(), OutOfMemory>
+        requires fits { FitsItem (scalars_of self.old.payload) item.now }
+        requires few { length self.old.items + 1 < 4294967295 }
+        ensures payload { self.new.payload ≡ self.old.payload }
+        ensures ok { OnOk result (self.new.items ≡ self.old.items ++ item.now ∷ []) }
+        ensures err { OnErr result (self.new ≡ self.old) }
+    {
+        let end = self.bytes.len();
+        match append_item(&mut self.bytes, end, item, self.payload) {
+            Ok(()) => {}
+            Err(error) => return Err(error),
+        }
+        self.len += 1;
+        Ok(())
+    }
+
+    /// Takes so many items off the front.
+    pub fn skip(&mut self, count: usize)
+        requires { count ≤ length self.old.items }
+        ensures payload { self.new.payload ≡ self.old.payload }
+        ensures items { self.new.items ≡ drop count self.old.items }
+    {
+        self.start += self.payload.size() as usize * count;
+        self.len -= count;
+    }
+}
+
+// Cuts bytes off at a place, and puts an item there. After `OutOfMemory` nothing has changed.
+pub(crate) fn append_item(
+    bytes: &mut Vec<u8>,
+    at: usize,
+    item: &Value,
+    payload: Payload,
+) -> Result<(), OutOfMemory>
+    requires fits { FitsItem (scalars_of payload) item.now }
+    requires inside { at ≤ length bytes.old.items }
+    ensures ok { OnOk result (bytes.new.items ≡ stored_at (scalars_of payload)
+        (take at bytes.old.items ++ replicate (item_size (scalars_of payload)) 0) at (item.now ∷ [])) }
+    ensures err { OnErr result (bytes.new.items ≡ bytes.old.items) }
+{
+    let size = payload.size() as usize;
+    if bytes.reserve(size).is_err() {
+        return Err(OutOfMemory);
+    }
+    bytes.truncate(at);
+    match bytes.resize(at + size, 0) {
+        Ok(()) => {}
+        Err(_) => unreachable!(),
+    }
+    write_item(bytes, at, item, payload);
+    Ok(())
+}
+
+// Writes an item at a place.
+pub(crate) fn write_item(bytes: &mut Vec<u8>, at: usize, item: &Value, payload: Payload)
+    requires fits { FitsItem (scalars_of payload) item.now }
+    requires inside { at + item_size (scalars_of payload) ≤ length bytes.old.items }
+    ensures { bytes.new.items ≡ stored_at (scalars_of payload) bytes.old.items at (item.now ∷ []) }
+{
+    lower_item_at(item, payload, bytes.as_mut_slice(), at);
+}

@@ -1,0 +1,9 @@
+//! What host ends are made of: buffers of typed items, items as their bytes, the window that a poll
+//! fills and the offer that a poll takes from.
+#![tactic(auto)]
+
+pub mod buffers;
+pub mod items;
+pub mod slice_buffer;
+pub mod values;
+pub mod vec_buffer;

@@ -1,0 +1,83 @@
+//! A buffer over a part of a vector of bytes.
+//!
+//! Source: wasmtime, `futures_and_streams/buffers.rs`, `SliceBuffer`.
+
+ghost use Rattle.std.specs.Prelude.{◌≡◌, ◌≤◌, length, slice_range};
+
+use crate::buffers::WriteBuffer;
+use std::alloc::Global;
+
+/// The bytes of a vector from an offset up to a limit.
+#[derive(Drop)]
+pub struct SliceBuffer {
+    buffer: Vec<u8>,
+    offset: usize,
+    limit: usize,
+    ghost ordered: { offset ≤ limit },
+    ghost within: { limit ≤ length buffer.items },
+}
+
+impl SliceBuffer {
+    /// The bytes from an offset up to a limit.
+    pub fn new(buffer: Vec<u8>, offset: usize, limit: usize) -> SliceBuffer
+        requires ordered { offset ≤ limit }
+        requires within { limit ≤ length buffer.items }
+        ensures buffer { result.buffer ≡ buffer }
+        ensures offset { result.offset ≡ offset }
+        ensures limit { result.limit ≡ limit }
+    {
+        SliceBuffer {
+            buffer,
+            offset,
+            limit,
+        }
+    }
+
+    /// The vector, and where the bytes that are left begin and end.
+    pub fn into_parts(self) -> (Vec<u8>, usize, usize)
+        ensures { result ≡ (self.buffer, self.offset, self.limit) }
+    {
+        let SliceBuffer {
+            buffer,
+            offset,
+            limit,
+        } = self;
+        (buffer, offset, limit)
+    }
+}
+
+impl WriteBuffer<u8> for SliceBuffer {
+    ghost use Rattle.std.specs.Prelude.{slice_range};
+
+    ghost items = { λ b. slice_range b.buffer.items b.offset b.limit };
+
+    fn empty(alloc: Global) -> SliceBuffer {
+        SliceBuffer {
+            buffer: Vec::new(alloc),
+            offset: 0,
+            limit: 0,
+        }
+    }
+
+    fn remaining(&self) -> &[u8] {
+        &self.buffer[self.offset..self.limit]
+    }
+
+    fn skip(&mut self, count: usize) {
+        self.offset += count;
+    }
+
+    fn take(&mut self, count: usize, out: &mut Vec<u8>) {
+        match out.extend_from_slice(&self.buffer[self.offset..self.offset + count]) {
+            Ok(()) => {}
+            Err(_) => unreachable!(),
+        }
+        self.offset += count;
+    }
+
+    fn take_first(&mut self) -> u8 {
+        let item = self.buffer[self.offset];
+        self.offset += 1;
+        item
+    }
+}

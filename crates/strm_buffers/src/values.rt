@@ -1,0 +1,131 @@
+//! Buffers of typed items seen as values, and a buffer whose type is told apart by its payload.
+//!
+//! Source: wasmtime, `futures_and_streams/buffers.rs`, `UntypedWriteBuffer`; `ValueBuffer` is ours.
+
+ghost use Rattle.std.specs.Prelude.{◌≡◌, ◌<◌, ◌≤◌, ◌↔◌, length, drop, map, slice_get, Some, Ok, Err, IsErr, IfErr, IsFalse};
+ghost use Rattle.strm_codes.specs.Sameness.{same_payload};
+
+use crate::buffers::WriteBuffer;
+use crate::vec_buffer::VecBuffer;
+use strm_codes::payloads::Payload;
+use strm_codes::values::Value;
+use strm_memory::payloaded::Payloaded;
+
+/// A buffer whose items are seen as values of one payload.
+pub trait ValueBuffer {
+    ghost use Rattle.std.specs.Prelude.{ℤ, List};
+    ghost use Rattle.strm_codes.specs.declared.payloads.Payload.{Payload};
+
+    // The payload.
+    ghost payload: { Payload };
+
+    // The items that are left.
+    ghost values: { Self → List (List ℤ) };
+
+    /// The payload of the items.
+    fn payload(&self) -> Payload
+        ensures { result ≡ payload };
+
+    /// How many items are left.
+    fn remaining(&self) -> usize
+        ensures { result ≡ length (values self.now) };
+
+    /// An item, from 0.
+    fn item(&self, index: usize) -> Value
+        requires { index < length (values self.now) }
+        ensures { slice_get (values self.now) index ≡ Some result };
+
+    /// Takes so many items off the front.
+    fn skip(&mut self, count: usize)
+        requires { count ≤ length (values self.old) }
+        ensures { values self.new ≡ drop count (values self.old) };
+}
+
+impl<T: Payloaded> ValueBuffer for Option<T> {
+    ghost use Rattle.std.specs.Prelude.{map};
+    ghost use Rattle.strm_buffers.specs.Buffers.{option_items};
+
+    ghost payload = { T.payload };
+
+    ghost values = { λ b. map T.item (option_items b) };
+
+    fn payload(&self) -> Payload {
+        T::payload()
+    }
+
+    fn remaining(&self) -> usize {
+        match self {
+            Some(_) => 1,
+            None => 0,
+        }
+    }
+
+    fn item(&self, _index: usize) -> Value {
+        match self {
+            Some(item) => item.lower(),
+            None => unreachable!(),
+        }
+    }
+
+    fn skip(&mut self, count: usize) {
+        WriteBuffer::skip(self, count);
+    }
+}
+
+impl<T: Payloaded> ValueBuffer for VecBuffer<T> {
+    ghost use Rattle.std.specs.Prelude.{map, drop};
+
+    ghost payload = { T.payload };
+
+    ghost values = { λ b. map T.item (drop b.first b.buffer.items) };
+
+    fn payload(&self) -> Payload {
+        T::payload()
+    }
+
+    fn remaining(&self) -> usize {
+        self.as_slice().len()
+    }
+
+    fn item(&self, index: usize) -> Value {
+        self.as_slice()[index].lower()
+    }
+
+    fn skip(&mut self, count: usize) {
+        WriteBuffer::skip(self, count);
+    }
+}
+
+/// Another payload was found than was expected.
+#[derive(Clone, Copy, Debug, PartialEq, Eq)]
+pub struct TypeMismatch {
+    pub expected: Payload,
+    pub found: Payload,
+}
+
+/// A buffer that is lent without its item's type.
+pub struct UntypedWriteBuffer<'a, B: ValueBuffer> {
+    buffer: &'a mut B,
+}
+
+impl<'a, B: ValueBuffer> UntypedWriteBuffer<'a, B> {
+    /// Lends a buffer.
+    pub fn new(buffer: &'a mut B) -> UntypedWriteBuffer<'a, B> {
+        UntypedWriteBuffer { buffer }
+    }
+
+    /// The buffer, where its items are of this type; else the payloads of both.
+    pub fn get_mut<T: Payloaded>(&mut self) -> Result<&mut B, TypeMismatch>
+        ensures mismatch { IsErr result ↔ IsFalse (same_payload T.payload B.payload) }
+        ensures names { IfErr result
+            (λ error. (error.expected ≡ T.payload) × (error.found ≡ B.payload)) }
+    {
+        let expected = T::payload();
+        let found = self.buffer.payload();
+        if expected == found {
+            Ok(&mut *self.buffer)
+        } else {
+            Err(TypeMismatch { expected, found })
+        }
+    }
+}

@@ -1,0 +1,90 @@
+//! A buffer over a vector.
+//!
+//! Source: wasmtime, `futures_and_streams/buffers.rs`, `VecBuffer`.
+
+ghost use Rattle.std.specs.Prelude.{◌≡◌, ◌≤◌, [], length, drop, IfOk, vec_len, vec_capacity};
+
+use crate::buffers::WriteBuffer;
+use std::alloc::Global;
+use strm_codes::counts::OutOfMemory;
+
+/// The items of a vector from a place on.
+#[derive(Drop)]
+pub struct VecBuffer<T: Copy> {
+    buffer: Vec<T>,
+    first: usize,
+    ghost within: { first ≤ length buffer.items },
+}
+
+impl<T: Copy> VecBuffer<T> {
+    /// No items, and room for so many. After `OutOfMemory` nothing was kept.
+    pub fn with_capacity(alloc: Global, capacity: usize) -> Result<VecBuffer<T>, OutOfMemory>
+        ensures empty { IfOk result (λ buffer. drop buffer.first buffer.buffer.items ≡ []) }
+        ensures room { IfOk result (λ buffer. capacity ≤ vec_capacity buffer.buffer) }
+    {
+        match Vec::with_capacity(alloc, capacity) {
+            Ok(buffer) => Ok(VecBuffer { buffer, first: 0 }),
+            Err(_) => Err(OutOfMemory),
+        }
+    }
+
+    /// The items of this vector.
+    pub fn from_vec(items: Vec<T>) -> VecBuffer<T>
+        ensures { drop result.first result.buffer.items ≡ items.items }
+    {
+        VecBuffer {
+            buffer: items,
+            first: 0,
+        }
+    }
+
+    /// Removes all items.
+    pub fn reset(&mut self)
+        ensures { drop self.new.first self.new.buffer.items ≡ [] }
+    {
+        self.buffer.clear();
+        self.first = 0;
+    }
+}
+
+impl<T: Copy> VecBuffer<T> {
+    // The items that are left.
+    pub(crate) fn as_slice(&self) -> &[T]
+        ensures { result.now ≡ drop self.now.first self.now.buffer.items }
+    {
+        &self.buffer[self.first..]
+    }
+}
+
+impl<T: Copy> WriteBuffer<T> for VecBuffer<T> {
+    ghost items = { λ b. drop b.first b.buffer.items };
+
+    fn empty(alloc: Global) -> VecBuffer<T> {
+        VecBuffer {
+            buffer: Vec::new(alloc),
+            first: 0,
+        }
+    }
+
+    fn remaining(&self) -> &[T] {
+        self.as_slice()
+    }
+
+    fn skip(&mut self, count: usize) {
+        self.first += count;
+    }
+
+    fn take(&mut self, count: usize, out: &mut Vec<T>) {
+        match out.extend_from_slice(&self.buffer[self.first..self.first + count]) {
+            Ok(()) => {}
+            Err(_) => unreachable!(),
+        }
+        self.first += count;
+    }
+
+    fn take_first(&mut self) -> T {
+        let item = self.buffer[self.first];
+        self.first += 1;
+        item
+    }
+}
