@@ -1,5 +1,6 @@
 //! The bytes of worked cases, and each public call once with ample memory.
 
+use std::alloc::Global;
 use std::test::Fail;
 use strm_codes::counts::ItemCount;
 use strm_codes::payloads::{Payload, Shape};
@@ -220,40 +221,68 @@ fn regions_are_inside_and_aligned(rt: HostRuntime) -> Result<(), Fail> {
     Ok(())
 }
 
+// A memory of 8 bytes that holds the bytes 1, 2, 3 from an address on.
+fn filled(alloc: Global, address: u32) -> Result<GuestMemory, Fail> {
+    let mut memory = GuestMemory::new(alloc, 8)?;
+    match memory.store(address, b"\x01\x02\x03") {
+        Ok(()) => Ok(memory),
+        Err(OutOfBounds) => Err(Fail::from("outside")),
+    }
+}
+
+#[test]
+fn stores_lie_inside(rt: HostRuntime) -> Result<(), Fail> {
+    let mut memory = GuestMemory::new(rt.alloc(), 8)?;
+    assert_eq!(rt; GuestMemory::empty(rt.alloc()).len(), 0);
+    assert_eq!(rt; memory.store(6, b"\x01\x02\x03"), Err(OutOfBounds));
+    assert_eq!(rt; memory.store(9, b""), Ok(()));
+    assert_eq!(rt; memory.store(1, b"\x01\x02\x03"), Ok(()));
+    assert_eq!(rt; memory.len(), 8);
+    Ok(())
+}
+
 #[test]
 fn memories_receive_items(rt: HostRuntime) -> Result<(), Fail> {
-    let mut writer = GuestMemory::new(rt.alloc(), 8)?;
+    let writer = filled(rt.alloc(), 1)?;
     let mut reader = GuestMemory::new(rt.alloc(), 8)?;
-    assert_eq!(rt; GuestMemory::empty(rt.alloc()).len(), 0);
-    assert_eq!(rt; writer.store(6, b"\x01\x02\x03"), Err(OutOfBounds));
-    assert_eq!(rt; writer.store(9, b""), Ok(()));
-    assert_eq!(rt; writer.store(1, b"\x01\x02\x03"), Ok(()));
+    let (payload, count) = (Payload::One(Scalar::U8), items(3));
     assert!(rt; writer.len() == 8 && reader.len() == 8);
-    let payload = Payload::One(Scalar::U8);
-    let count = items(3);
     assert!(rt; payload.size() as usize * count.as_usize() <= 3);
     assert_eq!(rt; reader.receive(4, &writer, 1, payload, count), Ok(()));
-    assert_eq!(rt;
-        reader.bytes(),
-        b"\x00\x00\x00\x00\x01\x02\x03\x00".as_slice()
-    );
-    assert!(rt; reader.len() == 8);
-    assert_eq!(rt; reader.slice(4, 3), b"\x01\x02\x03".as_slice());
+    let expected = *b"\x00\x00\x00\x00\x01\x02\x03\x00";
+    assert_eq!(rt; reader.bytes(), expected.as_slice());
+    Ok(())
+}
+
+#[test]
+fn memories_lend_and_lift(rt: HostRuntime) -> Result<(), Fail> {
+    let memory = filled(rt.alloc(), 4)?;
+    let (payload, count) = (Payload::One(Scalar::U8), items(3));
+    assert!(rt; memory.len() == 8);
+    assert!(rt; payload.size() as usize * count.as_usize() <= 3);
+    assert_eq!(rt; memory.slice(4, 3), b"\x01\x02\x03".as_slice());
     let mut out = Vec::new(rt.alloc());
-    assert_eq!(rt; reader.lift(4, payload, count, &mut out), Ok(()));
+    assert_eq!(rt; memory.lift(4, payload, count, &mut out), Ok(()));
     let value = Value::new(&[2]).ok_or("no value")?;
     assert_eq!(rt; out.get(1).copied(), Some(value));
+    Ok(())
+}
+
+#[test]
+fn memories_copy_and_lower(rt: HostRuntime) -> Result<(), Fail> {
+    let mut memory = filled(rt.alloc(), 4)?;
+    let (payload, count) = (Payload::One(Scalar::U8), items(3));
+    let value = Value::new(&[2]).ok_or("no value")?;
+    assert!(rt; memory.len() == 8);
     assert!(rt; payload.is_number() && value.fits(payload));
-    reader.copy_within(4, 5, payload, count);
-    reader.lower(0, &[value], payload);
-    assert_eq!(rt;
-        reader.bytes(),
-        b"\x02\x00\x00\x00\x01\x01\x02\x03".as_slice()
-    );
-    reader.bytes_mut().reverse();
-    assert_eq!(rt;
-        reader.bytes(),
-        b"\x03\x02\x01\x01\x00\x00\x00\x02".as_slice()
-    );
+    assert!(rt; payload.size() as usize * count.as_usize() <= 3);
+    memory.copy_within(4, 5, payload, count);
+    assert!(rt; memory.len() == 8);
+    memory.lower(0, &[value], payload);
+    let expected = *b"\x02\x00\x00\x00\x01\x01\x02\x03";
+    assert_eq!(rt; memory.bytes(), expected.as_slice());
+    memory.bytes_mut().reverse();
+    let reversed = *b"\x03\x02\x01\x01\x00\x00\x00\x02";
+    assert_eq!(rt; memory.bytes(), reversed.as_slice());
     Ok(())
 }
