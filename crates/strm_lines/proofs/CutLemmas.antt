@@ -1,10 +1,11 @@
 -- What is cut off at a byte.
-use Rattle.std.proofs.Common.{◌≡◌, ◌≢◌, ℕ, zero, suc, ◌+◌, ◌<◌, Bool, true, false, not, ◌&&◌, eqb, List, [], ◌∷◌, ◌++◌, length, take, drop, get_or, Option, Some, None, refl, ap, arith, eq-eqb, inl, inr}
+use Rattle.std.proofs.Common.{◌≡◌, ◌≢◌, ℕ, zero, suc, ◌+◌, ◌<◌, ◌≤◌, Bool, true, ◌&&◌, ltb, List, [], ◌∷◌, ◌++◌, length, take, drop, get_or, Option, Some, None, refl, ap, arith, eq-eqb, inl, inr}
 use Rattle.std.specs.Option.{option_map}
-use Rattle.std.proofs.lemmas.Bool.{ne_eqb, eqb-false}
+use Rattle.std.proofs.lemmas.Bool.{ne_eqb, ltb-true}
 use Rattle.std.proofs.lemmas.Bool.Decides.{eqb_tells}
 use Rattle.std.proofs.lemmas.Option.{same_Some}
 use Rattle.strm_lines.specs.Reading.{cut_at}
+use Rattle.strm_lines.proofs.ChoiceLemmas.{both_true}
 
 -- what a mapped option found
 pub option_map_some : {A B P : Type 0} (f : A → B) (o : Option A) (y : B) → option_map f o ≡ Some y → ((x : A) → o ≡ Some x → f x ≡ y → P) → P
@@ -25,19 +26,21 @@ abbrev pub IsWithout : ℕ → List ℕ → Type 0
 IsWithout c [] = Unit {0}
 IsWithout c (x ∷ xs) = (x ≢ c) × IsWithout c xs
 
--- the same as a test, for words that are spelled out
-abbrev pub is_without : ℕ → List ℕ → Bool
-is_without c [] = true
-is_without c (x ∷ xs) = not (eqb x c) && is_without c xs
+pub IsWithout-append : (c : ℕ) (xs ys : List ℕ) → IsWithout c xs → IsWithout c ys → IsWithout c (xs ++ ys)
+IsWithout-append c [] ys f g = g
+IsWithout-append c (x ∷ xs) ys f g = (f.0, IsWithout-append c xs ys f.1 g)
 
-pub without : (c : ℕ) (word : List ℕ) → is_without c word ≡ true → IsWithout c word
-without c [] e = tt
-without c (x ∷ xs) e =
-    let both = parts (eqb x c) (is_without c xs) e in (eqb-false x c both.0, without c xs both.1)
-  where
-    parts : (a b : Bool) → not a && b ≡ true → (a ≡ false) × (b ≡ true)
-    parts true b e = cc
-    parts false b e = (refl, e)
+-- each byte is above c, as a test, for words that are spelled out
+abbrev pub are_above : ℕ → List ℕ → Bool
+are_above c [] = true
+are_above c (x ∷ xs) = ltb c x && are_above c xs
+
+pub without_low : (c low : ℕ) (word : List ℕ) → c ≤ low → are_above low word ≡ true → IsWithout c word
+without_low c low [] h e = tt
+without_low c low (x ∷ xs) h e =
+    let both = both_true (ltb low x) (are_above low xs) e in
+    let above : low < x = ltb-true low x both.0 in
+    ((λ same. absurd (omega (arith, above, h, same))), without_low c low xs h both.1)
 
 pub cut_complete : (c : ℕ) (a b : List ℕ) → IsWithout c a → cut_at c (a ++ c ∷ b) ≡ Some (a, b)
 unfolding cut_at
@@ -57,3 +60,8 @@ pub cut-nowhere : (c : ℕ) (bytes : List ℕ) → ((j : ℕ) → j < length byt
 unfolding cut_at
 cut-nowhere c [] f = refl
 cut-nowhere c (x ∷ bytes) f = rw (ne_eqb x c (f 0 (omega arith)), cut-nowhere c bytes (λ j i. f (suc j) (omega arith))) refl
+
+pub cut-without : (c : ℕ) (word : List ℕ) → IsWithout c word → cut_at c word ≡ None
+unfolding cut_at
+cut-without c [] h = refl
+cut-without c (x ∷ word) h = rw (ne_eqb x c h.0, cut-without c word h.1) refl

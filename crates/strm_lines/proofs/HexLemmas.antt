@@ -15,7 +15,7 @@ use Rattle.strm_lines.proofs.ChoiceLemmas.{skipped}
 abbrev pub with_front : {A : Type 0} → List A → Option (List A) → Option (List A)
 with_front front o = option_map (λ xs. front ++ xs) o
 
-with_front-more : {A : Type 0} (front : List A) (x : A) (o : Option (List A)) → with_front (front ++ x ∷ []) o ≡ with_front front (option_map (λ xs. x ∷ xs) o)
+pub with_front-more : {A : Type 0} (front : List A) (x : A) (o : Option (List A)) → with_front (front ++ x ∷ []) o ≡ with_front front (option_map (λ xs. x ∷ xs) o)
 with_front-more front x None = refl
 with_front-more front x (Some xs) = ap Some (append_assoc front (x ∷ []) xs)
 
@@ -28,7 +28,7 @@ pair_read : (a b : ℕ) (cs : List ℕ) (x y : ℕ) (o : Option ℕ) → nibble 
 unfolding pairs_from
 pair_read a b cs x y o e f = rw (e, f) refl
 
-and_then-Some : {A B : Type 0} (f : A → B) (o : Option A) → option_and_then (λ x. Some (f x)) o ≡ option_map f o
+pub and_then-Some : {A B : Type 0} (f : A → B) (o : Option A) → option_and_then (λ x. Some (f x)) o ≡ option_map f o
 and_then-Some f None = refl
 and_then-Some f (Some x) = refl
 

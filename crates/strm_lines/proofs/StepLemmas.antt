@@ -1,34 +1,57 @@
 -- A line is read as a step exactly where it spells it.
-use Rattle.std.proofs.Common.{◌≡◌, [], ◌∙◌, ℕ, List, ◌∷◌, ◌++◌, codes, Option, Some, None, false, eqb, refl, ap, arith}
+use Rattle.std.proofs.Common.{◌≡◌, [], ◌∙◌, ℕ, List, ◌∷◌, ◌++◌, codes, Option, Some, None, refl, ap, arith}
 use Rattle.std.specs.Fmt.{decimal}
-use Rattle.std.proofs.lemmas.Bool.{ne_eqb, eqb-false}
 use Rattle.std.specs.Option.{option_map, option_map_or}
-use Rattle.std.proofs.lemmas.Option.{option_and_then_some, same_Some, none-some}
+use Rattle.std.proofs.lemmas.Option.{none-some}
 use Rattle.strm_codes.specs.declared.codes.TransmitIndex.{TransmitIndex}
+use Rattle.strm_codes.specs.declared.codes.TransmitIndex.TheVariants.{Stream, Future}
 use Rattle.strm_machine.specs.declared.steps.Step.{Step}
 use Rattle.strm_machine.specs.declared.steps.Step.TheVariants.{Guest, New, Between, Write, Read, DropWrite, DropRead, CancelWrite, CancelRead, Event, Poke, Dump}
 use Rattle.strm_lines.specs.Words.{hex_pairs, type_word}
-use Rattle.strm_lines.specs.Plain.{IsPlain}
-use Rattle.strm_lines.specs.Grammar.{spelling, HasLine, IsU32, IsBetween, IsLineBytes, IsByteStream}
-use Rattle.strm_lines.specs.Reading.{Command, command, behind, read_by, often, seldom, followed_by, number, number_within, hex, type_read, operands_of, named_end_of, guest_of, new_of, pair_of, write_of, read_of, drop_write_of, drop_read_of, cancel_write_of, cancel_read_of, event_of, poke_of, dump_of, step_of}
-use Rattle.strm_lines.proofs.ChoiceLemmas.{skipped}
+use Rattle.strm_lines.specs.Grammar.{words, operands, spelling, HasLine, IsU32, IsBetween, IsLineBytes, IsType, IsCount}
+use Rattle.strm_lines.specs.Reading.{Command, command, behind, read_by, often, seldom, followed_by, number, number_within, hex, type_read, place_of, operands_of, named_end_of, guest_of, new_of, pair_of, write_of, read_of, drop_write_of, drop_read_of, cancel_write_of, cancel_read_of, event_of, poke_of, dump_of, step_of}
 use Rattle.strm_lines.proofs.CutLemmas.{option_map_some}
-use Rattle.strm_lines.proofs.ReadingLemmas.{IsReading, IsReading-number, IsWord-number, IsReading-within, IsReading-hex, IsReading-type, IsWord-type, IsReading-followed_by, behind_sound}
+use Rattle.strm_lines.proofs.ReadingLemmas.{IsReading, IsReading-number, IsWord-number, IsReading-within, IsReading-hex, IsReading-followed_by, IsReading-followed_by_its, behind_sound}
+use Rattle.strm_lines.proofs.TypeLemmas.{IsReading-type, IsWord-type}
 
 -- the arguments of each command
 
 abbrev Operands : Type 0
 Operands = ℕ × (TransmitIndex × (ℕ × (ℕ × ℕ)))
 
+IsReading-event : IsReading (followed_by number number) (λ v. decimal v.0 ++ 32 ∷ decimal v.1) (λ v. IsU32 v.0 × IsU32 v.1)
+IsReading-event = IsReading-followed_by IsReading-number IsWord-number IsReading-number
+
+-- handle, address and, of a stream, count
+abbrev place_word : TransmitIndex → ℕ × (ℕ × ℕ) → List ℕ
+place_word (Stream payload) v = decimal v.0 ++ 32 ∷ (decimal v.1.0 ++ 32 ∷ decimal v.1.1)
+place_word (Future payload) v = decimal v.0 ++ 32 ∷ decimal v.1.0
+
+abbrev IsFitPlace : TransmitIndex → ℕ × (ℕ × ℕ) → Type 0
+IsFitPlace ty v = IsU32 v.0 × (IsU32 v.1.0 × IsCount ty v.1.1)
+
+IsReading-place : (ty : TransmitIndex) → IsReading (place_of ty) (place_word ty) (IsFitPlace ty)
+unfolding place_of
+IsReading-place (Stream payload) = IsReading-followed_by IsReading-number IsWord-number (IsReading-followed_by IsReading-number IsWord-number IsReading-number)
+IsReading-place (Future payload) = record {
+  sound = λ rest v e. option_map_some _ (followed_by number number rest) v e (λ p f g. let r = IsReading-event.sound rest p f in rw (← g) (r.0, (r.1.0, (r.1.1, refl))));
+  complete = λ v f. rw (IsReading-event.complete (v.0, v.1.0) (f.0, f.1.0), f.1.1) refl;
+}
+
 abbrev operands_word : Operands → List ℕ
-operands_word v = decimal v.0 ++ 32 ∷ (type_word v.1.0 ++ 32 ∷ (decimal v.1.1.0 ++ 32 ∷ (decimal v.1.1.1.0 ++ 32 ∷ decimal v.1.1.1.1)))
+operands_word v = decimal v.0 ++ 32 ∷ (type_word v.1.0 ++ 32 ∷ place_word v.1.0 v.1.1)
 
 abbrev IsFitOperands : Operands → Type 0
-IsFitOperands v = IsU32 v.0 × (IsByteStream v.1.0 × (IsU32 v.1.1.0 × (IsU32 v.1.1.1.0 × IsU32 v.1.1.1.1)))
+IsFitOperands v = IsU32 v.0 × (IsType v.1.0 × IsFitPlace v.1.0 v.1.1)
 
 IsReading-operands : IsReading operands_of operands_word IsFitOperands
 unfolding operands_of
-IsReading-operands = IsReading-followed_by IsReading-number IsWord-number (IsReading-followed_by IsReading-type IsWord-type (IsReading-followed_by IsReading-number IsWord-number (IsReading-followed_by IsReading-number IsWord-number IsReading-number)))
+IsReading-operands = IsReading-followed_by IsReading-number IsWord-number (IsReading-followed_by_its IsReading-type IsWord-type IsReading-place)
+
+-- they are the words of the grammar
+operands_words : (front : List ℕ) (guest : ℕ) (ty : TransmitIndex) (handle address count : ℕ) → words (front ∷ operands guest ty handle address count) ≡ front ++ 32 ∷ operands_word (guest, (ty, (handle, (address, count))))
+operands_words front guest (Stream payload) handle address count = refl
+operands_words front guest (Future payload) handle address count = refl
 
 abbrev NamedEnd : Type 0
 NamedEnd = ℕ × (TransmitIndex × ℕ)
@@ -37,19 +60,16 @@ abbrev named_end_word : NamedEnd → List ℕ
 named_end_word v = decimal v.0 ++ 32 ∷ (type_word v.1.0 ++ 32 ∷ decimal v.1.1)
 
 abbrev IsFitEnd : NamedEnd → Type 0
-IsFitEnd v = IsU32 v.0 × (IsByteStream v.1.0 × IsU32 v.1.1)
+IsFitEnd v = IsU32 v.0 × (IsType v.1.0 × IsU32 v.1.1)
 
 IsReading-named_end : IsReading named_end_of named_end_word IsFitEnd
 unfolding named_end_of
 IsReading-named_end = IsReading-followed_by IsReading-number IsWord-number (IsReading-followed_by IsReading-type IsWord-type IsReading-number)
 
-IsReading-event : IsReading (followed_by number number) (λ v. decimal v.0 ++ 32 ∷ decimal v.1) (λ v. IsU32 v.0 × IsU32 v.1)
-IsReading-event = IsReading-followed_by IsReading-number IsWord-number IsReading-number
-
-IsReading-new : IsReading (followed_by number type_read) (λ v. decimal v.0 ++ 32 ∷ type_word v.1) (λ v. IsU32 v.0 × IsByteStream v.1)
+IsReading-new : IsReading (followed_by number type_read) (λ v. decimal v.0 ++ 32 ∷ type_word v.1) (λ v. IsU32 v.0 × IsType v.1)
 IsReading-new = IsReading-followed_by IsReading-number IsWord-number IsReading-type
 
-IsReading-pair : IsReading (followed_by number (followed_by number type_read)) (λ v. decimal v.0 ++ 32 ∷ (decimal v.1.0 ++ 32 ∷ type_word v.1.1)) (λ v. IsU32 v.0 × (IsU32 v.1.0 × IsByteStream v.1.1))
+IsReading-pair : IsReading (followed_by number (followed_by number type_read)) (λ v. decimal v.0 ++ 32 ∷ (decimal v.1.0 ++ 32 ∷ type_word v.1.1)) (λ v. IsU32 v.0 × (IsU32 v.1.0 × IsType v.1.1))
 IsReading-pair = IsReading-followed_by IsReading-number IsWord-number (IsReading-followed_by IsReading-number IsWord-number IsReading-type)
 
 IsReading-poke : IsReading (followed_by number (followed_by number hex)) (λ v. decimal v.0 ++ 32 ∷ (decimal v.1.0 ++ 32 ∷ hex_pairs v.1.1)) (λ v. IsU32 v.0 × (IsU32 v.1.0 × IsLineBytes v.1.1))
@@ -86,11 +106,11 @@ new_sound = made_sound (codes "new ") IsReading-new (record { spelled = λ v. re
 
 write_sound : IsSound (command (codes "write ") write_of)
 unfolding write_of
-write_sound = made_sound (codes "write ") IsReading-operands (record { spelled = λ v. refl; fits = λ v f. f })
+write_sound = made_sound (codes "write ") IsReading-operands (record { spelled = λ v. operands_words (codes "write") v.0 v.1.0 v.1.1.0 v.1.1.1.0 v.1.1.1.1; fits = λ v f. f })
 
 read_sound : IsSound (command (codes "read ") read_of)
 unfolding read_of
-read_sound = made_sound (codes "read ") IsReading-operands (record { spelled = λ v. refl; fits = λ v f. f })
+read_sound = made_sound (codes "read ") IsReading-operands (record { spelled = λ v. operands_words (codes "read") v.0 v.1.0 v.1.1.0 v.1.1.1.0 v.1.1.1.1; fits = λ v f. f })
 
 drop_write_sound : IsSound (command (codes "drop-write ") drop_write_of)
 unfolding drop_write_of
@@ -122,12 +142,7 @@ dump_sound = made_sound (codes "dump ") IsReading-dump (record { spelled = λ v.
 
 pair_sound : IsSound (command (codes "pair ") pair_of)
 unfolding pair_of
-pair_sound rest s e =
-    option_and_then_some _ (followed_by number (followed_by number type_read) rest) s e (λ v f g.
-    let r = IsReading-pair.sound rest v f in
-    let a : (eqb v.0 v.1.0 ≡ false) × (Some (Between v.0 v.1.0 v.1.1) ≡ Some s) = skipped (eqb v.0 v.1.0) (Some (Between v.0 v.1.0 v.1.1)) s g in
-    let same : Between v.0 v.1.0 v.1.1 ≡ s = same_Some _ s a.1 in
-    rw (← same) (ap (λ w. codes "pair " ++ w) r.0, (eqb-false v.0 v.1.0 a.0, r.1)))
+pair_sound = made_sound (codes "pair ") IsReading-pair (record { spelled = λ v. refl; fits = λ v f. f })
 
 abbrev AreSound : List Command → Type 0
 AreSound [] = Unit {0}
@@ -155,12 +170,11 @@ pub step_complete : (s : Step) → HasLine s → step_of (spelling s) ≡ Some s
 unfolding step_of behind guest_of new_of pair_of write_of read_of drop_write_of drop_read_of cancel_write_of cancel_read_of event_of poke_of dump_of
 step_complete (Guest size) h = rw (IsReading-number.complete size h) refl
 step_complete (New guest ty) h = rw (IsReading-new.complete (guest, ty) h) refl
-step_complete (Between writer reader ty) h =
-    rw (IsReading-pair.complete (writer, (reader, ty)) h.1, ne_eqb writer reader h.0) refl
+step_complete (Between writer reader ty) h = rw (IsReading-pair.complete (writer, (reader, ty)) h) refl
 step_complete (Write guest ty handle address count) h =
-    rw (IsReading-operands.complete (guest, (ty, (handle, (address, count)))) h) refl
+    ap step_of (operands_words (codes "write") guest ty handle address count) ∙ rw (IsReading-operands.complete (guest, (ty, (handle, (address, count)))) h) refl
 step_complete (Read guest ty handle address count) h =
-    rw (IsReading-operands.complete (guest, (ty, (handle, (address, count)))) h) refl
+    ap step_of (operands_words (codes "read") guest ty handle address count) ∙ rw (IsReading-operands.complete (guest, (ty, (handle, (address, count)))) h) refl
 step_complete (DropWrite guest ty handle) h = rw (IsReading-named_end.complete (guest, (ty, handle)) h) refl
 step_complete (DropRead guest ty handle) h = rw (IsReading-named_end.complete (guest, (ty, handle)) h) refl
 step_complete (CancelWrite guest ty handle) h = rw (IsReading-named_end.complete (guest, (ty, handle)) h) refl
@@ -168,9 +182,3 @@ step_complete (CancelRead guest ty handle) h = rw (IsReading-named_end.complete 
 step_complete (Event guest handle) h = rw (IsReading-event.complete (guest, handle) h) refl
 step_complete (Poke guest address bytes) h = rw (IsReading-poke.complete (guest, (address, bytes)) h) refl
 step_complete (Dump guest address len) h = rw (IsReading-dump.complete (guest, (address, len)) h) refl
-
--- each step that has a line is plain
-pub plain : (s : Step) → HasLine s → IsPlain s
-plain (New guest ty) h = h.1
-plain (Between writer reader ty) h = h.1.1.1
-plain _ h = tt

@@ -1,10 +1,11 @@
 -- The grammar of the lines: which steps have a line, and how each is spelled. Ours.
-use Rattle.std.specs.Prelude.{◌≡◌, ◌≢◌, ℕ, ◌^◌, ◌<◌, ◌≤◌, List, [], ◌∷◌, length, All, codes, decimal}
+use Rattle.std.specs.Prelude.{◌≡◌, ℕ, ◌^◌, ◌<◌, ◌≤◌, List, [], ◌∷◌, length, All, codes, decimal}
 use Rattle.std.specs.List.{join_with_byte}
-use Rattle.strm_codes.specs.declared.scalars.Scalar.TheVariants.{U8}
-use Rattle.strm_codes.specs.declared.payloads.Payload.TheVariants.{One}
+use Rattle.strm_codes.specs.Types.{payload_of}
+use Rattle.strm_codes.specs.declared.payloads.Payload.{Payload}
+use Rattle.strm_codes.specs.declared.payloads.Payload.TheVariants.{Tuple}
 use Rattle.strm_codes.specs.declared.codes.TransmitIndex.{TransmitIndex}
-use Rattle.strm_codes.specs.declared.codes.TransmitIndex.TheVariants.{Stream}
+use Rattle.strm_codes.specs.declared.codes.TransmitIndex.TheVariants.{Stream, Future}
 use Rattle.strm_machine.specs.declared.steps.Step.{Step}
 use Rattle.strm_machine.specs.declared.steps.Step.TheVariants.{Guest, New, Between, Write, Read, DropWrite, DropRead, CancelWrite, CancelRead, Event, Poke, Dump}
 use Rattle.strm_lines.specs.Words.{hex_pairs, type_word}
@@ -13,10 +14,15 @@ use Rattle.strm_lines.specs.Words.{hex_pairs, type_word}
 abbrev pub words : List (List ℕ) → List ℕ
 words = join_with_byte 32
 
+-- the count of a stream's read or write; a future's is not written
+abbrev pub counted : TransmitIndex → ℕ → List (List ℕ)
+counted (Stream payload) count = decimal count ∷ []
+counted (Future payload) count = []
+
 -- the words behind `write` and `read`
 abbrev pub operands : ℕ → TransmitIndex → ℕ → ℕ → ℕ → List (List ℕ)
 operands guest ty handle address count =
-    decimal guest ∷ type_word ty ∷ decimal handle ∷ decimal address ∷ decimal count ∷ []
+    decimal guest ∷ type_word ty ∷ decimal handle ∷ decimal address ∷ counted ty count
 
 -- the words behind the drops and the cancels
 abbrev pub named_end : ℕ → TransmitIndex → ℕ → List (List ℕ)
@@ -56,25 +62,34 @@ pub record IsLineBytes (bytes : List ℕ) : Type 0 where
   pub most : length bytes ≤ 64
   pub each : All (λ b. b < 2 ^ 8) bytes
 
--- the one type that lines name
-abbrev pub IsByteStream : TransmitIndex → Type 0
-IsByteStream ty = ty ≡ Stream (One U8)
+-- a payload that can be spelled: a tuple has 1 to 8 fields
+abbrev pub IsPayload : Payload → Type 0
+IsPayload (Tuple shape) = IsBetween 1 8 (length shape)
+IsPayload _ = Unit {0}
 
--- what `write` and `read` can name; a count of 2^28 or more is refused by the machine
+-- a type that can be spelled
+abbrev pub IsType : TransmitIndex → Type 0
+IsType ty = IsPayload (payload_of ty)
+
+-- a count that can be spelled: a stream's of 2^28 or more is refused by the machine
+abbrev pub IsCount : TransmitIndex → ℕ → Type 0
+IsCount (Stream payload) count = IsU32 count
+IsCount (Future payload) count = count ≡ 1
+
+-- what `write` and `read` can name
 abbrev pub AreOperands : ℕ → TransmitIndex → ℕ → ℕ → ℕ → Type 0
 AreOperands guest ty handle address count =
-    IsU32 guest × (IsByteStream ty × (IsU32 handle × (IsU32 address × IsU32 count)))
+    IsU32 guest × (IsType ty × (IsU32 handle × (IsU32 address × IsCount ty count)))
 
 -- what the drops and the cancels can name
 abbrev pub IsNamedEnd : ℕ → TransmitIndex → ℕ → Type 0
-IsNamedEnd guest ty handle = IsU32 guest × (IsByteStream ty × IsU32 handle)
+IsNamedEnd guest ty handle = IsU32 guest × (IsType ty × IsU32 handle)
 
 -- the steps that have a line
 abbrev pub HasLine : Step → Type 0
 HasLine (Guest size) = IsU32 size
-HasLine (New guest ty) = IsU32 guest × IsByteStream ty
-HasLine (Between writer reader ty) =
-    (writer ≢ reader) × (IsU32 writer × (IsU32 reader × IsByteStream ty))
+HasLine (New guest ty) = IsU32 guest × IsType ty
+HasLine (Between writer reader ty) = IsU32 writer × (IsU32 reader × IsType ty)
 HasLine (Write guest ty handle address count) = AreOperands guest ty handle address count
 HasLine (Read guest ty handle address count) = AreOperands guest ty handle address count
 HasLine (DropWrite guest ty handle) = IsNamedEnd guest ty handle

@@ -1,6 +1,5 @@
 pub mod Words
 pub mod Grammar
-pub mod Plain
 pub mod Lines
 pub mod Reading
 pub mod Text

@@ -1,18 +1,26 @@
 -- How a line is read, word by word: the inverse of `spelling`, as `parse` shows. Ours.
-use Rattle.std.specs.Prelude.{ℕ, ◌+◌, ◌-◌, ◌*◌, ◌%◌, ◌^◌, ◌==◌, ◌&&◌, ◌||◌, not, nat_lt, nat_le, Bool, List, [], ◌∷◌, ◌++◌, length, take, drop, codes, if◌then◌else◌, Option, Some, None, option_and_then}
+use Rattle.std.specs.Prelude.{ℕ, zero, suc, ◌+◌, ◌-◌, ◌*◌, ◌%◌, ◌^◌, ◌==◌, ◌&&◌, ◌||◌, not, nat_lt, nat_le, Bool, List, [], ◌∷◌, ◌++◌, length, take, drop, codes, if◌then◌else◌, Option, Some, None, option_and_then}
 use Rattle.std.specs.Option.{option_map, option_map_or}
 use Rattle.std.specs.Str.{bytes_eq}
-use Rattle.strm_codes.specs.declared.scalars.Scalar.TheVariants.{U8}
-use Rattle.strm_codes.specs.declared.payloads.Payload.TheVariants.{One}
+use Rattle.strm_codes.specs.declared.scalars.Scalar.{Scalar}
+use Rattle.strm_codes.specs.declared.scalars.Scalar.TheVariants.{Bool as Flag, S8, U8, S16, U16, S32, U32, S64, U64, Char}
+use Rattle.strm_codes.specs.declared.payloads.Payload.{Payload}
+use Rattle.strm_codes.specs.declared.payloads.Payload.TheVariants.{Nothing, One, Tuple}
 use Rattle.strm_codes.specs.declared.codes.TransmitIndex.{TransmitIndex}
-use Rattle.strm_codes.specs.declared.codes.TransmitIndex.TheVariants.{Stream}
+use Rattle.strm_codes.specs.declared.codes.TransmitIndex.TheVariants.{Stream, Future}
 use Rattle.strm_machine.specs.declared.steps.Step.{Step}
 use Rattle.strm_machine.specs.declared.steps.Step.TheVariants.{Guest, New, Between, Write, Read, DropWrite, DropRead, CancelWrite, CancelRead, Event, Poke, Dump}
+use Rattle.strm_lines.specs.Words.{scalar_word}
 
 -- a reading, and then another of what it found
 infixl 10 ◌>>=◌
 abbrev pub ◌>>=◌ : {A B : Type 0} → Option A → (A → Option B) → Option B
 o >>= f = option_and_then f o
+
+-- what follows these bytes at the front of a word or line
+unfoldable pub behind : List ℕ → List ℕ → Option (List ℕ)
+behind front line =
+    if bytes_eq (take (length front) line) front then Some (drop (length front) line) else None
 
 -- what comes before and after the first byte c
 unfoldable pub cut_at : ℕ → List ℕ → Option (List ℕ × List ℕ)
@@ -33,6 +41,14 @@ abbrev pub followed_by : {A B : Type 0} →
 followed_by first second line = do
   p ← leading first line
   y ← second p.1
+  Some (p.0, y)
+
+-- the same, where the first word decides how the second is read
+abbrev pub followed_by_its : {A B : Type 0} →
+    (List ℕ → Option A) → (A → List ℕ → Option B) → List ℕ → Option (A × B)
+followed_by_its first second line = do
+  p ← leading first line
+  y ← second p.0 p.1
   Some (p.0, y)
 
 -- a decimal digit
@@ -86,15 +102,65 @@ hex word =
     if (length word == 0) || nat_lt 128 (length word) || not (length word % 2 == 0)
     then None else pairs_from word
 
--- the one type that lines name
+-- the first of these scalars that has this name
+abbrev pub named_among : List Scalar → List ℕ → Option Scalar
+named_among [] word = None
+named_among (s ∷ scalars) word =
+    if bytes_eq word (scalar_word s) then Some s else named_among scalars word
+
+-- the scalars, the first half
+abbrev pub early : List Scalar
+early = Flag ∷ S8 ∷ U8 ∷ S16 ∷ U16 ∷ []
+
+-- and the second
+abbrev pub late : List Scalar
+late = S32 ∷ U32 ∷ S64 ∷ U64 ∷ Char ∷ []
+
+-- a scalar, by its name
+unfoldable pub scalar_read : List ℕ → Option Scalar
+scalar_read word = named_among (early ++ late) word
+
+-- one to so many scalars, separated by commas
+unfoldable pub fields_read : ℕ → List ℕ → Option (List Scalar)
+fields_read zero word = None
+fields_read (suc n) word =
+    option_map_or
+    (λ p. do
+      s ← scalar_read p.0
+      fields ← fields_read n p.1
+      Some (s ∷ fields))
+    (cut_at 44 word) (option_map (λ s. s ∷ []) (scalar_read word))
+
+-- the fields of a tuple, behind its first parenthesis: the second ends the word
+unfoldable pub shape_read : List ℕ → Option (List Scalar)
+shape_read rest = do
+  parts ← cut_at 41 rest
+  if length parts.1 == 0 then fields_read 8 parts.0 else None
+
+-- nothing, a tuple or a scalar
+unfoldable pub payload_read : List ℕ → Option Payload
+payload_read word =
+    if bytes_eq word (codes "none") then Some Nothing
+    else option_map_or (λ rest. option_map Tuple (shape_read rest)) (behind (codes "(") word)
+    (option_map One (scalar_read word))
+
+-- a kind, a colon and a payload
 unfoldable pub type_read : List ℕ → Option TransmitIndex
-type_read word = if bytes_eq word (codes "stream:u8") then Some (Stream (One U8)) else None
+type_read word =
+    option_map_or (λ rest. option_map Stream (payload_read rest)) (behind (codes "stream:") word)
+    (option_map_or (λ rest. option_map Future (payload_read rest)) (behind (codes "future:") word)
+    None)
+
+-- the words behind the type in `write` and `read`: handle, address and, of a stream, count; that of
+-- a future is 1
+unfoldable pub place_of : TransmitIndex → List ℕ → Option (ℕ × (ℕ × ℕ))
+place_of (Stream payload) rest = followed_by number (followed_by number number) rest
+place_of (Future payload) rest =
+    option_map (λ p. (p.0, (p.1, 1))) (followed_by number number rest)
 
 -- the words behind `write` and `read`: guest, type, handle, address and count
 unfoldable pub operands_of : List ℕ → Option (ℕ × (TransmitIndex × (ℕ × (ℕ × ℕ))))
-operands_of rest =
-    followed_by number (followed_by type_read
-    (followed_by number (followed_by number number))) rest
+operands_of rest = followed_by number (followed_by_its type_read place_of) rest
 
 -- the words behind the drops and the cancels: guest, type and handle
 unfoldable pub named_end_of : List ℕ → Option (ℕ × (TransmitIndex × ℕ))
@@ -110,17 +176,16 @@ guest_of rest = option_map Guest (number rest)
 unfoldable pub new_of : List ℕ → Option Step
 new_of rest = option_map (λ v. New v.0 v.1) (followed_by number type_read rest)
 
--- pair W R T, of two guests
+-- pair W R T
 unfoldable pub pair_of : List ℕ → Option Step
-pair_of rest = do
-  v ← followed_by number (followed_by number type_read) rest
-  if v.0 == v.1.0 then None else Some (Between v.0 v.1.0 v.1.1)
+pair_of rest =
+    option_map (λ v. Between v.0 v.1.0 v.1.1) (followed_by number (followed_by number type_read) rest)
 
--- write G T H A N
+-- write G T H A N, or without N
 unfoldable pub write_of : List ℕ → Option Step
 write_of rest = option_map (λ v. Write v.0 v.1.0 v.1.1.0 v.1.1.1.0 v.1.1.1.1) (operands_of rest)
 
--- read G T H A N
+-- read G T H A N, or without N
 unfoldable pub read_of : List ℕ → Option Step
 read_of rest = option_map (λ v. Read v.0 v.1.0 v.1.1.0 v.1.1.1.0 v.1.1.1.1) (operands_of rest)
 
@@ -154,11 +219,6 @@ unfoldable pub dump_of : List ℕ → Option Step
 dump_of rest =
     option_map (λ v. Dump v.0 v.1.0 v.1.1)
     (followed_by number (followed_by number (number_within 1 64)) rest)
-
--- what follows these bytes at the front of a line
-unfoldable pub behind : List ℕ → List ℕ → Option (List ℕ)
-behind front line =
-    if bytes_eq (take (length front) line) front then Some (drop (length front) line) else None
 
 -- a command: what its lines begin with, and the step behind its arguments
 pub record Command : Type 0 where

@@ -4,11 +4,12 @@
 
 ghost use Rattle.std.specs.Prelude.{◌≡◌, ◌<◌, ◌++◌, is_some, vec_len, vec_capacity};
 ghost use Rattle.std.specs.Option.{option_map, option_to_list};
-ghost use Rattle.strm_lines.specs.Reading.{operands_of, named_end_of, guest_of, new_of, pair_of, write_of, read_of, drop_write_of, drop_read_of, cancel_write_of, cancel_read_of, event_of, poke_of, dump_of, seldom, read_by, step_of};
+ghost use Rattle.strm_lines.specs.Reading.{place_of, operands_of, named_end_of, guest_of, new_of, pair_of, write_of, read_of, drop_write_of, drop_read_of, cancel_write_of, cancel_read_of, event_of, poke_of, dump_of, seldom, read_by, step_of};
 
 use crate::words::{
     behind, hex, leading_number, leading_type, number, number_within, transmit_type,
 };
+use strm_codes::codes::TransmitIndex;
 use strm_machine::acts::NamedEnd;
 use strm_machine::steps::Step;
 
@@ -18,6 +19,26 @@ struct Operands {
     end: NamedEnd,
     address: u32,
     count: u32,
+}
+
+// Handle, address and count, which a future's line does not have.
+#[inline(always)]
+#[tactic(auto, unfolding(crate::specs::Reading::place_of))]
+fn read_place(ty: &TransmitIndex, rest: &[u8]) -> Option<(u32, u32, u32)>
+    ensures { option_map (λ p. (p.0, (p.1, p.2))) result ≡ place_of ty.now rest.now }
+{
+    let (handle, rest) = leading_number(rest)?;
+    match ty {
+        TransmitIndex::Stream(_) => {
+            let (address, rest) = leading_number(rest)?;
+            let count = number(rest)?;
+            Some((handle, address, count))
+        }
+        TransmitIndex::Future(_) => {
+            let address = number(rest)?;
+            Some((handle, address, 1))
+        }
+    }
 }
 
 #[inline(always)]
@@ -30,9 +51,7 @@ fn read_operands(rest: &[u8]) -> Option<Operands>
     let Some((ty, rest)) = leading_type(rest) else {
         return None;
     };
-    let (handle, rest) = leading_number(rest)?;
-    let (address, rest) = leading_number(rest)?;
-    let count = number(rest)?;
+    let (handle, address, count) = read_place(&ty, rest)?;
     Some(Operands {
         end: NamedEnd { guest, ty, handle },
         address,
@@ -76,9 +95,6 @@ fn pair_line(rest: &[u8]) -> Option<Step>
     let (writer, rest) = leading_number(rest)?;
     let (reader, rest) = leading_number(rest)?;
     let ty = transmit_type(rest)?;
-    if writer == reader {
-        return None;
-    }
     Some(Step::Between { writer, reader, ty })
 }
 

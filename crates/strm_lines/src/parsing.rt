@@ -4,7 +4,6 @@
 
 ghost use Rattle.std.specs.Prelude.{◌≡◌, ◌≢◌, ◌∷◌, ◌≤◌, ◌<◌, ◌↔◌, ℕ, List, length, All, IfOk, MatchResult, Err};
 ghost use Rattle.strm_machine.specs.declared.steps.Step.{Step};
-ghost use Rattle.strm_lines.specs.Plain.{IsPlain};
 ghost use Rattle.strm_lines.specs.Lines.{lines_of, feeds, Spells, IsFirstBad, IsTooLong};
 ghost use Rattle.strm_lines.specs.declared.parsing.ParseError.TheVariants.{OutOfMemory as WantOfMemory};
 
@@ -46,7 +45,6 @@ impl From<AllocError> for ParseError {
 /// may lack.
 pub fn parse(alloc: Global, bytes: &[u8]) -> Result<Steps, ParseError>
     ensures ok { IfOk result (λ steps. Spells (lines_of bytes.now) steps) }
-    ensures plain { IfOk result (λ steps. All IsPlain steps) }
     ensures too_long { (result ≡ Err ParseError.TooLong) ↔ IsTooLong bytes.now }
     ensures bad_line { (line : ℕ) → result ≡ Err (ParseError.BadLine line) →
         IsFirstBad (lines_of bytes.now) line }

@@ -4,10 +4,11 @@
 
 ghost use Rattle.std.specs.Prelude.{◌≡◌, ◌%◌, ◌≤◌, ◌<◌, false, IsTrue, length, drop, slice_index_or, Some, None};
 ghost use Rattle.std.specs.Option.{option_map};
-ghost use Rattle.strm_lines.specs.Reading.{behind, leading, is_digit, number, read_to, number_within, nibble, pairs_from, hex, type_read};
+ghost use Rattle.strm_lines.specs.Reading.{behind, cut_at, early, late, named_among, scalar_read, fields_read, shape_read, payload_read, leading, is_digit, number, read_to, number_within, nibble, pairs_from, hex, type_read};
 
+use memchr::memchr;
 use strm_codes::codes::TransmitIndex;
-use strm_codes::payloads::Payload;
+use strm_codes::payloads::{Payload, Shape};
 use strm_codes::scalars::Scalar;
 use strm_machine::chunks::Chunk;
 
@@ -108,26 +109,153 @@ fn behind_number(number: u32, line: &[u8], at: usize) -> Option<(u32, &[u8])>
     Some((number, rest))
 }
 
-// The type of a stream or future.
-#[tactic(auto, unfolding(crate::specs::Reading::type_read))]
-pub(crate) fn transmit_type(word: &[u8]) -> Option<TransmitIndex>
-    ensures { result ≡ type_read word.now }
+// What comes before and after the first such byte.
+fn cut(byte: u8, bytes: &[u8]) -> Option<(&[u8], &[u8])>
+    ensures { option_map (λ p. (p.0.now, p.1.now)) result ≡ cut_at byte bytes.now }
 {
-    if word == b"stream:u8".as_slice() {
-        Some(TransmitIndex::Stream(Payload::One(Scalar::U8)))
+    match memchr(byte, bytes) {
+        Some(at) => {
+            let (front, _) = bytes.split_at(at);
+            let (_, rest) = bytes.split_at(at + 1);
+            Some((front, rest))
+        }
+        None => None,
+    }
+}
+
+// A scalar of the first half, by its name.
+fn early_scalar(word: &[u8]) -> Option<Scalar>
+    ensures { result ≡ named_among early word.now }
+{
+    if word == b"bool".as_slice() {
+        Some(Scalar::Bool)
+    } else if word == b"s8".as_slice() {
+        Some(Scalar::S8)
+    } else if word == b"u8".as_slice() {
+        Some(Scalar::U8)
+    } else if word == b"s16".as_slice() {
+        Some(Scalar::S16)
+    } else if word == b"u16".as_slice() {
+        Some(Scalar::U16)
     } else {
         None
     }
 }
 
+// A scalar of the second half.
+fn late_scalar(word: &[u8]) -> Option<Scalar>
+    ensures { result ≡ named_among late word.now }
+{
+    if word == b"s32".as_slice() {
+        Some(Scalar::S32)
+    } else if word == b"u32".as_slice() {
+        Some(Scalar::U32)
+    } else if word == b"s64".as_slice() {
+        Some(Scalar::S64)
+    } else if word == b"u64".as_slice() {
+        Some(Scalar::U64)
+    } else if word == b"char".as_slice() {
+        Some(Scalar::Char)
+    } else {
+        None
+    }
+}
+
+// A scalar, by its name.
+#[tactic(auto, unfolding(crate::specs::Reading::scalar_read))]
+fn scalar(word: &[u8]) -> Option<Scalar>
+    ensures { result ≡ scalar_read word.now }
+{
+    match early_scalar(word) {
+        Some(scalar) => Some(scalar),
+        None => late_scalar(word),
+    }
+}
+
+// One to eight scalars, separated by commas.
+fn fields(word: &[u8]) -> Option<Shape>
+    ensures { result ≡ fields_read 8 word.now }
+{
+    let mut scalars = [Scalar::Bool; 8];
+    let mut rest = word;
+    for k in 0..8usize {
+        let Some((first, after)) = cut(b',', rest) else {
+            let Some(last) = scalar(rest) else {
+                return None;
+            };
+            scalars[k] = last;
+            return Shape::new(&scalars[..k + 1]);
+        };
+        let Some(field) = scalar(first) else {
+            return None;
+        };
+        scalars[k] = field;
+        rest = after;
+    }
+    None
+}
+
+// The fields of a tuple, behind its first parenthesis: the second ends the word.
+#[tactic(auto, unfolding(crate::specs::Reading::shape_read))]
+fn shape(rest: &[u8]) -> Option<Shape>
+    ensures { result ≡ shape_read rest.now }
+{
+    let (inside, after) = cut(b')', rest)?;
+    if !after.is_empty() {
+        return None;
+    }
+    fields(inside)
+}
+
+// Nothing, a tuple or a scalar.
+#[tactic(auto, unfolding(crate::specs::Reading::payload_read))]
+fn payload(word: &[u8]) -> Option<Payload>
+    ensures { result ≡ payload_read word.now }
+{
+    if word == b"none".as_slice() {
+        return Some(Payload::Nothing);
+    }
+    match behind(word, b"(") {
+        Some(rest) => shape(rest).map(Payload::Tuple),
+        None => scalar(word).map(Payload::One),
+    }
+}
+
+// The type of a stream or future: a kind, a colon and a payload.
+#[tactic(auto, unfolding(crate::specs::Reading::type_read))]
+pub(crate) fn transmit_type(word: &[u8]) -> Option<TransmitIndex>
+    ensures { result ≡ type_read word.now }
+{
+    if let Some(rest) = behind(word, b"stream:") {
+        return payload(rest).map(TransmitIndex::Stream);
+    }
+    match behind(word, b"future:") {
+        Some(rest) => payload(rest).map(TransmitIndex::Future),
+        None => None,
+    }
+}
+
 // The type before the first space, and what follows it.
+#[inline(always)]
 pub(crate) fn leading_type(line: &[u8]) -> Option<(TransmitIndex, &[u8])>
     ensures { option_map (λ p. (p.0, p.1.now)) result ≡ leading type_read line.now }
 {
+    // Most lines name this type.
     match behind(line, b"stream:u8 ") {
         Some(rest) => Some((TransmitIndex::Stream(Payload::One(Scalar::U8)), rest)),
-        None => None,
+        None => leading_other_type(line),
     }
+}
+
+// The same of any type.
+#[inline(never)]
+#[tactic(auto, unfolding(crate::specs::Reading::leading))]
+fn leading_other_type(line: &[u8]) -> Option<(TransmitIndex, &[u8])>
+    ensures { option_map (λ p. (p.0, p.1.now)) result ≡ leading type_read line.now }
+{
+    let (word, rest) = cut(b' ', line)?;
+    let ty = transmit_type(word)?;
+    Some((ty, rest))
 }
 
 // What a lower-case hexadecimal digit stands for, and 16 for any other byte.

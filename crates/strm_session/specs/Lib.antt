@@ -2,7 +2,6 @@ pub mod Runs
 pub mod Serving
 pub use Rattle.strm_lines.specs.Words
 pub use Rattle.strm_lines.specs.Grammar
-pub use Rattle.strm_lines.specs.Plain
 pub use Rattle.strm_lines.specs.Lines
 pub use Rattle.strm_lines.specs.Reading
 pub use Rattle.strm_lines.specs.Text
