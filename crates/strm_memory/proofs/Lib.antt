@@ -2,6 +2,7 @@ pub mod ByteLemmas
 pub mod NumberLemmas
 pub mod FieldLemmas
 pub mod ItemLemmas
+mod LimitLemmas
 pub mod CopyLemmas
 pub mod ColumnLemmas
 pub mod RegionLemmas

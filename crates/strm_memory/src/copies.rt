@@ -8,10 +8,11 @@ ghost use Rattle.std.specs.Prelude.{◌≡◌, ◌+◌, ◌*◌, ◌<◌, ◌≤
 ghost use Rattle.strm_codes.specs.Layout.{scalars_of, item_size};
 ghost use Rattle.strm_memory.specs.Bytes.{put_at, bytes_at};
 ghost use Rattle.strm_memory.specs.Items.{items, stored, items_at, stored_at, is_number_or_none};
-ghost use Rattle.strm_memory.specs.Copies.{copied};
 
-use crate::columns::{Column, copy_bytes, copy_column, is_good_column};
+use crate::columns::{Column, is_good_column};
 use crate::fields::field_start;
+use crate::limits::copy_good_items;
+use crate::moves::copy_bytes;
 use strm_codes::counts::ItemCount;
 use strm_codes::payloads::Payload;
 use strm_codes::scalars::Scalar;
@@ -89,6 +90,7 @@ fn copy_fields(
     count: usize,
 ) -> Result<(), BadItem>
     requires size { size ≡ item_size fields.now }
+    requires most { size ≤ 64 }
     requires source_holds { from + size * count ≤ length source.now }
     requires destination_holds { to + size * count ≤ length destination.old }
     ensures ok { OnOk result (IsSomeAnd (items_at fields.now source.now from count)
@@ -149,69 +151,4 @@ fn is_good_block(fields: &[Scalar], source: &[u8], from: usize, size: usize, cou
         at = start + scalar.size() as usize;
     }
     true
-}
-
-// Copies items that are known to be good.
-fn copy_good_items(
-    source: &[u8],
-    from: usize,
-    destination: &mut [u8],
-    to: usize,
-    fields: &[Scalar],
-    size: usize,
-    count: usize,
-)
-    requires size { size ≡ item_size fields.now }
-    requires source_holds { from + size * count ≤ length source.now }
-    requires destination_holds { to + size * count ≤ length destination.old }
-    ensures { destination.new ≡ take to destination.old
-        ++ copied fields.now (drop from source.now) (drop to destination.old) count }
-{
-    let most = items_in_block(size);
-    let mut done = 0;
-    while done < count {
-        let block = most.min(count - done);
-        copy_block(
-            source,
-            from + size * done,
-            destination,
-            to + size * done,
-            fields,
-            size,
-            block,
-        );
-        done += block;
-    }
-}
-
-// The same, field by field.
-fn copy_block(
-    source: &[u8],
-    from: usize,
-    destination: &mut [u8],
-    to: usize,
-    fields: &[Scalar],
-    size: usize,
-    count: usize,
-)
-    requires size { size ≡ item_size fields.now }
-    requires source_holds { from + size * count ≤ length source.now }
-    requires destination_holds { to + size * count ≤ length destination.old }
-    ensures { destination.new ≡ take to destination.old
-        ++ copied fields.now (drop from source.now) (drop to destination.old) count }
-{
-    let mut at = 0;
-    for k in 0..fields.len() {
-        let scalar = fields[k];
-        let start = field_start(fields, k, at);
-        copy_column(
-            source,
-            from,
-            destination,
-            to,
-            scalar,
-            Column { start, size, count },
-        );
-        at = start + scalar.size() as usize;
-    }
 }

@@ -9,6 +9,7 @@ pub mod copies;
 mod fields;
 pub mod items;
 pub mod laws;
+mod limits;
 pub mod memories;
 pub mod moves;
 mod numbers;

@@ -50,3 +50,12 @@ pub fn copy_within_items(memory: &mut [u8], from: u32, to: u32, payload: Payload
     let len = payload.size() as usize * count.as_usize();
     move_region(memory, from as usize, to as usize, len);
 }
+
+// So many bytes from one slice to another, as they are.
+pub(crate) fn copy_bytes(source: &[u8], from: usize, destination: &mut [u8], to: usize, len: usize)
+    requires source_holds { from + len ≤ length source.now }
+    requires destination_holds { to + len ≤ length destination.old }
+    ensures { destination.new ≡ put_at destination.old to (bytes_at source.now from len) }
+{
+    destination[to..to + len].copy_from_slice(&source[from..from + len]);
+}
