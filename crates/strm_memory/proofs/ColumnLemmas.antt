@@ -1,11 +1,9 @@
 -- Items looked at one field after the other instead of one item after the other.
-use Rattle.std.proofs.Common.{◌≡◌, ℕ, zero, suc, ◌+◌, ◌*◌, ◌<◌, ◌≤◌, ◌-◌, Bool, true, false, cond, ◌&&◌, List, [], ◌∷◌, ◌++◌, length, take, drop, get_or, refl, sym, ap, ◌∙◌, append_assoc, add_assoc, arith, length-drop, length-append, Some, None, pos, min, set}
-use Rattle.std.proofs.lemmas.List.{length-take-le, drop-drop, take_at, drop_at, take-append-drop, drop_all}
-use Rattle.std.proofs.Math.Seq.{take-append-add, drop-append-add}
+use Rattle.std.proofs.Common.{◌≡◌, ℕ, zero, suc, ◌+◌, ◌<◌, ◌≤◌, ◌-◌, Bool, true, false, cond, ◌&&◌, List, [], ◌∷◌, length, drop, refl, sym, ap, ◌∙◌, add_assoc, arith, Some, None, pos}
+use Rattle.std.proofs.lemmas.List.{drop-drop, drop_all}
 use Rattle.std.specs.Prelude.{is_some}
 use Rattle.strm_codes.specs.Scalars.{size_of, is_scalar_value}
-use Rattle.strm_codes.specs.Layout.{gap_before, end_offset, item_size}
-use Rattle.strm_codes.proofs.LayoutLemmas.{le-end_offset}
+use Rattle.strm_codes.specs.Layout.{gap_before, item_size}
 use Rattle.strm_codes.specs.declared.scalars.Scalar.{Scalar}
 use Rattle.strm_codes.specs.declared.scalars.Scalar.TheVariants.{Char}
 use Rattle.strm_memory.specs.Bytes.{le, bytes_at}

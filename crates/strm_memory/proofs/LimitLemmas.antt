@@ -1,9 +1,9 @@
 -- Items copied byte by byte under limits, instead of item by item.
-use Rattle.std.proofs.Common.{◌≡◌, ℕ, zero, suc, ◌+◌, ◌*◌, ◌<◌, ◌≤◌, ◌-◌, ◌^◌, Bool, true, false, cond, List, [], ◌∷◌, ◌++◌, length, take, drop, replicate, get_or, refl, sym, ap, ◌∙◌, append_assoc, arith, length-drop, length-append, append-nil, min, map, lit≤}
+use Rattle.std.proofs.Common.{◌≡◌, ℕ, zero, suc, ◌+◌, ◌*◌, ◌<◌, ◌≤◌, ◌-◌, Bool, true, false, cond, List, [], ◌∷◌, ◌++◌, length, take, drop, replicate, refl, sym, ap, ◌∙◌, append_assoc, arith, length-drop, length-append, append-nil, min, map, lit≤}
 use Rattle.std.proofs.lemmas.Bool.{ltb-true, ltb-false}
 use Rattle.std.proofs.lemmas.List.{length-take, length-take-le, drop-drop, take_at, drop_at, take-append-drop, take-take, take-append-le, drop-take, drop_all, take-replicate, drop-replicate, length-replicate, replicate-append-replicate}
-use Rattle.std.proofs.Math.Seq.{take-add, take-append-add, drop-append-add, drop-append_seam, take-append_seam}
-use Rattle.std.specs.Prelude.{nat_eq, ltb, eqb}
+use Rattle.std.proofs.Math.Seq.{take-add, take-append-add}
+use Rattle.std.specs.Prelude.{ltb, eqb}
 use lib.Lanes.{zip2, sel_l, chunk, put_chunk, top}
 use Rattle.std.proofs.lemmas.Simd.{tops_compared}
 use Rattle.std.specs.Int.{w8}

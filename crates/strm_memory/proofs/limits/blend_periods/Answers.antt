@@ -1,4 +1,4 @@
-use Rattle.std.proofs.Common.{◌≡◌, ◌+◌, ◌*◌, ◌≤◌, ◌-◌, arith, ◌∙◌, length}
+use Rattle.std.proofs.Common.{◌≤◌, ◌-◌, arith, ◌∙◌, length}
 use Rattle.strm_memory.proofs.LimitLemmas.{periods_more, periods_front, item_within}
 use Rattle.strm_memory.proofs.limits.blend_periods.Goals as goal
 

@@ -1,6 +1,6 @@
-use Rattle.std.proofs.Common.{◌≡◌, ◌+◌, ◌*◌, ◌≤◌, arith, ◌∙◌, length, take, length-take-le, refl}
+use Rattle.std.proofs.Common.{◌≡◌, ◌+◌, ◌≤◌, arith, ◌∙◌, length, take, length-take-le, refl}
 use Rattle.strm_memory.proofs.ByteLemmas.{length-put_at}
-use Rattle.strm_memory.proofs.LimitLemmas.{repeat_first, repeat_more, item_repeated, repeat_room, item_within}
+use Rattle.strm_memory.proofs.LimitLemmas.{repeat_first, repeat_more, item_repeated, repeat_room}
 use Rattle.strm_memory.proofs.limits.repeat_limits.Goals as goal
 
 pub loop-k-init : goal.loop-k-init

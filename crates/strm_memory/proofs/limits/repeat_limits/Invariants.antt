@@ -1,4 +1,4 @@
-use Rattle.std.proofs.Common.{◌≡◌, ◌+◌, ◌*◌, ◌≤◌, length, take}
+use Rattle.std.proofs.Common.{◌≡◌, ◌*◌, length, take}
 use Rattle.strm_memory.specs.Copies.{repeated}
 use Rattle.strm_memory.proofs.limits.repeat_limits.Given as goal
 
