@@ -1,3 +1,5 @@
 pub mod RangeLemmas
 pub mod ListingLemmas
 pub mod PutLemmas
+pub mod WindowLemmas
+pub mod OfferLemmas

@@ -1,11 +1,11 @@
 -- Items that lie in bytes: one more, some off the front, one by its number, and the same in other
 -- bytes.
-use Rattle.std.proofs.Common.{◌≡◌, ℕ, zero, suc, ◌+◌, ◌*◌, ◌-◌, ◌<◌, ◌≤◌, List, [], ◌∷◌, ◌++◌, length, take, drop, Option, Some, None, refl, sym, ap, subst, ◌∙◌, arith, length-append, replicate}
+use Rattle.std.proofs.Common.{◌≡◌, ℕ, zero, suc, ◌+◌, ◌*◌, ◌-◌, ◌<◌, ◌≤◌, List, [], ◌∷◌, ◌++◌, length, take, drop, Option, Some, None, refl, sym, ap, subst, ◌∙◌, arith, length-append, length-drop, replicate}
 use Rattle.std.proofs.lemmas.List.{drop_at, take_at, drop-drop, drop-take, length-take-le, length-replicate}
 use Rattle.std.proofs.lemmas.Option.{option_and_then_some}
 use Rattle.std.specs.Prelude.{IsSome, slice_get, option_and_then}
 use Rattle.std.specs.Option.{option_map}
-use Rattle.strm_codes.specs.Layout.{item_size}
+use Rattle.strm_codes.specs.Layout.{scalars_of, item_size}
 use Rattle.strm_codes.specs.Items.{FitsItem}
 use Rattle.strm_codes.specs.declared.scalars.Scalar.{Scalar}
 use Rattle.strm_memory.specs.Items.{decode, items, items_at, stored_at, AreItems}
@@ -13,7 +13,8 @@ use Rattle.strm_memory.proofs.CopyLemmas.{option_map_some}
 use Rattle.strm_memory.proofs.ItemLemmas.{items-add, item_fits}
 use Rattle.strm_memory.proofs.RegionLemmas.{length-items, length-stored_at}
 use Rattle.strm_memory.proofs.AppendLemmas.{items-same, items_at-put, AreItems-append, AreItems-drop}
-use Rattle.strm_buffers.specs.Listing.{Item, listed, items_in, LieIn}
+use Rattle.strm_codes.specs.declared.payloads.Payload.{Payload}
+use Rattle.strm_buffers.specs.Listing.{Item, TypedItems, listed, items_in, LieIn, AreKept, kept_items}
 
 some_listed : {A : Type 0} (o : Option (List A)) → IsSome o → o ≡ Some (listed o)
 some_listed None i = cc
@@ -135,3 +136,18 @@ pushed ss old new start n end x l f e h s =
           (record { lie = put.lie; is = put.is ∙ ap (λ l. l ++ x ∷ []) there.is });
       all = omega (arith, size, ml, more);
     }
+
+-- the bytes of items that are kept, from their first on
+pub kept_behind : (payload : Payload) (bytes new : List ℕ) (start len : ℕ) (v : TypedItems) → AreKept payload bytes start len → kept_items payload bytes start len ≡ v → new ≡ drop start bytes → Lie (scalars_of v.payload) new 0 (length v.items) v.items
+kept_behind payload bytes new start len v k e n =
+    let ss = scalars_of payload in
+    let size : length new ≡ length bytes - start = ap length n ∙ length-drop start bytes in
+    let there = lie_same ss bytes new start 0 len k.lie (ap (take (item_size ss * len)) n) (omega (arith, size, k.all)) in
+    subst (λ (u : TypedItems). Lie (scalars_of u.payload) new 0 (length u.items) u.items) e
+    (subst (λ j. Lie ss new 0 j (items_in ss bytes start len)) (sym (length-items_in ss bytes start len k.lie)) there)
+
+pub kept_length : (payload : Payload) (bytes new : List ℕ) (start len : ℕ) (v : TypedItems) → AreKept payload bytes start len → kept_items payload bytes start len ≡ v → new ≡ drop start bytes → length new ≡ item_size (scalars_of v.payload) * length v.items
+kept_length payload bytes new start len v k e n =
+    let size : length new ≡ length bytes - start = ap length n ∙ length-drop start bytes in
+    let count = length-items_in (scalars_of payload) bytes start len k.lie in
+    rw (← e, count) (omega (arith, size, k.all))

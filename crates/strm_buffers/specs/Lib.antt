@@ -1,2 +1,4 @@
 pub mod Buffers
 pub mod Listing
+pub mod Windows
+pub mod Offers

@@ -6,6 +6,7 @@ ghost use Rattle.std.specs.Prelude.{◌≡◌, ℕ, ◌+◌, ◌*◌, ◌<◌, �
 ghost use Rattle.strm_codes.specs.Layout.{scalars_of, item_size};
 ghost use Rattle.strm_codes.specs.Items.{FitsItem};
 ghost use Rattle.strm_memory.specs.Items.{stored_at};
+ghost use Rattle.strm_buffers.specs.Listing.{kept_items, items_in, AreKept};
 
 use std::alloc::Global;
 use std::marker::Model;
@@ -46,6 +47,29 @@ impl Items {
             start: 0,
             len: 0,
         }
+    }
+
+    // The items that these bytes are.
+    pub(crate) fn of_bytes(payload: Payload, bytes: Vec<u8>, len: usize) -> Items
+        requires { AreKept payload bytes.items 0 len }
+        ensures { result ≡ kept_items payload bytes.items 0 len }
+    {
+        Items {
+            payload,
+            bytes,
+            start: 0,
+            len,
+        }
+    }
+
+    // The bytes of the items.
+    pub(crate) fn bytes(&self) -> &[u8]
+        ensures items { items_in (scalars_of self.now.payload) result.now 0 (length self.now.items)
+            ≡ self.now.items }
+        ensures all { length result.now
+            ≡ item_size (scalars_of self.now.payload) * length self.now.items }
+    {
+        self.bytes.as_slice().split_at(self.start).1
     }
 
     /// What one item is.

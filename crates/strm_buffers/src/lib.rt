@@ -4,6 +4,9 @@
 
 pub mod buffers;
 pub mod items;
+pub mod offers;
 pub mod slice_buffer;
+pub mod sources;
 pub mod values;
 pub mod vec_buffer;
+pub mod windows;

@@ -1,0 +1,11 @@
+use Rattle.std.proofs.Common.{arith}
+use Rattle.strm_buffers.proofs.OfferLemmas.{behind_fits, get_past}
+use Rattle.strm_buffers.proofs.offers.behind.Goals as goal
+
+pub lift_item_at-requires : goal.lift_item_at-requires
+lift_item_at-requires c =
+    let fits = behind_fits c.args.payload c.in-Region.memory c.in-Region.address c.in-Region.count c.args.taken c.args.source.now c.requires c.in-Region.is (omega (arith, c.if-taken-count.false)) in
+    rw (c.size.ensures.exact, c.bytes.ensures) fits
+
+pub returns-then-taken-len-clause-exact : goal.returns-then-taken-len-clause-exact
+returns-then-taken-len-clause-exact c = rw c.in-Listed.is (get_past c.args.taken c.in-Listed.items.items (omega (arith, c.len.ensures.exact, c.if-taken-len.true)))

@@ -1,0 +1,243 @@
+//! The offer that a poll takes items from: a writer's own bytes, or a list between two host ends.
+//!
+//! Source: wasmtime, `futures_and_streams.rs`, `Source` and `DirectSource`. Ours: the offer owns the
+//! items while the poll lasts, and gives them back unchanged.
+
+ghost use Rattle.std.specs.Prelude.{◌≡◌, ◌+◌, ◌*◌, ◌-◌, ◌≤◌, length, false, IsSomeAnd, OnSome, None, IfSome};
+ghost use Rattle.strm_codes.specs.Layout.{scalars_of, item_size};
+ghost use Rattle.strm_codes.specs.Items.{FitsItem};
+ghost use Rattle.strm_codes.specs.declared.payloads.Payload.TheVariants.{One};
+ghost use Rattle.strm_codes.specs.declared.scalars.Scalar.TheVariants.{U8};
+ghost use Rattle.strm_buffers.specs.declared.sources.Source.TheVariants.{Region, Listed};
+ghost use Rattle.strm_buffers.specs.Offers.{items_lent, item_behind, after_next, IsSource, IsRegion, IsList, IsMemoryOf, IsItemsOf, Shows};
+
+use crate::items::Items;
+use crate::sources::Source;
+use std::marker::Model;
+use strm_codes::payloads::Payload;
+use strm_codes::values::Value;
+use strm_memory::items::lift_item_at;
+use strm_memory::memories::GuestMemory;
+
+/// Items to be taken from their front.
+#[derive(Drop)]
+pub struct Offer {
+    payload: Payload,
+    source: Source,
+    since: u32,
+    taken: u32,
+    bad: bool,
+}
+
+impl Model for Offer {
+    ghost use Rattle.strm_buffers.specs.Offers.{Offered, IsOffer};
+
+    ghost Value = { Offered };
+
+    ghost view = { λ o. record { payload = o.payload; source = o.source; since = o.since; taken = o.taken; bad = o.bad } };
+
+    ghost invariant = { λ o. IsOffer o.payload o.source o.taken };
+}
+
+impl Offer {
+    /// Lends so many items of a memory from an address on. `since` is how many were taken since the
+    /// end was last ready.
+    pub fn of_memory(
+        memory: GuestMemory,
+        payload: Payload,
+        address: u32,
+        remaining: u32,
+        since: u32,
+    ) -> Offer
+        requires { address + item_size (scalars_of payload) * remaining ≤ length memory }
+        ensures { result ≡ record { payload = payload; source = Region memory address remaining; since = since; taken = 0; bad = false } }
+    {
+        Offer {
+            payload,
+            source: Source::Region {
+                memory,
+                address,
+                count: remaining,
+            },
+            since,
+            taken: 0,
+            bad: false,
+        }
+    }
+
+    /// Lends a list of items.
+    pub fn of_items(items: Items, since: u32) -> Offer
+        ensures { result ≡ record { payload = items.payload; source = Listed items; since = since; taken = 0; bad = false } }
+    {
+        let _few = items.len();
+        Offer {
+            payload: items.payload(),
+            source: Source::Listed { items },
+            since,
+            taken: 0,
+            bad: false,
+        }
+    }
+
+    /// Gives the memory back, and the number taken.
+    pub fn into_memory(self) -> (GuestMemory, u32)
+        requires { IsRegion self.source }
+        ensures memory { IsMemoryOf self.source result.0 }
+        ensures taken { result.1 ≡ self.taken }
+    {
+        let Offer {
+            payload: _,
+            source,
+            since: _,
+            taken,
+            bad: _,
+        } = self;
+        match source {
+            Source::Region { memory, .. } => (memory, taken),
+            Source::Listed { .. } => unreachable!(),
+        }
+    }
+
+    /// Gives the items back, those that were taken among them, and the number taken.
+    pub fn into_items(self) -> (Items, u32)
+        requires { IsList self.source }
+        ensures items { IsItemsOf self.source result.0 }
+        ensures taken { result.1 ≡ self.taken }
+    {
+        let Offer {
+            payload: _,
+            source,
+            since: _,
+            taken,
+            bad: _,
+        } = self;
+        match source {
+            Source::Listed { items } => (items, taken),
+            Source::Region { .. } => unreachable!(),
+        }
+    }
+
+    /// Takes so many items more, which were read from what `direct` lends.
+    pub fn mark_read(&mut self, count: usize)
+        requires payload { self.old.payload ≡ One U8 }
+        requires there { self.old.taken + count ≤ items_lent self.old.source }
+        ensures { self.new ≡ record self.old { taken = self.old.taken + count } }
+    {
+        self.taken = (self.taken as usize + count) as u32;
+    }
+
+    /// The items that are left, as bytes.
+    pub fn direct(&self) -> &[u8]
+        requires { self.now.payload ≡ One U8 }
+        ensures { Shows self.now.source self.now.taken result.now }
+    {
+        let taken = self.taken as usize;
+        match &self.source {
+            Source::Region {
+                memory,
+                address,
+                count,
+            } => {
+                let (_, behind) = memory.bytes().split_at(*address as usize + taken);
+                behind.split_at(*count as usize - taken).0
+            }
+            Source::Listed { items } => items.bytes().split_at(taken).1,
+        }
+    }
+
+    /// What one item is.
+    pub fn payload(&self) -> Payload
+        ensures { result ≡ self.now.payload }
+    {
+        self.payload
+    }
+
+    /// How many items are left.
+    pub fn remaining(&self) -> u32
+        ensures { result ≡ items_lent self.now.source - self.now.taken }
+    {
+        match &self.source {
+            Source::Region { count, .. } => *count - self.taken,
+            Source::Listed { items } => items.len() as u32 - self.taken,
+        }
+    }
+
+    /// How many items were taken since the end was last ready, before this offer.
+    pub fn since(&self) -> u32
+        ensures { result ≡ self.now.since }
+    {
+        self.since
+    }
+
+    /// How many items are taken.
+    pub fn taken(&self) -> u32
+        ensures exact { result ≡ self.now.taken }
+        ensures most { result ≤ items_lent self.now.source }
+    {
+        self.taken
+    }
+
+    /// Whether a bad item was asked for.
+    pub fn bad(&self) -> bool
+        ensures { result ≡ self.now.bad }
+    {
+        self.bad
+    }
+
+    /// Takes the next item; none where none is left, or where it is bad: then it is not taken.
+    pub fn next(&mut self) -> Option<Value>
+        ensures exact { result ≡
+            item_behind (scalars_of self.old.payload) self.old.source self.old.taken }
+        ensures after { self.new ≡ after_next self.old result }
+    {
+        let next = behind(&self.source, self.payload, self.taken);
+        match next {
+            Some(item) => {
+                self.taken += 1;
+                Some(item)
+            }
+            None => {
+                self.bad = self.bad || self.taken < lent(&self.source);
+                None
+            }
+        }
+    }
+}
+
+// How many items were lent.
+fn lent(source: &Source) -> u32
+    requires { items_lent source.now ≤ 4294967295 }
+    ensures { result ≡ items_lent source.now }
+{
+    match source {
+        Source::Region { count, .. } => *count,
+        Source::Listed { items } => items.len() as u32,
+    }
+}
+
+// The item behind so many.
+fn behind(source: &Source, payload: Payload, taken: u32) -> Option<Value>
+    requires { IsSource payload source.now }
+    ensures exact { result ≡ item_behind (scalars_of payload) source.now taken }
+    ensures there { IfSome result (λ _. taken + 1 ≤ items_lent source.now) }
+{
+    match source {
+        Source::Region {
+            memory,
+            address,
+            count,
+        } => {
+            if taken >= *count {
+                return None;
+            }
+            let at = *address as usize + payload.size() as usize * taken as usize;
+            lift_item_at(memory.bytes(), at, payload)
+        }
+        Source::Listed { items } => {
+            if taken as usize >= items.len() {
+                return None;
+            }
+            Some(items.get(taken as usize))
+        }
+    }
+}
