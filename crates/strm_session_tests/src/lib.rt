@@ -9,3 +9,5 @@ mod calls;
 mod cancels;
 #[cfg(test)]
 mod meetings;
+#[cfg(test)]
+mod stops;
