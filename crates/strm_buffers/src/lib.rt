@@ -2,11 +2,16 @@
 //! fills and the offer that a poll takes from.
 #![tactic(auto)]
 
+pub mod answers;
 pub mod buffers;
+pub mod hosts;
 pub mod items;
 pub mod offers;
+pub mod readers;
+pub mod said;
 pub mod slice_buffer;
 pub mod sources;
 pub mod values;
 pub mod vec_buffer;
 pub mod windows;
+pub mod writers;

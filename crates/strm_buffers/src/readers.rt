@@ -1,0 +1,59 @@
+//! What a host reader end is: a sink of items that is polled.
+//!
+//! Source: wasmtime, `futures_and_streams.rs`, `StreamConsumer`. `grant`, `records` and what an end
+//! tells are ours.
+
+ghost use Rattle.std.specs.Prelude.{◌≡◌, ◌<◌, false, length, slice_get, Some, OnOk, OnErr};
+ghost use Rattle.strm_codes.specs.Layout.{scalars_of};
+
+use crate::answers::{HostTurn, ReaderSaid};
+use crate::offers::Offer;
+use strm_codes::codes::TransmitKind;
+use strm_codes::counts::OutOfMemory;
+use strm_codes::payloads::Payload;
+
+/// A sink of items. Its kind and its payload are fixed.
+pub trait HostReader: Drop {
+    ghost use Rattle.strm_buffers.specs.Said.{IfAnswered, IfNoMemory};
+    ghost use Rattle.strm_buffers.specs.Tells.{ReaderTells, PollsReader, KeepsReader, SameOffer, reader_record, first_lent, closed_reader, granted};
+
+    // What it tells of itself.
+    ghost reader_tells: { Self → ReaderTells };
+
+    /// Of a stream or of a future.
+    fn kind(&self) -> TransmitKind
+        ensures { result ≡ (reader_tells self.now).kind };
+
+    /// What one item is.
+    fn payload(&self) -> Payload
+        ensures { result ≡ (reader_tells self.now).payload };
+
+    /// Takes items off the offer's front. One record is added; after `NoMemory` none.
+    fn poll(&mut self, offer: &mut Offer, finish: bool) -> HostTurn
+        requires payload { offer.old.payload ≡ (reader_tells self.old).payload }
+        requires nothing_taken { offer.old.taken ≡ 0 }
+        requires not_bad { offer.old.bad ≡ false }
+        ensures polls { IfAnswered result (λ answer. PollsReader (reader_tells self.old) (reader_tells self.new)
+            (reader_record offer.old offer.new finish answer)
+            (first_lent (scalars_of offer.old.payload) offer.old.source offer.new.taken)) }
+        ensures no_memory { IfNoMemory result (KeepsReader (reader_tells self.old) (reader_tells self.new)) }
+        ensures same { SameOffer offer.old offer.new };
+
+    /// Lets it take so many items more. `OutOfMemory` changes nothing.
+    fn grant(&mut self, count: u32) -> Result<(), OutOfMemory>
+        ensures ok { OnOk result (reader_tells self.new ≡ granted (reader_tells self.old) count) }
+        ensures err { OnErr result (reader_tells self.new ≡ reader_tells self.old) };
+
+    /// Its stream is gone.
+    fn close(&mut self)
+        ensures { reader_tells self.new ≡ closed_reader (reader_tells self.old) };
+
+    /// How many records there are.
+    fn records(&self) -> usize
+        ensures { result ≡ length (reader_tells self.now).said };
+
+    /// A record, from 0.
+    fn record_at(&self, index: usize) -> ReaderSaid
+        requires { index < length (reader_tells self.now).said }
+        ensures { slice_get (reader_tells self.now).said index ≡ Some result };
+}
