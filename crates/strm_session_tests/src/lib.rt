@@ -8,6 +8,14 @@ mod calls;
 #[cfg(test)]
 mod cancels;
 #[cfg(test)]
+mod futures;
+#[cfg(test)]
 mod meetings;
+#[cfg(test)]
+mod one_guest;
+#[cfg(test)]
+mod payloads;
+#[cfg(test)]
+mod regions;
 #[cfg(test)]
 mod stops;
