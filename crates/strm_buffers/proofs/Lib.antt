@@ -3,3 +3,4 @@ pub mod ListingLemmas
 pub mod PutLemmas
 pub mod WindowLemmas
 pub mod OfferLemmas
+pub mod EndLemmas

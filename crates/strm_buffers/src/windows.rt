@@ -74,6 +74,16 @@ impl Window {
         }
     }
 
+    /// Takes what is needed before bytes are lent: nothing, as long as a window lends none. After
+    /// `OutOfMemory` nothing has changed.
+    pub fn prepare(&mut self) -> Result<(), OutOfMemory>
+        ensures ok { OnOk result (self.new ≡ record self.old { prepared = true }) }
+        ensures err { OnErr result (self.new ≡ self.old) }
+    {
+        self.is_prepared = true;
+        Ok(())
+    }
+
     /// How many items there is room for in all; none between host ends.
     pub fn room(&self) -> Option<u32>
         ensures { result ≡ room_of self.now.place }

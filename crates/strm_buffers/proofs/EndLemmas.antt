@@ -1,0 +1,31 @@
+-- What the calls of a host end owe of a window that they leave as it is.
+use Rattle.std.proofs.Common.{◌≡◌, ℕ, ◌+◌, ◌*◌, List, [], length, Option, Some, None, refl, sym, ap, ◌∙◌, arith}
+use Rattle.std.proofs.lemmas.List.{take_all, drop_all}
+use Rattle.strm_codes.specs.Layout.{scalars_of, item_size}
+use Rattle.strm_codes.specs.declared.scalars.Scalar.{Scalar}
+use Rattle.strm_memory.proofs.RegionLemmas.{stored_at-nil}
+use Rattle.strm_buffers.specs.Said.{in_room, past_room}
+use Rattle.strm_buffers.specs.Windows.{Lent, Place, Memory, Between, stored_in}
+use Rattle.strm_buffers.specs.Tells.{Fills}
+
+pub stored_in-nil : (ss : List Scalar) (place : Place) (n : ℕ) → stored_in ss place n [] ≡ place
+stored_in-nil ss (Memory memory address room) n = ap (λ m. Memory m address room) (stored_at-nil ss memory (address + item_size ss * n))
+stored_in-nil ss Between n = refl
+
+-- a window that is left as it is
+pub Fills-same : (w : Lent) → Fills w w
+Fills-same w = record {
+  payload = refl;
+  place = sym (ap (stored_in (scalars_of w.payload) w.place (length w.marked)) (drop_all (length w.marked) w.marked (omega arith)) ∙ stored_in-nil (scalars_of w.payload) w.place (length w.marked));
+  marked = take_all (length w.marked) w.marked (omega arith);
+  prepared = refl;
+}
+
+-- of no items none has room, and none is past it
+pub in_room-nil : (room : Option ℕ) → in_room room [] ≡ []
+in_room-nil None = refl
+in_room-nil (Some n) = take_all n [] (omega arith)
+
+pub past_room-nil : (room : Option ℕ) → past_room room [] ≡ []
+past_room-nil None = refl
+past_room-nil (Some n) = drop_all n [] (omega arith)

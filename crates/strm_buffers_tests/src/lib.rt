@@ -1,0 +1,6 @@
+//! Tests of `strm_buffers` and of typed items, by public calls alone, and a writer that never has
+//! items.
+#![tactic(auto)]
+
+mod buffers;
+mod silent;
