@@ -1,0 +1,9 @@
+//! The waitable sets of a guest.
+//!
+//! Which set each handle is in, and the least member that is ready. Nothing here knows what makes a
+//! handle ready. Stands on the codes of `strm_codes`.
+#![tactic(auto)]
+
+pub mod laws;
+pub mod sets;
+mod slots;
