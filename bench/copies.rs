@@ -1,7 +1,8 @@
-//! The copies of `strm_bench` in plain Rust: for each layout a loop of its own over items and fields, as
-//! one would write it for that layout alone. Characters are looked at before anything is written.
+//! The copies of `strm_bench` in plain Rust, twice: a loop over the items and their fields where the layout is
+//! known only as it runs, as a runtime has it; and for each layout a loop of its own, as one would write it for
+//! that layout alone. Characters are looked at before anything is written.
 //!
-//! `bench/copies` times both.
+//! `bench/copies` times all three.
 
 use std::time::Instant;
 
@@ -79,32 +80,91 @@ fn mixed(source: &[u8], destination: &mut [u8]) -> Result<(), BadItem> {
     Ok(())
 }
 
-const CASES: [(&str, usize, Copies); 6] = [
-    ("bool", 1, bools),
-    ("char", 4, chars),
-    ("(u8,u32)", 8, bytes_and_words),
-    ("(u8,u16,u8)", 6, bytes_round_halves),
-    ("(u64,u8)", 16, longs_and_bytes),
-    ("(bool,u16,u8,u32,char,s8,s64,u8)", 40, mixed),
+#[derive(Clone, Copy, PartialEq)]
+enum Kind {
+    Flag,
+    One,
+    Two,
+    Four,
+    Eight,
+    Char,
+}
+
+use Kind::{Char, Eight, Flag, Four, One, Two};
+
+/// A field: where it begins, and what it is.
+type Field = (usize, Kind);
+
+/// The layout is known as it runs.
+#[inline(never)]
+fn by_fields(source: &[u8], destination: &mut [u8], fields: &[Field], size: usize) -> Result<(), BadItem> {
+    for &(at, kind) in fields {
+        if kind == Char && !source.chunks_exact(size).all(|item| is_char(&item[at..at + 4])) {
+            return Err(BadItem);
+        }
+    }
+    for (to, from) in destination.chunks_exact_mut(size).zip(source.chunks_exact(size)) {
+        for &(at, kind) in fields {
+            match kind {
+                Flag => to[at] = u8::from(from[at] != 0),
+                One => to[at] = from[at],
+                Two => to[at..at + 2].copy_from_slice(&from[at..at + 2]),
+                Four | Char => to[at..at + 4].copy_from_slice(&from[at..at + 4]),
+                Eight => to[at..at + 8].copy_from_slice(&from[at..at + 8]),
+            }
+        }
+    }
+    Ok(())
+}
+
+struct Layout {
+    name: &'static str,
+    size: usize,
+    fields: &'static [Field],
+    copies: Copies,
+}
+
+const LAYOUTS: [Layout; 6] = [
+    Layout { name: "bool", size: 1, fields: &[(0, Flag)], copies: bools },
+    Layout { name: "char", size: 4, fields: &[(0, Char)], copies: chars },
+    Layout { name: "(u8,u32)", size: 8, fields: &[(0, One), (4, Four)], copies: bytes_and_words },
+    Layout { name: "(u8,u16,u8)", size: 6, fields: &[(0, One), (2, Two), (4, One)], copies: bytes_round_halves },
+    Layout { name: "(u64,u8)", size: 16, fields: &[(0, Eight), (8, One)], copies: longs_and_bytes },
+    Layout {
+        name: "(bool,u16,u8,u32,char,s8,s64,u8)",
+        size: 40,
+        fields: &[(0, Flag), (2, Two), (4, One), (8, Four), (12, Char), (16, One), (24, Eight), (32, One)],
+        copies: mixed,
+    },
 ];
+
+/// Picoseconds an item of so many copies, and the sum of the bytes that items were copied to.
+fn timed(size: usize, count: usize, rounds: usize, copy: impl Fn(&[u8], &mut [u8]) -> Result<(), BadItem>) -> (u128, u64) {
+    let source: Vec<u8> = (0..size * count).map(|k| if k % 4 == 0 { (k / 4 % 256) as u8 } else { 0 }).collect();
+    let mut destination = vec![7u8; size * count];
+    let start = Instant::now();
+    for _ in 0..rounds {
+        if copy(std::hint::black_box(&source), std::hint::black_box(&mut destination)).is_err() {
+            eprintln!("a bad item");
+        }
+    }
+    let spent = start.elapsed().as_nanos();
+    let sum = destination.iter().map(|byte| u64::from(*byte)).sum();
+    (spent * 1000 / (rounds * count).max(1) as u128, sum)
+}
 
 fn main() {
     let items: usize = std::env::args().nth(1).and_then(|word| word.parse().ok()).unwrap_or(10_000);
-    for (name, size, copies) in CASES {
+    for Layout { name, size, fields, copies } in LAYOUTS {
         for count in COUNTS {
-            let source: Vec<u8> = (0..size * count).map(|k| if k % 4 == 0 { (k / 4 % 256) as u8 } else { 0 }).collect();
-            let mut destination = vec![7u8; size * count];
             let rounds = items / count;
-            let start = Instant::now();
-            for _ in 0..rounds {
-                if copies(std::hint::black_box(&source), std::hint::black_box(&mut destination)).is_err() {
-                    return eprintln!("a bad item");
-                }
-            }
-            let spent = start.elapsed().as_nanos();
-            let sum: u64 = destination.iter().map(|byte| u64::from(*byte)).sum();
-            println!("copied {count} of {name}: {sum}");
-            eprintln!("{name} {count} {}", spent * 1000 / (rounds * count).max(1) as u128);
+            let (general, sum) = timed(size, count, rounds, |from, to| {
+                by_fields(from, to, std::hint::black_box(fields), std::hint::black_box(size))
+            });
+            let (own, same) = timed(size, count, rounds, copies);
+            println!("copied {count} of {name}: {sum}, {same}");
+            eprintln!("{name} {count} {general}");
+            eprintln!("{name}/own {count} {own}");
         }
     }
 }
