@@ -3,6 +3,8 @@
 
 #[cfg(test)]
 mod cancels;
+#[cfg(test)]
+mod making;
 
 use std::test::Fail;
 use strm_codes::codes::{ReturnCode, TransmitIndex};
