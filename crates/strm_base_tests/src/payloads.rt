@@ -20,6 +20,7 @@ fn tuples_are_padded(rt: HostRuntime) -> Result<(), Fail> {
         (tuple(&[Scalar::U8]), 1, 1),
         (tuple(&[Scalar::U8, Scalar::U16, Scalar::U8]), 6, 2),
         (tuple(&[Scalar::U8, Scalar::U32]), 8, 4),
+        (tuple(&[Scalar::U32, Scalar::U8]), 8, 4),
         (tuple(&[Scalar::Char, Scalar::Bool, Scalar::S16]), 8, 4),
         (tuple(&[Scalar::U8, Scalar::S64, Scalar::U8]), 24, 8),
         (tuple(&[Scalar::U64; 8]), 64, 8),
