@@ -1,3 +1,4 @@
 pub mod GuestLemmas
 pub mod CarryingLemmas
 pub mod EndLemmas
+pub mod OwnerLemmas

@@ -2,12 +2,14 @@
 use Rattle.std.specs.Prelude.{ℕ, List, map, sum_by, slice_index_or, Result}
 use Rattle.strm_codes.specs.declared.codes.TransmitIndex.{TransmitIndex}
 use Rattle.strm_codes.specs.declared.codes.TransmitIndex.TheVariants as index
-use Rattle.strm_handles.specs.Handles.{Handles, live_of}
+use Rattle.strm_handles.specs.Handles.{Handles, inserted, removed, live_of}
 use Rattle.strm_handles.specs.Ends.{without_value, stream_readable_of, stream_writable_of, future_readable_of, future_writable_of}
 use Rattle.strm_handles.specs.declared.errors.HandleError.{HandleError}
 use Rattle.strm_machine.specs.declared.streams.Side.{Side}
 use Rattle.strm_machine.specs.declared.streams.Side.TheVariants.{Writing, Reading}
+use Rattle.strm_machine.specs.Making.{end_entry}
 use Rattle.strm_machine.specs.State as machine
+use Rattle.strm_machine.specs.State.{guest_in, with_handles}
 use Rattle.strm_turns.specs.declared.guests.Guest.{Guest}
 
 -- a guest as the machine's: its memory, and what its handles stand for
@@ -25,6 +27,14 @@ room_in guests g = slice_index_or (map (λ (k : Guest). k.table.room) guests) g 
 -- the live handles of guests together
 abbrev pub live_in : List machine.Guest → ℕ
 live_in guests = sum_by (λ (g : machine.Guest). live_of g.handles) guests
+
+-- the guests without a handle of one of them
+abbrev pub without_handle_in : List machine.Guest → ℕ → ℕ → List machine.Guest
+without_handle_in guests g handle = with_handles guests g (removed (guest_in guests g).handles handle)
+
+-- the guests with a handle more of one of them, for an end of stream s
+abbrev pub with_end_in : List machine.Guest → ℕ → Side → TransmitIndex → ℕ → List machine.Guest
+with_end_in guests g side ty s = with_handles guests g (inserted (guest_in guests g).handles (end_entry side ty s))
 
 -- what a table answers to the removal of an end
 abbrev pub removable : Side → TransmitIndex → Handles → ℕ → Result (Unit {0}) HandleError

@@ -9,5 +9,6 @@
 pub mod endings;
 pub mod ends;
 pub mod guests;
+pub mod owners;
 pub mod sides;
 pub mod turns;

@@ -6,7 +6,7 @@ use Rattle.strm_machine.specs.State as machine
 use Rattle.strm_machine.specs.State.{with_handles, guest_in}
 use Rattle.strm_turns.specs.Guests.{seen, guest_of, live_in}
 use Rattle.strm_turns.proofs.GuestLemmas.{guest_in-seen, seen-with_handles, was_ok}
-use Rattle.strm_turns.proofs.EndLemmas.{live_less, removable_live}
+use Rattle.strm_turns.proofs.EndLemmas.{rooms_after, live_less, removable_live}
 use Rattle.strm_turns.proofs.ends.remove_end.Goals as goal
 
 pub returns-clause-guests : goal.returns-clause-guests
@@ -19,6 +19,15 @@ returns-clause-guests c =
     seen-with_handles guests end.guest c.index_mut.result.now c.try_remove.new.table c.requires.there c.index_mut.ensures.value
     ∙ ap (with_handles (seen guests) end.guest) (freed
     ∙ ap (λ (k : machine.Guest). removed k.handles end.handle) (sym read))
+
+pub returns-clause-rooms : goal.returns-clause-rooms
+returns-clause-rooms c = λ n.
+    let guests = c.args.guests.now.items in
+    let end = c.args.end.now in
+    let read = guest_in-seen guests end.guest c.index_mut.result.now c.requires.there c.index_mut.ensures.value in
+    let idle = rw read at c.requires.idle in
+    let more = was_ok c.try_remove.result _ (ap is_err (c.try_remove.ensures.answer ∙ idle)) c.try_remove.ensures.removes.room in
+    omega (arith, rooms_after guests end.guest c.index_mut.result.now c.try_remove.new.table 0 n c.requires.there c.index_mut.ensures.value (omega (arith, more)))
 
 pub returns-clause-live : goal.returns-clause-live
 returns-clause-live c =

@@ -1,6 +1,6 @@
 use Rattle.std.proofs.Common.{arith}
 use Rattle.strm_turns.proofs.EndLemmas.{rooms_after, room_after, seen-same}
-use Rattle.strm_turns.proofs.ends.reserve_two.Goals as goal
+use Rattle.strm_turns.proofs.ends.reserve.Goals as goal
 
 pub returns-in-Ok-clause-seen : goal.returns-in-Ok-clause-seen
 returns-in-Ok-clause-seen c =
