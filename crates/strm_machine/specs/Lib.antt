@@ -7,6 +7,7 @@ pub mod Endings
 pub mod Tests
 pub mod Refusals
 pub mod Making
+pub mod Moves
 pub mod Reactions
 pub mod Plays
 pub mod Asked

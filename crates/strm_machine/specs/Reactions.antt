@@ -2,16 +2,19 @@
 use Rattle.std.specs.Prelude.{ℕ, true, if◌then◌else◌, [], ◌∷◌, ◌++◌, length, min, take, drop, replicate, slice_set, Option, Some, None}
 use Rattle.strm_codes.specs.declared.codes.ReturnCode.{ReturnCode}
 use Rattle.strm_codes.specs.declared.refusals.Refusal.{Refusal}
-use Rattle.strm_handles.specs.Handles.{no_handles, removed}
+use Rattle.strm_handles.specs.Handles.{no_handles}
 use Rattle.strm_memory.specs.Bytes.{put_at}
-use Rattle.strm_machine.specs.State.{State, guest_in, memory_in, with_memory, with_handles, stream_at}
+use Rattle.strm_machine.specs.State.{State, memory_in, with_memory, stream_at}
 use Rattle.strm_machine.specs.Meetings.{begun}
 use Rattle.strm_machine.specs.Turns.{Turn, turn}
 use Rattle.strm_machine.specs.Endings.{report_on, delivered, dropped, code_of_cancel, cancelled}
 use Rattle.strm_machine.specs.Tests.{named, end_named, stream_named, side_named, items_asked}
 use Rattle.strm_machine.specs.Refusals.{refusal}
 use Rattle.strm_machine.specs.Making.{made_pair, with_stream}
+use Rattle.strm_machine.specs.Moves.{without_handle, next_in, given, with_owner}
+use Rattle.strm_machine.specs.declared.streams.Owner.TheVariants.{Held, Loose}
 use Rattle.strm_machine.specs.declared.streams.Side.{Side}
+use Rattle.strm_machine.specs.declared.streams.Side.TheVariants.{Reading}
 use Rattle.strm_machine.specs.declared.streams.Operation.{Operation}
 use Rattle.strm_machine.specs.declared.streams.Stream.{Stream}
 use Rattle.strm_machine.specs.Acts.{act_of}
@@ -19,11 +22,13 @@ use Rattle.strm_machine.specs.declared.acts.NamedEnd.{NamedEnd}
 use Rattle.strm_machine.specs.declared.acts.Making.{Making}
 use Rattle.strm_machine.specs.declared.acts.Making.TheVariants.{Guest, Between}
 use Rattle.strm_machine.specs.declared.acts.EndAct.{EndAct}
-use Rattle.strm_machine.specs.declared.acts.EndAct.TheVariants.{Operate, Drop, Cancel}
+use Rattle.strm_machine.specs.declared.acts.EndAct.TheVariants.{Operate, Drop, Cancel, Move, Lift}
+use Rattle.strm_machine.specs.declared.acts.LooseAct.{LooseAct}
+use Rattle.strm_machine.specs.declared.acts.LooseAct.TheVariants.{Lower, Close}
 use Rattle.strm_machine.specs.declared.acts.MemoryAct.{MemoryAct}
 use Rattle.strm_machine.specs.declared.acts.MemoryAct.TheVariants.{Poke, Dump}
 use Rattle.strm_machine.specs.declared.acts.Act.{Act}
-use Rattle.strm_machine.specs.declared.acts.Act.TheVariants.{Make, OnEnd, Event, OnMemory}
+use Rattle.strm_machine.specs.declared.acts.Act.TheVariants.{Make, OnEnd, OnLoose, Event, OnMemory}
 use Rattle.strm_machine.specs.declared.steps.Step.{Step}
 use Rattle.strm_machine.specs.declared.replies.Reply.{Reply}
 use Rattle.strm_machine.specs.declared.replies.Reply.TheVariants as replies
@@ -67,12 +72,6 @@ tells state s side =
     let stream = stream_at state s in
     goes (replies.Event (report_on side stream)) (with_stream_at state s (delivered side stream))
 
--- the state without a handle of a guest
-abbrev pub without_handle : State → ℕ → ℕ → State
-without_handle state g handle = record state {
-  guests = with_handles state.guests g (removed (guest_in state.guests g).handles handle);
-}
-
 -- the end of stream s that is named is gone, and its handle freed
 abbrev pub drops : State → ℕ → Side → NamedEnd → Reaction
 drops state s side end =
@@ -85,11 +84,43 @@ cancels state s side =
     let stream = stream_at state s in
     goes (replies.Code (code_of_cancel side stream)) (with_stream_at state s (cancelled side stream))
 
+-- the end of stream s that is named goes to a guest, whose next handle it gets once its own is freed
+abbrev pub moves : State → ℕ → Side → NamedEnd → ℕ → Reaction
+moves state s side end to =
+    let freed = without_handle state end.guest end.handle in
+    let number = next_in freed to in
+    goes (replies.Number number)
+    (with_stream_at (given freed to side end.ty s) s (with_owner side (stream_at state s) (Held to number)))
+
+-- the end of stream s that is named is loose, and its handle freed; the answer is the stream's number
+abbrev pub lifts : State → ℕ → Side → NamedEnd → Reaction
+lifts state s side end =
+    goes (replies.Number s)
+    (with_stream_at (without_handle state end.guest end.handle) s (with_owner side (stream_at state s) Loose))
+
+-- the loose read end of stream s comes into a guest, under its next handle
+abbrev pub lowers : State → ℕ → ℕ → TransmitIndex → Reaction
+lowers state s g ty =
+    let number = next_in state g in
+    goes (replies.Number number)
+    (with_stream_at (given state g Reading ty s) s (with_owner Reading (stream_at state s) (Held g number)))
+
+-- the loose read end of stream s is gone
+abbrev pub closes : State → ℕ → Reaction
+closes state s = goes replies.Done (with_stream_at state s (dropped Reading (stream_at state s)))
+
+-- what is done to a loose read end
+abbrev pub on_loose : State → ℕ → LooseAct → Reaction
+on_loose state reader (Lower g ty) = lowers state reader g ty
+on_loose state reader Close = closes state reader
+
 -- what is done to the end that is named
 abbrev pub on_end : State → Side → NamedEnd → EndAct → Reaction
 on_end state side end (Operate address count) = operates state side end address count
 on_end state side end Drop = drops state (stream_named (named state end)) side end
 on_end state side end Cancel = cancels state (stream_named (named state end)) side
+on_end state side end (Move to) = moves state (stream_named (named state end)) side end to
+on_end state side end Lift = lifts state (stream_named (named state end)) side end
 
 -- what is made
 abbrev pub makes : State → Making → Reaction
@@ -115,6 +146,7 @@ on_memory state g (Dump address len) =
 unfoldable pub performs : State → Act → Reaction
 performs state (Make making) = makes state making
 performs state (OnEnd side end act) = on_end state side end act
+performs state (OnLoose reader act) = on_loose state reader act
 performs state (Event g handle) =
     tells state (stream_named (end_named state g handle)) (side_named (end_named state g handle))
 performs state (OnMemory g act) = on_memory state g act

@@ -8,9 +8,10 @@ use Rattle.strm_codes.specs.declared.refusals.Refusal.TheVariants as refusals
 use Rattle.strm_codes.specs.Types.{kind_of}
 use Rattle.strm_handles.specs.Handles.{next_index}
 use Rattle.strm_machine.specs.State.{State, guest_in, stream_at}
-use Rattle.strm_machine.specs.Tests.{is_unknown_guest, are_guests_full, is_memory_too_big, are_handles_full, are_places_full, are_streams_full, is_no_handle, is_too_big, is_out_of_bounds, is_misaligned, are_bytes_out_of_bounds, Name, named, end_named, is_unknown_handle, is_wrong_kind, is_wrong_type, stream_named, side_named, is_busy, has_ended, owes_value, is_within_one_guest}
+use Rattle.strm_machine.specs.Tests.{is_unknown_guest, are_guests_full, is_memory_too_big, are_handles_full, are_places_full, are_streams_full, is_no_handle, is_too_big, is_out_of_bounds, is_misaligned, are_bytes_out_of_bounds, Name, named, end_named, is_unknown_handle, is_wrong_kind, is_wrong_type, stream_named, side_named, is_busy, has_ended, owes_value, is_within_one_guest, is_spent, is_unknown_reader, is_of_other_kind, is_of_other_payload}
 use Rattle.strm_machine.specs.Sides.{same_side}
 use Rattle.strm_machine.specs.Making.{writer_index}
+use Rattle.strm_machine.specs.Moves.{without_handle, next_in}
 use Rattle.strm_machine.specs.declared.streams.Stream.{Stream}
 use Rattle.strm_machine.specs.declared.streams.Side.{Side}
 use Rattle.strm_machine.specs.declared.streams.Side.TheVariants.{Writing, Reading}
@@ -18,11 +19,13 @@ use Rattle.strm_machine.specs.declared.acts.NamedEnd.{NamedEnd}
 use Rattle.strm_machine.specs.declared.acts.Making.{Making}
 use Rattle.strm_machine.specs.declared.acts.Making.TheVariants.{Guest, Between}
 use Rattle.strm_machine.specs.declared.acts.EndAct.{EndAct}
-use Rattle.strm_machine.specs.declared.acts.EndAct.TheVariants.{Operate, Drop, Cancel}
+use Rattle.strm_machine.specs.declared.acts.EndAct.TheVariants.{Operate, Drop, Cancel, Move, Lift}
+use Rattle.strm_machine.specs.declared.acts.LooseAct.{LooseAct}
+use Rattle.strm_machine.specs.declared.acts.LooseAct.TheVariants.{Lower, Close}
 use Rattle.strm_machine.specs.declared.acts.MemoryAct.{MemoryAct}
 use Rattle.strm_machine.specs.declared.acts.MemoryAct.TheVariants.{Poke, Dump}
 use Rattle.strm_machine.specs.declared.acts.Act.{Act}
-use Rattle.strm_machine.specs.declared.acts.Act.TheVariants.{Make, OnEnd, Event, OnMemory}
+use Rattle.strm_machine.specs.declared.acts.Act.TheVariants.{Make, OnEnd, OnLoose, Event, OnMemory}
 
 -- a condition, and the refusal that it gives
 pub record Reason : Type 0 where
@@ -70,7 +73,7 @@ end_reasons_of stream side g ty named =
     ∷ where_ (is_within_one_guest g side ty stream) refusals.IntraComponent
     ∷ []
 
--- in a drop or a cancel: the handle is the other end
+-- in all but a read or write: the handle is the other end
 abbrev pub side_reasons : Side → Side → List Reason → List Reason
 side_reasons side named more = where_ (not (same_side side named)) refusals.WrongEnd ∷ more
 
@@ -87,9 +90,20 @@ abbrev pub cancel_reasons_of : Stream → Side → Side → List Reason
 cancel_reasons_of stream side named =
     side_reasons side named (where_ (not (is_busy side stream)) refusals.NoPending ∷ [])
 
--- what stands before the handle: for a read or write the guest, the count and the region
+-- the end that is named in a move or a lift
+abbrev pub move_reasons_of : Stream → Side → Side → List Reason
+move_reasons_of stream side named =
+    side_reasons side named
+    (where_ (is_busy side stream) refusals.Busy
+    ∷ where_ (is_spent side stream) refusals.LiftDropped
+    ∷ [])
+
+-- what stands before the handle: for a read or write the guest, the count and the region, and for a
+-- move both guests
 abbrev pub front_reasons : State → NamedEnd → EndAct → List Reason
 front_reasons state end (Operate address count) = region_reasons state end.guest end.ty address count
+front_reasons state end (Move to) =
+    where_ (is_unknown_guest state end.guest || is_unknown_guest state to) refusals.UnknownGuest ∷ []
 front_reasons state end _ = where_ (is_unknown_guest state end.guest) refusals.UnknownGuest ∷ []
 
 -- what stands behind it: the end that is named, by what is done to it
@@ -98,6 +112,8 @@ own_reasons_of stream side end (Operate address count) named =
     end_reasons_of stream side end.guest end.ty named
 own_reasons_of stream side end Drop named = drop_reasons_of stream side end.ty named
 own_reasons_of stream side end Cancel named = cancel_reasons_of stream side named
+own_reasons_of stream side end (Move to) named = move_reasons_of stream side named
+own_reasons_of stream side end Lift named = move_reasons_of stream side named
 
 -- the same, of the stream that the handle names
 abbrev pub own_reasons : State → Side → NamedEnd → EndAct → List Reason
@@ -105,10 +121,38 @@ own_reasons state side end act =
     own_reasons_of (stream_at state (stream_named (named state end))) side end act
     (side_named (named state end))
 
+-- what stands last: the number that a move gives, once the handle is freed. A move leaves as many
+-- handles as there were, so that it meets no limit on them
+abbrev pub number_reasons : State → NamedEnd → EndAct → List Reason
+number_reasons state end (Move to) =
+    where_ (is_no_handle (next_in (without_handle state end.guest end.handle) to)) refusals.IndexOverflow ∷ []
+number_reasons state end _ = []
+
 -- whatever is done to the end that is named
 abbrev pub on_end_reasons : State → Side → NamedEnd → EndAct → List Reason
 on_end_reasons state side end act =
-    front_reasons state end act ++ (handle_reasons (named state end) ++ own_reasons state side end act)
+    front_reasons state end act
+    ++ ((handle_reasons (named state end) ++ own_reasons state side end act)
+    ++ number_reasons state end act)
+
+-- a stream whose read end is to be loose, and of a type
+abbrev pub reader_reasons : State → ℕ → TransmitIndex → List Reason
+reader_reasons state reader ty =
+    where_ (is_unknown_reader state reader) refusals.UnknownReader
+    ∷ where_ (is_of_other_kind ty (stream_at state reader)) refusals.WrongKind
+    ∷ where_ (is_of_other_payload ty (stream_at state reader)) refusals.WrongType
+    ∷ []
+
+-- what is done to a loose read end
+abbrev pub on_loose_reasons : State → ℕ → LooseAct → List Reason
+on_loose_reasons state reader (Lower g ty) =
+    where_ (is_unknown_guest state g) refusals.UnknownGuest
+    ∷ (reader_reasons state reader ty
+    ++ where_ (is_no_handle (next_in state g)) refusals.IndexOverflow
+    ∷ where_ (are_handles_full state 1) refusals.HandleLimit
+    ∷ [])
+on_loose_reasons state reader Close =
+    where_ (is_unknown_reader state reader) refusals.UnknownReader ∷ []
 
 -- the end that an event is asked of
 abbrev pub event_reasons : Name → List Reason
@@ -147,6 +191,7 @@ memory_reasons state g (Dump address len) = bytes_reasons state g address (min l
 abbrev pub reasons : State → Act → List Reason
 reasons state (Make making) = making_reasons state making
 reasons state (OnEnd side end act) = on_end_reasons state side end act
+reasons state (OnLoose reader act) = on_loose_reasons state reader act
 reasons state (Event g handle) =
     where_ (is_unknown_guest state g) refusals.UnknownGuest ∷ event_reasons (end_named state g handle)
 reasons state (OnMemory g act) = memory_reasons state g act

@@ -7,7 +7,7 @@ use Rattle.strm_codes.specs.declared.payloads.Payload.TheVariants.{Nothing}
 use Rattle.strm_handles.specs.Handles.{Handles, no_handles, live_of}
 use Rattle.strm_machine.specs.declared.limits.Limits.{Limits}
 use Rattle.strm_machine.specs.declared.streams.Owner.{Owner}
-use Rattle.strm_machine.specs.declared.streams.Owner.TheVariants.{Held, Gone}
+use Rattle.strm_machine.specs.declared.streams.Owner.TheVariants.{Held, Loose, Gone}
 use Rattle.strm_machine.specs.declared.streams.End.{End}
 use Rattle.strm_machine.specs.declared.streams.Stream.{Stream}
 
@@ -61,10 +61,23 @@ with_memory guests g memory = slice_set guests g (record (guest_in guests g) { m
 abbrev pub with_handles : List Guest → ℕ → Handles → List Guest
 with_handles guests g handles = slice_set guests g (record (guest_in guests g) { handles = handles })
 
--- nobody has the end
+-- the end was dropped
 abbrev pub is_gone : Owner → Bool
 is_gone Gone = true
+is_gone Loose = false
 is_gone (Held guest handle) = false
+
+-- a guest has the end
+abbrev pub is_held : Owner → Bool
+is_held Gone = false
+is_held Loose = false
+is_held (Held guest handle) = true
+
+-- the end was lifted out of a guest, and nobody has it yet
+abbrev pub is_loose : Owner → Bool
+is_loose Gone = false
+is_loose Loose = true
+is_loose (Held guest handle) = false
 
 -- an end that has this owner, was told nothing, and has no operation
 abbrev pub idle_end : Owner → End

@@ -43,6 +43,19 @@ pub enum EndAct {
     Drop,
     /// Its read or write is cancelled.
     Cancel,
+    /// It goes to another guest, or to the same under a new handle.
+    Move { to: u32 },
+    /// It leaves its guest, and is loose.
+    Lift,
+}
+
+/// What is done to the loose read end of a stream.
+#[derive(Clone, Copy, Debug, PartialEq, Eq)]
+pub enum LooseAct {
+    /// It comes into a guest, as one of this type.
+    Lower { guest: u32, ty: TransmitIndex },
+    /// It is dropped.
+    Close,
 }
 
 /// What is done to the bytes of a guest's memory, from `address` on.
@@ -66,6 +79,11 @@ pub enum Act {
         side: Side,
         end: NamedEnd,
         act: EndAct,
+    },
+    /// It does something to the loose read end of a stream, by the stream's number.
+    OnLoose {
+        reader: u32,
+        act: LooseAct,
     },
     /// It asks what the end that a handle names is to be told, whatever its type.
     Event {
@@ -140,6 +158,29 @@ impl Act {
                 side: Side::Reading,
                 end: NamedEnd { guest, ty, handle },
                 act: EndAct::Cancel,
+            },
+            Step::Move {
+                guest,
+                ty,
+                handle,
+                to,
+            } => Act::OnEnd {
+                side: Side::Reading,
+                end: NamedEnd { guest, ty, handle },
+                act: EndAct::Move { to },
+            },
+            Step::Lift { guest, ty, handle } => Act::OnEnd {
+                side: Side::Reading,
+                end: NamedEnd { guest, ty, handle },
+                act: EndAct::Lift,
+            },
+            Step::Lower { reader, guest, ty } => Act::OnLoose {
+                reader,
+                act: LooseAct::Lower { guest, ty },
+            },
+            Step::Close { reader } => Act::OnLoose {
+                reader,
+                act: LooseAct::Close,
             },
             Step::Event { guest, handle } => Act::Event { guest, handle },
             Step::Poke {

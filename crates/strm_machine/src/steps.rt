@@ -64,6 +64,33 @@ pub enum Step {
         ty: TransmitIndex,
         handle: u32,
     },
+    /// A read end from one guest to another, which may be the same. Canonical ABI, `lift_stream` and
+    /// `lower_stream` of a call from one component to another.
+    Move {
+        guest: u32,
+        ty: TransmitIndex,
+        handle: u32,
+        to: u32,
+    },
+    /// A read end out of a guest: it is loose then. Canonical ABI, `lift_stream`; wasmtime,
+    /// `lift_from_index`.
+    Lift {
+        guest: u32,
+        ty: TransmitIndex,
+        handle: u32,
+    },
+    /// The loose read end of a stream, by the stream's number, into a guest. Canonical ABI,
+    /// `lower_stream`; wasmtime, `lower_to_index`.
+    Lower {
+        reader: u32,
+        guest: u32,
+        ty: TransmitIndex,
+    },
+    /// The loose read end of a stream, by the stream's number, is dropped. wasmtime,
+    /// `StreamReader::close`.
+    Close {
+        reader: u32,
+    },
     /// What an end is to be told, whatever its type: an event of `canon waitable-set.poll`.
     Event {
         guest: u32,
