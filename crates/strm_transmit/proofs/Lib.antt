@@ -2,3 +2,4 @@ pub mod StepLemmas
 pub mod StoreLemmas
 pub mod OperationLemmas
 pub mod EndingLemmas
+pub mod MoveLemmas

@@ -1,5 +1,5 @@
 -- The store's counters after each change.
-use Rattle.std.proofs.Common.{◌≡◌, ℕ, cond, get_or, set, ◌+◌, ◌<◌, List, [], ◌∷◌, ◌++◌, length, map, sum_by, refl, sym, ap, ◌∙◌, subst, None, replicate, arith, length-append}
+use Rattle.std.proofs.Common.{◌≡◌, ℕ, Bool, cond, get_or, set, ◌+◌, ◌<◌, ◌≤◌, List, [], ◌∷◌, ◌++◌, length, map, sum_by, refl, sym, ap, ◌∙◌, subst, None, replicate, arith, length-append}
 use Rattle.std.specs.Prelude.{sum, count_by}
 use Rattle.std.proofs.lemmas.List.{map-append, length-map, length-replicate, length-set, get_or_default}
 use Rattle.std.proofs.lemmas.List.Sums.{sum_by-append, sum_by-set, sum-map}
@@ -71,6 +71,7 @@ IsStore-guest old new g size h e s =
       sound = rw after sound;
       limit = rw (h.counter, h.same.limits) s.limit;
       live = ap (λ (c : Counter). c.live) h.counter ∙ s.live ∙ live;
+      within = rw h.counter s.within;
       streams = rw (h.live_streams, h.streams) s.streams;
       bytes = omega (arith, h.bytes, s.bytes, bytes, many);
       few_guests = rw h.guests (omega (arith, fits.count, length-map old.guests.items guest_of, length-append old.guests.items (g ∷ [])));
@@ -128,6 +129,7 @@ IsStore-poke old new g address bytes h e s =
       sound = rw state (IsSound-guests (state_of old) (seen new.guests.items) kept s.sound);
       limit = rw (h.counter, h.same.limits) s.limit;
       live = ap (λ (c : Counter). c.live) h.counter ∙ s.live ∙ sym (same_handles (seen old.guests.items) (seen new.guests.items) kept.handles);
+      within = rw h.counter s.within;
       streams = rw (h.live_streams, h.streams) s.streams;
       bytes = h.count ∙ s.bytes ∙ sym (same_bytes (seen old.guests.items) (seen new.guests.items) kept.sizes);
       few_guests = omega (arith, count, s.few_guests, length-map old.guests.items guest_of, length-map new.guests.items guest_of);
@@ -144,38 +146,39 @@ pub record TakesTurn (old new : Inside) (s : ℕ) (t : Turn) : Type 0 where
   pub guests : seen new.guests.items ≡ t.guests
   pub streams : new.streams.items ≡ set old.streams.items s t.stream
 
-abbrev pub live_weight : Stream → ℕ
-live_weight stream = cond (is_live stream) 1 0
+abbrev live_by : Bool → ℕ
+live_by b = cond b 1 0
 
-pub live_sum : (streams : List Stream) (s : ℕ) (stream : Stream) → s < length streams → count_by is_live (set streams s stream) + live_weight (get_or streams s no_stream) ≡ count_by is_live streams + live_weight stream
+abbrev live_weight : Stream → ℕ
+live_weight stream = live_by (is_live stream)
+
+live_sum : (streams : List Stream) (s : ℕ) (stream : Stream) → s < length streams → count_by is_live (set streams s stream) + live_weight (get_or streams s no_stream) ≡ count_by is_live streams + live_weight stream
 live_sum streams s stream l = sum_by-set live_weight streams s stream no_stream l
 
 -- one stream set to another, and the memories with their lengths
 pub record SetsStream (old new : Inside) (s : ℕ) (stream : Stream) : Type 0 where
   pub limit : new.counter.limit ≡ new.limits.handles
   pub live : new.counter.live ≡ handles_in_use (state_of new)
+  pub within : new.counter.live ≤ new.counter.limit
   pub sizes : sizes_of (seen new.guests.items) ≡ sizes_of (seen old.guests.items)
   pub bytes : new.bytes ≡ old.bytes
-  pub live_streams : new.live_streams + live_weight (stream_at (state_of old) s) ≡ old.live_streams + live_weight stream
+  pub counted : new.live_streams ≡ count_by is_live new.streams.items
   pub streams : new.streams.items ≡ set old.streams.items s stream
 
 -- a call that sets one stream keeps the store's invariant where the state stays sound
-pub IsStore-stream : (old new : Inside) (s : ℕ) (stream : Stream) → s < length old.streams.items → SetsStream old new s stream → IsSound (state_of new) → IsStore old → IsStore new
-IsStore-stream old new s stream l h sound i =
-    let there = live_sum old.streams.items s stream l in
+pub IsStore-stream : (old new : Inside) (s : ℕ) (stream : Stream) → SetsStream old new s stream → IsSound (state_of new) → IsStore old → IsStore new
+IsStore-stream old new s stream h sound i =
     let count = same_count (seen old.guests.items) (seen new.guests.items) h.sizes in
     record {
       sound = sound;
       limit = h.limit;
       live = h.live;
-      streams = rw h.streams (as_many _ _ _ _ _ _ h.live_streams there i.streams);
+      within = h.within;
+      streams = h.counted;
       bytes = h.bytes ∙ i.bytes ∙ sym (same_bytes (seen old.guests.items) (seen new.guests.items) h.sizes);
       few_guests = omega (arith, count, i.few_guests, length-map old.guests.items guest_of, length-map new.guests.items guest_of);
       few_streams = rw (h.streams, length-set old.streams.items s stream) i.few_streams;
     }
-  where
-    as_many : (n m w v a b : ℕ) → n + w ≡ m + v → a + w ≡ b + v → m ≡ b → n ≡ a
-    as_many n m w v a b e f g = omega (arith, e, f, g)
 
 -- guests and one stream as a turn left them, which keeps handles, memory lengths, type and owners
 pub IsStore-turn : (old new : Inside) (s : ℕ) (t : Turn) → s < length old.streams.items → TurnKeeps (seen old.guests.items) (stream_at (state_of old) s) t → TakesTurn old new s t → IsStore old → IsStore new
@@ -184,13 +187,15 @@ IsStore-turn old new s t l keeps h i =
     let owners : is_live t.stream ≡ is_live (stream_at (state_of old) s) = rw (keeps.stream.writer, keeps.stream.reader) refl in
     let handles : handles_in_use (state_of new) ≡ handles_in_use (state_of old) =
     same_handles (seen old.guests.items) (seen new.guests.items) (rw h.guests keeps.guests.handles) in
-    IsStore-stream old new s t.stream l
+    let there = live_sum old.streams.items s t.stream l in
+    IsStore-stream old new s t.stream
     (record {
       limit = rw (h.counter, h.limits) i.limit;
       live = ap (λ (c : Counter). c.live) h.counter ∙ i.live ∙ sym handles;
+      within = rw h.counter i.within;
       sizes = rw h.guests keeps.guests.sizes;
       bytes = h.bytes;
-      live_streams = rw (h.live_streams, owners) refl;
+      counted = rw h.streams (as_many _ _ _ _ _ there (ap live_by owners) (h.live_streams ∙ i.streams));
       streams = h.streams;
     })
     (record {
@@ -198,6 +203,9 @@ IsStore-turn old new s t l keeps h i =
       placed = rw (h.guests, h.streams) sound.placed;
       small = rw h.guests sound.small;
     }) i
+  where
+    as_many : (a w b v n : ℕ) → a + w ≡ b + v → v ≡ w → n ≡ b → n ≡ a
+    as_many a w b v n e f g = omega (arith, e, f, g)
 
 pub stream_at-there : (s : Inside) (stream : ℕ) (x : Stream) → stream < length s.streams.items → x ≡ get_or s.streams.items stream x → stream_at (state_of s) stream ≡ x
 stream_at-there s stream x l e = get_or_default s.streams.items stream no_stream x l ∙ sym e
@@ -243,6 +251,7 @@ IsStore-made old new writer reader ty h e s =
       sound = subst IsSound (sym (state_of-made old new writer reader ty h)) (IsSound-with_stream (state_of old) writer reader ty s.sound);
       limit = rw (h.counter, h.same.limits) s.limit;
       live = omega (arith, ap (λ (c : Counter). c.live) h.counter, s.live, h.live);
+      within = rw h.counter (omega (arith, fits.handles, s.limit, s.live));
       streams = omega (arith, h.live_streams, s.streams, live);
       bytes = h.bytes ∙ s.bytes ∙ sym bytes;
       few_guests = omega (arith, count, s.few_guests, length-map old.guests.items guest_of, length-map new.guests.items guest_of);

@@ -20,6 +20,7 @@ pub record IsStore (s : Inside) : Type 0 where
   pub sound : IsSound (state_of s)
   pub limit : s.counter.limit ≡ s.limits.handles
   pub live : s.counter.live ≡ handles_in_use (state_of s)
+  pub within : s.counter.live ≤ s.counter.limit
   pub streams : s.live_streams ≡ count_by is_live s.streams.items
   pub bytes : s.bytes ≡ bytes_in_use (state_of s)
   pub few_guests : length s.guests.items ≤ 1048576

@@ -6,7 +6,9 @@ use Rattle.strm_machine.specs.Acts.{act_of}
 use Rattle.strm_machine.specs.State.{State}
 use Rattle.strm_machine.specs.Reactions.{Reaction, goes}
 use Rattle.strm_machine.specs.declared.acts.Act.{Act}
-use Rattle.strm_machine.specs.declared.acts.Act.TheVariants.{Make, OnEnd, Event, OnMemory}
+use Rattle.strm_machine.specs.declared.acts.Act.TheVariants.{Make, OnEnd, OnLoose}
+use Rattle.strm_machine.specs.declared.acts.EndAct.TheVariants.{Move}
+use Rattle.strm_machine.specs.declared.acts.LooseAct.TheVariants.{Lower}
 use Rattle.strm_machine.specs.declared.steps.Step.{Step}
 use Rattle.strm_machine.specs.declared.replies.Reply.{Reply}
 use Rattle.strm_machine.specs.declared.replies.Reply.TheVariants as replies
@@ -57,12 +59,12 @@ refused_too (Err StoreTrapped) = Err StoreTrapped
 refused_too (Err OutOfMemory) = Err OutOfMemory
 refused_too (Ok reply) = Ok reply
 
--- an act that takes memory: it makes something
+-- an act that takes memory: it makes something, or gives a guest a handle
 abbrev pub act_takes_memory : Act → Bool
 act_takes_memory (Make making) = true
-act_takes_memory (OnEnd side end act) = false
-act_takes_memory (Event guest handle) = false
-act_takes_memory (OnMemory guest act) = false
+act_takes_memory (OnEnd side end (Move to)) = true
+act_takes_memory (OnLoose reader (Lower guest ty)) = true
+act_takes_memory _ = false
 
 -- a step that takes memory
 abbrev pub takes_memory : Step → Bool

@@ -12,7 +12,7 @@ ghost use Rattle.strm_transmit.specs.Meets.{Meets, replied, refused_too, is_sett
 
 use crate::errors::StoreError;
 use crate::store::Store;
-use strm_machine::acts::{Act, EndAct, Making, MemoryAct, NamedEnd};
+use strm_machine::acts::{Act, EndAct, LooseAct, Making, MemoryAct, NamedEnd};
 use strm_machine::replies::Reply;
 use strm_machine::steps::Step;
 use strm_machine::streams::Side;
@@ -55,6 +55,7 @@ fn perform(store: &mut Store, act: Act) -> Result<Reply, StoreError>
     match act {
         Act::Make { making } => make(store, making),
         Act::OnEnd { side, end, act } => on_end(store, side, &end, act),
+        Act::OnLoose { reader, act } => on_loose(store, reader, act),
         Act::Event { guest, handle } => store.take_event(guest, handle).map(Reply::Event),
         Act::OnMemory { guest, act } => on_memory(store, guest, act),
     }
@@ -79,7 +80,8 @@ fn on_end(store: &mut Store, side: Side, end: &NamedEnd, act: EndAct) -> Result<
     ensures meets { Meets store.old store.new result
         (reaction store.old (acts.OnEnd side end.now act)) }
     ensures settled { IfOk result (λ reply. IsTrue (is_settled reply)) }
-    ensures takes_no_memory { result ≢ Err StoreError.OutOfMemory }
+    ensures takes_no_memory { act_takes_memory (acts.OnEnd side end.now act) ≡ false
+        → result ≢ Err StoreError.OutOfMemory }
 {
     match act {
         EndAct::Operate { address, count } => {
@@ -87,6 +89,22 @@ fn on_end(store: &mut Store, side: Side, end: &NamedEnd, act: EndAct) -> Result<
         }
         EndAct::Drop => store.drop_side(side, end).map(done),
         EndAct::Cancel => store.cancel_side(side, end).map(Reply::Code),
+        EndAct::Move { to } => store.move_side(side, end, to).map(Reply::Number),
+        EndAct::Lift => store.lift_side(side, end).map(Reply::Number),
+    }
+}
+
+// What is done to the loose read end of a stream.
+fn on_loose(store: &mut Store, reader: u32, act: LooseAct) -> Result<Reply, StoreError>
+    ensures meets { Meets store.old store.new result
+        (reaction store.old (acts.OnLoose reader act)) }
+    ensures settled { IfOk result (λ reply. IsTrue (is_settled reply)) }
+    ensures takes_no_memory { act_takes_memory (acts.OnLoose reader act) ≡ false
+        → result ≢ Err StoreError.OutOfMemory }
+{
+    match act {
+        LooseAct::Lower { guest, ty } => store.lower(reader, guest, ty).map(Reply::Number),
+        LooseAct::Close => store.close(reader).map(done),
     }
 }
 

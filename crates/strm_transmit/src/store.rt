@@ -10,6 +10,7 @@ ghost use Rattle.strm_machine.specs.State.{empty, is_live, stream_at, memory_in}
 mod endings;
 mod making;
 mod memories;
+mod moves;
 mod operations;
 mod refusals;
 
@@ -21,8 +22,8 @@ use strm_codes::refusals::Refusal;
 use strm_handles::counters::HandleCounter;
 use strm_machine::limits::Limits;
 use strm_machine::streams::Stream;
-use strm_turns::endings::is_live;
 use strm_turns::guests::Guest;
+use strm_turns::owners::is_live;
 
 /// Guests and the streams between them.
 #[derive(Drop)]

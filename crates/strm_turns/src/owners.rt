@@ -6,7 +6,7 @@
 
 ghost use Rattle.std.specs.Prelude.{◌≡◌, ◌^◌, ◌<◌, length, count_by, slice_index_or, slice_set};
 ghost use Rattle.strm_machine.specs.State.{is_live, no_stream};
-ghost use Rattle.strm_machine.specs.Sides.{end_of, with_end};
+ghost use Rattle.strm_machine.specs.Moves.{with_owner};
 
 use strm_machine::streams::{Owner, Side, Stream};
 
@@ -19,7 +19,7 @@ pub fn is_live(stream: &Stream) -> bool
 
 // The end on a side has another owner from now on.
 fn give(stream: &mut Stream, side: Side, owner: Owner)
-    ensures { stream.new ≡ with_end side stream.old (record (end_of side stream.old) { owner = owner }) }
+    ensures { stream.new ≡ with_owner side stream.old owner }
 {
     match side {
         Side::Writing => stream.writer.owner = owner,
@@ -40,8 +40,7 @@ pub fn set_owner(
     requires few { length streams.old.items < 2 ^ 32 }
     requires counted { live_streams.old ≡ count_by is_live streams.old.items }
     ensures streams { streams.new.items ≡ slice_set streams.old.items stream
-        (with_end side (slice_index_or streams.old.items stream no_stream)
-        (record (end_of side (slice_index_or streams.old.items stream no_stream)) { owner = owner })) }
+        (with_owner side (slice_index_or streams.old.items stream no_stream) owner) }
     ensures counted { live_streams.new ≡ count_by is_live streams.new.items }
 {
     let given = &mut streams[stream];

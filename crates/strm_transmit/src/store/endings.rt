@@ -9,7 +9,7 @@ ghost use Rattle.std.specs.Prelude.{◌≡◌, ◌≢◌, ◌<◌, length, Err, 
 ghost use Rattle.strm_codes.specs.declared.codes.TransmitIndex.TheVariants as index;
 ghost use Rattle.strm_machine.specs.Tests.{named, end_named, stream_named, side_named};
 ghost use Rattle.strm_machine.specs.Refusals.{refusal};
-ghost use Rattle.strm_machine.specs.Reactions.{goes, tells, drops, cancels, react, reaction};
+ghost use Rattle.strm_machine.specs.Reactions.{goes, tells, cancels, react, reaction};
 ghost use Rattle.strm_machine.specs.declared.acts.Act.TheVariants.{OnEnd, Event};
 ghost use Rattle.strm_machine.specs.declared.acts.EndAct.TheVariants.{Drop, Cancel};
 ghost use Rattle.strm_machine.specs.declared.replies.Reply.TheVariants as replies;
@@ -26,9 +26,8 @@ use strm_codes::refusals::Refusal;
 use strm_handles::entries::TransmitLocalState;
 use strm_handles::errors::HandleError;
 use strm_machine::acts::{EndAct, NamedEnd};
-use strm_machine::streams::Side;
-use strm_turns::endings::{cancel_operation, deliver_report, drop_end};
-use strm_turns::ends::remove_end;
+use strm_machine::streams::{Owner, Side};
+use strm_turns::endings::{cancel_operation, deliver_report};
 
 impl Store {
     // The stream and the end that a handle names, whatever its type.
@@ -96,18 +95,6 @@ impl Store {
         self.found(side, end, EndAct::Drop)
     }
 
-    // A guest's handle is freed, and the end of a stream that it names is gone.
-    fn drop_named(&mut self, side: Side, end: &NamedEnd, stream: u32)
-        requires may { refusal self.old (OnEnd side end.now Drop) ≡ None }
-        requires stream { stream ≡ stream_named (named self.old end.now) }
-        ensures { drops self.old stream side end.now ≡ goes replies.Done self.new }
-    {
-        let (guests, counter) = (&mut self.guests, &mut self.counter);
-        remove_end(guests, counter, side, end);
-        let is_removed = drop_end(&mut self.streams[stream as usize], side);
-        self.live_streams -= u32::from(is_removed);
-    }
-
     /// Drops the end that a handle names, which is gone then; a stream whose both ends are gone is
     /// removed at once.
     pub(crate) fn drop_side(&mut self, side: Side, end: &NamedEnd) -> Result<(), StoreError>
@@ -117,7 +104,7 @@ impl Store {
     {
         match self.admit(self.drop_found(side, end)) {
             Ok(stream) => {
-                self.drop_named(side, end, stream);
+                self.release(side, end, stream, Owner::Gone);
                 Ok(())
             }
             Err(error) => Err(error),

@@ -101,7 +101,7 @@ impl Store {
     }
 
     // Whether so many handles more would pass the limit.
-    fn are_handles_full(&self, needed: u32) -> bool
+    pub(crate) fn are_handles_full(&self, needed: u32) -> bool
         ensures { result ≡ are_handles_full self.now needed }
     {
         (self.limits.handles as u128) < self.counter.live() as u128 + u128::from(needed)
