@@ -216,10 +216,17 @@ pub left_told : (code : Option ReturnCode) (o : Option Operation) → IsLeft o (
 left_told None o = inl refl
 left_told (Some code) o = inr refl
 
--- an end was dropped, and its handle freed
-pub IsSound-dropped : (state : State) (s : ℕ) (side : Side) (g handle : ℕ) → s < length state.streams → IsSound state → IsSound (record state { guests = with_handles state.guests g (removed (guest_in state.guests g).handles handle); streams = set state.streams s (dropped side (stream_at state s)) })
-unfolding dropped
-IsSound-dropped state s side g handle l h =
-    let stream = stream_at state s in
-    let e = record (end_of side stream) { owner = Gone } in
-    IsSound-freed (record state { streams = set state.streams s (with_end side stream e) }) g handle (IsSound-set state s side e l (inl refl) h)
+module _ (state : State) (s : ℕ) (side : Side) (g handle : ℕ) where
+  -- an end was dropped, and its handle freed
+  abbrev drop_of : State
+  drop_of = record state {
+    guests = with_handles state.guests g (removed (guest_in state.guests g).handles handle);
+    streams = set state.streams s (dropped side (stream_at state s));
+  }
+
+  pub IsSound-dropped : s < length state.streams → IsSound state → IsSound drop_of
+  unfolding dropped
+  IsSound-dropped l h =
+      let stream = stream_at state s in
+      let e = record (end_of side stream) { owner = Gone } in
+      IsSound-freed (record state { streams = set state.streams s (with_end side stream e) }) g handle (IsSound-set state s side e l (inl refl) h)
