@@ -1,6 +1,7 @@
 -- One step of the machine. Canonical ABI, the built-ins; the steps that make guests and put or show bytes are ours.
 use Rattle.std.specs.Prelude.{ℕ, true, if◌then◌else◌, [], ◌∷◌, ◌++◌, length, min, take, drop, replicate, slice_set, Option, Some, None}
 use Rattle.strm_codes.specs.declared.codes.ReturnCode.{ReturnCode}
+use Rattle.strm_codes.specs.declared.codes.TransmitIndex.{TransmitIndex}
 use Rattle.strm_codes.specs.declared.refusals.Refusal.{Refusal}
 use Rattle.strm_handles.specs.Handles.{no_handles}
 use Rattle.strm_memory.specs.Bytes.{put_at}
