@@ -1,12 +1,10 @@
 -- The store after an end was told its report or its operation cancelled, or after it was dropped and
 -- its handle freed.
-use Rattle.std.proofs.Common.{◌≡◌, ℕ, ◌+◌, ◌-◌, ◌<◌, ◌≤◌, Bool, true, false, cond, List, [], ◌∷◌, length, get_or, set, Result, Ok, Err, None, refl, sym, ap, ◌∙◌, subst, arith}
-use Rattle.std.specs.Prelude.{◌&&◌, not, IsOk, IfOk}
-use mir.Val.{bool_byte}
+use Rattle.std.proofs.Common.{◌≡◌, ℕ, ◌<◌, true, List, length, set, Result, Ok, Err, None, refl, ap, subst}
+use Rattle.std.specs.Prelude.{IsOk, IfOk}
 use Rattle.strm_codes.specs.declared.codes.TransmitIndex.{TransmitIndex}
 use Rattle.strm_codes.specs.declared.codes.TransmitIndex.TheVariants as index
-use Rattle.strm_handles.specs.Counters.{Counter, uncounted}
-use Rattle.strm_handles.specs.Handles.{Handles, removed}
+use Rattle.strm_handles.specs.Handles.{Handles}
 use Rattle.strm_handles.specs.Ends.{without_value, readable, writable}
 use Rattle.strm_handles.specs.Lookups.{◌>>=◌, stream_of, future_of}
 use Rattle.strm_handles.specs.declared.entries.TransmitEnd.{TransmitEnd}
@@ -16,25 +14,18 @@ use Rattle.strm_handles.specs.declared.errors.HandleError.{HandleError}
 use Rattle.strm_machine.specs.State as machine
 use Rattle.strm_machine.specs.State.{State, no_stream, guest_in, with_handles, stream_at, is_gone, is_live}
 use Rattle.strm_machine.specs.Turns.{Turn}
-use Rattle.strm_machine.specs.Endings.{dropped}
-use Rattle.strm_machine.specs.Tests.{Name, named, named_by, stream_named, side_named, side_of, is_busy, owes_value, is_spent}
-use Rattle.strm_codes.specs.declared.refusals.Refusal.TheVariants as refusals
-use Rattle.strm_codes.specs.Types.{kind_of}
-use Rattle.strm_machine.specs.Refusals.{where_, refusal}
+use Rattle.strm_machine.specs.Tests.{Name, named, named_by, stream_named, side_named, side_of}
 use Rattle.strm_machine.specs.declared.acts.NamedEnd.{NamedEnd}
-use Rattle.strm_machine.specs.declared.acts.EndAct.TheVariants.{Drop, Lift}
-use Rattle.strm_machine.specs.declared.acts.Act.TheVariants.{OnEnd}
 use Rattle.strm_machine.specs.Soundness.{sizes_of, is_idle_state, IsSound, StreamIsPlaced}
 use Rattle.strm_machine.specs.Sides.{same_side}
 use Rattle.strm_machine.specs.declared.streams.Side.{Side}
 use Rattle.strm_machine.specs.declared.streams.Side.TheVariants.{Writing, Reading}
 use Rattle.strm_machine.specs.declared.streams.Stream.{Stream}
 use Rattle.strm_machine.proofs.NameLemmas.{named_there, named_idle}
-use Rattle.strm_machine.proofs.ReactionLemmas.{refusal-on_end}
-use Rattle.strm_machine.proofs.RefusalLemmas.{NamedFits, named_ok, named_fits}
+use Rattle.strm_machine.proofs.RefusalLemmas.{LeaveFits, named_ok}
 use Rattle.strm_machine.proofs.SideLemmas.{same_side_is, StreamKeeps}
-use Rattle.strm_machine.proofs.SoundLemmas.{IsSound-dropped, sizes_of-with_handles, placed_at}
-use Rattle.strm_turns.specs.Guests.{seen, live_in, removable}
+use Rattle.strm_machine.proofs.SoundLemmas.{placed_at}
+use Rattle.strm_turns.specs.Guests.{seen, removable}
 use Rattle.strm_transmit.specs.Inside.{state_of, IsStore}
 use Rattle.strm_transmit.specs.declared.store.Store.TheInside.{Inside}
 use Rattle.strm_transmit.proofs.StoreLemmas.{SameBut, IsStore-turn}
@@ -109,19 +100,8 @@ removable_idle Reading (index.Stream payload) handles handle name e i s = found_
 removable_idle Writing (index.Future payload) handles handle name e i s = found_removable (future_of handles payload handle) writable (λ end done. (end.rep, done)) name e (idle_writable name.1 i s)
 removable_idle Reading (index.Future payload) handles handle name e i s = found_removable (future_of handles payload handle) readable (λ end done. (end.rep, done)) name e (idle_readable name.1 i s)
 
--- an end that may be dropped, or lifted, is named
-pub drop_named : (state : State) (side : Side) (end : NamedEnd) → refusal state (OnEnd side end Drop) ≡ None → NamedFits state side end
-drop_named state side end e =
-    let stream = stream_at state (stream_named (named state end)) in
-    (named_fits state side end (where_ (is_busy side stream) refusals.Busy ∷ where_ (owes_value side (kind_of end.ty) stream) refusals.FutureWithoutValue ∷ []) (sym (refusal-on_end state side end Drop) ∙ e)).0
-
-pub lift_named : (state : State) (side : Side) (end : NamedEnd) → refusal state (OnEnd side end Lift) ≡ None → NamedFits state side end
-lift_named state side end e =
-    let stream = stream_at state (stream_named (named state end)) in
-    (named_fits state side end (where_ (is_busy side stream) refusals.Busy ∷ where_ (is_spent side stream) refusals.LiftDropped ∷ []) (sym (refusal-on_end state side end Lift) ∙ e)).0
-
 -- the end that a handle names can be removed from its table
-pub removable_named : (state : State) (side : Side) (end : NamedEnd) → IsSound state → NamedFits state side end → removable side end.ty (guest_in state.guests end.guest).handles end.handle ≡ Ok tt
+pub removable_named : (state : State) (side : Side) (end : NamedEnd) → IsSound state → LeaveFits state side end → removable side end.ty (guest_in state.guests end.guest).handles end.handle ≡ Ok tt
 removable_named state side end h fits =
     by_name (named state end) refl (named_idle state end (named state end) h refl) (named_ok state end fits.found) fits.same
   where
@@ -130,7 +110,7 @@ removable_named state side end h fits =
     by_name (Err error) f i k s = cc
 
 -- its stream was made
-pub named_made : (state : State) (side : Side) (end : NamedEnd) (s : ℕ) → IsSound state → NamedFits state side end → s ≡ stream_named (named state end) → s < length state.streams
+pub named_made : (state : State) (side : Side) (end : NamedEnd) (s : ℕ) → IsSound state → LeaveFits state side end → s ≡ stream_named (named state end) → s < length state.streams
 named_made state side end s h fits same =
     rw same (by_name (named state end) (named_there state end (named state end) h refl) (named_ok state end fits.found))
   where

@@ -17,7 +17,7 @@ ghost use Rattle.strm_machine.specs.declared.acts.EndAct.TheVariants.{Move, Lift
 ghost use Rattle.strm_machine.specs.declared.acts.LooseAct.TheVariants.{Lower, Close};
 ghost use Rattle.strm_machine.specs.declared.replies.Reply.TheVariants as replies;
 ghost use Rattle.strm_machine.specs.declared.steps.Step.TheVariants as steps;
-ghost use Rattle.strm_machine.proofs.RefusalLemmas.{NamedFits};
+ghost use Rattle.strm_machine.proofs.RefusalLemmas.{LeaveFits};
 ghost use Rattle.strm_transmit.specs.Meets.{Meets, replied, or_found};
 
 use crate::errors::StoreError;
@@ -55,7 +55,7 @@ impl Store {
 
     // A guest's handle is freed, and the end of a stream that it names has another owner.
     pub(crate) fn release(&mut self, side: Side, end: &NamedEnd, stream: u32, owner: Owner)
-        requires fits { NamedFits self.old side end.now }
+        requires fits { LeaveFits self.old side end.now }
         requires stream { stream ≡ stream_named (named self.old end.now) }
         ensures { self.new ≡ with_stream_at (without_handle self.old end.now.guest end.now.handle)
             stream (with_owner side (stream_at self.old stream) owner) }
@@ -82,7 +82,7 @@ impl Store {
     // The stream whose end a handle of a guest names, where that end may go to another guest.
     #[tactic(auto, unfolding(strm_machine::specs::Refusals::refusal))]
     fn move_found(&self, side: Side, end: &NamedEnd, to: u32) -> Result<u32, Refusal>
-        ensures exact { result ≡ or_found (refusal self.now (OnEnd side end.now (Move to)))
+        ensures { result ≡ or_found (refusal self.now (OnEnd side end.now (Move to)))
             (stream_named (named self.now end.now)) }
     {
         let guests = self.guests.len();
@@ -182,7 +182,7 @@ impl Store {
     // The stream whose end a handle of a guest names, where that end may leave its guest.
     #[tactic(auto, unfolding(strm_machine::specs::Refusals::refusal))]
     fn lift_found(&self, side: Side, end: &NamedEnd) -> Result<u32, Refusal>
-        ensures exact { result ≡ or_found (refusal self.now (OnEnd side end.now Lift))
+        ensures { result ≡ or_found (refusal self.now (OnEnd side end.now Lift))
             (stream_named (named self.now end.now)) }
     {
         if end.guest as usize >= self.guests.len() {
@@ -286,7 +286,7 @@ impl Store {
     // Whether the loose read end of a stream may be dropped.
     #[tactic(auto, unfolding(strm_machine::specs::Refusals::refusal))]
     fn close_fits(&self, reader: u32) -> Result<(), Refusal>
-        ensures exact { result ≡ or_found (refusal self.now (OnLoose reader Close)) tt }
+        ensures { result ≡ or_found (refusal self.now (OnLoose reader Close)) tt }
     {
         if self.is_unknown_reader(reader) {
             return Err(Refusal::UnknownReader);

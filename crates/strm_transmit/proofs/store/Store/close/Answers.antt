@@ -10,7 +10,7 @@ pub own-requires : goal.own-requires
 own-requires c = close_made c.args.self.now c.args.reader (is_admitted _ _ _ _ _ c.close_fits.ensures c.in-Ok.ensures.exact).none
 
 pub returns-in-Ok-clause-meets : goal.returns-in-Ok-clause-meets
-unfolding dropped, performs
+unfolding dropped performs
 returns-in-Ok-clause-meets c =
     reacts _ _ _ _ _ (λ _. closes c.args.self.now c.args.reader)
     (is_admitted _ _ _ _ _ c.close_fits.ensures c.in-Ok.ensures.exact) refl

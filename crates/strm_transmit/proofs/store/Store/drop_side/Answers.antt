@@ -3,14 +3,15 @@ use Rattle.strm_machine.specs.Endings.{dropped}
 use Rattle.strm_machine.specs.Reactions.{goes, drops}
 use Rattle.strm_machine.specs.declared.acts.EndAct.TheVariants.{Drop}
 use Rattle.strm_machine.specs.declared.replies.Reply.TheVariants as replies
-use Rattle.strm_machine.proofs.ReactionLemmas.{performs-on_end}
-use Rattle.strm_transmit.proofs.EndingLemmas.{drop_named}
+use Rattle.strm_machine.proofs.ReactionLemmas.{refusal-on_end, performs-on_end}
+use Rattle.strm_machine.proofs.RefusalLemmas.{drop_fits}
 use Rattle.strm_transmit.proofs.StepLemmas.{is_admitted, reacts, meets_not_admitted}
 use Rattle.strm_transmit.proofs.store.Store.drop_side.Goals as goal
 
 pub release-requires-clause-fits : goal.release-requires-clause-fits
 release-requires-clause-fits c =
-    drop_named c.args.self.now c.args.side c.args.end.now (is_admitted _ _ _ _ _ c.drop_found.ensures.exact c.in-Ok.ensures.exact).none
+    drop_fits c.args.self.now c.args.side c.args.end.now
+    (sym (refusal-on_end c.args.self.now c.args.side c.args.end.now Drop) ∙ (is_admitted _ _ _ _ _ c.drop_found.ensures.exact c.in-Ok.ensures.exact).none)
 
 pub release-requires-clause-stream : goal.release-requires-clause-stream
 release-requires-clause-stream c = (is_admitted _ _ _ _ _ c.drop_found.ensures.exact c.in-Ok.ensures.exact).same

@@ -2,14 +2,15 @@ use Rattle.std.proofs.Common.{sym, ap, ◌∙◌}
 use Rattle.strm_machine.specs.Reactions.{goes, lifts}
 use Rattle.strm_machine.specs.declared.acts.EndAct.TheVariants.{Lift}
 use Rattle.strm_machine.specs.declared.replies.Reply.TheVariants as replies
-use Rattle.strm_machine.proofs.ReactionLemmas.{performs-on_end}
-use Rattle.strm_transmit.proofs.EndingLemmas.{lift_named}
+use Rattle.strm_machine.proofs.ReactionLemmas.{refusal-on_end, performs-on_end}
+use Rattle.strm_machine.proofs.RefusalLemmas.{lift_fits}
 use Rattle.strm_transmit.proofs.StepLemmas.{is_admitted, reacts, meets_not_admitted}
 use Rattle.strm_transmit.proofs.store.Store.lift_side.Goals as goal
 
 pub release-requires-clause-fits : goal.release-requires-clause-fits
 release-requires-clause-fits c =
-    lift_named c.args.self.now c.args.side c.args.end.now (is_admitted _ _ _ _ _ c.lift_found.ensures c.in-Ok.ensures.exact).none
+    lift_fits c.args.self.now c.args.side c.args.end.now
+    (sym (refusal-on_end c.args.self.now c.args.side c.args.end.now Lift) ∙ (is_admitted _ _ _ _ _ c.lift_found.ensures c.in-Ok.ensures.exact).none)
 
 pub release-requires-clause-stream : goal.release-requires-clause-stream
 release-requires-clause-stream c = (is_admitted _ _ _ _ _ c.lift_found.ensures c.in-Ok.ensures.exact).same

@@ -15,7 +15,9 @@ set_owner-requires-clause-there c =
 
 pub invariant_of-self : goal.invariant_of-self
 invariant_of-self c =
-    IsStore-released c.self.inside _ c.args.stream c.args.side c.args.owner (set_owner-requires-clause-there ?)
+    IsStore-released c.self.inside _ c.args.stream c.args.side c.args.owner
+    (named_made (state_of c.self.inside) c.args.side c.args.end.now c.args.stream c.self.invariant.sound
+    (rw (← c.self.view_is) at c.requires.fits) (rw (← c.self.view_is) at c.requires.stream))
     (record {
       same = record { tag = refl; limits = refl; trapped = refl };
       bytes = refl;
