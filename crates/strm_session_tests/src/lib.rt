@@ -12,6 +12,8 @@ mod futures;
 #[cfg(test)]
 mod meetings;
 #[cfg(test)]
+mod moves;
+#[cfg(test)]
 mod one_guest;
 #[cfg(test)]
 mod payloads;
