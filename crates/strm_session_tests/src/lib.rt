@@ -8,6 +8,8 @@ mod calls;
 #[cfg(test)]
 mod cancels;
 #[cfg(test)]
+mod contexts;
+#[cfg(test)]
 mod futures;
 #[cfg(test)]
 mod meetings;
@@ -19,5 +21,7 @@ mod one_guest;
 mod payloads;
 #[cfg(test)]
 mod regions;
+#[cfg(test)]
+mod sets;
 #[cfg(test)]
 mod stops;
