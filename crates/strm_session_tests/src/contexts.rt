@@ -23,7 +23,7 @@ const CONTEXTS: [Row; 5] = [
     // A message is told whole, or not at all.
     (
         "guest 4\npoke 0 0 c3a9c3a9\nerr-new 0 0 4\nerr-text 0 1 1\npoke 0 0 00000000\n\
-            err-text 0 1 0\ndump 0 0 4\nerr-new 0 0 1\n",
+            err-text 0 1 0\ndump 0 0 4\nerr-new 0 0 2\n",
         0,
         "0\nok\n1\nrefused OutOfBounds\nok\n4\nc3a9c3a9\n2\ndone 8\n",
     ),
