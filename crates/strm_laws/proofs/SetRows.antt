@@ -5,7 +5,7 @@ use Rattle.std.specs.Cmp.{nat_cmp_total}
 use Rattle.std.specs.Ordering.{nat_cmp}
 use Rattle.std.specs.Prelude.{◌⊎◌, take, is_some}
 use Rattle.std.proofs.lemmas.Bool.{cases_eq}
-use Rattle.strm_machine.specs.Words.{State, sets_in, received}
+use Rattle.strm_machine.specs.Words.{State, sets_in}
 use Rattle.strm_machine.specs.declared.steps.Step.{Step}
 use Rattle.strm_machine.specs.declared.replies.Reply.TheVariants as replies
 use Rattle.strm_machine.specs.declared.steps.Step.TheVariants as steps
@@ -15,14 +15,15 @@ use Rattle.strm_machine.specs.Turns.{turn}
 use Rattle.strm_machine.specs.Endings.{delivered, dropped}
 use Rattle.strm_machine.specs.Making.{with_stream}
 use Rattle.strm_machine.specs.Reactions.{performs}
+use Rattle.strm_machine.specs.Moments.{decoded}
 use Rattle.strm_machine.specs.WaitableSets.{is_in_set, has_member, is_ready, ready_member}
 use Rattle.strm_memory.specs.Items.{decode_from, encode_from, items, stored}
 use Rattle.strm_sets.specs.Sets.{Sets, no_sets, set_of, is_number, is_member, with_new_set, joined, left}
 use Rattle.strm_sets.proofs.SetLemmas.{is_member-left_same, is_member-left_other, is_member-joined_same, is_member-joined_other}
 use Rattle.strm_machine.proofs.SetStepLemmas.{ready_member-least, ready_member-none, has_member-some, has_member-none}
-use Rattle.strm_laws.specs.Conservation.{last}
-use Rattle.strm_laws.proofs.Answered.{Answered, last_state, AllGive, steps_of, last-state}
-use Rattle.strm_laws.proofs.Rows.{bytes, start, replies_to, replies-by}
+use Rattle.strm_laws.specs.Conservation.{handed, all_handed}
+use Rattle.strm_laws.proofs.Answered.{Answered, last_state, AllGive, steps_of}
+use Rattle.strm_laws.proofs.Rows.{bytes, start, item, call, replies_to, replies-by, account, account-by}
 
 abbrev answered : Step → Bool → Bool → Option ℕ → Answered
 answered step in_set has_member ready = record { step = step; answer = record { in_set = in_set; has_member = has_member; ready = ready } }
@@ -157,9 +158,16 @@ replies_to-polled : replies_to (steps_of polled) ≡
 unfolding performs with_stream turn delivered dropped decode_from encode_from items stored
 replies_to-polled = replies-by polled gives-polled
 
-count-polled : received 0 (last start (steps_of polled)) ≡ 1
-unfolding performs with_stream turn delivered dropped decode_from encode_from items stored
-count-polled = ap (received 0) (last-state start polled gives-polled)
+-- the write's report is what the poll told
+account-polled : account 0 (steps_of polled) ≡ record {
+  written = call 0 0 1 (Some (Completed 1)) ∷ [];
+  read = call 0 8 1 (Some (Completed 1)) ∷ [];
+  count = 1;
+  taken = item 0 ∷ [];
+  given = item 0 ∷ [];
+}
+unfolding performs with_stream turn delivered dropped decode_from encode_from items stored decoded handed all_handed
+account-polled = account-by 0 polled gives-polled
 
 -- ## An end that goes from set to set
 
