@@ -3,7 +3,7 @@ use Rattle.std.proofs.Common.{◌≡◌, ◌≢◌, ℕ, Bool, true, false, List
 use Rattle.std.specs.FinMap.{get-empty, get-insert}
 use Rattle.std.specs.Cmp.{nat_cmp_total}
 use Rattle.std.specs.Ordering.{nat_cmp}
-use Rattle.std.specs.Prelude.{◌⊎◌, take, is_some}
+use Rattle.std.specs.Prelude.{map, ◌⊎◌, take, is_some}
 use Rattle.std.proofs.lemmas.Bool.{cases_eq}
 use Rattle.strm_machine.specs.Words.{State, empty, sets_in}
 use Rattle.strm_machine.specs.declared.steps.Step.{Step}
