@@ -53,6 +53,7 @@ untaken act (replies.Number n) r e = refl
 untaken act (replies.Pair pair) r e = refl
 untaken act (replies.Code code) r e = cc
 untaken act (replies.Event code) r e = refl
+untaken act (replies.Member member) r e = refl
 untaken act (replies.Bytes bytes) r e = refl
 untaken act (replies.Refused refusal) r e = refl
 untaken act (replies.BadItem stream) r e = refl
@@ -117,7 +118,7 @@ module _ (state : State) (act : Act) (reply : Reply) (guests : List Guest) (s : 
       sound bytes
 
   -- which the act names
-  pub set_reacts : NamesEnd state act s side → IsLawful state → stream.kind ≡ (stream_at state s).kind → Seen s (as_moment state act (goes reply set_to)) → IsSound set_to → AreBytes guests → Reacts state act (goes reply set_to)
+  pub set_reacts : NamesEnd state act reply s side → IsLawful state → stream.kind ≡ (stream_at state s).kind → Seen s (as_moment state act (goes reply set_to)) → IsSound set_to → AreBytes guests → Reacts state act (goes reply set_to)
   set_reacts named =
       let m = as_moment state act (goes reply set_to) in
       set_reacts_beside
