@@ -4,3 +4,4 @@
 
 mod buffers;
 mod silent;
+mod windows;
