@@ -7,3 +7,4 @@ pub mod Offers
 pub mod Said
 pub mod HostRules
 pub mod Tells
+pub mod Untyped
