@@ -1,7 +1,10 @@
 pub mod Buffers
 pub mod Listing
 pub mod Windows
+pub mod Keeping
+pub mod Lending
 pub mod Offers
 pub mod Said
 pub mod HostRules
 pub mod Tells
+pub mod Untyped

@@ -6,6 +6,7 @@ pub mod answers;
 pub mod buffers;
 pub mod hosts;
 pub mod items;
+mod kept_bytes;
 pub mod offers;
 pub mod readers;
 pub mod said;

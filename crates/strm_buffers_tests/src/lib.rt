@@ -4,3 +4,5 @@
 
 mod buffers;
 mod silent;
+mod untyped;
+mod windows;
