@@ -7,7 +7,7 @@ use Rattle.strm_memory.specs.Items.{stored_at}
 use Rattle.strm_memory.proofs.ItemLemmas.{item_fits}
 use Rattle.strm_memory.proofs.RegionLemmas.{length-stored_at}
 use Rattle.strm_buffers.specs.Listing.{Item, LieIn, items_in}
-use Rattle.strm_buffers.specs.Windows.{Lent, Between, HasRoom, with_items, place_kept, window_kept, IsRoom, IsWindow, memory_of}
+use Rattle.strm_buffers.specs.Windows.{Lent, Between, HasRoom, with_items, place_kept, window_kept, IsRoom, IsWindow, IsSoundPlace, memory_of}
 use Rattle.strm_buffers.proofs.ListingLemmas.{length-items_in, lie_put, pushed}
 
 -- a window that is kept so, and is this
@@ -93,3 +93,12 @@ some_inside payload bytes address r marked size room prepared v o w e h n =
     let e' = subst (λ (q : Option ℕ). window_kept payload bytes address q marked prepared ≡ v) o e in
     let r' = room_memory payload bytes address r marked prepared v w' e' h in
     (omega (arith, r', w'.inside.2), put_inside payload bytes address r marked size prepared w' r' n)
+
+-- where items go, in a window that is kept so
+pub place_sound : (payload : Payload) (bytes : List ℕ) (address marked : ℕ) (room : Option ℕ) (prepared : Bool) (v : Lent) → IsWindow payload bytes address room marked prepared → window_kept payload bytes address room marked prepared ≡ v → IsSoundPlace v.payload v.place v.prepared
+place_sound payload bytes address marked room prepared v w e =
+    subst (λ (u : Lent). IsSoundPlace u.payload u.place u.prepared) e (sound room w.inside)
+  where
+    sound : (room : Option ℕ) → IsRoom payload bytes address room marked prepared → IsSoundPlace payload (place_kept bytes address room) prepared
+    sound None i = i.3
+    sound (Some r) i = (i.1, i.2)

@@ -41,6 +41,12 @@ abbrev pub memory_of : Place → List ℕ
 memory_of (Memory memory address room) = memory
 memory_of Between = []
 
+-- the room lies in the memory; between host ends nothing is to be prepared
+abbrev pub IsSoundPlace : Payload → Place → Bool → Type 0
+IsSoundPlace payload (Memory memory address room) prepared =
+    (address + item_size (scalars_of payload) * room ≤ length memory) × (room < 4294967296)
+IsSoundPlace payload Between prepared = prepared ≡ true
+
 -- these items are marked behind those that were
 abbrev pub with_items : Lent → List Item → Lent
 with_items w items =

@@ -7,7 +7,7 @@
 ghost use Rattle.std.specs.Prelude.{◌≡◌, ◌≢◌, ◌+◌, ◌*◌, ◌≤◌, [], ◌∷◌, length, true, OnOk, OnErr};
 ghost use Rattle.strm_codes.specs.Layout.{scalars_of, item_size};
 ghost use Rattle.strm_codes.specs.Items.{FitsItem};
-ghost use Rattle.strm_buffers.specs.Windows.{Memory, Between, room_of, HasRoom, with_items, memory_of};
+ghost use Rattle.strm_buffers.specs.Windows.{Memory, Between, room_of, HasRoom, with_items, memory_of, IsSoundPlace};
 
 use crate::items::{Items, append_item, write_item};
 use std::alloc::Global;
@@ -82,6 +82,14 @@ impl Window {
     {
         self.is_prepared = true;
         Ok(())
+    }
+
+    /// The room lies in the memory, and between host ends nothing is to be prepared: what a host end
+    /// may have to know of a window that it was lent. It does nothing.
+    pub fn sound(&self)
+        ensures { IsSoundPlace self.now.payload self.now.place self.now.prepared }
+    {
+        let _ = &self.room;
     }
 
     /// How many items there is room for in all; none between host ends.
