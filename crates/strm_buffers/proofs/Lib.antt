@@ -4,3 +4,4 @@ pub mod PutLemmas
 pub mod WindowLemmas
 pub mod OfferLemmas
 pub mod EndLemmas
+pub mod PollingLemmas

@@ -5,3 +5,4 @@ pub mod Offers
 pub mod Said
 pub mod HostRules
 pub mod Tells
+pub mod Polling

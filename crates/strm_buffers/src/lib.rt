@@ -7,6 +7,7 @@ pub mod buffers;
 pub mod hosts;
 pub mod items;
 pub mod offers;
+pub mod polling;
 pub mod readers;
 pub mod said;
 pub mod slice_buffer;

@@ -1,0 +1,102 @@
+//! What host ends do in a poll: mark the items that there is room for, keep those behind them, take
+//! so many.
+//!
+//! Source: ours.
+
+ghost use Rattle.std.specs.Prelude.{◌≡◌, ◌+◌, ◌≤◌, false, [], length, take, drop, IfOk, OnOk, OnErr};
+ghost use Rattle.strm_codes.specs.Layout.{scalars_of};
+ghost use Rattle.strm_buffers.specs.Windows.{Between, room_of, HasRoom, with_items};
+ghost use Rattle.strm_buffers.specs.Said.{in_room, past_room};
+ghost use Rattle.strm_buffers.specs.Tells.{Fills, first_lent};
+ghost use Rattle.strm_buffers.specs.Polling.{TakesUpTo};
+
+use crate::items::Items;
+use crate::offers::Offer;
+use crate::windows::Window;
+use std::alloc::Global;
+use strm_codes::counts::OutOfMemory;
+
+/// Marks the first of these items, as many as there is room for: their number. `OutOfMemory` comes
+/// only between host ends, and then none is marked.
+pub fn mark_in_room(alloc: Global, window: &mut Window, items: &Items) -> Result<usize, OutOfMemory>
+    requires payload { items.now.payload ≡ window.old.payload }
+    requires nothing_marked { window.old.marked ≡ [] }
+    ensures marked { OnOk result (window.new.marked ≡
+        in_room (room_of window.old.place) items.now.items) }
+    ensures count { IfOk result (λ count. count ≤ length items.now.items) }
+    ensures behind { IfOk result (λ count. drop count items.now.items ≡
+        past_room (room_of window.old.place) items.now.items) }
+    ensures unmarked { OnErr result (window.new.marked ≡ []) }
+    ensures out_of_memory { OnErr result (window.old.place ≡ Between) }
+    ensures fills { Fills window.old window.new }
+{
+    window.sound();
+    let count = match window.room() {
+        Some(room) => items.len().min(room as usize),
+        None => items.len(),
+    };
+    match mark_first(window, items, count) {
+        Ok(()) => Ok(count),
+        Err(error) => {
+            let payload = window.payload();
+            *window = Window::unbounded(alloc, payload);
+            Err(error)
+        }
+    }
+}
+
+// Marks so many of the first of these items.
+fn mark_first(window: &mut Window, items: &Items, count: usize) -> Result<(), OutOfMemory>
+    requires payload { items.now.payload ≡ window.old.payload }
+    requires there { count ≤ length items.now.items }
+    requires nothing_marked { window.old.marked ≡ [] }
+    requires room { HasRoom window.old.place 0 count }
+    ensures ok { OnOk result (window.new ≡ with_items window.old (take count items.now.items)) }
+    ensures payload { window.new.payload ≡ window.old.payload }
+    ensures out_of_memory { OnErr result (window.old.place ≡ Between) }
+    ensures between { OnErr result (window.new.place ≡ Between) }
+{
+    window.sound();
+    for index in 0..count {
+        let item = items.get(index);
+        match window.put(&item) {
+            Ok(()) => {}
+            Err(error) => return Err(error),
+        }
+    }
+    Ok(())
+}
+
+/// A copy of the items behind so many. After `OutOfMemory` nothing was kept.
+pub fn items_behind(alloc: Global, items: &Items, count: usize) -> Result<Items, OutOfMemory>
+    requires { count ≤ length items.now.items }
+    ensures payload { IfOk result (λ rest. rest.payload ≡ items.now.payload) }
+    ensures items { IfOk result (λ rest. rest.items ≡ drop count items.now.items) }
+{
+    let mut rest = Items::new(alloc, items.payload());
+    for index in count..items.len() {
+        let item = items.get(index);
+        match rest.push(&item) {
+            Ok(()) => {}
+            Err(error) => return Err(error),
+        }
+    }
+    Ok(rest)
+}
+
+/// Takes as many items as are wanted or left; it stops at a bad one, and does not take that.
+pub fn take_up_to(offer: &mut Offer, wanted: u32)
+    requires nothing_taken { offer.old.taken ≡ 0 }
+    requires not_bad { offer.old.bad ≡ false }
+    ensures takes { TakesUpTo wanted offer.old offer.new }
+    ensures counted { length (first_lent (scalars_of offer.old.payload) offer.old.source offer.new.taken)
+        ≡ offer.new.taken }
+{
+    let count = wanted.min(offer.remaining());
+    for _ in 0..count {
+        match offer.next() {
+            Some(_) => {}
+            None => return,
+        }
+    }
+}
