@@ -3,4 +3,6 @@
 #![tactic(auto)]
 
 mod buffers;
+mod credit_reader;
+mod scripted_writer;
 mod silent;
