@@ -4,7 +4,10 @@ use Rattle.std.proofs.lemmas.List.{take_all, drop_all}
 use Rattle.strm_codes.specs.Layout.{scalars_of, item_size}
 use Rattle.strm_codes.specs.declared.scalars.Scalar.{Scalar}
 use Rattle.strm_memory.proofs.RegionLemmas.{stored_at-nil}
-use Rattle.strm_buffers.specs.Said.{in_room, past_room, turn_of, IfAnswered, IfNoMemory}
+use Rattle.strm_buffers.specs.Said.{in_room, past_room, answer_of_result, turn_of, IfAnswered, IfNoMemory}
+use Rattle.strm_codes.specs.declared.codes.StreamResult.{StreamResult}
+use Rattle.strm_buffers.specs.declared.answers.Turn.{Turn}
+use Rattle.strm_buffers.specs.declared.answers.Turn.TheVariants as turn
 use Rattle.strm_buffers.specs.declared.answers.Answer.{Answer}
 use Rattle.strm_buffers.specs.declared.answers.Answer.TheVariants.{Pending, Completed, Cancelled, Dropped, Failed}
 use Rattle.strm_buffers.specs.Windows.{Lent, Place, Memory, Between, stored_in}
@@ -47,3 +50,10 @@ IfNoMemory-turn_of Completed P = tt
 IfNoMemory-turn_of Cancelled P = tt
 IfNoMemory-turn_of Dropped P = tt
 IfNoMemory-turn_of Failed P = tt
+
+-- what follows from what holds of the answer of a turn
+pub IfAnswered-then : (turn : Turn StreamResult) (P Q : Answer → Type 0) → ((a : Answer) → P a → Q a) → IfAnswered turn P → IfAnswered turn Q
+IfAnswered-then turn.Pending P Q f p = f Pending p
+IfAnswered-then (turn.Ready r) P Q f p = f (answer_of_result r) p
+IfAnswered-then turn.Failed P Q f p = f Failed p
+IfAnswered-then turn.NoMemory P Q f p = tt

@@ -3,6 +3,7 @@
 #![tactic(auto)]
 
 pub mod answers;
+pub mod boxes;
 pub mod buffers;
 pub mod hosts;
 pub mod items;
