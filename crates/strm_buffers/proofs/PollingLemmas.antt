@@ -1,5 +1,5 @@
 -- Items marked one after another, and an offer's taken one after another.
-use Rattle.std.proofs.Common.{◌≡◌, ℕ, zero, suc, ◌+◌, ◌*◌, ◌-◌, ◌<◌, ◌≤◌, List, [], ◌∷◌, ◌++◌, length, take, drop, Bool, true, false, Option, Some, None, refl, sym, ap, ◌∙◌, arith, append_assoc, append-nil, length-append, length-drop}
+use Rattle.std.proofs.Common.{◌≡◌, ℕ, zero, suc, ◌+◌, ◌*◌, ◌-◌, ◌<◌, ◌≤◌, List, [], ◌∷◌, ◌++◌, length, take, drop, Bool, true, false, Option, Some, None, refl, sym, ap, ◌∙◌, arith, append_assoc, length-drop}
 use Rattle.std.proofs.lemmas.List.{length-take-le, take_more, take-append-drop}
 use Rattle.std.proofs.Math.Nat.{mul-le-mul_left}
 use Rattle.std.proofs.Math.Seq.{take-append-add, drop-append-add}
@@ -19,7 +19,7 @@ use Rattle.strm_buffers.specs.Tells.{Fills, SameOffer, first_lent}
 use Rattle.strm_buffers.specs.Polling.{AreGood}
 use Rattle.strm_buffers.specs.declared.sources.Source.{Source}
 use Rattle.strm_buffers.specs.declared.sources.Source.TheVariants.{Region, Listed}
-use Rattle.strm_buffers.proofs.EndLemmas.{stored_in-nil}
+use Rattle.strm_buffers.proofs.EndLemmas.{Fills-same}
 
 -- the next of a list behind those before it
 pub take_next : {A : Type 0} (xs : List A) (i : ℕ) (x : A) → slice_get xs i ≡ Some x → take i xs ++ x ∷ [] ≡ take (i + 1) xs
@@ -72,40 +72,39 @@ stored_in-behind payload (Memory memory address room) prepared n xs ys s h =
     let place : address + w * (n + length xs) ≡ address + w * n + w * length xs = omega (arith, sizes) in
     ap (λ m. Memory m address room) (rw place (stored_at-behind (scalars_of payload) memory (address + w * n) xs ys (omega (arith, sizes, fit, s.0))))
 
--- a window with items, and then with more
-pub with_items-more : (w : Lent) (xs ys : List Item) → IsSoundPlace w.payload w.place w.prepared → HasRoom w.place (length w.marked) (length xs) → with_items (with_items w xs) ys ≡ with_items w (xs ++ ys)
-with_items-more w xs ys s h =
-    let n = length-append w.marked xs in
-    let p = stored_in-behind w.payload w.place w.prepared (length w.marked) xs ys s h in
-    let m = append_assoc w.marked xs ys in
-    rw (n, p, m) refl
-
--- a window with no items
-pub with_items-none : (w : Lent) → with_items w [] ≡ w
-with_items-none w = rw (stored_in-nil (scalars_of w.payload) w.place (length w.marked), append-nil w.marked) refl
-
 -- room for so many is room for fewer
 pub room_fewer : (place : Place) (n k : ℕ) → HasRoom place 0 n → k ≤ n → HasRoom place 0 k
 room_fewer (Memory memory address room) n k h l = omega (arith, h, l)
 room_fewer Between n k h l = omega (arith, h, l)
 
--- one more of the first items is marked
-pub mark_next : (w v u : Lent) (xs : List Item) (x : Item) (i count : ℕ) → w.marked ≡ [] → HasRoom w.place 0 count → IsSoundPlace w.payload w.place w.prepared → i < count → v ≡ with_items w (take i xs) → slice_get xs i ≡ Some x → u ≡ with_items v (x ∷ []) → u ≡ with_items w (take (i + 1) xs)
-mark_next w v u xs x i count m h s l e g p =
-    let size : length (take i xs) ≡ i = length-take-le i xs (omega (arith, slice_get_within xs i x g)) in
-    let none : length w.marked ≡ 0 = ap length m in
-    let room : HasRoom w.place (length w.marked) (length (take i xs)) = rw (none, size) (room_fewer w.place count i h (omega (arith, l))) in
-    p ∙ ap (λ (y : Lent). with_items y (x ∷ [])) e ∙ with_items-more w (take i xs) (x ∷ []) s room ∙ ap (with_items w) (take_next xs i x g)
+-- the first so many items are marked, where none were
+pub record MarksFirst (w v : Lent) (xs : List Item) (n : ℕ) : Type 0 where
+  pub fills : Fills w v
+  pub marked : v.marked ≡ take n xs
 
--- what is marked in a window in which nothing was
-pub Fills-with : (w v : Lent) (xs : List Item) → w.marked ≡ [] → v ≡ with_items w xs → Fills w v
-Fills-with w v xs m e =
-    let is : v.marked ≡ xs = ap (λ (y : Lent). y.marked) e ∙ ap (λ l. l ++ xs) m in
+-- none of them
+pub marks_none : (w : Lent) (xs : List Item) → w.marked ≡ [] → MarksFirst w w xs 0
+marks_none w xs m = record { fills = Fills-same w; marked = m }
+
+-- one more of them
+pub mark_next : (w v u : Lent) (xs : List Item) (x : Item) (i count : ℕ) → w.marked ≡ [] → HasRoom w.place 0 count → IsSoundPlace w.payload w.place w.prepared → i < count → MarksFirst w v xs i → slice_get xs i ≡ Some x → u ≡ with_items v (x ∷ []) → MarksFirst w u xs (i + 1)
+mark_next w v u xs x i count m h s l f g p =
+    let ss = scalars_of w.payload in
+    let size : length (take i xs) ≡ i = length-take-le i xs (omega (arith, slice_get_within xs i x g)) in
+    let room : HasRoom w.place 0 (length (take i xs)) = rw size (room_fewer w.place count i h (omega (arith, l))) in
+    let none : 0 + length (take i xs) ≡ length (take i xs) = omega arith in
+    let before : v.place ≡ stored_in ss w.place 0 (take i xs) = f.fills.place ∙ rw (m, f.marked) refl in
+    let marked : u.marked ≡ take (i + 1) xs = ap (λ (y : Lent). y.marked) p ∙ ap (λ ys. ys ++ x ∷ []) f.marked ∙ take_next xs i x g in
+    let place : u.place ≡ stored_in ss w.place 0 (take (i + 1) xs) =
+    ap (λ (y : Lent). y.place) p ∙ rw (f.fills.payload, before, f.marked, ← none) (stored_in-behind w.payload w.place w.prepared 0 (take i xs) (x ∷ []) s room) ∙ ap (stored_in ss w.place 0) (take_next xs i x g) in
     record {
-      payload = ap (λ (y : Lent). y.payload) e;
-      place = rw (m, is) (ap (λ (y : Lent). y.place) e ∙ rw m refl);
-      marked = rw m refl;
-      prepared = ap (λ (y : Lent). y.prepared) e;
+      fills = record {
+        payload = ap (λ (y : Lent). y.payload) p ∙ f.fills.payload;
+        place = place ∙ rw (m, marked) refl;
+        marked = rw m refl;
+        prepared = ap (λ (y : Lent). y.prepared) p ∙ f.fills.prepared;
+      };
+      marked = marked;
     }
 
 slice_get-drop : {A : Type 0} (xs : List A) (k j : ℕ) → slice_get (drop k xs) j ≡ slice_get xs (k + j)

@@ -1,6 +1,8 @@
 pub mod Buffers
 pub mod Listing
 pub mod Windows
+pub mod Keeping
+pub mod Lending
 pub mod Offers
 pub mod Said
 pub mod HostRules

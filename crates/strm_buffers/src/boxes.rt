@@ -33,11 +33,7 @@ pub fn writer_payload(writer: &Box<dyn HostWriter>) -> Payload
 }
 
 /// `HostWriter::poll`.
-pub fn poll_writer(
-    writer: &mut Box<dyn HostWriter>,
-    window: &mut Window,
-    finish: bool,
-) -> HostTurn
+pub fn poll_writer(writer: &mut Box<dyn HostWriter>, window: &mut Window, finish: bool) -> HostTurn
     requires payload { window.old.payload ≡ (writer_tells writer.old).payload }
     requires nothing_held { (writer_tells writer.old).holds ≡ [] }
     requires nothing_marked { window.old.marked ≡ [] }

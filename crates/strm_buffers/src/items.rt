@@ -8,6 +8,7 @@ ghost use Rattle.strm_codes.specs.Items.{FitsItem};
 ghost use Rattle.strm_memory.specs.Items.{stored_at, AreItems};
 ghost use Rattle.strm_buffers.specs.Listing.{kept_items, items_in, AreKept};
 
+use crate::kept_bytes::append_zeros;
 use std::alloc::Global;
 use std::marker::Model;
 use strm_codes::counts::OutOfMemory;
@@ -148,14 +149,9 @@ pub(crate) fn append_item(
         (take at bytes.old.items ++ replicate (item_size (scalars_of payload)) 0) at (item.now ∷ [])) }
     ensures err { OnErr result (bytes.new.items ≡ bytes.old.items) }
 {
-    let size = payload.size() as usize;
-    if bytes.reserve(size).is_err() {
-        return Err(OutOfMemory);
-    }
-    bytes.truncate(at);
-    match bytes.resize(at + size, 0) {
+    match append_zeros(bytes, at, payload.size() as usize) {
         Ok(()) => {}
-        Err(_) => unreachable!(),
+        Err(error) => return Err(error),
     }
     write_item(bytes, at, item, payload);
     Ok(())

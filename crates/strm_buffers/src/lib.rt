@@ -7,6 +7,7 @@ pub mod boxes;
 pub mod buffers;
 pub mod hosts;
 pub mod items;
+mod kept_bytes;
 pub mod offers;
 pub mod polling;
 pub mod readers;

@@ -5,7 +5,7 @@
 
 ghost use Rattle.std.specs.Prelude.{◌≡◌, ◌+◌, ◌≤◌, false, [], length, take, drop, IfOk, OnOk, OnErr};
 ghost use Rattle.strm_codes.specs.Layout.{scalars_of};
-ghost use Rattle.strm_buffers.specs.Windows.{Between, room_of, HasRoom, with_items};
+ghost use Rattle.strm_buffers.specs.Windows.{Between, room_of, HasRoom};
 ghost use Rattle.strm_buffers.specs.Said.{in_room, past_room};
 ghost use Rattle.strm_buffers.specs.Tells.{Fills, first_lent};
 ghost use Rattle.strm_buffers.specs.Polling.{TakesUpTo};
@@ -30,11 +30,7 @@ pub fn mark_in_room(alloc: Global, window: &mut Window, items: &Items) -> Result
     ensures out_of_memory { OnErr result (window.old.place ≡ Between) }
     ensures fills { Fills window.old window.new }
 {
-    window.sound();
-    let count = match window.room() {
-        Some(room) => items.len().min(room as usize),
-        None => items.len(),
-    };
+    let count = count_in_room(window, items);
     match mark_first(window, items, count) {
         Ok(()) => Ok(count),
         Err(error) => {
@@ -45,16 +41,29 @@ pub fn mark_in_room(alloc: Global, window: &mut Window, items: &Items) -> Result
     }
 }
 
+// How many of these items there is room for, where none is marked.
+fn count_in_room(window: &Window, items: &Items) -> usize
+    ensures most { result ≤ length items.now.items }
+    ensures room { HasRoom window.now.place 0 result }
+    ensures first { take result items.now.items ≡ in_room (room_of window.now.place) items.now.items }
+    ensures behind { drop result items.now.items ≡ past_room (room_of window.now.place) items.now.items }
+{
+    window.sound();
+    match window.room() {
+        Some(room) => items.len().min(room as usize),
+        None => items.len(),
+    }
+}
+
 // Marks so many of the first of these items.
 fn mark_first(window: &mut Window, items: &Items, count: usize) -> Result<(), OutOfMemory>
     requires payload { items.now.payload ≡ window.old.payload }
     requires there { count ≤ length items.now.items }
     requires nothing_marked { window.old.marked ≡ [] }
     requires room { HasRoom window.old.place 0 count }
-    ensures ok { OnOk result (window.new ≡ with_items window.old (take count items.now.items)) }
-    ensures payload { window.new.payload ≡ window.old.payload }
+    ensures ok { OnOk result (window.new.marked ≡ take count items.now.items) }
+    ensures fills { Fills window.old window.new }
     ensures out_of_memory { OnErr result (window.old.place ≡ Between) }
-    ensures between { OnErr result (window.new.place ≡ Between) }
 {
     window.sound();
     for index in 0..count {

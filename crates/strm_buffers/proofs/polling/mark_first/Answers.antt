@@ -1,9 +1,8 @@
-use Rattle.std.proofs.Common.{sym}
-use Rattle.strm_buffers.proofs.PollingLemmas.{with_items-none, mark_next}
+use Rattle.strm_buffers.proofs.PollingLemmas.{marks_none, mark_next}
 use Rattle.strm_buffers.proofs.polling.mark_first.Goals as goal
 
 pub loop-index-init : goal.loop-index-init
-loop-index-init c = sym (with_items-none c.args.window.now)
+loop-index-init c = marks_none c.args.window.now c.args.items.now.items c.requires.nothing_marked
 
 pub loop-index-preserved : goal.loop-index-preserved
 loop-index-preserved c =
