@@ -14,7 +14,6 @@ use strm_buffers::offers::Offer;
 use strm_buffers::readers::HostReader;
 use strm_buffers::windows::Window;
 use strm_buffers::writers::HostWriter;
-use strm_memory::laws::stored_items_stay_inside;
 use strm_memory::memories::GuestMemory;
 
 /// Polls a host writer for items of a guest, and puts as many as there is room for into its memory
@@ -46,7 +45,6 @@ pub fn fetch(
     }
     let turn = poll_writer(writer, &mut window, finish);
     let _ = window.marked();
-    stored_items_stay_inside();
     *memory = window.into_memory().0;
     turn
 }
