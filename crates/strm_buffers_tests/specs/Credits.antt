@@ -1,7 +1,8 @@
 -- What a host reader end with a credit tells, and what it answers. Ours.
-use Rattle.std.specs.Prelude.{ℕ, ◌==◌, Bool, true, false, ◌&&◌, ◌||◌, nat_lt, if◌then◌else◌, map, Some, None}
+use Rattle.std.specs.Prelude.{ℕ, ◌==◌, Bool, true, false, ◌&&◌, ◌||◌, nat_lt, if◌then◌else◌, [], map, Some, None}
 use Rattle.strm_codes.specs.declared.codes.TransmitKind.{TransmitKind}
 use Rattle.strm_codes.specs.declared.codes.TransmitKind.TheVariants.{Stream, Future}
+use Rattle.strm_codes.specs.declared.payloads.Payload.{Payload}
 use Rattle.strm_buffers.specs.declared.answers.Answer.{Answer}
 use Rattle.strm_buffers.specs.declared.answers.Answer.TheVariants.{Pending, Completed, Cancelled, Dropped}
 use Rattle.strm_buffers.specs.Tells.{ReaderTells}
@@ -20,6 +21,12 @@ credit_tells reader =
       heard = Some (map (λ grant. (grant.records, grant.count)) reader.heard.items);
     }
 
+-- what it tells before its first poll and its first grant
+abbrev pub unpolled_reader : TransmitKind → Payload → ReaderTells
+unpolled_reader kind payload =
+    record { kind = kind; payload = payload; said = []; holds = None; faults = 0; closed = false; heard = Some [] }
+
+-- of a stream, not of a future
 abbrev pub is_stream : TransmitKind → Bool
 is_stream Stream = true
 is_stream Future = false

@@ -1,5 +1,7 @@
 -- What a scripted host writer does, and how often it failed. Ours.
-use Rattle.std.specs.Prelude.{ℕ, ◌+◌, List, [], ◌∷◌, None}
+use Rattle.std.specs.Prelude.{ℕ, ◌+◌, List, [], ◌∷◌, false, None}
+use Rattle.strm_codes.specs.declared.codes.TransmitKind.{TransmitKind}
+use Rattle.strm_codes.specs.declared.payloads.Payload.{Payload}
 use Rattle.strm_buffers.specs.declared.answers.Answer.{Answer}
 use Rattle.strm_buffers.specs.declared.answers.Answer.TheVariants.{Pending, Failed}
 use Rattle.strm_buffers.specs.Listing.{Item}
@@ -40,3 +42,8 @@ scripted_tells w =
       closed = w.closed;
       heard = None;
     }
+
+-- what it tells before its first poll
+abbrev pub unpolled_writer : TransmitKind → Payload → WriterTells
+unpolled_writer kind payload =
+    record { kind = kind; payload = payload; said = []; holds = []; faults = 0; closed = false; heard = None }

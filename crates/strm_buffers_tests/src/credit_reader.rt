@@ -33,9 +33,12 @@ pub struct CreditReader {
 }
 
 impl CreditReader {
+    ghost use Rattle.strm_buffers_tests.specs.Credits.{credit_tells, unpolled_reader};
+
     /// A reader end without credit. Takes no memory.
     pub fn new(alloc: Global, kind: TransmitKind, payload: Payload) -> CreditReader
         ensures credit { result.credit ≡ 0 }
+        ensures tells { credit_tells result ≡ unpolled_reader kind payload }
     {
         CreditReader {
             kind,

@@ -4,5 +4,7 @@
 
 mod buffers;
 mod credit_reader;
+mod ends;
+mod host_rules;
 mod scripted_writer;
 mod silent;

@@ -36,6 +36,8 @@ pub struct ScriptedWriter {
 }
 
 impl ScriptedWriter {
+    ghost use Rattle.strm_buffers_tests.specs.Scripts.{scripted_tells, unpolled_writer};
+
     /// A writer of these turns. Takes no memory.
     pub fn new(
         alloc: Global,
@@ -45,6 +47,7 @@ impl ScriptedWriter {
     ) -> ScriptedWriter
         requires { All (λ turn. turn.items.payload ≡ payload) turns.items }
         ensures turns { result.turns ≡ turns }
+        ensures tells { scripted_tells result ≡ unpolled_writer kind payload }
     {
         let held = Items::new(alloc, payload);
         let payload = held.payload();
