@@ -7,3 +7,4 @@ pub mod LendLemmas
 pub mod OfferLemmas
 pub mod EndLemmas
 pub mod PollingLemmas
+pub mod SoundLemmas

@@ -16,7 +16,7 @@ use Rattle.strm_buffers.specs.Listing.{listed, AreKept, items_in, byte_items}
 use Rattle.strm_buffers.specs.Windows.{Lent, Between, CanCount, lent_memory, lent_between, with_marked, with_direct, last_of, place_kept, unmarked_kept, window_kept, KeepsRest, IsWindow, standing}
 use Rattle.strm_buffers.proofs.ListingLemmas.{Lie, lie_none, lie_made, lie_same, length-items_in}
 use Rattle.strm_buffers.proofs.PutLemmas.{put_at-nil, put_at-same, put_at-kept, put_at-over, last_nil, length-last, stored_at-bytes, length-put_at}
-use Rattle.strm_buffers.proofs.WindowLemmas.{Kept, none_between}
+use Rattle.strm_buffers.proofs.WindowLemmas.{Kept, none_between, rest_less}
 
 -- a new window over a memory
 pub over_memory : (payload : Payload) (memory bytes kept : List ℕ) (space address room : ℕ) → bytes ≡ memory → kept ≡ [] → address + item_size (scalars_of payload) * room ≤ length memory → room < 4294967296 → Kept payload bytes kept space address (Some room) 0 false (lent_memory payload memory address room)
@@ -88,10 +88,6 @@ marked_memory m kept at left count f k h i =
 kept_or_not : (payload : Payload) (kept : List ℕ) (left : ℕ) → KeepsRest payload kept left → (kept ≡ []) ⊎ (left ≤ length kept)
 kept_or_not payload kept left (inl e) = inl e
 kept_or_not payload kept left (inr (u, k)) = inr k
-
-rest_less : (payload : Payload) (kept : List ℕ) (left less : ℕ) → less ≤ left → KeepsRest payload kept left → KeepsRest payload kept less
-rest_less payload kept left less h (inl e) = inl e
-rest_less payload kept left less h (inr (u, k)) = inr (u, omega (arith, h, k))
 
 mark_memory : (bytes kept : List ℕ) (space address r marked count : ℕ) (prepared : Bool) → IsWindow (One U8) bytes kept space address (Some r) marked prepared → IsBytes bytes → marked + count ≤ r → Kept (One U8) bytes kept space address (Some r) (marked + count) prepared (with_marked (window_kept (One U8) bytes kept address (Some r) marked prepared) count)
 mark_memory bytes kept space address r marked count prepared w f h =

@@ -1,5 +1,5 @@
 -- Items marked one after another, and an offer's taken one after another.
-use Rattle.std.proofs.Common.{◌≡◌, ℕ, zero, suc, ◌+◌, ◌*◌, ◌-◌, ◌<◌, ◌≤◌, List, [], ◌∷◌, ◌++◌, length, take, drop, Bool, true, false, Option, Some, None, refl, sym, ap, ◌∙◌, arith, append_assoc, length-drop}
+use Rattle.std.proofs.Common.{◌≡◌, ℕ, ◌+◌, ◌*◌, ◌<◌, ◌≤◌, List, [], ◌∷◌, ◌++◌, length, take, drop, Bool, true, false, Option, Some, None, refl, sym, ap, ◌∙◌, arith, append_assoc, length-drop}
 use Rattle.std.proofs.lemmas.List.{length-take-le, take_more, take-append-drop}
 use Rattle.std.proofs.Math.Nat.{mul-le-mul_left}
 use Rattle.std.proofs.Math.Seq.{take-append-add, drop-append-add}
@@ -106,20 +106,6 @@ mark_next w v u xs x i count m h s l f g p =
       };
       marked = marked;
     }
-
-slice_get-drop : {A : Type 0} (xs : List A) (k j : ℕ) → slice_get (drop k xs) j ≡ slice_get xs (k + j)
-slice_get-drop xs zero j = ap (slice_get xs) (omega arith)
-slice_get-drop [] (suc k) j = refl
-slice_get-drop (x ∷ xs) (suc k) j =
-    let next : suc k + j ≡ suc (k + j) = omega arith in
-    slice_get-drop xs k j ∙ sym (ap (slice_get (x ∷ xs)) next)
-
--- one more of the items behind so many
-pub take_behind : {A : Type 0} (xs : List A) (k i : ℕ) (x : A) (rest new : List A) → k ≤ i → slice_get xs i ≡ Some x → rest ≡ take (i - k) (drop k xs) → new ≡ rest ++ x ∷ [] → new ≡ take (i + 1 - k) (drop k xs)
-take_behind xs k i x rest new h g e n =
-    let there : slice_get (drop k xs) (i - k) ≡ Some x = slice_get-drop xs k (i - k) ∙ ap (slice_get xs) (omega arith) ∙ g in
-    let more : i - k + 1 ≡ i + 1 - k = omega arith in
-    n ∙ ap (λ l. l ++ x ∷ []) e ∙ take_next (drop k xs) (i - k) x there ∙ ap (λ j. take j (drop k xs)) more
 
 -- no items are good
 pub good_none : (ss : List Scalar) (source : Source) → AreGood ss source 0

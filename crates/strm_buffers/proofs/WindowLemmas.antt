@@ -1,5 +1,5 @@
 -- An item put into a window.
-use Rattle.std.proofs.Common.{◌≡◌, ℕ, zero, suc, ◌+◌, ◌-◌, ◌*◌, ◌<◌, ◌≤◌, inl, inr, Bool, pos, negsuc, List, [], ◌∷◌, ◌++◌, length, take, drop, replicate, Option, Some, None, refl, sym, ap, subst, ◌∙◌, arith, get_or, length-drop}
+use Rattle.std.proofs.Common.{◌≡◌, ℕ, zero, suc, ◌+◌, ◌-◌, ◌*◌, ◌<◌, ◌≤◌, inl, inr, Bool, pos, negsuc, List, [], ◌∷◌, ◌++◌, length, take, drop, replicate, Option, Some, None, refl, sym, ap, subst, ◌∙◌, arith, get_or}
 use Rattle.std.proofs.lemmas.Int.{ints}
 use Rattle.std.proofs.lemmas.List.{drop-drop, drop-take, drop_all}
 use Rattle.strm_codes.specs.Layout.{scalars_of, item_size}
@@ -12,8 +12,8 @@ use Rattle.strm_memory.specs.Items.{stored_at}
 use Rattle.strm_memory.proofs.ItemLemmas.{item_fits}
 use Rattle.strm_memory.proofs.RegionLemmas.{length-stored_at, drop-stored_at}
 use Rattle.strm_buffers.specs.Listing.{Item, LieIn, items_in}
-use Rattle.strm_buffers.specs.Windows.{Lent, Between, HasRoom, with_items, last_of, place_kept, window_kept, KeepsRest, IsRoom, IsWindow, IsSoundPlace}
-use Rattle.strm_buffers.proofs.ListingLemmas.{length-items_in, lie_put, pushed, cut}
+use Rattle.strm_buffers.specs.Windows.{Lent, Between, HasRoom, with_items, last_of, place_kept, window_kept, KeepsRest, IsRoom, IsWindow}
+use Rattle.strm_buffers.proofs.ListingLemmas.{length-items_in, lie_put, pushed}
 use Rattle.strm_buffers.proofs.PutLemmas.{put_at-nil, put_at-kept, last_nil, stored_at-bytes, length-put_at, length-last}
 
 -- a window that is kept so, and is this
@@ -68,122 +68,106 @@ behind_one ss m at rest x h =
     let same : drop (at + w) (stored_at ss m at (x ∷ [])) ≡ drop (at + w) m = ap (λ j. drop (at + j) (stored_at ss m at (x ∷ []))) (sym one) ∙ drop-stored_at ss m at (x ∷ []) (omega (arith, one, h)) ∙ ap (λ j. drop (at + j) m) one in
     ap (take (w * rest)) (same ∙ sym (drop-drop w at m)) ∙ sym (drop-take w (w * rest) (drop at m))
 
--- an item by its number is inside the memory
-pub put_inside : (payload : Payload) (bytes kept : List ℕ) (space address r marked size : ℕ) (prepared : Bool) → IsWindow payload bytes kept space address (Some r) marked prepared → marked + 1 ≤ r → size ≡ item_size (scalars_of payload) → address + size * marked + item_size (scalars_of payload) ≤ length bytes
-put_inside payload bytes kept space address r marked size prepared w h e = rw e (omega (arith, item_fits marked r (item_size (scalars_of payload)) (omega arith), w.inside.1))
-
-pub put_memory : (payload : Payload) (bytes kept new : List ℕ) (space address r marked size : ℕ) (prepared : Bool) (x : Item) → IsWindow payload bytes kept space address (Some r) marked prepared → FitsItem (scalars_of payload) x → marked + 1 ≤ r → size ≡ item_size (scalars_of payload)
-    → new ≡ stored_at (scalars_of payload) bytes (address + size * marked) (x ∷ []) → Kept payload new kept space address (Some r) (marked + 1) prepared (with_items (window_kept payload bytes kept address (Some r) marked prepared) (x ∷ []))
-put_memory payload bytes kept new space address r marked size prepared x win f h e s =
-    let ss = scalars_of payload in
-    let w = item_size ss in
-    let at = address + w * marked in
-    let left = r - marked in
-    let inside = put_inside payload bytes kept space address r marked size prepared win h e in
-    let inside' : at + w ≤ length bytes = rw e at inside in
-    let put = lie_put ss bytes address marked x win.lie f inside' in
-    let is : new ≡ stored_at ss bytes at (x ∷ []) = rw e at s in
-    let size' : length new ≡ length bytes = ap length is ∙ length-stored_at ss bytes at (x ∷ []) (omega (arith, inside')) in
-    let lie : LieIn ss new address (marked + 1) = subst (λ b. LieIn ss b address (marked + 1)) (sym is) put.lie in
-    let items : items_in ss new address (marked + 1) ≡ items_in ss bytes address marked ++ x ∷ [] = ap (λ b. items_in ss b address (marked + 1)) is ∙ put.is in
-    let n = length-items_in ss bytes address marked win.lie in
-    let one : w * length (x ∷ []) ≡ w = omega arith in
-    let more : address + w * (marked + 1) ≡ at + w = grind arith in
-    let fewer : r - (marked + 1) ≡ left - 1 = omega (arith, h) in
-    let some : left ≡ 1 + (left - 1) = omega (arith, h) in
-    let sizes : w * left ≡ w + w * (left - 1) = ap (λ j. w * j) some ∙ grind arith in
-    let all : at + w * left ≤ length bytes = (let r' : r ≡ marked + left = omega (arith, h) in let q : w * r ≡ w * marked + w * left = ap (λ j. w * j) r' ∙ grind arith in omega (arith, q, win.inside.1)) in
-    let rest : KeepsRest payload kept (r - marked) → KeepsRest payload kept (r - (marked + 1)) = λ k. rest_less payload kept (r - marked) (r - (marked + 1)) (omega arith) k in
-    let place : put_at new (address + w * (marked + 1)) (last_of (w * (r - (marked + 1))) kept) ≡ stored_at ss (put_at bytes at (last_of (w * left) kept)) (address + w * length (items_in ss bytes address marked)) (x ∷ []) =
-    ap (λ j. put_at new j (last_of (w * (r - (marked + 1))) kept)) more ∙ ap (λ j. put_at new (at + w) (last_of (w * j) kept)) fewer
-    ∙ ap (λ l. put_at l (at + w) (last_of (w * (left - 1)) kept)) is
-    ∙ placed payload bytes kept at left x win.inside.3 (omega (arith, h)) f all
-    ∙ ap (λ j. stored_at ss (put_at bytes at (last_of (w * left) kept)) (address + w * j) (x ∷ [])) (sym n) in
-    let behind : bytes_at new (address + w * (marked + 1)) (w * (r - (marked + 1))) ≡ drop (w * length (x ∷ [])) (bytes_at bytes at (w * left)) =
-    ap (λ j. bytes_at new j (w * (r - (marked + 1)))) more ∙ ap (λ j. bytes_at new (at + w) (w * j)) fewer
-    ∙ ap (λ l. bytes_at l (at + w) (w * (left - 1))) is
-    ∙ behind_one ss bytes at (left - 1) x inside'
-    ∙ ap (λ j. drop w (take j (drop at bytes))) (sym sizes) ∙ ap (λ j. drop j (take (w * left) (drop at bytes))) (sym one) in
-    record {
-      is_window = record { lie = lie; inside = (h, omega (arith, size', win.inside.1), win.inside.2, rest win.inside.3); enough = win.enough };
-      is = cc (items, place, behind);
-    }
-  where
-    rest_less : (payload : Payload) (kept : List ℕ) (left less : ℕ) → less ≤ left → KeepsRest payload kept left → KeepsRest payload kept less
-    rest_less payload kept left less h (inl e) = inl e
-    rest_less payload kept left less h (inr (u, k)) = inr (u, omega (arith, h, k))
-
-pub put_between : (payload : Payload) (bytes kept new : List ℕ) (space address marked size : ℕ) (prepared : Bool) (x : Item) → IsWindow payload bytes kept space address None marked prepared → FitsItem (scalars_of payload) x → marked + 1 < 4294967295 → size ≡ item_size (scalars_of payload)
-    → new ≡ stored_at (scalars_of payload) (take (address + size * marked) bytes ++ replicate (item_size (scalars_of payload)) 0) (address + size * marked) (x ∷ []) → Kept payload new kept space address None (marked + 1) prepared (with_items (window_kept payload bytes kept address None marked prepared) (x ∷ []))
-put_between payload bytes kept new space address marked size prepared x w f h e s =
-    let ss = scalars_of payload in
-    let at : address + size * marked ≡ address + item_size ss * marked = ap (λ k. address + k * marked) e in
-    let p = pushed ss bytes new address marked (address + size * marked) x w.lie f at (omega (arith, at, w.lie.within)) s in
-    let none : drop (item_size ss * (marked + 1)) new ≡ [] = drop_all (item_size ss * (marked + 1)) new (omega (arith, p.all, w.inside.0)) in
-    let items = p.lie.is in
-    record {
-      is_window = record { lie = p.lie.lie; inside = (w.inside.0, omega (arith, p.all, w.inside.0, h), w.inside.2, w.inside.3); enough = w.enough };
-      is = cc (items, none);
-    }
-
--- room for one more, of the window that is kept so
-pub room_memory : (payload : Payload) (bytes kept : List ℕ) (space address r marked : ℕ) (prepared : Bool) (v : Lent) → IsWindow payload bytes kept space address (Some r) marked prepared → window_kept payload bytes kept address (Some r) marked prepared ≡ v → HasRoom v.place (length v.marked) 1 → marked + 1 ≤ r
-room_memory payload bytes kept space address r marked prepared v w e h = rw (← e, length-items_in (scalars_of payload) bytes address marked w.lie) at h
-
-pub room_between : (payload : Payload) (bytes kept : List ℕ) (space address marked : ℕ) (prepared : Bool) (v : Lent) → IsWindow payload bytes kept space address None marked prepared → window_kept payload bytes kept address None marked prepared ≡ v → HasRoom v.place (length v.marked) 1 → marked + 1 < 4294967295
-room_between payload bytes kept space address marked prepared v w e h = rw (← e, length-items_in (scalars_of payload) bytes address marked w.lie) at h
-
--- room for what is marked
-pub room_kept : (payload : Payload) (bytes kept : List ℕ) (address marked : ℕ) (room : Option ℕ) (prepared : Bool) → IsRoom payload bytes kept address room marked prepared → HasRoom (place_kept (scalars_of payload) bytes kept address room marked) marked 0
-room_kept payload bytes kept address marked None prepared i = omega (arith, i.1)
-room_kept payload bytes kept address marked (Some r) prepared i = omega (arith, i.0)
+-- fewer bytes than those that are left are kept too
+pub rest_less : (payload : Payload) (kept : List ℕ) (left less : ℕ) → less ≤ left → KeepsRest payload kept left → KeepsRest payload kept less
+rest_less payload kept left less h (inl e) = inl e
+rest_less payload kept left less h (inr (u, k)) = inr (u, omega (arith, h, k))
 
 -- between host ends no room is stated
 pub none_between : (ss : List Scalar) (bytes kept : List ℕ) (address marked : ℕ) (room : Option ℕ) → place_kept ss bytes kept address room marked ≡ Between → room ≡ None
 none_between ss bytes kept address marked None e = refl
 none_between ss bytes kept address marked (Some r) e = cc
 
--- the same of a window, whichever its room
-pub put_some : (payload : Payload) (bytes kept new : List ℕ) (space address r marked size : ℕ) (room : Option ℕ) (prepared : Bool) (x : Item) (v : Lent) → room ≡ Some r → IsWindow payload bytes kept space address room marked prepared → window_kept payload bytes kept address room marked prepared ≡ v
-    → FitsItem (scalars_of v.payload) x → HasRoom v.place (length v.marked) 1 → size ≡ item_size (scalars_of payload) → new ≡ stored_at (scalars_of payload) bytes (address + size * marked) (x ∷ []) → Kept payload new kept space address room (marked + 1) prepared (with_items v (x ∷ []))
-put_some payload bytes kept new space address r marked size room prepared x v o w e f h n s =
-    let w' = subst (λ (q : Option ℕ). IsWindow payload bytes kept space address q marked prepared) o w in
-    let e' = subst (λ (q : Option ℕ). window_kept payload bytes kept address q marked prepared ≡ v) o e in
-    let f' = subst (λ (u : Lent). FitsItem (scalars_of u.payload) x) (sym e) f in
-    let k = put_memory payload bytes kept new space address r marked size prepared x w' f' (room_memory payload bytes kept space address r marked prepared v w' e' h) n s in
-    subst (λ (q : Option ℕ). Kept payload new kept space address q (marked + 1) prepared (with_items v (x ∷ []))) (sym o)
-    (record { is_window = k.is_window; is = k.is ∙ ap (λ (u : Lent). with_items u (x ∷ [])) e' })
+module _ (payload : Payload) (bytes kept : List ℕ) (space address marked : ℕ) (prepared : Bool) where
+  -- an item by its number is inside the memory
+  pub put_inside : (r at : ℕ) → IsWindow payload bytes kept space address (Some r) marked prepared → marked + 1 ≤ r → at ≡ address + item_size (scalars_of payload) * marked → at + item_size (scalars_of payload) ≤ length bytes
+  put_inside r at w h e = omega (arith, e, item_fits marked r (item_size (scalars_of payload)) (omega (arith, h)), w.inside.1)
 
-pub put_none : (payload : Payload) (bytes kept new : List ℕ) (space address marked size : ℕ) (room : Option ℕ) (prepared : Bool) (x : Item) (v : Lent) → room ≡ None → IsWindow payload bytes kept space address room marked prepared → window_kept payload bytes kept address room marked prepared ≡ v
-    → FitsItem (scalars_of v.payload) x → HasRoom v.place (length v.marked) 1 → size ≡ item_size (scalars_of payload) → new ≡ stored_at (scalars_of payload) (take (address + size * marked) bytes ++ replicate (item_size (scalars_of payload)) 0) (address + size * marked) (x ∷ []) → Kept payload new kept space address room (marked + 1) prepared (with_items v (x ∷ []))
-put_none payload bytes kept new space address marked size room prepared x v o w e f h n s =
-    let w' = subst (λ (q : Option ℕ). IsWindow payload bytes kept space address q marked prepared) o w in
-    let e' = subst (λ (q : Option ℕ). window_kept payload bytes kept address q marked prepared ≡ v) o e in
-    let f' = subst (λ (u : Lent). FitsItem (scalars_of u.payload) x) (sym e) f in
-    let k = put_between payload bytes kept new space address marked size prepared x w' f' (room_between payload bytes kept space address marked prepared v w' e' h) n s in
-    subst (λ (q : Option ℕ). Kept payload new kept space address q (marked + 1) prepared (with_items v (x ∷ []))) (sym o)
-    (record { is_window = k.is_window; is = k.is ∙ ap (λ (u : Lent). with_items u (x ∷ [])) e' })
+  pub put_memory : (r at : ℕ) (new : List ℕ) (x : Item) → IsWindow payload bytes kept space address (Some r) marked prepared → FitsItem (scalars_of payload) x → marked + 1 ≤ r → at ≡ address + item_size (scalars_of payload) * marked
+      → new ≡ stored_at (scalars_of payload) bytes at (x ∷ []) → Kept payload new kept space address (Some r) (marked + 1) prepared (with_items (window_kept payload bytes kept address (Some r) marked prepared) (x ∷ []))
+  put_memory r given new x win f h e s =
+      let ss = scalars_of payload in
+      let w = item_size ss in
+      let at = address + w * marked in
+      let left = r - marked in
+      let inside : at + w ≤ length bytes = put_inside r at win h refl in
+      let put = lie_put ss bytes address marked x win.lie f inside in
+      let is : new ≡ stored_at ss bytes at (x ∷ []) = s ∙ ap (λ j. stored_at ss bytes j (x ∷ [])) e in
+      let size : length new ≡ length bytes = ap length is ∙ length-stored_at ss bytes at (x ∷ []) (omega (arith, inside)) in
+      let lie : LieIn ss new address (marked + 1) = subst (λ b. LieIn ss b address (marked + 1)) (sym is) put.lie in
+      let items : items_in ss new address (marked + 1) ≡ items_in ss bytes address marked ++ x ∷ [] = ap (λ b. items_in ss b address (marked + 1)) is ∙ put.is in
+      let n = length-items_in ss bytes address marked win.lie in
+      let one : w * length (x ∷ []) ≡ w = omega arith in
+      let more : address + w * (marked + 1) ≡ at + w = grind arith in
+      let fewer : r - (marked + 1) ≡ left - 1 = omega (arith, h) in
+      let some : left ≡ 1 + (left - 1) = omega (arith, h) in
+      let sizes : w * left ≡ w + w * (left - 1) = ap (λ j. w * j) some ∙ grind arith in
+      let all : at + w * left ≤ length bytes = (let r' : r ≡ marked + left = omega (arith, h) in let q : w * r ≡ w * marked + w * left = ap (λ j. w * j) r' ∙ grind arith in omega (arith, q, win.inside.1)) in
+      let place : put_at new (address + w * (marked + 1)) (last_of (w * (r - (marked + 1))) kept) ≡ stored_at ss (put_at bytes at (last_of (w * left) kept)) (address + w * length (items_in ss bytes address marked)) (x ∷ []) =
+      ap (λ j. put_at new j (last_of (w * (r - (marked + 1))) kept)) more ∙ ap (λ j. put_at new (at + w) (last_of (w * j) kept)) fewer
+      ∙ ap (λ l. put_at l (at + w) (last_of (w * (left - 1)) kept)) is
+      ∙ placed payload bytes kept at left x win.inside.3 (omega (arith, h)) f all
+      ∙ ap (λ j. stored_at ss (put_at bytes at (last_of (w * left) kept)) (address + w * j) (x ∷ [])) (sym n) in
+      let behind : bytes_at new (address + w * (marked + 1)) (w * (r - (marked + 1))) ≡ drop (w * length (x ∷ [])) (bytes_at bytes at (w * left)) =
+      ap (λ j. bytes_at new j (w * (r - (marked + 1)))) more ∙ ap (λ j. bytes_at new (at + w) (w * j)) fewer
+      ∙ ap (λ l. bytes_at l (at + w) (w * (left - 1))) is
+      ∙ behind_one ss bytes at (left - 1) x inside
+      ∙ ap (λ j. drop w (take j (drop at bytes))) (sym sizes) ∙ ap (λ j. drop j (take (w * left) (drop at bytes))) (sym one) in
+      record {
+        is_window = record { lie = lie; inside = (h, omega (arith, size, win.inside.1), win.inside.2, rest_less payload kept left (r - (marked + 1)) (omega arith) win.inside.3); enough = win.enough };
+        is = cc (items, place, behind);
+      }
 
--- where the item goes, and that the marked ones can be counted
-pub some_inside : (payload : Payload) (bytes kept : List ℕ) (space address r marked size : ℕ) (room : Option ℕ) (prepared : Bool) (v : Lent) → room ≡ Some r → IsWindow payload bytes kept space address room marked prepared → window_kept payload bytes kept address room marked prepared ≡ v → HasRoom v.place (length v.marked) 1 → size ≡ item_size (scalars_of payload)
-    → (marked + 1 < 4294967296) × (address + size * marked + item_size (scalars_of payload) ≤ length bytes)
-some_inside payload bytes kept space address r marked size room prepared v o w e h n =
-    let w' = subst (λ (q : Option ℕ). IsWindow payload bytes kept space address q marked prepared) o w in
-    let e' = subst (λ (q : Option ℕ). window_kept payload bytes kept address q marked prepared ≡ v) o e in
-    let r' = room_memory payload bytes kept space address r marked prepared v w' e' h in
-    (omega (arith, r', w'.inside.2), put_inside payload bytes kept space address r marked size prepared w' r' n)
+  pub put_between : (at : ℕ) (new : List ℕ) (x : Item) → IsWindow payload bytes kept space address None marked prepared → FitsItem (scalars_of payload) x → marked + 1 < 4294967295 → at ≡ address + item_size (scalars_of payload) * marked
+      → new ≡ stored_at (scalars_of payload) (take at bytes ++ replicate (item_size (scalars_of payload)) 0) at (x ∷ []) → Kept payload new kept space address None (marked + 1) prepared (with_items (window_kept payload bytes kept address None marked prepared) (x ∷ []))
+  put_between at new x w f h e s =
+      let ss = scalars_of payload in
+      let p = pushed ss bytes new address marked at x w.lie f e (omega (arith, e, w.lie.within)) s in
+      let none : drop (item_size ss * (marked + 1)) new ≡ [] = drop_all (item_size ss * (marked + 1)) new (omega (arith, p.all, w.inside.0)) in
+      let items = p.lie.is in
+      record {
+        is_window = record { lie = p.lie.lie; inside = (w.inside.0, omega (arith, p.all, w.inside.0, h), w.inside.2, w.inside.3); enough = w.enough };
+        is = cc (items, none);
+      }
 
--- where items go, in a window that is kept so
-pub place_sound : (payload : Payload) (bytes kept : List ℕ) (space address marked : ℕ) (room : Option ℕ) (prepared : Bool) (v : Lent) → IsWindow payload bytes kept space address room marked prepared → window_kept payload bytes kept address room marked prepared ≡ v → IsSoundPlace v.payload v.place v.prepared
-place_sound payload bytes kept space address marked room prepared v w e =
-    subst (λ (u : Lent). IsSoundPlace u.payload u.place u.prepared) e (sound room w.inside)
-  where
-    sound : (room : Option ℕ) → IsRoom payload bytes kept address room marked prepared → IsSoundPlace payload (place_kept (scalars_of payload) bytes kept address room marked) prepared
-    sound None i = i.2
-    sound (Some r) i =
-        let w = item_size (scalars_of payload) in
-        let n = w * (r - marked) in
-        let parts : w * marked + n ≡ w * r = cut w marked r i.0 in
-        let most : length (last_of n kept) ≤ n = omega (arith, length-drop (length kept - n) kept) in
-        let size = length-put_at bytes (last_of n kept) (address + w * marked) (omega (arith, most, parts, i.1)) in
-        (omega (arith, size, i.1), i.2)
+  -- room for one more, of the window that is kept so
+  room_memory : (r : ℕ) (v : Lent) → IsWindow payload bytes kept space address (Some r) marked prepared → window_kept payload bytes kept address (Some r) marked prepared ≡ v → HasRoom v.place (length v.marked) 1 → marked + 1 ≤ r
+  room_memory r v w e h = rw (← e, length-items_in (scalars_of payload) bytes address marked w.lie) at h
+
+  room_between : (v : Lent) → IsWindow payload bytes kept space address None marked prepared → window_kept payload bytes kept address None marked prepared ≡ v → HasRoom v.place (length v.marked) 1 → marked + 1 < 4294967295
+  room_between v w e h = rw (← e, length-items_in (scalars_of payload) bytes address marked w.lie) at h
+
+  -- room for what is marked
+  pub room_kept : (room : Option ℕ) → IsRoom payload bytes kept address room marked prepared → HasRoom (place_kept (scalars_of payload) bytes kept address room marked) marked 0
+  room_kept None i = omega (arith, i.1)
+  room_kept (Some r) i = omega (arith, i.0)
+
+  -- the same of a window, whichever its room
+  pub put_some : (r at : ℕ) (room : Option ℕ) (new : List ℕ) (x : Item) (v : Lent) → room ≡ Some r → IsWindow payload bytes kept space address room marked prepared → window_kept payload bytes kept address room marked prepared ≡ v → FitsItem (scalars_of v.payload) x → HasRoom v.place (length v.marked) 1 → at ≡ address + item_size (scalars_of payload) * marked
+      → new ≡ stored_at (scalars_of payload) bytes at (x ∷ []) → Kept payload new kept space address room (marked + 1) prepared (with_items v (x ∷ []))
+  put_some r at room new x v o w e f h n s =
+      let w' = subst (λ (q : Option ℕ). IsWindow payload bytes kept space address q marked prepared) o w in
+      let e' = subst (λ (q : Option ℕ). window_kept payload bytes kept address q marked prepared ≡ v) o e in
+      let f' = subst (λ (u : Lent). FitsItem (scalars_of u.payload) x) (sym e) f in
+      let k = put_memory r at new x w' f' (room_memory r v w' e' h) n s in
+      subst (λ (q : Option ℕ). Kept payload new kept space address q (marked + 1) prepared (with_items v (x ∷ []))) (sym o)
+      (record { is_window = k.is_window; is = k.is ∙ ap (λ (u : Lent). with_items u (x ∷ [])) e' })
+
+  pub put_none : (at : ℕ) (room : Option ℕ) (new : List ℕ) (x : Item) (v : Lent) → room ≡ None → IsWindow payload bytes kept space address room marked prepared → window_kept payload bytes kept address room marked prepared ≡ v → FitsItem (scalars_of v.payload) x → HasRoom v.place (length v.marked) 1 → at ≡ address + item_size (scalars_of payload) * marked
+      → new ≡ stored_at (scalars_of payload) (take at bytes ++ replicate (item_size (scalars_of payload)) 0) at (x ∷ []) → Kept payload new kept space address room (marked + 1) prepared (with_items v (x ∷ []))
+  put_none at room new x v o w e f h n s =
+      let w' = subst (λ (q : Option ℕ). IsWindow payload bytes kept space address q marked prepared) o w in
+      let e' = subst (λ (q : Option ℕ). window_kept payload bytes kept address q marked prepared ≡ v) o e in
+      let f' = subst (λ (u : Lent). FitsItem (scalars_of u.payload) x) (sym e) f in
+      let k = put_between at new x w' f' (room_between v w' e' h) n s in
+      subst (λ (q : Option ℕ). Kept payload new kept space address q (marked + 1) prepared (with_items v (x ∷ []))) (sym o)
+      (record { is_window = k.is_window; is = k.is ∙ ap (λ (u : Lent). with_items u (x ∷ [])) e' })
+
+  -- where the item goes, and that the marked ones can be counted
+  pub some_inside : (r at : ℕ) (room : Option ℕ) (v : Lent) → room ≡ Some r → IsWindow payload bytes kept space address room marked prepared → window_kept payload bytes kept address room marked prepared ≡ v → HasRoom v.place (length v.marked) 1 → at ≡ address + item_size (scalars_of payload) * marked
+      → (marked + 1 < 4294967296) × (at + item_size (scalars_of payload) ≤ length bytes)
+  some_inside r at room v o w e h n =
+      let w' = subst (λ (q : Option ℕ). IsWindow payload bytes kept space address q marked prepared) o w in
+      let e' = subst (λ (q : Option ℕ). window_kept payload bytes kept address q marked prepared ≡ v) o e in
+      let r' = room_memory r v w' e' h in
+      (omega (arith, r', w'.inside.2), put_inside r at w' r' n)

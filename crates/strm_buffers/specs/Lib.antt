@@ -8,3 +8,4 @@ pub mod Said
 pub mod HostRules
 pub mod Tells
 pub mod Polling
+pub mod Untyped

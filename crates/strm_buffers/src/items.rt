@@ -2,7 +2,7 @@
 //!
 //! Source: ours. Layout: Canonical ABI, "Loading" and "Storing".
 
-ghost use Rattle.std.specs.Prelude.{◌≡◌, ℕ, ◌+◌, ◌*◌, ◌<◌, ◌≤◌, [], ◌∷◌, ◌++◌, length, take, drop, replicate, slice_get, Some, IfOk, OnOk, OnErr};
+ghost use Rattle.std.specs.Prelude.{◌≡◌, ℕ, ◌+◌, ◌*◌, ◌^◌, ◌<◌, ◌≤◌, [], ◌∷◌, ◌++◌, length, take, drop, replicate, slice_get, Some, IfOk, OnOk, OnErr};
 ghost use Rattle.strm_codes.specs.Layout.{scalars_of, item_size};
 ghost use Rattle.strm_codes.specs.Items.{FitsItem};
 ghost use Rattle.strm_memory.specs.Items.{stored_at, AreItems};
@@ -125,6 +125,17 @@ impl Items {
         Ok(())
     }
 
+    /// A copy. After `OutOfMemory` nothing was kept.
+    pub fn copy(&self) -> Result<Items, OutOfMemory>
+        ensures { IfOk result (λ items. items ≡ self.now) }
+    {
+        let mut bytes = Vec::new(*self.bytes.allocator());
+        match bytes.extend_from_slice(self.bytes.as_slice().split_at(self.start).1) {
+            Ok(()) => Ok(Items::of_bytes(self.payload, bytes, self.len)),
+            Err(_) => Err(OutOfMemory),
+        }
+    }
+
     /// Takes so many items off the front.
     pub fn skip(&mut self, count: usize)
         requires { count ≤ length self.old.items }
@@ -134,6 +145,14 @@ impl Items {
         self.start += self.payload.size() as usize * count;
         self.len -= count;
     }
+}
+
+// Where the item of this number lies, from 0, behind those before it.
+pub(crate) fn item_place(address: usize, payload: Payload, index: u32) -> usize
+    requires { address + item_size (scalars_of payload) * index < 2 ^ 64 }
+    ensures { result ≡ address + item_size (scalars_of payload) * index }
+{
+    address + payload.size() as usize * index as usize
 }
 
 // Cuts bytes off at a place, and puts an item there. After `OutOfMemory` nothing has changed.

@@ -1,5 +1,4 @@
-//! What host ends do in a poll: mark the items that there is room for, keep those behind them, take
-//! so many.
+//! What host ends do in a poll: mark the items that there is room for, and take so many.
 //!
 //! Source: ours.
 
@@ -74,23 +73,6 @@ fn mark_first(window: &mut Window, items: &Items, count: usize) -> Result<(), Ou
         }
     }
     Ok(())
-}
-
-/// A copy of the items behind so many. After `OutOfMemory` nothing was kept.
-pub fn items_behind(alloc: Global, items: &Items, count: usize) -> Result<Items, OutOfMemory>
-    requires { count ≤ length items.now.items }
-    ensures payload { IfOk result (λ rest. rest.payload ≡ items.now.payload) }
-    ensures items { IfOk result (λ rest. rest.items ≡ drop count items.now.items) }
-{
-    let mut rest = Items::new(alloc, items.payload());
-    for index in count..items.len() {
-        let item = items.get(index);
-        match rest.push(&item) {
-            Ok(()) => {}
-            Err(error) => return Err(error),
-        }
-    }
-    Ok(rest)
 }
 
 /// Takes as many items as are wanted or left; it stops at a bad one, and does not take that.

@@ -11,7 +11,7 @@ ghost use Rattle.strm_codes.specs.declared.payloads.Payload.TheVariants.{One};
 ghost use Rattle.strm_codes.specs.declared.scalars.Scalar.TheVariants.{U8};
 ghost use Rattle.strm_buffers.specs.Windows.{Between, room_of, HasRoom, CanCount, IsBehind, lent_memory, lent_between, with_items, with_marked, with_direct, memory_of, standing, IsSoundPlace};
 
-use crate::items::{Items, append_item, write_item};
+use crate::items::{Items, append_item, item_place, write_item};
 use crate::kept_bytes::{append_zeros, are_bytes, end_of, keep, last_of, put_back};
 use std::alloc::Global;
 use std::marker::Model;
@@ -141,7 +141,7 @@ impl Window {
         ensures err { OnErr result (self.new ≡ self.old) }
         ensures out_of_memory { OnErr result (self.old.place ≡ Between) }
     {
-        let at = self.address + self.payload.size() as usize * self.marked as usize;
+        let at = item_place(self.address, self.payload, self.marked);
         match self.room {
             Some(_) => {
                 write_item(&mut self.bytes, at, item, self.payload);
@@ -231,15 +231,11 @@ impl Window {
             is_prepared: _,
             kept,
         } = self;
-        let size = payload.size() as usize;
         match room {
             Some(room) => {
-                let left = size * (room - marked) as usize;
-                put_back(
-                    &mut bytes,
-                    address + size * marked as usize,
-                    last_of(&kept, left),
-                );
+                let left = payload.size() as usize * (room - marked) as usize;
+                let from = item_place(address, payload, marked);
+                put_back(&mut bytes, from, last_of(&kept, left));
                 (GuestMemory::of_bytes(bytes), marked)
             }
             None => unreachable!(),

@@ -8,3 +8,5 @@ mod ends;
 mod host_rules;
 mod scripted_writer;
 mod silent;
+mod untyped;
+mod windows;

@@ -5,7 +5,7 @@ ghost use Rattle.std.specs.Prelude.{◌≡◌, All};
 use std::alloc::Global;
 use strm_buffers::answers::{Answer, HostTurn, Turn};
 use strm_buffers::items::Items;
-use strm_buffers::polling::{items_behind, mark_in_room};
+use strm_buffers::polling::mark_in_room;
 use strm_buffers::said::WriterSaid;
 use strm_buffers::windows::Window;
 use strm_buffers::writers::HostWriter;
@@ -132,7 +132,7 @@ impl HostWriter for ScriptedWriter {
 
     fn record_at(&self, index: usize) -> Result<WriterSaid, OutOfMemory> {
         let said = &self.said[index];
-        match items_behind(self.alloc, &said.items, 0) {
+        match said.items.copy() {
             Ok(items) => Ok(WriterSaid {
                 room: said.room,
                 finish: said.finish,
@@ -207,10 +207,11 @@ impl ScriptedWriter {
             Ok(count) => count,
             Err(error) => return Err(error),
         };
-        let held = match items_behind(self.alloc, next, count) {
+        let mut held = match next.copy() {
             Ok(held) => held,
             Err(error) => return Err(error),
         };
+        held.skip(count);
         let WriterTurn { items, answer } = self.turns.remove(0);
         self.held = held;
         self.said.push_reserved(WriterSaid {

@@ -1,4 +1,4 @@
-use Rattle.strm_buffers.proofs.WindowLemmas.{place_sound}
+use Rattle.strm_buffers.proofs.SoundLemmas.{place_sound}
 use Rattle.strm_buffers.proofs.windows.Window.sound.Goals as goal
 
 pub returns : goal.returns
