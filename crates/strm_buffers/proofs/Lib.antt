@@ -6,3 +6,5 @@ pub mod MarkLemmas
 pub mod LendLemmas
 pub mod OfferLemmas
 pub mod EndLemmas
+pub mod PollingLemmas
+pub mod SoundLemmas

@@ -7,4 +7,5 @@ pub mod Offers
 pub mod Said
 pub mod HostRules
 pub mod Tells
+pub mod Polling
 pub mod Untyped

@@ -72,6 +72,12 @@ abbrev pub memory_of : Place → List ℕ
 memory_of (Memory memory address room) = memory
 memory_of Between = []
 
+-- the room lies in the memory; between host ends nothing is to be prepared
+abbrev pub IsSoundPlace : Payload → Place → Bool → Type 0
+IsSoundPlace payload (Memory memory address room) prepared =
+    (address + item_size (scalars_of payload) * room ≤ length memory) × (room < 4294967296)
+IsSoundPlace payload Between prepared = prepared ≡ true
+
 -- the memory as it stands, behind so many marked items with these bytes
 abbrev pub standing : List Scalar → Place → ℕ → List ℕ → List ℕ
 standing ss (Memory memory address room) marked unmarked =

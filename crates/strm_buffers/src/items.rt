@@ -5,7 +5,7 @@
 ghost use Rattle.std.specs.Prelude.{◌≡◌, ℕ, ◌+◌, ◌*◌, ◌^◌, ◌<◌, ◌≤◌, [], ◌∷◌, ◌++◌, length, take, drop, replicate, slice_get, Some, IfOk, OnOk, OnErr};
 ghost use Rattle.strm_codes.specs.Layout.{scalars_of, item_size};
 ghost use Rattle.strm_codes.specs.Items.{FitsItem};
-ghost use Rattle.strm_memory.specs.Items.{stored_at};
+ghost use Rattle.strm_memory.specs.Items.{stored_at, AreItems};
 ghost use Rattle.strm_buffers.specs.Listing.{kept_items, items_in, AreKept};
 
 use crate::kept_bytes::append_zeros;
@@ -78,6 +78,13 @@ impl Items {
         ensures { result ≡ self.now.payload }
     {
         self.payload
+    }
+
+    /// Each fits the payload: what a caller may have to know of them. It does nothing.
+    pub fn sound(&self)
+        ensures { AreItems (scalars_of self.now.payload) self.now.items }
+    {
+        let _ = &self.bytes;
     }
 
     /// How many items there are.

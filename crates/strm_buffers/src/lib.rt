@@ -3,11 +3,13 @@
 #![tactic(auto)]
 
 pub mod answers;
+pub mod boxes;
 pub mod buffers;
 pub mod hosts;
 pub mod items;
 mod kept_bytes;
 pub mod offers;
+pub mod polling;
 pub mod readers;
 pub mod said;
 pub mod slice_buffer;

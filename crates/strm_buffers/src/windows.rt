@@ -9,7 +9,7 @@ ghost use Rattle.strm_codes.specs.Layout.{scalars_of, item_size};
 ghost use Rattle.strm_codes.specs.Items.{FitsItem};
 ghost use Rattle.strm_codes.specs.declared.payloads.Payload.TheVariants.{One};
 ghost use Rattle.strm_codes.specs.declared.scalars.Scalar.TheVariants.{U8};
-ghost use Rattle.strm_buffers.specs.Windows.{Between, room_of, HasRoom, CanCount, IsBehind, lent_memory, lent_between, with_items, with_marked, with_direct, memory_of, standing};
+ghost use Rattle.strm_buffers.specs.Windows.{Between, room_of, HasRoom, CanCount, IsBehind, lent_memory, lent_between, with_items, with_marked, with_direct, memory_of, standing, IsSoundPlace};
 
 use crate::items::{Items, append_item, item_place, write_item};
 use crate::kept_bytes::{append_zeros, are_bytes, end_of, keep, last_of, put_back};
@@ -100,6 +100,14 @@ impl Window {
             }
             Err(_) => Err(OutOfMemory),
         }
+    }
+
+    /// The room lies in the memory, and between host ends nothing is to be prepared: what a host end
+    /// may have to know of a window that it was lent. It does nothing.
+    pub fn sound(&self)
+        ensures { IsSoundPlace self.now.payload self.now.place self.now.prepared }
+    {
+        let _ = &self.room;
     }
 
     /// How many items there is room for in all; none between host ends.

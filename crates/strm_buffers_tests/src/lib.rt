@@ -3,6 +3,10 @@
 #![tactic(auto)]
 
 mod buffers;
+mod credit_reader;
+mod ends;
+mod host_rules;
+mod scripted_writer;
 mod silent;
 mod untyped;
 mod windows;
