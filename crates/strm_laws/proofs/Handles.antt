@@ -8,7 +8,7 @@ use Rattle.strm_machine.specs.declared.steps.Step.{Step}
 use Rattle.strm_handles.specs.Lookups.{end_rep_of}
 use Rattle.strm_handles.proofs.HandleLemmas.{IsTable-no_handles}
 use Rattle.strm_machine.specs.declared.streams.Owner.TheVariants.{Held}
-use Rattle.strm_machine.proofs.AgreeLemmas.{Agree-single, Agree-gone}
+use Rattle.strm_machine.proofs.AgreeLemmas.{Agree-single, Agree-unheld}
 use Rattle.strm_machine.proofs.HeldLemmas.{names_in, StateIsHeld, reaction-held}
 use Rattle.strm_machine.proofs.SoundStepLemmas.{reaction-sound}
 use Rattle.strm_machine.proofs.TableLemmas.{owner_in}
@@ -52,5 +52,5 @@ handles_are_single tag limits run =
     let h = after_run tag limits run in
     record {
       single = Agree-single (names_in end.guests) (owner_in end.streams) h.agree;
-      gone = Agree-gone (names_in end.guests) (owner_in end.streams) h.agree;
+      unheld = Agree-unheld (names_in end.guests) (owner_in end.streams) h.agree;
     }

@@ -6,13 +6,14 @@ use Rattle.strm_machine.specs.Words.{ReturnCode, TransmitIndex, State, empty, st
 use Rattle.strm_machine.specs.declared.streams.Side.TheVariants.{Writing}
 use Rattle.strm_machine.specs.declared.steps.Step.{Step}
 use Rattle.strm_machine.specs.declared.replies.Reply.{Reply}
-use Rattle.strm_codes.specs.declared.codes.ReturnCode.TheVariants.{Blocked, Completed, Dropped}
+use Rattle.strm_codes.specs.declared.codes.ReturnCode.TheVariants.{Blocked, Completed, Dropped, Cancelled}
+use Rattle.strm_codes.specs.declared.refusals.Refusal.TheVariants as refusals
 use Rattle.strm_codes.specs.declared.codes.TransmitIndex.TheVariants as index
 use Rattle.strm_codes.specs.declared.payloads.Payload.TheVariants.{One}
 use Rattle.strm_codes.specs.declared.scalars.Scalar.TheVariants.{U8, U16}
 use Rattle.strm_memory.specs.Items.{decode_from, encode_from, items, stored}
 use Rattle.strm_machine.specs.Turns.{turn}
-use Rattle.strm_machine.specs.Endings.{delivered, dropped}
+use Rattle.strm_machine.specs.Endings.{delivered, dropped, cancelled}
 use Rattle.strm_machine.specs.Refusals.{refusal}
 use Rattle.strm_machine.specs.Making.{with_stream}
 use Rattle.strm_machine.specs.Reactions.{performs, reaction}
@@ -224,3 +225,144 @@ account-crossed_back : account 1 crossed ≡ record {
 }
 unfolding reaction refusal performs with_stream turn delivered dropped decode_from encode_from items stored decoded handed all_handed
 account-crossed_back = refl
+
+-- a read end that goes to a second and to a third reader, which is the writer's guest; each reads on
+-- where the one before it stopped
+abbrev passed_on : List Step
+passed_on =
+    steps.Guest 8
+    ∷ steps.Guest 4
+    ∷ steps.Guest 4
+    ∷ steps.Between 0 1 bytes
+    ∷ steps.Poke 0 0 (1 ∷ 2 ∷ 3 ∷ 4 ∷ [])
+    ∷ steps.Write 0 bytes 1 0 4
+    ∷ steps.Read 1 bytes 1 0 1
+    ∷ steps.Move 1 bytes 1 2
+    ∷ steps.Read 1 bytes 1 1 1
+    ∷ steps.Read 2 bytes 1 0 2
+    ∷ steps.Move 2 bytes 1 0
+    ∷ steps.Read 0 bytes 2 4 1
+    ∷ steps.Event 0 1
+    ∷ []
+
+replies_to-passed_on : replies_to passed_on ≡
+    replies.Number 0
+    ∷ replies.Number 1
+    ∷ replies.Number 2
+    ∷ replies.Pair (record { read = 1; write = 1; stream = 0 })
+    ∷ replies.Done
+    ∷ replies.Code Blocked
+    ∷ replies.Code (Completed 1)
+    ∷ replies.Number 1
+    ∷ replies.Refused refusals.UnknownHandle
+    ∷ replies.Code (Completed 2)
+    ∷ replies.Number 2
+    ∷ replies.Code (Completed 1)
+    ∷ replies.Event (Some (Completed 4))
+    ∷ []
+unfolding reaction refusal performs with_stream turn delivered dropped decode_from encode_from items stored
+replies_to-passed_on = refl
+
+account-passed_on : account 0 passed_on ≡ record {
+  written = call 0 0 4 (Some (Completed 4)) ∷ [];
+  read = call 1 0 1 (Some (Completed 1)) ∷ call 2 0 2 (Some (Completed 2)) ∷ call 0 4 1 (Some (Completed 1)) ∷ [];
+  count = 4;
+  taken = item 1 ∷ item 2 ∷ item 3 ∷ item 4 ∷ [];
+  given = item 1 ∷ item 2 ∷ item 3 ∷ item 4 ∷ [];
+}
+unfolding reaction refusal performs with_stream turn delivered dropped decode_from encode_from items stored decoded handed all_handed
+account-passed_on = refl
+
+-- a read end that is lifted while a write is partly read, that is refused as one of another type and as
+-- one that isn't loose, that reads on where it is lowered, and that is closed
+abbrev lifted : List Step
+lifted =
+    steps.Guest 16
+    ∷ steps.Guest 16
+    ∷ steps.Between 0 1 bytes
+    ∷ steps.Poke 0 0 (10 ∷ 11 ∷ 12 ∷ [])
+    ∷ steps.Write 0 bytes 1 0 3
+    ∷ steps.Read 1 bytes 1 0 1
+    ∷ steps.Lower 0 1 bytes
+    ∷ steps.Lift 1 bytes 1
+    ∷ steps.Lower 0 1 words
+    ∷ steps.Lower 0 1 bytes
+    ∷ steps.Read 1 bytes 1 4 2
+    ∷ steps.Event 0 1
+    ∷ steps.Lift 1 bytes 1
+    ∷ steps.Close 0
+    ∷ steps.Lower 0 1 bytes
+    ∷ steps.Event 0 1
+    ∷ steps.DropWrite 0 bytes 1
+    ∷ steps.Dump 1 0 6
+    ∷ []
+
+replies_to-lifted : replies_to lifted ≡
+    replies.Number 0
+    ∷ replies.Number 1
+    ∷ replies.Pair (record { read = 1; write = 1; stream = 0 })
+    ∷ replies.Done
+    ∷ replies.Code Blocked
+    ∷ replies.Code (Completed 1)
+    ∷ replies.Refused refusals.UnknownReader
+    ∷ replies.Number 0
+    ∷ replies.Refused refusals.WrongType
+    ∷ replies.Number 1
+    ∷ replies.Code (Completed 2)
+    ∷ replies.Event (Some (Completed 3))
+    ∷ replies.Number 0
+    ∷ replies.Done
+    ∷ replies.Refused refusals.UnknownReader
+    ∷ replies.Event (Some (Dropped 0))
+    ∷ replies.Done
+    ∷ replies.Bytes (10 ∷ 0 ∷ 0 ∷ 0 ∷ 11 ∷ 12 ∷ [])
+    ∷ []
+unfolding reaction refusal performs with_stream turn delivered dropped decode_from encode_from items stored
+replies_to-lifted = refl
+
+account-lifted : account 0 lifted ≡ record {
+  written = call 0 0 3 (Some (Completed 3)) ∷ [];
+  read = call 1 0 1 (Some (Completed 1)) ∷ call 1 4 2 (Some (Completed 2)) ∷ [];
+  count = 3;
+  taken = item 10 ∷ item 11 ∷ item 12 ∷ [];
+  given = item 10 ∷ item 11 ∷ item 12 ∷ [];
+}
+unfolding reaction refusal performs with_stream turn delivered dropped decode_from encode_from items stored decoded handed all_handed
+account-lifted = refl
+
+-- an end that goes to its own guest, which gets the number that was just freed and none freed before; and
+-- ends that stay: the write end, one that has a read, and one that was told that its writer is gone
+abbrev staying : List Step
+staying =
+    steps.Guest 4
+    ∷ steps.New 0 bytes
+    ∷ steps.New 0 bytes
+    ∷ steps.DropRead 0 bytes 3
+    ∷ steps.Move 0 bytes 1 0
+    ∷ steps.Move 0 bytes 2 0
+    ∷ steps.Move 0 bytes 1 1
+    ∷ steps.Read 0 bytes 1 0 1
+    ∷ steps.Move 0 bytes 1 0
+    ∷ steps.CancelRead 0 bytes 1
+    ∷ steps.DropWrite 0 bytes 2
+    ∷ steps.Event 0 1
+    ∷ steps.Lift 0 bytes 1
+    ∷ []
+
+replies_to-staying : replies_to staying ≡
+    replies.Number 0
+    ∷ replies.Pair (record { read = 1; write = 2; stream = 0 })
+    ∷ replies.Pair (record { read = 3; write = 4; stream = 1 })
+    ∷ replies.Done
+    ∷ replies.Number 1
+    ∷ replies.Refused refusals.WrongEnd
+    ∷ replies.Refused refusals.UnknownGuest
+    ∷ replies.Code Blocked
+    ∷ replies.Refused refusals.Busy
+    ∷ replies.Code (Cancelled 0)
+    ∷ replies.Done
+    ∷ replies.Event (Some (Dropped 0))
+    ∷ replies.Refused refusals.LiftDropped
+    ∷ []
+unfolding reaction refusal performs with_stream turn delivered dropped decode_from encode_from items stored cancelled
+replies_to-staying = refl

@@ -4,10 +4,10 @@ use Rattle.strm_codes.specs.Counts.{count_limit}
 use Rattle.strm_codes.specs.Layout.{scalars_of, item_size}
 use Rattle.strm_codes.specs.declared.codes.TransmitKind.{TransmitKind}
 use Rattle.strm_codes.specs.declared.payloads.Payload.{Payload}
-use Rattle.strm_machine.specs.State.{State, stream_at}
+use Rattle.strm_machine.specs.State.{State, stream_at, is_held}
 use Rattle.strm_machine.specs.Sides.{end_of}
 use Rattle.strm_machine.specs.Tests.{end_named}
-use Rattle.strm_machine.specs.declared.streams.Owner.TheVariants.{Held, Gone}
+use Rattle.strm_machine.specs.declared.streams.Owner.TheVariants.{Held}
 use Rattle.strm_machine.specs.declared.streams.Side.{Side}
 use Rattle.strm_machine.specs.declared.streams.Side.TheVariants.{Writing, Reading}
 use Rattle.strm_machine.specs.declared.streams.Operation.{Operation}
@@ -102,13 +102,13 @@ pub record HandlesHold (state : State) : Type 0 where
       (end_of side (stream_at state s)).owner ≡ Held g handle →
       is_end s side (end_named state g handle) ≡ true
 
--- two handles that name one end are the same handle of the same guest, and an end that is gone is
--- named by none
+-- two handles that name one end are the same handle of the same guest, and an end that no guest has,
+-- one that is loose or gone, is named by none
 pub record HandlesAreSingle (state : State) : Type 0 where
   pub single : (s : ℕ) (side : Side) (g handle k other : ℕ) →
       is_end s side (end_named state g handle) ≡ true →
       is_end s side (end_named state k other) ≡ true →
       (g ≡ k) × (handle ≡ other)
-  pub gone : (s : ℕ) (side : Side) (g handle : ℕ) →
-      (end_of side (stream_at state s)).owner ≡ Gone →
+  pub unheld : (s : ℕ) (side : Side) (g handle : ℕ) →
+      is_held (end_of side (stream_at state s)).owner ≡ false →
       is_end s side (end_named state g handle) ≡ false

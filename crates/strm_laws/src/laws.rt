@@ -67,8 +67,8 @@ pub fn states_are_sound()
 {}
 
 /// An end that a handle names is held under that handle, and an end that is held is named by its
-/// handle, after whichever steps. So an end has one handle at most, and none once it is gone: no
-/// handle names a stream whose both ends are gone.
+/// handle, after whichever steps. So an end has one handle at most, and none while it is loose or once it
+/// is gone: no handle names a stream whose both ends are gone.
 pub fn handles_hold_their_ends()
     ensures holds { (tag : ℕ) (limits : Limits) (run : List Step) →
         HandlesHold (last (empty tag limits) run) }

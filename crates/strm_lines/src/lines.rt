@@ -4,7 +4,7 @@
 
 ghost use Rattle.std.specs.Prelude.{◌≡◌, ◌<◌, ◌++◌, is_some, vec_len, vec_capacity};
 ghost use Rattle.std.specs.Option.{option_map, option_to_list};
-ghost use Rattle.strm_lines.specs.Reading.{place_of, operands_of, named_end_of, guest_of, new_of, pair_of, write_of, read_of, drop_write_of, drop_read_of, cancel_write_of, cancel_read_of, event_of, poke_of, dump_of, seldom, read_by, step_of};
+ghost use Rattle.strm_lines.specs.Reading.{place_of, operands_of, named_end_of, guest_of, new_of, pair_of, write_of, read_of, drop_write_of, drop_read_of, cancel_write_of, cancel_read_of, move_of, lift_of, lower_of, close_of, event_of, poke_of, dump_of, seldom, moving, read_by, step_of};
 
 use crate::words::{
     behind, hex, leading_number, leading_type, number, number_within, transmit_type,
@@ -168,6 +168,50 @@ fn cancel_read_line(rest: &[u8]) -> Option<Step>
     Some(Step::CancelRead { guest, ty, handle })
 }
 
+#[tactic(auto, unfolding(crate::specs::Reading::move_of))]
+fn move_line(rest: &[u8]) -> Option<Step>
+    ensures { result ≡ move_of rest.now }
+{
+    let (guest, rest) = leading_number(rest)?;
+    let Some((ty, rest)) = leading_type(rest) else {
+        return None;
+    };
+    let (handle, rest) = leading_number(rest)?;
+    let to = number(rest)?;
+    Some(Step::Move {
+        guest,
+        ty,
+        handle,
+        to,
+    })
+}
+
+#[tactic(auto, unfolding(crate::specs::Reading::lift_of))]
+fn lift_line(rest: &[u8]) -> Option<Step>
+    ensures { result ≡ lift_of rest.now }
+{
+    let NamedEnd { guest, ty, handle } = read_named_end(rest)?;
+    Some(Step::Lift { guest, ty, handle })
+}
+
+#[tactic(auto, unfolding(crate::specs::Reading::lower_of))]
+fn lower_line(rest: &[u8]) -> Option<Step>
+    ensures { result ≡ lower_of rest.now }
+{
+    let (reader, rest) = leading_number(rest)?;
+    let (guest, rest) = leading_number(rest)?;
+    let ty = transmit_type(rest)?;
+    Some(Step::Lower { reader, guest, ty })
+}
+
+#[tactic(auto, unfolding(crate::specs::Reading::close_of))]
+fn close_line(rest: &[u8]) -> Option<Step>
+    ensures { result ≡ close_of rest.now }
+{
+    let reader = number(rest)?;
+    Some(Step::Close { reader })
+}
+
 #[tactic(auto, unfolding(crate::specs::Reading::event_of))]
 fn event_line(rest: &[u8]) -> Option<Step>
     ensures { result ≡ event_of rest.now }
@@ -222,11 +266,31 @@ fn keep<T: Copy>(items: &mut Vec<T>, read: Option<T>) -> bool
     }
 }
 
-// Keeps the step of a line that begins with a command of the second half.
+// Keeps the step of a line that begins with a command of a read end that changes its owner.
+fn keep_moving(steps: &mut Vec<Step>, line: &[u8]) -> bool
+    requires room { vec_len steps.old < vec_capacity steps.old }
+    ensures items { steps.new.items ≡ steps.old.items ++ option_to_list (read_by moving line.now) }
+    ensures found { result ≡ is_some (read_by moving line.now) }
+    ensures capacity { vec_capacity steps.new ≡ vec_capacity steps.old }
+{
+    if let Some(rest) = behind(line, b"move ") {
+        keep(steps, move_line(rest))
+    } else if let Some(rest) = behind(line, b"lift ") {
+        keep(steps, lift_line(rest))
+    } else if let Some(rest) = behind(line, b"lower ") {
+        keep(steps, lower_line(rest))
+    } else if let Some(rest) = behind(line, b"close ") {
+        keep(steps, close_line(rest))
+    } else {
+        false
+    }
+}
+
+// Keeps the step of a line that begins with none of the commands that most lines do.
 fn keep_seldom(steps: &mut Vec<Step>, line: &[u8]) -> bool
     requires room { vec_len steps.old < vec_capacity steps.old }
-    ensures items { steps.new.items ≡ steps.old.items ++ option_to_list (read_by seldom line.now) }
-    ensures found { result ≡ is_some (read_by seldom line.now) }
+    ensures items { steps.new.items ≡ steps.old.items ++ option_to_list (read_by (seldom ++ moving) line.now) }
+    ensures found { result ≡ is_some (read_by (seldom ++ moving) line.now) }
     ensures capacity { vec_capacity steps.new ≡ vec_capacity steps.old }
 {
     if let Some(rest) = behind(line, b"guest ") {
@@ -244,7 +308,7 @@ fn keep_seldom(steps: &mut Vec<Step>, line: &[u8]) -> bool
     } else if let Some(rest) = behind(line, b"cancel-read ") {
         keep(steps, cancel_read_line(rest))
     } else {
-        false
+        keep_moving(steps, line)
     }
 }
 

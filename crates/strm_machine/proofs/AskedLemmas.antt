@@ -14,7 +14,7 @@ use Rattle.strm_machine.specs.Turns.{learns, waits, moves, completes_alone, rend
 use Rattle.strm_machine.specs.Tests.{items_asked}
 use Rattle.strm_machine.specs.Refusals.{refusal}
 use Rattle.strm_machine.specs.Making.{with_stream}
-use Rattle.strm_machine.specs.Reactions.{written_back, on_stream, on_end, makes, on_memory, performs}
+use Rattle.strm_machine.specs.Reactions.{written_back, on_stream, on_end, on_loose, makes, on_memory, performs}
 use Rattle.strm_machine.specs.Plays.{is_settled}
 use Rattle.strm_machine.specs.Asked.{HasBadItem}
 use Rattle.strm_machine.specs.declared.streams.Meeting.{Meeting}
@@ -22,6 +22,8 @@ use Rattle.strm_machine.specs.declared.streams.Meeting.TheVariants.{BothComplete
 use Rattle.strm_machine.specs.declared.acts.Making.{Making}
 use Rattle.strm_machine.specs.declared.acts.Making.TheVariants.{Guest as MakeGuest, Between}
 use Rattle.strm_machine.specs.declared.acts.EndAct.{EndAct}
+use Rattle.strm_machine.specs.declared.acts.LooseAct.{LooseAct}
+use Rattle.strm_machine.specs.declared.acts.LooseAct.TheVariants.{Lower, Close}
 use Rattle.strm_machine.specs.declared.acts.MemoryAct.{MemoryAct}
 use Rattle.strm_machine.specs.declared.acts.MemoryAct.TheVariants.{Dump}
 use Rattle.strm_machine.specs.declared.replies.Reply.TheVariants as replies
@@ -123,11 +125,15 @@ pub record Proceeds (state : State) (r : Reaction) : Type 0 where
   pub settled : is_settled r.reply ≡ true
   pub trapped : r.state.trapped ≡ state.trapped
 
--- what is made, and what is done to a memory
+-- what is made, and what is done to a loose end or to a memory
 makes-goes : (state : State) (making : Making) → Proceeds state (makes state making)
 unfolding with_stream
 makes-goes state (MakeGuest size) = record { settled = refl; trapped = refl }
 makes-goes state (Between writer reader ty) = record { settled = refl; trapped = refl }
+
+loose-goes : (state : State) (reader : ℕ) (act : LooseAct) → Proceeds state (on_loose state reader act)
+loose-goes state reader (Lower g ty) = record { settled = refl; trapped = refl }
+loose-goes state reader Close = record { settled = refl; trapped = refl }
 
 memory-goes : (state : State) (g : ℕ) (act : MemoryAct) → Proceeds state (on_memory state g act)
 memory-goes state g (Poke address bytes) = record { settled = refl; trapped = refl }
@@ -194,6 +200,7 @@ module _ (P : Reaction → Type 0) (state : State) (step : Step) (bad : (s : ℕ
       performs-by (λ act r. act_of step ≡ act → P r) state
       (λ making does. done _ (makes-goes state making))
       (λ side end act does. end-by side end act does e)
+      (λ reader act does. done _ (loose-goes state reader act))
       (λ g handle does. done _ (record { settled = refl; trapped = refl }))
       (λ g act does. done _ (memory-goes state g act))
       (act_of step) refl)

@@ -5,15 +5,16 @@ use Rattle.std.specs.Prelude.{All, IsSome, ◌⊎◌}
 use Rattle.std.proofs.lemmas.Bool.{cond-true}
 use Rattle.std.proofs.lemmas.List.{get_or-set_same, set-get_or, get_or_append_left}
 use Rattle.std.proofs.lemmas.List.Elements.{All-push, All-set}
-use Rattle.strm_machine.specs.Words.{Guest, ReturnCode, TransmitIndex, Handles, removed, State, no_stream, guest_in, memory_in, with_handles, stream_at, opposite, same_side, end_of, with_end, Turn, named, stream_named, sizes_of, both_open, Reaction, goes, written_back, operates, Moment, names, as_report, report_in, accepted, k_of, items_in, received, NamedEnd, Poke, Act, Make, OnMemory, Side, Writing, Reading, Operation, End, Stream, Reply}
+use Rattle.strm_machine.specs.Words.{Guest, ReturnCode, TransmitIndex, Handles, Entry, removed, State, no_stream, guest_in, memory_in, with_handles, stream_at, opposite, same_side, end_of, with_end, Turn, named, stream_named, sizes_of, both_open, Reaction, goes, written_back, operates, Moment, names, as_report, report_in, accepted, k_of, items_in, received, NamedEnd, Poke, Act, Make, OnMemory, Side, Writing, Reading, Operation, End, Stream, Reply}
 use Rattle.strm_memory.specs.Bytes.{IsBytes}
-use Rattle.strm_machine.specs.Making.{made_stream, made_pair, with_stream}
+use Rattle.strm_handles.specs.Handles.{inserted}
+use Rattle.strm_machine.specs.Making.{end_entry, made_stream, made_pair, with_stream}
 use Rattle.strm_machine.specs.Reactions.{written, reaction}
 use Rattle.strm_machine.specs.Moments.{code_told, place_of, read_place, PutsBytes}
 use Rattle.strm_machine.specs.declared.acts.Making.TheVariants as makings
 use Rattle.strm_machine.specs.declared.replies.Reply.TheVariants as replies
 use Rattle.strm_machine.proofs.SideLemmas.{same_side-itself, end_placed}
-use Rattle.strm_machine.proofs.SoundLemmas.{guests_after, IsSound-guests, IsSound-turn, IsSound-with_stream, IsSound-set}
+use Rattle.strm_machine.proofs.SoundLemmas.{IsSound-guests, IsSound-turn, IsSound-with_stream, IsSound-set}
 use Rattle.strm_machine.proofs.SoundStepLemmas.{operate-keeps, poke-keeps, guest-sound}
 use Rattle.strm_machine.proofs.TurnLemmas.{TurnKeeps}
 use Rattle.strm_machine.proofs.Changes.{Scene, scene, Change, ByRest as RestChange, BySettling}
@@ -22,10 +23,11 @@ use Rattle.strm_machine.proofs.NamedEndLemmas.{IsFound, named_itself}
 use Rattle.strm_machine.proofs.EndLemmas.{each_side, same_side-opposite, IsReplaced, with_end-replaces, with_end-apart}
 use Rattle.strm_machine.proofs.EndingLemmas.{IsTold}
 use Rattle.strm_machine.proofs.TallyLemmas.{Tallies, begins_by, Tallies-with_end}
-use Rattle.strm_machine.proofs.MomentLemmas.{Seen, seen_reacts, Untold, unnamed, untold, nothing_got, seen_counted, end_still, seen_same, quiet_reacts, set_reacts}
+use Rattle.strm_machine.proofs.MomentLemmas.{Seen, seen_reacts, Untold, unnamed, untold, nothing_got, seen_counted, end_still, seen_same, quiet_reacts, set_reacts, set_reacts_beside}
+use Rattle.strm_machine.proofs.MoveLemmas.{end_by, IsSound-owned}
 use Rattle.strm_machine.proofs.TurnChangeLemmas.{scene_of, Does, Unturned, DoesBy, turn_does, still}
 use Rattle.strm_machine.proofs.Lawful.{IsLawful, HasRoom, as_moment, Reacts}
-use Rattle.strm_machine.proofs.Shapes.{operating, stream_on, begun_on, turn_on, Operates, Setting, set_by, Sets, Shape, ByTurn, BySetting, ByPair, ByGuest, ByPoke, ByRest}
+use Rattle.strm_machine.proofs.Shapes.{operating, stream_on, begun_on, turn_on, Operates, Setting, set_by, Sets, Owning, guests_freed, guests_given, guests_by, owned_by, Owns, Shape, ByTurn, BySetting, ByOwner, ByPair, ByGuest, ByPoke, ByRest}
 use Rattle.strm_machine.proofs.ShapeLemmas.{reaction-shape}
 
 -- ## Reads and writes
@@ -125,9 +127,9 @@ setting_seen state act reply x h set =
     let m = as_moment state act (goes reply (set_by state x)) in
     let new = with_end side stream x.end in
     let becomes = set.becomes in
-    let after : stream_at m.after s ≡ new = get_or-set_same state.streams s new no_stream set.found.made in
+    let after : stream_at m.after s ≡ new = get_or-set_same state.streams s new no_stream set.made in
     let replaced : IsReplaced side stream (stream_at m.after s) x.end = subst (λ st. IsReplaced side stream st x.end) (sym after) (with_end-replaces side stream x.end) in
-    let named = set.found.named in
+    let named = set.named in
     let report : report_in s side m ≡ as_report (code_told reply) = cond-true (names s side state act) (as_report (code_told reply)) None (named_itself state act s side side named ∙ same_side-itself side) in
     let untold = unnamed s (opposite side) m (named_itself state act s side (opposite side) named ∙ same_side-opposite side) in
     seen_counted s m
@@ -142,17 +144,51 @@ setting_seen state act reply x h set =
 AreBytes-with_handles : (guests : List Guest) (g : ℕ) (handles : Handles) → AreBytes guests → AreBytes (with_handles guests g handles)
 AreBytes-with_handles guests g handles h = All-set (λ (k : Guest). IsBytes k.memory) guests g (record (guest_in guests g) { handles = handles }) (memory_bytes guests g h) h
 
-AreBytes-after : (frees : Bool) (guests : List Guest) (g handle : ℕ) → AreBytes guests → AreBytes (guests_after frees guests g handle)
-AreBytes-after true guests g handle h = AreBytes-with_handles guests g (removed (guest_in guests g).handles handle) h
-AreBytes-after false guests g handle h = h
-
 sets_reacts : (state : State) (act : Act) (reply : Reply) (x : Setting) → IsLawful state → Sets state act reply x → Reacts state act (goes reply (set_by state x))
 sets_reacts state act reply x h set =
     let stream = stream_at state x.stream in
-    set_reacts state act reply (guests_after x.frees state.guests x.guest x.handle) x.stream x.side (with_end x.side stream x.end) set.found.named h (with_end-replaces x.side stream x.end).kind
+    set_reacts state act reply state.guests x.stream x.side (with_end x.side stream x.end) set.named h (with_end-replaces x.side stream x.end).kind
     (setting_seen state act reply x h set)
-    (IsSound-set state x.frees x.guest x.handle x.stream x.side x.end set.found.made set.becomes.left h.sound)
-    (AreBytes-after x.frees state.guests x.guest x.handle h.bytes)
+    (IsSound-set state x.stream x.side x.end set.made set.becomes.left h.sound)
+    h.bytes
+
+-- ## An end of another owner
+
+-- both ends stay, but for the owner of one
+owning_seen : (state : State) (act : Act) (reply : Reply) (x : Owning) → IsLawful state → Owns state reply x → Seen x.stream (as_moment state act (goes reply (owned_by state x)))
+owning_seen state act reply x h o =
+    let s = x.stream in
+    let side = x.side in
+    let stream = stream_at state s in
+    let e = end_by state x in
+    let new = with_end side stream e in
+    let m = as_moment state act (goes reply (owned_by state x)) in
+    let after : stream_at m.after s ≡ new = get_or-set_same state.streams s new no_stream o.made in
+    let replaced : IsReplaced side stream (stream_at m.after s) e = subst (λ st. IsReplaced side stream st e) (sym after) (with_end-replaces side stream e) in
+    seen_counted s m
+    (each_side (λ other. Change other (scene s other m)) side
+    (end_still s side m (untold s side m o.untold) (record { operation = ap (λ (k : End). k.operation) replaced.here; payload = replaced.payload; kind = replaced.kind; count = replaced.count }))
+    (end_still s (opposite side) m (untold s (opposite side) m o.untold) (record { operation = ap (λ (k : End). k.operation) replaced.other; payload = replaced.payload; kind = replaced.kind; count = replaced.count })))
+    replaced.count
+    (ap both_open after ∙ with_end-apart side stream e (inl refl) (h.apart s))
+    (subst Tallies (sym after) (Tallies-with_end side stream e (inl refl) (h.tallies s)))
+
+AreBytes-freed : (guests : List Guest) (o : Option (ℕ × ℕ)) → AreBytes guests → AreBytes (guests_freed guests o)
+AreBytes-freed guests None h = h
+AreBytes-freed guests (Some f) h = AreBytes-with_handles guests f.0 (removed (guest_in guests f.0).handles f.1) h
+
+AreBytes-given : (guests : List Guest) (entry : Entry) (o : Option ℕ) → AreBytes guests → AreBytes (guests_given guests entry o)
+AreBytes-given guests entry None h = h
+AreBytes-given guests entry (Some g) h = AreBytes-with_handles guests g (inserted (guest_in guests g).handles entry) h
+
+owns_reacts : (state : State) (act : Act) (reply : Reply) (x : Owning) → IsLawful state → Owns state reply x → Reacts state act (goes reply (owned_by state x))
+owns_reacts state act reply x h o =
+    let stream = stream_at state x.stream in
+    set_reacts_beside state act reply (guests_by state.guests x) x.stream x.side (with_end x.side stream (end_by state x))
+    (λ k ne end. untold k end (as_moment state act (goes reply (owned_by state x))) o.untold) h (with_end-replaces x.side stream (end_by state x)).kind
+    (owning_seen state act reply x h o)
+    (IsSound-owned state reply x o h.sound)
+    (AreBytes-given _ (end_entry x.side x.ty x.stream) x.taker (AreBytes-freed state.guests x.freed h.bytes))
 
 -- ## A stream more
 
@@ -210,6 +246,7 @@ between_reacts state writer reader ty h =
 shape-reacts : (state : State) (act : Act) (r : Reaction) → PutsBytes act → IsLawful state → HasRoom state → Shape state act r → Reacts state act r
 shape-reacts state act r b h room (ByTurn side end address count a e o) = rw (a, e) (operates_reacts state side end address count h room o)
 shape-reacts state act r b h room (BySetting reply x e set) = rw e (sets_reacts state act reply x h set)
+shape-reacts state act r b h room (ByOwner reply x e o) = rw e (owns_reacts state act reply x h o)
 shape-reacts state act r b h room (ByPair writer reader ty a e fits) = rw (a, e) (between_reacts state writer reader ty h)
 shape-reacts state act r b h room (ByGuest size a e fits) =
     rw (a, e)

@@ -17,6 +17,7 @@ pub mod TurnChangeLemmas
 pub mod Lawful
 pub mod MomentLemmas
 pub mod Shapes
+pub mod MoveLemmas
 pub mod ShapeLemmas
 pub mod SoundStepLemmas
 pub mod LawfulLemmas

@@ -16,7 +16,7 @@ use Rattle.strm_machine.specs.Refusals.{end_reasons_of, event_reasons}
 use Rattle.strm_machine.specs.Soundness.{type_of, types_of, EntryIsNamed}
 use Rattle.strm_machine.specs.declared.acts.EndAct.{EndAct}
 use Rattle.strm_machine.specs.declared.acts.Act.TheVariants.{Event}
-use Rattle.strm_machine.proofs.NameLemmas.{entry_named, named_there, named_payload, named_kind, end_named_there}
+use Rattle.strm_machine.proofs.NameLemmas.{entry_named, named_there, named_type, named_payload, named_kind, end_named_there}
 use Rattle.strm_machine.proofs.RefusalLemmas.{not_refused, neither, EventFits}
 use Rattle.strm_machine.proofs.SideLemmas.{same_side_is, same_side-itself}
 use Rattle.strm_machine.proofs.SoundLemmas.{AreNamed-at}
@@ -36,6 +36,10 @@ found_payload state end h e = at_ok (λ s. (stream_at state s).payload ≡ paylo
 -- and the kind
 pub found_kind : (state : State) (end : NamedEnd) → IsSound state → is_ok (named state end) ≡ true → (stream_at state (stream_named (named state end))).kind ≡ kind_of end.ty
 found_kind state end h e = at_ok (λ s. (stream_at state s).kind ≡ kind_of end.ty) (named state end) e (named_kind state end (named state end) h refl)
+
+-- and the type
+pub found_type : (state : State) (end : NamedEnd) → IsSound state → is_ok (named state end) ≡ true → type_of (stream_at state (stream_named (named state end))) ≡ end.ty
+found_type state end h e = at_ok (λ s. type_of (stream_at state s) ≡ end.ty) (named state end) e (named_type state end (named state end) h refl)
 
 -- an answer is one end of one stream
 is_end-found : (k : ℕ) (other : Side) (name : Name) → is_ok name ≡ true → is_end k other name ≡ (stream_named name == k) && same_side (side_named name) other

@@ -1,5 +1,5 @@
 -- Each change of the machine leaves a sound state.
-use Rattle.std.proofs.Common.{Bool, true, false, ◌≡◌, ℕ, zero, suc, ◌+◌, ◌<◌, ◌≤◌, List, [], ◌∷◌, ◌++◌, length, set, Option, Some, None, refl, sym, ap, ◌∙◌, subst, inl, inr, arith, length-append}
+use Rattle.std.proofs.Common.{true, ◌≡◌, ℕ, zero, suc, ◌+◌, ◌<◌, ◌≤◌, List, [], ◌∷◌, ◌++◌, length, set, Option, Some, None, refl, sym, ap, ◌∙◌, subst, inl, inr, arith, length-append}
 use Rattle.std.specs.Prelude.{All, sum}
 use Rattle.std.proofs.Math.Seq.{map-set_same}
 use Rattle.std.proofs.Math.ListN.{get_or-map}
@@ -126,7 +126,7 @@ write_entry-named : (types : List TransmitIndex) (ty : TransmitIndex) → EntryI
 write_entry-named types (index.Stream payload) = new_end-named types (index.Stream payload) (write_end payload (length types)) refl refl
 write_entry-named types (index.Future payload) = new_end-named types (index.Future payload) (write_end payload (length types)) refl refl
 
-type_with-of : (ty : TransmitIndex) → type_with (kind_of ty) (payload_of ty) ≡ ty
+pub type_with-of : (ty : TransmitIndex) → type_with (kind_of ty) (payload_of ty) ≡ ty
 type_with-of (index.Stream payload) = refl
 type_with-of (index.Future payload) = refl
 
@@ -178,14 +178,9 @@ IsSound-with_stream state writer reader ty h =
 
 -- ## A stream with another end
 
--- the guests, where a handle of one of them is freed or none is
-abbrev pub guests_after : Bool → List Guest → ℕ → ℕ → List Guest
-guests_after true guests g handle = with_handles guests g (removed (guest_in guests g).handles handle)
-guests_after false guests g handle = guests
-
-IsSound-freed : (frees : Bool) (state : State) (g handle : ℕ) → IsSound state → IsSound (record state { guests = guests_after frees state.guests g handle })
-IsSound-freed false state g handle h = record { named = h.named; placed = h.placed; small = h.small }
-IsSound-freed true state g handle h =
+-- a handle of one guest is freed
+pub IsSound-freed : (state : State) (g handle : ℕ) → IsSound state → IsSound (record state { guests = with_handles state.guests g (removed (guest_in state.guests g).handles handle) })
+IsSound-freed state g handle h =
     let types = types_of state.streams in
     let handles = removed (guest_in state.guests g).handles handle in
     let sizes = sizes_of-with_handles state.guests g handles in
@@ -196,25 +191,42 @@ IsSound-freed true state g handle h =
       small = rw sizes h.small;
     }
 
+-- and one is given, for an end of a stream of its type
+pub IsSound-given : (state : State) (g : ℕ) (e : Entry) → EntryIsNamed (types_of state.streams) (Some e) → IsSound state → IsSound (record state { guests = with_handles state.guests g (inserted (guest_in state.guests g).handles e) })
+IsSound-given state g e p h =
+    let sizes = sizes_of-with_handles state.guests g (inserted (guest_in state.guests g).handles e) in
+    record {
+      named = with_handles-named (types_of state.streams) state.guests g e p h.named;
+      placed = rw sizes h.placed;
+      small = rw sizes h.small;
+    }
+
 with_end-placed : (side : Side) (sizes : List ℕ) (stream : Stream) (e : End) → IsLeft (end_of side stream).operation e.operation → StreamIsPlaced sizes stream → StreamIsPlaced sizes (with_end side stream e)
 with_end-placed Writing sizes stream e left h = record { writer = left_by (OperationIsPlaced sizes stream.payload) stream.writer.operation e.operation left h.writer tt; reader = h.reader }
 with_end-placed Reading sizes stream e left h = record { writer = h.writer; reader = left_by (OperationIsPlaced sizes stream.payload) stream.reader.operation e.operation left h.reader tt }
 
-module _ (state : State) (frees : Bool) (g handle s : ℕ) (side : Side) (e : End) where
-  -- an end of one stream is another, with its operation or none, and its handle is freed or not
-  pub IsSound-set : s < length state.streams → IsLeft (end_of side (stream_at state s)).operation e.operation → IsSound state → IsSound (record state { guests = guests_after frees state.guests g handle; streams = set state.streams s (with_end side (stream_at state s) e) })
-  IsSound-set l left h =
-      let stream = stream_at state s in
-      IsSound-freed frees (record state { streams = set state.streams s (with_end side stream e) }) g handle
-      (IsSound-stream state s (with_end side stream e) (with_end-type side stream e) (with_end-placed side (sizes_of state.guests) stream e left (placed_at state s l h)) h)
+-- an end of one stream is another, with its operation or none
+pub IsSound-set : (state : State) (s : ℕ) (side : Side) (e : End) → s < length state.streams → IsLeft (end_of side (stream_at state s)).operation e.operation → IsSound state → IsSound (record state { streams = set state.streams s (with_end side (stream_at state s) e) })
+IsSound-set state s side e l left h =
+    let stream = stream_at state s in
+    IsSound-stream state s (with_end side stream e) (with_end-type side stream e) (with_end-placed side (sizes_of state.guests) stream e left (placed_at state s l h)) h
 
 -- an operation whose end is told
 pub left_told : (code : Option ReturnCode) (o : Option Operation) → IsLeft o (left_pending code o)
 left_told None o = inl refl
 left_told (Some code) o = inr refl
 
--- an end was dropped, and its handle freed
-pub IsSound-dropped : (state : State) (s : ℕ) (side : Side) (g handle : ℕ) → s < length state.streams → IsSound state → IsSound (record state { guests = guests_after true state.guests g handle; streams = set state.streams s (dropped side (stream_at state s)) })
-unfolding dropped
-IsSound-dropped state s side g handle l h =
-    IsSound-set state true g handle s side (record (end_of side (stream_at state s)) { owner = Gone }) l (inl refl) h
+module _ (state : State) (s : ℕ) (side : Side) (g handle : ℕ) where
+  -- an end was dropped, and its handle freed
+  abbrev drop_of : State
+  drop_of = record state {
+    guests = with_handles state.guests g (removed (guest_in state.guests g).handles handle);
+    streams = set state.streams s (dropped side (stream_at state s));
+  }
+
+  pub IsSound-dropped : s < length state.streams → IsSound state → IsSound drop_of
+  unfolding dropped
+  IsSound-dropped l h =
+      let stream = stream_at state s in
+      let e = record (end_of side stream) { owner = Gone } in
+      IsSound-freed (record state { streams = set state.streams s (with_end side stream e) }) g handle (IsSound-set state s side e l (inl refl) h)

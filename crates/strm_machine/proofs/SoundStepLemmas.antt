@@ -3,15 +3,19 @@ use Rattle.std.proofs.Common.{◌≡◌, ℕ, arith, List, [], ◌∷◌, ◌++�
 use Rattle.std.specs.Prelude.{replicate, sum}
 use Rattle.std.proofs.lemmas.List.{length-replicate}
 use Rattle.std.proofs.lemmas.List.Sums.{sum-map}
-use Rattle.strm_machine.specs.Words.{Guest, ReturnCode, no_handles, put_at, State, memory_in, with_memory, stream_at, Turn, named, stream_named, Reaction, written_back, sizes_of, IsSound, NamedEnd, Act, Side}
+use Rattle.strm_machine.specs.Words.{Guest, ReturnCode, no_handles, put_at, State, memory_in, with_memory, stream_at, Turn, named, stream_named, Reaction, written_back, sizes_of, IsSound, NamedEnd, Act, OnEnd, OnLoose, Side}
 use Rattle.strm_machine.specs.State.{bytes_in_use}
-use Rattle.strm_machine.specs.Reactions.{reaction}
+use Rattle.strm_machine.specs.Refusals.{refusal}
+use Rattle.strm_machine.specs.Reactions.{on_end, on_loose, reaction}
+use Rattle.strm_machine.specs.declared.acts.EndAct.{EndAct}
+use Rattle.strm_machine.specs.declared.acts.LooseAct.{LooseAct}
 use Rattle.strm_machine.proofs.BoundLemmas.{length-poked}
 use Rattle.strm_machine.proofs.RefusalLemmas.{GuestFits, BytesFit}
 use Rattle.strm_machine.proofs.SoundLemmas.{IsSound-guest, IsSound-guests, IsSound-turn, IsSound-with_stream, IsSound-set}
+use Rattle.strm_machine.proofs.MoveLemmas.{IsSound-owned}
 use Rattle.strm_machine.proofs.TurnLemmas.{GuestsKeep, TurnKeeps, turn-keeps, with_memory-keeps}
-use Rattle.strm_machine.proofs.Shapes.{stream_on, begun_on, turn_on, Operates, Shape, ByTurn, BySetting, ByPair, ByGuest, ByPoke, ByRest}
-use Rattle.strm_machine.proofs.ShapeLemmas.{reaction-shape}
+use Rattle.strm_machine.proofs.Shapes.{stream_on, begun_on, turn_on, Operates, Shape, ByTurn, BySetting, ByOwner, ByPair, ByGuest, ByPoke, ByRest}
+use Rattle.strm_machine.proofs.ShapeLemmas.{on_end-shape, loose-shape, reaction-shape}
 
 pub operate-keeps : (state : State) (side : Side) (end : NamedEnd) (address count : ℕ) → Operates state side end address count → TurnKeeps state.guests (stream_on state end) (turn_on state side end address count)
 operate-keeps state side end address count o = turn-keeps side state.guests (stream_on state end) (begun_on end address count) o.streams o.placed
@@ -40,7 +44,8 @@ shape-sound state act r h (ByTurn side end address count a e o) =
     let t = turn_on state side end address count in
     rw e (written-sound state (stream_named (named state end)) t t.code (operate-keeps state side end address count o) h)
 shape-sound state act r h (BySetting reply x e s) =
-    rw e (IsSound-set state x.frees x.guest x.handle x.stream x.side x.end s.found.made s.becomes.left h)
+    rw e (IsSound-set state x.stream x.side x.end s.made s.becomes.left h)
+shape-sound state act r h (ByOwner reply x e o) = rw e (IsSound-owned state reply x o h)
 shape-sound state act r h (ByPair writer reader ty a e fits) = rw e (IsSound-with_stream state writer reader ty h)
 shape-sound state act r h (ByGuest size a e fits) = rw e (guest-sound state size fits h)
 shape-sound state act r h (ByPoke g address bytes a e fits) = rw e (IsSound-guests state _ (poke-keeps state g address bytes fits) h)
@@ -48,3 +53,10 @@ shape-sound state act r h (ByRest reply e none) = rw e h
 
 pub reaction-sound : (state : State) (act : Act) → IsSound state → IsSound (reaction state act).state
 reaction-sound state act h = shape-sound state act (reaction state act) h (reaction-shape state act h)
+
+-- what is done to an end that is named, or to a loose one, where nothing refuses it
+pub on_end-sound : (state : State) (side : Side) (end : NamedEnd) (act : EndAct) → IsSound state → refusal state (OnEnd side end act) ≡ None → IsSound (on_end state side end act).state
+on_end-sound state side end act h e = shape-sound state (OnEnd side end act) (on_end state side end act) h (on_end-shape state side end act h e)
+
+pub on_loose-sound : (state : State) (s : ℕ) (act : LooseAct) → IsSound state → refusal state (OnLoose s act) ≡ None → IsSound (on_loose state s act).state
+on_loose-sound state s act h e = shape-sound state (OnLoose s act) (on_loose state s act) h (loose-shape state s act e)

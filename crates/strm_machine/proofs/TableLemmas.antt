@@ -4,10 +4,9 @@ use Rattle.std.proofs.Math.Seq.{map-set_same}
 use Rattle.std.proofs.Math.ListN.{get_or-map}
 use Rattle.std.proofs.lemmas.Bool.{cases_eq}
 use Rattle.std.proofs.lemmas.List.{get_or-set_same, get_or-set_other}
-use Rattle.strm_machine.specs.Words.{Guest, Handles, no_handles, no_guest, no_stream, guest_in, with_memory, with_handles, end_of, with_end, Side, Writing, Reading, End, Stream}
+use Rattle.strm_machine.specs.Words.{Guest, Handles, no_handles, no_guest, no_stream, guest_in, with_memory, with_handles, end_of, with_end, Side, Writing, Reading, End, Stream, Owner}
 use Rattle.strm_handles.specs.Handles.{IsTable}
 use Rattle.strm_machine.specs.Soundness.{handles_of}
-use Rattle.strm_machine.specs.declared.streams.Owner.{Owner}
 
 -- ## Guests
 

@@ -1,18 +1,16 @@
 -- What each step leaves of memories: all bytes but those that it pokes or receives items at.
-use Rattle.std.proofs.Common.{true, Bool, List, None, Option, Some, [], ap, arith, cond, drop, false, get_or, inl, inr, length, length-append, length-set, min, refl, set, subst, suc, sym, take, zero, ℕ, ℤ, ◌*◌, ◌++◌, ◌+◌, ◌-◌, ◌<◌, ◌^◌, ◌∙◌, ◌∷◌, ◌≡◌, ◌≤◌}
-use Rattle.std.proofs.Math.ListN.{get_or-map}
-use Rattle.std.proofs.Math.Seq.{map-set_same}
+use Rattle.std.proofs.Common.{Bool, List, None, Option, Some, [], ap, arith, cond, drop, false, get_or, inl, inr, length, length-append, length-set, min, refl, set, subst, suc, sym, take, zero, ℕ, ℤ, ◌*◌, ◌++◌, ◌+◌, ◌-◌, ◌<◌, ◌^◌, ◌∙◌, ◌∷◌, ◌≡◌, ◌≤◌}
 use Rattle.std.proofs.lemmas.Bool.{cases_eq, cases_lt, cond_both}
 use Rattle.std.proofs.lemmas.Bool.Decides.{nat_tests}
 use Rattle.std.proofs.lemmas.List.{append_assoc, get_or-set_same, get_or_append_left, length-map, take-append-drop}
-use Rattle.strm_machine.specs.Words.{Guest, item_size, scalars_of, ReturnCode, TransmitIndex, Payload, Scalar, Handles, removed, no_handles, Moment, names, received, advanced, carried, Reaction, goes, operates, written_back, end_of, opposite, same_side, with_operation, IsPlaced, IsSound, OperationIsPlaced, sizes_of, State, guest_in, memory_in, no_guest, no_stream, stream_at, with_handles, with_memory, named, stream_named, Turn, with_received, Operation, Side, Reading, Writing, Stream, put_at, items_at, stored_at, NamedEnd, Poke, Act, Make, OnMemory}
+use Rattle.strm_machine.specs.Words.{Guest, item_size, scalars_of, ReturnCode, TransmitIndex, Payload, Scalar, Handles, no_handles, Moment, names, received, advanced, carried, Reaction, goes, operates, written_back, end_of, opposite, same_side, with_operation, IsPlaced, IsSound, OperationIsPlaced, sizes_of, State, guest_in, memory_in, no_guest, no_stream, stream_at, with_handles, with_memory, named, stream_named, Turn, with_received, Operation, Side, Reading, Writing, Stream, put_at, items_at, stored_at, NamedEnd, Poke, Act, Make, OnMemory}
 use Rattle.strm_handles.specs.Handles.{inserted}
 use Rattle.strm_machine.proofs.EndLemmas.{read_fits}
 use Rattle.strm_machine.proofs.Lawful.{HasRoom, as_moment}
 use Rattle.strm_machine.proofs.NamedEndLemmas.{named_itself}
 use Rattle.strm_machine.proofs.RefusalLemmas.{BytesFit}
 use Rattle.strm_machine.proofs.SoundStepLemmas.{operate-keeps, poke-keeps}
-use Rattle.strm_machine.proofs.Shapes.{operating, stream_on, begun_on, turn_on, Operates, set_by, Shape, ByTurn, BySetting, ByPair, ByGuest, ByPoke, ByRest}
+use Rattle.strm_machine.proofs.Shapes.{operating, stream_on, begun_on, turn_on, Operates, set_by, owned_by, Shape, ByTurn, BySetting, ByOwner, ByPair, ByGuest, ByPoke, ByRest}
 use Rattle.strm_machine.proofs.ShapeLemmas.{reaction-shape}
 use Rattle.strm_machine.proofs.TurnChangeLemmas.{place_by, rose, there}
 use Rattle.strm_machine.specs.Moments.{Place, place_of, read_place, target}
@@ -20,8 +18,8 @@ use Rattle.strm_machine.specs.Untouched.{LiesApart, Region, StaysAside, bytes_of
 use Rattle.strm_machine.proofs.BoundLemmas.{within}
 use Rattle.strm_machine.proofs.CarryLemmas.{carried-nothing}
 use Rattle.strm_machine.proofs.SideLemmas.{end_placed, read_of-placed}
-use Rattle.strm_machine.proofs.SoundLemmas.{guests_after}
-use Rattle.strm_machine.proofs.StateLemmas.{memory_in-with_memory, memory_in-with_memory_other}
+use Rattle.strm_machine.proofs.MoveLemmas.{length-by, memory_in-by}
+use Rattle.strm_machine.proofs.StateLemmas.{memory_in-with_memory, memory_in-with_memory_other, memory_in-with_handles}
 use Rattle.strm_machine.proofs.TurnLemmas.{front_inside, size_in}
 use Rattle.strm_machine.specs.Making.{read_entry, with_stream}
 use Rattle.strm_machine.specs.Reactions.{makes, on_memory, reaction}
@@ -71,13 +69,6 @@ stays_all m n e = record {
 
 stays_same : (m : Moment) → m.after.guests ≡ m.before.guests → StaysAside m
 stays_same m e = stays_all m (omega (arith, ap length e)) (λ g l. ap (λ guests. memory_in guests g) e)
-
-memory_in-with_handles : (guests : List Guest) (g : ℕ) (handles : Handles) (k : ℕ) → memory_in (with_handles guests g handles) k ≡ memory_in guests k
-memory_in-with_handles guests g handles k =
-    let new : Guest = record (guest_in guests g) { handles = handles } in
-    sym (get_or-map (λ (h : Guest). h.memory) (set guests g new) k no_guest)
-    ∙ ap (λ xs. get_or xs k []) (map-set_same (λ (h : Guest). h.memory) guests g new no_guest refl)
-    ∙ get_or-map (λ (h : Guest). h.memory) guests k no_guest
 
 -- bytes of one memory, where another is put in its place
 bytes_with : (guests : List Guest) (g : ℕ) (memory : List ℕ) (r : Region) → g < length guests → (r.place.guest ≡ g → bytes_at memory r.place.address r.size ≡ bytes_at (memory_in guests g) r.place.address r.size) → bytes_of (with_memory guests g memory) r ≡ bytes_of guests r
@@ -253,11 +244,6 @@ handles_stay m guests g handles n same e =
     (omega (arith, n, ap length e, length-set guests g (record (guest_in guests g) { handles = handles })))
     (λ k l. ap (λ gs. memory_in gs k) e ∙ memory_in-with_handles guests g handles k ∙ same k)
 
--- a handle that is freed, or none is
-after_stays : (m : Moment) (frees : Bool) (g handle : ℕ) → m.after.guests ≡ guests_after frees m.before.guests g handle → StaysAside m
-after_stays m true g handle e = handles_stay m m.before.guests g (removed (guest_in m.before.guests g).handles handle) (omega arith) (λ k. refl) e
-after_stays m false g handle e = stays_same m e
-
 pair_stays : (state : State) (writer reader : ℕ) (ty : TransmitIndex) → StaysAside (as_moment state (Make (makings.Between writer reader ty)) (makes state (makings.Between writer reader ty)))
 unfolding with_stream
 pair_stays state writer reader ty =
@@ -269,7 +255,9 @@ pair_stays state writer reader ty =
 
 shape-stays : (state : State) (act : Act) (r : Reaction) → HasRoom state → Shape state act r → StaysAside (as_moment state act r)
 shape-stays state act r room (ByTurn side end address count a e o) = rw (a, e) (operates_stays state side end address count room o)
-shape-stays state act r room (BySetting reply x e set) = rw e (after_stays (as_moment state act (goes reply (set_by state x))) x.frees x.guest x.handle refl)
+shape-stays state act r room (BySetting reply x e set) = rw e (stays_same (as_moment state act (goes reply (set_by state x))) refl)
+shape-stays state act r room (ByOwner reply x e o) =
+    rw e (stays_all (as_moment state act (goes reply (owned_by state x))) (omega (arith, length-by state.guests x)) (λ g l. memory_in-by state.guests x g))
 shape-stays state act r room (ByPair writer reader ty a e fits) = rw (a, e) (pair_stays state writer reader ty)
 shape-stays state act r room (ByGuest size a e fits) = rw (a, e) (guest_stays state size)
 shape-stays state act r room (ByPoke g address bytes a e fits) = rw (a, e) (poke_stays state g address bytes fits)
