@@ -3,7 +3,7 @@
 -- Component Model, `WaitableSet` and `Waitable.join`; Canonical ABI, `canon waitable-set.{new,poll,drop}`
 -- and `canon waitable.join`. Ours: the least member that has a report is told it, where the Canonical
 -- ABI leaves the choice open.
-use Rattle.std.specs.Prelude.{ℕ, ◌==◌, Bool, true, false, not, if◌then◌else◌, List, [], ◌∷◌, is_some, Result, Ok, Err, Option, Some, None}
+use Rattle.std.specs.Prelude.{ℕ, ◌==◌, Bool, true, false, if◌then◌else◌, List, [], ◌∷◌, is_some, Result, Ok, Err, Option, None}
 use Rattle.std.specs.List.{find}
 use Rattle.strm_codes.specs.declared.codes.ReturnCode.{ReturnCode}
 use Rattle.strm_handles.specs.Handles.{inserted, removed}
