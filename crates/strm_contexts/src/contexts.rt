@@ -4,7 +4,7 @@
 //! wasmtime, `concurrent.rs`, `error_context_new`, `error_context_debug_message`,
 //! `error_context_drop` and `error_context_transfer`.
 
-ghost use Rattle.std.specs.Prelude.{◌≡◌, ◌+◌, ◌-◌, ◌<◌, ◌^◌, ◌==◌, not, true, false, is_some, IfOk, OnOk, OnErr, option_copied};
+ghost use Rattle.std.specs.Prelude.{◌≡◌, ◌+◌, ◌-◌, ◌<◌, ◌^◌, ◌==◌, nat_lt, not, true, false, is_some, IfOk, OnOk, OnErr, option_copied};
 ghost use Rattle.strm_resources.specs.Nodes.{is_childless};
 ghost use Rattle.strm_resources.specs.Entries.{value_at, children_of, deleted};
 ghost use Rattle.strm_contexts.specs.Contexts.{no_contexts, context_at, is_there, message_at, handles_of, count_at, len, next_number, inserted, raised, dropped, AreKept};
@@ -89,6 +89,13 @@ impl ErrorContexts {
         }
     }
 
+    // Whether more than one handle leads to a context.
+    fn has_several(&self, number: u32) -> bool
+        ensures { result ≡ nat_lt 1 (count_at self.now number) }
+    {
+        self.count(number) > 1
+    }
+
     /// How many contexts there are.
     pub fn len(&self) -> usize
         ensures { result ≡ len self.now }
@@ -133,7 +140,7 @@ impl ErrorContexts {
         ensures gone { is_there self.new number ≡ not result }
         ensures dropped { self.new ≡ dropped self.old number }
     {
-        if self.count(number) > 1 {
+        if self.has_several(number) {
             lower_at(&mut self.table, number);
             return false;
         }
@@ -142,7 +149,7 @@ impl ErrorContexts {
         true
     }
 
-    /// A context that is there has a handle, and a number that is given has no context until then.
+    /// A context that is there has a handle, and the number given next has no context.
     pub fn are_kept(&self)
         ensures kept { AreKept self.now }
         ensures next { is_there self.now (next_number self.now) ≡ false }
