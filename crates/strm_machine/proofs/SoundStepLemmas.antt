@@ -14,7 +14,7 @@ use Rattle.strm_machine.proofs.RefusalLemmas.{GuestFits, BytesFit}
 use Rattle.strm_machine.proofs.SoundLemmas.{IsSound-guest, IsSound-guests, IsSound-turn, IsSound-with_stream, IsSound-table, IsSound-set}
 use Rattle.strm_machine.proofs.MoveLemmas.{IsSound-owned}
 use Rattle.strm_machine.proofs.TurnLemmas.{GuestsKeep, TurnKeeps, turn-keeps, with_memory-keeps}
-use Rattle.strm_machine.proofs.Shapes.{stream_on, begun_on, turn_on, Operates, Shape, ByTurn, BySetting, ByOwner, ByTable, ByPair, ByGuest, ByPoke, ByRest}
+use Rattle.strm_machine.proofs.Shapes.{stream_on, begun_on, turn_on, Operates, Shape, ByTurn, BySetting, ByOwner, ByTable, ByPair, ByGuest, ByPut, ByRest}
 use Rattle.strm_machine.proofs.ShapeLemmas.{on_end-shape, loose-shape, reaction-shape}
 
 pub operate-keeps : (state : State) (side : Side) (end : NamedEnd) (address count : ℕ) → Operates state side end address count → TurnKeeps state.guests (stream_on state end) (turn_on state side end address count)
@@ -23,7 +23,7 @@ operate-keeps state side end address count o = turn-keeps side state.guests (str
 written-sound : (state : State) (s : ℕ) (t : Turn) (code : Option ReturnCode) → TurnKeeps state.guests (stream_at state s) t → IsSound state → IsSound (written_back state s t code).state
 written-sound state s t (Some code) k h = IsSound-turn state s t k h
 written-sound state s t None k h =
-    let sound = IsSound-turn state s t k h in record { named = sound.named; placed = sound.placed; small = sound.small; sets = sound.sets }
+    let sound = IsSound-turn state s t k h in record { named = sound.named; placed = sound.placed; small = sound.small; sets = sound.sets; contexts = sound.contexts }
 
 -- bytes put where they may be keep the memory's length
 pub poke-keeps : (state : State) (g address : ℕ) (bytes : List ℕ) → BytesFit state g address (length bytes) → GuestsKeep state.guests (with_memory state.guests g (put_at (memory_in state.guests g) address bytes))
@@ -46,10 +46,10 @@ shape-sound state act r h (ByTurn side end address count a e o) =
 shape-sound state act r h (BySetting reply x e s) =
     rw e (IsSound-set state x.stream x.side x.end s.made s.becomes.left h)
 shape-sound state act r h (ByOwner reply x e o) = rw e (IsSound-owned state reply x o h)
-shape-sound state act r h (ByTable reply x e t) = rw e (IsSound-table state x.guest x.handles x.sets t.named t.holds h)
+shape-sound state act r h (ByTable reply x e t) = rw e (IsSound-table state x.guest x.handles x.sets x.contexts t.named t.holds t.counts h)
 shape-sound state act r h (ByPair writer reader ty a e fits) = rw e (IsSound-with_stream state writer reader ty fits.read fits.write h)
 shape-sound state act r h (ByGuest size a e fits) = rw e (guest-sound state size fits h)
-shape-sound state act r h (ByPoke g address bytes a e fits) = rw e (IsSound-guests state _ (poke-keeps state g address bytes fits) h)
+shape-sound state act r h (ByPut reply g address bytes e p) = rw e (IsSound-guests state _ (poke-keeps state g address bytes p.fits) h)
 shape-sound state act r h (ByRest reply e none) = rw e h
 
 pub reaction-sound : (state : State) (act : Act) → IsSound state → IsSound (reaction state act).state
