@@ -24,6 +24,7 @@ pub mod Shapes
 pub mod MoveLemmas
 pub mod SetStepLemmas
 pub mod ContextStepLemmas
+pub mod PlaceLemmas
 pub mod ShapeLemmas
 pub mod SoundStepLemmas
 pub mod LawfulLemmas

@@ -217,17 +217,21 @@ IsSound-with_stream state writer reader ty reads writes h =
 
 -- ## One guest's table and sets are others, and error contexts
 
-pub IsSound-table : (state : State) (g : ℕ) (handles : Handles) (sets : Sets) (contexts : Contexts) → AreNamed (types_of state.streams) handles → HoldsSets handles sets → HoldsContexts (with_table state.guests g handles sets) contexts → IsSound state → IsSound (record state { guests = with_table state.guests g handles sets; contexts = contexts })
-IsSound-table state g handles sets contexts named holds counts h =
-    let types = types_of state.streams in
-    let sizes = sizes_of-with_table state.guests g handles sets in
-    record {
-      named = rw (handles_of-with state.guests g handles sets) (All-set (AreNamed types) (handles_of state.guests) g handles named h.named);
-      placed = rw sizes h.placed;
-      small = rw sizes h.small;
-      sets = HoldSets-with state.guests g handles sets holds h.sets;
-      contexts = counts;
-    }
+module _ (state : State) (g : ℕ) (handles : Handles) (sets : Sets) (contexts : Contexts) where
+  abbrev guests_with : List Guest
+  guests_with = with_table state.guests g handles sets
+
+  pub IsSound-table : AreNamed (types_of state.streams) handles → HoldsSets handles sets → HoldsContexts guests_with contexts → IsSound state → IsSound (record state { guests = guests_with; contexts = contexts })
+  IsSound-table named holds counts h =
+      let types = types_of state.streams in
+      let sizes = sizes_of-with_table state.guests g handles sets in
+      record {
+        named = rw (handles_of-with state.guests g handles sets) (All-set (AreNamed types) (handles_of state.guests) g handles named h.named);
+        placed = rw sizes h.placed;
+        small = rw sizes h.small;
+        sets = HoldSets-with state.guests g handles sets holds h.sets;
+        contexts = counts;
+      }
 
 -- a handle of an end is freed, which leaves its set
 pub IsSound-freed : (state : State) (g handle : ℕ) → is_ok (end_named state g handle) ≡ true → IsSound state → IsSound (without_handle state g handle)
