@@ -14,7 +14,8 @@ use Rattle.strm_handles.proofs.HandleLemmas.{given, inserted_sum, sum_by-entries
 use Rattle.strm_resources.proofs.SlotLemmas.{by_eq}
 use Rattle.strm_contexts.specs.Contexts.{Context, Contexts, no_contexts, context_at, is_there, handles_of as context_handles, count_at, next_number, new_context, inserted as with_message, with_handles as with_count, counted, raised, lowered, dropped, removed as without, AreKept}
 use Rattle.strm_contexts.proofs.KeptLemmas.{kept-none, next_is_free, context_at-inserted, kept-inserted, context_at-counted, kept-counted, context_at-removed, kept-dropped}
-use Rattle.strm_machine.specs.Words.{Guest, Handles, Entry, Sets, no_guest, no_handles, guest_in, with_table, removed}
+use Rattle.strm_machine.specs.Words.{Guest, Handles, Entry, Sets, State, no_guest, no_handles, guest_in, with_table, removed}
+use Rattle.strm_machine.specs.State.{handles_in_use}
 use Rattle.strm_machine.specs.ErrorContexts.{leads_to, handles_to, all_handles_to, bytes_of_message}
 use Rattle.strm_machine.specs.Soundness.{handles_of, IsMessage, HoldsContexts}
 
@@ -277,3 +278,8 @@ module _ (guests : List Guest) (contexts : Contexts) (g : ℕ) (sets : Sets) (h 
         let least = handles_to-removed number table n (entries.ErrorContext number) here in
         let most = get_or-le-sum_by (λ (k : Guest). handles_to number k.handles) guests g no_guest there in
         counted_there (context_at contexts number) (omega (arith, h.counted number, itself, least, most))
+
+-- no error context has more handles than are live
+pub count-live : (state : State) (number : ℕ) → HoldsContexts state.guests state.contexts → count_at state.contexts number ≤ handles_in_use state
+count-live state number h =
+    omega (arith, h.counted number, sum_by-le-sum_by (λ (g : Guest). handles_to number g.handles) (λ (g : Guest). live_of g.handles) state.guests (λ g. handles_to-live number g.handles))
