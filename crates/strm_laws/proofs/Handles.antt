@@ -1,5 +1,5 @@
 -- Handles and ends, sets and their members, and error contexts and their handles, agree after every run.
-use Rattle.std.proofs.Common.{◌≡◌, ℕ, zero, suc, ◌<◌, true, false, List, [], ◌∷◌, length, Option, Some, None, Ok, is_some, refl, sym, ap, ◌∙◌, inl, inr, arith}
+use Rattle.std.proofs.Common.{◌≡◌, ℕ, zero, suc, true, false, List, [], ◌∷◌, length, Option, Some, None, Ok, is_some, refl, sym, ap, ◌∙◌, inl, inr, arith}
 use Rattle.std.proofs.lemmas.Bool.{cases_lt}
 use Rattle.std.proofs.lemmas.List.{get_or_past}
 use Rattle.strm_machine.specs.Words.{Guest, no_guest, guest_in, sets_in, no_handles, act_of, State, no_stream, empty, end_of, IsSound, react, is_end}
@@ -72,10 +72,10 @@ members_are_live tag limits run =
       single = λ g number set other e f. (h g).single set other number e f;
     }
 
--- what no handle leads to is not there
-none_there : (o : Option Context) → handles_of o ≡ 0 → (is_some o ≡ true → 0 < handles_of o) → is_some o ≡ false
-none_there None e some = refl
-none_there (Some c) e some = absurd (omega (arith, e, some refl))
+-- what is not there counts none
+none_there : (o : Option Context) → is_some o ≡ false → handles_of o ≡ 0
+none_there None e = refl
+none_there (Some c) e = cc
 
 -- a guest that is not there has no handle
 no_context_named : (handle number : ℕ) → error_context_rep_of no_handles handle ≡ Ok number → ⊥
@@ -89,7 +89,7 @@ contexts_count tag limits run =
     record {
       counted = h.counted;
       some = λ number there. omega (arith, h.counted number, h.kept.handled number there);
-      none = λ number e. none_there (context_at end.contexts number) (h.counted number ∙ e) (h.kept.handled number);
+      none = λ number e. sym (h.counted number) ∙ none_there (context_at end.contexts number) e;
       named = λ g handle number e. elim (cases_lt g (length end.guests)) [
         | inl l ↦ named_is_there end.guests end.contexts g (sets_in end.guests g) h l handle number (context_entry (entry_at (guest_in end.guests g).handles handle) number e)
         | inr l ↦ absurd (no_context_named handle number (ap (λ (k : Guest). error_context_rep_of k.handles handle) (sym (get_or_past end.guests g no_guest l)) ∙ e))

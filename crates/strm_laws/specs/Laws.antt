@@ -136,14 +136,14 @@ pub record MembersAreLive (state : State) : Type 0 where
       set_named state g set ≡ Ok number → set_named state g other ≡ Ok number → set ≡ other
 
 -- each error context counts the handles to it in all tables together. One that is there has some, and
--- what none leads to is not there; what a handle names is there, and keeps a message
+-- one that is not has none; what a handle names is there, and keeps a message
 pub record ContextsCount (state : State) : Type 0 where
   pub counted : (number : ℕ) →
       count_at state.contexts number ≡ all_handles_to number state.guests
   pub some : (number : ℕ) →
       contexts.is_there state.contexts number ≡ true → 0 < all_handles_to number state.guests
   pub none : (number : ℕ) →
-      all_handles_to number state.guests ≡ 0 → contexts.is_there state.contexts number ≡ false
+      contexts.is_there state.contexts number ≡ false → all_handles_to number state.guests ≡ 0
   pub named : (g handle number : ℕ) →
       context_named state g handle ≡ Ok number → contexts.is_there state.contexts number ≡ true
   pub message : (g handle : ℕ) → IsMessage (message_named state g handle)
