@@ -1,17 +1,17 @@
 -- What a step puts into a memory lies there after it.
-use Rattle.std.proofs.Common.{◌≡◌, ℕ, ◌+◌, ◌<◌, ◌≤◌, false, suc, List, [], ◌∷◌, ◌++◌, length, take, drop, None, Option, refl, sym, ap, ◌∙◌, arith, length-take}
+use Rattle.std.proofs.Common.{◌≡◌, ℕ, ◌+◌, ◌≤◌, false, suc, List, [], ◌∷◌, ◌++◌, length, take, drop, None, refl, sym, ap, ◌∙◌, arith, length-take}
 use Rattle.std.proofs.Math.Seq.{drop-append_seam, take-append_seam}
 use Rattle.std.proofs.lemmas.Bool.Decides.{nat_tests}
 use Rattle.std.proofs.lemmas.List.{append_assoc}
 use Rattle.strm_codes.specs.declared.refusals.Refusal.{Refusal}
 use Rattle.strm_memory.specs.Bytes.{bytes_at}
 use Rattle.strm_memory.specs.Region.{bytes_out_of_bounds}
-use Rattle.strm_machine.specs.Words.{State, memory_in, put_at, goes, IsSound, Act, Reply, Make, OnEnd, OnLoose, OnMemory, Poke}
+use Rattle.strm_machine.specs.Words.{State, memory_in, put_at, goes, IsSound, Act, Make, OnEnd, OnLoose, OnMemory, Poke}
 use Rattle.strm_machine.specs.State.{with_bytes}
 use Rattle.strm_machine.specs.ErrorContexts.{message_named}
 use Rattle.strm_machine.specs.Refusals.{refusal}
 use Rattle.strm_machine.specs.Reactions.{on_context, on_memory, reaction}
-use Rattle.strm_machine.specs.Untouched.{put_by, bytes_put, bytes_of, LieThere}
+use Rattle.strm_machine.specs.Untouched.{bytes_of, LieThere}
 use Rattle.strm_machine.specs.declared.acts.ContextAct.{ContextAct}
 use Rattle.strm_machine.specs.declared.acts.ContextAct.TheVariants as context_acts
 use Rattle.strm_machine.specs.declared.acts.MemoryAct.{MemoryAct}
