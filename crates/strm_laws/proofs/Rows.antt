@@ -245,7 +245,7 @@ account-by s run all =
     ∙ ap (account_of s (moments_by start run)) (last-state start run all)
 
 abbrev unset : Answer
-unset = record { in_set = false; has_member = false; ready = None }
+unset = record { in_set = false; has_member = false; ready = None; text = true }
 
 -- no handle is in a set
 abbrev apart : List Step → List Answered

@@ -28,7 +28,7 @@ use Rattle.strm_laws.proofs.Answered.{Answered, last_state, AllGive, steps_of}
 use Rattle.strm_laws.proofs.Rows.{bytes, start, item, call, replies_to, replies-by, account, account-by}
 
 abbrev answered : Step → Bool → Bool → Option ℕ → Answered
-answered step in_set has_member ready = record { step = step; answer = record { in_set = in_set; has_member = has_member; ready = ready } }
+answered step in_set has_member ready = record { step = step; answer = record { in_set = in_set; has_member = has_member; ready = ready; text = true } }
 
 -- a step that asks sets nothing
 abbrev plain : Step → Answered
