@@ -171,4 +171,3 @@ module _ (payload : Payload) (bytes kept : List ℕ) (space address marked : ℕ
       let e' = subst (λ (q : Option ℕ). window_kept payload bytes kept address q marked prepared ≡ v) o e in
       let r' = room_memory r v w' e' h in
       (omega (arith, r', w'.inside.2), put_inside r at w' r' n)
-
