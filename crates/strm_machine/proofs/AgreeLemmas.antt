@@ -68,10 +68,10 @@ module _ (names : ℕ → ℕ → Name) (owners : ℕ → Side → Owner) (h : A
 
 module _ (names names' : ℕ → ℕ → Name) (owners owners' : ℕ → Side → Owner) (h : Agree names owners) where
   -- nothing has changed
-  pub Agree-same : ((g handle : ℕ) → names' g handle ≡ names g handle) → ((s : ℕ) (side : Side) → owners' s side ≡ owners s side) → Agree names' owners'
+  pub Agree-same : ((g handle s : ℕ) (side : Side) → is_end s side (names' g handle) ≡ is_end s side (names g handle)) → ((s : ℕ) (side : Side) → owners' s side ≡ owners s side) → Agree names' owners'
   Agree-same e f = record {
-    named = λ g handle s side is. f s side ∙ h.named g handle s side (ap (is_end s side) (sym (e g handle)) ∙ is);
-    held = λ g handle s side is. ap (is_end s side) (e g handle) ∙ h.held g handle s side (sym (f s side) ∙ is);
+    named = λ g handle s side is. f s side ∙ h.named g handle s side (sym (e g handle s side) ∙ is);
+    held = λ g handle s side is. e g handle s side ∙ h.held g handle s side (sym (f s side) ∙ is);
   }
 
   module _ (g : ℕ) (handle : ℕ) (s : ℕ) (side : Side)

@@ -2,11 +2,12 @@
 use Rattle.std.proofs.Common.{◌≡◌, ◌≢◌, ℕ, ◌<◌, true, false, List, [], ◌∷◌, ◌++◌, length, get_or, set, Option, Some, None, refl, sym, ap, ◌∙◌, subst, arith, ⊎_elim, length-set}
 use Rattle.std.proofs.lemmas.Bool.{cases_eq}
 use Rattle.std.proofs.lemmas.List.{get_or-set_same, get_or_push, get_or_past}
-use Rattle.strm_machine.specs.Words.{Guest, ReturnCode, TransmitIndex, Handles, removed, Entry, State, no_stream, guest_in, with_handles, stream_at, end_of, with_end, Turn, Name, named, stream_named, Reaction, written_back, is_end, Act, Reply, Gone, Side, Writing, Reading, End, Stream, Owner, Held, Loose, with_owner, is_held}
+use Rattle.strm_machine.specs.Words.{Guest, ReturnCode, TransmitIndex, Handles, removed, Entry, State, no_stream, Sets, guest_in, sets_in, with_handles, with_table, stream_at, end_of, with_end, Turn, Name, named, stream_named, Reaction, written_back, is_end, Act, Reply, Gone, Side, Writing, Reading, End, Stream, Owner, Held, Loose, with_owner, is_held}
 use Rattle.strm_codes.specs.declared.codes.TransmitIndex.TheVariants as index
 use Rattle.strm_handles.specs.Handles.{handle_limit, entry_at, next_index, inserted, IsTable}
 use Rattle.strm_handles.specs.Lookups.{end_rep_in, end_rep_of}
 use Rattle.strm_handles.proofs.HandleLemmas.{IsTable-inserted, IsTable-removed, entry_at-next_index, entry_at-inserted-same, entry_at-inserted-other, entry_at-removed-same, entry_at-removed-other}
+use Rattle.strm_sets.specs.Sets.{left}
 use Rattle.strm_machine.specs.State.{idle_end}
 use Rattle.strm_machine.specs.Making.{read_entry, write_entry, end_entry, with_read_end, made_stream, made_pair, with_stream}
 use Rattle.strm_machine.specs.Reactions.{reaction}
@@ -18,7 +19,7 @@ use Rattle.strm_machine.proofs.SoundStepLemmas.{operate-keeps}
 use Rattle.strm_machine.proofs.TurnLemmas.{TurnKeeps}
 use Rattle.strm_machine.proofs.RefusalLemmas.{PairFits}
 use Rattle.strm_machine.proofs.TableLemmas.{handles_of-with_memory, with_end-owners, handles-same, handles-more, handles-with_same, handles-with_other, tables-with, owner_in, owner-set_same, owner-set_stays, owner-set_other, owner-push_either, owner-push_same, owner-push_other}
-use Rattle.strm_machine.proofs.Shapes.{turn_on, set_by, Owning, guests_freed, guests_given, owned_by, IsFreed, IsTaken, Owns, Shape, ByTurn, BySetting, ByOwner, ByPair, ByGuest, ByPoke, ByRest}
+use Rattle.strm_machine.proofs.Shapes.{turn_on, set_by, Owning, guests_freed, guests_given, owned_by, IsFreed, IsTaken, Owns, Tabling, tabled_by, Tables, Shape, ByTurn, BySetting, ByOwner, ByTable, ByPair, ByGuest, ByPoke, ByRest}
 use Rattle.strm_machine.proofs.ShapeLemmas.{reaction-shape}
 
 abbrev pub names_in : List Guest → ℕ → ℕ → Name
@@ -38,24 +39,24 @@ StateIsHeld state = IsHeld state.guests state.streams
 IsHeld-same : (guests others : List Guest) (streams more : List Stream) → ((g : ℕ) → (guest_in others g).handles ≡ (guest_in guests g).handles) → ((s : ℕ) (side : Side) → owner_in more s side ≡ owner_in streams s side) → IsHeld guests streams → IsHeld others more
 IsHeld-same guests others streams more e f h = record {
   tables = λ g. subst (λ k. IsTable k) (sym (e g)) (h.tables g);
-  agree = Agree-same (names_in guests) (names_in others) (owner_in streams) (owner_in more) h.agree (λ g handle. ap (λ k. end_rep_of k handle) (e g)) f;
+  agree = Agree-same (names_in guests) (names_in others) (owner_in streams) (owner_in more) h.agree (λ g handle s side. ap (λ k. is_end s side (end_rep_of k handle)) (e g)) f;
 }
 
 -- what each handle names, but for one number of one table
-names-with : (guests : List Guest) (g : ℕ) (handles : Handles) (n : ℕ) → g < length guests → ((i : ℕ) → i ≢ n → entry_at handles i ≡ entry_at (guest_in guests g).handles i) → (k handle : ℕ) → ((k ≡ g) × (handle ≡ n) → ⊥) → names_in (with_handles guests g handles) k handle ≡ names_in guests k handle
-names-with guests g handles n l same k handle ne =
+names-with : (guests : List Guest) (g : ℕ) (handles : Handles) (sets : Sets) (n : ℕ) → g < length guests → ((i : ℕ) → i ≢ n → entry_at handles i ≡ entry_at (guest_in guests g).handles i) → (k handle : ℕ) → ((k ≡ g) × (handle ≡ n) → ⊥) → names_in (with_table guests g handles sets) k handle ≡ names_in guests k handle
+names-with guests g handles sets n l same k handle ne =
     ⊎_elim
     (λ e. let other : handle ≢ n = λ f. ne (e, f) in
-    ap (λ i. names_in (with_handles guests g handles) i handle) e
-    ∙ ap (λ t. end_rep_of t handle) (handles-with_same guests g handles l)
+    ap (λ i. names_in (with_table guests g handles sets) i handle) e
+    ∙ ap (λ t. end_rep_of t handle) (handles-with_same guests g handles sets l)
     ∙ ap end_rep_in (same handle other)
     ∙ ap (λ i. names_in guests i handle) (sym e))
-    (λ e. ap (λ t. end_rep_of t handle) (handles-with_other guests g handles k e))
+    (λ e. ap (λ t. end_rep_of t handle) (handles-with_other guests g handles sets k e))
     (cases_eq k g)
 
 -- what the changed number stands for
-names-here : (guests : List Guest) (g : ℕ) (handles : Handles) (n : ℕ) (o : Option Entry) → g < length guests → entry_at handles n ≡ o → names_in (with_handles guests g handles) g n ≡ end_rep_in o
-names-here guests g handles n o l e = ap (λ t. end_rep_of t n) (handles-with_same guests g handles l) ∙ ap end_rep_in e
+names-here : (guests : List Guest) (g : ℕ) (handles : Handles) (sets : Sets) (n : ℕ) (o : Option Entry) → g < length guests → entry_at handles n ≡ o → names_in (with_table guests g handles sets) g n ≡ end_rep_in o
+names-here guests g handles sets n o l e = ap (λ t. end_rep_of t n) (handles-with_same guests g handles sets l) ∙ ap end_rep_in e
 
 -- a number that names an end stands for an entry
 entry_there : (s : ℕ) (side : Side) (o : Option Entry) → is_end s side (end_rep_in o) ≡ true → (e : Entry) × (o ≡ Some e)
@@ -78,27 +79,28 @@ module _ (guests : List Guest) (streams more : List Stream) (g : ℕ) where
         let old = (guest_in guests g).handles in
         let n = next_index old in
         let new = inserted old e in
+        let same = sets_in guests g in
         let sound : IsTable old = h.tables g in
         record {
-          tables = tables-with guests g new l (IsTable-inserted old e sound small) h.tables;
+          tables = tables-with guests g new same l (IsTable-inserted old e sound small) h.tables;
           agree = Agree-more (names_in guests) (names_in (with_handles guests g new)) (owner_in streams) (owner_in more) h.agree g n s side
-              (names-with guests g new n l (λ i ne. entry_at-inserted-other old e i ne)) rest
+              (names-with guests g new same n l (λ i ne. entry_at-inserted-other old e i ne)) rest
               (λ k other. ap (λ o. is_end k other (end_rep_in o)) (entry_at-next_index old sound))
-              (ap (is_end s side) (names-here guests g new n (Some e) l (entry_at-inserted-same old e sound)) ∙ is)
+              (ap (is_end s side) (names-here guests g new same n (Some e) l (entry_at-inserted-same old e sound)) ∙ is)
               unheld owned;
         }
 
     -- a handle is removed, and no guest has the end that it named
-    IsHeld-removed : (handle : ℕ) → is_end s side (names_in guests g handle) ≡ true → is_held (owner_in more s side) ≡ false → IsHeld (with_handles guests g (removed table handle)) more
-    IsHeld-removed handle is unheld =
+    IsHeld-removed : (handle : ℕ) (sets : Sets) → is_end s side (names_in guests g handle) ≡ true → is_held (owner_in more s side) ≡ false → IsHeld (with_table guests g (removed table handle) sets) more
+    IsHeld-removed handle sets is unheld =
         let old = (guest_in guests g).handles in
         let new = removed old handle in
         let found = entry_there s side (entry_at old handle) is in
         record {
-          tables = tables-with guests g new l (IsTable-removed old handle found.0 found.1 (h.tables g)) h.tables;
-          agree = Agree-less (names_in guests) (names_in (with_handles guests g new)) (owner_in streams) (owner_in more) h.agree g handle s side
-              (names-with guests g new handle l (λ i ne. entry_at-removed-other old handle i ne)) rest is
-              (λ k other. ap (is_end k other) (names-here guests g new handle None l (entry_at-removed-same old handle)))
+          tables = tables-with guests g new sets l (IsTable-removed old handle found.0 found.1 (h.tables g)) h.tables;
+          agree = Agree-less (names_in guests) (names_in (with_table guests g new sets)) (owner_in streams) (owner_in more) h.agree g handle s side
+              (names-with guests g new sets handle l (λ i ne. entry_at-removed-other old handle i ne)) rest is
+              (λ k other. ap (is_end k other) (names-here guests g new sets handle None l (entry_at-removed-same old handle)))
               unheld;
         }
 
@@ -169,7 +171,7 @@ module _ (streams : List Stream) (s : ℕ) (side : Side) (made : s < length stre
   freed_held : (guests : List Guest) (o : Option (ℕ × ℕ)) → IsFreed guests s side (owner_in streams s side) o → IsHeld guests streams → IsHeld (guests_freed guests o) (owned Loose)
   freed_held guests None unheld h = IsHeld-beside guests streams (owned Loose) s side (owned_beside Loose) unheld (ap is_held (owned_here Loose)) h
   freed_held guests (Some f) frees h =
-      IsHeld-removed guests streams (owned Loose) f.0 s side frees.there (owned_beside Loose) h f.1 frees.held (ap is_held (owned_here Loose))
+      IsHeld-removed guests streams (owned Loose) f.0 s side frees.there (owned_beside Loose) h f.1 (left (sets_in guests f.0) f.1) frees.held (ap is_held (owned_here Loose))
 
   -- and then a guest gets one, or none does
   taken_held : (guests : List Guest) (entry : Entry) (owner : Owner) (o : Option ℕ) → is_end s side (end_rep_in (Some entry)) ≡ true → IsTaken guests owner o → IsHeld guests (owned Loose) → IsHeld (guests_given guests entry o) (owned owner)
@@ -189,6 +191,26 @@ owned_held : (state : State) (reply : Reply) (x : Owning) → Owns state reply x
 owned_held state reply x o h =
     let freed = freed_held state.streams x.stream x.side o.made state.guests x.freed o.freed h in
     taken_held state.streams x.stream x.side o.made (guests_freed state.guests x.freed) (end_entry x.side x.ty x.stream) x.owner x.taker (end_entry-end x.side x.ty x.stream) o.taken freed
+
+-- ## A table with its sets
+
+tabled_held : (state : State) (reply : Reply) (x : Tabling) → Tables state reply x → StateIsHeld state → StateIsHeld (tabled_by state x)
+tabled_held state reply x t h =
+    let guests = (tabled_by state x).guests in
+    record {
+      tables = tables-with state.guests x.guest x.handles x.sets t.there t.holds.table h.tables;
+      agree = Agree-same (names_in state.guests) (names_in guests) (owner_in state.streams) (owner_in state.streams) h.agree named (λ s side. refl);
+    }
+  where
+    named : (g handle s : ℕ) (side : Side) → is_end s side (names_in (tabled_by state x).guests g handle) ≡ is_end s side (names_in state.guests g handle)
+    named g handle s side =
+        ⊎_elim
+        (λ e. ap (λ i. is_end s side (names_in (tabled_by state x).guests i handle)) e
+        ∙ ap (λ k. is_end s side (end_rep_of k handle)) (handles-with_same state.guests x.guest x.handles x.sets t.there)
+        ∙ t.ends handle s side
+        ∙ ap (λ i. is_end s side (names_in state.guests i handle)) (sym e))
+        (λ ne. ap (λ k. is_end s side (end_rep_of k handle)) (handles-with_other state.guests x.guest x.handles x.sets g ne))
+        (cases_eq g x.guest)
 
 -- ## A stream more
 
@@ -238,6 +260,7 @@ shape-held state act r h (BySetting reply x e set) =
     (λ k. refl)
     (λ k other. owner-set_stays state.streams x.stream (with_end x.side (stream_at state x.stream) x.end) k other (with_end-owners x.side (stream_at state x.stream) x.end set.becomes.owner)) h)
 shape-held state act r h (ByOwner reply x e o) = rw e (owned_held state reply x o h)
+shape-held state act r h (ByTable reply x e t) = rw e (tabled_held state reply x t h)
 shape-held state act r h (ByPair writer reader ty a e fits) = rw e (between_held state writer reader ty fits h)
 shape-held state act r h (ByGuest size a e fits) = rw e (guests_held state _ (λ g. handles-more state.guests _ g refl) h)
 shape-held state act r h (ByPoke g address bytes a e fits) =

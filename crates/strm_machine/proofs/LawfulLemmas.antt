@@ -5,16 +5,18 @@ use Rattle.std.specs.Prelude.{All, IsSome, ◌⊎◌}
 use Rattle.std.proofs.lemmas.Bool.{cond-true}
 use Rattle.std.proofs.lemmas.List.{get_or-set_same, set-get_or, get_or_append_left}
 use Rattle.std.proofs.lemmas.List.Elements.{All-push, All-set}
-use Rattle.strm_machine.specs.Words.{Guest, ReturnCode, TransmitIndex, Handles, Entry, removed, State, no_stream, guest_in, memory_in, with_handles, stream_at, opposite, same_side, end_of, with_end, Turn, named, stream_named, sizes_of, both_open, Reaction, goes, written_back, operates, Moment, names, as_report, report_in, accepted, k_of, items_in, received, NamedEnd, Poke, Act, Make, OnMemory, Side, Writing, Reading, Operation, End, Stream, Reply}
+use Rattle.strm_machine.specs.Words.{Guest, ReturnCode, TransmitIndex, Handles, Sets, Entry, removed, State, no_stream, guest_in, memory_in, sets_in, with_table, stream_at, opposite, same_side, end_of, with_end, Turn, named, stream_named, sizes_of, both_open, Reaction, goes, written_back, operates, Moment, names, as_report, report_in, accepted, k_of, items_in, received, NamedEnd, Poke, Act, Make, OnMemory, Side, Writing, Reading, Operation, End, Stream, Reply}
 use Rattle.strm_memory.specs.Bytes.{IsBytes}
 use Rattle.strm_handles.specs.Handles.{inserted}
+use Rattle.strm_sets.specs.Sets.{left}
 use Rattle.strm_machine.specs.Making.{end_entry, made_stream, made_pair, with_stream}
 use Rattle.strm_machine.specs.Reactions.{written, reaction}
 use Rattle.strm_machine.specs.Moments.{code_told, place_of, read_place, PutsBytes}
 use Rattle.strm_machine.specs.declared.acts.Making.TheVariants as makings
 use Rattle.strm_machine.specs.declared.replies.Reply.TheVariants as replies
 use Rattle.strm_machine.proofs.SideLemmas.{same_side-itself, end_placed}
-use Rattle.strm_machine.proofs.SoundLemmas.{IsSound-guests, IsSound-turn, IsSound-with_stream, IsSound-set}
+use Rattle.strm_machine.proofs.SoundLemmas.{IsSound-guests, IsSound-turn, IsSound-with_stream, IsSound-table, IsSound-set}
+use Rattle.strm_machine.proofs.RefusalLemmas.{PairFits}
 use Rattle.strm_machine.proofs.SoundStepLemmas.{operate-keeps, poke-keeps, guest-sound}
 use Rattle.strm_machine.proofs.TurnLemmas.{TurnKeeps}
 use Rattle.strm_machine.proofs.Changes.{Scene, scene, Change, ByRest as RestChange, BySettling}
@@ -27,7 +29,7 @@ use Rattle.strm_machine.proofs.MomentLemmas.{Seen, seen_reacts, Untold, unnamed,
 use Rattle.strm_machine.proofs.MoveLemmas.{end_by, IsSound-owned}
 use Rattle.strm_machine.proofs.TurnChangeLemmas.{scene_of, Does, Unturned, DoesBy, turn_does, still}
 use Rattle.strm_machine.proofs.Lawful.{IsLawful, HasRoom, as_moment, Reacts}
-use Rattle.strm_machine.proofs.Shapes.{operating, stream_on, begun_on, turn_on, Operates, Setting, set_by, Sets, Owning, guests_freed, guests_given, guests_by, owned_by, Owns, Shape, ByTurn, BySetting, ByOwner, ByPair, ByGuest, ByPoke, ByRest}
+use Rattle.strm_machine.proofs.Shapes.{operating, stream_on, begun_on, turn_on, Operates, Setting, set_by, SetsEnd, Owning, guests_freed, guests_given, guests_by, owned_by, Owns, tabled_by, Shape, ByTurn, BySetting, ByOwner, ByTable, ByPair, ByGuest, ByPoke, ByRest}
 use Rattle.strm_machine.proofs.ShapeLemmas.{reaction-shape}
 
 -- ## Reads and writes
@@ -61,7 +63,7 @@ trapped_reacts state act s t h keeps u =
     let streams : set state.streams s t.stream ≡ state.streams = ap (set state.streams s) u.same_stream ∙ set-get_or state.streams s no_stream in
     let sound = IsSound-turn state s t keeps h.sound in
     quiet_reacts state act (replies.BadItem s) (record (written state s t) { trapped = true }) streams refl h
-    (record { named = sound.named; placed = sound.placed; small = sound.small })
+    (record { named = sound.named; placed = sound.placed; small = sound.small; sets = sound.sets })
     (subst AreBytes (sym u.same_guests) h.bytes)
 
 module _ (state : State) (side : Side) (end : NamedEnd) (address count : ℕ) (s : ℕ) (t : Turn)
@@ -119,7 +121,7 @@ module _ (side : Side) (v : Scene) (takes : v.taken ≡ []) (nothing : v.got ≡
       still side v takes (r ∙ t.0) nothing payload count (is ∙ ap Some t.1 ∙ sym was)
 
 -- the end that is set is told its code, and the opposite one stays
-setting_seen : (state : State) (act : Act) (reply : Reply) (x : Setting) → IsLawful state → Sets state act reply x → Seen x.stream (as_moment state act (goes reply (set_by state x)))
+setting_seen : (state : State) (act : Act) (reply : Reply) (x : Setting) → IsLawful state → SetsEnd state act reply x → Seen x.stream (as_moment state act (goes reply (set_by state x)))
 setting_seen state act reply x h set =
     let s = x.stream in
     let side = x.side in
@@ -141,10 +143,10 @@ setting_seen state act reply x h set =
     (ap both_open after ∙ with_end-apart side stream x.end becomes.left (h.apart s))
     (subst Tallies (sym after) (Tallies-with_end side stream x.end becomes.left (h.tallies s)))
 
-AreBytes-with_handles : (guests : List Guest) (g : ℕ) (handles : Handles) → AreBytes guests → AreBytes (with_handles guests g handles)
-AreBytes-with_handles guests g handles h = All-set (λ (k : Guest). IsBytes k.memory) guests g (record (guest_in guests g) { handles = handles }) (memory_bytes guests g h) h
+AreBytes-with_table : (guests : List Guest) (g : ℕ) (handles : Handles) (sets : Sets) → AreBytes guests → AreBytes (with_table guests g handles sets)
+AreBytes-with_table guests g handles sets h = All-set (λ (k : Guest). IsBytes k.memory) guests g (record (guest_in guests g) { handles = handles; sets = sets }) (memory_bytes guests g h) h
 
-sets_reacts : (state : State) (act : Act) (reply : Reply) (x : Setting) → IsLawful state → Sets state act reply x → Reacts state act (goes reply (set_by state x))
+sets_reacts : (state : State) (act : Act) (reply : Reply) (x : Setting) → IsLawful state → SetsEnd state act reply x → Reacts state act (goes reply (set_by state x))
 sets_reacts state act reply x h set =
     let stream = stream_at state x.stream in
     set_reacts state act reply state.guests x.stream x.side (with_end x.side stream x.end) set.named h (with_end-replaces x.side stream x.end).kind
@@ -175,11 +177,11 @@ owning_seen state act reply x h o =
 
 AreBytes-freed : (guests : List Guest) (o : Option (ℕ × ℕ)) → AreBytes guests → AreBytes (guests_freed guests o)
 AreBytes-freed guests None h = h
-AreBytes-freed guests (Some f) h = AreBytes-with_handles guests f.0 (removed (guest_in guests f.0).handles f.1) h
+AreBytes-freed guests (Some f) h = AreBytes-with_table guests f.0 (removed (guest_in guests f.0).handles f.1) (left (sets_in guests f.0) f.1) h
 
 AreBytes-given : (guests : List Guest) (entry : Entry) (o : Option ℕ) → AreBytes guests → AreBytes (guests_given guests entry o)
 AreBytes-given guests entry None h = h
-AreBytes-given guests entry (Some g) h = AreBytes-with_handles guests g (inserted (guest_in guests g).handles entry) h
+AreBytes-given guests entry (Some g) h = AreBytes-with_table guests g (inserted (guest_in guests g).handles entry) (sets_in guests g) h
 
 owns_reacts : (state : State) (act : Act) (reply : Reply) (x : Owning) → IsLawful state → Owns state reply x → Reacts state act (goes reply (owned_by state x))
 owns_reacts state act reply x h o =
@@ -224,9 +226,9 @@ new_seen s m ty writer write reader read u was is =
     new_operation Writing = refl
     new_operation Reading = refl
 
-between_reacts : (state : State) (writer reader : ℕ) (ty : TransmitIndex) → IsLawful state → Reacts state (Make (makings.Between writer reader ty)) (goes (replies.Pair (made_pair state writer reader ty)) (with_stream state writer reader ty))
+between_reacts : (state : State) (writer reader : ℕ) (ty : TransmitIndex) → PairFits state writer reader ty → IsLawful state → Reacts state (Make (makings.Between writer reader ty)) (goes (replies.Pair (made_pair state writer reader ty)) (with_stream state writer reader ty))
 unfolding with_stream
-between_reacts state writer reader ty h =
+between_reacts state writer reader ty fits h =
     let pair = made_pair state writer reader ty in
     let r = goes (replies.Pair pair) (with_stream state writer reader ty) in
     let act = Make (makings.Between writer reader ty) in
@@ -238,8 +240,8 @@ between_reacts state writer reader ty h =
     (λ new. new_seen s m ty writer pair.write reader pair.read (λ side. untold s side m refl) new.0 new.1)
     (made_at state.streams x s))
     (λ s l. record { there = omega (arith, l, length-append state.streams (x ∷ [])); kind = ap (λ (st : Stream). st.kind) (get_or_append_left state.streams (x ∷ []) no_stream s l) })
-    (IsSound-with_stream state writer reader ty h.sound)
-    (AreBytes-with_handles _ writer _ (AreBytes-with_handles state.guests reader _ h.bytes))
+    (IsSound-with_stream state writer reader ty fits.read fits.write h.sound)
+    (AreBytes-with_table _ writer _ _ (AreBytes-with_table state.guests reader _ _ h.bytes))
 
 -- ## Every step
 
@@ -247,7 +249,11 @@ shape-reacts : (state : State) (act : Act) (r : Reaction) → PutsBytes act → 
 shape-reacts state act r b h room (ByTurn side end address count a e o) = rw (a, e) (operates_reacts state side end address count h room o)
 shape-reacts state act r b h room (BySetting reply x e set) = rw e (sets_reacts state act reply x h set)
 shape-reacts state act r b h room (ByOwner reply x e o) = rw e (owns_reacts state act reply x h o)
-shape-reacts state act r b h room (ByPair writer reader ty a e fits) = rw (a, e) (between_reacts state writer reader ty h)
+shape-reacts state act r b h room (ByTable reply x e t) =
+    rw e
+    (quiet_reacts state act reply (tabled_by state x) refl t.untold h (IsSound-table state x.guest x.handles x.sets t.named t.holds h.sound)
+    (AreBytes-with_table state.guests x.guest x.handles x.sets h.bytes))
+shape-reacts state act r b h room (ByPair writer reader ty a e fits) = rw (a, e) (between_reacts state writer reader ty fits h)
 shape-reacts state act r b h room (ByGuest size a e fits) =
     rw (a, e)
     (quiet_reacts state (Make (makings.Guest size)) (replies.Number (length state.guests)) _ refl refl h (guest-sound state size fits h.sound)

@@ -1,6 +1,8 @@
 pub mod BoundLemmas
 pub mod SideLemmas
 pub mod TurnLemmas
+pub mod TableLemmas
+pub mod WaitableSetLemmas
 pub mod SoundLemmas
 pub mod StateLemmas
 pub mod RefusalLemmas
@@ -18,11 +20,11 @@ pub mod Lawful
 pub mod MomentLemmas
 pub mod Shapes
 pub mod MoveLemmas
+pub mod SetStepLemmas
 pub mod ShapeLemmas
 pub mod SoundStepLemmas
 pub mod LawfulLemmas
 pub mod AgreeLemmas
-pub mod TableLemmas
 pub mod HeldLemmas
 pub mod UntouchedLemmas
 pub mod AskedLemmas

@@ -53,6 +53,7 @@ untaken act (replies.Number n) r e = refl
 untaken act (replies.Pair pair) r e = refl
 untaken act (replies.Code code) r e = cc
 untaken act (replies.Event code) r e = refl
+untaken act (replies.Member member) r e = refl
 untaken act (replies.Bytes bytes) r e = refl
 untaken act (replies.Refused refusal) r e = refl
 untaken act (replies.BadItem stream) r e = refl

@@ -1,24 +1,28 @@
 -- An end that gets another owner: memories stay, and the state is sound.
-use Rattle.std.proofs.Common.{◌≡◌, ℕ, ◌<◌, List, length, get_or, set, Option, Some, None, refl, ap, ◌∙◌, inl, arith, length-set}
+use Rattle.std.proofs.Common.{◌≡◌, true, ℕ, ◌<◌, List, length, get_or, set, Option, Some, None, refl, ap, ◌∙◌, inl, arith, length-set}
 use Rattle.std.proofs.Math.Seq.{map-set_same}
 use Rattle.std.proofs.Math.ListN.{get_or-map}
 use Rattle.std.proofs.lemmas.List.{length-map}
-use Rattle.strm_machine.specs.Words.{Guest, TransmitIndex, Entry, removed, State, no_stream, guest_in, memory_in, stream_at, end_of, with_end, IsSound, Side, Writing, Reading, End, Reply}
+use Rattle.strm_machine.specs.Words.{Guest, TransmitIndex, Entry, removed, State, no_stream, guest_in, sets_in, memory_in, stream_at, end_named, end_of, with_end, IsSound, Side, Writing, Reading, End, Reply, Owner}
 use Rattle.strm_codes.specs.declared.codes.TransmitIndex.TheVariants as index
 use Rattle.strm_codes.specs.declared.payloads.Payload.TheVariants.{Nothing}
+use Rattle.std.specs.Prelude.{is_ok}
 use Rattle.strm_handles.specs.Handles.{inserted}
+use Rattle.strm_handles.specs.Lookups.{end_rep_in}
+use Rattle.strm_sets.specs.Sets.{left}
 use Rattle.strm_machine.specs.Making.{end_entry}
 use Rattle.strm_machine.specs.Soundness.{type_of, types_of, EntryIsNamed}
 use Rattle.strm_machine.proofs.EndLemmas.{with_end-type}
-use Rattle.strm_machine.proofs.SoundLemmas.{IsSound-freed, IsSound-given, IsSound-set}
-use Rattle.strm_machine.proofs.StateLemmas.{memory_in-with_handles}
-use Rattle.strm_machine.proofs.Shapes.{Owning, guests_freed, guests_given, guests_by, owned_by, Owns}
+use Rattle.strm_machine.proofs.SoundLemmas.{end_entry-ok, IsSound-freed, IsSound-given, IsSound-set}
+use Rattle.strm_machine.proofs.NamedEndLemmas.{is_end-ok}
+use Rattle.strm_machine.proofs.StateLemmas.{memory_in-with_table}
+use Rattle.strm_machine.proofs.Shapes.{Owning, guests_freed, guests_given, guests_by, owned_by, IsFreed, IsTaken, Owns}
 
 -- ## Guests
 
 pub length-freed : (guests : List Guest) (o : Option (ℕ × ℕ)) → length (guests_freed guests o) ≡ length guests
 length-freed guests None = refl
-length-freed guests (Some h) = length-set guests h.0 (record (guest_in guests h.0) { handles = removed (guest_in guests h.0).handles h.1 })
+length-freed guests (Some h) = length-set guests h.0 (record (guest_in guests h.0) { handles = removed (guest_in guests h.0).handles h.1; sets = left (sets_in guests h.0) h.1 })
 
 length-given : (guests : List Guest) (entry : Entry) (o : Option ℕ) → length (guests_given guests entry o) ≡ length guests
 length-given guests entry None = refl
@@ -26,11 +30,11 @@ length-given guests entry (Some g) = length-set guests g (record (guest_in guest
 
 memory_in-freed : (guests : List Guest) (o : Option (ℕ × ℕ)) (k : ℕ) → memory_in (guests_freed guests o) k ≡ memory_in guests k
 memory_in-freed guests None k = refl
-memory_in-freed guests (Some h) k = memory_in-with_handles guests h.0 (removed (guest_in guests h.0).handles h.1) k
+memory_in-freed guests (Some h) k = memory_in-with_table guests h.0 (removed (guest_in guests h.0).handles h.1) (left (sets_in guests h.0) h.1) k
 
 memory_in-given : (guests : List Guest) (entry : Entry) (o : Option ℕ) (k : ℕ) → memory_in (guests_given guests entry o) k ≡ memory_in guests k
 memory_in-given guests entry None k = refl
-memory_in-given guests entry (Some g) k = memory_in-with_handles guests g (inserted (guest_in guests g).handles entry) k
+memory_in-given guests entry (Some g) k = memory_in-with_table guests g (inserted (guest_in guests g).handles entry) (sets_in guests g) k
 
 module _ (guests : List Guest) (x : Owning) where
   pub length-by : length (guests_by guests x) ≡ length guests
@@ -48,13 +52,13 @@ end_entry-named types Writing (index.Future payload) s l e = record { there = l;
 end_entry-named types Reading (index.Stream payload) s l e = record { there = l; typed = e; idle = refl }
 end_entry-named types Reading (index.Future payload) s l e = record { there = l; typed = e; idle = refl }
 
-freed-sound : (state : State) (o : Option (ℕ × ℕ)) → IsSound state → IsSound (record state { guests = guests_freed state.guests o })
-freed-sound state None h = record { named = h.named; placed = h.placed; small = h.small }
-freed-sound state (Some f) h = IsSound-freed state f.0 f.1 h
+freed-sound : (state : State) (s : ℕ) (side : Side) (owner : Owner) (o : Option (ℕ × ℕ)) → IsFreed state.guests s side owner o → IsSound state → IsSound (record state { guests = guests_freed state.guests o })
+freed-sound state s side owner None f h = record { named = h.named; placed = h.placed; small = h.small; sets = h.sets }
+freed-sound state s side owner (Some n) f h = IsSound-freed state n.0 n.1 (is_end-ok s side (end_named state n.0 n.1) f.held) h
 
-given-sound : (state : State) (entry : Entry) (o : Option ℕ) → EntryIsNamed (types_of state.streams) (Some entry) → IsSound state → IsSound (record state { guests = guests_given state.guests entry o })
-given-sound state entry None p h = record { named = h.named; placed = h.placed; small = h.small }
-given-sound state entry (Some g) p h = IsSound-given state g entry p h
+given-sound : (state : State) (entry : Entry) (owner : Owner) (o : Option ℕ) → EntryIsNamed (types_of state.streams) (Some entry) → is_ok (end_rep_in (Some entry)) ≡ true → IsTaken state.guests owner o → IsSound state → IsSound (record state { guests = guests_given state.guests entry o })
+given-sound state entry owner None p ok t h = record { named = h.named; placed = h.placed; small = h.small; sets = h.sets }
+given-sound state entry owner (Some g) p ok t h = IsSound-given state g entry p ok t.small h
 
 -- the end with another owner
 abbrev pub end_by : State → Owning → End
@@ -68,6 +72,6 @@ IsSound-owned state reply x o h =
     let there : x.stream < length (types_of streams) = omega (arith, o.made, length-map state.streams type_of, ap length types) in
     let typed = ap (λ ts. get_or ts x.stream (index.Stream Nothing)) types ∙ get_or-map type_of state.streams x.stream no_stream ∙ o.typed in
     let set = IsSound-set state x.stream x.side (end_by state x) o.made (inl refl) h in
-    let freed = freed-sound (record state { streams = streams }) x.freed set in
-    given-sound (record state { guests = guests_freed state.guests x.freed; streams = streams }) (end_entry x.side x.ty x.stream) x.taker
-    (end_entry-named (types_of streams) x.side x.ty x.stream there typed) freed
+    let freed = freed-sound (record state { streams = streams }) x.stream x.side (end_of x.side stream).owner x.freed o.freed set in
+    given-sound (record state { guests = guests_freed state.guests x.freed; streams = streams }) (end_entry x.side x.ty x.stream) x.owner x.taker
+    (end_entry-named (types_of streams) x.side x.ty x.stream there typed) (end_entry-ok x.side x.ty x.stream) o.taken freed

@@ -12,10 +12,13 @@ use Rattle.strm_handles.specs.declared.entries.Entry.TheVariants as entries
 use Rattle.strm_handles.specs.declared.entries.TransmitEnd.{TransmitEnd}
 use Rattle.strm_handles.specs.declared.errors.HandleError.TheVariants as errors
 use Rattle.strm_machine.specs.Tests.{named_by, side_of, side_named, is_busy}
-use Rattle.strm_machine.specs.Refusals.{end_reasons_of, event_reasons}
+use Rattle.strm_machine.specs.Refusals.{end_reasons_of, slot_reasons}
 use Rattle.strm_machine.specs.Soundness.{type_of, types_of, EntryIsNamed}
 use Rattle.strm_machine.specs.declared.acts.EndAct.{EndAct}
-use Rattle.strm_machine.specs.declared.acts.Act.TheVariants.{Event}
+use Rattle.strm_machine.specs.declared.acts.Act.TheVariants.{Event, OnSet}
+use Rattle.strm_machine.specs.declared.acts.SetAct.TheVariants as set_acts
+use Rattle.strm_machine.specs.WaitableSets.{ready_in}
+use Rattle.strm_machine.specs.Moments.{is_end_ready}
 use Rattle.strm_machine.proofs.NameLemmas.{entry_named, named_there, named_type, named_payload, named_kind, end_named_there}
 use Rattle.strm_machine.proofs.RefusalLemmas.{not_refused, neither, EventFits}
 use Rattle.strm_machine.proofs.SideLemmas.{same_side_is, same_side-itself}
@@ -67,7 +70,7 @@ end_fits stream side g ty named e =
     record { same = same_side_is side named (not-false (same_side side named) both.0); idle = none_is (end_of side stream).operation both.1; unended = second.0 }
 
 -- the same of an end of whichever type
-entry_found : (o : Option Entry) → first_of (event_reasons (end_rep_in o)) ≡ None → is_ok (end_rep_in o) ≡ true
+pub entry_found : (o : Option Entry) → first_of (slot_reasons (end_rep_in o)) ≡ None → is_ok (end_rep_in o) ≡ true
 entry_found None e = cc
 entry_found (Some (entries.Stream end)) e = refl
 entry_found (Some (entries.Future end)) e = refl
@@ -87,7 +90,7 @@ entry_there types (Some (entries.ErrorContext rep)) h e = cc
 entry_there types (Some (entries.Subtask rep is_host)) h e = cc
 entry_there types (Some (entries.WaitableSet rep)) h e = cc
 
-pub end_found : (state : State) (g handle : ℕ) → first_of (event_reasons (end_named state g handle)) ≡ None → is_ok (end_named state g handle) ≡ true
+pub end_found : (state : State) (g handle : ℕ) → first_of (slot_reasons (end_named state g handle)) ≡ None → is_ok (end_named state g handle) ≡ true
 end_found state g handle e = entry_found _ e
 
 pub end_there : (state : State) (g handle : ℕ) → IsSound state → is_ok (end_named state g handle) ≡ true → stream_named (end_named state g handle) < length state.streams
@@ -104,6 +107,13 @@ is_end-unmade n s side (Err error) l h = refl
 pub names-unmade : (state : State) (act : Act) (s : ℕ) (side : Side) → IsSound state → length state.streams ≤ s → names s side state act ≡ false
 names-unmade state (OnEnd on end act) s side h l = is_end-unmade (length state.streams) s side (named state end) l (named_there state end (named state end) h refl)
 names-unmade state (Event g handle) s side h l = is_end-unmade (length state.streams) s side (end_named state g handle) l (end_named_there state g handle (end_named state g handle) h refl)
+names-unmade state (OnSet g set set_acts.Poll) s side h l = unmade_ready (ready_in state g set)
+  where
+    unmade_ready : (o : Option ℕ) → is_end_ready s side state g o ≡ false
+    unmade_ready None = refl
+    unmade_ready (Some handle) = is_end-unmade (length state.streams) s side (end_named state g handle) l (end_named_there state g handle (end_named state g handle) h refl)
+names-unmade state (OnSet g set (set_acts.Join handle)) s side h l = refl
+names-unmade state (OnSet g set set_acts.Drop) s side h l = refl
 names-unmade state _ s side h l = refl
 
 -- ## Look-ups with a type and without
@@ -159,16 +169,23 @@ on_end-found state side end act h there found same =
       named = λ k other. is_end_on k side other name found same;
     }
 
--- and without
-pub event-found : (state : State) (g handle : ℕ) → IsSound state → EventFits state g handle → IsFound state (Event g handle) g handle (stream_named (end_named state g handle)) (side_named (end_named state g handle))
-event-found state g handle h fits =
+-- the end that a handle names, whatever its type, for an act that names just what that handle does
+pub end_named-found : (state : State) (act : Act) (g handle : ℕ) → IsSound state → g < length state.guests → is_ok (end_named state g handle) ≡ true → ((k : ℕ) (other : Side) → names k other state act ≡ is_end k other (end_named state g handle)) → IsFound state act g handle (stream_named (end_named state g handle)) (side_named (end_named state g handle))
+end_named-found state act g handle h there found same =
     let name = end_named state g handle in
     let s = stream_named name in
     let side = side_named name in
-    let found = end_found state g handle fits.found in
     record {
-      there = fits.there;
+      there = there;
       made = end_there state g handle h found;
       held = is_end_on s side side name found refl ∙ end_itself s side;
-      named = λ k other. is_end_on k side other name found refl;
+      named = λ k other. same k other ∙ is_end_on k side other name found refl;
     }
+
+pub event-found : (state : State) (g handle : ℕ) → IsSound state → EventFits state g handle → IsFound state (Event g handle) g handle (stream_named (end_named state g handle)) (side_named (end_named state g handle))
+event-found state g handle h fits = end_named-found state (Event g handle) g handle h fits.there (end_found state g handle fits.found) (λ k other. refl)
+
+-- what names an end is found
+pub is_end-ok : (s : ℕ) (side : Side) (name : Name) → is_end s side name ≡ true → is_ok name ≡ true
+is_end-ok s side (Ok answer) is = refl
+is_end-ok s side (Err error) is = cc

@@ -17,12 +17,13 @@ use Rattle.strm_codes.specs.Counts.{count_limit}
 use Rattle.strm_machine.specs.Making.{writer_index}
 use Rattle.strm_codes.specs.Sameness.{same_payload}
 use Rattle.strm_codes.proofs.SamenessLemmas.{Decides-same_payload}
-use Rattle.strm_machine.specs.Refusals.{Reason, region_reasons, handle_reasons, end_reasons_of, event_reasons, where_, side_reasons, own_reasons, number_reasons, on_end_reasons, bytes_reasons, refusal}
+use Rattle.strm_machine.specs.Refusals.{Reason, region_reasons, handle_reasons, end_reasons_of, slot_reasons, where_, side_reasons, own_reasons, last_reasons, on_end_reasons, bytes_reasons, refusal}
 use Rattle.strm_machine.specs.declared.acts.Making.TheVariants.{Guest, Between}
 use Rattle.strm_machine.specs.declared.acts.EndAct.TheVariants.{Drop, Move, Lift}
 use Rattle.strm_machine.specs.declared.acts.LooseAct.TheVariants.{Lower, Close}
 use Rattle.strm_machine.specs.declared.acts.MemoryAct.TheVariants.{Dump}
 use Rattle.strm_machine.specs.declared.acts.Act.TheVariants.{Event}
+use Rattle.strm_machine.specs.WaitableSets.{is_in_set}
 use Rattle.strm_machine.proofs.TurnLemmas.{size_in}
 use Rattle.strm_machine.proofs.NameLemmas.{IsNameError, named_by-error}
 use Rattle.strm_handles.specs.declared.errors.HandleError.TheVariants as errors
@@ -167,7 +168,7 @@ named_ok state end e = name_ok (named state end) (named_by-error end.ty (guest_i
 -- an event that may be asked for
 pub record EventFits (state : State) (g handle : ℕ) : Type 0 where
   pub there : g < length state.guests
-  pub found : first_of (event_reasons (end_named state g handle)) ≡ None
+  pub found : first_of (slot_reasons (end_named state g handle)) ≡ None
 
 pub event_fits : (state : State) (g handle : ℕ) → refusal state (Event g handle) ≡ None → EventFits state g handle
 unfolding refusal
@@ -222,9 +223,12 @@ lift_reasons state side end =
 
 pub lift_fits : (state : State) (side : Side) (end : NamedEnd) → first_of (on_end_reasons state side end Lift) ≡ None → LeaveFits state side end
 lift_fits state side end e =
-    let fits = named_fits state side end (lift_reasons state side end) e in
-    let idle = not_refused (is_busy side (stream_at state (stream_named (named state end)))) _ _ fits.1 in
-    record { there = fits.0.there; found = fits.0.found; same = fits.0.same; idle = idle.0 }
+    let name = named state end in
+    let guest = not_refused (is_unknown_guest state end.guest) _ _ e in
+    let both = none_of_both (handle_reasons name ++ own_reasons state side end Lift) (last_reasons state end Lift) guest.1 in
+    let fits = side_fits state side end (lift_reasons state side end) both.0 in
+    let idle = not_refused (is_busy side (stream_at state (stream_named name))) _ _ fits.rest in
+    record { there = not_le (length state.guests) end.guest guest.0; found = fits.found; same = fits.same; idle = idle.0 }
 
 -- an end that may go to a guest
 pub record MoveFits (state : State) (side : Side) (end : NamedEnd) (to : ℕ) : Type 0 where
@@ -237,10 +241,11 @@ move_fits state side end to e =
     let name = named state end in
     let first = not_refused (is_unknown_guest state end.guest || is_unknown_guest state to) _ _ e in
     let there = neither (is_unknown_guest state end.guest) (is_unknown_guest state to) first.0 in
-    let both = none_of_both (handle_reasons name ++ own_reasons state side end (Move to)) (number_reasons state end (Move to)) first.1 in
+    let both = none_of_both (handle_reasons name ++ own_reasons state side end (Move to)) (last_reasons state end (Move to)) first.1 in
     let fits = side_fits state side end (lift_reasons state side end) both.0 in
     let idle = not_refused (is_busy side (stream_at state (stream_named name))) _ _ fits.rest in
-    let number = not_refused (is_no_handle (next_in (without_handle state end.guest end.handle) to)) _ _ both.1 in
+    let apart = not_refused (is_in_set state end.guest end.handle) _ _ both.1 in
+    let number = not_refused (is_no_handle (next_in (without_handle state end.guest end.handle) to)) _ _ apart.1 in
     record {
       leaves = record { there = not_le (length state.guests) end.guest there.0; found = fits.found; same = fits.same; idle = idle.0 };
       to_there = not_le (length state.guests) to there.1;

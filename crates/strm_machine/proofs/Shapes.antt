@@ -1,11 +1,12 @@
 -- What a step does by its shape: the few ways in which steps change a state, and what is known of each.
 use Rattle.std.proofs.Common.{◌≡◌, ℕ, ◌<◌, true, false, List, [], length, set, Option, Some, None}
-use Rattle.strm_machine.specs.Words.{Guest, kind_of, ReturnCode, TransmitIndex, Entry, removed, State, guest_in, with_handles, stream_at, is_end, end_of, with_end, Turn, named, stream_named, has_ended, Reaction, goes, operates, sizes_of, IsPlaced, StreamIsPlaced, accepted, NamedEnd, Operate, Poke, Act, Make, OnEnd, OnMemory, Reply, Side, Operation, End, Stream, Owner, Held, is_held, with_owner}
+use Rattle.strm_machine.specs.Words.{Guest, kind_of, ReturnCode, TransmitIndex, Handles, Entry, removed, Sets, State, guest_in, sets_in, with_handles, with_table, end_named, HoldsSets, stream_at, is_end, end_of, with_end, Turn, named, stream_named, has_ended, Reaction, goes, operates, sizes_of, IsPlaced, StreamIsPlaced, accepted, NamedEnd, Operate, Poke, Act, Make, OnEnd, OnMemory, Reply, Side, Operation, End, Stream, Owner, Held, is_held, with_owner}
 use Rattle.strm_handles.specs.Handles.{handle_limit, next_index, inserted}
 use Rattle.strm_handles.specs.Lookups.{end_rep_of}
 use Rattle.strm_machine.specs.Meetings.{begun}
 use Rattle.strm_machine.specs.Making.{end_entry}
-use Rattle.strm_machine.specs.Soundness.{type_of}
+use Rattle.strm_sets.specs.Sets.{left}
+use Rattle.strm_machine.specs.Soundness.{type_of, types_of, AreNamed}
 use Rattle.strm_machine.specs.Turns.{turn}
 use Rattle.strm_machine.specs.Tests.{items_asked}
 use Rattle.strm_machine.specs.Reactions.{makes, on_memory}
@@ -50,7 +51,7 @@ abbrev pub set_by : State → Setting → State
 set_by state x = record state { streams = set state.streams x.stream (with_end x.side (stream_at state x.stream) x.end) }
 
 -- it is the end that this act names; no call is accepted in it, and the reply tells what the end is told
-pub record Sets (state : State) (act : Act) (reply : Reply) (x : Setting) : Type 0 where
+pub record SetsEnd (state : State) (act : Act) (reply : Reply) (x : Setting) : Type 0 where
   pub made : x.stream < length state.streams
   pub named : NamesEnd state act x.stream x.side
   pub becomes : Becomes x.side (stream_at state x.stream) x.end (code_told reply)
@@ -58,8 +59,8 @@ pub record Sets (state : State) (act : Act) (reply : Reply) (x : Setting) : Type
 
 -- ## An end of another owner
 
--- an end of a stream gets another owner: the handle of a guest that is freed, if one is, and then the
--- guest that gets one, if one does
+-- an end of a stream gets another owner: the handle of a guest that is freed, if one is, and leaves its
+-- set, and then the guest that gets one, if one does
 pub record Owning : Type 0 where
   pub stream : ℕ
   pub side : Side
@@ -70,7 +71,7 @@ pub record Owning : Type 0 where
 
 abbrev pub guests_freed : List Guest → Option (ℕ × ℕ) → List Guest
 guests_freed guests None = guests
-guests_freed guests (Some h) = with_handles guests h.0 (removed (guest_in guests h.0).handles h.1)
+guests_freed guests (Some h) = with_table guests h.0 (removed (guest_in guests h.0).handles h.1) (left (sets_in guests h.0) h.1)
 
 abbrev pub guests_given : List Guest → Entry → Option ℕ → List Guest
 guests_given guests entry None = guests
@@ -114,12 +115,32 @@ pub record Owns (state : State) (reply : Reply) (x : Owning) : Type 0 where
   pub freed : IsFreed state.guests x.stream x.side (end_of x.side (stream_at state x.stream)).owner x.freed
   pub taken : IsTaken (guests_freed state.guests x.freed) x.owner x.taker
 
+-- ## A table with its sets
+
+-- one guest's table and sets are others
+pub record Tabling : Type 0 where
+  pub guest : ℕ
+  pub handles : Handles
+  pub sets : Sets
+
+abbrev pub tabled_by : State → Tabling → State
+tabled_by state x = record state { guests = with_table state.guests x.guest x.handles x.sets }
+
+-- each handle names the end that it named, and nothing is told
+pub record Tables (state : State) (reply : Reply) (x : Tabling) : Type 0 where
+  pub there : x.guest < length state.guests
+  pub ends : (handle s : ℕ) (side : Side) → is_end s side (end_rep_of x.handles handle) ≡ is_end s side (end_named state x.guest handle)
+  pub named : AreNamed (types_of state.streams) x.handles
+  pub holds : HoldsSets x.handles x.sets
+  pub untold : code_told reply ≡ None
+
 -- ## All shapes
 
 pub data Shape (state : State) (act : Act) (r : Reaction) : Type 0 where
   ByTurn : (side : Side) (end : NamedEnd) (address count : ℕ) → act ≡ operating side end address count → r ≡ operates state side end address count → Operates state side end address count → Shape state act r
-  BySetting : (reply : Reply) (x : Setting) → r ≡ goes reply (set_by state x) → Sets state act reply x → Shape state act r
+  BySetting : (reply : Reply) (x : Setting) → r ≡ goes reply (set_by state x) → SetsEnd state act reply x → Shape state act r
   ByOwner : (reply : Reply) (x : Owning) → r ≡ goes reply (owned_by state x) → Owns state reply x → Shape state act r
+  ByTable : (reply : Reply) (x : Tabling) → r ≡ goes reply (tabled_by state x) → Tables state reply x → Shape state act r
   ByPair : (writer reader : ℕ) (ty : TransmitIndex) → act ≡ Make (makings.Between writer reader ty) → r ≡ makes state (makings.Between writer reader ty) → PairFits state writer reader ty → Shape state act r
   ByGuest : (size : ℕ) → act ≡ Make (makings.Guest size) → r ≡ makes state (makings.Guest size) → GuestFits state size → Shape state act r
   ByPoke : (g address : ℕ) (bytes : List ℕ) → act ≡ OnMemory g (Poke address bytes) → r ≡ on_memory state g (Poke address bytes) → BytesFit state g address (length bytes) → Shape state act r

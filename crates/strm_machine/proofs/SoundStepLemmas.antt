@@ -3,7 +3,7 @@ use Rattle.std.proofs.Common.{◌≡◌, ℕ, arith, List, [], ◌∷◌, ◌++�
 use Rattle.std.specs.Prelude.{replicate, sum}
 use Rattle.std.proofs.lemmas.List.{length-replicate}
 use Rattle.std.proofs.lemmas.List.Sums.{sum-map}
-use Rattle.strm_machine.specs.Words.{Guest, ReturnCode, no_handles, put_at, State, memory_in, with_memory, stream_at, Turn, named, stream_named, Reaction, written_back, sizes_of, IsSound, NamedEnd, Act, OnEnd, OnLoose, Side}
+use Rattle.strm_machine.specs.Words.{Guest, ReturnCode, no_handles, no_sets, put_at, State, memory_in, with_memory, stream_at, Turn, named, stream_named, Reaction, written_back, sizes_of, IsSound, NamedEnd, Act, OnEnd, OnLoose, Side}
 use Rattle.strm_machine.specs.State.{bytes_in_use}
 use Rattle.strm_machine.specs.Refusals.{refusal}
 use Rattle.strm_machine.specs.Reactions.{on_end, on_loose, reaction}
@@ -11,10 +11,10 @@ use Rattle.strm_machine.specs.declared.acts.EndAct.{EndAct}
 use Rattle.strm_machine.specs.declared.acts.LooseAct.{LooseAct}
 use Rattle.strm_machine.proofs.BoundLemmas.{length-poked}
 use Rattle.strm_machine.proofs.RefusalLemmas.{GuestFits, BytesFit}
-use Rattle.strm_machine.proofs.SoundLemmas.{IsSound-guest, IsSound-guests, IsSound-turn, IsSound-with_stream, IsSound-set}
+use Rattle.strm_machine.proofs.SoundLemmas.{IsSound-guest, IsSound-guests, IsSound-turn, IsSound-with_stream, IsSound-table, IsSound-set}
 use Rattle.strm_machine.proofs.MoveLemmas.{IsSound-owned}
 use Rattle.strm_machine.proofs.TurnLemmas.{GuestsKeep, TurnKeeps, turn-keeps, with_memory-keeps}
-use Rattle.strm_machine.proofs.Shapes.{stream_on, begun_on, turn_on, Operates, Shape, ByTurn, BySetting, ByOwner, ByPair, ByGuest, ByPoke, ByRest}
+use Rattle.strm_machine.proofs.Shapes.{stream_on, begun_on, turn_on, Operates, Shape, ByTurn, BySetting, ByOwner, ByTable, ByPair, ByGuest, ByPoke, ByRest}
 use Rattle.strm_machine.proofs.ShapeLemmas.{on_end-shape, loose-shape, reaction-shape}
 
 pub operate-keeps : (state : State) (side : Side) (end : NamedEnd) (address count : ℕ) → Operates state side end address count → TurnKeeps state.guests (stream_on state end) (turn_on state side end address count)
@@ -23,7 +23,7 @@ operate-keeps state side end address count o = turn-keeps side state.guests (str
 written-sound : (state : State) (s : ℕ) (t : Turn) (code : Option ReturnCode) → TurnKeeps state.guests (stream_at state s) t → IsSound state → IsSound (written_back state s t code).state
 written-sound state s t (Some code) k h = IsSound-turn state s t k h
 written-sound state s t None k h =
-    let sound = IsSound-turn state s t k h in record { named = sound.named; placed = sound.placed; small = sound.small }
+    let sound = IsSound-turn state s t k h in record { named = sound.named; placed = sound.placed; small = sound.small; sets = sound.sets }
 
 -- bytes put where they may be keep the memory's length
 pub poke-keeps : (state : State) (g address : ℕ) (bytes : List ℕ) → BytesFit state g address (length bytes) → GuestsKeep state.guests (with_memory state.guests g (put_at (memory_in state.guests g) address bytes))
@@ -32,12 +32,12 @@ poke-keeps state g address bytes fits =
     with_memory-keeps state.guests g (put_at memory address bytes) (length-poked memory address bytes fits.inside)
 
 -- a guest more
-pub guest-sound : (state : State) (size : ℕ) → GuestFits state size → IsSound state → IsSound (record state { guests = state.guests ++ (record { memory = replicate size 0; handles = no_handles }) ∷ [] })
+pub guest-sound : (state : State) (size : ℕ) → GuestFits state size → IsSound state → IsSound (record state { guests = state.guests ++ (record { memory = replicate size 0; handles = no_handles; sets = no_sets }) ∷ [] })
 guest-sound state size fits h =
-    let guest : Guest = record { memory = replicate size 0; handles = no_handles } in
+    let guest : Guest = record { memory = replicate size 0; handles = no_handles; sets = no_sets } in
     let many : length guest.memory ≡ size = length-replicate {A = ℕ} size 0 in
     let total : sum (sizes_of state.guests) ≡ bytes_in_use state = sum-map (λ k. length k.memory) state.guests in
-    IsSound-guest state guest refl (omega (arith, total, many, fits.bytes)) h
+    IsSound-guest state guest refl refl (omega (arith, total, many, fits.bytes)) h
 
 pub shape-sound : (state : State) (act : Act) (r : Reaction) → IsSound state → Shape state act r → IsSound r.state
 shape-sound state act r h (ByTurn side end address count a e o) =
@@ -46,7 +46,8 @@ shape-sound state act r h (ByTurn side end address count a e o) =
 shape-sound state act r h (BySetting reply x e s) =
     rw e (IsSound-set state x.stream x.side x.end s.made s.becomes.left h)
 shape-sound state act r h (ByOwner reply x e o) = rw e (IsSound-owned state reply x o h)
-shape-sound state act r h (ByPair writer reader ty a e fits) = rw e (IsSound-with_stream state writer reader ty h)
+shape-sound state act r h (ByTable reply x e t) = rw e (IsSound-table state x.guest x.handles x.sets t.named t.holds h)
+shape-sound state act r h (ByPair writer reader ty a e fits) = rw e (IsSound-with_stream state writer reader ty fits.read fits.write h)
 shape-sound state act r h (ByGuest size a e fits) = rw e (guest-sound state size fits h)
 shape-sound state act r h (ByPoke g address bytes a e fits) = rw e (IsSound-guests state _ (poke-keeps state g address bytes fits) h)
 shape-sound state act r h (ByRest reply e none) = rw e h

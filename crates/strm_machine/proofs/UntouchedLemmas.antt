@@ -3,14 +3,14 @@ use Rattle.std.proofs.Common.{Bool, List, None, Option, Some, [], ap, arith, con
 use Rattle.std.proofs.lemmas.Bool.{cases_eq, cases_lt, cond_both}
 use Rattle.std.proofs.lemmas.Bool.Decides.{nat_tests}
 use Rattle.std.proofs.lemmas.List.{append_assoc, get_or-set_same, get_or_append_left, length-map, take-append-drop}
-use Rattle.strm_machine.specs.Words.{Guest, item_size, scalars_of, ReturnCode, TransmitIndex, Payload, Scalar, Handles, no_handles, Moment, names, received, advanced, carried, Reaction, goes, operates, written_back, end_of, opposite, same_side, with_operation, IsPlaced, IsSound, OperationIsPlaced, sizes_of, State, guest_in, memory_in, no_guest, no_stream, stream_at, with_handles, with_memory, named, stream_named, Turn, with_received, Operation, Side, Reading, Writing, Stream, put_at, items_at, stored_at, NamedEnd, Poke, Act, Make, OnMemory}
+use Rattle.strm_machine.specs.Words.{Guest, item_size, scalars_of, ReturnCode, TransmitIndex, Payload, Scalar, Handles, Sets, no_handles, no_sets, Moment, names, received, advanced, carried, Reaction, goes, operates, written_back, end_of, opposite, same_side, with_operation, IsPlaced, IsSound, OperationIsPlaced, sizes_of, State, guest_in, memory_in, no_guest, no_stream, sets_in, stream_at, with_handles, with_memory, with_table, named, stream_named, Turn, with_received, Operation, Side, Reading, Writing, Stream, put_at, items_at, stored_at, NamedEnd, Poke, Act, Make, OnMemory}
 use Rattle.strm_handles.specs.Handles.{inserted}
 use Rattle.strm_machine.proofs.EndLemmas.{read_fits}
 use Rattle.strm_machine.proofs.Lawful.{HasRoom, as_moment}
 use Rattle.strm_machine.proofs.NamedEndLemmas.{named_itself}
 use Rattle.strm_machine.proofs.RefusalLemmas.{BytesFit}
 use Rattle.strm_machine.proofs.SoundStepLemmas.{operate-keeps, poke-keeps}
-use Rattle.strm_machine.proofs.Shapes.{operating, stream_on, begun_on, turn_on, Operates, set_by, owned_by, Shape, ByTurn, BySetting, ByOwner, ByPair, ByGuest, ByPoke, ByRest}
+use Rattle.strm_machine.proofs.Shapes.{operating, stream_on, begun_on, turn_on, Operates, set_by, owned_by, tabled_by, Shape, ByTurn, BySetting, ByOwner, ByTable, ByPair, ByGuest, ByPoke, ByRest}
 use Rattle.strm_machine.proofs.ShapeLemmas.{reaction-shape}
 use Rattle.strm_machine.proofs.TurnChangeLemmas.{place_by, rose, there}
 use Rattle.strm_machine.specs.Moments.{Place, place_of, read_place, target}
@@ -19,7 +19,7 @@ use Rattle.strm_machine.proofs.BoundLemmas.{within}
 use Rattle.strm_machine.proofs.CarryLemmas.{carried-nothing}
 use Rattle.strm_machine.proofs.SideLemmas.{end_placed, read_of-placed}
 use Rattle.strm_machine.proofs.MoveLemmas.{length-by, memory_in-by}
-use Rattle.strm_machine.proofs.StateLemmas.{memory_in-with_memory, memory_in-with_memory_other, memory_in-with_handles}
+use Rattle.strm_machine.proofs.StateLemmas.{memory_in-with_memory, memory_in-with_memory_other, memory_in-with_table}
 use Rattle.strm_machine.proofs.TurnLemmas.{front_inside, size_in}
 use Rattle.strm_machine.specs.Making.{read_entry, with_stream}
 use Rattle.strm_machine.specs.Reactions.{makes, on_memory, reaction}
@@ -233,31 +233,33 @@ poke_stays state g address bytes fits =
 -- a guest behind the others
 guest_stays : (state : State) (size : ℕ) → StaysAside (as_moment state (Make (makings.Guest size)) (makes state (makings.Guest size)))
 guest_stays state size =
-    let guest : Guest = record { memory = replicate size 0; handles = no_handles } in
+    let guest : Guest = record { memory = replicate size 0; handles = no_handles; sets = no_sets } in
     stays_all (as_moment state (Make (makings.Guest size)) (makes state (makings.Guest size)))
     (omega (arith, length-append state.guests (guest ∷ [])))
     (λ g l. ap (λ (k : Guest). k.memory) (get_or_append_left state.guests (guest ∷ []) no_guest g l))
 
-handles_stay : (m : Moment) (guests : List Guest) (g : ℕ) (handles : Handles) → length m.before.guests ≤ length guests → ((k : ℕ) → memory_in guests k ≡ memory_in m.before.guests k) → m.after.guests ≡ with_handles guests g handles → StaysAside m
-handles_stay m guests g handles n same e =
+table_stays : (m : Moment) (guests : List Guest) (g : ℕ) (handles : Handles) (sets : Sets) → length m.before.guests ≤ length guests → ((k : ℕ) → memory_in guests k ≡ memory_in m.before.guests k) → m.after.guests ≡ with_table guests g handles sets → StaysAside m
+table_stays m guests g handles sets n same e =
     stays_all m
-    (omega (arith, n, ap length e, length-set guests g (record (guest_in guests g) { handles = handles })))
-    (λ k l. ap (λ gs. memory_in gs k) e ∙ memory_in-with_handles guests g handles k ∙ same k)
+    (omega (arith, n, ap length e, length-set guests g (record (guest_in guests g) { handles = handles; sets = sets })))
+    (λ k l. ap (λ gs. memory_in gs k) e ∙ memory_in-with_table guests g handles sets k ∙ same k)
 
 pair_stays : (state : State) (writer reader : ℕ) (ty : TransmitIndex) → StaysAside (as_moment state (Make (makings.Between writer reader ty)) (makes state (makings.Between writer reader ty)))
 unfolding with_stream
 pair_stays state writer reader ty =
     let m = as_moment state (Make (makings.Between writer reader ty)) (makes state (makings.Between writer reader ty)) in
     let new = inserted (guest_in state.guests reader).handles (read_entry ty (length state.streams)) in
-    handles_stay m (with_handles state.guests reader new) writer _
+    table_stays m (with_handles state.guests reader new) writer _ _
     (omega (arith, length-set state.guests reader (record (guest_in state.guests reader) { handles = new })))
-    (memory_in-with_handles state.guests reader new) refl
+    (memory_in-with_table state.guests reader new (sets_in state.guests reader)) refl
 
 shape-stays : (state : State) (act : Act) (r : Reaction) → HasRoom state → Shape state act r → StaysAside (as_moment state act r)
 shape-stays state act r room (ByTurn side end address count a e o) = rw (a, e) (operates_stays state side end address count room o)
 shape-stays state act r room (BySetting reply x e set) = rw e (stays_same (as_moment state act (goes reply (set_by state x))) refl)
 shape-stays state act r room (ByOwner reply x e o) =
     rw e (stays_all (as_moment state act (goes reply (owned_by state x))) (omega (arith, length-by state.guests x)) (λ g l. memory_in-by state.guests x g))
+shape-stays state act r room (ByTable reply x e t) =
+    rw e (table_stays (as_moment state act (goes reply (tabled_by state x))) state.guests x.guest x.handles x.sets (omega arith) (λ k. refl) refl)
 shape-stays state act r room (ByPair writer reader ty a e fits) = rw (a, e) (pair_stays state writer reader ty)
 shape-stays state act r room (ByGuest size a e fits) = rw (a, e) (guest_stays state size)
 shape-stays state act r room (ByPoke g address bytes a e fits) = rw (a, e) (poke_stays state g address bytes fits)

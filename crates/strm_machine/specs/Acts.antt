@@ -2,12 +2,13 @@
 use Rattle.std.specs.Prelude.{ℕ}
 use Rattle.strm_codes.specs.declared.codes.TransmitIndex.{TransmitIndex}
 use Rattle.strm_machine.specs.declared.acts.NamedEnd.{NamedEnd}
-use Rattle.strm_machine.specs.declared.acts.Making.TheVariants.{Guest, Between}
+use Rattle.strm_machine.specs.declared.acts.Making.TheVariants.{Guest, Between, Set}
 use Rattle.strm_machine.specs.declared.acts.EndAct.TheVariants.{Operate, Drop, Cancel, Move, Lift}
 use Rattle.strm_machine.specs.declared.acts.LooseAct.TheVariants.{Lower, Close}
+use Rattle.strm_machine.specs.declared.acts.SetAct.TheVariants as set_acts
 use Rattle.strm_machine.specs.declared.acts.MemoryAct.TheVariants.{Poke, Dump}
 use Rattle.strm_machine.specs.declared.acts.Act.{Act}
-use Rattle.strm_machine.specs.declared.acts.Act.TheVariants.{Make, OnEnd, OnLoose, Event, OnMemory}
+use Rattle.strm_machine.specs.declared.acts.Act.TheVariants.{Make, OnEnd, OnLoose, Event, OnSet, OnMemory}
 use Rattle.strm_machine.specs.declared.steps.Step.{Step}
 use Rattle.strm_machine.specs.declared.steps.Step.TheVariants as steps
 use Rattle.strm_machine.specs.declared.streams.Side.TheVariants.{Writing, Reading}
@@ -34,5 +35,9 @@ act_of (steps.Lift guest ty handle) = OnEnd Reading (end_named_by guest ty handl
 act_of (steps.Lower reader guest ty) = OnLoose reader (Lower guest ty)
 act_of (steps.Close reader) = OnLoose reader Close
 act_of (steps.Event guest handle) = Event guest handle
+act_of (steps.SetNew guest) = Make (Set guest)
+act_of (steps.SetJoin guest set handle) = OnSet guest set (set_acts.Join handle)
+act_of (steps.SetPoll guest set) = OnSet guest set set_acts.Poll
+act_of (steps.SetDrop guest set) = OnSet guest set set_acts.Drop
 act_of (steps.Poke guest address bytes) = OnMemory guest (Poke address bytes)
 act_of (steps.Dump guest address len) = OnMemory guest (Dump address len)

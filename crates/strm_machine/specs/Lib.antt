@@ -8,6 +8,7 @@ pub mod Tests
 pub mod Refusals
 pub mod Making
 pub mod Moves
+pub mod WaitableSets
 pub mod Reactions
 pub mod Plays
 pub mod Asked

@@ -15,14 +15,16 @@ use Rattle.strm_memory.specs.Items.{decode}
 use Rattle.strm_machine.specs.State.{State, Guest, memory_in, stream_at}
 use Rattle.strm_machine.specs.Sides.{same_side}
 use Rattle.strm_machine.specs.Tests.{Name, named, end_named, side_of, items_asked}
+use Rattle.strm_machine.specs.WaitableSets.{ready_in}
 use Rattle.strm_machine.specs.Acts.{act_of}
 use Rattle.strm_machine.specs.Reactions.{react}
 use Rattle.strm_machine.specs.declared.acts.NamedEnd.{NamedEnd}
 use Rattle.strm_machine.specs.declared.acts.EndAct.{EndAct}
 use Rattle.strm_machine.specs.declared.acts.EndAct.TheVariants.{Operate}
+use Rattle.strm_machine.specs.declared.acts.SetAct.TheVariants as set_acts
 use Rattle.strm_machine.specs.declared.acts.MemoryAct.TheVariants.{Poke}
 use Rattle.strm_machine.specs.declared.acts.Act.{Act}
-use Rattle.strm_machine.specs.declared.acts.Act.TheVariants.{OnEnd, Event, OnMemory}
+use Rattle.strm_machine.specs.declared.acts.Act.TheVariants.{OnEnd, Event, OnSet, OnMemory}
 use Rattle.strm_machine.specs.declared.streams.Side.{Side}
 use Rattle.strm_machine.specs.declared.streams.Side.TheVariants.{Reading}
 use Rattle.strm_machine.specs.declared.streams.Operation.{Operation}
@@ -55,10 +57,16 @@ abbrev pub is_end : ℕ → Side → Name → Bool
 is_end s side (Ok answer) = (answer.0 == s) && same_side (side_of answer.1) side
 is_end s side (Err error) = false
 
--- the handle that an act names is this end of stream s
+-- the member that a poll tells something, if one is ready, is this end of stream s
+abbrev pub is_end_ready : ℕ → Side → State → ℕ → Option ℕ → Bool
+is_end_ready s side state g None = false
+is_end_ready s side state g (Some handle) = is_end s side (end_named state g handle)
+
+-- the handle that an act names is this end of stream s; a poll names the least member that is ready
 abbrev pub names : ℕ → Side → State → Act → Bool
 names s side state (OnEnd on end act) = is_end s side (named state end)
 names s side state (Event g handle) = is_end s side (end_named state g handle)
+names s side state (OnSet g set set_acts.Poll) = is_end_ready s side state g (ready_in state g set)
 names s side state _ = false
 
 -- the same of the act of a moment
@@ -71,6 +79,7 @@ is_named s side m = names s side m.before m.act
 abbrev pub code_told : Reply → Option ReturnCode
 code_told (replies.Code code) = Some code
 code_told (replies.Event code) = code
+code_told (replies.Member (Some member)) = Some member.code
 code_told _ = None
 
 -- a code that reports how an operation ended: any but Blocked

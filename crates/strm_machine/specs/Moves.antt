@@ -5,18 +5,21 @@
 use Rattle.std.specs.Prelude.{ℕ}
 use Rattle.strm_codes.specs.declared.codes.TransmitIndex.{TransmitIndex}
 use Rattle.strm_handles.specs.Handles.{next_index, inserted, removed}
-use Rattle.strm_machine.specs.State.{State, guest_in, with_handles}
+use Rattle.strm_sets.specs.Sets.{left}
+use Rattle.strm_machine.specs.State.{State, guest_in, with_handles, with_table}
 use Rattle.strm_machine.specs.Sides.{end_of, with_end}
 use Rattle.strm_machine.specs.Making.{end_entry}
 use Rattle.strm_machine.specs.declared.streams.Side.{Side}
 use Rattle.strm_machine.specs.declared.streams.Owner.{Owner}
 use Rattle.strm_machine.specs.declared.streams.Stream.{Stream}
 
--- the state without a handle of a guest
+-- the state without a handle of a guest, which leaves the set that it is in
 abbrev pub without_handle : State → ℕ → ℕ → State
-without_handle state g handle = record state {
-  guests = with_handles state.guests g (removed (guest_in state.guests g).handles handle);
-}
+without_handle state g handle =
+    let guest = guest_in state.guests g in
+    record state {
+      guests = with_table state.guests g (removed guest.handles handle) (left guest.sets handle);
+    }
 
 -- the number that a guest's next handle gets
 abbrev pub next_in : State → ℕ → ℕ

@@ -5,7 +5,8 @@ use Rattle.strm_codes.specs.declared.codes.TransmitIndex.{TransmitIndex}
 use Rattle.strm_codes.specs.declared.refusals.Refusal.{Refusal}
 use Rattle.strm_handles.specs.Handles.{no_handles}
 use Rattle.strm_memory.specs.Bytes.{put_at}
-use Rattle.strm_machine.specs.State.{State, memory_in, with_memory, stream_at}
+use Rattle.strm_sets.specs.Sets.{no_sets}
+use Rattle.strm_machine.specs.State.{State, memory_in, with_memory, sets_in, stream_at}
 use Rattle.strm_machine.specs.Meetings.{begun}
 use Rattle.strm_machine.specs.Turns.{Turn, turn}
 use Rattle.strm_machine.specs.Endings.{report_on, delivered, dropped, code_of_cancel, cancelled}
@@ -13,6 +14,7 @@ use Rattle.strm_machine.specs.Tests.{named, end_named, stream_named, side_named,
 use Rattle.strm_machine.specs.Refusals.{refusal}
 use Rattle.strm_machine.specs.Making.{made_pair, with_stream}
 use Rattle.strm_machine.specs.Moves.{without_handle, next_in, given, with_owner}
+use Rattle.strm_machine.specs.WaitableSets.{set_named, ready_in, sets_changed, with_set, sets_joined, without_set_named}
 use Rattle.strm_machine.specs.declared.streams.Owner.TheVariants.{Held, Loose}
 use Rattle.strm_machine.specs.declared.streams.Side.{Side}
 use Rattle.strm_machine.specs.declared.streams.Side.TheVariants.{Reading}
@@ -21,16 +23,19 @@ use Rattle.strm_machine.specs.declared.streams.Stream.{Stream}
 use Rattle.strm_machine.specs.Acts.{act_of}
 use Rattle.strm_machine.specs.declared.acts.NamedEnd.{NamedEnd}
 use Rattle.strm_machine.specs.declared.acts.Making.{Making}
-use Rattle.strm_machine.specs.declared.acts.Making.TheVariants.{Guest, Between}
+use Rattle.strm_machine.specs.declared.acts.Making.TheVariants.{Guest, Between, Set}
 use Rattle.strm_machine.specs.declared.acts.EndAct.{EndAct}
 use Rattle.strm_machine.specs.declared.acts.EndAct.TheVariants.{Operate, Drop, Cancel, Move, Lift}
 use Rattle.strm_machine.specs.declared.acts.LooseAct.{LooseAct}
 use Rattle.strm_machine.specs.declared.acts.LooseAct.TheVariants.{Lower, Close}
+use Rattle.strm_machine.specs.declared.acts.SetAct.{SetAct}
+use Rattle.strm_machine.specs.declared.acts.SetAct.TheVariants as set_acts
 use Rattle.strm_machine.specs.declared.acts.MemoryAct.{MemoryAct}
 use Rattle.strm_machine.specs.declared.acts.MemoryAct.TheVariants.{Poke, Dump}
 use Rattle.strm_machine.specs.declared.acts.Act.{Act}
-use Rattle.strm_machine.specs.declared.acts.Act.TheVariants.{Make, OnEnd, OnLoose, Event, OnMemory}
+use Rattle.strm_machine.specs.declared.acts.Act.TheVariants.{Make, OnEnd, OnLoose, Event, OnSet, OnMemory}
 use Rattle.strm_machine.specs.declared.steps.Step.{Step}
+use Rattle.strm_machine.specs.declared.replies.Member.{Member}
 use Rattle.strm_machine.specs.declared.replies.Reply.{Reply}
 use Rattle.strm_machine.specs.declared.replies.Reply.TheVariants as replies
 
@@ -67,11 +72,13 @@ operates state side end address count =
 abbrev pub with_stream_at : State → ℕ → Stream → State
 with_stream_at state s stream = record state { streams = slice_set state.streams s stream }
 
+-- the state after an end of stream s was told its report, if it has one
+abbrev pub told : State → ℕ → Side → State
+told state s side = with_stream_at state s (delivered side (stream_at state s))
+
 -- the end that a handle names is told its report, if it has one
 abbrev pub tells : State → ℕ → Side → Reaction
-tells state s side =
-    let stream = stream_at state s in
-    goes (replies.Event (report_on side stream)) (with_stream_at state s (delivered side stream))
+tells state s side = goes (replies.Event (report_on side (stream_at state s))) (told state s side)
 
 -- the end of stream s that is named is gone, and its handle freed
 abbrev pub drops : State → ℕ → Side → NamedEnd → Reaction
@@ -115,6 +122,34 @@ abbrev pub on_loose : State → ℕ → LooseAct → Reaction
 on_loose state reader (Lower g ty) = lowers state reader g ty
 on_loose state reader Close = closes state reader
 
+-- a member of a set and what it is told, if anything
+abbrev pub member_told : ℕ → Option ReturnCode → Option Member
+member_told handle None = None
+member_told handle (Some code) = Some (record { handle = handle; code = code })
+
+-- the end that is named, a member of a set, is told its report, as by an event
+abbrev pub tells_member : State → ℕ → ℕ → Side → Reaction
+tells_member state handle s side =
+    goes (replies.Member (member_told handle (report_on side (stream_at state s)))) (told state s side)
+
+-- this member of a guest's set is told its report, if there is one that has a report
+abbrev pub polls : State → ℕ → Option ℕ → Reaction
+polls state g None = goes (replies.Member None) state
+polls state g (Some handle) =
+    tells_member state handle (stream_named (end_named state g handle)) (side_named (end_named state g handle))
+
+-- the end that a handle names joins a set, and leaves the one that it was in; of set 0, it leaves that
+abbrev pub joins : State → ℕ → ℕ → ℕ → Reaction
+joins state g set handle =
+    goes replies.Done
+    (sets_changed state g (sets_joined (sets_in state.guests g) set (set_named state g set) handle))
+
+-- what is done to the set that a handle names
+abbrev pub on_set : State → ℕ → ℕ → SetAct → Reaction
+on_set state g set (set_acts.Join handle) = joins state g set handle
+on_set state g set set_acts.Poll = polls state g (ready_in state g set)
+on_set state g set set_acts.Drop = goes replies.Done (without_set_named state g set)
+
 -- what is done to the end that is named
 abbrev pub on_end : State → Side → NamedEnd → EndAct → Reaction
 on_end state side end (Operate address count) = operates state side end address count
@@ -128,10 +163,11 @@ abbrev pub makes : State → Making → Reaction
 makes state (Guest size) =
     goes (replies.Number (length state.guests))
     (record state {
-      guests = state.guests ++ (record { memory = replicate size 0; handles = no_handles }) ∷ [];
+      guests = state.guests ++ (record { memory = replicate size 0; handles = no_handles; sets = no_sets }) ∷ [];
     })
 makes state (Between writer reader ty) =
     goes (replies.Pair (made_pair state writer reader ty)) (with_stream state writer reader ty)
+makes state (Set g) = goes (replies.Number (next_in state g)) (with_set state g)
 
 -- what is done to a guest's memory
 abbrev pub on_memory : State → ℕ → MemoryAct → Reaction
@@ -150,6 +186,7 @@ performs state (OnEnd side end act) = on_end state side end act
 performs state (OnLoose reader act) = on_loose state reader act
 performs state (Event g handle) =
     tells state (stream_named (end_named state g handle)) (side_named (end_named state g handle))
+performs state (OnSet g set act) = on_set state g set act
 performs state (OnMemory g act) = on_memory state g act
 
 -- a refused step changes nothing

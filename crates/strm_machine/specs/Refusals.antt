@@ -1,5 +1,5 @@
 -- Why a step is refused: the first whose condition holds, in the order of the call. Ours: the order.
-use Rattle.std.specs.Prelude.{ℕ, Bool, not, ◌||◌, if◌then◌else◌, List, [], ◌∷◌, ◌++◌, min, length, Option, Some, None}
+use Rattle.std.specs.Prelude.{ℕ, ◌==◌, Bool, not, ◌||◌, if◌then◌else◌, List, [], ◌∷◌, ◌++◌, min, length, Result, Option, Some, None}
 use Rattle.strm_codes.specs.declared.codes.TransmitIndex.{TransmitIndex}
 use Rattle.strm_codes.specs.declared.codes.TransmitKind.{TransmitKind}
 use Rattle.strm_codes.specs.declared.codes.TransmitKind.TheVariants.{Stream as AStream, Future}
@@ -7,25 +7,29 @@ use Rattle.strm_codes.specs.declared.refusals.Refusal.{Refusal}
 use Rattle.strm_codes.specs.declared.refusals.Refusal.TheVariants as refusals
 use Rattle.strm_codes.specs.Types.{kind_of}
 use Rattle.strm_handles.specs.Handles.{next_index}
+use Rattle.strm_handles.specs.declared.errors.HandleError.{HandleError}
 use Rattle.strm_machine.specs.State.{State, guest_in, stream_at}
 use Rattle.strm_machine.specs.Tests.{is_unknown_guest, are_guests_full, is_memory_too_big, are_handles_full, are_places_full, are_streams_full, is_no_handle, is_too_big, is_out_of_bounds, is_misaligned, are_bytes_out_of_bounds, Name, named, end_named, is_unknown_handle, is_wrong_kind, is_wrong_type, stream_named, side_named, is_busy, has_ended, owes_value, is_within_one_guest, is_spent, is_unknown_reader, is_of_other_kind, is_of_other_payload}
 use Rattle.strm_machine.specs.Sides.{same_side}
 use Rattle.strm_machine.specs.Making.{writer_index}
 use Rattle.strm_machine.specs.Moves.{without_handle, next_in}
+use Rattle.strm_machine.specs.WaitableSets.{set_named, number_named, is_in_set, has_member}
 use Rattle.strm_machine.specs.declared.streams.Stream.{Stream}
 use Rattle.strm_machine.specs.declared.streams.Side.{Side}
 use Rattle.strm_machine.specs.declared.streams.Side.TheVariants.{Writing, Reading}
 use Rattle.strm_machine.specs.declared.acts.NamedEnd.{NamedEnd}
 use Rattle.strm_machine.specs.declared.acts.Making.{Making}
-use Rattle.strm_machine.specs.declared.acts.Making.TheVariants.{Guest, Between}
+use Rattle.strm_machine.specs.declared.acts.Making.TheVariants.{Guest, Between, Set}
 use Rattle.strm_machine.specs.declared.acts.EndAct.{EndAct}
 use Rattle.strm_machine.specs.declared.acts.EndAct.TheVariants.{Operate, Drop, Cancel, Move, Lift}
 use Rattle.strm_machine.specs.declared.acts.LooseAct.{LooseAct}
 use Rattle.strm_machine.specs.declared.acts.LooseAct.TheVariants.{Lower, Close}
+use Rattle.strm_machine.specs.declared.acts.SetAct.{SetAct}
+use Rattle.strm_machine.specs.declared.acts.SetAct.TheVariants as set_acts
 use Rattle.strm_machine.specs.declared.acts.MemoryAct.{MemoryAct}
 use Rattle.strm_machine.specs.declared.acts.MemoryAct.TheVariants.{Poke, Dump}
 use Rattle.strm_machine.specs.declared.acts.Act.{Act}
-use Rattle.strm_machine.specs.declared.acts.Act.TheVariants.{Make, OnEnd, OnLoose, Event, OnMemory}
+use Rattle.strm_machine.specs.declared.acts.Act.TheVariants.{Make, OnEnd, OnLoose, Event, OnSet, OnMemory}
 
 -- a condition, and the refusal that it gives
 pub record Reason : Type 0 where
@@ -121,19 +125,23 @@ own_reasons state side end act =
     own_reasons_of (stream_at state (stream_named (named state end))) side end act
     (side_named (named state end))
 
--- what stands last: the number that a move gives, once the handle is freed. A move leaves as many
--- handles as there were, so that it meets no limit on them
-abbrev pub number_reasons : State → NamedEnd → EndAct → List Reason
-number_reasons state end (Move to) =
-    where_ (is_no_handle (next_in (without_handle state end.guest end.handle) to)) refusals.IndexOverflow ∷ []
-number_reasons state end _ = []
+-- what stands last in a move or a lift: that the end is in a set, and then the number that a move
+-- gives, once the handle is freed. A move leaves as many handles as there were, so that it meets no
+-- limit on them
+abbrev pub last_reasons : State → NamedEnd → EndAct → List Reason
+last_reasons state end (Move to) =
+    where_ (is_in_set state end.guest end.handle) refusals.LiftInSet
+    ∷ where_ (is_no_handle (next_in (without_handle state end.guest end.handle) to)) refusals.IndexOverflow
+    ∷ []
+last_reasons state end Lift = where_ (is_in_set state end.guest end.handle) refusals.LiftInSet ∷ []
+last_reasons state end _ = []
 
 -- whatever is done to the end that is named
 abbrev pub on_end_reasons : State → Side → NamedEnd → EndAct → List Reason
 on_end_reasons state side end act =
     front_reasons state end act
     ++ ((handle_reasons (named state end) ++ own_reasons state side end act)
-    ++ number_reasons state end act)
+    ++ last_reasons state end act)
 
 -- a stream whose read end is to be loose, and of a type
 abbrev pub reader_reasons : State → ℕ → TransmitIndex → List Reason
@@ -154,11 +162,26 @@ on_loose_reasons state reader (Lower g ty) =
 on_loose_reasons state reader Close =
     where_ (is_unknown_reader state reader) refusals.UnknownReader ∷ []
 
--- the end that an event is asked of
-abbrev pub event_reasons : Name → List Reason
-event_reasons name =
-    where_ (is_unknown_handle name) refusals.UnknownHandle
-    ∷ where_ (is_wrong_kind name) refusals.WrongKind
+-- a handle of no type, by what the table answers: of an end that is to be told something or is to be
+-- in a set, or of a set
+abbrev pub slot_reasons : {A : Type 0} → Result A HandleError → List Reason
+slot_reasons answer =
+    where_ (is_unknown_handle answer) refusals.UnknownHandle
+    ∷ where_ (is_wrong_kind answer) refusals.WrongKind
+    ∷ []
+
+-- the set that an end is to join; set 0 is none
+abbrev pub joined_reasons : State → ℕ → ℕ → List Reason
+joined_reasons state g set = if set == 0 then [] else slot_reasons (set_named state g set)
+
+-- the set, and the end that joins it, by what is done to the set
+abbrev pub set_reasons : State → ℕ → ℕ → SetAct → List Reason
+set_reasons state g set (set_acts.Join handle) =
+    joined_reasons state g set ++ slot_reasons (end_named state g handle)
+set_reasons state g set set_acts.Poll = slot_reasons (set_named state g set)
+set_reasons state g set set_acts.Drop =
+    slot_reasons (set_named state g set)
+    ++ where_ (has_member state g (number_named (set_named state g set))) refusals.SetNotEmpty
     ∷ []
 
 -- what is made
@@ -173,6 +196,12 @@ making_reasons state (Between writer reader ty) =
     || is_no_handle (writer_index state writer reader ty)) refusals.IndexOverflow
     ∷ where_ (are_handles_full state 2) refusals.HandleLimit
     ∷ where_ (are_places_full state 3 || are_streams_full state) refusals.Full
+    ∷ []
+making_reasons state (Set g) =
+    where_ (is_unknown_guest state g) refusals.UnknownGuest
+    ∷ where_ (is_no_handle (next_in state g)) refusals.IndexOverflow
+    ∷ where_ (are_handles_full state 1) refusals.HandleLimit
+    ∷ where_ (are_places_full state 1) refusals.Full
     ∷ []
 
 -- bytes of a guest's memory from an address on, so many
@@ -193,7 +222,9 @@ reasons state (Make making) = making_reasons state making
 reasons state (OnEnd side end act) = on_end_reasons state side end act
 reasons state (OnLoose reader act) = on_loose_reasons state reader act
 reasons state (Event g handle) =
-    where_ (is_unknown_guest state g) refusals.UnknownGuest ∷ event_reasons (end_named state g handle)
+    where_ (is_unknown_guest state g) refusals.UnknownGuest ∷ slot_reasons (end_named state g handle)
+reasons state (OnSet g set act) =
+    where_ (is_unknown_guest state g) refusals.UnknownGuest ∷ set_reasons state g set act
 reasons state (OnMemory g act) = memory_reasons state g act
 
 -- why it is refused, if it is

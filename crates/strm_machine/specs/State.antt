@@ -1,20 +1,22 @@
--- The state of the machine: guests, each with a memory and a handle table, and the streams
--- between them.
+-- The state of the machine: guests, each with a memory, a handle table and waitable sets, and the
+-- streams between them.
 -- Component Model, "Stream State" and "Waitable State"; wasmtime, futures_and_streams.rs.
-use Rattle.std.specs.Prelude.{ℕ, ◌*◌, Bool, false, true, ◌&&◌, not, List, [], length, slice_index_or, slice_set, sum_by, count_by, None}
+use Rattle.std.specs.Prelude.{ℕ, ◌+◌, ◌*◌, Bool, false, true, ◌&&◌, not, List, [], length, slice_index_or, slice_set, sum_by, count_by, None}
 use Rattle.strm_codes.specs.declared.codes.TransmitKind.TheVariants.{Stream as AStream}
 use Rattle.strm_codes.specs.declared.payloads.Payload.TheVariants.{Nothing}
 use Rattle.strm_handles.specs.Handles.{Handles, no_handles, live_of}
+use Rattle.strm_sets.specs.Sets.{Sets, no_sets}
 use Rattle.strm_machine.specs.declared.limits.Limits.{Limits}
 use Rattle.strm_machine.specs.declared.streams.Owner.{Owner}
 use Rattle.strm_machine.specs.declared.streams.Owner.TheVariants.{Held, Loose, Gone}
 use Rattle.strm_machine.specs.declared.streams.End.{End}
 use Rattle.strm_machine.specs.declared.streams.Stream.{Stream}
 
--- a guest's bytes, and what its handles stand for
+-- a guest's bytes, what its handles stand for, and its waitable sets
 pub record Guest : Type 0 where
   pub memory : List ℕ
   pub handles : Handles
+  pub sets : Sets
 
 -- guests and streams by their numbers; a stream whose both ends are gone keeps its place
 pub record State : Type 0 where
@@ -43,7 +45,7 @@ stream_limit = 4294967295
 
 -- what stands past the last guest
 abbrev pub no_guest : Guest
-no_guest = record { memory = []; handles = no_handles }
+no_guest = record { memory = []; handles = no_handles; sets = no_sets }
 
 -- the guest of a number
 abbrev pub guest_in : List Guest → ℕ → Guest
@@ -60,6 +62,19 @@ with_memory guests g memory = slice_set guests g (record (guest_in guests g) { m
 -- the guests with other handles for one of them
 abbrev pub with_handles : List Guest → ℕ → Handles → List Guest
 with_handles guests g handles = slice_set guests g (record (guest_in guests g) { handles = handles })
+
+-- a guest's waitable sets
+abbrev pub sets_in : List Guest → ℕ → Sets
+sets_in guests g = (guest_in guests g).sets
+
+-- the guests with other sets for one of them
+abbrev pub with_sets : List Guest → ℕ → Sets → List Guest
+with_sets guests g sets = slice_set guests g (record (guest_in guests g) { sets = sets })
+
+-- the guests with other handles and sets for one of them
+abbrev pub with_table : List Guest → ℕ → Handles → Sets → List Guest
+with_table guests g handles sets =
+    slice_set guests g (record (guest_in guests g) { handles = handles; sets = sets })
 
 -- the end was dropped
 abbrev pub is_gone : Owner → Bool
@@ -106,9 +121,14 @@ is_live stream = not (is_gone stream.writer.owner && is_gone stream.reader.owner
 abbrev pub handles_in_use : State → ℕ
 handles_in_use state = sum_by (λ g. live_of g.handles) state.guests
 
--- a stream takes three places until both ends are gone. Ours: the crate's table of transmits
+-- waitable sets of all guests together
+abbrev pub sets_in_use : State → ℕ
+sets_in_use state = sum_by (λ g. count_by (λ there. there) g.sets.there) state.guests
+
+-- a stream takes three places until both ends are gone, and a set one. Ours: the crate's table of
+-- transmits, and of sets
 abbrev pub places_in_use : State → ℕ
-places_in_use state = 3 * count_by is_live state.streams
+places_in_use state = 3 * count_by is_live state.streams + sets_in_use state
 
 -- bytes of all memories together
 abbrev pub bytes_in_use : State → ℕ

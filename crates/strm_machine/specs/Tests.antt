@@ -95,12 +95,12 @@ abbrev pub end_named : State → ℕ → ℕ → Name
 end_named state g handle = end_rep_of (guest_in state.guests g).handles handle
 
 -- the table has no such handle
-abbrev pub is_unknown_handle : Name → Bool
+abbrev pub is_unknown_handle : {A : Type 0} → Result A HandleError → Bool
 is_unknown_handle (Err errors.UnknownHandle) = true
 is_unknown_handle _ = false
 
 -- it stands for something of another kind
-abbrev pub is_wrong_kind : Name → Bool
+abbrev pub is_wrong_kind : {A : Type 0} → Result A HandleError → Bool
 is_wrong_kind (Err errors.WrongKind) = true
 is_wrong_kind _ = false
 

@@ -17,8 +17,8 @@ pub use Rattle.strm_machine.specs.Moves.{given, next_in, with_owner, without_han
 pub use Rattle.strm_machine.specs.Reactions.{Reaction, goes, operates, react, written_back}
 pub use Rattle.strm_machine.specs.Refusals.{first_of}
 pub use Rattle.strm_machine.specs.Sides.{end_of, opposite, same_side, with_end, with_operation}
-pub use Rattle.strm_machine.specs.Soundness.{IsPlaced, IsSound, OperationIsPlaced, StreamIsPlaced, both_open, sizes_of}
-pub use Rattle.strm_machine.specs.State.{Guest, State, empty, guest_in, is_held, is_loose, memory_in, no_guest, no_stream, stream_at, with_handles, with_memory}
+pub use Rattle.strm_machine.specs.Soundness.{HoldSets, HoldsSets, IsPlaced, IsSound, OperationIsPlaced, StreamIsPlaced, both_open, sizes_of}
+pub use Rattle.strm_machine.specs.State.{Guest, State, empty, guest_in, is_held, is_loose, memory_in, no_guest, no_stream, sets_in, stream_at, with_handles, with_memory, with_sets, with_table}
 pub use Rattle.strm_machine.specs.Tests.{Name, end_named, has_ended, named, stream_named}
 pub use Rattle.strm_machine.specs.Turns.{Turn, with_received}
 pub use Rattle.strm_machine.specs.declared.acts.Act.{Act}
@@ -38,3 +38,4 @@ pub use Rattle.strm_machine.specs.declared.streams.Side.TheVariants.{Reading, Wr
 pub use Rattle.strm_machine.specs.declared.streams.Stream.{Stream}
 pub use Rattle.strm_memory.specs.Bytes.{put_at}
 pub use Rattle.strm_memory.specs.Items.{items_at, stored_at}
+pub use Rattle.strm_sets.specs.Sets.{Sets, no_sets}

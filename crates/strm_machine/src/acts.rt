@@ -31,6 +31,10 @@ pub enum Making {
         reader: u32,
         ty: TransmitIndex,
     },
+    /// A waitable set of a guest, without members.
+    Set {
+        guest: u32,
+    },
 }
 
 /// What is done to the end that is named.
@@ -58,6 +62,17 @@ pub enum LooseAct {
     Close,
 }
 
+/// What is done to a waitable set.
+#[derive(Clone, Copy, Debug, PartialEq, Eq)]
+pub enum SetAct {
+    /// The end that a handle names joins it; of set 0, it leaves the set that it is in.
+    Join { handle: u32 },
+    /// Its least member that has a report is told that.
+    Poll,
+    /// It is dropped.
+    Drop,
+}
+
 /// What is done to the bytes of a guest's memory, from `address` on.
 #[derive(Clone, Copy, Debug, PartialEq, Eq)]
 pub enum MemoryAct {
@@ -70,7 +85,7 @@ pub enum MemoryAct {
 /// What a step does.
 #[derive(Clone, Copy, Debug, PartialEq, Eq)]
 pub enum Act {
-    /// It makes a guest or a stream.
+    /// It makes a guest, a stream or a set.
     Make {
         making: Making,
     },
@@ -89,6 +104,12 @@ pub enum Act {
     Event {
         guest: u32,
         handle: u32,
+    },
+    /// It does something to the waitable set that a guest's handle names.
+    OnSet {
+        guest: u32,
+        set: u32,
+        act: SetAct,
     },
     /// It does something to a guest's memory alone.
     OnMemory {
@@ -183,6 +204,24 @@ impl Act {
                 act: LooseAct::Close,
             },
             Step::Event { guest, handle } => Act::Event { guest, handle },
+            Step::SetNew { guest } => Act::Make {
+                making: Making::Set { guest },
+            },
+            Step::SetJoin { guest, set, handle } => Act::OnSet {
+                guest,
+                set,
+                act: SetAct::Join { handle },
+            },
+            Step::SetPoll { guest, set } => Act::OnSet {
+                guest,
+                set,
+                act: SetAct::Poll,
+            },
+            Step::SetDrop { guest, set } => Act::OnSet {
+                guest,
+                set,
+                act: SetAct::Drop,
+            },
             Step::Poke {
                 guest,
                 address,

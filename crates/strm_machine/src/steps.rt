@@ -96,6 +96,27 @@ pub enum Step {
         guest: u32,
         handle: u32,
     },
+    /// `canon waitable-set.new`.
+    SetNew {
+        guest: u32,
+    },
+    /// `canon waitable.join`: the end joins the set, and leaves the one that it was in; of set 0 it
+    /// leaves that alone.
+    SetJoin {
+        guest: u32,
+        set: u32,
+        handle: u32,
+    },
+    /// `canon waitable-set.poll`: the least member that has a report is told it.
+    SetPoll {
+        guest: u32,
+        set: u32,
+    },
+    /// `canon waitable-set.drop`.
+    SetDrop {
+        guest: u32,
+        set: u32,
+    },
     /// Bytes put into a guest's memory. Ours.
     Poke {
         guest: u32,

@@ -23,7 +23,7 @@ pub is_number-is : (o : Option ℕ) (number : ℕ) → is_number o number ≡ tr
 is_number-is None number e = absurd (true≢false (sym e))
 is_number-is (Some other) number e = ap Some ((unsigned_Decides other number).0 e)
 
-eq-other : (a b : ℕ) → a ≢ b → nat_eq a b ≡ false
+pub eq-other : (a b : ℕ) → a ≢ b → nat_eq a b ≡ false
 eq-other a b other = by_eq a b (λ t. t ≡ false) (λ same. absurd (other same)) (λ _. refl)
 
 and-false : (a : Bool) → (a && false) ≡ false
