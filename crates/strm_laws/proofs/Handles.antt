@@ -1,4 +1,4 @@
--- Handles and ends agree after every run.
+-- Handles and ends, and sets and their members, agree after every run.
 use Rattle.std.proofs.Common.{◌≡◌, ℕ, zero, suc, true, List, [], ◌∷◌}
 use Rattle.strm_machine.specs.Words.{no_handles, act_of, State, no_stream, empty, end_of, IsSound, react, is_end}
 use Rattle.strm_machine.specs.declared.limits.Limits.{Limits}
@@ -13,8 +13,8 @@ use Rattle.strm_machine.proofs.HeldLemmas.{names_in, StateIsHeld, reaction-held}
 use Rattle.strm_machine.proofs.SoundStepLemmas.{reaction-sound}
 use Rattle.strm_machine.proofs.TableLemmas.{owner_in}
 use Rattle.strm_laws.specs.Conservation.{last}
-use Rattle.strm_laws.specs.Laws.{HandlesHold, HandlesAreSingle}
-use Rattle.strm_laws.proofs.LawfulRuns.{IsLawful-empty}
+use Rattle.strm_laws.specs.Laws.{HandlesHold, HandlesAreSingle, MembersAreLive}
+use Rattle.strm_laws.proofs.LawfulRuns.{IsLawful-empty, sound}
 
 run_held : (state : State) (run : List Step) → IsSound state → StateIsHeld state → StateIsHeld (last state run)
 run_held state [] sound h = h
@@ -53,4 +53,15 @@ handles_are_single tag limits run =
     record {
       single = Agree-single (names_in end.guests) (owner_in end.streams) h.agree;
       unheld = Agree-unheld (names_in end.guests) (owner_in end.streams) h.agree;
+    }
+
+pub members_are_live : (tag : ℕ) (limits : Limits) (run : List Step) → MembersAreLive (last (empty tag limits) run)
+members_are_live tag limits run =
+    let h = (sound tag limits run).sets in
+    record {
+      live = λ g number handle m. (h g).members handle number m;
+      kept = λ g number handle m. (h g).kept handle number m;
+      there = λ g set number e. (h g).there set number e;
+      named = λ g number t. (h g).named number t;
+      single = λ g number set other e f. (h g).single set other number e f;
     }

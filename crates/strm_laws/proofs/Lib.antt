@@ -7,4 +7,6 @@ pub mod LawfulRuns
 pub mod Conserved
 pub mod Handles
 pub mod OtherBytes
+pub mod Answered
 pub mod Rows
+pub mod SetRows

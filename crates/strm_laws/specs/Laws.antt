@@ -1,10 +1,12 @@
 -- What holds of every run. Ours.
-use Rattle.std.specs.Prelude.{◌≡◌, ℕ, ◌+◌, ◌*◌, ◌<◌, ◌≤◌, true, false, List, [], ◌∷◌, ◌++◌, length, All, is_some, IsSome, Option, Some, None}
+use Rattle.std.specs.Prelude.{◌≡◌, ℕ, ◌+◌, ◌*◌, ◌<◌, ◌≤◌, true, false, List, [], ◌∷◌, ◌++◌, length, All, is_some, is_ok, IsSome, Ok, Option, Some, None}
 use Rattle.strm_codes.specs.Counts.{count_limit}
 use Rattle.strm_codes.specs.Layout.{scalars_of, item_size}
 use Rattle.strm_codes.specs.declared.codes.TransmitKind.{TransmitKind}
 use Rattle.strm_codes.specs.declared.payloads.Payload.{Payload}
-use Rattle.strm_machine.specs.State.{State, stream_at, is_held}
+use Rattle.strm_sets.specs.Sets.{is_there, is_member}
+use Rattle.strm_machine.specs.State.{State, sets_in, stream_at, is_held}
+use Rattle.strm_machine.specs.WaitableSets.{set_named}
 use Rattle.strm_machine.specs.Sides.{end_of}
 use Rattle.strm_machine.specs.Tests.{end_named}
 use Rattle.strm_machine.specs.declared.streams.Owner.TheVariants.{Held}
@@ -112,3 +114,19 @@ pub record HandlesAreSingle (state : State) : Type 0 where
   pub unheld : (s : ℕ) (side : Side) (g handle : ℕ) →
       is_held (end_of side (stream_at state s)).owner ≡ false →
       is_end s side (end_named state g handle) ≡ false
+
+-- a member of a guest's set is a live handle of an end, and its set is there. Each handle of a set names
+-- one that is there, and each set that is there has one handle
+pub record MembersAreLive (state : State) : Type 0 where
+  pub live : (g number handle : ℕ) →
+      is_member (sets_in state.guests g) number handle ≡ true →
+      is_ok (end_named state g handle) ≡ true
+  pub kept : (g number handle : ℕ) →
+      is_member (sets_in state.guests g) number handle ≡ true →
+      is_there (sets_in state.guests g) number ≡ true
+  pub there : (g set number : ℕ) →
+      set_named state g set ≡ Ok number → is_there (sets_in state.guests g) number ≡ true
+  pub named : (g number : ℕ) →
+      is_there (sets_in state.guests g) number ≡ true → (set : ℕ) × (set_named state g set ≡ Ok number)
+  pub single : (g number set other : ℕ) →
+      set_named state g set ≡ Ok number → set_named state g other ≡ Ok number → set ≡ other

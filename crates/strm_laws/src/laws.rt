@@ -15,7 +15,7 @@ ghost use Rattle.strm_machine.specs.declared.steps.Step.{Step};
 ghost use Rattle.strm_machine.specs.Moments.{moment_of};
 ghost use Rattle.strm_laws.specs.Conservation.{moments, last, calls, got};
 ghost use Rattle.strm_machine.specs.Soundness.{IsSound, both_open, AreUnmoved};
-ghost use Rattle.strm_laws.specs.Laws.{AreSteps, Conserves, waiting, Stands, AreCounted, HandlesHold, HandlesAreSingle};
+ghost use Rattle.strm_laws.specs.Laws.{AreSteps, Conserves, waiting, Stands, AreCounted, HandlesHold, HandlesAreSingle, MembersAreLive};
 ghost use Rattle.strm_machine.specs.Untouched.{StaysAside};
 
 /// On each stream, what was received is, in order, exactly the first k items of each accepted
@@ -74,6 +74,14 @@ pub fn handles_hold_their_ends()
         HandlesHold (last (empty tag limits) run) }
     ensures single { (tag : ℕ) (limits : Limits) (run : List Step) →
         HandlesAreSingle (last (empty tag limits) run) }
+{}
+
+/// A member of a waitable set is a live handle of a stream's or future's end, in the table of the set's
+/// guest, after whichever steps. Its set is there, and has one handle; and what a handle of a set names
+/// is there.
+pub fn members_are_live()
+    ensures { (tag : ℕ) (limits : Limits) (run : List Step) →
+        MembersAreLive (last (empty tag limits) run) }
 {}
 
 /// Nothing but a poke and the items received changes a memory: in each step of a run all other bytes

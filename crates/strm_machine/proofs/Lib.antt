@@ -21,6 +21,7 @@ pub mod MomentLemmas
 pub mod Shapes
 pub mod MoveLemmas
 pub mod SetStepLemmas
+pub mod PlaceLemmas
 pub mod ShapeLemmas
 pub mod SoundStepLemmas
 pub mod LawfulLemmas

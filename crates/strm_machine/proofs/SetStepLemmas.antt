@@ -1,7 +1,8 @@
 -- What is done to a waitable set, where nothing refuses it: a poll tells a member as an event does, and
 -- all else changes one guest's table and sets alone.
 use Rattle.std.proofs.Common.{◌≡◌, ◌≢◌, ℕ, ◌+◌, ◌<◌, ◌≤◌, Bool, true, false, cond, List, [], ◌∷◌, length, Option, Some, None, Ok, Err, refl, sym, ap, ◌∙◌, subst, inl, inr}
-use Rattle.std.specs.Prelude.{is_ok, is_some, nat_eq, ◌==◌}
+use Rattle.std.specs.Prelude.{◌||◌, is_ok, is_some, nat_eq, ◌==◌}
+use Rattle.std.specs.Cmp.{nat_eq_equiv}
 use Rattle.std.specs.List.{list_any}
 use Rattle.std.proofs.lemmas.Bool.{cases_eq}
 use Rattle.strm_codes.specs.declared.refusals.Refusal.TheVariants as refusals
@@ -10,8 +11,8 @@ use Rattle.strm_handles.specs.Handles.{handle_limit, entry_at, next_index, inser
 use Rattle.strm_handles.specs.Lookups.{end_rep_in, end_rep_of, waitable_set_rep_in}
 use Rattle.strm_handles.specs.declared.entries.Entry.TheVariants as entries
 use Rattle.strm_handles.proofs.HandleLemmas.{entry_at-next_index, entry_at-inserted-same, entry_at-inserted-other, entry_at-removed-same, entry_at-removed-other}
-use Rattle.strm_sets.specs.Sets.{is_member, members, least_free, with_new_set, joined, left, without_set}
-use Rattle.strm_sets.proofs.SetLemmas.{among_members, found_member}
+use Rattle.strm_sets.specs.Sets.{is_member, members, least_free, with_new_set, joined, left, without_set, HasMember, HasNoMember, IsLeastReady, NoneReady}
+use Rattle.strm_sets.proofs.SetLemmas.{among_members, found_member, least_found, none_found}
 use Rattle.strm_machine.specs.State.{handles_in_use, places_in_use}
 use Rattle.strm_machine.specs.Endings.{delivered}
 use Rattle.strm_machine.specs.Tests.{is_unknown_guest, is_no_handle, are_handles_full, are_places_full, side_named}
@@ -208,6 +209,32 @@ module _ (state : State) (g : ℕ) (h : IsSound state) where
         holds = HoldsSets-without old before (h.sets g) set number fits.named (memberless number fits.memberless);
         untold = refl;
       })
+
+-- ## Which member is ready, by what a poll of the sets answers
+
+module _ (state : State) (g number : ℕ) where
+  pub ready_member-least : (handle : ℕ) → IsLeastReady (λ n ready. is_ready state g n ≡ ready) (sets_in state.guests g) number handle → ready_member state g number ≡ Some handle
+  unfolding ready_member
+  ready_member-least handle least = least_found (is_ready state g) (sets_in state.guests g) number handle least
+
+  pub ready_member-none : NoneReady (λ n ready. is_ready state g n ≡ ready) (sets_in state.guests g) number → ready_member state g number ≡ None
+  unfolding ready_member
+  ready_member-none none = none_found (is_ready state g) (sets_in state.guests g) number none
+
+  -- a set has a member exactly where it is not empty
+  pub has_member-some : HasMember (sets_in state.guests g) number → has_member state g number ≡ true
+  has_member-some m = some (members (sets_in state.guests g) number) (among_members (sets_in state.guests g) number m.handle ∙ m.there)
+    where
+      some : (xs : List ℕ) → list_any (nat_eq m.handle) xs ≡ true → has_some xs ≡ true
+      some [] e = cc
+      some (x ∷ xs) e = refl
+
+  pub has_member-none : HasNoMember (sets_in state.guests g) number → has_member state g number ≡ false
+  has_member-none none = by (members (sets_in state.guests g) number) (λ k. among_members (sets_in state.guests g) number k ∙ none k)
+    where
+      by : (xs : List ℕ) → ((k : ℕ) → list_any (nat_eq k) xs ≡ false) → has_some xs ≡ false
+      by [] e = refl
+      by (x ∷ xs) e = absurd (let head : list_any (nat_eq x) (x ∷ xs) ≡ true = ap (λ b. b || list_any (nat_eq x) xs) (nat_eq_equiv.refl x) in let wrong : true ≡ false = sym head ∙ e x in cc)
 
 -- ## All that is done to a set
 

@@ -3,10 +3,14 @@ use Rattle.std.proofs.Common.{◌≡◌, ℕ, arith, List, [], ◌∷◌, ◌++�
 use Rattle.std.specs.Prelude.{replicate, sum}
 use Rattle.std.proofs.lemmas.List.{length-replicate}
 use Rattle.std.proofs.lemmas.List.Sums.{sum-map}
-use Rattle.strm_machine.specs.Words.{Guest, ReturnCode, no_handles, no_sets, put_at, State, memory_in, with_memory, stream_at, Turn, named, stream_named, Reaction, written_back, sizes_of, IsSound, NamedEnd, Act, OnEnd, OnLoose, Side}
+use Rattle.strm_machine.specs.Words.{Guest, ReturnCode, no_handles, no_sets, put_at, State, memory_in, with_memory, stream_at, Turn, named, stream_named, Reaction, written_back, sizes_of, IsSound, NamedEnd, Act, Make, OnEnd, OnLoose, Side}
 use Rattle.strm_machine.specs.State.{bytes_in_use}
 use Rattle.strm_machine.specs.Refusals.{refusal}
-use Rattle.strm_machine.specs.Reactions.{on_end, on_loose, reaction}
+use Rattle.strm_machine.specs.Reactions.{on_end, on_loose, makes, on_set, reaction}
+use Rattle.strm_machine.specs.WaitableSets.{with_set}
+use Rattle.strm_machine.specs.declared.acts.Making.TheVariants.{Set}
+use Rattle.strm_machine.specs.declared.acts.SetAct.{SetAct}
+use Rattle.strm_machine.specs.declared.acts.Act.TheVariants.{OnSet}
 use Rattle.strm_machine.specs.declared.acts.EndAct.{EndAct}
 use Rattle.strm_machine.specs.declared.acts.LooseAct.{LooseAct}
 use Rattle.strm_machine.proofs.BoundLemmas.{length-poked}
@@ -15,6 +19,7 @@ use Rattle.strm_machine.proofs.SoundLemmas.{IsSound-guest, IsSound-guests, IsSou
 use Rattle.strm_machine.proofs.MoveLemmas.{IsSound-owned}
 use Rattle.strm_machine.proofs.TurnLemmas.{GuestsKeep, TurnKeeps, turn-keeps, with_memory-keeps}
 use Rattle.strm_machine.proofs.Shapes.{stream_on, begun_on, turn_on, Operates, Shape, ByTurn, BySetting, ByOwner, ByTable, ByPair, ByGuest, ByPoke, ByRest}
+use Rattle.strm_machine.proofs.SetStepLemmas.{set_fits, set_new-shape, set-shape}
 use Rattle.strm_machine.proofs.ShapeLemmas.{on_end-shape, loose-shape, reaction-shape}
 
 pub operate-keeps : (state : State) (side : Side) (end : NamedEnd) (address count : ℕ) → Operates state side end address count → TurnKeeps state.guests (stream_on state end) (turn_on state side end address count)
@@ -61,3 +66,10 @@ on_end-sound state side end act h e = shape-sound state (OnEnd side end act) (on
 
 pub on_loose-sound : (state : State) (s : ℕ) (act : LooseAct) → IsSound state → refusal state (OnLoose s act) ≡ None → IsSound (on_loose state s act).state
 on_loose-sound state s act h e = shape-sound state (OnLoose s act) (on_loose state s act) h (loose-shape state s act e)
+
+-- what is done to a set, and a set more
+pub on_set-sound : (state : State) (g set : ℕ) (act : SetAct) → IsSound state → refusal state (OnSet g set act) ≡ None → IsSound (on_set state g set act).state
+on_set-sound state g set act h e = shape-sound state (OnSet g set act) (on_set state g set act) h (set-shape state g set act h e)
+
+pub with_set-sound : (state : State) (g : ℕ) → IsSound state → refusal state (Make (Set g)) ≡ None → IsSound (with_set state g)
+with_set-sound state g h e = shape-sound state (Make (Set g)) (makes state (Set g)) h (set_new-shape state g h (set_fits state g e))

@@ -1,13 +1,14 @@
 -- The sets of a guest after each change, as contracts see them: who is a member, which sets are there,
 -- and which member is the first that passes a test.
-use Rattle.std.proofs.Common.{Ordering, Less, Equal, Greater, T, ◌≡◌, ◌≢◌, ℕ, ◌-◌, ◌<◌, ◌≤◌, Bool, true, false, cond, not, ◌&&◌, ◌||◌, List, [], ◌∷◌, ◌++◌, length, set, get_or, map as map_list, Option, Some, None, is_some, refl, sym, ap, ◌∙◌, arith, inl, inr, length-append, length-set}
+use Rattle.std.proofs.Common.{Ordering, Less, Equal, Greater, T, ◌≡◌, ◌≢◌, ℕ, ◌+◌, ◌-◌, ◌<◌, ◌≤◌, Bool, true, false, cond, not, ◌&&◌, ◌||◌, List, [], ◌∷◌, ◌++◌, length, set, get_or, map as map_list, Option, Some, None, is_some, refl, sym, ap, ◌∙◌, arith, inl, inr, length-append, length-set}
 use Rattle.std.proofs.lemmas.Bool.{cases_lt, lt-ltb, le-ltb}
 use Rattle.std.proofs.lemmas.List.{get_or-set_same, get_or-set_other, get_or_past, get_or_append_left}
+use Rattle.std.proofs.lemmas.List.Sums.{sum_by-set, sum_by_push}
 use Rattle.std.proofs.lemmas.Map.Keys.{IsStrictlyIncreasing-from_sorted, sorted_head}
 use Rattle.std.specs.Cmp.{nat_cmp_total, nat_eq_equiv, unsigned_tied, ranked}
 use Rattle.std.specs.FinMap as map
 use Rattle.std.specs.FinMap.Entries.{below_all, is_sorted}
-use Rattle.std.specs.List.{find, list_any, position_or_len, AllByRecursion}
+use Rattle.std.specs.List.{count_by, find, list_any, position_or_len, AllByRecursion}
 use Rattle.std.specs.List.Sorted.{IsStrictlySortedBy}
 use Rattle.std.specs.Ordering.{eq_by_cmp, is_lt, nat_cmp}
 use Rattle.std.specs.Prelude.{nat_eq, ◌⊎◌}
@@ -196,3 +197,33 @@ module _ (p : ℕ → Bool) (sets : Sets) (number : ℕ) where
   -- where no member passes, none is found
   pub none_found : NoneReady (λ n b. p n ≡ b) sets number → find p (members sets number) ≡ None
   none_found h = find-none p (members sets number) (λ handle i. h handle (sym (among_members sets number handle) ∙ i))
+
+-- ## How many sets are there
+
+flag_inside : (flags : List Bool) (number : ℕ) → get_or flags number false ≡ true → number < length flags
+flag_inside flags number there =
+    elim (cases_lt number (length flags)) [
+      | inl l ↦ l
+      | inr l ↦ absurd (let past = get_or_past flags number false l in cc)
+    ]
+
+abbrev counted : Bool → ℕ
+counted there = cond there 1 0
+
+-- one more than there were
+pub count-new : (sets : Sets) → count_by (λ there. there) (with_new_set sets).there ≡ count_by (λ there. there) sets.there + 1
+count-new sets =
+    let flags = sets.there in
+    let number = least_free sets in
+    elim (cases_lt number (length flags)) [
+      | inl lower ↦ rw (lt-ltb number (length flags) lower) (let sum = sum_by-set counted flags number true false lower in let was : counted (get_or flags number false) ≡ 0 = ap counted (is_there-free sets) in omega (arith, sum, was))
+      | inr above ↦ rw (le-ltb number (length flags) above) (sum_by_push counted flags true)
+    ]
+
+-- and one less
+pub count-without : (sets : Sets) (number : ℕ) → is_there sets number ≡ true → count_by (λ there. there) (without_set sets number).there + 1 ≡ count_by (λ there. there) sets.there
+count-without sets number there =
+    let flags = sets.there in
+    let sum = sum_by-set counted flags number false false (flag_inside flags number there) in
+    let was : counted (get_or flags number false) ≡ 1 = ap counted there in
+    omega (arith, sum, was)

@@ -1,0 +1,32 @@
+-- How many sets there are, after one guest's table and sets are others.
+use Rattle.std.proofs.Common.{◌≡◌, ℕ, ◌+◌, ◌<◌, true, length, arith}
+use Rattle.std.proofs.lemmas.List.Sums.{sum_by-set}
+use Rattle.std.specs.Prelude.{count_by}
+use Rattle.strm_machine.specs.Words.{Guest, Handles, Sets, State, no_guest, removed, guest_in, sets_in, with_table}
+use Rattle.strm_handles.specs.declared.entries.Entry.TheVariants as entries
+use Rattle.strm_sets.specs.Sets.{is_there, least_free, with_new_set, without_set}
+use Rattle.strm_sets.proofs.SetLemmas.{count-new, count-without}
+use Rattle.strm_handles.specs.Handles.{inserted}
+use Rattle.strm_machine.specs.State.{sets_in_use}
+use Rattle.strm_machine.specs.WaitableSets.{set_named, number_named, with_set, without_set_named}
+
+abbrev pub counted : Guest → ℕ
+counted g = count_by (λ there. there) g.sets.there
+
+pub sets_in_use-with_table : (state : State) (g : ℕ) (handles : Handles) (sets : Sets) → g < length state.guests → sets_in_use (record state { guests = with_table state.guests g handles sets }) + counted (guest_in state.guests g) ≡ sets_in_use state + count_by (λ there. there) sets.there
+sets_in_use-with_table state g handles sets l = sum_by-set counted state.guests g (record (guest_in state.guests g) { handles = handles; sets = sets }) no_guest l
+
+-- a set more
+pub sets_in_use-more : (state : State) (g : ℕ) → g < length state.guests → sets_in_use (with_set state g) ≡ sets_in_use state + 1
+sets_in_use-more state g l =
+    let guest = guest_in state.guests g in
+    let sum = sets_in_use-with_table state g (inserted guest.handles (entries.WaitableSet (least_free guest.sets))) (with_new_set guest.sets) l in
+    omega (arith, sum, count-new (sets_in state.guests g))
+
+-- and one less
+pub sets_in_use-less : (state : State) (g handle : ℕ) → g < length state.guests → is_there (sets_in state.guests g) (number_named (set_named state g handle)) ≡ true → sets_in_use (without_set_named state g handle) + 1 ≡ sets_in_use state
+sets_in_use-less state g handle l there =
+    let guest = guest_in state.guests g in
+    let number = number_named (set_named state g handle) in
+    let sum = sets_in_use-with_table state g (removed guest.handles handle) (without_set guest.sets number) l in
+    omega (arith, sum, count-without guest.sets number there)
