@@ -1,5 +1,5 @@
--- The store after an end was told its report or its operation cancelled, or after it was dropped and
--- its handle freed.
+-- The store after an end was told its report or its operation cancelled; and what is known of an end
+-- that may leave its guest: its table gives its handle back, and its stream was made.
 use Rattle.std.proofs.Common.{◌≡◌, ℕ, ◌<◌, true, List, length, set, Result, Ok, Err, None, refl, ap, subst}
 use Rattle.std.specs.Prelude.{IsOk, IfOk}
 use Rattle.strm_codes.specs.declared.codes.TransmitIndex.{TransmitIndex}

@@ -5,6 +5,8 @@
 mod cancels;
 #[cfg(test)]
 mod making;
+#[cfg(test)]
+mod moves;
 
 use std::test::Fail;
 use strm_codes::codes::{ReturnCode, TransmitIndex};

@@ -12,7 +12,7 @@ use Rattle.strm_handles.specs.declared.entries.Entry.{Entry}
 use Rattle.strm_handles.specs.declared.entries.Entry.TheVariants as entries
 use Rattle.strm_handles.proofs.HandleLemmas.{live_of-removed}
 use Rattle.strm_sets.specs.Sets.{Sets, is_there, members, least_free, placed, with_new_set, without_set, IsLeastReady, NoneReady}
-use Rattle.strm_sets.proofs.SetLemmas.{is_there-free, among_members}
+use Rattle.strm_sets.proofs.SetLemmas.{among_members}
 use Rattle.strm_machine.specs.State as machine
 use Rattle.strm_machine.specs.State.{no_guest, guest_in, sets_in}
 use Rattle.strm_machine.specs.WaitableSets.{has_some}
@@ -31,35 +31,6 @@ on_err (Ok v) f p = tt
 on_err (Err e) f p = f p
 
 -- ## How many sets there are
-
-abbrev weight : Bool → ℕ
-weight t = cond t 1 0
-
-more_placed : (there : List Bool) (n : ℕ) → get_or there n false ≡ false → how_many (placed there n) ≡ how_many there + 1
-more_placed there n e = elim (cases_lt n (length there)) [
-  | inl below ↦ rw (lt-ltb n (length there) below)
-      (let m = sum_by-set weight there n true false below in
-      let none : weight (get_or there n false) ≡ 0 = ap weight e in
-      omega (arith, m, none))
-  | inr above ↦ rw (le-ltb n (length there) above)
-      (let m = sum_by-append weight there (true ∷ []) in omega (arith, m))
-]
-
--- a set more
-pub how_many-new : (sets : Sets) → how_many (with_new_set sets).there ≡ how_many sets.there + 1
-how_many-new sets = more_placed sets.there (least_free sets) (is_there-free sets)
-
-there_inside : (there : List Bool) (n : ℕ) → get_or there n false ≡ true → n < length there
-there_inside [] n e = cc
-there_inside (t ∷ there) zero e = omega arith
-there_inside (t ∷ there) (suc n) e = let l = there_inside there n e in omega (arith, l)
-
--- a set less
-pub how_many-without : (sets : Sets) (n : ℕ) → is_there sets n ≡ true → how_many (without_set sets n).there + 1 ≡ how_many sets.there
-how_many-without sets n e =
-    let m = sum_by-set weight sets.there n false false (there_inside sets.there n e) in
-    let one : weight (get_or sets.there n false) ≡ 1 = ap weight e in
-    omega (arith, m, one)
 
 -- one set more of one guest is one more of all
 pub sets_after : (guests : List machine.Guest) (g : ℕ) (y : machine.Guest) → g < length guests → how_many y.sets.there ≡ how_many (sets_in guests g).there + 1 → sets_among (set guests g y) ≡ sets_among guests + 1

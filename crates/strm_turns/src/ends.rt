@@ -5,10 +5,10 @@
 //! insert is ours.
 
 ghost use Rattle.std.specs.Prelude.{◌≡◌, Ok, ◌+◌, ◌^◌, ◌<◌, ◌≤◌, ℕ, length, IfOk, OnOk, OnErr};
-ghost use Rattle.strm_handles.specs.Handles.{next_index, inserted, removed, live_of};
+ghost use Rattle.strm_handles.specs.Handles.{next_index, inserted, live_of};
 ghost use Rattle.strm_handles.specs.Changes.{Inserts, Removes};
 ghost use Rattle.strm_handles.specs.Counters.{counted, uncounted};
-ghost use Rattle.strm_machine.specs.State.{guest_in, with_handles};
+ghost use Rattle.strm_machine.specs.State.{guest_in};
 ghost use Rattle.strm_machine.specs.Making.{end_entry, with_read_end, with_ends};
 ghost use Rattle.strm_turns.specs.Guests.{seen, room_in, live_in, with_end_in, without_handle_in, removable};
 
@@ -95,8 +95,8 @@ fn insert_end(
     requires small { next_index (guest_in (seen guests.old.items) guest).handles < 2 ^ 28 }
     requires below { counter.old.live < counter.old.limit }
     ensures number { result ≡ next_index (guest_in (seen guests.old.items) guest).handles }
-    ensures guests { seen guests.new.items ≡ with_handles (seen guests.old.items) guest
-        (inserted (guest_in (seen guests.old.items) guest).handles (end_entry side ty stream)) }
+    ensures guests { seen guests.new.items
+        ≡ with_end_in (seen guests.old.items) guest side ty stream }
     ensures counter { counter.new ≡ counted counter.old }
     ensures rooms { (n : ℕ) → room_in guests.old.items n ≤ room_in guests.new.items n + 1 }
     ensures live { live_in (seen guests.new.items) ≡ live_in (seen guests.old.items) + 1 }

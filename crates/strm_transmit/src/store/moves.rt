@@ -4,14 +4,13 @@
 //! Canonical ABI, `lift_stream`, `lower_stream` and those of futures; wasmtime, `lift_from_index`,
 //! `lower_to_index` and `close` of readers. Ours: a transfer as one call.
 
-ghost use Rattle.std.specs.Prelude.{◌≡◌, ◌≢◌, ◌<◌, false, length, Err, None, IfOk};
-ghost use Rattle.strm_codes.specs.Types.{kind_of};
+ghost use Rattle.std.specs.Prelude.{◌≡◌, ◌≢◌, ◌<◌, false, length, Err, None};
 ghost use Rattle.strm_codes.specs.declared.codes.TransmitIndex.TheVariants as index;
 ghost use Rattle.strm_machine.specs.State.{stream_at};
 ghost use Rattle.strm_machine.specs.Tests.{named, stream_named, same_kind, is_unknown_reader};
 ghost use Rattle.strm_machine.specs.Moves.{without_handle, next_in, with_owner};
 ghost use Rattle.strm_machine.specs.Refusals.{refusal};
-ghost use Rattle.strm_machine.specs.Reactions.{goes, moves, lowers, with_stream_at, react, reaction};
+ghost use Rattle.strm_machine.specs.Reactions.{moves, lowers, with_stream_at, react, reaction};
 ghost use Rattle.strm_machine.specs.declared.acts.Act.TheVariants.{OnEnd, OnLoose};
 ghost use Rattle.strm_machine.specs.declared.acts.EndAct.TheVariants.{Move, Lift};
 ghost use Rattle.strm_machine.specs.declared.acts.LooseAct.TheVariants.{Lower, Close};

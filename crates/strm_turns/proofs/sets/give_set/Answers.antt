@@ -6,7 +6,8 @@ use Rattle.strm_machine.specs.State.{guest_in, no_guest}
 use Rattle.strm_turns.specs.Guests.{seen, guest_of, live_in, sets_among, with_set_of}
 use Rattle.strm_turns.proofs.GuestLemmas.{guest_in-seen, seen-made}
 use Rattle.strm_turns.proofs.EndLemmas.{live_after}
-use Rattle.strm_turns.proofs.SetLemmas.{on_ok, on_err, how_many-new, sets_after}
+use Rattle.strm_sets.proofs.SetLemmas.{count-new}
+use Rattle.strm_turns.proofs.SetLemmas.{on_ok, on_err, sets_after}
 use Rattle.strm_turns.proofs.sets.give_set.Goals as goal
 
 pub returns-clause-guests : goal.returns-clause-guests
@@ -34,7 +35,7 @@ returns-clause-sets c =
     let there : c.args.guest < length (seen guests) = omega (arith, c.requires.there, length-map guests guest_of) in
     on_ok c.make_set.result
     (λ e. ap sets_among (seen-made guests c.args.guest c.index_mut.result.now c.make_set.new.guest with_set_of c.requires.there c.index_mut.ensures.value e)
-    ∙ sets_after (seen guests) c.args.guest (with_set_of g) there (how_many-new g.sets))
+    ∙ sets_after (seen guests) c.args.guest (with_set_of g) there (count-new g.sets))
     c.make_set.ensures.ok
 
 pub returns-clause-err : goal.returns-clause-err

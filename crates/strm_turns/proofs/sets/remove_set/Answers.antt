@@ -8,7 +8,8 @@ use Rattle.strm_machine.specs.State.{guest_in, with_table}
 use Rattle.strm_turns.specs.Guests.{seen, guest_of, live_in, sets_among}
 use Rattle.strm_turns.proofs.GuestLemmas.{guest_in-seen, seen-with_table, was_ok}
 use Rattle.strm_turns.proofs.EndLemmas.{live_less}
-use Rattle.strm_turns.proofs.SetLemmas.{how_many-without, sets_less, set_live}
+use Rattle.strm_sets.proofs.SetLemmas.{count-without}
+use Rattle.strm_turns.proofs.SetLemmas.{sets_less, set_live}
 use Rattle.strm_turns.proofs.sets.remove_set.Goals as goal
 
 pub returns-clause-guests : goal.returns-clause-guests
@@ -35,4 +36,4 @@ returns-clause-sets c =
     let guests = c.args.guests.now.items in
     let g = guest_in (seen guests) c.args.guest in
     let there : c.args.guest < length (seen guests) = omega (arith, c.requires.there, length-map guests guest_of) in
-    omega (arith, ap sets_among (returns-clause-guests c), sets_less (seen guests) c.args.guest (record g { handles = removed g.handles c.args.handle; sets = without_set g.sets c.args.set }) there (how_many-without g.sets c.args.set c.requires.made))
+    omega (arith, ap sets_among (returns-clause-guests c), sets_less (seen guests) c.args.guest (record g { handles = removed g.handles c.args.handle; sets = without_set g.sets c.args.set }) there (count-without g.sets c.args.set c.requires.made))
