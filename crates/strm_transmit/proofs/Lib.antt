@@ -3,3 +3,4 @@ pub mod StoreLemmas
 pub mod OperationLemmas
 pub mod EndingLemmas
 pub mod MoveLemmas
+pub mod SetLemmas

@@ -13,6 +13,7 @@ mod memories;
 mod moves;
 mod operations;
 mod refusals;
+mod sets;
 
 use crate::errors::StoreError;
 use std::alloc::Global;
@@ -35,6 +36,8 @@ pub struct Store {
     streams: Vec<Stream>,
     // Streams of which an end is there.
     live_streams: u32,
+    // Waitable sets of all guests together.
+    live_sets: u32,
     // The bytes of all memories together.
     bytes: u32,
     is_trapped: bool,
@@ -43,8 +46,12 @@ pub struct Store {
 
 impl Model for Store {
     ghost use Rattle.strm_machine.specs.State.{State};
+    ghost use Rattle.std.specs.Coded.{codes};
+    ghost use Rattle.strm_sets.specs.Sets.{sets_code};
 
     ghost Value = { State };
+
+    ghost coded = { Prim.hlevel (codes, sets_code) };
 
     ghost use Rattle.strm_transmit.specs.Inside.{state_of, IsStore};
 
@@ -67,6 +74,7 @@ impl Store {
             guests: Vec::new(alloc),
             streams: Vec::new(alloc),
             live_streams: 0,
+            live_sets: 0,
             bytes: 0,
             is_trapped: false,
             alloc,

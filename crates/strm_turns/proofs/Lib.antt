@@ -2,3 +2,4 @@ pub mod GuestLemmas
 pub mod CarryingLemmas
 pub mod EndLemmas
 pub mod OwnerLemmas
+pub mod SetLemmas

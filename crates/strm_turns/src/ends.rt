@@ -176,7 +176,8 @@ fn try_remove(
     Ok(())
 }
 
-/// Frees the handle of an end that the table shows idle, in its guest's table.
+/// Frees the handle of an end that the table shows idle, in its guest's table; it leaves the set that
+/// it is in.
 pub fn remove_end(guests: &mut Vec<Guest>, counter: &mut HandleCounter, side: Side, end: &NamedEnd)
     requires there { end.now.guest < length guests.old.items }
     requires idle { removable side end.now.ty (guest_in (seen guests.old.items) end.now.guest).handles
@@ -189,8 +190,9 @@ pub fn remove_end(guests: &mut Vec<Guest>, counter: &mut HandleCounter, side: Si
     ensures live { live_in (seen guests.new.items) + 1 ≡ live_in (seen guests.old.items) }
     ensures count { length guests.new.items ≡ length guests.old.items }
 {
-    let table = &mut guests[end.guest as usize].table;
-    try_remove(table, counter, side, end.ty, end.handle).unwrap()
+    let guest = &mut guests[end.guest as usize];
+    try_remove(&mut guest.table, counter, side, end.ty, end.handle).unwrap();
+    guest.sets.leave(end.handle);
 }
 
 /// The handle of an end in a guest's table: answers its number. After want of memory nothing has

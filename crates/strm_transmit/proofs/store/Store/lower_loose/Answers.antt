@@ -29,6 +29,7 @@ invariant_of-self c =
     (record {
       same = record { tag = refl; limits = refl; trapped = refl };
       bytes = refl;
+      live_sets = refl;
       counted = c.set_owner.ensures.counted;
       streams = c.set_owner.ensures.streams;
     })

@@ -22,6 +22,7 @@ invariant_of-self c =
       counter = refl;
       streams = refl;
       live_streams = refl;
+      live_sets = refl;
       count = refl;
       guests = rw (← c.as_slice.ensures.exact) c.write_bytes.ensures.guests;
     })
@@ -36,6 +37,7 @@ returns c =
       counter = refl;
       streams = refl;
       live_streams = refl;
+      live_sets = refl;
       count = refl;
       guests = rw (← c.as_slice.ensures.exact) c.write_bytes.ensures.guests;
     }))

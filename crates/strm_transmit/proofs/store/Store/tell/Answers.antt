@@ -22,6 +22,7 @@ invariant_of-self c =
       counter = refl;
       guests = refl;
       live_streams = refl;
+      live_sets = refl;
       bytes = refl;
       streams = ap (set c.self.inside.streams.items c.args.stream) (c.deliver_report.ensures.stream ∙ ap (λ (s : Stream). delivered c.args.side s) (sym here));
     })
