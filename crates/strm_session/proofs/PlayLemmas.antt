@@ -49,15 +49,9 @@ pub RunsOn-to : (state next : State) (step : Step) (reply : Reply) → state.tra
 RunsOn-to state next step reply h e = subst RunsOn e (reaction-runs state step h)
 
 settled_of : (told : List Reply) (reply : Reply) (state : State) (next : List Reply → State → Played) (all : List Reply) (end : State) → after_step told reply state next ≡ Ends all end → is_settled reply ≡ true
-settled_of told replies.Done state next all end e = refl
-settled_of told (replies.Number n) state next all end e = refl
-settled_of told (replies.Pair pair) state next all end e = refl
-settled_of told (replies.Code code) state next all end e = refl
-settled_of told (replies.Event code) state next all end e = refl
-settled_of told (replies.Bytes bytes) state next all end e = refl
-settled_of told (replies.Refused r) state next all end e = refl
 settled_of told (replies.BadItem s) state next all end e = cc
 settled_of told replies.StoreTrapped state next all end e = cc
+settled_of told _ state next all end e = refl
 
 -- a play that ends leaves a store that is not trapped, and goes on from there
 pub record LeadsTo (told : List Reply) (state : State) (steps : List Step) (all : List Reply) (end : State) : Type 0 where
@@ -78,15 +72,10 @@ play-leads told state (step ∷ steps) all end t e =
 
 -- a reply of a step that is done
 done_settled : (reply : Reply) → is_done reply ≡ true → is_settled reply ≡ true
-done_settled replies.Done e = refl
-done_settled (replies.Number n) e = refl
-done_settled (replies.Pair pair) e = refl
-done_settled (replies.Code code) e = refl
-done_settled (replies.Event code) e = refl
-done_settled (replies.Bytes bytes) e = refl
 done_settled (replies.Refused r) e = cc
 done_settled (replies.BadItem s) e = cc
 done_settled replies.StoreTrapped e = cc
+done_settled _ e = refl
 
 -- the machine goes on from a step
 abbrev pub StepGoesOn : List Reply → State → Step → Type 0
