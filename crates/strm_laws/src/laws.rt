@@ -59,8 +59,9 @@ pub fn totals_are_counts()
         AreCounted (stream_at (last (empty tag limits) run) s) }
 {}
 
-/// Every state is sound, after whichever steps: handles name streams that were made, of their type, and
-/// the items that an operation has left lie in its guest's memory.
+/// Every state is sound, after whichever steps: handles name streams that were made, of their type, the
+/// items that an operation has left lie in its guest's memory, and each guest's table agrees with its
+/// waitable sets.
 pub fn states_are_sound()
     ensures { (tag : ℕ) (limits : Limits) (run : List Step) →
         IsSound (last (empty tag limits) run) }
