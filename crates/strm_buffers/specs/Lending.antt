@@ -1,4 +1,4 @@
--- What `unmarked` lends.
+-- What `unmarked` lends. Ours.
 use Rattle.std.specs.Prelude.{ℕ, ◌+◌, ◌*◌, List, [], ◌++◌, length, take, drop}
 use Rattle.std.specs.List.{refill}
 use Rattle.std.specs.Borrow.{Lends, MutBor, Fml, Array, u8}
