@@ -32,6 +32,7 @@ pub fn mark_in_room(alloc: Global, window: &mut Window, items: &Items) -> Result
     let count = count_in_room(window, items);
     match mark_first(window, items, count) {
         Ok(()) => Ok(count),
+        // Only between host ends, where a new window is the same with none marked.
         Err(error) => {
             let payload = window.payload();
             *window = Window::unbounded(alloc, payload);
