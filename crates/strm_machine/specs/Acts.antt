@@ -2,13 +2,14 @@
 use Rattle.std.specs.Prelude.{ℕ}
 use Rattle.strm_codes.specs.declared.codes.TransmitIndex.{TransmitIndex}
 use Rattle.strm_machine.specs.declared.acts.NamedEnd.{NamedEnd}
-use Rattle.strm_machine.specs.declared.acts.Making.TheVariants.{Guest, Between, Set}
+use Rattle.strm_machine.specs.declared.acts.Making.TheVariants.{Guest, Between, Set, Context}
 use Rattle.strm_machine.specs.declared.acts.EndAct.TheVariants.{Operate, Drop, Cancel, Move, Lift}
 use Rattle.strm_machine.specs.declared.acts.LooseAct.TheVariants.{Lower, Close}
 use Rattle.strm_machine.specs.declared.acts.SetAct.TheVariants as set_acts
+use Rattle.strm_machine.specs.declared.acts.ContextAct.TheVariants as context_acts
 use Rattle.strm_machine.specs.declared.acts.MemoryAct.TheVariants.{Poke, Dump}
 use Rattle.strm_machine.specs.declared.acts.Act.{Act}
-use Rattle.strm_machine.specs.declared.acts.Act.TheVariants.{Make, OnEnd, OnLoose, Event, OnSet, OnMemory}
+use Rattle.strm_machine.specs.declared.acts.Act.TheVariants.{Make, OnEnd, OnLoose, Event, OnSet, OnContext, OnMemory}
 use Rattle.strm_machine.specs.declared.steps.Step.{Step}
 use Rattle.strm_machine.specs.declared.steps.Step.TheVariants as steps
 use Rattle.strm_machine.specs.declared.streams.Side.TheVariants.{Writing, Reading}
@@ -39,5 +40,9 @@ act_of (steps.SetNew guest) = Make (Set guest)
 act_of (steps.SetJoin guest set handle) = OnSet guest set (set_acts.Join handle)
 act_of (steps.SetPoll guest set) = OnSet guest set set_acts.Poll
 act_of (steps.SetDrop guest set) = OnSet guest set set_acts.Drop
+act_of (steps.ErrNew guest address len) = Make (Context guest address len)
+act_of (steps.ErrText guest handle address) = OnContext guest handle (context_acts.Text address)
+act_of (steps.ErrMove guest handle to) = OnContext guest handle (context_acts.Move to)
+act_of (steps.ErrDrop guest handle) = OnContext guest handle context_acts.Drop
 act_of (steps.Poke guest address bytes) = OnMemory guest (Poke address bytes)
 act_of (steps.Dump guest address len) = OnMemory guest (Dump address len)

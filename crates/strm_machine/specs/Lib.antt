@@ -9,6 +9,7 @@ pub mod Refusals
 pub mod Making
 pub mod Moves
 pub mod WaitableSets
+pub mod ErrorContexts
 pub mod Reactions
 pub mod Plays
 pub mod Asked

@@ -11,10 +11,11 @@ use Rattle.strm_machine.specs.Meetings.{begun}
 use Rattle.strm_machine.specs.Turns.{Turn, turn}
 use Rattle.strm_machine.specs.Endings.{report_on, delivered, dropped, code_of_cancel, cancelled}
 use Rattle.strm_machine.specs.Tests.{named, end_named, stream_named, side_named, items_asked}
-use Rattle.strm_machine.specs.Refusals.{refusal}
+use Rattle.strm_machine.specs.Refusals.{first_of, lower_context_reasons, refusal}
 use Rattle.strm_machine.specs.Making.{made_pair, with_stream}
 use Rattle.strm_machine.specs.Moves.{without_handle, next_in, given, with_owner}
 use Rattle.strm_machine.specs.WaitableSets.{set_named, ready_in, sets_changed, with_set, sets_joined, without_set_named}
+use Rattle.strm_machine.specs.ErrorContexts.{context_number, message_named, message_in, with_context, with_context_handle, without_context_handle, with_message_at}
 use Rattle.strm_machine.specs.declared.streams.Owner.TheVariants.{Held, Loose}
 use Rattle.strm_machine.specs.declared.streams.Side.{Side}
 use Rattle.strm_machine.specs.declared.streams.Side.TheVariants.{Reading}
@@ -23,17 +24,19 @@ use Rattle.strm_machine.specs.declared.streams.Stream.{Stream}
 use Rattle.strm_machine.specs.Acts.{act_of}
 use Rattle.strm_machine.specs.declared.acts.NamedEnd.{NamedEnd}
 use Rattle.strm_machine.specs.declared.acts.Making.{Making}
-use Rattle.strm_machine.specs.declared.acts.Making.TheVariants.{Guest, Between, Set}
+use Rattle.strm_machine.specs.declared.acts.Making.TheVariants.{Guest, Between, Set, Context}
 use Rattle.strm_machine.specs.declared.acts.EndAct.{EndAct}
 use Rattle.strm_machine.specs.declared.acts.EndAct.TheVariants.{Operate, Drop, Cancel, Move, Lift}
 use Rattle.strm_machine.specs.declared.acts.LooseAct.{LooseAct}
 use Rattle.strm_machine.specs.declared.acts.LooseAct.TheVariants.{Lower, Close}
 use Rattle.strm_machine.specs.declared.acts.SetAct.{SetAct}
 use Rattle.strm_machine.specs.declared.acts.SetAct.TheVariants as set_acts
+use Rattle.strm_machine.specs.declared.acts.ContextAct.{ContextAct}
+use Rattle.strm_machine.specs.declared.acts.ContextAct.TheVariants as context_acts
 use Rattle.strm_machine.specs.declared.acts.MemoryAct.{MemoryAct}
 use Rattle.strm_machine.specs.declared.acts.MemoryAct.TheVariants.{Poke, Dump}
 use Rattle.strm_machine.specs.declared.acts.Act.{Act}
-use Rattle.strm_machine.specs.declared.acts.Act.TheVariants.{Make, OnEnd, OnLoose, Event, OnSet, OnMemory}
+use Rattle.strm_machine.specs.declared.acts.Act.TheVariants.{Make, OnEnd, OnLoose, Event, OnSet, OnContext, OnMemory}
 use Rattle.strm_machine.specs.declared.steps.Step.{Step}
 use Rattle.strm_machine.specs.declared.replies.Member.{Member}
 use Rattle.strm_machine.specs.declared.replies.Reply.{Reply}
@@ -150,6 +153,23 @@ on_set state g set (set_acts.Join handle) = joins state g set handle
 on_set state g set set_acts.Poll = polls state g (ready_in state g set)
 on_set state g set set_acts.Drop = goes replies.Done (without_set_named state g set)
 
+-- the message of the error context that a handle of a guest names, put into its memory; the answer is
+-- how many bytes it has
+abbrev pub texts : State → ℕ → ℕ → ℕ → Reaction
+texts state g handle address =
+    let message = message_named state g handle in
+    goes (replies.Number (length message)) (with_message_at state g address message)
+
+-- a guest gets a handle more to the error context of a number, under its next handle
+abbrev pub shares : State → ℕ → ℕ → Reaction
+shares state number g = goes (replies.Number (next_in state g)) (with_context_handle state g number)
+
+-- what is done to the error context that a handle names, or to the handle
+abbrev pub on_context : State → ℕ → ℕ → ContextAct → Reaction
+on_context state g handle (context_acts.Text address) = texts state g handle address
+on_context state g handle (context_acts.Move to) = shares state (context_number state g handle) to
+on_context state g handle context_acts.Drop = goes replies.Done (without_context_handle state g handle)
+
 -- what is done to the end that is named
 abbrev pub on_end : State → Side → NamedEnd → EndAct → Reaction
 on_end state side end (Operate address count) = operates state side end address count
@@ -168,6 +188,8 @@ makes state (Guest size) =
 makes state (Between writer reader ty) =
     goes (replies.Pair (made_pair state writer reader ty)) (with_stream state writer reader ty)
 makes state (Set g) = goes (replies.Number (next_in state g)) (with_set state g)
+makes state (Context g address len) =
+    goes (replies.Number (next_in state g)) (with_context state g (message_in state g address len))
 
 -- what is done to a guest's memory
 abbrev pub on_memory : State → ℕ → MemoryAct → Reaction
@@ -187,6 +209,7 @@ performs state (OnLoose reader act) = on_loose state reader act
 performs state (Event g handle) =
     tells state (stream_named (end_named state g handle)) (side_named (end_named state g handle))
 performs state (OnSet g set act) = on_set state g set act
+performs state (OnContext g handle act) = on_context state g handle act
 performs state (OnMemory g act) = on_memory state g act
 
 -- a refused step changes nothing
@@ -204,3 +227,17 @@ reaction state act =
 -- one step
 abbrev pub react : State → Step → Reaction
 react state step = reaction state (act_of step)
+
+-- WHAT IS NO STEP
+
+-- a refusal, or else a handle more of a guest to the error context of a number
+abbrev pub shares_unless : State → ℕ → ℕ → Option Refusal → Reaction
+shares_unless state number g (Some r) = goes (replies.Refused r) state
+shares_unless state number g None = shares state number g
+
+-- the lowering of the error context of a number into a guest
+unfoldable pub lowers_context : State → ℕ → ℕ → Reaction
+lowers_context state number g =
+    if state.trapped
+    then goes replies.StoreTrapped state
+    else shares_unless state number g (first_of (lower_context_reasons state number g))

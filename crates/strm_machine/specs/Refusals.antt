@@ -14,22 +14,25 @@ use Rattle.strm_machine.specs.Sides.{same_side}
 use Rattle.strm_machine.specs.Making.{writer_index}
 use Rattle.strm_machine.specs.Moves.{without_handle, next_in}
 use Rattle.strm_machine.specs.WaitableSets.{set_named, number_named, is_in_set, has_member}
+use Rattle.strm_machine.specs.ErrorContexts.{context_named, is_unknown_context, is_message_too_long, message_named, is_bad_text}
 use Rattle.strm_machine.specs.declared.streams.Stream.{Stream}
 use Rattle.strm_machine.specs.declared.streams.Side.{Side}
 use Rattle.strm_machine.specs.declared.streams.Side.TheVariants.{Writing, Reading}
 use Rattle.strm_machine.specs.declared.acts.NamedEnd.{NamedEnd}
 use Rattle.strm_machine.specs.declared.acts.Making.{Making}
-use Rattle.strm_machine.specs.declared.acts.Making.TheVariants.{Guest, Between, Set}
+use Rattle.strm_machine.specs.declared.acts.Making.TheVariants.{Guest, Between, Set, Context}
 use Rattle.strm_machine.specs.declared.acts.EndAct.{EndAct}
 use Rattle.strm_machine.specs.declared.acts.EndAct.TheVariants.{Operate, Drop, Cancel, Move, Lift}
 use Rattle.strm_machine.specs.declared.acts.LooseAct.{LooseAct}
 use Rattle.strm_machine.specs.declared.acts.LooseAct.TheVariants.{Lower, Close}
 use Rattle.strm_machine.specs.declared.acts.SetAct.{SetAct}
 use Rattle.strm_machine.specs.declared.acts.SetAct.TheVariants as set_acts
+use Rattle.strm_machine.specs.declared.acts.ContextAct.{ContextAct}
+use Rattle.strm_machine.specs.declared.acts.ContextAct.TheVariants as context_acts
 use Rattle.strm_machine.specs.declared.acts.MemoryAct.{MemoryAct}
 use Rattle.strm_machine.specs.declared.acts.MemoryAct.TheVariants.{Poke, Dump}
 use Rattle.strm_machine.specs.declared.acts.Act.{Act}
-use Rattle.strm_machine.specs.declared.acts.Act.TheVariants.{Make, OnEnd, OnLoose, Event, OnSet, OnMemory}
+use Rattle.strm_machine.specs.declared.acts.Act.TheVariants.{Make, OnEnd, OnLoose, Event, OnSet, OnContext, OnMemory}
 
 -- a condition, and the refusal that it gives
 pub record Reason : Type 0 where
@@ -163,7 +166,7 @@ on_loose_reasons state reader Close =
     where_ (is_unknown_reader state reader) refusals.UnknownReader ∷ []
 
 -- a handle of no type, by what the table answers: of an end that is to be told something or is to be
--- in a set, or of a set
+-- in a set, of a set, or of an error context
 abbrev pub slot_reasons : {A : Type 0} → Result A HandleError → List Reason
 slot_reasons answer =
     where_ (is_unknown_handle answer) refusals.UnknownHandle
@@ -184,6 +187,39 @@ set_reasons state g set set_acts.Drop =
     ++ where_ (has_member state g (number_named (set_named state g set))) refusals.SetNotEmpty
     ∷ []
 
+-- the guest and its handle to an error context
+abbrev pub context_reasons : State → ℕ → ℕ → List Reason
+context_reasons state g handle =
+    where_ (is_unknown_guest state g) refusals.UnknownGuest
+    ∷ slot_reasons (context_named state g handle)
+
+-- a handle more of a guest
+abbrev pub handle_more_reasons : State → ℕ → List Reason
+handle_more_reasons state g =
+    where_ (is_no_handle (next_in state g)) refusals.IndexOverflow
+    ∷ where_ (are_handles_full state 1) refusals.HandleLimit
+    ∷ []
+
+-- what is done to the error context that a handle names; for a transfer both guests stand before the
+-- handle
+abbrev pub on_context_reasons : State → ℕ → ℕ → ContextAct → List Reason
+on_context_reasons state g handle (context_acts.Text address) =
+    context_reasons state g handle
+    ++ where_ (are_bytes_out_of_bounds state g address (length (message_named state g handle)))
+    refusals.OutOfBounds
+    ∷ []
+on_context_reasons state g handle (context_acts.Move to) =
+    where_ (is_unknown_guest state g || is_unknown_guest state to) refusals.UnknownGuest
+    ∷ (slot_reasons (context_named state g handle) ++ handle_more_reasons state to)
+on_context_reasons state g handle context_acts.Drop = context_reasons state g handle
+
+-- the error context of a number that a guest is to get a handle to, which is no step
+abbrev pub lower_context_reasons : State → ℕ → ℕ → List Reason
+lower_context_reasons state number g =
+    where_ (is_unknown_guest state g) refusals.UnknownGuest
+    ∷ where_ (is_unknown_context state number) refusals.UnknownHandle
+    ∷ handle_more_reasons state g
+
 -- what is made
 abbrev pub making_reasons : State → Making → List Reason
 making_reasons state (Guest size) =
@@ -203,6 +239,12 @@ making_reasons state (Set g) =
     ∷ where_ (are_handles_full state 1) refusals.HandleLimit
     ∷ where_ (are_places_full state 1) refusals.Full
     ∷ []
+making_reasons state (Context g address len) =
+    where_ (is_unknown_guest state g) refusals.UnknownGuest
+    ∷ where_ (is_message_too_long len) refusals.MessageTooLong
+    ∷ where_ (are_bytes_out_of_bounds state g address len) refusals.OutOfBounds
+    ∷ where_ (is_bad_text state g address len) refusals.BadText
+    ∷ (handle_more_reasons state g ++ where_ (are_places_full state 1) refusals.Full ∷ [])
 
 -- bytes of a guest's memory from an address on, so many
 abbrev pub bytes_reasons : State → ℕ → ℕ → ℕ → List Reason
@@ -225,6 +267,7 @@ reasons state (Event g handle) =
     where_ (is_unknown_guest state g) refusals.UnknownGuest ∷ slot_reasons (end_named state g handle)
 reasons state (OnSet g set act) =
     where_ (is_unknown_guest state g) refusals.UnknownGuest ∷ set_reasons state g set act
+reasons state (OnContext g handle act) = on_context_reasons state g handle act
 reasons state (OnMemory g act) = memory_reasons state g act
 
 -- why it is refused, if it is

@@ -1,11 +1,13 @@
--- The state of the machine: guests, each with a memory, a handle table and waitable sets, and the
--- streams between them.
--- Component Model, "Stream State" and "Waitable State"; wasmtime, futures_and_streams.rs.
+-- The state of the machine: guests, each with a memory, a handle table and waitable sets, the streams
+-- between them, and error contexts.
+-- Component Model, "Stream State", "Waitable State" and `ErrorContext`; wasmtime,
+-- futures_and_streams.rs.
 use Rattle.std.specs.Prelude.{ℕ, ◌+◌, ◌*◌, Bool, false, true, ◌&&◌, not, List, [], length, slice_index_or, slice_set, sum_by, count_by, None}
 use Rattle.strm_codes.specs.declared.codes.TransmitKind.TheVariants.{Stream as AStream}
 use Rattle.strm_codes.specs.declared.payloads.Payload.TheVariants.{Nothing}
 use Rattle.strm_handles.specs.Handles.{Handles, no_handles, live_of}
 use Rattle.strm_sets.specs.Sets.{Sets, no_sets}
+use Rattle.strm_contexts.specs.Contexts.{Contexts, no_contexts, len as contexts_there}
 use Rattle.strm_machine.specs.declared.limits.Limits.{Limits}
 use Rattle.strm_machine.specs.declared.streams.Owner.{Owner}
 use Rattle.strm_machine.specs.declared.streams.Owner.TheVariants.{Held, Loose, Gone}
@@ -18,18 +20,27 @@ pub record Guest : Type 0 where
   pub handles : Handles
   pub sets : Sets
 
--- guests and streams by their numbers; a stream whose both ends are gone keeps its place
+-- guests, streams and error contexts by their numbers; a stream whose both ends are gone keeps its
+-- place
 pub record State : Type 0 where
   -- the name that the store was made with, which no step changes. Ours
   pub tag : ℕ
   pub limits : Limits
   pub guests : List Guest
   pub streams : List Stream
+  pub contexts : Contexts
   pub trapped : Bool
 
--- no guest, no stream, under these limits
+-- no guest, no stream and no error context, under these limits
 abbrev pub empty : ℕ → Limits → State
-empty tag limits = record { tag = tag; limits = limits; guests = []; streams = []; trapped = false }
+empty tag limits = record {
+  tag = tag;
+  limits = limits;
+  guests = [];
+  streams = [];
+  contexts = no_contexts;
+  trapped = false;
+}
 
 -- the bytes of all memories together, at most. Ours
 abbrev pub memory_limit : ℕ
@@ -125,10 +136,11 @@ handles_in_use state = sum_by (λ g. live_of g.handles) state.guests
 abbrev pub sets_in_use : State → ℕ
 sets_in_use state = sum_by (λ g. count_by (λ there. there) g.sets.there) state.guests
 
--- a stream takes three places until both ends are gone, and a set one. Ours: the crate's table of
--- transmits, and of sets
+-- a stream takes three places until both ends are gone, a set and an error context one each. Ours: the
+-- crate's tables of transmits, of sets and of error contexts
 abbrev pub places_in_use : State → ℕ
-places_in_use state = 3 * count_by is_live state.streams + sets_in_use state
+places_in_use state =
+    3 * count_by is_live state.streams + sets_in_use state + contexts_there state.contexts
 
 -- bytes of all memories together
 abbrev pub bytes_in_use : State → ℕ

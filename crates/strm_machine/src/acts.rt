@@ -35,6 +35,12 @@ pub enum Making {
     Set {
         guest: u32,
     },
+    /// An error context of a guest, whose message is so many bytes of its memory from `address` on.
+    Context {
+        guest: u32,
+        address: u32,
+        len: u32,
+    },
 }
 
 /// What is done to the end that is named.
@@ -73,6 +79,17 @@ pub enum SetAct {
     Drop,
 }
 
+/// What is done to the error context that a handle names, or to the handle.
+#[derive(Clone, Copy, Debug, PartialEq, Eq)]
+pub enum ContextAct {
+    /// Its message is put into the guest's memory, from `address` on.
+    Text { address: u32 },
+    /// Another guest, or the same, gets a handle to it; the guest keeps its own.
+    Move { to: u32 },
+    /// The handle is dropped, and the error context with its last one.
+    Drop,
+}
+
 /// What is done to the bytes of a guest's memory, from `address` on.
 #[derive(Clone, Copy, Debug, PartialEq, Eq)]
 pub enum MemoryAct {
@@ -85,7 +102,7 @@ pub enum MemoryAct {
 /// What a step does.
 #[derive(Clone, Copy, Debug, PartialEq, Eq)]
 pub enum Act {
-    /// It makes a guest, a stream or a set.
+    /// It makes a guest, a stream, a set or an error context.
     Make {
         making: Making,
     },
@@ -110,6 +127,12 @@ pub enum Act {
         guest: u32,
         set: u32,
         act: SetAct,
+    },
+    /// It does something to the error context that a guest's handle names.
+    OnContext {
+        guest: u32,
+        handle: u32,
+        act: ContextAct,
     },
     /// It does something to a guest's memory alone.
     OnMemory {
@@ -221,6 +244,36 @@ impl Act {
                 guest,
                 set,
                 act: SetAct::Drop,
+            },
+            Step::ErrNew {
+                guest,
+                address,
+                len,
+            } => Act::Make {
+                making: Making::Context {
+                    guest,
+                    address,
+                    len,
+                },
+            },
+            Step::ErrText {
+                guest,
+                handle,
+                address,
+            } => Act::OnContext {
+                guest,
+                handle,
+                act: ContextAct::Text { address },
+            },
+            Step::ErrMove { guest, handle, to } => Act::OnContext {
+                guest,
+                handle,
+                act: ContextAct::Move { to },
+            },
+            Step::ErrDrop { guest, handle } => Act::OnContext {
+                guest,
+                handle,
+                act: ContextAct::Drop,
             },
             Step::Poke {
                 guest,

@@ -117,6 +117,31 @@ pub enum Step {
         guest: u32,
         set: u32,
     },
+    /// `canon error-context.new` of so many bytes of the guest's memory.
+    ErrNew {
+        guest: u32,
+        address: u32,
+        len: u32,
+    },
+    /// `canon error-context.debug-message`: the message's bytes are put at an address of the guest's
+    /// memory.
+    ErrText {
+        guest: u32,
+        handle: u32,
+        address: u32,
+    },
+    /// An error context to another guest, or to the same; the guest keeps its handle. wasmtime,
+    /// `error_context_transfer`.
+    ErrMove {
+        guest: u32,
+        handle: u32,
+        to: u32,
+    },
+    /// `canon error-context.drop`.
+    ErrDrop {
+        guest: u32,
+        handle: u32,
+    },
     /// Bytes put into a guest's memory. Ours.
     Poke {
         guest: u32,
