@@ -1,7 +1,7 @@
 -- The error contexts of a store: under each number a message, and how many handles lead to it.
--- Component Model, `canon error-context.{new,debug-message,drop}`; wasmtime, `concurrent.rs`,
--- `ErrorContextState` and `GlobalErrorContextRefCount`. Ours: a message is kept whole, and the number
--- freed last is given first, as a resource table gives it.
+-- Component Model, `canon error-context.{new,debug-message,drop}`; wasmtime, `ErrorContextState` and
+-- `GlobalErrorContextRefCount`. Ours: a message is kept whole, and the number freed last is given
+-- first, as a resource table gives it.
 use Rattle.std.specs.Prelude.{◌≡◌, ℕ, ◌+◌, ◌-◌, ◌<◌, Bool, true, not, ◌&&◌, nat_eq, nat_lt, if◌then◌else◌, List, [], ◌∷◌, length, drop, slice_index_or, slice_set, count_by, Option, Some, None, option_map, is_some, refl}
 use Rattle.std.specs.Coded.{Coded, code_by, coded×, coded_ℕ, coded_list, coded_option}
 use Rattle.std.specs.List.{IsDistinct}

@@ -23,8 +23,8 @@ with_handles_at entries number handles = record entries {
 }
 
 -- no context is another's child, and so many are there, under numbers of 32 bits
-pub record AreHeld (entries : Entries Context) (number_of : ℕ) : Type 0 where
+pub record AreHeld (entries : Entries Context) (count : ℕ) : Type 0 where
   pub lone : entries.nodes ≡ lone_nodes entries.values
   pub kept : AreKept (seen entries)
-  pub same : number_of ≡ len (seen entries)
+  pub same : count ≡ len (seen entries)
   pub small : length entries.values ≤ 4294967296

@@ -1,6 +1,6 @@
 //! One error context, and the key of its kind.
 //!
-//! Meaning: `Contexts.antt`. Source: wasmtime, `concurrent.rs`, `ErrorContextState` and
+//! Meaning: `Contexts.antt`. Source: wasmtime, `ErrorContextState` and
 //! `GlobalErrorContextRefCount`, which are one here.
 
 ghost use Rattle.std.specs.Prelude.{◌≡◌, ◌+◌, ◌-◌, ◌<◌, ◌^◌, string_bytes};

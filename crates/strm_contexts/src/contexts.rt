@@ -1,8 +1,8 @@
 //! The error contexts of a store.
 //!
 //! Meaning: `Contexts.antt`. Source: Component Model, `canon error-context.{new,debug-message,drop}`;
-//! wasmtime, `concurrent.rs`, `error_context_new`, `error_context_debug_message`,
-//! `error_context_drop` and `error_context_transfer`.
+//! wasmtime, `error_context_new`, `error_context_debug_message`, `error_context_drop` and
+//! `error_context_transfer`.
 
 ghost use Rattle.std.specs.Prelude.{◌≡◌, ◌+◌, ◌-◌, ◌<◌, ◌^◌, ◌==◌, nat_lt, not, true, false, is_some, IfOk, OnOk, OnErr, option_copied};
 ghost use Rattle.strm_resources.specs.Nodes.{is_childless};

@@ -19,7 +19,7 @@ use Rattle.strm_machine.proofs.SoundStepLemmas.{operate-keeps}
 use Rattle.strm_machine.proofs.TurnLemmas.{TurnKeeps}
 use Rattle.strm_machine.proofs.RefusalLemmas.{PairFits}
 use Rattle.strm_machine.proofs.TableLemmas.{handles_of-with_memory, with_end-owners, handles-same, handles-more, handles-with_same, handles-with_other, tables-with, owner_in, owner-set_same, owner-set_stays, owner-set_other, owner-push_either, owner-push_same, owner-push_other}
-use Rattle.strm_machine.proofs.Shapes.{turn_on, set_by, Owning, guests_freed, guests_given, owned_by, IsFreed, IsTaken, Owns, Tabling, tabled_by, Tables, Shape, ByTurn, BySetting, ByOwner, ByTable, ByPair, ByGuest, ByPoke, ByRest}
+use Rattle.strm_machine.proofs.Shapes.{turn_on, set_by, Owning, guests_freed, guests_given, owned_by, IsFreed, IsTaken, Owns, Tabling, tabled_by, Tables, Shape, ByTurn, BySetting, ByOwner, ByTable, ByPair, ByGuest, ByPut, ByRest}
 use Rattle.strm_machine.proofs.ShapeLemmas.{reaction-shape}
 
 abbrev pub names_in : List Guest → ℕ → ℕ → Name
@@ -263,7 +263,7 @@ shape-held state act r h (ByOwner reply x e o) = rw e (owned_held state reply x 
 shape-held state act r h (ByTable reply x e t) = rw e (tabled_held state reply x t h)
 shape-held state act r h (ByPair writer reader ty a e fits) = rw e (between_held state writer reader ty fits h)
 shape-held state act r h (ByGuest size a e fits) = rw e (guests_held state _ (λ g. handles-more state.guests _ g refl) h)
-shape-held state act r h (ByPoke g address bytes a e fits) =
+shape-held state act r h (ByPut reply g address bytes e p) =
     rw e (guests_held state _ (λ k. handles-same state.guests _ k (handles_of-with_memory state.guests g _)) h)
 shape-held state act r h (ByRest reply e none) = rw e h
 

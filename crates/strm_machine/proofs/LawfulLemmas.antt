@@ -5,11 +5,12 @@ use Rattle.std.specs.Prelude.{All, IsSome, ◌⊎◌}
 use Rattle.std.proofs.lemmas.Bool.{cond-true}
 use Rattle.std.proofs.lemmas.List.{get_or-set_same, set-get_or, get_or_append_left}
 use Rattle.std.proofs.lemmas.List.Elements.{All-push, All-set}
-use Rattle.strm_machine.specs.Words.{Guest, ReturnCode, TransmitIndex, Handles, Sets, Entry, removed, State, no_stream, guest_in, memory_in, sets_in, with_table, stream_at, opposite, same_side, end_of, with_end, Turn, named, stream_named, sizes_of, both_open, Reaction, goes, written_back, operates, Moment, names, as_report, report_in, accepted, k_of, items_in, received, NamedEnd, Poke, Act, Make, OnMemory, Side, Writing, Reading, Operation, End, Stream, Reply}
+use Rattle.strm_machine.specs.Words.{Guest, ReturnCode, TransmitIndex, Handles, Sets, Entry, removed, State, no_stream, guest_in, memory_in, sets_in, with_table, stream_at, opposite, same_side, end_of, with_end, Turn, named, stream_named, sizes_of, both_open, Reaction, goes, written_back, operates, Moment, names, as_report, report_in, accepted, k_of, items_in, received, NamedEnd, Act, Make, Side, Writing, Reading, Operation, End, Stream, Reply}
 use Rattle.strm_memory.specs.Bytes.{IsBytes}
 use Rattle.strm_handles.specs.Handles.{inserted}
 use Rattle.strm_sets.specs.Sets.{left}
 use Rattle.strm_machine.specs.Making.{end_entry, made_stream, made_pair, with_stream}
+use Rattle.strm_machine.specs.State.{with_bytes}
 use Rattle.strm_machine.specs.Reactions.{written, reaction}
 use Rattle.strm_machine.specs.Moments.{code_told, place_of, read_place, PutsBytes}
 use Rattle.strm_machine.specs.declared.acts.Making.TheVariants as makings
@@ -29,7 +30,7 @@ use Rattle.strm_machine.proofs.MomentLemmas.{Seen, seen_reacts, Untold, unnamed,
 use Rattle.strm_machine.proofs.MoveLemmas.{end_by, IsSound-owned}
 use Rattle.strm_machine.proofs.TurnChangeLemmas.{scene_of, Does, Unturned, DoesBy, turn_does, still}
 use Rattle.strm_machine.proofs.Lawful.{IsLawful, HasRoom, as_moment, Reacts}
-use Rattle.strm_machine.proofs.Shapes.{operating, stream_on, begun_on, turn_on, Operates, Setting, set_by, SetsEnd, Owning, guests_freed, guests_given, guests_by, owned_by, Owns, tabled_by, Shape, ByTurn, BySetting, ByOwner, ByTable, ByPair, ByGuest, ByPoke, ByRest}
+use Rattle.strm_machine.proofs.Shapes.{operating, stream_on, begun_on, turn_on, Operates, Setting, set_by, SetsEnd, Owning, guests_freed, guests_given, guests_by, owned_by, Owns, tabled_by, Shape, ByTurn, BySetting, ByOwner, ByTable, ByPair, ByGuest, ByPut, ByRest}
 use Rattle.strm_machine.proofs.ShapeLemmas.{reaction-shape}
 
 -- ## Reads and writes
@@ -63,7 +64,7 @@ trapped_reacts state act s t h keeps u =
     let streams : set state.streams s t.stream ≡ state.streams = ap (set state.streams s) u.same_stream ∙ set-get_or state.streams s no_stream in
     let sound = IsSound-turn state s t keeps h.sound in
     quiet_reacts state act (replies.BadItem s) (record (written state s t) { trapped = true }) streams refl h
-    (record { named = sound.named; placed = sound.placed; small = sound.small; sets = sound.sets })
+    (record { named = sound.named; placed = sound.placed; small = sound.small; sets = sound.sets; contexts = sound.contexts })
     (subst AreBytes (sym u.same_guests) h.bytes)
 
 module _ (state : State) (side : Side) (end : NamedEnd) (address count : ℕ) (s : ℕ) (t : Turn)
@@ -251,18 +252,18 @@ shape-reacts state act r b h room (BySetting reply x e set) = rw e (sets_reacts 
 shape-reacts state act r b h room (ByOwner reply x e o) = rw e (owns_reacts state act reply x h o)
 shape-reacts state act r b h room (ByTable reply x e t) =
     rw e
-    (quiet_reacts state act reply (tabled_by state x) refl t.untold h (IsSound-table state x.guest x.handles x.sets t.named t.holds h.sound)
+    (quiet_reacts state act reply (tabled_by state x) refl t.untold h (IsSound-table state x.guest x.handles x.sets x.contexts t.named t.holds t.counts h.sound)
     (AreBytes-with_table state.guests x.guest x.handles x.sets h.bytes))
 shape-reacts state act r b h room (ByPair writer reader ty a e fits) = rw (a, e) (between_reacts state writer reader ty fits h)
 shape-reacts state act r b h room (ByGuest size a e fits) =
     rw (a, e)
     (quiet_reacts state (Make (makings.Guest size)) (replies.Number (length state.guests)) _ refl refl h (guest-sound state size fits h.sound)
     (All-push (λ (k : Guest). IsBytes k.memory) state.guests _ h.bytes (IsBytes-zeros size)))
-shape-reacts state act r b h room (ByPoke g address bytes a e fits) =
-    rw (a, e)
-    (quiet_reacts state (OnMemory g (Poke address bytes)) replies.Done _ refl refl h
-    (IsSound-guests state _ (poke-keeps state g address bytes fits) h.sound)
-    (AreBytes-with_memory state.guests g _ (IsBytes-put_at (memory_in state.guests g) address bytes (memory_bytes state.guests g h.bytes) (subst PutsBytes a b)) h.bytes))
+shape-reacts state act r b h room (ByPut reply g address bytes e p) =
+    rw e
+    (quiet_reacts state act reply (with_bytes state g address bytes) refl p.untold h
+    (IsSound-guests state _ (poke-keeps state g address bytes p.fits) h.sound)
+    (AreBytes-with_memory state.guests g _ (IsBytes-put_at (memory_in state.guests g) address bytes (memory_bytes state.guests g h.bytes) (p.bytes_put b)) h.bytes))
 shape-reacts state act r b h room (ByRest reply e none) = rw e (quiet_reacts state act reply state refl none h h.sound h.bytes)
 
 pub reacts : (state : State) (act : Act) → PutsBytes act → IsLawful state → HasRoom state → Reacts state act (reaction state act)

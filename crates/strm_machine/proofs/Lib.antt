@@ -3,6 +3,7 @@ pub mod SideLemmas
 pub mod TurnLemmas
 pub mod TableLemmas
 pub mod WaitableSetLemmas
+pub mod ErrorContextLemmas
 pub mod SoundLemmas
 pub mod StateLemmas
 pub mod RefusalLemmas
@@ -13,6 +14,7 @@ pub mod Changes
 pub mod EndLemmas
 pub mod TallyLemmas
 pub mod ArrivalLemmas
+pub mod MessageLemmas
 pub mod NamedEndLemmas
 pub mod EndingLemmas
 pub mod TurnChangeLemmas
@@ -21,6 +23,7 @@ pub mod MomentLemmas
 pub mod Shapes
 pub mod MoveLemmas
 pub mod SetStepLemmas
+pub mod ContextStepLemmas
 pub mod PlaceLemmas
 pub mod ShapeLemmas
 pub mod SoundStepLemmas

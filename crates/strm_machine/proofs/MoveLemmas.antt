@@ -53,11 +53,11 @@ end_entry-named types Reading (index.Stream payload) s l e = record { there = l;
 end_entry-named types Reading (index.Future payload) s l e = record { there = l; typed = e; idle = refl }
 
 freed-sound : (state : State) (s : ℕ) (side : Side) (owner : Owner) (o : Option (ℕ × ℕ)) → IsFreed state.guests s side owner o → IsSound state → IsSound (record state { guests = guests_freed state.guests o })
-freed-sound state s side owner None f h = record { named = h.named; placed = h.placed; small = h.small; sets = h.sets }
+freed-sound state s side owner None f h = h
 freed-sound state s side owner (Some n) f h = IsSound-freed state n.0 n.1 (is_end-ok s side (end_named state n.0 n.1) f.held) h
 
 given-sound : (state : State) (entry : Entry) (owner : Owner) (o : Option ℕ) → EntryIsNamed (types_of state.streams) (Some entry) → is_ok (end_rep_in (Some entry)) ≡ true → IsTaken state.guests owner o → IsSound state → IsSound (record state { guests = guests_given state.guests entry o })
-given-sound state entry owner None p ok t h = record { named = h.named; placed = h.placed; small = h.small; sets = h.sets }
+given-sound state entry owner None p ok t h = h
 given-sound state entry owner (Some g) p ok t h = IsSound-given state g entry p ok t.small h
 
 -- the end with another owner

@@ -1,13 +1,17 @@
--- How many sets there are, after one guest's table and sets are others.
-use Rattle.std.proofs.Common.{◌≡◌, ℕ, ◌+◌, ◌<◌, true, length, arith}
+-- How many sets and error contexts there are, after one guest's table and sets are others.
+use Rattle.std.proofs.Common.{◌≡◌, ℕ, ◌+◌, ◌<◌, true, List, length, arith}
 use Rattle.std.proofs.lemmas.List.Sums.{sum_by-set}
 use Rattle.std.specs.Prelude.{count_by}
-use Rattle.strm_machine.specs.Words.{Guest, Handles, Sets, State, no_guest, removed, guest_in, sets_in, with_table}
+use Rattle.strm_machine.specs.Words.{Guest, Handles, Sets, State, IsSound, no_guest, removed, guest_in, sets_in, with_handles, with_table}
 use Rattle.strm_handles.specs.declared.entries.Entry.TheVariants as entries
 use Rattle.strm_sets.specs.Sets.{is_there, least_free, with_new_set, without_set}
 use Rattle.strm_sets.proofs.SetLemmas.{count-new, count-without}
 use Rattle.strm_handles.specs.Handles.{inserted}
-use Rattle.strm_machine.specs.State.{sets_in_use}
+use Rattle.strm_contexts.specs.Contexts.{Contexts, count_at, len, next_number, inserted as with_message, raised}
+use Rattle.strm_contexts.specs.Contexts as context
+use Rattle.strm_contexts.proofs.KeptLemmas.{len-inserted, len-counted}
+use Rattle.strm_machine.specs.State.{sets_in_use, places_in_use}
+use Rattle.strm_machine.specs.ErrorContexts.{with_context, with_context_handle}
 use Rattle.strm_machine.specs.WaitableSets.{set_named, number_named, with_set, without_set_named}
 
 abbrev pub counted : Guest → ℕ
@@ -30,3 +34,20 @@ sets_in_use-less state g handle l there =
     let number = number_named (set_named state g handle) in
     let sum = sets_in_use-with_table state g (removed guest.handles handle) (without_set guest.sets number) l in
     omega (arith, sum, count-without guest.sets number there)
+
+-- ## Places, after a handle more or less to an error context
+
+-- a table with as many sets
+places-with_handles : (state : State) (g : ℕ) (handles : Handles) (contexts : Contexts) → g < length state.guests → places_in_use (record state { guests = with_handles state.guests g handles; contexts = contexts }) + len state.contexts ≡ places_in_use state + len contexts
+places-with_handles state g handles contexts l = omega (arith, sets_in_use-with_table state g handles (sets_in state.guests g) l)
+
+module _ (state : State) (g : ℕ) (h : IsSound state) (there : g < length state.guests) where
+  pub places-with_context : (message : List ℕ) → places_in_use (with_context state g message) ≡ places_in_use state + 1
+  places-with_context message =
+      let more = with_message state.contexts message in
+      omega (arith, places-with_handles state g (inserted (guest_in state.guests g).handles (entries.ErrorContext (next_number state.contexts))) more there, len-inserted state.contexts h.contexts.kept message)
+
+  pub places-with_context_handle : (number : ℕ) → context.is_there state.contexts number ≡ true → places_in_use (with_context_handle state g number) ≡ places_in_use state
+  places-with_context_handle number is =
+      let more = raised state.contexts number in
+      omega (arith, places-with_handles state g (inserted (guest_in state.guests g).handles (entries.ErrorContext number)) more there, len-counted state.contexts number is (count_at state.contexts number + 1))

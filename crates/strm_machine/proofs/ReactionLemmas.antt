@@ -6,13 +6,14 @@ use Rattle.strm_codes.specs.declared.refusals.Refusal.{Refusal}
 use Rattle.strm_machine.specs.Words.{State, memory_in, end_named, stream_named, Side, first_of, Reaction, goes, NamedEnd, Act, Make, OnEnd, OnMemory}
 use Rattle.strm_machine.specs.Tests.{side_named}
 use Rattle.strm_machine.specs.Refusals.{Reason, on_end_reasons, bytes_reasons, refusal}
-use Rattle.strm_machine.specs.Reactions.{makes, on_end, on_loose, tells, on_set, on_memory, performs, unless_refused, reaction}
+use Rattle.strm_machine.specs.Reactions.{makes, on_end, on_loose, tells, on_set, on_context, on_memory, performs, unless_refused, reaction}
 use Rattle.strm_machine.specs.declared.acts.Making.{Making}
 use Rattle.strm_machine.specs.declared.acts.EndAct.{EndAct}
 use Rattle.strm_machine.specs.declared.acts.LooseAct.{LooseAct}
 use Rattle.strm_machine.specs.declared.acts.SetAct.{SetAct}
+use Rattle.strm_machine.specs.declared.acts.ContextAct.{ContextAct}
 use Rattle.strm_machine.specs.declared.acts.MemoryAct.{MemoryAct}
-use Rattle.strm_machine.specs.declared.acts.Act.TheVariants.{OnLoose, Event, OnSet}
+use Rattle.strm_machine.specs.declared.acts.Act.TheVariants.{OnLoose, Event, OnSet, OnContext}
 use Rattle.strm_machine.specs.declared.acts.MemoryAct.TheVariants.{Dump}
 use Rattle.strm_machine.specs.declared.replies.Reply.TheVariants as replies
 
@@ -60,13 +61,14 @@ pub performs-on_end : (state : State) (side : Side) (end : NamedEnd) (act : EndA
 unfolding performs
 performs-on_end state side end act = refl
 
--- what holds of the six ways that an act can go holds of each act
+-- what holds of the seven ways that an act can go holds of each act
 module _ (P : Act → Reaction → Type 0) (state : State)
     (made : (making : Making) → P (Make making) (makes state making))
     (ended : (side : Side) (end : NamedEnd) (act : EndAct) → P (OnEnd side end act) (on_end state side end act))
     (loosed : (reader : ℕ) (act : LooseAct) → P (OnLoose reader act) (on_loose state reader act))
     (told : (g handle : ℕ) → P (Event g handle) (tells state (stream_named (end_named state g handle)) (side_named (end_named state g handle))))
     (grouped : (g set : ℕ) (act : SetAct) → P (OnSet g set act) (on_set state g set act))
+    (shared : (g handle : ℕ) (act : ContextAct) → P (OnContext g handle act) (on_context state g handle act))
     (moved : (g : ℕ) (act : MemoryAct) → P (OnMemory g act) (on_memory state g act)) where
   pub performs-by : (act : Act) → P act (performs state act)
   unfolding performs
@@ -75,6 +77,7 @@ module _ (P : Act → Reaction → Type 0) (state : State)
   performs-by (OnLoose reader act) = loosed reader act
   performs-by (Event g handle) = told g handle
   performs-by (OnSet g set act) = grouped g set act
+  performs-by (OnContext g handle act) = shared g handle act
   performs-by (OnMemory g act) = moved g act
 
 least : (len : ℕ) → min (min len 64) 64 ≡ min len 64

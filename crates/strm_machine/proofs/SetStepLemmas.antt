@@ -29,7 +29,8 @@ use Rattle.strm_machine.specs.declared.replies.Reply.TheVariants as replies
 use Rattle.strm_machine.proofs.RefusalLemmas.{not_refused, not_le, not_lt, none_of_both}
 use Rattle.strm_machine.proofs.NamedEndLemmas.{entry_found, end_named-found}
 use Rattle.strm_machine.proofs.SoundLemmas.{AreNamed-at, AreNamed-removed, AreNamed-inserted}
-use Rattle.strm_machine.proofs.WaitableSetLemmas.{HoldsSets-left, HoldsSets-joined, HoldsSets-without, HoldsSets-given_set}
+use Rattle.strm_machine.proofs.WaitableSetLemmas.{set_some, HoldsSets-left, HoldsSets-joined, HoldsSets-without, HoldsSets-given_set}
+use Rattle.strm_machine.proofs.ErrorContextLemmas.{set_leads_nowhere, HoldsContexts-table, HoldsContexts-given, HoldsContexts-freed}
 use Rattle.strm_machine.proofs.EndingLemmas.{Becomes, told-becomes}
 use Rattle.strm_machine.proofs.Shapes.{Shape, BySetting, ByTable, ByRest}
 
@@ -136,12 +137,13 @@ module _ (state : State) (g set handle : ℕ) (h : IsSound state) (there : g < l
   pub join-shape : first_of (set_reasons state g set (set_acts.Join handle)) ≡ None → Shape state (OnSet g set (set_acts.Join handle)) (on_set state g set (set_acts.Join handle))
   join-shape e =
       let both = none_of_both (joined_reasons state g set) (slot_reasons (end_named state g handle)) e in
-      ByTable replies.Done (record { guest = g; handles = table; sets = sets_joined sets set (set_named state g set) handle }) refl
+      ByTable replies.Done (record { guest = g; handles = table; sets = sets_joined sets set (set_named state g set) handle; contexts = state.contexts }) refl
       (record {
         there = there;
         ends = λ k s side. refl;
         named = AreNamed-at (types_of state.streams) state.guests g h.named;
         holds = joined_holds (set == 0) both.0 (entry_found (entry_at table handle) both.1);
+        counts = HoldsContexts-table state.guests state.contexts g (sets_joined sets set (set_named state g set) handle) h.contexts table (λ number. refl);
         untold = refl;
       })
 
@@ -159,7 +161,7 @@ set_unnamed s side (Some (entries.Subtask rep is_host)) number e = cc
 set_unnamed s side (Some (entries.WaitableSet rep)) number e = refl
 
 -- where one number stood for no end and stands for none, handles name what they named
-ends_stay : (old new : Handles) (n : ℕ) → ((i : ℕ) → i ≢ n → entry_at new i ≡ entry_at old i) → ((s : ℕ) (side : Side) → is_end s side (end_rep_of new n) ≡ is_end s side (end_rep_of old n)) → (k s : ℕ) (side : Side) → is_end s side (end_rep_of new k) ≡ is_end s side (end_rep_of old k)
+pub ends_stay : (old new : Handles) (n : ℕ) → ((i : ℕ) → i ≢ n → entry_at new i ≡ entry_at old i) → ((s : ℕ) (side : Side) → is_end s side (end_rep_of new n) ≡ is_end s side (end_rep_of old n)) → (k s : ℕ) (side : Side) → is_end s side (end_rep_of new k) ≡ is_end s side (end_rep_of old k)
 ends_stay old new n same here k s side = elim (cases_eq k n) [
   | inl e ↦ ap (λ i. is_end s side (end_rep_of new i)) e ∙ here s side ∙ ap (λ i. is_end s side (end_rep_of old i)) (sym e)
   | inr ne ↦ ap (λ o. is_end s side (end_rep_in o)) (same k ne)
@@ -178,13 +180,14 @@ module _ (state : State) (g : ℕ) (h : IsSound state) where
       let new = inserted old e in
       let n = next_index old in
       let sound = (h.sets g).table in
-      ByTable (replies.Number (next_in state g)) (record { guest = g; handles = new; sets = with_new_set before }) refl
+      ByTable (replies.Number (next_in state g)) (record { guest = g; handles = new; sets = with_new_set before; contexts = state.contexts }) refl
       (record {
         there = fits.there;
         ends = ends_stay old new n (λ i ne. entry_at-inserted-other old e i ne)
             (λ s side. ap (λ o. is_end s side (end_rep_in o)) (entry_at-inserted-same old e sound) ∙ sym (ap (λ o. is_end s side (end_rep_in o)) (entry_at-next_index old sound)));
         named = AreNamed-inserted (types_of state.streams) old e tt (AreNamed-at (types_of state.streams) state.guests g h.named);
         holds = HoldsSets-given_set old before (h.sets g) e fits.number refl;
+        counts = HoldsContexts-given state.guests state.contexts g (with_new_set before) h.contexts e sound (λ number. refl);
         untold = refl;
       })
 
@@ -200,13 +203,17 @@ module _ (state : State) (g : ℕ) (h : IsSound state) where
   set_drop-shape set there fits =
       let number = number_named (set_named state g set) in
       let new = removed old set in
-      ByTable replies.Done (record { guest = g; handles = new; sets = without_set before number }) refl
+      let found = set_some (entry_at old set) number fits.named in
+      ByTable replies.Done (record { guest = g; handles = new; sets = without_set before number; contexts = state.contexts }) refl
       (record {
         there = there;
         ends = ends_stay old new set (λ i ne. entry_at-removed-other old set i ne)
             (λ s side. ap (λ o. is_end s side (end_rep_in o)) (entry_at-removed-same old set) ∙ sym (set_unnamed s side (entry_at old set) number fits.named));
         named = AreNamed-removed (types_of state.streams) old set (AreNamed-at (types_of state.streams) state.guests g h.named);
         holds = HoldsSets-without old before (h.sets g) set number fits.named (memberless number fits.memberless);
+        counts =
+            HoldsContexts-freed state.guests state.contexts g (without_set before number) h.contexts set found.0 found.1
+            (λ k. set_leads_nowhere k (Some found.0) number (ap waitable_set_rep_in (sym found.1) ∙ fits.named));
         untold = refl;
       })
 

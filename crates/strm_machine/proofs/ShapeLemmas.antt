@@ -11,7 +11,7 @@ use Rattle.strm_machine.specs.Tests.{side_named, is_busy}
 use Rattle.strm_machine.specs.Refusals.{where_, region_reasons, handle_reasons, own_reasons, on_end_reasons, refusal}
 use Rattle.strm_machine.specs.Reactions.{tells, drops, cancels, moves, lifts, on_end, on_loose, makes, on_memory, performs, reaction}
 use Rattle.strm_machine.specs.declared.acts.Making.{Making}
-use Rattle.strm_machine.specs.declared.acts.Making.TheVariants.{Guest, Between, Set}
+use Rattle.strm_machine.specs.declared.acts.Making.TheVariants.{Guest, Between, Set, Context}
 use Rattle.strm_machine.specs.declared.acts.EndAct.{EndAct}
 use Rattle.strm_machine.specs.declared.acts.EndAct.TheVariants.{Drop, Cancel, Move, Lift}
 use Rattle.strm_machine.specs.declared.acts.LooseAct.{LooseAct}
@@ -26,11 +26,12 @@ use Rattle.strm_machine.proofs.ReactionLemmas.{reaction-by, performs-by}
 use Rattle.strm_machine.proofs.RefusalLemmas.{named_fits, not_refused, none_of_both, NamedFits, LeaveFits, named_ok, region_fits, placed_begun, event_fits, drop_fits, lift_fits, move_fits, lower_fits, close_fits, pair_fits, guest_fits, poke_fits}
 use Rattle.strm_machine.proofs.NamedEndLemmas.{IsFound, end_fits, found_payload, found_kind, found_type, on_end-found, event-found}
 use Rattle.strm_machine.proofs.SetStepLemmas.{set_fits, set_new-shape, set-shape}
+use Rattle.strm_machine.proofs.ContextStepLemmas.{context_fits, context_new-shape, context-shape}
 use Rattle.strm_machine.proofs.SideLemmas.{same_side_is}
 use Rattle.strm_machine.proofs.SoundLemmas.{placed_at, type_with-of}
 use Rattle.strm_machine.proofs.EndingLemmas.{told-becomes, cancelled-becomes}
 use Rattle.strm_machine.proofs.MoveLemmas.{length-freed}
-use Rattle.strm_machine.proofs.Shapes.{stream_on, Operates, Owning, guests_freed, IsTaken, Owns, Shape, ByTurn, BySetting, ByOwner, ByPair, ByGuest, ByPoke, ByRest}
+use Rattle.strm_machine.proofs.Shapes.{stream_on, Operates, Owning, guests_freed, IsTaken, Owns, Shape, ByTurn, BySetting, ByOwner, ByPair, ByGuest, ByPut, ByRest}
 
 -- ## What is done to the end that is named
 
@@ -168,9 +169,11 @@ make-shape : (state : State) (making : Making) → IsSound state → refusal sta
 make-shape state (Guest size) h e = ByGuest size refl refl (guest_fits state size e)
 make-shape state (Between writer reader ty) h e = ByPair writer reader ty refl refl (pair_fits state writer reader ty e)
 make-shape state (Set g) h e = set_new-shape state g h (set_fits state g e)
+make-shape state (Context g address len) h e = context_new-shape state g address len h (context_fits state g address len e)
 
 memory-shape : (state : State) (g : ℕ) (act : MemoryAct) → refusal state (OnMemory g act) ≡ None → Shape state (OnMemory g act) (on_memory state g act)
-memory-shape state g (Poke address bytes) e = ByPoke g address bytes refl refl (poke_fits state g address bytes e)
+memory-shape state g (Poke address bytes) e =
+    ByPut replies.Done g address bytes refl (record { fits = poke_fits state g address bytes e; where_ = refl; bytes_put = λ b. b; untold = refl })
 memory-shape state g (Dump address len) e = ByRest _ refl refl
 
 -- ## Every step
@@ -183,6 +186,7 @@ performs-shape state h =
     (loose-shape state)
     (λ g handle. event-shape state g handle h)
     (λ g set act. set-shape state g set act h)
+    (λ g handle act. context-shape state g handle act h)
     (memory-shape state)
 
 pub reaction-shape : (state : State) (act : Act) → IsSound state → Shape state act (reaction state act)

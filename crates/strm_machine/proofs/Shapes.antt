@@ -1,16 +1,20 @@
 -- What a step does by its shape: the few ways in which steps change a state, and what is known of each.
 use Rattle.std.proofs.Common.{◌≡◌, ℕ, ◌<◌, true, false, List, [], length, set, Option, Some, None}
-use Rattle.strm_machine.specs.Words.{Guest, kind_of, ReturnCode, TransmitIndex, Handles, Entry, removed, Sets, State, guest_in, sets_in, with_handles, with_table, end_named, HoldsSets, stream_at, is_end, end_of, with_end, Turn, named, stream_named, has_ended, Reaction, goes, operates, sizes_of, IsPlaced, StreamIsPlaced, accepted, NamedEnd, Operate, Poke, Act, Make, OnEnd, OnMemory, Reply, Side, Operation, End, Stream, Owner, Held, is_held, with_owner}
+use Rattle.strm_machine.specs.Words.{Guest, kind_of, ReturnCode, TransmitIndex, Handles, Entry, removed, Sets, State, guest_in, sets_in, with_handles, with_table, end_named, HoldsSets, stream_at, is_end, end_of, with_end, Turn, named, stream_named, has_ended, Reaction, goes, operates, sizes_of, IsPlaced, StreamIsPlaced, accepted, NamedEnd, Operate, Act, Make, OnEnd, Reply, Side, Operation, End, Stream, Owner, Held, is_held, with_owner}
 use Rattle.strm_handles.specs.Handles.{handle_limit, next_index, inserted}
 use Rattle.strm_handles.specs.Lookups.{end_rep_of}
 use Rattle.strm_machine.specs.Meetings.{begun}
 use Rattle.strm_machine.specs.Making.{end_entry}
 use Rattle.strm_sets.specs.Sets.{left}
-use Rattle.strm_machine.specs.Soundness.{type_of, types_of, AreNamed}
+use Rattle.strm_memory.specs.Bytes.{IsBytes}
+use Rattle.strm_contexts.specs.Contexts.{Contexts}
+use Rattle.strm_machine.specs.State.{with_bytes}
+use Rattle.strm_machine.specs.Soundness.{type_of, types_of, AreNamed, HoldsContexts}
 use Rattle.strm_machine.specs.Turns.{turn}
 use Rattle.strm_machine.specs.Tests.{items_asked}
-use Rattle.strm_machine.specs.Reactions.{makes, on_memory}
-use Rattle.strm_machine.specs.Moments.{code_told}
+use Rattle.strm_machine.specs.Reactions.{makes}
+use Rattle.strm_machine.specs.Moments.{code_told, PutsBytes}
+use Rattle.strm_machine.specs.Untouched.{put_by}
 use Rattle.strm_machine.specs.declared.acts.Making.TheVariants as makings
 use Rattle.strm_machine.proofs.RefusalLemmas.{GuestFits, BytesFit, PairFits}
 use Rattle.strm_machine.proofs.NamedEndLemmas.{IsFound, NamesEnd}
@@ -115,16 +119,17 @@ pub record Owns (state : State) (reply : Reply) (x : Owning) : Type 0 where
   pub freed : IsFreed state.guests x.stream x.side (end_of x.side (stream_at state x.stream)).owner x.freed
   pub taken : IsTaken (guests_freed state.guests x.freed) x.owner x.taker
 
--- ## A table with its sets
+-- ## A table with its sets, and error contexts
 
--- one guest's table and sets are others
+-- one guest's table and sets are others, and the error contexts
 pub record Tabling : Type 0 where
   pub guest : ℕ
   pub handles : Handles
   pub sets : Sets
+  pub contexts : Contexts
 
 abbrev pub tabled_by : State → Tabling → State
-tabled_by state x = record state { guests = with_table state.guests x.guest x.handles x.sets }
+tabled_by state x = record state { guests = with_table state.guests x.guest x.handles x.sets; contexts = x.contexts }
 
 -- each handle names the end that it named, and nothing is told
 pub record Tables (state : State) (reply : Reply) (x : Tabling) : Type 0 where
@@ -132,6 +137,16 @@ pub record Tables (state : State) (reply : Reply) (x : Tabling) : Type 0 where
   pub ends : (handle s : ℕ) (side : Side) → is_end s side (end_rep_of x.handles handle) ≡ is_end s side (end_named state x.guest handle)
   pub named : AreNamed (types_of state.streams) x.handles
   pub holds : HoldsSets x.handles x.sets
+  pub counts : HoldsContexts (with_table state.guests x.guest x.handles x.sets) x.contexts
+  pub untold : code_told reply ≡ None
+
+-- ## Bytes put into a memory
+
+-- they are put where the step puts them, and are bytes; nothing is told
+pub record Puts (state : State) (act : Act) (reply : Reply) (g address : ℕ) (bytes : List ℕ) : Type 0 where
+  pub fits : BytesFit state g address (length bytes)
+  pub where_ : put_by act reply ≡ record { place = record { guest = g; address = address }; size = length bytes }
+  pub bytes_put : PutsBytes act → IsBytes bytes
   pub untold : code_told reply ≡ None
 
 -- ## All shapes
@@ -143,5 +158,5 @@ pub data Shape (state : State) (act : Act) (r : Reaction) : Type 0 where
   ByTable : (reply : Reply) (x : Tabling) → r ≡ goes reply (tabled_by state x) → Tables state reply x → Shape state act r
   ByPair : (writer reader : ℕ) (ty : TransmitIndex) → act ≡ Make (makings.Between writer reader ty) → r ≡ makes state (makings.Between writer reader ty) → PairFits state writer reader ty → Shape state act r
   ByGuest : (size : ℕ) → act ≡ Make (makings.Guest size) → r ≡ makes state (makings.Guest size) → GuestFits state size → Shape state act r
-  ByPoke : (g address : ℕ) (bytes : List ℕ) → act ≡ OnMemory g (Poke address bytes) → r ≡ on_memory state g (Poke address bytes) → BytesFit state g address (length bytes) → Shape state act r
+  ByPut : (reply : Reply) (g address : ℕ) (bytes : List ℕ) → r ≡ goes reply (with_bytes state g address bytes) → Puts state act reply g address bytes → Shape state act r
   ByRest : (reply : Reply) → r ≡ goes reply state → code_told reply ≡ None → Shape state act r

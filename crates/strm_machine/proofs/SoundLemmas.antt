@@ -10,9 +10,10 @@ use Rattle.std.proofs.lemmas.List.Sums.{sum_by-append}
 use Rattle.strm_machine.specs.Words.{Guest, TransmitIndex, Payload, kind_of, payload_of, Handles, removed, no_handles, Entry, Sets, no_sets, State, no_guest, no_stream, guest_in, sets_in, with_handles, with_table, without_handle, end_named, HoldsSets, HoldSets, stream_at, Turn, ReturnCode, end_of, with_end, Gone, End, Writing, Reading, Side, sizes_of, IsPlaced, OperationIsPlaced, StreamIsPlaced, IsSound, Operation, Stream}
 use Rattle.strm_codes.specs.declared.codes.TransmitIndex.TheVariants as index
 use Rattle.strm_codes.specs.declared.payloads.Payload.TheVariants.{Nothing}
-use Rattle.strm_handles.specs.Handles.{handle_limit, next_index, inserted, inserted_in, entries_with}
+use Rattle.strm_handles.specs.Handles.{handle_limit, entry_at, next_index, inserted, inserted_in, entries_with}
 use Rattle.strm_handles.specs.Lookups.{end_rep_in}
 use Rattle.strm_sets.specs.Sets.{left}
+use Rattle.strm_contexts.specs.Contexts.{Contexts}
 use Rattle.strm_handles.specs.declared.entries.Entry.TheVariants as entries
 use Rattle.strm_handles.specs.declared.entries.TransmitEnd.{TransmitEnd}
 use Rattle.strm_handles.specs.Ends.{read_end, write_end}
@@ -20,9 +21,10 @@ use Rattle.strm_machine.specs.State.{memory_limit}
 use Rattle.strm_events.specs.Reports.{left_pending}
 use Rattle.strm_machine.specs.Endings.{dropped}
 use Rattle.strm_machine.specs.Making.{read_entry, write_entry, end_entry, with_read_end, with_ends, writer_index, made_stream, made_pair, with_stream}
-use Rattle.strm_machine.specs.Soundness.{handles_of, type_with, type_of, types_of, is_idle_state, IsNamed, EntryIsNamed, AreNamed}
+use Rattle.strm_machine.specs.Soundness.{handles_of, type_with, type_of, types_of, is_idle_state, IsNamed, EntryIsNamed, AreNamed, HoldsContexts}
 use Rattle.strm_machine.proofs.TurnLemmas.{GuestsKeep, TurnKeeps}
-use Rattle.strm_machine.proofs.WaitableSetLemmas.{HoldsSets-freed, HoldsSets-given_end, HoldSets-with, HoldSets-kept, HoldSets-more}
+use Rattle.strm_machine.proofs.WaitableSetLemmas.{end_some, HoldsSets-freed, HoldsSets-given_end, HoldSets-with, HoldSets-kept, HoldSets-more}
+use Rattle.strm_machine.proofs.ErrorContextLemmas.{end_leads_nowhere, all_handles-same, HoldsContexts-same, HoldsContexts-more, HoldsContexts-given, HoldsContexts-freed}
 use Rattle.strm_machine.proofs.EndLemmas.{IsLeft, left_by, with_end-type}
 
 -- guests with the handles and memory lengths of those before
@@ -32,6 +34,7 @@ IsSound-guests state guests k h = record {
   placed = rw k.sizes h.placed;
   small = rw k.sizes h.small;
   sets = HoldSets-kept state.guests guests k.handles k.sets h.sets;
+  contexts = HoldsContexts-same state.guests guests state.contexts (λ number. all_handles-same number state.guests guests k.handles) h.contexts;
 }
 
 type_of-same : (a b : Stream) → a.payload ≡ b.payload → a.kind ≡ b.kind → type_of a ≡ type_of b
@@ -44,6 +47,7 @@ IsSound-stream state s stream e p h = record {
   placed = All-set (StreamIsPlaced (sizes_of state.guests)) state.streams s stream p h.placed;
   small = h.small;
   sets = h.sets;
+  contexts = h.contexts;
 }
 
 -- a turn, written back
@@ -84,6 +88,7 @@ IsSound-guest state guest e f l h =
       placed = rw sizes (All-weaker (StreamIsPlaced (sizes_of state.guests)) (StreamIsPlaced (sizes_of state.guests ++ length guest.memory ∷ [])) (StreamIsPlaced-more (sizes_of state.guests) (length guest.memory)) state.streams h.placed);
       small = rw sizes (omega (arith, l, total));
       sets = HoldSets-more state.guests guest e f h.sets;
+      contexts = HoldsContexts-more state.guests guest state.contexts e h.contexts;
     }
 
 IsNamed-more : (types : List TransmitIndex) (p ty : TransmitIndex) (end : TransmitEnd) → IsNamed types ty end → IsNamed (types ++ p ∷ []) ty end
@@ -175,6 +180,11 @@ HoldSets-given guests g e ok small h =
     HoldSets-with guests g (inserted (guest_in guests g).handles e) (sets_in guests g)
     (HoldsSets-given_end (guest_in guests g).handles (sets_in guests g) (h g) e small ok) h
 
+-- which leads to no error context
+HoldsContexts-end : (guests : List Guest) (contexts : Contexts) (g : ℕ) (e : Entry) → is_ok (end_rep_in (Some e)) ≡ true → HoldSets guests → HoldsContexts guests contexts → HoldsContexts (with_handles guests g (inserted (guest_in guests g).handles e)) contexts
+HoldsContexts-end guests contexts g e ok s h =
+    HoldsContexts-given guests contexts g (sets_in guests g) h e (s g).table (λ number. end_leads_nowhere number (Some e) ok)
+
 -- one stream more, with its two ends in their tables
 pub IsSound-with_stream : (state : State) (writer reader : ℕ) (ty : TransmitIndex) → next_index (guest_in state.guests reader).handles < handle_limit → writer_index state writer reader ty < handle_limit → IsSound state → IsSound (with_stream state writer reader ty)
 unfolding with_stream
@@ -199,29 +209,41 @@ IsSound-with_stream state writer reader ty reads writes h =
       sets =
           HoldSets-given held writer (write_entry ty s) (end_entry-ok Writing ty s) writes
           (HoldSets-given state.guests reader (read_entry ty s) (end_entry-ok Reading ty s) reads h.sets);
+      contexts =
+          HoldsContexts-end held state.contexts writer (write_entry ty s) (end_entry-ok Writing ty s)
+          (HoldSets-given state.guests reader (read_entry ty s) (end_entry-ok Reading ty s) reads h.sets)
+          (HoldsContexts-end state.guests state.contexts reader (read_entry ty s) (end_entry-ok Reading ty s) h.sets h.contexts);
     }
 
--- ## One guest's table and sets are others
+-- ## One guest's table and sets are others, and error contexts
 
-pub IsSound-table : (state : State) (g : ℕ) (handles : Handles) (sets : Sets) → AreNamed (types_of state.streams) handles → HoldsSets handles sets → IsSound state → IsSound (record state { guests = with_table state.guests g handles sets })
-IsSound-table state g handles sets named holds h =
-    let types = types_of state.streams in
-    let sizes = sizes_of-with_table state.guests g handles sets in
-    record {
-      named = rw (handles_of-with state.guests g handles sets) (All-set (AreNamed types) (handles_of state.guests) g handles named h.named);
-      placed = rw sizes h.placed;
-      small = rw sizes h.small;
-      sets = HoldSets-with state.guests g handles sets holds h.sets;
-    }
+module _ (state : State) (g : ℕ) (handles : Handles) (sets : Sets) (contexts : Contexts) where
+  abbrev guests_with : List Guest
+  guests_with = with_table state.guests g handles sets
+
+  pub IsSound-table : AreNamed (types_of state.streams) handles → HoldsSets handles sets → HoldsContexts guests_with contexts → IsSound state → IsSound (record state { guests = guests_with; contexts = contexts })
+  IsSound-table named holds counts h =
+      let types = types_of state.streams in
+      let sizes = sizes_of-with_table state.guests g handles sets in
+      record {
+        named = rw (handles_of-with state.guests g handles sets) (All-set (AreNamed types) (handles_of state.guests) g handles named h.named);
+        placed = rw sizes h.placed;
+        small = rw sizes h.small;
+        sets = HoldSets-with state.guests g handles sets holds h.sets;
+        contexts = counts;
+      }
 
 -- a handle of an end is freed, which leaves its set
 pub IsSound-freed : (state : State) (g handle : ℕ) → is_ok (end_named state g handle) ≡ true → IsSound state → IsSound (without_handle state g handle)
 IsSound-freed state g handle ok h =
     let types = types_of state.streams in
     let guest = guest_in state.guests g in
-    IsSound-table state g (removed guest.handles handle) (left guest.sets handle)
+    let found = end_some (entry_at guest.handles handle) ok in
+    IsSound-table state g (removed guest.handles handle) (left guest.sets handle) state.contexts
     (AreNamed-removed types guest.handles handle (AreNamed-at types state.guests g h.named))
-    (HoldsSets-freed guest.handles guest.sets (h.sets g) handle ok) h
+    (HoldsSets-freed guest.handles guest.sets (h.sets g) handle ok)
+    (HoldsContexts-freed state.guests state.contexts g (left guest.sets handle) h.contexts handle found.0 found.1
+    (λ number. end_leads_nowhere number (Some found.0) (ap (λ o. is_ok (end_rep_in o)) (sym found.1) ∙ ok))) h
 
 -- and one is given, for an end of a stream of its type
 pub IsSound-given : (state : State) (g : ℕ) (e : Entry) → EntryIsNamed (types_of state.streams) (Some e) → is_ok (end_rep_in (Some e)) ≡ true → next_index (guest_in state.guests g).handles < handle_limit → IsSound state → IsSound (record state { guests = with_handles state.guests g (inserted (guest_in state.guests g).handles e) })
@@ -232,6 +254,7 @@ IsSound-given state g e p ok few h =
       placed = rw sizes h.placed;
       small = rw sizes h.small;
       sets = HoldSets-given state.guests g e ok few h.sets;
+      contexts = HoldsContexts-end state.guests state.contexts g e ok h.sets h.contexts;
     }
 
 -- ## A stream with another end

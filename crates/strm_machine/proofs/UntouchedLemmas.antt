@@ -3,18 +3,17 @@ use Rattle.std.proofs.Common.{Bool, List, None, Option, Some, [], ap, arith, con
 use Rattle.std.proofs.lemmas.Bool.{cases_eq, cases_lt, cond_both}
 use Rattle.std.proofs.lemmas.Bool.Decides.{nat_tests}
 use Rattle.std.proofs.lemmas.List.{append_assoc, get_or-set_same, get_or_append_left, length-map, take-append-drop}
-use Rattle.strm_machine.specs.Words.{Guest, item_size, scalars_of, ReturnCode, TransmitIndex, Payload, Scalar, Handles, Sets, no_handles, no_sets, Moment, names, received, advanced, carried, Reaction, goes, operates, written_back, end_of, opposite, same_side, with_operation, IsPlaced, IsSound, OperationIsPlaced, sizes_of, State, guest_in, memory_in, no_guest, no_stream, sets_in, stream_at, with_handles, with_memory, with_table, named, stream_named, Turn, with_received, Operation, Side, Reading, Writing, Stream, put_at, items_at, stored_at, NamedEnd, Poke, Act, Make, OnMemory}
+use Rattle.strm_machine.specs.Words.{Guest, item_size, scalars_of, ReturnCode, TransmitIndex, Payload, Scalar, Handles, Sets, no_handles, no_sets, Moment, names, received, advanced, carried, Reaction, goes, operates, written_back, end_of, opposite, same_side, with_operation, IsPlaced, IsSound, OperationIsPlaced, sizes_of, State, guest_in, memory_in, no_guest, no_stream, sets_in, stream_at, with_handles, with_memory, with_table, named, stream_named, Turn, with_received, Operation, Side, Reading, Writing, Stream, put_at, items_at, stored_at, NamedEnd, Act, Make, Reply}
 use Rattle.strm_handles.specs.Handles.{inserted}
 use Rattle.strm_machine.proofs.EndLemmas.{read_fits}
 use Rattle.strm_machine.proofs.Lawful.{HasRoom, as_moment}
 use Rattle.strm_machine.proofs.NamedEndLemmas.{named_itself}
-use Rattle.strm_machine.proofs.RefusalLemmas.{BytesFit}
 use Rattle.strm_machine.proofs.SoundStepLemmas.{operate-keeps, poke-keeps}
-use Rattle.strm_machine.proofs.Shapes.{operating, stream_on, begun_on, turn_on, Operates, set_by, owned_by, tabled_by, Shape, ByTurn, BySetting, ByOwner, ByTable, ByPair, ByGuest, ByPoke, ByRest}
+use Rattle.strm_machine.proofs.Shapes.{operating, stream_on, begun_on, turn_on, Operates, set_by, owned_by, tabled_by, Puts, Shape, ByTurn, BySetting, ByOwner, ByTable, ByPair, ByGuest, ByPut, ByRest}
 use Rattle.strm_machine.proofs.ShapeLemmas.{reaction-shape}
 use Rattle.strm_machine.proofs.TurnChangeLemmas.{place_by, rose, there}
 use Rattle.strm_machine.specs.Moments.{Place, place_of, read_place, target}
-use Rattle.strm_machine.specs.Untouched.{LiesApart, Region, StaysAside, bytes_of, poked_by, received_by}
+use Rattle.strm_machine.specs.Untouched.{LiesApart, Region, StaysAside, bytes_of, put_by, received_by}
 use Rattle.strm_machine.proofs.BoundLemmas.{within}
 use Rattle.strm_machine.proofs.CarryLemmas.{carried-nothing}
 use Rattle.strm_machine.proofs.SideLemmas.{end_placed, read_of-placed}
@@ -22,9 +21,9 @@ use Rattle.strm_machine.proofs.MoveLemmas.{length-by, memory_in-by}
 use Rattle.strm_machine.proofs.StateLemmas.{memory_in-with_memory, memory_in-with_memory_other, memory_in-with_table}
 use Rattle.strm_machine.proofs.TurnLemmas.{front_inside, size_in}
 use Rattle.strm_machine.specs.Making.{read_entry, with_stream}
-use Rattle.strm_machine.specs.Reactions.{makes, on_memory, reaction}
+use Rattle.strm_machine.specs.Reactions.{makes, reaction}
 use Rattle.strm_machine.specs.Sides.{read_of, write_of}
-use Rattle.strm_machine.specs.State.{is_gone}
+use Rattle.strm_machine.specs.State.{is_gone, with_bytes}
 use Rattle.strm_machine.specs.Turns.{completes_alone, finds, rendezvous_by, moves, turn}
 use Rattle.strm_machine.specs.declared.streams.Meeting.{Meeting}
 use Rattle.strm_machine.specs.declared.streams.Meeting.TheVariants.{BothComplete, ReadCompletes, WriteCompletes}
@@ -52,9 +51,9 @@ SizesStay-kept before after e = record {
   size = λ g l. sym (size_in after g) ∙ ap (λ xs. get_or xs g 0) e ∙ size_in before g;
 }
 
--- only what is poked is touched, or only what is received on one stream
-stays_poked : (m : Moment) → SizesStay m.before.guests m.after.guests → BytesStay m.before.guests m.after.guests (poked_by m.act m.reply) → StaysAside m
-stays_poked m s b = record { guests = s.guests; size = s.size; bytes = λ r l u. b r l u.poked }
+-- only what is put is touched, or only what is received on one stream
+stays_put : (m : Moment) → SizesStay m.before.guests m.after.guests → BytesStay m.before.guests m.after.guests (put_by m.act m.reply) → StaysAside m
+stays_put m s b = record { guests = s.guests; size = s.size; bytes = λ r l u. b r l u.put }
 
 stays_received : (s : ℕ) (m : Moment) → SizesStay m.before.guests m.after.guests → BytesStay m.before.guests m.after.guests (received_by s m) → StaysAside m
 stays_received s m k b = record { guests = k.guests; size = k.size; bytes = λ r l u. b r l (u.got s) }
@@ -222,13 +221,14 @@ operates_stays state side end address count room o =
 
 -- ## Every step
 
-poke_stays : (state : State) (g address : ℕ) (bytes : List ℕ) → BytesFit state g address (length bytes) → StaysAside (as_moment state (OnMemory g (Poke address bytes)) (on_memory state g (Poke address bytes)))
-poke_stays state g address bytes fits =
+bytes_stay : (state : State) (act : Act) (reply : Reply) (g address : ℕ) (bytes : List ℕ) → Puts state act reply g address bytes → StaysAside (as_moment state act (goes reply (with_bytes state g address bytes)))
+bytes_stay state act reply g address bytes p =
     let memory = memory_in state.guests g in
-    let m = as_moment state (OnMemory g (Poke address bytes)) (on_memory state g (Poke address bytes)) in
-    stays_poked m
-    (SizesStay-kept state.guests m.after.guests (poke-keeps state g address bytes fits).sizes)
-    (λ r l apart. bytes_with state.guests g (put_at memory address bytes) r fits.there (λ f. put_stays memory address bytes r.place.address r.size fits.inside (apart f)))
+    let m = as_moment state act (goes reply (with_bytes state g address bytes)) in
+    stays_put m
+    (SizesStay-kept state.guests m.after.guests (poke-keeps state g address bytes p.fits).sizes)
+    (subst (BytesStay state.guests m.after.guests) (sym p.where_)
+    (λ r l apart. bytes_with state.guests g (put_at memory address bytes) r p.fits.there (λ f. put_stays memory address bytes r.place.address r.size p.fits.inside (apart f))))
 
 -- a guest behind the others
 guest_stays : (state : State) (size : ℕ) → StaysAside (as_moment state (Make (makings.Guest size)) (makes state (makings.Guest size)))
@@ -262,7 +262,7 @@ shape-stays state act r room (ByTable reply x e t) =
     rw e (table_stays (as_moment state act (goes reply (tabled_by state x))) state.guests x.guest x.handles x.sets (omega arith) (λ k. refl) refl)
 shape-stays state act r room (ByPair writer reader ty a e fits) = rw (a, e) (pair_stays state writer reader ty)
 shape-stays state act r room (ByGuest size a e fits) = rw (a, e) (guest_stays state size)
-shape-stays state act r room (ByPoke g address bytes a e fits) = rw (a, e) (poke_stays state g address bytes fits)
+shape-stays state act r room (ByPut reply g address bytes e p) = rw e (bytes_stay state act reply g address bytes p)
 shape-stays state act r room (ByRest reply e none) = rw e (stays_same (as_moment state act (goes reply state)) refl)
 
 pub reaction-stays : (state : State) (act : Act) → IsSound state → HasRoom state → StaysAside (as_moment state act (reaction state act))

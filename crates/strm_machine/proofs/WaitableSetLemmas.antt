@@ -31,12 +31,20 @@ set_no_end (Some (entries.ErrorContext rep)) number e f = cc
 set_no_end (Some (entries.Subtask rep is_host)) number e f = cc
 set_no_end (Some (entries.WaitableSet rep)) number e f = cc
 
+-- an entry of neither
+pub record IsOther (e : Entry) : Type 0 where
+  pub no_set : (number : ℕ) → waitable_set_rep_in (Some e) ≡ Ok number → ⊥
+  pub no_end : is_ok (end_rep_in (Some e)) ≡ false
+
+pub context_is_other : (number : ℕ) → IsOther (entries.ErrorContext number)
+context_is_other number = record { no_set = λ n e. cc; no_end = refl }
+
 -- both are entries
-end_some : (o : Option Entry) → is_ok (end_rep_in o) ≡ true → (e : Entry) × (o ≡ Some e)
+pub end_some : (o : Option Entry) → is_ok (end_rep_in o) ≡ true → (e : Entry) × (o ≡ Some e)
 end_some None is = cc
 end_some (Some e) is = (e, refl)
 
-set_some : (o : Option Entry) (number : ℕ) → waitable_set_rep_in o ≡ Ok number → (e : Entry) × (o ≡ Some e)
+pub set_some : (o : Option Entry) (number : ℕ) → waitable_set_rep_in o ≡ Ok number → (e : Entry) × (o ≡ Some e)
 set_some None number is = cc
 set_some (Some e) number is = (e, refl)
 
@@ -90,16 +98,22 @@ module _ (handles : Handles) (sets : Sets) (h : HoldsSets handles sets) where
 
   -- ## A handle less
 
+  -- a set that is named still was
+  removed_was : (handle k number : ℕ) → NamesSet (removed handles handle) k number → NamesSet handles k number
+  removed_was handle k number e =
+      let new = removed handles handle in
+      elim (cases_eq k handle) [
+        | inl f ↦ absurd (let none = ap (λ i. waitable_set_rep_in (entry_at new i)) f ∙ ap waitable_set_rep_in (entry_at-removed-same handles handle) in cc)
+        | inr ne ↦ set_was handles new handle (λ i apart. entry_at-removed-other handles handle i apart) k number ne e
+      ]
+
   -- an end's, which leaves its set
   pub HoldsSets-freed : (handle : ℕ) → is_ok (end_rep_of handles handle) ≡ true → HoldsSets (removed handles handle) (left sets handle)
   HoldsSets-freed handle is =
       let found = end_some (entry_at handles handle) is in
       let new = removed handles handle in
       let same : (i : ℕ) → i ≢ handle → entry_at new i ≡ entry_at handles i = λ i ne. entry_at-removed-other handles handle i ne in
-      let was : (k number : ℕ) → NamesSet new k number → NamesSet handles k number = λ k number e. elim (cases_eq k handle) [
-        | inl f ↦ absurd (let none = ap (λ i. waitable_set_rep_in (entry_at new i)) f ∙ ap waitable_set_rep_in (entry_at-removed-same handles handle) in cc)
-        | inr ne ↦ set_was handles new handle same k number ne e
-      ] in
+      let was = removed_was handle in
       let still : (k number : ℕ) → NamesSet handles k number → NamesSet new k number = λ k number e. set_stays handles new handle same k number (λ f. set_no_end (entry_at handles handle) number (ap (λ i. waitable_set_rep_in (entry_at handles i)) (sym f) ∙ e) is) e in
       record {
         table = IsTable-removed handles handle found.0 found.1 h.table;
@@ -108,6 +122,23 @@ module _ (handles : Handles) (sets : Sets) (h : HoldsSets handles sets) where
         named = λ number t. let k = h.named number t in (k.0, still k.0 number k.1);
         members = λ k number m. let s = stayed handle k number m in end_stays handles new handle same k s.0 (h.members k number s.1);
         kept = λ k number m. h.kept k number (stayed handle k number m).1;
+      }
+
+  -- one of neither an end nor a set
+  pub HoldsSets-removed : (handle : ℕ) (e : Entry) → entry_at handles handle ≡ Some e → IsOther e → HoldsSets (removed handles handle) sets
+  HoldsSets-removed handle e is other =
+      let new = removed handles handle in
+      let same : (i : ℕ) → i ≢ handle → entry_at new i ≡ entry_at handles i = λ i ne. entry_at-removed-other handles handle i ne in
+      let still : (k number : ℕ) → NamesSet handles k number → NamesSet new k number = λ k number f. set_stays handles new handle same k number (λ at. other.no_set number (ap waitable_set_rep_in (sym is) ∙ ap (λ i. waitable_set_rep_in (entry_at handles i)) (sym at) ∙ f)) f in
+      record {
+        table = IsTable-removed handles handle e is h.table;
+        there = λ k number f. h.there k number (removed_was handle k number f);
+        single = λ a b number f g. h.single a b number (removed_was handle a number f) (removed_was handle b number g);
+        named = λ number t. let k = h.named number t in (k.0, still k.0 number k.1);
+        members = λ k number m.
+            let ok = h.members k number m in
+            end_stays handles new handle same k (λ at. let wrong : true ≡ false = sym ok ∙ ap (λ i. is_ok (end_rep_in (entry_at handles i))) at ∙ ap (λ o. is_ok (end_rep_in o)) is ∙ other.no_end in cc) ok;
+        kept = h.kept;
       }
 
   -- a set's, which goes, and had no member
@@ -168,11 +199,11 @@ module _ (handles : Handles) (sets : Sets) (h : HoldsSets handles sets) where
     ends : (k number : ℕ) → is_member sets number k ≡ true → is_ok (end_rep_of new k) ≡ true
     ends k number m = let is = h.members k number m in end_stays handles new n same k (unended k is) is
 
-    -- an end's
-    pub HoldsSets-given_end : is_ok (end_rep_in (Some e)) ≡ true → HoldsSets new sets
-    HoldsSets-given_end is =
+    -- that of no set
+    pub HoldsSets-given : ((number : ℕ) → waitable_set_rep_in (Some e) ≡ Ok number → ⊥) → HoldsSets new sets
+    HoldsSets-given no_set =
         let was : (k number : ℕ) → NamesSet new k number → NamesSet handles k number = λ k number f. elim (cases_eq k n) [
-          | inl at ↦ absurd (set_no_end (Some e) number (here k number f at) is)
+          | inl at ↦ absurd (no_set number (here k number f at))
           | inr ne ↦ set_was handles new n same k number ne f
         ] in
         record {
@@ -183,6 +214,10 @@ module _ (handles : Handles) (sets : Sets) (h : HoldsSets handles sets) where
           members = ends;
           kept = h.kept;
         }
+
+    -- an end's
+    pub HoldsSets-given_end : is_ok (end_rep_in (Some e)) ≡ true → HoldsSets new sets
+    HoldsSets-given_end is = HoldsSets-given (λ number f. set_no_end (Some e) number f is)
 
     -- a set's, of the least number that none has
     pub HoldsSets-given_set : e ≡ entries.WaitableSet (least_free sets) → HoldsSets new (with_new_set sets)

@@ -9,9 +9,9 @@ use Rattle.strm_handles.specs.Lookups.{error_context_rep_of}
 use Rattle.strm_handles.specs.declared.entries.Entry.{Entry}
 use Rattle.strm_handles.specs.declared.entries.Entry.TheVariants as entries
 use Rattle.strm_handles.specs.declared.errors.HandleError.{HandleError}
-use Rattle.strm_memory.specs.Bytes.{bytes_at, put_at}
+use Rattle.strm_memory.specs.Bytes.{bytes_at}
 use Rattle.strm_contexts.specs.Contexts.{Contexts, is_there, message_at, next_number, inserted as with_message, raised, dropped}
-use Rattle.strm_machine.specs.State.{State, Guest, guest_in, memory_in, with_memory, with_handles}
+use Rattle.strm_machine.specs.State.{State, Guest, guest_in, memory_in, with_handles}
 use Rattle.strm_machine.specs.WaitableSets.{number_named}
 
 -- WHAT A HANDLE NAMES
@@ -26,7 +26,7 @@ context_number state g handle = number_named (context_named state g handle)
 
 -- what a handle stands for is the error context of a number
 abbrev pub leads_to : ℕ → Option Entry → Bool
-leads_to number (Some (entries.ErrorContext rep)) = rep == number
+leads_to number (Some (entries.ErrorContext rep)) = number == rep
 leads_to number _ = false
 
 -- how many handles of a table lead to the error context of a number
@@ -94,10 +94,4 @@ abbrev pub without_context_handle : State → ℕ → ℕ → State
 without_context_handle state g handle = record state {
   guests = with_handles state.guests g (removed (guest_in state.guests g).handles handle);
   contexts = dropped state.contexts (context_number state g handle);
-}
-
--- the state with a message in a guest's memory, from an address on
-abbrev pub with_message_at : State → ℕ → ℕ → List ℕ → State
-with_message_at state g address message = record state {
-  guests = with_memory state.guests g (put_at (memory_in state.guests g) address message);
 }

@@ -4,9 +4,8 @@ use Rattle.strm_codes.specs.declared.codes.ReturnCode.{ReturnCode}
 use Rattle.strm_codes.specs.declared.codes.TransmitIndex.{TransmitIndex}
 use Rattle.strm_codes.specs.declared.refusals.Refusal.{Refusal}
 use Rattle.strm_handles.specs.Handles.{no_handles}
-use Rattle.strm_memory.specs.Bytes.{put_at}
 use Rattle.strm_sets.specs.Sets.{no_sets}
-use Rattle.strm_machine.specs.State.{State, memory_in, with_memory, sets_in, stream_at}
+use Rattle.strm_machine.specs.State.{State, memory_in, with_bytes, sets_in, stream_at}
 use Rattle.strm_machine.specs.Meetings.{begun}
 use Rattle.strm_machine.specs.Turns.{Turn, turn}
 use Rattle.strm_machine.specs.Endings.{report_on, delivered, dropped, code_of_cancel, cancelled}
@@ -15,7 +14,7 @@ use Rattle.strm_machine.specs.Refusals.{first_of, lower_context_reasons, refusal
 use Rattle.strm_machine.specs.Making.{made_pair, with_stream}
 use Rattle.strm_machine.specs.Moves.{without_handle, next_in, given, with_owner}
 use Rattle.strm_machine.specs.WaitableSets.{set_named, ready_in, sets_changed, with_set, sets_joined, without_set_named}
-use Rattle.strm_machine.specs.ErrorContexts.{context_number, message_named, message_in, with_context, with_context_handle, without_context_handle, with_message_at}
+use Rattle.strm_machine.specs.ErrorContexts.{context_number, message_named, message_in, with_context, with_context_handle, without_context_handle}
 use Rattle.strm_machine.specs.declared.streams.Owner.TheVariants.{Held, Loose}
 use Rattle.strm_machine.specs.declared.streams.Side.{Side}
 use Rattle.strm_machine.specs.declared.streams.Side.TheVariants.{Reading}
@@ -158,7 +157,7 @@ on_set state g set set_acts.Drop = goes replies.Done (without_set_named state g 
 abbrev pub texts : State → ℕ → ℕ → ℕ → Reaction
 texts state g handle address =
     let message = message_named state g handle in
-    goes (replies.Number (length message)) (with_message_at state g address message)
+    goes (replies.Number (length message)) (with_bytes state g address message)
 
 -- a guest gets a handle more to the error context of a number, under its next handle
 abbrev pub shares : State → ℕ → ℕ → Reaction
@@ -193,11 +192,7 @@ makes state (Context g address len) =
 
 -- what is done to a guest's memory
 abbrev pub on_memory : State → ℕ → MemoryAct → Reaction
-on_memory state g (Poke address bytes) =
-    goes replies.Done
-    (record state {
-      guests = with_memory state.guests g (put_at (memory_in state.guests g) address bytes);
-    })
+on_memory state g (Poke address bytes) = goes replies.Done (with_bytes state g address bytes)
 on_memory state g (Dump address len) =
     goes (replies.Bytes (take (min len 64) (drop address (memory_in state.guests g)))) state
 

@@ -6,6 +6,7 @@ use Rattle.std.specs.Prelude.{ℕ, ◌+◌, ◌*◌, Bool, false, true, ◌&&◌
 use Rattle.strm_codes.specs.declared.codes.TransmitKind.TheVariants.{Stream as AStream}
 use Rattle.strm_codes.specs.declared.payloads.Payload.TheVariants.{Nothing}
 use Rattle.strm_handles.specs.Handles.{Handles, no_handles, live_of}
+use Rattle.strm_memory.specs.Bytes.{put_at}
 use Rattle.strm_sets.specs.Sets.{Sets, no_sets}
 use Rattle.strm_contexts.specs.Contexts.{Contexts, no_contexts, len as contexts_there}
 use Rattle.strm_machine.specs.declared.limits.Limits.{Limits}
@@ -141,6 +142,12 @@ sets_in_use state = sum_by (λ g. count_by (λ there. there) g.sets.there) state
 abbrev pub places_in_use : State → ℕ
 places_in_use state =
     3 * count_by is_live state.streams + sets_in_use state + contexts_there state.contexts
+
+-- the state with bytes put into a guest's memory, from an address on
+abbrev pub with_bytes : State → ℕ → ℕ → List ℕ → State
+with_bytes state g address bytes = record state {
+  guests = with_memory state.guests g (put_at (memory_in state.guests g) address bytes);
+}
 
 -- bytes of all memories together
 abbrev pub bytes_in_use : State → ℕ

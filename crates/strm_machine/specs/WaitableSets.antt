@@ -21,7 +21,7 @@ use Rattle.strm_machine.specs.Endings.{report_on}
 abbrev pub set_named : State → ℕ → ℕ → Result ℕ HandleError
 set_named state g set = waitable_set_rep_of (guest_in state.guests g).handles set
 
--- the number of the set that is named
+-- the number that is named, of a set or of an error context
 abbrev pub number_named : Result ℕ HandleError → ℕ
 number_named (Ok number) = number
 number_named (Err error) = 0
