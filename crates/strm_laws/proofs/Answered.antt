@@ -1,38 +1,43 @@
--- Runs computed by what sets answer: what a map holds does not compute, so each answer is given beside
--- its step, and proved.
+-- Runs computed by what sets answer, and whether bytes are a text: what a map holds and what UTF-8 is do
+-- not compute, so each answer is given beside its step, and proved.
 use Rattle.std.proofs.Common.{◌≡◌, ℕ, Bool, cond, List, [], ◌∷◌, Option, Some, None, refl, ap, ◌∙◌}
-use Rattle.std.specs.Prelude.{◌++◌, map}
+use Rattle.std.specs.Prelude.{◌++◌, map, not}
+use Rattle.std.specs.Str.{is_utf8}
 use Rattle.strm_codes.specs.declared.refusals.Refusal.{Refusal}
 use Rattle.strm_codes.specs.declared.refusals.Refusal.TheVariants as refusals
 use Rattle.strm_machine.specs.Words.{act_of, State, Reaction, goes, Moment, first_of, next_in, without_handle, named}
-use Rattle.strm_machine.specs.Tests.{is_unknown_guest, is_no_handle}
+use Rattle.strm_machine.specs.Tests.{is_unknown_guest, is_no_handle, are_bytes_out_of_bounds, are_places_full}
 use Rattle.strm_machine.specs.WaitableSets.{set_named, number_named, is_in_set, has_member, ready_in}
-use Rattle.strm_machine.specs.Refusals.{Reason, where_, slot_reasons, handle_reasons, front_reasons, own_reasons, last_reasons, reasons, refusal}
+use Rattle.strm_machine.specs.ErrorContexts.{is_message_too_long, message_in}
+use Rattle.strm_machine.specs.Refusals.{Reason, where_, slot_reasons, handle_more_reasons, handle_reasons, front_reasons, own_reasons, last_reasons, reasons, refusal}
 use Rattle.strm_machine.specs.Reactions.{polls, performs, unless_refused, reaction}
+use Rattle.strm_machine.specs.declared.acts.Making.TheVariants.{Context}
 use Rattle.strm_machine.specs.declared.acts.EndAct.{EndAct}
 use Rattle.strm_machine.specs.declared.acts.EndAct.TheVariants.{Move, Lift}
 use Rattle.strm_machine.specs.declared.acts.SetAct.TheVariants as set_acts
 use Rattle.strm_machine.specs.declared.acts.NamedEnd.{NamedEnd}
 use Rattle.strm_machine.specs.declared.acts.Act.{Act}
-use Rattle.strm_machine.specs.declared.acts.Act.TheVariants.{OnEnd, OnSet}
+use Rattle.strm_machine.specs.declared.acts.Act.TheVariants.{Make, OnEnd, OnSet}
 use Rattle.strm_machine.specs.declared.streams.Side.{Side}
 use Rattle.strm_machine.specs.declared.steps.Step.{Step}
 use Rattle.strm_machine.specs.declared.replies.Reply.TheVariants as replies
 use Rattle.strm_laws.specs.Conservation.{moments, last}
 
--- whether the end that is to leave its guest is in a set, whether a set that is to go has a member, and
--- which member of a set is ready
+-- whether the end that is to leave its guest is in a set, whether a set that is to go has a member, which
+-- member of a set is ready, and whether what is to be a message is a text
 pub record Answer : Type 0 where
   pub in_set : Bool
   pub has_member : Bool
   pub ready : Option ℕ
+  pub text : Bool
 
--- the sets of a state answer an act so
+-- the sets and bytes of a state answer an act so
 abbrev pub Gives : State → Act → Answer → Type 0
 Gives state (OnEnd side end (Move to)) a = is_in_set state end.guest end.handle ≡ a.in_set
 Gives state (OnEnd side end Lift) a = is_in_set state end.guest end.handle ≡ a.in_set
 Gives state (OnSet g set set_acts.Drop) a = has_member state g (number_named (set_named state g set)) ≡ a.has_member
 Gives state (OnSet g set set_acts.Poll) a = ready_in state g set ≡ a.ready
+Gives state (Make (Context g address len)) a = is_utf8 (message_in state g address len) ≡ a.text
 Gives state _ a = Unit {0}
 
 -- they do, where they are asked; and then this
@@ -41,6 +46,7 @@ GivesThen state (OnEnd side end (Move to)) a more = (is_in_set state end.guest e
 GivesThen state (OnEnd side end Lift) a more = (is_in_set state end.guest end.handle ≡ a.in_set) × more
 GivesThen state (OnSet g set set_acts.Drop) a more = (has_member state g (number_named (set_named state g set)) ≡ a.has_member) × more
 GivesThen state (OnSet g set set_acts.Poll) a more = (ready_in state g set ≡ a.ready) × more
+GivesThen state (Make (Context g address len)) a more = (is_utf8 (message_in state g address len) ≡ a.text) × more
 GivesThen state _ a more = more
 
 gives_then : (state : State) (act : Act) (a : Answer) (more : Type 0) → GivesThen state act a more → Gives state act a × more
@@ -50,6 +56,8 @@ gives_then state (OnEnd side end _) a more h = (tt, h)
 gives_then state (OnSet g set set_acts.Drop) a more h = h
 gives_then state (OnSet g set set_acts.Poll) a more h = h
 gives_then state (OnSet g set (set_acts.Join handle)) a more h = (tt, h)
+gives_then state (Make (Context g address len)) a more h = h
+gives_then state (Make _) a more h = (tt, h)
 gives_then state _ a more h = (tt, h)
 
 -- ## A step by its answer
@@ -70,6 +78,12 @@ reasons_by a state (OnEnd side end act) =
 reasons_by a state (OnSet g set set_acts.Drop) =
     where_ (is_unknown_guest state g) refusals.UnknownGuest
     ∷ (slot_reasons (set_named state g set) ++ where_ a.has_member refusals.SetNotEmpty ∷ [])
+reasons_by a state (Make (Context g address len)) =
+    where_ (is_unknown_guest state g) refusals.UnknownGuest
+    ∷ where_ (is_message_too_long len) refusals.MessageTooLong
+    ∷ where_ (are_bytes_out_of_bounds state g address len) refusals.OutOfBounds
+    ∷ where_ (not a.text) refusals.BadText
+    ∷ (handle_more_reasons state g ++ where_ (are_places_full state 1) refusals.Full ∷ [])
 reasons_by a state act = reasons state act
 
 abbrev pub performs_by : Answer → State → Act → Reaction
@@ -96,6 +110,13 @@ reasons-by state (OnSet g set set_acts.Drop) a e =
     ap (λ b. where_ (is_unknown_guest state g) refusals.UnknownGuest ∷ (slot_reasons (set_named state g set) ++ where_ b refusals.SetNotEmpty ∷ [])) e
 reasons-by state (OnSet g set (set_acts.Join handle)) a e = refl
 reasons-by state (OnSet g set set_acts.Poll) a e = refl
+reasons-by state (Make (Context g address len)) a e =
+    ap (λ b. where_ (is_unknown_guest state g) refusals.UnknownGuest
+    ∷ where_ (is_message_too_long len) refusals.MessageTooLong
+    ∷ where_ (are_bytes_out_of_bounds state g address len) refusals.OutOfBounds
+    ∷ where_ (not b) refusals.BadText
+    ∷ (handle_more_reasons state g ++ where_ (are_places_full state 1) refusals.Full ∷ [])) e
+reasons-by state (Make _) a e = refl
 reasons-by state _ a e = refl
 
 performs-by : (state : State) (act : Act) (a : Answer) → Gives state act a → performs state act ≡ performs_by a state act

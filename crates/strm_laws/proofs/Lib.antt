@@ -10,3 +10,4 @@ pub mod OtherBytes
 pub mod Answered
 pub mod Rows
 pub mod SetRows
+pub mod ContextRows

@@ -37,24 +37,24 @@ words = index.Stream (One U16)
 abbrev pub start : State
 start = empty 0 (record { handles = 8; places = 8 })
 
-abbrev item : ℕ → Option (List ℤ)
+abbrev pub item : ℕ → Option (List ℤ)
 item n = Some (pos n ∷ [])
 
-abbrev call : ℕ → ℕ → ℕ → Option ReturnCode → Call
+abbrev pub call : ℕ → ℕ → ℕ → Option ReturnCode → Call
 call guest address asked report = record { guest = guest; address = address; asked = asked; report = report }
 
 abbrev pub replies_to : List Step → List Reply
 replies_to run = map (λ m. m.reply) (moments start run)
 
 -- what the law speaks of, of one stream of a run
-record Account : Type 0 where
-  written : List Call
-  read : List Call
-  count : ℕ
-  taken : List (Option (List ℤ))
-  given : List (Option (List ℤ))
+pub record Account : Type 0 where
+  pub written : List Call
+  pub read : List Call
+  pub count : ℕ
+  pub taken : List (Option (List ℤ))
+  pub given : List (Option (List ℤ))
 
-abbrev account_of : ℕ → List Moment → State → Account
+abbrev pub account_of : ℕ → List Moment → State → Account
 account_of s all end = record {
   written = writes s all;
   read = reads s all;
@@ -63,7 +63,7 @@ account_of s all end = record {
   given = all_handed (stream_at end s).kind s all (moved_at s Writing end) 0 (writes s all);
 }
 
-abbrev account : ℕ → List Step → Account
+abbrev pub account : ℕ → List Step → Account
 account s run = account_of s (moments start run) (last start run)
 
 -- ## Ends that do not move
@@ -239,13 +239,13 @@ account-crossed_back = refl
 pub replies-by : (run : List Answered) → AllGive start run → replies_to (steps_of run) ≡ map (λ m. m.reply) (moments_by start run)
 replies-by run all = ap (map (λ m. m.reply)) (moments-by start run all)
 
-account-by : (s : ℕ) (run : List Answered) → AllGive start run → account s (steps_of run) ≡ account_of s (moments_by start run) (last_state start run)
+pub account-by : (s : ℕ) (run : List Answered) → AllGive start run → account s (steps_of run) ≡ account_of s (moments_by start run) (last_state start run)
 account-by s run all =
     ap (λ ms. account_of s ms (last start (steps_of run))) (moments-by start run all)
     ∙ ap (account_of s (moments_by start run)) (last-state start run all)
 
 abbrev unset : Answer
-unset = record { in_set = false; has_member = false; ready = None }
+unset = record { in_set = false; has_member = false; ready = None; text = true }
 
 -- no handle is in a set
 abbrev apart : List Step → List Answered

@@ -3,10 +3,11 @@ use Rattle.std.proofs.Common.{◌≡◌, ◌≢◌, ℕ, Bool, true, false, List
 use Rattle.std.specs.FinMap.{get-empty, get-insert}
 use Rattle.std.specs.Cmp.{nat_cmp_total}
 use Rattle.std.specs.Ordering.{nat_cmp}
-use Rattle.std.specs.Prelude.{◌⊎◌, take, is_some}
+use Rattle.std.specs.Prelude.{map, ◌⊎◌, take, is_some}
 use Rattle.std.proofs.lemmas.Bool.{cases_eq}
-use Rattle.strm_machine.specs.Words.{State, sets_in, received}
+use Rattle.strm_machine.specs.Words.{State, empty, sets_in}
 use Rattle.strm_machine.specs.declared.steps.Step.{Step}
+use Rattle.strm_machine.specs.declared.replies.Reply.{Reply}
 use Rattle.strm_machine.specs.declared.replies.Reply.TheVariants as replies
 use Rattle.strm_machine.specs.declared.steps.Step.TheVariants as steps
 use Rattle.strm_codes.specs.declared.codes.ReturnCode.TheVariants.{Blocked, Completed}
@@ -14,18 +15,20 @@ use Rattle.strm_codes.specs.declared.refusals.Refusal.TheVariants as refusals
 use Rattle.strm_machine.specs.Turns.{turn}
 use Rattle.strm_machine.specs.Endings.{delivered, dropped}
 use Rattle.strm_machine.specs.Making.{with_stream}
-use Rattle.strm_machine.specs.Reactions.{performs}
+use Rattle.strm_machine.specs.Reactions.{performs, reaction}
+use Rattle.strm_machine.specs.Refusals.{refusal}
+use Rattle.strm_machine.specs.Moments.{decoded}
 use Rattle.strm_machine.specs.WaitableSets.{is_in_set, has_member, is_ready, ready_member}
 use Rattle.strm_memory.specs.Items.{decode_from, encode_from, items, stored}
 use Rattle.strm_sets.specs.Sets.{Sets, no_sets, set_of, is_number, is_member, with_new_set, joined, left}
 use Rattle.strm_sets.proofs.SetLemmas.{is_member-left_same, is_member-left_other, is_member-joined_same, is_member-joined_other}
 use Rattle.strm_machine.proofs.SetStepLemmas.{ready_member-least, ready_member-none, has_member-some, has_member-none}
-use Rattle.strm_laws.specs.Conservation.{last}
-use Rattle.strm_laws.proofs.Answered.{Answered, last_state, AllGive, steps_of, last-state}
-use Rattle.strm_laws.proofs.Rows.{bytes, start, replies_to, replies-by}
+use Rattle.strm_laws.specs.Conservation.{moments, handed, all_handed}
+use Rattle.strm_laws.proofs.Answered.{Answered, last_state, AllGive, steps_of}
+use Rattle.strm_laws.proofs.Rows.{bytes, start, item, call, replies_to, replies-by, account, account-by}
 
 abbrev answered : Step → Bool → Bool → Option ℕ → Answered
-answered step in_set has_member ready = record { step = step; answer = record { in_set = in_set; has_member = has_member; ready = ready } }
+answered step in_set has_member ready = record { step = step; answer = record { in_set = in_set; has_member = has_member; ready = ready; text = true } }
 
 -- a step that asks sets nothing
 abbrev plain : Step → Answered
@@ -157,9 +160,16 @@ replies_to-polled : replies_to (steps_of polled) ≡
 unfolding performs with_stream turn delivered dropped decode_from encode_from items stored
 replies_to-polled = replies-by polled gives-polled
 
-count-polled : received 0 (last start (steps_of polled)) ≡ 1
-unfolding performs with_stream turn delivered dropped decode_from encode_from items stored
-count-polled = ap (received 0) (last-state start polled gives-polled)
+-- the write's report is what the poll told
+account-polled : account 0 (steps_of polled) ≡ record {
+  written = call 0 0 1 (Some (Completed 1)) ∷ [];
+  read = call 0 8 1 (Some (Completed 1)) ∷ [];
+  count = 1;
+  taken = item 0 ∷ [];
+  given = item 0 ∷ [];
+}
+unfolding performs with_stream turn delivered dropped decode_from encode_from items stored decoded handed all_handed
+account-polled = account-by 0 polled gives-polled
 
 -- ## An end that goes from set to set
 
@@ -238,3 +248,53 @@ replies_to-regrouped : replies_to (steps_of regrouped) ≡
     ∷ []
 unfolding performs with_stream turn delivered dropped decode_from encode_from items stored
 replies_to-regrouped = replies-by regrouped gives-regrouped
+
+-- ## Numbers and limits
+
+-- a set gets the number of the table that was freed last, and else the next one
+abbrev numbered : List Step
+numbered =
+    steps.Guest 16
+    ∷ steps.New 0 bytes
+    ∷ steps.Event 0 0
+    ∷ steps.DropRead 0 bytes 1
+    ∷ steps.Event 0 1
+    ∷ steps.SetNew 0
+    ∷ steps.SetNew 0
+    ∷ steps.SetNew 1
+    ∷ []
+
+replies_to-numbered : replies_to numbered ≡
+    replies.Number 0
+    ∷ replies.Pair (record { read = 1; write = 2; stream = 0 })
+    ∷ replies.Refused refusals.UnknownHandle
+    ∷ replies.Done
+    ∷ replies.Refused refusals.UnknownHandle
+    ∷ replies.Number 1
+    ∷ replies.Number 3
+    ∷ replies.Refused refusals.UnknownGuest
+    ∷ []
+unfolding reaction refusal performs with_stream turn delivered dropped
+replies_to-numbered = refl
+
+-- a set takes a handle, and a place
+abbrev replies_within : ℕ → ℕ → List Step → List Reply
+replies_within handles places run = map (λ m. m.reply) (moments (empty 0 (record { handles = handles; places = places })) run)
+
+one_handle : replies_within 1 100 (steps.Guest 16 ∷ steps.New 0 bytes ∷ steps.SetNew 0 ∷ steps.SetNew 0 ∷ []) ≡
+    replies.Number 0
+    ∷ replies.Refused refusals.HandleLimit
+    ∷ replies.Number 1
+    ∷ replies.Refused refusals.HandleLimit
+    ∷ []
+unfolding reaction refusal performs with_stream
+one_handle = refl
+
+four_places : replies_within 100 4 (steps.Guest 16 ∷ steps.New 0 bytes ∷ steps.SetNew 0 ∷ steps.SetNew 0 ∷ []) ≡
+    replies.Number 0
+    ∷ replies.Pair (record { read = 1; write = 2; stream = 0 })
+    ∷ replies.Number 3
+    ∷ replies.Refused refusals.Full
+    ∷ []
+unfolding reaction refusal performs with_stream
+four_places = refl

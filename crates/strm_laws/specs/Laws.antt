@@ -5,8 +5,12 @@ use Rattle.strm_codes.specs.Layout.{scalars_of, item_size}
 use Rattle.strm_codes.specs.declared.codes.TransmitKind.{TransmitKind}
 use Rattle.strm_codes.specs.declared.payloads.Payload.{Payload}
 use Rattle.strm_sets.specs.Sets.{is_there, is_member}
+use Rattle.strm_contexts.specs.Contexts.{count_at}
+use Rattle.strm_contexts.specs.Contexts as contexts
 use Rattle.strm_machine.specs.State.{State, sets_in, stream_at, is_held}
 use Rattle.strm_machine.specs.WaitableSets.{set_named}
+use Rattle.strm_machine.specs.ErrorContexts.{all_handles_to, context_named, message_named}
+use Rattle.strm_machine.specs.Soundness.{IsMessage}
 use Rattle.strm_machine.specs.Sides.{end_of}
 use Rattle.strm_machine.specs.Tests.{end_named}
 use Rattle.strm_machine.specs.declared.streams.Owner.TheVariants.{Held}
@@ -130,3 +134,16 @@ pub record MembersAreLive (state : State) : Type 0 where
       is_there (sets_in state.guests g) number ≡ true → (set : ℕ) × (set_named state g set ≡ Ok number)
   pub single : (g number set other : ℕ) →
       set_named state g set ≡ Ok number → set_named state g other ≡ Ok number → set ≡ other
+
+-- each error context counts the handles to it in all tables together. One that is there has some, and
+-- one that is not has none; what a handle names is there, and keeps a message
+pub record ContextsCount (state : State) : Type 0 where
+  pub counted : (number : ℕ) →
+      count_at state.contexts number ≡ all_handles_to number state.guests
+  pub some : (number : ℕ) →
+      contexts.is_there state.contexts number ≡ true → 0 < all_handles_to number state.guests
+  pub none : (number : ℕ) →
+      contexts.is_there state.contexts number ≡ false → all_handles_to number state.guests ≡ 0
+  pub named : (g handle number : ℕ) →
+      context_named state g handle ≡ Ok number → contexts.is_there state.contexts number ≡ true
+  pub message : (g handle : ℕ) → IsMessage (message_named state g handle)

@@ -22,10 +22,10 @@ use Rattle.strm_machine.specs.Moments.{decoded}
 
 -- ## Bytes
 
-pub IsBytes-nil : IsBytes []
+IsBytes-nil : IsBytes []
 IsBytes-nil k = omega arith
 
-pub IsBytes-append : (xs ys : List ℕ) → IsBytes xs → IsBytes ys → IsBytes (xs ++ ys)
+IsBytes-append : (xs ys : List ℕ) → IsBytes xs → IsBytes ys → IsBytes (xs ++ ys)
 IsBytes-append [] ys h g k = g k
 IsBytes-append (x ∷ xs) ys h g zero = h 0
 IsBytes-append (x ∷ xs) ys h g (suc k) = IsBytes-append xs ys (λ j. h (suc j)) g k

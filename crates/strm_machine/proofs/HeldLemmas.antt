@@ -43,16 +43,17 @@ IsHeld-same guests others streams more e f h = record {
 }
 
 -- what each handle names, but for one number of one table
-names-with : (guests : List Guest) (g : ℕ) (handles : Handles) (sets : Sets) (n : ℕ) → g < length guests → ((i : ℕ) → i ≢ n → entry_at handles i ≡ entry_at (guest_in guests g).handles i) → (k handle : ℕ) → ((k ≡ g) × (handle ≡ n) → ⊥) → names_in (with_table guests g handles sets) k handle ≡ names_in guests k handle
-names-with guests g handles sets n l same k handle ne =
-    ⊎_elim
-    (λ e. let other : handle ≢ n = λ f. ne (e, f) in
-    ap (λ i. names_in (with_table guests g handles sets) i handle) e
-    ∙ ap (λ t. end_rep_of t handle) (handles-with_same guests g handles sets l)
-    ∙ ap end_rep_in (same handle other)
-    ∙ ap (λ i. names_in guests i handle) (sym e))
-    (λ e. ap (λ t. end_rep_of t handle) (handles-with_other guests g handles sets k e))
-    (cases_eq k g)
+module _ (guests : List Guest) (g : ℕ) (handles : Handles) (sets : Sets) (n : ℕ) (l : g < length guests) where
+  names-with : ((i : ℕ) → i ≢ n → entry_at handles i ≡ entry_at (guest_in guests g).handles i) → (k handle : ℕ) → ((k ≡ g) × (handle ≡ n) → ⊥) → names_in (with_table guests g handles sets) k handle ≡ names_in guests k handle
+  names-with same k handle ne =
+      ⊎_elim
+      (λ e. let other : handle ≢ n = λ f. ne (e, f) in
+      ap (λ i. names_in (with_table guests g handles sets) i handle) e
+      ∙ ap (λ t. end_rep_of t handle) (handles-with_same guests g handles sets l)
+      ∙ ap end_rep_in (same handle other)
+      ∙ ap (λ i. names_in guests i handle) (sym e))
+      (λ e. ap (λ t. end_rep_of t handle) (handles-with_other guests g handles sets k e))
+      (cases_eq k g)
 
 -- what the changed number stands for
 names-here : (guests : List Guest) (g : ℕ) (handles : Handles) (sets : Sets) (n : ℕ) (o : Option Entry) → g < length guests → entry_at handles n ≡ o → names_in (with_table guests g handles sets) g n ≡ end_rep_in o

@@ -77,9 +77,9 @@ module _ (state : State) (side : Side) (end : NamedEnd) (address count : ℕ) (s
       let mine = begun_on end address count in
       let m = as_moment state act (goes (replies.Code code) (written state s t)) in
       let after : stream_at m.after s ≡ t.stream = get_or-set_same state.streams s t.stream no_stream found.made in
-      let same : (other : Side) → scene s other m ≡ scene_of side other state.guests stream mine code t = λ other. operation_seen end address count code stream (stream_at m.after s) state.guests t side other (names s other state act) (names s Reading state act)
-      (named_itself state act s side other found.named) (named_itself state act s side Reading found.named) after in
-      set_reacts state act (replies.Code code) t.guests s side t.stream found.named h keeps.stream.kind
+      let same : (other : Side) → scene s other m ≡ scene_of side other state.guests stream mine code t = λ other. operation_seen end address count code stream (stream_at m.after s) state.guests t side other (names s other state act m.reply) (names s Reading state act m.reply)
+      (named_itself state act m.reply s side other (found.named m.reply)) (named_itself state act m.reply s side Reading (found.named m.reply)) after in
+      set_reacts state act (replies.Code code) t.guests s side t.stream (found.named (replies.Code code)) h keeps.stream.kind
       (record {
         change = λ other. subst (Change other) (sym (same other)) (d.change other);
         whole = subst (All IsSome) (sym (ap (λ v. v.got) (same Reading))) d.whole;
@@ -133,11 +133,11 @@ setting_seen state act reply x h set =
     let after : stream_at m.after s ≡ new = get_or-set_same state.streams s new no_stream set.made in
     let replaced : IsReplaced side stream (stream_at m.after s) x.end = subst (λ st. IsReplaced side stream st x.end) (sym after) (with_end-replaces side stream x.end) in
     let named = set.named in
-    let report : report_in s side m ≡ as_report (code_told reply) = cond-true (names s side state act) (as_report (code_told reply)) None (named_itself state act s side side named ∙ same_side-itself side) in
-    let untold = unnamed s (opposite side) m (named_itself state act s side (opposite side) named ∙ same_side-opposite side) in
+    let report : report_in s side m ≡ as_report (code_told reply) = cond-true (names s side state act reply) (as_report (code_told reply)) None (named_itself state act reply s side side named ∙ same_side-itself side) in
+    let untold = unnamed s (opposite side) m (named_itself state act reply s side (opposite side) named ∙ same_side-opposite side) in
     seen_counted s m
     (each_side (λ other. Change other (scene s other m)) side
-    (told_change side (scene s side m) (none_either (names s side state act) _ (set.untaken (report_in s side m))) (nothing_got s m replaced.count).0 replaced.payload replaced.count
+    (told_change side (scene s side m) (none_either (names s side state act reply) _ (set.untaken (report_in s side m))) (nothing_got s m replaced.count).0 replaced.payload replaced.count
     (as_report (code_told reply)) (end_of side stream).operation x.end.operation report refl (ap (λ (e : End). e.operation) replaced.here) (becomes.told (h.tallies s)))
     (end_still s (opposite side) m untold (record { operation = ap (λ (e : End). e.operation) replaced.other; payload = replaced.payload; kind = replaced.kind; count = replaced.count })))
     replaced.count

@@ -31,4 +31,5 @@ pub mod LawfulLemmas
 pub mod AgreeLemmas
 pub mod HeldLemmas
 pub mod UntouchedLemmas
+pub mod PutLemmas
 pub mod AskedLemmas

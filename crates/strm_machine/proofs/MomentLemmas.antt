@@ -118,7 +118,7 @@ module _ (state : State) (act : Act) (reply : Reply) (guests : List Guest) (s : 
       sound bytes
 
   -- which the act names
-  pub set_reacts : NamesEnd state act s side → IsLawful state → stream.kind ≡ (stream_at state s).kind → Seen s (as_moment state act (goes reply set_to)) → IsSound set_to → AreBytes guests → Reacts state act (goes reply set_to)
+  pub set_reacts : NamesEnd state act reply s side → IsLawful state → stream.kind ≡ (stream_at state s).kind → Seen s (as_moment state act (goes reply set_to)) → IsSound set_to → AreBytes guests → Reacts state act (goes reply set_to)
   set_reacts named =
       let m = as_moment state act (goes reply set_to) in
       set_reacts_beside

@@ -5,8 +5,8 @@ use Rattle.std.specs.Option.{option_or}
 use Rattle.strm_codes.specs.declared.refusals.Refusal.{Refusal}
 use Rattle.strm_machine.specs.Words.{State, memory_in, end_named, stream_named, Side, first_of, Reaction, goes, NamedEnd, Act, Make, OnEnd, OnMemory}
 use Rattle.strm_machine.specs.Tests.{side_named}
-use Rattle.strm_machine.specs.Refusals.{Reason, on_end_reasons, bytes_reasons, refusal}
-use Rattle.strm_machine.specs.Reactions.{makes, on_end, on_loose, tells, on_set, on_context, on_memory, performs, unless_refused, reaction}
+use Rattle.strm_machine.specs.Refusals.{Reason, on_end_reasons, on_context_reasons, lower_context_reasons, bytes_reasons, refusal}
+use Rattle.strm_machine.specs.Reactions.{makes, on_end, on_loose, tells, on_set, on_context, on_memory, shares, shares_unless, lowers_context, performs, unless_refused, reaction}
 use Rattle.strm_machine.specs.declared.acts.Making.{Making}
 use Rattle.strm_machine.specs.declared.acts.EndAct.{EndAct}
 use Rattle.strm_machine.specs.declared.acts.LooseAct.{LooseAct}
@@ -60,6 +60,31 @@ refusal-on_end state side end act = refl
 pub performs-on_end : (state : State) (side : Side) (end : NamedEnd) (act : EndAct) → performs state (OnEnd side end act) ≡ on_end state side end act
 unfolding performs
 performs-on_end state side end act = refl
+
+pub refusal-on_context : (state : State) (g handle : ℕ) (act : ContextAct) → refusal state (OnContext g handle act) ≡ first_of (on_context_reasons state g handle act)
+unfolding refusal
+refusal-on_context state g handle act = refl
+
+pub performs-on_context : (state : State) (g handle : ℕ) (act : ContextAct) → performs state (OnContext g handle act) ≡ on_context state g handle act
+unfolding performs
+performs-on_context state g handle act = refl
+
+-- the lowering of an error context, which is no step
+pub lowers_context-trapped : (state : State) (number g : ℕ) → state.trapped ≡ true → lowers_context state number g ≡ goes replies.StoreTrapped state
+unfolding lowers_context
+lowers_context-trapped state number g t = rw t refl
+
+pub lowers_context-refused : (state : State) (number g : ℕ) (r : Refusal) → state.trapped ≡ false → first_of (lower_context_reasons state number g) ≡ Some r → lowers_context state number g ≡ goes (replies.Refused r) state
+unfolding lowers_context
+lowers_context-refused state number g r t e =
+    ap (λ b. cond b (goes replies.StoreTrapped state) (shares_unless state number g (first_of (lower_context_reasons state number g)))) t
+    ∙ ap (shares_unless state number g) e
+
+pub lowers_context-performs : (state : State) (number g : ℕ) → state.trapped ≡ false → first_of (lower_context_reasons state number g) ≡ None → lowers_context state number g ≡ shares state number g
+unfolding lowers_context
+lowers_context-performs state number g t e =
+    ap (λ b. cond b (goes replies.StoreTrapped state) (shares_unless state number g (first_of (lower_context_reasons state number g)))) t
+    ∙ ap (shares_unless state number g) e
 
 -- what holds of the seven ways that an act can go holds of each act
 module _ (P : Act → Reaction → Type 0) (state : State)

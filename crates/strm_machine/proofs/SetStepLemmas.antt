@@ -19,7 +19,7 @@ use Rattle.strm_machine.specs.Tests.{is_unknown_guest, is_no_handle, are_handles
 use Rattle.strm_machine.specs.Refusals.{where_, slot_reasons, joined_reasons, set_reasons, refusal}
 use Rattle.strm_machine.specs.WaitableSets.{set_named, number_named, has_some, has_member, report_of_named, is_ready, ready_member, ready_in, sets_joined}
 use Rattle.strm_machine.specs.Reactions.{makes, member_told, polls, on_set}
-use Rattle.strm_machine.specs.Moments.{code_told, is_end_ready}
+use Rattle.strm_machine.specs.Moments.{code_told, is_end_told}
 use Rattle.strm_machine.specs.Soundness.{types_of}
 use Rattle.strm_machine.specs.declared.acts.Making.TheVariants.{Set}
 use Rattle.strm_machine.specs.declared.acts.SetAct.{SetAct}
@@ -27,7 +27,7 @@ use Rattle.strm_machine.specs.declared.acts.SetAct.TheVariants as set_acts
 use Rattle.strm_machine.specs.declared.acts.Act.TheVariants.{OnSet}
 use Rattle.strm_machine.specs.declared.replies.Reply.TheVariants as replies
 use Rattle.strm_machine.proofs.RefusalLemmas.{not_refused, not_le, not_lt, none_of_both}
-use Rattle.strm_machine.proofs.NamedEndLemmas.{entry_found, end_named-found}
+use Rattle.strm_machine.proofs.NamedEndLemmas.{is_end_on, entry_found, end_there}
 use Rattle.strm_machine.proofs.SoundLemmas.{AreNamed-at, AreNamed-removed, AreNamed-inserted}
 use Rattle.strm_machine.proofs.WaitableSetLemmas.{set_some, HoldsSets-left, HoldsSets-joined, HoldsSets-without, HoldsSets-given_set}
 use Rattle.strm_machine.proofs.ErrorContextLemmas.{set_leads_nowhere, HoldsContexts-table, HoldsContexts-given, HoldsContexts-freed}
@@ -92,6 +92,15 @@ ready_named : (state : State) (name : Name) → is_some (report_of_named state n
 ready_named state (Ok answer) e = refl
 ready_named state (Err error) e = cc
 
+ready_report : (state : State) (name : Name) → is_some (report_of_named state name) ≡ true → is_some (report_on (side_named name) (stream_at state (stream_named name))) ≡ true
+ready_report state (Ok answer) e = e
+ready_report state (Err error) e = cc
+
+-- the reply tells of that member
+member_named : (state : State) (g handle : ℕ) (code : Option ReturnCode) → is_some code ≡ true → (k : ℕ) (other : Side) → is_end_told k other state g (replies.Member (member_told handle code)) ≡ is_end k other (end_named state g handle)
+member_named state g handle None e k other = cc
+member_named state g handle (Some code) e k other = refl
+
 -- the member that is told is ready
 pub ready_member-is : (state : State) (g number handle : ℕ) → ready_member state g number ≡ Some handle → (is_ready state g handle ≡ true) × (is_member (sets_in state.guests g) number handle ≡ true)
 unfolding ready_member
@@ -103,20 +112,24 @@ told_code handle None = refl
 told_code handle (Some code) = refl
 
 -- a poll of a set whose least ready member is this one is an event of that
-pub polls-shape : (state : State) (g set : ℕ) (o : Option ℕ) → IsSound state → g < length state.guests → ready_in state g set ≡ o → Shape state (OnSet g set set_acts.Poll) (polls state g o)
+pub polls-shape : (state : State) (g set : ℕ) (o : Option ℕ) → IsSound state → ready_in state g set ≡ o → Shape state (OnSet g set set_acts.Poll) (polls state g o)
 unfolding delivered
-polls-shape state g set None h there e = ByRest (replies.Member None) refl refl
-polls-shape state g set (Some handle) h there e =
-    let act = OnSet g set set_acts.Poll in
+polls-shape state g set None h e = ByRest (replies.Member None) refl refl
+polls-shape state g set (Some handle) h e =
     let name = end_named state g handle in
     let s = stream_named name in
     let side = side_named name in
     let stream = stream_at state s in
     let code = report_on side stream in
-    let ready = ready_member-is state g (number_named (set_named state g set)) handle e in
-    let found = end_named-found state act g handle h there (ready_named state name ready.0) (λ k other. ap (is_end_ready k other state g) e) in
+    let ready = (ready_member-is state g (number_named (set_named state g set)) handle e).0 in
+    let found = ready_named state name ready in
     BySetting (replies.Member (member_told handle code)) (record { stream = s; side = side; end = told_end code (end_of side stream) }) refl
-    (record { made = found.made; named = found.named; becomes = subst (Becomes side stream (told_end code (end_of side stream))) (told_code handle code) (told-becomes side stream); untaken = λ report. refl })
+    (record {
+      made = end_there state g handle h found;
+      named = λ k other. member_named state g handle code (ready_report state name ready) k other ∙ is_end_on k side other name found refl;
+      becomes = subst (Becomes side stream (told_end code (end_of side stream))) (told_code handle code) (told-becomes side stream);
+      untaken = λ report. refl;
+    })
 
 -- ## A set joined or left
 
@@ -248,7 +261,6 @@ module _ (state : State) (g number : ℕ) where
 pub set-shape : (state : State) (g set : ℕ) (act : SetAct) → IsSound state → refusal state (OnSet g set act) ≡ None → Shape state (OnSet g set act) (on_set state g set act)
 set-shape state g set (set_acts.Join handle) h e =
     let fits = on_set_fits state g set (set_acts.Join handle) e in join-shape state g set handle h fits.0 fits.1
-set-shape state g set set_acts.Poll h e =
-    let fits = on_set_fits state g set set_acts.Poll e in polls-shape state g set (ready_in state g set) h fits.0 refl
+set-shape state g set set_acts.Poll h e = polls-shape state g set (ready_in state g set) h refl
 set-shape state g set set_acts.Drop h e =
     let fits = on_set_fits state g set set_acts.Drop e in set_drop-shape state g h set fits.0 (set_drop_fits state g set fits.1)

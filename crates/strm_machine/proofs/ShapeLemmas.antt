@@ -104,7 +104,7 @@ cancel-shape state side end h e =
     let busy = not_refused (not (is_busy side stream)) _ _ fits.1 in
     let found = named-found state side end Cancel h fits.0 in
     BySetting (replies.Code code) (record { stream = s; side = side; end = told_end (Some code) (end_of side stream) }) refl
-    (record { made = found.made; named = found.named; becomes = cancelled-becomes side stream (not-false (is_busy side stream) busy.0); untaken = λ report. refl })
+    (record { made = found.made; named = found.named (replies.Code code); becomes = cancelled-becomes side stream (not-false (is_busy side stream) busy.0); untaken = λ report. refl })
 
 pub on_end-shape : (state : State) (side : Side) (end : NamedEnd) (act : EndAct) → IsSound state → refusal state (OnEnd side end act) ≡ None → Shape state (OnEnd side end act) (on_end state side end act)
 unfolding refusal
@@ -163,7 +163,7 @@ event-shape state g handle h e =
     let code = report_on side stream in
     let found = event-found state g handle h (event_fits state g handle e) in
     BySetting (replies.Event code) (record { stream = stream_named name; side = side; end = told_end code (end_of side stream) }) refl
-    (record { made = found.made; named = found.named; becomes = told-becomes side stream; untaken = λ report. refl })
+    (record { made = found.made; named = found.named (replies.Event code); becomes = told-becomes side stream; untaken = λ report. refl })
 
 make-shape : (state : State) (making : Making) → IsSound state → refusal state (Make making) ≡ None → Shape state (Make making) (makes state making)
 make-shape state (Guest size) h e = ByGuest size refl refl (guest_fits state size e)

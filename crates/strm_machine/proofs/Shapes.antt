@@ -57,7 +57,7 @@ set_by state x = record state { streams = set state.streams x.stream (with_end x
 -- it is the end that this act names; no call is accepted in it, and the reply tells what the end is told
 pub record SetsEnd (state : State) (act : Act) (reply : Reply) (x : Setting) : Type 0 where
   pub made : x.stream < length state.streams
-  pub named : NamesEnd state act x.stream x.side
+  pub named : NamesEnd state act reply x.stream x.side
   pub becomes : Becomes x.side (stream_at state x.stream) x.end (code_told reply)
   pub untaken : (report : Option ReturnCode) → accepted act reply report ≡ []
 

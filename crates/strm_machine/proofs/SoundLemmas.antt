@@ -246,16 +246,20 @@ IsSound-freed state g handle ok h =
     (λ number. end_leads_nowhere number (Some found.0) (ap (λ o. is_ok (end_rep_in o)) (sym found.1) ∙ ok))) h
 
 -- and one is given, for an end of a stream of its type
-pub IsSound-given : (state : State) (g : ℕ) (e : Entry) → EntryIsNamed (types_of state.streams) (Some e) → is_ok (end_rep_in (Some e)) ≡ true → next_index (guest_in state.guests g).handles < handle_limit → IsSound state → IsSound (record state { guests = with_handles state.guests g (inserted (guest_in state.guests g).handles e) })
-IsSound-given state g e p ok few h =
-    let sizes = sizes_of-with_handles state.guests g (inserted (guest_in state.guests g).handles e) in
-    record {
-      named = with_handles-named (types_of state.streams) state.guests g e p h.named;
-      placed = rw sizes h.placed;
-      small = rw sizes h.small;
-      sets = HoldSets-given state.guests g e ok few h.sets;
-      contexts = HoldsContexts-end state.guests state.contexts g e ok h.sets h.contexts;
-    }
+module _ (state : State) (g : ℕ) (e : Entry) where
+  abbrev given_to : State
+  given_to = record state { guests = with_handles state.guests g (inserted (guest_in state.guests g).handles e) }
+
+  pub IsSound-given : EntryIsNamed (types_of state.streams) (Some e) → is_ok (end_rep_in (Some e)) ≡ true → next_index (guest_in state.guests g).handles < handle_limit → IsSound state → IsSound given_to
+  IsSound-given p ok few h =
+      let sizes = sizes_of-with_handles state.guests g (inserted (guest_in state.guests g).handles e) in
+      record {
+        named = with_handles-named (types_of state.streams) state.guests g e p h.named;
+        placed = rw sizes h.placed;
+        small = rw sizes h.small;
+        sets = HoldSets-given state.guests g e ok few h.sets;
+        contexts = HoldsContexts-end state.guests state.contexts g e ok h.sets h.contexts;
+      }
 
 -- ## A stream with another end
 

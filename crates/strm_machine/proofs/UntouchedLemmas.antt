@@ -212,7 +212,7 @@ operates_stays state side end address count room o =
     let m = as_moment state act (operates state side end address count) in
     let guests : m.after.guests ≡ t.guests = back_guests state s t t.code in
     let rises : received s m.after ≡ t.stream.received = ap (λ (st : Stream). st.received) (back_stream state s t t.code o.found.made) in
-    let place : target s m ≡ place_by side stream mine = target_by side (names s Reading state act) end address count stream (named_itself state act s side Reading o.found.named) in
+    let place : target s m ≡ place_by side stream mine = target_by side (names s Reading state act m.reply) end address count stream (named_itself state act m.reply s side Reading (o.found.named m.reply)) in
     let here : received_by s m ≡ region_by side stream mine t = region_same (target s m) (place_by side stream mine) _ _ place (ap (λ k. item_size (scalars_of stream.payload) * (k - stream.received)) rises) in
     let stay = turn_stays side state.guests stream mine (room s) o.placed (end_placed (opposite side) (sizes_of state.guests) stream o.streams) in
     stays_received s m

@@ -15,7 +15,6 @@ use Rattle.strm_memory.specs.Items.{decode}
 use Rattle.strm_machine.specs.State.{State, Guest, memory_in, stream_at}
 use Rattle.strm_machine.specs.Sides.{same_side}
 use Rattle.strm_machine.specs.Tests.{Name, named, end_named, side_of, items_asked}
-use Rattle.strm_machine.specs.WaitableSets.{ready_in}
 use Rattle.strm_machine.specs.Acts.{act_of}
 use Rattle.strm_machine.specs.Reactions.{react}
 use Rattle.strm_machine.specs.declared.acts.NamedEnd.{NamedEnd}
@@ -57,21 +56,21 @@ abbrev pub is_end : ℕ → Side → Name → Bool
 is_end s side (Ok answer) = (answer.0 == s) && same_side (side_of answer.1) side
 is_end s side (Err error) = false
 
--- the member that a poll tells something, if one is ready, is this end of stream s
-abbrev pub is_end_ready : ℕ → Side → State → ℕ → Option ℕ → Bool
-is_end_ready s side state g None = false
-is_end_ready s side state g (Some handle) = is_end s side (end_named state g handle)
+-- the member of a guest's set that a reply tells of, if one is told of, is this end of stream s
+abbrev pub is_end_told : ℕ → Side → State → ℕ → Reply → Bool
+is_end_told s side state g (replies.Member (Some member)) = is_end s side (end_named state g member.handle)
+is_end_told s side state g _ = false
 
--- the handle that an act names is this end of stream s; a poll names the least member that is ready
-abbrev pub names : ℕ → Side → State → Act → Bool
-names s side state (OnEnd on end act) = is_end s side (named state end)
-names s side state (Event g handle) = is_end s side (end_named state g handle)
-names s side state (OnSet g set set_acts.Poll) = is_end_ready s side state g (ready_in state g set)
-names s side state _ = false
+-- the handle that an act names is this end of stream s; a poll names the member that its reply tells of
+abbrev pub names : ℕ → Side → State → Act → Reply → Bool
+names s side state (OnEnd on end act) reply = is_end s side (named state end)
+names s side state (Event g handle) reply = is_end s side (end_named state g handle)
+names s side state (OnSet g set set_acts.Poll) reply = is_end_told s side state g reply
+names s side state _ reply = false
 
--- the same of the act of a moment
+-- the same of a moment
 abbrev pub is_named : ℕ → Side → Moment → Bool
-is_named s side m = names s side m.before m.act
+is_named s side m = names s side m.before m.act m.reply
 
 -- REPORTS
 

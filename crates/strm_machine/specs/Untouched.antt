@@ -1,8 +1,10 @@
--- The memories of guests in a moment: which bytes it touches, and that all others stay. Ours.
-use Rattle.std.specs.Prelude.{◌≡◌, ℕ, ◌*◌, ◌<◌, ◌≤◌, List, length}
+-- The memories of guests in a moment: which bytes it touches, what is put there, and that all others
+-- stay. Ours.
+use Rattle.std.specs.Prelude.{◌≡◌, ℕ, ◌*◌, ◌<◌, ◌≤◌, List, [], length}
 use Rattle.strm_codes.specs.Layout.{scalars_of, item_size}
 use Rattle.strm_memory.specs.Bytes.{bytes_at, IsApart}
-use Rattle.strm_machine.specs.State.{Guest, memory_in, stream_at}
+use Rattle.strm_machine.specs.State.{State, Guest, memory_in, stream_at}
+use Rattle.strm_machine.specs.ErrorContexts.{message_named}
 use Rattle.strm_machine.specs.declared.acts.ContextAct.TheVariants.{Text}
 use Rattle.strm_machine.specs.declared.acts.MemoryAct.TheVariants.{Poke}
 use Rattle.strm_machine.specs.declared.acts.Act.{Act}
@@ -34,6 +36,16 @@ put_by (OnMemory g (Poke address bytes)) replies.Done =
 put_by (OnContext g handle (Text address)) (replies.Number size) =
     record { place = record { guest = g; address = address }; size = size }
 put_by _ _ = record { place = record { guest = 0; address = 0 }; size = 0 }
+
+-- which bytes they are: those of the poke, or the message of the error context that was named
+abbrev pub bytes_put : State → Act → Reply → List ℕ
+bytes_put state (OnMemory g (Poke address bytes)) replies.Done = bytes
+bytes_put state (OnContext g handle (Text address)) (replies.Number size) = message_named state g handle
+bytes_put state _ _ = []
+
+-- after a moment they lie where they are put
+abbrev pub LieThere : Moment → Type 0
+LieThere m = bytes_of m.after.guests (put_by m.act m.reply) ≡ bytes_put m.before m.act m.reply
 
 -- where the items of stream s that are received in a moment lie
 abbrev pub received_by : ℕ → Moment → Region
