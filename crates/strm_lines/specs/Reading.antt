@@ -224,10 +224,6 @@ lower_of rest =
 unfoldable pub close_of : List ℕ → Option Step
 close_of rest = option_map Close (number rest)
 
--- event G H
-unfoldable pub event_of : List ℕ → Option Step
-event_of rest = option_map (λ v. Event v.0 v.1) (followed_by number number rest)
-
 -- set-new G
 unfoldable pub set_new_of : List ℕ → Option Step
 set_new_of rest = option_map SetNew (number rest)
@@ -244,6 +240,10 @@ set_poll_of rest = option_map (λ v. SetPoll v.0 v.1) (followed_by number number
 -- set-drop G N
 unfoldable pub set_drop_of : List ℕ → Option Step
 set_drop_of rest = option_map (λ v. SetDrop v.0 v.1) (followed_by number number rest)
+
+-- event G H
+unfoldable pub event_of : List ℕ → Option Step
+event_of rest = option_map (λ v. Event v.0 v.1) (followed_by number number rest)
 
 -- err-new G A N
 unfoldable pub err_new_of : List ℕ → Option Step
@@ -304,14 +304,14 @@ moving =
     ∷ command (codes "close ") close_of ∷ []
 
 -- those of waitable sets
-abbrev pub on_sets : List Command
-on_sets =
+abbrev pub gathering : List Command
+gathering =
     command (codes "set-new ") set_new_of ∷ command (codes "set-join ") set_join_of
     ∷ command (codes "set-poll ") set_poll_of ∷ command (codes "set-drop ") set_drop_of ∷ []
 
 -- those of error contexts
-abbrev pub on_contexts : List Command
-on_contexts =
+abbrev pub explaining : List Command
+explaining =
     command (codes "err-new ") err_new_of ∷ command (codes "err-text ") err_text_of
     ∷ command (codes "err-move ") err_move_of ∷ command (codes "err-drop ") err_drop_of ∷ []
 
@@ -322,4 +322,4 @@ read_by (c ∷ commands) line = option_map_or c.read (behind c.front line) (read
 
 -- the step that a line spells, where it spells one
 unfoldable pub step_of : List ℕ → Option Step
-step_of line = read_by (often ++ (seldom ++ (moving ++ (on_sets ++ on_contexts)))) line
+step_of line = read_by (often ++ (seldom ++ (moving ++ (gathering ++ explaining)))) line

@@ -4,9 +4,9 @@ use Rattle.std.specs.List.{flat_map}
 use Rattle.strm_codes.specs.Codes.{word_of}
 use Rattle.strm_codes.specs.declared.codes.ReturnCode.{ReturnCode}
 use Rattle.strm_codes.specs.Refusals.{refusal_name}
-use Rattle.strm_machine.specs.declared.replies.Member.{Member}
+use Rattle.strm_machine.specs.declared.replies.Member as members
 use Rattle.strm_machine.specs.declared.replies.Reply.{Reply}
-use Rattle.strm_machine.specs.declared.replies.Reply.TheVariants.{Done, Number, Pair, Code, Event, Member as AMember, Bytes, Refused, BadItem, StoreTrapped}
+use Rattle.strm_machine.specs.declared.replies.Reply.TheVariants.{Done, Number, Pair, Code, Event, Member, Bytes, Refused, BadItem, StoreTrapped}
 use Rattle.strm_lines.specs.Words.{hex_pair, hex_pairs}
 use Rattle.strm_lines.specs.Grammar.{words}
 
@@ -29,8 +29,8 @@ abbrev pub event_text : Option ReturnCode → List ℕ
 event_text (Some code) = code_text code
 event_text None = codes "none"
 
--- which member of a set was told something, by its handle, and what; or that none was
-abbrev pub member_text : Option Member → List ℕ
+-- the member of a set that was told something, and what it was told
+abbrev pub member_text : Option members.Member → List ℕ
 member_text (Some member) = words (decimal member.handle ∷ code_text member.code ∷ [])
 member_text None = codes "none"
 
@@ -43,7 +43,7 @@ reply_text (Pair pair) =
     ∷ codes "stream" ∷ decimal pair.stream ∷ [])
 reply_text (Code code) = code_text code
 reply_text (Event told) = event_text told
-reply_text (AMember told) = member_text told
+reply_text (Member told) = member_text told
 reply_text (Bytes bytes) = hex_pairs bytes
 reply_text (Refused refusal) = words (codes "refused" ∷ refusal_name refusal ∷ [])
 reply_text (BadItem stream) =

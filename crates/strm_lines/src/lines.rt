@@ -4,7 +4,7 @@
 
 ghost use Rattle.std.specs.Prelude.{◌≡◌, ◌<◌, ◌++◌, is_some, vec_len, vec_capacity};
 ghost use Rattle.std.specs.Option.{option_map, option_to_list};
-ghost use Rattle.strm_lines.specs.Reading.{place_of, operands_of, named_end_of, guest_of, new_of, pair_of, write_of, read_of, drop_write_of, drop_read_of, cancel_write_of, cancel_read_of, move_of, lift_of, lower_of, close_of, event_of, set_new_of, set_join_of, set_poll_of, set_drop_of, err_new_of, err_text_of, err_move_of, err_drop_of, poke_of, dump_of, seldom, moving, on_sets, on_contexts, read_by, step_of};
+ghost use Rattle.strm_lines.specs.Reading.{place_of, operands_of, named_end_of, guest_of, new_of, pair_of, write_of, read_of, drop_write_of, drop_read_of, cancel_write_of, cancel_read_of, move_of, lift_of, lower_of, close_of, set_new_of, set_join_of, set_poll_of, set_drop_of, err_new_of, err_text_of, err_move_of, err_drop_of, event_of, poke_of, dump_of, seldom, moving, gathering, explaining, read_by, step_of};
 
 use crate::words::{
     behind, hex, leading_number, leading_type, number, number_within, transmit_type,
@@ -212,15 +212,6 @@ fn close_line(rest: &[u8]) -> Option<Step>
     Some(Step::Close { reader })
 }
 
-#[tactic(auto, unfolding(crate::specs::Reading::event_of))]
-fn event_line(rest: &[u8]) -> Option<Step>
-    ensures { result ≡ event_of rest.now }
-{
-    let (guest, rest) = leading_number(rest)?;
-    let handle = number(rest)?;
-    Some(Step::Event { guest, handle })
-}
-
 #[tactic(auto, unfolding(crate::specs::Reading::set_new_of))]
 fn set_new_line(rest: &[u8]) -> Option<Step>
     ensures { result ≡ set_new_of rest.now }
@@ -255,6 +246,15 @@ fn set_drop_line(rest: &[u8]) -> Option<Step>
     let (guest, rest) = leading_number(rest)?;
     let set = number(rest)?;
     Some(Step::SetDrop { guest, set })
+}
+
+#[tactic(auto, unfolding(crate::specs::Reading::event_of))]
+fn event_line(rest: &[u8]) -> Option<Step>
+    ensures { result ≡ event_of rest.now }
+{
+    let (guest, rest) = leading_number(rest)?;
+    let handle = number(rest)?;
+    Some(Step::Event { guest, handle })
 }
 
 #[tactic(auto, unfolding(crate::specs::Reading::err_new_of))]
@@ -349,11 +349,11 @@ fn keep<T: Copy>(items: &mut Vec<T>, read: Option<T>) -> bool
     }
 }
 
-// Keeps the step of a line that begins with a command of error contexts.
-fn keep_on_contexts(steps: &mut Vec<Step>, line: &[u8]) -> bool
+// Keeps the step of a line that begins with a command of an error context.
+fn keep_explaining(steps: &mut Vec<Step>, line: &[u8]) -> bool
     requires room { vec_len steps.old < vec_capacity steps.old }
-    ensures items { steps.new.items ≡ steps.old.items ++ option_to_list (read_by on_contexts line.now) }
-    ensures found { result ≡ is_some (read_by on_contexts line.now) }
+    ensures items { steps.new.items ≡ steps.old.items ++ option_to_list (read_by explaining line.now) }
+    ensures found { result ≡ is_some (read_by explaining line.now) }
     ensures capacity { vec_capacity steps.new ≡ vec_capacity steps.old }
 {
     if let Some(rest) = behind(line, b"err-new ") {
@@ -369,11 +369,12 @@ fn keep_on_contexts(steps: &mut Vec<Step>, line: &[u8]) -> bool
     }
 }
 
-// Keeps the step of a line that begins with a command of waitable sets or error contexts.
-fn keep_on_sets(steps: &mut Vec<Step>, line: &[u8]) -> bool
+// Keeps the step of a line that begins with a command of a waitable set or an
+// error context.
+fn keep_gathering(steps: &mut Vec<Step>, line: &[u8]) -> bool
     requires room { vec_len steps.old < vec_capacity steps.old }
-    ensures items { steps.new.items ≡ steps.old.items ++ option_to_list (read_by (on_sets ++ on_contexts) line.now) }
-    ensures found { result ≡ is_some (read_by (on_sets ++ on_contexts) line.now) }
+    ensures items { steps.new.items ≡ steps.old.items ++ option_to_list (read_by (gathering ++ explaining) line.now) }
+    ensures found { result ≡ is_some (read_by (gathering ++ explaining) line.now) }
     ensures capacity { vec_capacity steps.new ≡ vec_capacity steps.old }
 {
     if let Some(rest) = behind(line, b"set-new ") {
@@ -385,16 +386,16 @@ fn keep_on_sets(steps: &mut Vec<Step>, line: &[u8]) -> bool
     } else if let Some(rest) = behind(line, b"set-drop ") {
         keep(steps, set_drop_line(rest))
     } else {
-        keep_on_contexts(steps, line)
+        keep_explaining(steps, line)
     }
 }
 
-// Keeps the step of a line that begins with a command of a read end that changes its owner, or of
-// waitable sets or error contexts.
+// Keeps the step of a line that begins with a command of a read end that changes its owner, or of a
+// waitable set.
 fn keep_moving(steps: &mut Vec<Step>, line: &[u8]) -> bool
     requires room { vec_len steps.old < vec_capacity steps.old }
-    ensures items { steps.new.items ≡ steps.old.items ++ option_to_list (read_by (moving ++ (on_sets ++ on_contexts)) line.now) }
-    ensures found { result ≡ is_some (read_by (moving ++ (on_sets ++ on_contexts)) line.now) }
+    ensures items { steps.new.items ≡ steps.old.items ++ option_to_list (read_by (moving ++ (gathering ++ explaining)) line.now) }
+    ensures found { result ≡ is_some (read_by (moving ++ (gathering ++ explaining)) line.now) }
     ensures capacity { vec_capacity steps.new ≡ vec_capacity steps.old }
 {
     if let Some(rest) = behind(line, b"move ") {
@@ -406,15 +407,15 @@ fn keep_moving(steps: &mut Vec<Step>, line: &[u8]) -> bool
     } else if let Some(rest) = behind(line, b"close ") {
         keep(steps, close_line(rest))
     } else {
-        keep_on_sets(steps, line)
+        keep_gathering(steps, line)
     }
 }
 
 // Keeps the step of a line that begins with none of the commands that most lines do.
 fn keep_seldom(steps: &mut Vec<Step>, line: &[u8]) -> bool
     requires room { vec_len steps.old < vec_capacity steps.old }
-    ensures items { steps.new.items ≡ steps.old.items ++ option_to_list (read_by (seldom ++ (moving ++ (on_sets ++ on_contexts))) line.now) }
-    ensures found { result ≡ is_some (read_by (seldom ++ (moving ++ (on_sets ++ on_contexts))) line.now) }
+    ensures items { steps.new.items ≡ steps.old.items ++ option_to_list (read_by (seldom ++ (moving ++ (gathering ++ explaining))) line.now) }
+    ensures found { result ≡ is_some (read_by (seldom ++ (moving ++ (gathering ++ explaining))) line.now) }
     ensures capacity { vec_capacity steps.new ≡ vec_capacity steps.old }
 {
     if let Some(rest) = behind(line, b"guest ") {

@@ -80,7 +80,7 @@ fn push_pair(out: &mut TextBytes, pair: &Pair) -> Result<(), OutOfMemory>
     out.push(b'\n')
 }
 
-// Adds the line of a member of a set that was told something.
+// Adds the line of a member of a set and of what it was told.
 fn push_member(out: &mut TextBytes, member: &Member) -> Result<(), OutOfMemory>
     ensures { OnOk result (out.new ≡ out.old ++ ended (reply_text (Reply.Member (Some member.now)))) }
 {
@@ -105,7 +105,6 @@ fn push_reply(out: &mut TextBytes, reply: &Reply) -> Result<(), OutOfMemory>
     match reply {
         Reply::Code(code) | Reply::Event(Some(code)) => out.push_slice(&hex_line(code.encode())),
         Reply::Event(None) | Reply::Member(None) => out.push_slice(b"none\n"),
-        Reply::Member(Some(member)) => push_member(out, member),
         Reply::Done => out.push_slice(b"ok\n"),
         Reply::Bytes(bytes) => push_hex(out, bytes.as_slice()),
         Reply::Number(number) => {
@@ -113,6 +112,7 @@ fn push_reply(out: &mut TextBytes, reply: &Reply) -> Result<(), OutOfMemory>
             out.push(b'\n')
         }
         Reply::Pair(pair) => push_pair(out, pair),
+        Reply::Member(Some(member)) => push_member(out, member),
         Reply::Refused(refusal) => push_refusal(out, *refusal),
         Reply::BadItem { stream } => {
             out.push_slice(b"bad-item stream ")?;

@@ -1,7 +1,7 @@
 -- The store after an end was told its report or its operation cancelled; and what is known of an end
 -- that may leave its guest: its table gives its handle back, and its stream was made.
 use Rattle.std.proofs.Common.{◌≡◌, ℕ, ◌<◌, true, List, length, set, Result, Ok, Err, None, refl, ap, subst}
-use Rattle.std.specs.Prelude.{IsOk, IfOk}
+use Rattle.std.specs.Prelude.{IsOk, IfOk, is_ok}
 use Rattle.strm_codes.specs.declared.codes.TransmitIndex.{TransmitIndex}
 use Rattle.strm_codes.specs.declared.codes.TransmitIndex.TheVariants as index
 use Rattle.strm_handles.specs.Handles.{Handles}
@@ -14,7 +14,7 @@ use Rattle.strm_handles.specs.declared.errors.HandleError.{HandleError}
 use Rattle.strm_machine.specs.State as machine
 use Rattle.strm_machine.specs.State.{State, no_stream, guest_in, with_handles, stream_at, is_gone, is_live}
 use Rattle.strm_machine.specs.Turns.{Turn}
-use Rattle.strm_machine.specs.Tests.{Name, named, named_by, stream_named, side_named, side_of}
+use Rattle.strm_machine.specs.Tests.{Name, named, named_by, end_named, stream_named, side_named, side_of}
 use Rattle.strm_machine.specs.declared.acts.NamedEnd.{NamedEnd}
 use Rattle.strm_machine.specs.Soundness.{sizes_of, is_idle_state, IsSound, StreamIsPlaced}
 use Rattle.strm_machine.specs.Sides.{same_side}
@@ -22,6 +22,8 @@ use Rattle.strm_machine.specs.declared.streams.Side.{Side}
 use Rattle.strm_machine.specs.declared.streams.Side.TheVariants.{Writing, Reading}
 use Rattle.strm_machine.specs.declared.streams.Stream.{Stream}
 use Rattle.strm_machine.proofs.NameLemmas.{named_there, named_idle}
+use Rattle.strm_machine.specs.declared.acts.EndAct.TheVariants.{Drop}
+use Rattle.strm_machine.proofs.NamedEndLemmas.{on_end-found, is_end-ok}
 use Rattle.strm_machine.proofs.RefusalLemmas.{LeaveFits, named_ok}
 use Rattle.strm_machine.proofs.SideLemmas.{same_side_is, StreamKeeps}
 use Rattle.strm_machine.proofs.SoundLemmas.{placed_at}
@@ -37,6 +39,7 @@ pub record SetsStream (old new : Inside) (s : ℕ) (stream : Stream) : Type 0 wh
   pub counter : new.counter ≡ old.counter
   pub guests : new.guests ≡ old.guests
   pub live_streams : new.live_streams ≡ old.live_streams
+  pub live_sets : new.live_sets ≡ old.live_sets
   pub bytes : new.bytes ≡ old.bytes
   pub streams : new.streams.items ≡ set old.streams.items s stream
 
@@ -59,8 +62,10 @@ IsStore-set old new s stream l keeps h i =
     (record {
       tag = h.same.tag;
       limits = h.same.limits;
+      contexts = h.same.contexts;
       counter = h.counter;
       live_streams = h.live_streams;
+      live_sets = h.live_sets;
       bytes = h.bytes;
       guests = ap (λ (g : _). seen g.items) h.guests;
       streams = h.streams;
@@ -117,3 +122,9 @@ named_made state side end s h fits same =
     by_name : (r : Name) → IfOk r (λ name. name.0 < length state.streams) → IsOk r → stream_named r < length state.streams
     by_name (Ok name) l k = l
     by_name (Err error) l k = cc
+
+-- and the handle is one of an end
+pub named_end : (state : State) (side : Side) (end : NamedEnd) → IsSound state → LeaveFits state side end → is_ok (end_named state end.guest end.handle) ≡ true
+named_end state side end h fits =
+    let found = on_end-found state side end Drop h fits.there (named_ok state end fits.found) (same_side_is side (side_named (named state end)) fits.same) in
+    is_end-ok (stream_named (named state end)) side (end_named state end.guest end.handle) found.held

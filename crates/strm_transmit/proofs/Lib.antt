@@ -3,3 +3,5 @@ pub mod StoreLemmas
 pub mod OperationLemmas
 pub mod EndingLemmas
 pub mod MoveLemmas
+pub mod SetLemmas
+pub mod ContextLemmas

@@ -1,14 +1,15 @@
 -- The store after an end of a stream has another owner, and its handle was freed, given or neither.
 use Rattle.std.proofs.Common.{◌≡◌, ℕ, ◌+◌, ◌-◌, ◌<◌, ◌≤◌, true, false, List, length, set, None, refl, sym, ap, ◌∙◌, subst, inl, ⊎_elim, arith}
-use Rattle.std.specs.Prelude.{count_by}
+use Rattle.std.specs.Prelude.{count_by, is_ok}
 use Rattle.std.proofs.lemmas.Bool.{cases_lt}
 use Rattle.std.proofs.lemmas.List.{get_or_past}
 use Rattle.strm_codes.specs.declared.codes.TransmitIndex.{TransmitIndex}
 use Rattle.strm_handles.specs.Counters.{Counter, counted, uncounted}
-use Rattle.strm_machine.specs.State.{Guest, State, no_stream, stream_at, is_loose, is_live}
+use Rattle.strm_sets.specs.Sets.{left}
+use Rattle.strm_machine.specs.State.{Guest, State, sets_in, no_stream, stream_at, is_loose, is_live, sets_in_use}
 use Rattle.strm_machine.specs.Sides.{end_of}
 use Rattle.strm_machine.specs.Moves.{without_handle, next_in, with_owner}
-use Rattle.strm_machine.specs.Tests.{named, stream_named}
+use Rattle.strm_machine.specs.Tests.{named, end_named, stream_named}
 use Rattle.strm_machine.specs.Refusals.{refusal}
 use Rattle.strm_machine.specs.Reactions.{Reaction, goes, moves, lowers, performs}
 use Rattle.strm_machine.specs.Soundness.{sizes_of, IsSound}
@@ -24,17 +25,18 @@ use Rattle.strm_machine.specs.declared.streams.Side.{Side}
 use Rattle.strm_machine.specs.declared.streams.Side.TheVariants.{Reading}
 use Rattle.strm_machine.proofs.ReactionLemmas.{reaction-performs}
 use Rattle.strm_machine.proofs.RefusalLemmas.{lower_fits, close_fits}
-use Rattle.strm_machine.proofs.SoundLemmas.{IsSound-set, IsSound-freed, sizes_of-with_handles}
+use Rattle.strm_machine.proofs.SoundLemmas.{IsSound-set, IsSound-freed, sizes_of-with_table, sizes_of-with_handles}
 use Rattle.strm_machine.proofs.SoundStepLemmas.{reaction-sound}
-use Rattle.strm_turns.specs.Guests.{seen, live_in, without_handle_in, with_end_in}
+use Rattle.strm_turns.specs.Guests.{seen, live_in, sets_among, without_handle_in, with_end_in}
 use Rattle.strm_transmit.specs.Inside.{state_of, IsStore}
 use Rattle.strm_transmit.specs.declared.store.Store.TheInside.{Inside}
-use Rattle.strm_transmit.proofs.StoreLemmas.{SameBut, IsStore-stream}
+use Rattle.strm_transmit.proofs.StoreLemmas.{SameBut, IsStore-stream, sets-with_table}
 
 -- an end of stream s has another owner
 pub record SetsOwner (old new : Inside) (s : ℕ) (side : Side) (owner : Owner) : Type 0 where
   pub same : SameBut old new
   pub bytes : new.bytes ≡ old.bytes
+  pub live_sets : new.live_sets ≡ old.live_sets
   pub counted : new.live_streams ≡ count_by is_live new.streams.items
   pub streams : new.streams.items ≡ set old.streams.items s (with_owner side (stream_at (state_of old) s) owner)
 
@@ -59,7 +61,13 @@ module _ (old new : Inside) (s : ℕ) (side : Side) (owner : Owner) (l : s < len
     named = rw e h.named;
     placed = rw e h.placed;
     small = rw e h.small;
+    sets = rw e h.sets;
+    contexts = rw (e, o.same.contexts) h.contexts;
   }
+
+  -- as many sets as there were
+  as_many : sets_among (seen new.guests.items) ≡ sets_among (seen old.guests.items) → new.live_sets ≡ sets_in_use (state_of new)
+  as_many e = o.live_sets ∙ i.sets ∙ sym e
 
   pub IsStore-owned : KeepsHandles old new → IsStore new
   IsStore-owned h =
@@ -71,23 +79,25 @@ module _ (old new : Inside) (s : ℕ) (side : Side) (owner : Owner) (l : s < len
         sizes = rw h.guests refl;
         bytes = o.bytes;
         counted = o.counted;
+        sets = as_many (ap (λ (g : _). sets_among (seen g.items)) h.guests);
         streams = o.streams;
       })
       (sound_of (seen old.guests.items) (ap (λ (g : _). seen g.items) h.guests) owned) i
 
-  pub IsStore-released : (g handle : ℕ) → FreesHandle old new g handle → IsStore new
-  IsStore-released g handle h =
+  pub IsStore-released : (g handle : ℕ) → is_ok (end_named (state_of old) g handle) ≡ true → FreesHandle old new g handle → IsStore new
+  IsStore-released g handle ok h =
       IsStore-stream old new s _
       (record {
         limit = rw (h.counter, o.same.limits) i.limit;
         live = ap (λ (c : Counter). c.live) h.counter ∙ fewer _ _ _ i.live h.live;
         within = rw h.counter (less _ _ i.within);
-        sizes = ap sizes_of h.guests ∙ sizes_of-with_handles (seen old.guests.items) g _;
+        sizes = ap sizes_of h.guests ∙ sizes_of-with_table (seen old.guests.items) g _ _;
         bytes = o.bytes;
         counted = o.counted;
+        sets = as_many (ap sets_among h.guests ∙ sets-with_table (seen old.guests.items) g _ _ refl);
         streams = o.streams;
       })
-      (sound_of _ h.guests (IsSound-freed (record (state_of old) { streams = new.streams.items }) g handle owned)) i
+      (sound_of _ h.guests (IsSound-freed (record (state_of old) { streams = new.streams.items }) g handle ok owned)) i
     where
       fewer : (c n m : ℕ) → c ≡ n → m + 1 ≡ n → c - 1 ≡ m
       fewer c n m e f = omega (arith, e, f)
@@ -124,7 +134,7 @@ lowers-sound state reader g ty t e h = performs-sound state (OnLoose reader (Low
 -- the end of a stream went to a guest, under this handle
 module _ (old new : Inside) (s : ℕ) (side : Side) (end : NamedEnd) (to number : ℕ) (o : SetsOwner old new s side (Held to number)) (m : MovesHandle old new side end to s) (n : number ≡ next_in (without_handle (state_of old) end.guest end.handle) to) where
   pub moves-is : moves (state_of old) s side end to ≡ goes (replies.Number number) (state_of new)
-  moves-is = rw (o.same.tag, o.same.limits, o.same.trapped, m.guests, o.streams, n) refl
+  moves-is = rw (o.same.tag, o.same.limits, o.same.contexts, o.same.trapped, m.guests, o.streams, n) refl
 
   pub IsStore-moved : old.is_trapped ≡ false → refusal (state_of old) (OnEnd side end (Move to)) ≡ None → s ≡ stream_named (named (state_of old) end) → IsStore old → IsStore new
   IsStore-moved t e same i =
@@ -134,9 +144,10 @@ module _ (old new : Inside) (s : ℕ) (side : Side) (end : NamedEnd) (to number 
         limit = rw (m.counter, o.same.limits) i.limit;
         live = ap (λ (c : Counter). c.live) m.counter ∙ i.live ∙ sym m.live;
         within = rw m.counter i.within;
-        sizes = ap sizes_of m.guests ∙ sizes_of-with_handles (without_handle_in (seen old.guests.items) end.guest end.handle) to _ ∙ sizes_of-with_handles (seen old.guests.items) end.guest _;
+        sizes = ap sizes_of m.guests ∙ sizes_of-with_handles (without_handle_in (seen old.guests.items) end.guest end.handle) to _ ∙ sizes_of-with_table (seen old.guests.items) end.guest _ _;
         bytes = o.bytes;
         counted = o.counted;
+        sets = o.live_sets ∙ i.sets ∙ sym (ap sets_among m.guests ∙ sets-with_table (without_handle_in (seen old.guests.items) end.guest end.handle) to _ (sets_in (without_handle_in (seen old.guests.items) end.guest end.handle) to) refl ∙ sets-with_table (seen old.guests.items) end.guest _ (left (sets_in (seen old.guests.items) end.guest) end.handle) refl);
         streams = o.streams;
       })
       (subst (λ (r : Reaction). IsSound r.state) moves-is sound) i
@@ -157,7 +168,7 @@ lower_made state reader g ty e = loose_made state reader (lower_fits state reade
 -- a loose end came into a guest, under this handle
 module _ (old new : Inside) (s g : ℕ) (ty : TransmitIndex) (number : ℕ) (o : SetsOwner old new s Reading (Held g number)) (m : GivesHandle old new Reading ty g s) (n : number ≡ next_in (state_of old) g) where
   pub lowers-is : lowers (state_of old) s g ty ≡ goes (replies.Number number) (state_of new)
-  lowers-is = rw (o.same.tag, o.same.limits, o.same.trapped, m.guests, o.streams, n) refl
+  lowers-is = rw (o.same.tag, o.same.limits, o.same.contexts, o.same.trapped, m.guests, o.streams, n) refl
 
   pub IsStore-lowered : old.is_trapped ≡ false → refusal (state_of old) (OnLoose s (Lower g ty)) ≡ None → IsStore old → IsStore new
   IsStore-lowered t e i =
@@ -171,6 +182,7 @@ module _ (old new : Inside) (s g : ℕ) (ty : TransmitIndex) (number : ℕ) (o :
         sizes = ap sizes_of m.guests ∙ sizes_of-with_handles (seen old.guests.items) g _;
         bytes = o.bytes;
         counted = o.counted;
+        sets = o.live_sets ∙ i.sets ∙ sym (ap sets_among m.guests ∙ sets-with_table (seen old.guests.items) g _ (sets_in (seen old.guests.items) g) refl);
         streams = o.streams;
       })
       (subst (λ (r : Reaction). IsSound r.state) lowers-is sound) i

@@ -44,6 +44,9 @@ pub alone : {T : Type 0} (b : Bool) (q : Refusal) (wanted : T) → b ≡ true �
 alone true q wanted e = refl
 alone false q wanted e = cc
 
+pub known : (state : State) (a : ℕ) → a < length state.guests → is_unknown_guest state a ≡ false
+known state a l = grind (arith, nat_tests)
+
 pub both_known : (state : State) (a b : ℕ) → a < length state.guests → b < length state.guests → is_unknown_guest state a || is_unknown_guest state b ≡ false
 both_known state a b l k = grind (arith, nat_tests)
 
@@ -88,3 +91,19 @@ end_found xs ys found wanted e f =
   where
     stream_found : ℕ → Result ℕ Refusal
     stream_found n = Ok n
+
+abbrev found_value : {T : Type 0} → T → Result T Refusal
+found_value v = Ok v
+
+-- the first search finds none, and then nothing speaks against it
+pub both_none : {T : Type 0} (xs ys : List Reason) (value wanted : T) → Ok value ≡ or_found (first_of xs) wanted → None ≡ first_of ys → Ok value ≡ or_found (first_of (xs ++ ys)) wanted
+both_none {T = T} xs ys value wanted e f =
+    let p = found_ok (first_of xs) value wanted e in
+    ap (found_value {T = T}) p.same
+    ∙ ap (λ o. or_found o wanted) (sym (first_of-append xs ys ∙ ap (λ o. option_or o (first_of ys)) p.none ∙ sym f))
+
+-- the first search finds none, and then there is a refusal
+pub then_refused : {S T : Type 0} (xs ys : List Reason) (value x : S) (r : Refusal) (wanted : T) → Ok value ≡ or_found (first_of xs) x → Some r ≡ first_of ys → Err r ≡ or_found (first_of (xs ++ ys)) wanted
+then_refused xs ys value x r wanted e f =
+    let p = found_ok (first_of xs) value x e in
+    ap (λ o. or_found o wanted) (sym (first_of-append xs ys ∙ ap (λ o. option_or o (first_of ys)) p.none ∙ sym f))

@@ -4,6 +4,8 @@
 #[cfg(test)]
 mod cancels;
 #[cfg(test)]
+mod contexts;
+#[cfg(test)]
 mod making;
 #[cfg(test)]
 mod moves;

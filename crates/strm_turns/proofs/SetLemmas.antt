@@ -1,17 +1,16 @@
 -- Waitable sets of guests: how many they are after one was made or taken away, and whether one has a
 -- member.
-use Rattle.std.proofs.Common.{◌≡◌, ℕ, zero, suc, ◌+◌, ◌<◌, Bool, true, false, cond, List, [], ◌∷◌, length, get_or, set, Result, Ok, Err, Option, Some, None, is_some, refl, sym, ap, ◌∙◌, arith, inl, inr}
+use Rattle.std.proofs.Common.{◌≡◌, ℕ, ◌+◌, ◌<◌, Bool, true, false, List, [], ◌∷◌, length, set, Result, Ok, Err, Option, Some, None, is_some, refl, sym, ap, ◌∙◌, arith}
 use Rattle.std.specs.Prelude.{count_by, nat_eq, ◌||◌, OnOk, OnErr, IfSome, IfNone}
 use Rattle.std.specs.List.{list_any}
 use Rattle.std.specs.Cmp.{nat_eq_equiv}
-use Rattle.std.proofs.lemmas.Bool.{cases_lt, lt-ltb, le-ltb}
-use Rattle.std.proofs.lemmas.List.Sums.{sum_by-set, sum_by-append}
+use Rattle.std.proofs.lemmas.List.Sums.{sum_by-set}
 use Rattle.strm_handles.specs.Handles.{Handles, entry_at, removed, live_of}
 use Rattle.strm_handles.specs.Lookups.{waitable_set_rep_in, waitable_set_rep_of}
 use Rattle.strm_handles.specs.declared.entries.Entry.{Entry}
 use Rattle.strm_handles.specs.declared.entries.Entry.TheVariants as entries
 use Rattle.strm_handles.proofs.HandleLemmas.{live_of-removed}
-use Rattle.strm_sets.specs.Sets.{Sets, is_there, members, least_free, placed, with_new_set, without_set, IsLeastReady, NoneReady}
+use Rattle.strm_sets.specs.Sets.{Sets, members, IsLeastReady, NoneReady}
 use Rattle.strm_sets.proofs.SetLemmas.{among_members}
 use Rattle.strm_machine.specs.State as machine
 use Rattle.strm_machine.specs.State.{no_guest, guest_in, sets_in}

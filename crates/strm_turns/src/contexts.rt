@@ -121,6 +121,16 @@ pub fn give_context(
     }
 }
 
+// Counts a handle more to a context that has fewer than a limit.
+fn count_handle(contexts: &mut ErrorContexts, context: u32, limit: usize)
+    requires known { is_there contexts.old context ≡ true }
+    requires fits { count_at contexts.old context < limit }
+    ensures { contexts.new ≡ raised contexts.old context }
+{
+    let _ = limit;
+    contexts.add_handle(context);
+}
+
 /// A handle more to an error context, in the table of a guest: answers its number. After want of
 /// memory nothing has changed.
 pub fn share_context(
@@ -132,7 +142,7 @@ pub fn share_context(
 ) -> Result<u32, OutOfMemory>
     requires there { guest < length guests.old.items }
     requires known { is_there contexts.old context ≡ true }
-    requires fits { count_at contexts.old context + 1 < 2 ^ 64 }
+    requires fits { count_at contexts.old context < counter.old.limit }
     requires small { next_index (guest_in (seen guests.old.items) guest).handles < 2 ^ 28 }
     requires below { counter.old.live < counter.old.limit }
     ensures number { IfOk result (λ number. number
@@ -150,7 +160,7 @@ pub fn share_context(
 {
     match reserve(guests, guest, 1) {
         Ok(()) => {
-            contexts.add_handle(context);
+            count_handle(contexts, context, counter.limit());
             Ok(insert_context(guests, counter, guest, context))
         }
         Err(error) => Err(error),

@@ -11,7 +11,7 @@ ghost use Rattle.strm_machine.specs.Endings.{pending_of, is_other_gone, report_o
 use crate::sides::{end_of, opposite};
 use strm_codes::codes::{ReturnCode, TransmitKind};
 use strm_codes::counts::ItemCount;
-use strm_events::reports::{Pending, cancelled, deliver};
+use strm_events::reports::{Pending, cancelled, deliver, report};
 use strm_machine::streams::{End, Operation, Owner, Side, Stream};
 
 // Of an operation, what its report may depend on.
@@ -37,6 +37,21 @@ fn is_other_gone(side: Side, stream: &Stream) -> bool
     ensures { result ≡ is_other_gone side stream.now }
 {
     end_of(stream, opposite(side)).owner == Owner::Gone
+}
+
+/// What the end on a side is to be told, if anything.
+pub fn report_on(stream: &Stream, side: Side) -> Option<ReturnCode>
+    ensures { result ≡ report_on side stream.now }
+{
+    let end = end_of(stream, side);
+    let pending = pending(&end.operation);
+    report(
+        stream.kind,
+        pending.as_ref(),
+        is_other_gone(side, stream),
+        end.told,
+        stream.passed,
+    )
 }
 
 // Tells an end of a stream its report, if it has one; its operation has ended then.

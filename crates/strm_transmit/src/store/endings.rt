@@ -8,7 +8,7 @@
 ghost use Rattle.std.specs.Prelude.{◌≡◌, ◌≢◌, ◌<◌, length, Err, None, IfOk, IfErr};
 ghost use Rattle.strm_codes.specs.declared.codes.TransmitIndex.TheVariants as index;
 ghost use Rattle.strm_machine.specs.Tests.{named, end_named, stream_named, side_named};
-ghost use Rattle.strm_machine.specs.Refusals.{refusal};
+ghost use Rattle.strm_machine.specs.Refusals.{refusal, first_of, slot_reasons};
 ghost use Rattle.strm_machine.specs.Reactions.{goes, tells, cancels, react, reaction};
 ghost use Rattle.strm_machine.specs.declared.acts.Act.TheVariants.{OnEnd, Event};
 ghost use Rattle.strm_machine.specs.declared.acts.EndAct.TheVariants.{Drop, Cancel};
@@ -32,7 +32,11 @@ use strm_turns::endings::{cancel_operation, deliver_report};
 impl Store {
     // The stream and the end that a handle names, whatever its type.
     #[inline(always)]
-    fn end_name(&self, guest: u32, handle: u32) -> Result<(u32, TransmitLocalState), HandleError>
+    pub(crate) fn end_name(
+        &self,
+        guest: u32,
+        handle: u32,
+    ) -> Result<(u32, TransmitLocalState), HandleError>
         requires { guest < length self.now.guests }
         ensures answer { result ≡ end_named self.now guest handle }
         ensures there { IfOk result (λ name. name.0 < length self.now.streams) }
@@ -43,6 +47,22 @@ impl Store {
 
     // The same as a refusal or the stream and the side of the end.
     #[inline(always)]
+    pub(crate) fn end_found(&self, guest: u32, handle: u32) -> Result<(u32, Side), Refusal>
+        requires { guest < length self.now.guests }
+        ensures exact { result ≡ or_found (first_of (slot_reasons (end_named self.now guest handle)))
+            (stream_named (end_named self.now guest handle), side_named (end_named self.now guest handle)) }
+        ensures there { IfOk result (λ found. found.0 < length self.now.streams) }
+    {
+        match self.end_name(guest, handle) {
+            Ok(name) => Ok((name.0, side_of(name.1))),
+            Err(HandleError::UnknownHandle) => Err(Refusal::UnknownHandle),
+            Err(HandleError::WrongKind) => Err(Refusal::WrongKind),
+            Err(_) => unreachable!(),
+        }
+    }
+
+    // The end that is to be told what it has to be told.
+    #[inline(always)]
     #[tactic(auto, unfolding(strm_machine::specs::Refusals::refusal))]
     fn event_found(&self, guest: u32, handle: u32) -> Result<(u32, Side), Refusal>
         ensures exact { result ≡ or_found (refusal self.now (Event guest handle))
@@ -52,17 +72,12 @@ impl Store {
         if guest as usize >= self.guests.len() {
             return Err(Refusal::UnknownGuest);
         }
-        match self.end_name(guest, handle) {
-            Ok(name) => Ok((name.0, side_of(name.1))),
-            Err(HandleError::UnknownHandle) => Err(Refusal::UnknownHandle),
-            Err(HandleError::WrongKind) => Err(Refusal::WrongKind),
-            Err(_) => unreachable!(),
-        }
+        self.end_found(guest, handle)
     }
 
     // An end of a stream is told its report, if it has one.
     #[inline(always)]
-    fn tell(&mut self, stream: u32, side: Side) -> Option<ReturnCode>
+    pub(crate) fn tell(&mut self, stream: u32, side: Side) -> Option<ReturnCode>
         requires { stream < length self.old.streams }
         ensures { tells self.old stream side ≡ goes (replies.Event result) self.new }
     {

@@ -9,7 +9,7 @@ ghost use Rattle.strm_codes.specs.declared.codes.TransmitIndex.TheVariants as in
 ghost use Rattle.strm_machine.specs.State.{stream_at};
 ghost use Rattle.strm_machine.specs.Tests.{named, stream_named, same_kind, is_unknown_reader};
 ghost use Rattle.strm_machine.specs.Moves.{without_handle, next_in, with_owner};
-ghost use Rattle.strm_machine.specs.Refusals.{refusal};
+ghost use Rattle.strm_machine.specs.Refusals.{refusal, first_of, last_reasons};
 ghost use Rattle.strm_machine.specs.Reactions.{moves, lowers, with_stream_at, react, reaction};
 ghost use Rattle.strm_machine.specs.declared.acts.Act.TheVariants.{OnEnd, OnLoose};
 ghost use Rattle.strm_machine.specs.declared.acts.EndAct.TheVariants.{Move, Lift};
@@ -29,6 +29,7 @@ use strm_machine::acts::{EndAct, NamedEnd};
 use strm_machine::streams::{Owner, Side};
 use strm_turns::ends::{give_end, move_end, remove_end};
 use strm_turns::owners::set_owner;
+use strm_turns::sets::is_in_set;
 
 // Whether two kinds are the same.
 fn same_kind(one: TransmitKind, other: TransmitKind) -> bool
@@ -78,6 +79,32 @@ impl Store {
         }
     }
 
+    // Why an end may not leave its guest, where nothing else speaks against it.
+    fn lift_refusal(&self, end: &NamedEnd) -> Option<Refusal>
+        requires { end.now.guest < length self.now.guests }
+        ensures { result ≡ first_of (last_reasons self.now end.now Lift) }
+    {
+        if is_in_set(&self.guests, end.guest as usize, end.handle) {
+            return Some(Refusal::LiftInSet);
+        }
+        None
+    }
+
+    // Why it may not go to another guest.
+    fn move_refusal(&self, end: &NamedEnd, to: u32) -> Option<Refusal>
+        requires from { end.now.guest < length self.now.guests }
+        requires to { to < length self.now.guests }
+        ensures { result ≡ first_of (last_reasons self.now end.now (Move to)) }
+    {
+        if is_in_set(&self.guests, end.guest as usize, end.handle) {
+            return Some(Refusal::LiftInSet);
+        }
+        if self.moved_index(end, to) >= MAX_HANDLE {
+            return Some(Refusal::IndexOverflow);
+        }
+        None
+    }
+
     // The stream whose end a handle of a guest names, where that end may go to another guest.
     #[tactic(auto, unfolding(strm_machine::specs::Refusals::refusal))]
     fn move_found(&self, side: Side, end: &NamedEnd, to: u32) -> Result<u32, Refusal>
@@ -89,12 +116,10 @@ impl Store {
             return Err(Refusal::UnknownGuest);
         }
         match self.found(side, end, EndAct::Move { to }) {
-            Ok(stream) => {
-                if self.moved_index(end, to) >= MAX_HANDLE {
-                    return Err(Refusal::IndexOverflow);
-                }
-                Ok(stream)
-            }
+            Ok(stream) => match self.move_refusal(end, to) {
+                Some(refusal) => Err(refusal),
+                None => Ok(stream),
+            },
             Err(refusal) => Err(refusal),
         }
     }
@@ -144,8 +169,8 @@ impl Store {
 
     /// Moves the read end of a stream to another guest, or to the same: its handle is freed, and the
     /// answer is the one that it gets there. Refused, after what is wrong with the guests and the
-    /// handle, are a busy end, one that was told that the write end is gone, and a table without a
-    /// number left.
+    /// handle, are a busy end, one that was told that the write end is gone, one that is in a waitable
+    /// set, and a table without a number left.
     pub fn stream_transfer(
         &mut self,
         guest: u32,
@@ -187,7 +212,13 @@ impl Store {
         if end.guest as usize >= self.guests.len() {
             return Err(Refusal::UnknownGuest);
         }
-        self.found(side, end, EndAct::Lift)
+        match self.found(side, end, EndAct::Lift) {
+            Ok(stream) => match self.lift_refusal(end) {
+                Some(refusal) => Err(refusal),
+                None => Ok(stream),
+            },
+            Err(refusal) => Err(refusal),
+        }
     }
 
     /// The end that a handle names leaves its guest, and its handle is freed: the answer is the
