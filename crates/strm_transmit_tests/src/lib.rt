@@ -7,6 +7,8 @@ mod cancels;
 mod making;
 #[cfg(test)]
 mod moves;
+#[cfg(test)]
+mod sets;
 
 use std::test::Fail;
 use strm_codes::codes::{ReturnCode, TransmitIndex};
