@@ -9,6 +9,8 @@ mod contexts;
 mod making;
 #[cfg(test)]
 mod moves;
+#[cfg(test)]
+mod sets;
 
 use std::test::Fail;
 use strm_codes::codes::{ReturnCode, TransmitIndex};

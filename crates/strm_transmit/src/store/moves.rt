@@ -96,13 +96,10 @@ impl Store {
         requires to { to < length self.now.guests }
         ensures { result ≡ first_of (last_reasons self.now end.now (Move to)) }
     {
-        if is_in_set(&self.guests, end.guest as usize, end.handle) {
-            return Some(Refusal::LiftInSet);
+        match self.lift_refusal(end) {
+            None if self.moved_index(end, to) >= MAX_HANDLE => Some(Refusal::IndexOverflow),
+            refusal => refusal,
         }
-        if self.moved_index(end, to) >= MAX_HANDLE {
-            return Some(Refusal::IndexOverflow);
-        }
-        None
     }
 
     // The stream whose end a handle of a guest names, where that end may go to another guest.
