@@ -62,6 +62,7 @@ module _ (old new : Inside) (s : ℕ) (side : Side) (owner : Owner) (l : s < len
     placed = rw e h.placed;
     small = rw e h.small;
     sets = rw e h.sets;
+    contexts = rw (e, o.same.contexts) h.contexts;
   }
 
   -- as many sets as there were
@@ -133,7 +134,7 @@ lowers-sound state reader g ty t e h = performs-sound state (OnLoose reader (Low
 -- the end of a stream went to a guest, under this handle
 module _ (old new : Inside) (s : ℕ) (side : Side) (end : NamedEnd) (to number : ℕ) (o : SetsOwner old new s side (Held to number)) (m : MovesHandle old new side end to s) (n : number ≡ next_in (without_handle (state_of old) end.guest end.handle) to) where
   pub moves-is : moves (state_of old) s side end to ≡ goes (replies.Number number) (state_of new)
-  moves-is = rw (o.same.tag, o.same.limits, o.same.trapped, m.guests, o.streams, n) refl
+  moves-is = rw (o.same.tag, o.same.limits, o.same.contexts, o.same.trapped, m.guests, o.streams, n) refl
 
   pub IsStore-moved : old.is_trapped ≡ false → refusal (state_of old) (OnEnd side end (Move to)) ≡ None → s ≡ stream_named (named (state_of old) end) → IsStore old → IsStore new
   IsStore-moved t e same i =
@@ -167,7 +168,7 @@ lower_made state reader g ty e = loose_made state reader (lower_fits state reade
 -- a loose end came into a guest, under this handle
 module _ (old new : Inside) (s g : ℕ) (ty : TransmitIndex) (number : ℕ) (o : SetsOwner old new s Reading (Held g number)) (m : GivesHandle old new Reading ty g s) (n : number ≡ next_in (state_of old) g) where
   pub lowers-is : lowers (state_of old) s g ty ≡ goes (replies.Number number) (state_of new)
-  lowers-is = rw (o.same.tag, o.same.limits, o.same.trapped, m.guests, o.streams, n) refl
+  lowers-is = rw (o.same.tag, o.same.limits, o.same.contexts, o.same.trapped, m.guests, o.streams, n) refl
 
   pub IsStore-lowered : old.is_trapped ≡ false → refusal (state_of old) (OnLoose s (Lower g ty)) ≡ None → IsStore old → IsStore new
   IsStore-lowered t e i =
