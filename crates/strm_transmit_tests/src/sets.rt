@@ -23,70 +23,36 @@ const LIMITS: Limits = Limits {
     places: 9,
 };
 
-// What a step is expected to tell.
-#[derive(Clone, Copy, Debug, PartialEq, Eq)]
-enum Told {
-    Done,
-    Number(u32),
-    Pair(u32, u32, u32),
-    Blocked,
-    Completed(u32),
-    Member(u32, u32),
-    Nobody,
-    Refused(Refusal),
-    Other,
-}
+const GONE: ReturnCode = ReturnCode::Dropped(ItemCount::ZERO);
 
-// So many items, of a code that tells of them.
-fn count_of(code: ReturnCode) -> Told {
-    match code {
-        ReturnCode::Blocked => Told::Blocked,
-        ReturnCode::Completed(items) => Told::Completed(items.as_u32()),
-        _ => Told::Other,
-    }
-}
-
-fn member_told(member: Member) -> Told {
-    match member.code {
-        ReturnCode::Completed(items) => Told::Member(member.handle, items.as_u32()),
-        _ => Told::Other,
-    }
-}
-
-fn told_by(reply: Reply) -> Told {
-    match reply {
-        Reply::Done => Told::Done,
-        Reply::Number(number) => Told::Number(number),
-        Reply::Pair(
-            Pair {
-                read,
-                write,
-                stream,
-            },
-        ) => Told::Pair(read, write, stream),
-        Reply::Code(code) => count_of(code),
-        Reply::Member(Some(member)) => member_told(member),
-        Reply::Member(None) => Told::Nobody,
-        Reply::Refused(refusal) => Told::Refused(refusal),
-        _ => Told::Other,
+// So many items were moved.
+fn completed(count: u32) -> ReturnCode {
+    match ItemCount::new(count) {
+        Ok(items) => ReturnCode::Completed(items),
+        Err(_) => ReturnCode::Blocked,
     }
 }
 
 // The first row that is not told so, from 1.
-fn first_wrong(alloc: Global, limits: Limits, rows: &[(Step, Told)]) -> usize {
+fn first_wrong(alloc: Global, limits: Limits, rows: &[(Step, Reply)]) -> usize {
     let mut store = Store::new(alloc, 0, limits);
     let mut at = 0usize;
-    for (step, expected) in rows {
+    for (step, reply) in rows {
         at = at.wrapping_add(1);
-        match apply(&mut store, step) {
-            Ok(reply) if told_by(reply) == *expected => {}
-            _ => return at,
+        if apply(&mut store, step) != Ok(*reply) {
+            return at;
         }
     }
     0
 }
 
-const GUEST: (Step, Told) = (Step::Guest { size: 16 }, Told::Number(0));
+const HANDLES: Reply = Reply::Pair(Pair {
+    read: 1,
+    write: 2,
+    stream: 0,
+});
+
+const GUEST: (Step, Reply) = (Step::Guest { size: 16 }, Reply::Number(0));
 
 const NEW: Step = Step::New {
     guest: 0,
@@ -133,23 +99,27 @@ fn join(set: u32, handle: u32) -> Step {
 /// set and its guest.
 #[test]
 fn both_ends_in_one_set(rt: HostRuntime) {
+    let told = Member {
+        handle: 2,
+        code: completed(1),
+    };
     let rows = [
         GUEST,
-        (NEW, Told::Pair(1, 2, 0)),
-        (SET_NEW, Told::Number(3)),
-        (join(3, 1), Told::Done),
-        (join(3, 2), Told::Done),
-        (POLL, Told::Nobody),
-        (WRITE, Told::Blocked),
-        (READ, Told::Completed(1)),
-        (POLL, Told::Member(2, 1)),
-        (POLL, Told::Nobody),
-        (DROP, Told::Refused(Refusal::SetNotEmpty)),
-        (LIFT, Told::Refused(Refusal::LiftInSet)),
-        (join(0, 1), Told::Done),
-        (join(0, 2), Told::Done),
-        (DROP, Told::Done),
-        (DROP, Told::Refused(Refusal::UnknownHandle)),
+        (NEW, HANDLES),
+        (SET_NEW, Reply::Number(3)),
+        (join(3, 1), Reply::Done),
+        (join(3, 2), Reply::Done),
+        (POLL, Reply::Member(None)),
+        (WRITE, Reply::Code(ReturnCode::Blocked)),
+        (READ, Reply::Code(completed(1))),
+        (POLL, Reply::Member(Some(told))),
+        (POLL, Reply::Member(None)),
+        (DROP, Reply::Refused(Refusal::SetNotEmpty)),
+        (LIFT, Reply::Refused(Refusal::LiftInSet)),
+        (join(0, 1), Reply::Done),
+        (join(0, 2), Reply::Done),
+        (DROP, Reply::Done),
+        (DROP, Reply::Refused(Refusal::UnknownHandle)),
     ];
     let wrong = first_wrong(rt.alloc(), LIMITS, &rows);
     assert_eq!(rt; wrong, 0);
@@ -160,15 +130,15 @@ fn both_ends_in_one_set(rt: HostRuntime) {
 fn refused_joins(rt: HostRuntime) {
     let rows = [
         GUEST,
-        (SET_NEW, Told::Number(1)),
-        (join(7, 7), Told::Refused(Refusal::UnknownHandle)),
-        (join(1, 7), Told::Refused(Refusal::UnknownHandle)),
-        (join(1, 1), Told::Refused(Refusal::WrongKind)),
-        (join(0, 1), Told::Refused(Refusal::WrongKind)),
-        (POLL, Told::Refused(Refusal::UnknownHandle)),
+        (SET_NEW, Reply::Number(1)),
+        (join(7, 7), Reply::Refused(Refusal::UnknownHandle)),
+        (join(1, 7), Reply::Refused(Refusal::UnknownHandle)),
+        (join(1, 1), Reply::Refused(Refusal::WrongKind)),
+        (join(0, 1), Reply::Refused(Refusal::WrongKind)),
+        (POLL, Reply::Refused(Refusal::UnknownHandle)),
         (
             Step::SetNew { guest: 1 },
-            Told::Refused(Refusal::UnknownGuest),
+            Reply::Refused(Refusal::UnknownGuest),
         ),
     ];
     let wrong = first_wrong(rt.alloc(), LIMITS, &rows);
@@ -184,17 +154,17 @@ fn places_of_sets(rt: HostRuntime) {
     };
     let rows = [
         GUEST,
-        (NEW, Told::Pair(1, 2, 0)),
-        (SET_NEW, Told::Refused(Refusal::Full)),
+        (NEW, HANDLES),
+        (SET_NEW, Reply::Refused(Refusal::Full)),
     ];
     let wrong = first_wrong(rt.alloc(), limits, &rows);
     assert_eq!(rt; wrong, 0);
     let set_first = [
         GUEST,
-        (SET_NEW, Told::Number(1)),
-        (NEW, Told::Refused(Refusal::Full)),
-        (Step::SetDrop { guest: 0, set: 1 }, Told::Done),
-        (NEW, Told::Pair(1, 2, 0)),
+        (SET_NEW, Reply::Number(1)),
+        (NEW, Reply::Refused(Refusal::Full)),
+        (Step::SetDrop { guest: 0, set: 1 }, Reply::Done),
+        (NEW, HANDLES),
     ];
     let wrong = first_wrong(rt.alloc(), limits, &set_first);
     assert_eq!(rt; wrong, 0);
@@ -209,14 +179,14 @@ fn handles_of_sets(rt: HostRuntime) {
     };
     let rows = [
         GUEST,
-        (Step::Guest { size: 0 }, Told::Number(1)),
-        (NEW, Told::Pair(1, 2, 0)),
+        (Step::Guest { size: 0 }, Reply::Number(1)),
+        (NEW, HANDLES),
         (
             Step::SetNew { guest: 1 },
-            Told::Refused(Refusal::HandleLimit),
+            Reply::Refused(Refusal::HandleLimit),
         ),
-        (LIFT, Told::Number(0)),
-        (Step::SetNew { guest: 1 }, Told::Number(1)),
+        (LIFT, Reply::Number(0)),
+        (Step::SetNew { guest: 1 }, Reply::Number(1)),
     ];
     let wrong = first_wrong(rt.alloc(), limits, &rows);
     assert_eq!(rt; wrong, 0);
@@ -236,11 +206,11 @@ fn numbers_of_sets(rt: HostRuntime) {
     };
     let rows = [
         GUEST,
-        (NEW, Told::Pair(1, 2, 0)),
-        (drop_read, Told::Done),
-        (event, Told::Refused(Refusal::UnknownHandle)),
-        (SET_NEW, Told::Number(1)),
-        (SET_NEW, Told::Number(3)),
+        (NEW, HANDLES),
+        (drop_read, Reply::Done),
+        (event, Reply::Refused(Refusal::UnknownHandle)),
+        (SET_NEW, Reply::Number(1)),
+        (SET_NEW, Reply::Number(3)),
     ];
     let wrong = first_wrong(rt.alloc(), LIMITS, &rows);
     assert_eq!(rt; wrong, 0);
@@ -250,8 +220,8 @@ fn numbers_of_sets(rt: HostRuntime) {
     };
     let one_handle = [
         GUEST,
-        (NEW, Told::Refused(Refusal::HandleLimit)),
-        (SET_NEW, Told::Number(1)),
+        (NEW, Reply::Refused(Refusal::HandleLimit)),
+        (SET_NEW, Reply::Number(1)),
     ];
     let wrong = first_wrong(rt.alloc(), limits, &one_handle);
     assert_eq!(rt; wrong, 0);
@@ -273,7 +243,7 @@ fn calls_of_sets(rt: HostRuntime) -> Result<(), Fail> {
     assert_eq!(rt; store.stream_drop_readable(0, BYTES, 1), Ok(()));
     let gone = Member {
         handle: 2,
-        code: ReturnCode::Dropped(ItemCount::ZERO),
+        code: GONE,
     };
     assert_eq!(rt; store.set_poll(0, 4), Ok(Some(gone)));
     assert_eq!(rt; store.set_poll(0, 4), Ok(None));
