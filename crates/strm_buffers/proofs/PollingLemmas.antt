@@ -62,15 +62,16 @@ stored_at-behind ss m a xs ys h =
     let there = stored-behind ss (drop a m) xs ys (omega (arith, h, length-drop a m)) in
     rw (first, last) (append_assoc (take a m) (take k rest) (stored ss (drop k rest) ys) ∙ ap (λ l. take a m ++ l) there)
 
--- the place with items, and then with more
-stored_in-behind : (payload : Payload) (place : Place) (prepared : Bool) (n : ℕ) (xs ys : List Item) → IsSoundPlace payload place prepared → HasRoom place n (length xs) → stored_in (scalars_of payload) (stored_in (scalars_of payload) place n xs) (n + length xs) ys ≡ stored_in (scalars_of payload) place n (xs ++ ys)
-stored_in-behind payload Between prepared n xs ys s h = refl
-stored_in-behind payload (Memory memory address room) prepared n xs ys s h =
-    let w = item_size (scalars_of payload) in
-    let sizes : w * (n + length xs) ≡ w * n + w * length xs = grind arith in
-    let fit : w * (n + length xs) ≤ w * room = mul-le-mul_left w h in
-    let place : address + w * (n + length xs) ≡ address + w * n + w * length xs = omega (arith, sizes) in
-    ap (λ m. Memory m address room) (rw place (stored_at-behind (scalars_of payload) memory (address + w * n) xs ys (omega (arith, sizes, fit, s.0))))
+module _ (payload : Payload) where
+  -- the place with items, and then with more
+  stored_in-behind : (place : Place) (prepared : Bool) (n : ℕ) (xs ys : List Item) → IsSoundPlace payload place prepared → HasRoom place n (length xs) → stored_in (scalars_of payload) (stored_in (scalars_of payload) place n xs) (n + length xs) ys ≡ stored_in (scalars_of payload) place n (xs ++ ys)
+  stored_in-behind Between prepared n xs ys s h = refl
+  stored_in-behind (Memory memory address room) prepared n xs ys s h =
+      let w = item_size (scalars_of payload) in
+      let sizes : w * (n + length xs) ≡ w * n + w * length xs = grind arith in
+      let fit : w * (n + length xs) ≤ w * room = mul-le-mul_left w h in
+      let place : address + w * (n + length xs) ≡ address + w * n + w * length xs = omega (arith, sizes) in
+      ap (λ m. Memory m address room) (rw place (stored_at-behind (scalars_of payload) memory (address + w * n) xs ys (omega (arith, sizes, fit, s.0))))
 
 -- room for so many is room for fewer
 pub room_fewer : (place : Place) (n k : ℕ) → HasRoom place 0 n → k ≤ n → HasRoom place 0 k
@@ -139,21 +140,22 @@ pub record TakenNext (o : Offered) (ss : List Scalar) (source : Source) (n : ℕ
   pub not_bad : o.bad ≡ false
   pub good : AreGood ss source n
 
-pub taken_next : (old o new : Offered) (n : ℕ) (x : Item) (next : Option Item) → SameOffer old o → TakenNext o (scalars_of old.payload) old.source n → next ≡ item_behind (scalars_of o.payload) o.source o.taken → next ≡ Some x → new ≡ after_next o next → SameOffer old new × TakenNext new (scalars_of old.payload) old.source (n + 1)
-taken_next old o new n x next s t e p a =
-    let is : new ≡ record o { taken = o.taken + 1 } = a ∙ ap (after_next o) p in
-    let there : item_behind (scalars_of old.payload) old.source n ≡ Some x = rw (← s.payload, ← s.source, ← t.taken) (sym e ∙ p) in (
-      record {
-        payload = ap (λ (y : Offered). y.payload) is ∙ s.payload;
-        source = ap (λ (y : Offered). y.source) is ∙ s.source;
-        since = ap (λ (y : Offered). y.since) is ∙ s.since;
-      },
-      record {
-        taken = ap (λ (y : Offered). y.taken) is ∙ ap (λ k. k + 1) t.taken;
-        not_bad = ap (λ (y : Offered). y.bad) is ∙ t.not_bad;
-        good = good_next (scalars_of old.payload) old.source n x t.good there;
-      },
-    )
+module _ (old o new : Offered) (n : ℕ) (x : Item) (next : Option Item) where
+  pub taken_next : SameOffer old o → TakenNext o (scalars_of old.payload) old.source n → next ≡ item_behind (scalars_of o.payload) o.source o.taken → next ≡ Some x → new ≡ after_next o next → SameOffer old new × TakenNext new (scalars_of old.payload) old.source (n + 1)
+  taken_next s t e p a =
+      let is : new ≡ record o { taken = o.taken + 1 } = a ∙ ap (after_next o) p in
+      let there : item_behind (scalars_of old.payload) old.source n ≡ Some x = rw (← s.payload, ← s.source, ← t.taken) (sym e ∙ p) in (
+        record {
+          payload = ap (λ (y : Offered). y.payload) is ∙ s.payload;
+          source = ap (λ (y : Offered). y.source) is ∙ s.source;
+          since = ap (λ (y : Offered). y.since) is ∙ s.since;
+        },
+        record {
+          taken = ap (λ (y : Offered). y.taken) is ∙ ap (λ k. k + 1) t.taken;
+          not_bad = ap (λ (y : Offered). y.bad) is ∙ t.not_bad;
+          good = good_next (scalars_of old.payload) old.source n x t.good there;
+        },
+      )
 
 -- as many items as were taken
 pub length-first_lent : (ss : List Scalar) (source : Source) (n : ℕ) → AreGood ss source n → length (first_lent ss source n) ≡ n

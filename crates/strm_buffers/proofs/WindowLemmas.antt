@@ -83,8 +83,16 @@ module _ (payload : Payload) (bytes kept : List ℕ) (space address marked : ℕ
   pub put_inside : (r at : ℕ) → IsWindow payload bytes kept space address (Some r) marked prepared → marked + 1 ≤ r → at ≡ address + item_size (scalars_of payload) * marked → at + item_size (scalars_of payload) ≤ length bytes
   put_inside r at w h e = omega (arith, e, item_fits marked r (item_size (scalars_of payload)) (omega (arith, h)), w.inside.1)
 
+  -- one item more is marked, of a window of this room
+  abbrev MarksOne : Option ℕ → List ℕ → Item → Type 0
+  MarksOne room new x = Kept payload new kept space address room (marked + 1) prepared (with_items (window_kept payload bytes kept address room marked prepared) (x ∷ []))
+
+  -- bytes with as many behind them, zero, as an item has
+  abbrev longer : ℕ → List ℕ
+  longer at = take at bytes ++ replicate (item_size (scalars_of payload)) 0
+
   pub put_memory : (r at : ℕ) (new : List ℕ) (x : Item) → IsWindow payload bytes kept space address (Some r) marked prepared → FitsItem (scalars_of payload) x → marked + 1 ≤ r → at ≡ address + item_size (scalars_of payload) * marked
-      → new ≡ stored_at (scalars_of payload) bytes at (x ∷ []) → Kept payload new kept space address (Some r) (marked + 1) prepared (with_items (window_kept payload bytes kept address (Some r) marked prepared) (x ∷ []))
+      → new ≡ stored_at (scalars_of payload) bytes at (x ∷ []) → MarksOne (Some r) new x
   put_memory r given new x win f h e s =
       let ss = scalars_of payload in
       let w = item_size ss in
@@ -119,7 +127,7 @@ module _ (payload : Payload) (bytes kept : List ℕ) (space address marked : ℕ
       }
 
   pub put_between : (at : ℕ) (new : List ℕ) (x : Item) → IsWindow payload bytes kept space address None marked prepared → FitsItem (scalars_of payload) x → marked + 1 < 4294967295 → at ≡ address + item_size (scalars_of payload) * marked
-      → new ≡ stored_at (scalars_of payload) (take at bytes ++ replicate (item_size (scalars_of payload)) 0) at (x ∷ []) → Kept payload new kept space address None (marked + 1) prepared (with_items (window_kept payload bytes kept address None marked prepared) (x ∷ []))
+      → new ≡ stored_at (scalars_of payload) (longer at) at (x ∷ []) → MarksOne None new x
   put_between at new x w f h e s =
       let ss = scalars_of payload in
       let p = pushed ss bytes new address marked at x w.lie f e (omega (arith, e, w.lie.within)) s in
@@ -142,32 +150,32 @@ module _ (payload : Payload) (bytes kept : List ℕ) (space address marked : ℕ
   room_kept None i = omega (arith, i.1)
   room_kept (Some r) i = omega (arith, i.0)
 
-  -- the same of a window, whichever its room
-  pub put_some : (r at : ℕ) (room : Option ℕ) (new : List ℕ) (x : Item) (v : Lent) → room ≡ Some r → IsWindow payload bytes kept space address room marked prepared → window_kept payload bytes kept address room marked prepared ≡ v → FitsItem (scalars_of v.payload) x → HasRoom v.place (length v.marked) 1 → at ≡ address + item_size (scalars_of payload) * marked
-      → new ≡ stored_at (scalars_of payload) bytes at (x ∷ []) → Kept payload new kept space address room (marked + 1) prepared (with_items v (x ∷ []))
-  put_some r at room new x v o w e f h n s =
-      let w' = subst (λ (q : Option ℕ). IsWindow payload bytes kept space address q marked prepared) o w in
-      let e' = subst (λ (q : Option ℕ). window_kept payload bytes kept address q marked prepared ≡ v) o e in
-      let f' = subst (λ (u : Lent). FitsItem (scalars_of u.payload) x) (sym e) f in
-      let k = put_memory r at new x w' f' (room_memory r v w' e' h) n s in
-      subst (λ (q : Option ℕ). Kept payload new kept space address q (marked + 1) prepared (with_items v (x ∷ []))) (sym o)
-      (record { is_window = k.is_window; is = k.is ∙ ap (λ (u : Lent). with_items u (x ∷ [])) e' })
+  -- one item more of a window, whichever its room
+  module _ (room : Option ℕ) (v : Lent) (w : IsWindow payload bytes kept space address room marked prepared) (e : window_kept payload bytes kept address room marked prepared ≡ v) (h : HasRoom v.place (length v.marked) 1) (at : ℕ) (n : at ≡ address + item_size (scalars_of payload) * marked) where
+    pub put_some : (r : ℕ) (new : List ℕ) (x : Item) → room ≡ Some r → FitsItem (scalars_of v.payload) x
+        → new ≡ stored_at (scalars_of payload) bytes at (x ∷ []) → Kept payload new kept space address room (marked + 1) prepared (with_items v (x ∷ []))
+    put_some r new x o f s =
+        let w' = subst (λ (q : Option ℕ). IsWindow payload bytes kept space address q marked prepared) o w in
+        let e' = subst (λ (q : Option ℕ). window_kept payload bytes kept address q marked prepared ≡ v) o e in
+        let f' = subst (λ (u : Lent). FitsItem (scalars_of u.payload) x) (sym e) f in
+        let k = put_memory r at new x w' f' (room_memory r v w' e' h) n s in
+        subst (λ (q : Option ℕ). Kept payload new kept space address q (marked + 1) prepared (with_items v (x ∷ []))) (sym o)
+        (record { is_window = k.is_window; is = k.is ∙ ap (λ (u : Lent). with_items u (x ∷ [])) e' })
 
-  pub put_none : (at : ℕ) (room : Option ℕ) (new : List ℕ) (x : Item) (v : Lent) → room ≡ None → IsWindow payload bytes kept space address room marked prepared → window_kept payload bytes kept address room marked prepared ≡ v → FitsItem (scalars_of v.payload) x → HasRoom v.place (length v.marked) 1 → at ≡ address + item_size (scalars_of payload) * marked
-      → new ≡ stored_at (scalars_of payload) (take at bytes ++ replicate (item_size (scalars_of payload)) 0) at (x ∷ []) → Kept payload new kept space address room (marked + 1) prepared (with_items v (x ∷ []))
-  put_none at room new x v o w e f h n s =
-      let w' = subst (λ (q : Option ℕ). IsWindow payload bytes kept space address q marked prepared) o w in
-      let e' = subst (λ (q : Option ℕ). window_kept payload bytes kept address q marked prepared ≡ v) o e in
-      let f' = subst (λ (u : Lent). FitsItem (scalars_of u.payload) x) (sym e) f in
-      let k = put_between at new x w' f' (room_between v w' e' h) n s in
-      subst (λ (q : Option ℕ). Kept payload new kept space address q (marked + 1) prepared (with_items v (x ∷ []))) (sym o)
-      (record { is_window = k.is_window; is = k.is ∙ ap (λ (u : Lent). with_items u (x ∷ [])) e' })
+    pub put_none : (new : List ℕ) (x : Item) → room ≡ None → FitsItem (scalars_of v.payload) x
+        → new ≡ stored_at (scalars_of payload) (longer at) at (x ∷ []) → Kept payload new kept space address room (marked + 1) prepared (with_items v (x ∷ []))
+    put_none new x o f s =
+        let w' = subst (λ (q : Option ℕ). IsWindow payload bytes kept space address q marked prepared) o w in
+        let e' = subst (λ (q : Option ℕ). window_kept payload bytes kept address q marked prepared ≡ v) o e in
+        let f' = subst (λ (u : Lent). FitsItem (scalars_of u.payload) x) (sym e) f in
+        let k = put_between at new x w' f' (room_between v w' e' h) n s in
+        subst (λ (q : Option ℕ). Kept payload new kept space address q (marked + 1) prepared (with_items v (x ∷ []))) (sym o)
+        (record { is_window = k.is_window; is = k.is ∙ ap (λ (u : Lent). with_items u (x ∷ [])) e' })
 
-  -- where the item goes, and that the marked ones can be counted
-  pub some_inside : (r at : ℕ) (room : Option ℕ) (v : Lent) → room ≡ Some r → IsWindow payload bytes kept space address room marked prepared → window_kept payload bytes kept address room marked prepared ≡ v → HasRoom v.place (length v.marked) 1 → at ≡ address + item_size (scalars_of payload) * marked
-      → (marked + 1 < 4294967296) × (at + item_size (scalars_of payload) ≤ length bytes)
-  some_inside r at room v o w e h n =
-      let w' = subst (λ (q : Option ℕ). IsWindow payload bytes kept space address q marked prepared) o w in
-      let e' = subst (λ (q : Option ℕ). window_kept payload bytes kept address q marked prepared ≡ v) o e in
-      let r' = room_memory r v w' e' h in
-      (omega (arith, r', w'.inside.2), put_inside r at w' r' n)
+    -- where the item goes, and that the marked ones can be counted
+    pub some_inside : (r : ℕ) → room ≡ Some r → (marked + 1 < 4294967296) × (at + item_size (scalars_of payload) ≤ length bytes)
+    some_inside r o =
+        let w' = subst (λ (q : Option ℕ). IsWindow payload bytes kept space address q marked prepared) o w in
+        let e' = subst (λ (q : Option ℕ). window_kept payload bytes kept address q marked prepared ≡ v) o e in
+        let r' = room_memory r v w' e' h in
+        (omega (arith, r', w'.inside.2), put_inside r at w' r' n)
