@@ -10,14 +10,18 @@ mod filled;
 mod guests;
 mod rounds;
 mod tables;
+mod windows;
 
 use crate::copies::{COUNTS, Copies};
 use crate::filled::{COUNT, Filled};
+use crate::windows::ITEMS;
 use std::time::Instant;
 use std::{env, io};
 use strm_codes::counts::ItemCount;
 use strm_codes::payloads::Payload;
 use strm_codes::scalars::Scalar;
+use strm_memory::memories::GuestMemory;
+use strm_memory::payloaded::Payloaded;
 
 /// Turns without an argument: about a million inserts and as many removals.
 const TURNS: u32 = 2_000_000;
@@ -48,7 +52,11 @@ fn main(rt: HostRuntime) -> io::Result<()> {
             time_copies(&rt, name, payload, count, turns)?;
         }
     }
-    Ok(())
+    for room in windows::ROOMS {
+        time_windows(&rt, room)?;
+    }
+    time_items(&rt, "u32", 70_000u32)?;
+    time_items(&rt, "(u8,u32)", (7u8, 70_000u32))
 }
 
 // The payload of a word, bytes if it is none: the compiler does not know which.
@@ -148,4 +156,48 @@ fn time_copies(
         }
         Err(error) => eprintln!(rt; "{error:?}"),
     }
+}
+
+// Bytes through windows of so much room, beside copies of as many each.
+fn time_windows(rt: &HostRuntime, room: u32) -> io::Result<()> {
+    let alloc = rt.alloc();
+    let source = GuestMemory::new(alloc, windows::BYTES);
+    let memory = GuestMemory::new(alloc, windows::BYTES);
+    let (Ok(source), Ok(mut memory)) = (source, memory) else {
+        return eprintln!(rt; "no memory");
+    };
+    for _ in 0..4 {
+        let start = Instant::now(rt)?;
+        windows::copy_bytes(&mut memory, source.bytes(), room);
+        let copied = start.elapsed(rt)?.as_nanos();
+        let start = Instant::now(rt)?;
+        memory = match windows::pass_bytes(memory, source.bytes(), room) {
+            Ok(memory) => memory,
+            Err(error) => return eprintln!(rt; "{error:?}"),
+        };
+        let passed = start.elapsed(rt)?.as_nanos();
+        eprintln!(rt; "16 MiB in windows of {room}: {passed} ns, copied: {copied} ns")?;
+    }
+    let len = memory.len();
+    println!(rt; "passed {len} in windows of {room}")
+}
+
+// One item, put into a window and taken from an offer again and again.
+fn time_items<T: Payloaded>(rt: &HostRuntime, name: &str, value: T) -> io::Result<()> {
+    let mut window = match windows::new_window(rt.alloc(), T::payload()) {
+        Ok(window) => window,
+        Err(error) => return eprintln!(rt; "{error:?}"),
+    };
+    let item = value.lower();
+    let start = Instant::now(rt)?;
+    windows::put_all(&mut window, &item);
+    let put = start.elapsed(rt)?.as_nanos().saturating_mul(1000) / u128::from(ITEMS);
+    let Some(mut offer) = windows::offer_of(window) else {
+        return eprintln!(rt; "no offer");
+    };
+    let start = Instant::now(rt)?;
+    let count = windows::take_all(&mut offer);
+    let taken = start.elapsed(rt)?.as_nanos().saturating_mul(1000) / u128::from(ITEMS);
+    println!(rt; "took {count} of {name}")?;
+    eprintln!(rt; "put {name}: {put} ps, next: {taken} ps")
 }

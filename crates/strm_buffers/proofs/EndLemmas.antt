@@ -4,7 +4,12 @@ use Rattle.std.proofs.lemmas.List.{take_all, drop_all}
 use Rattle.strm_codes.specs.Layout.{scalars_of, item_size}
 use Rattle.strm_codes.specs.declared.scalars.Scalar.{Scalar}
 use Rattle.strm_memory.proofs.RegionLemmas.{stored_at-nil}
-use Rattle.strm_buffers.specs.Said.{in_room, past_room}
+use Rattle.strm_buffers.specs.Said.{in_room, past_room, answer_of_result, turn_of, IfAnswered, IfNoMemory}
+use Rattle.strm_codes.specs.declared.codes.StreamResult.{StreamResult}
+use Rattle.strm_buffers.specs.declared.answers.Turn.{Turn}
+use Rattle.strm_buffers.specs.declared.answers.Turn.TheVariants as turn
+use Rattle.strm_buffers.specs.declared.answers.Answer.{Answer}
+use Rattle.strm_buffers.specs.declared.answers.Answer.TheVariants.{Pending, Completed, Cancelled, Dropped, Failed}
 use Rattle.strm_buffers.specs.Windows.{Lent, Place, Memory, Between, stored_in}
 use Rattle.strm_buffers.specs.Tells.{Fills}
 
@@ -29,3 +34,26 @@ in_room-nil (Some n) = take_all n [] (omega arith)
 pub past_room-nil : (room : Option ℕ) → past_room room [] ≡ []
 past_room-nil None = refl
 past_room-nil (Some n) = drop_all n [] (omega arith)
+
+-- what holds of an answer holds of its turn
+pub IfAnswered-turn_of : (a : Answer) (P : Answer → Type 0) → P a → IfAnswered (turn_of a) P
+IfAnswered-turn_of Pending P p = p
+IfAnswered-turn_of Completed P p = p
+IfAnswered-turn_of Cancelled P p = p
+IfAnswered-turn_of Dropped P p = p
+IfAnswered-turn_of Failed P p = p
+
+-- a turn that has an answer is no want of memory
+pub IfNoMemory-turn_of : (a : Answer) (P : Type 0) → IfNoMemory (turn_of a) P
+IfNoMemory-turn_of Pending P = tt
+IfNoMemory-turn_of Completed P = tt
+IfNoMemory-turn_of Cancelled P = tt
+IfNoMemory-turn_of Dropped P = tt
+IfNoMemory-turn_of Failed P = tt
+
+-- what follows from what holds of the answer of a turn
+pub IfAnswered-then : (turn : Turn StreamResult) (P Q : Answer → Type 0) → ((a : Answer) → P a → Q a) → IfAnswered turn P → IfAnswered turn Q
+IfAnswered-then turn.Pending P Q f p = f Pending p
+IfAnswered-then (turn.Ready r) P Q f p = f (answer_of_result r) p
+IfAnswered-then turn.Failed P Q f p = f Failed p
+IfAnswered-then turn.NoMemory P Q f p = tt

@@ -151,3 +151,12 @@ kept_length payload bytes new start len v k e n =
     let size : length new ≡ length bytes - start = ap length n ∙ length-drop start bytes in
     let count = length-items_in (scalars_of payload) bytes start len k.lie in
     rw (← e, count) (omega (arith, size, k.all))
+
+-- the same items, kept from their first byte on
+pub kept_again : (payload : Payload) (bytes new : List ℕ) (start len : ℕ) (v : TypedItems) → AreKept payload bytes start len → kept_items payload bytes start len ≡ v → new ≡ drop start bytes → AreKept payload new 0 len × (kept_items payload new 0 len ≡ v)
+kept_again payload bytes new start len v k e n =
+    let ss = scalars_of payload in
+    let size : length new ≡ length bytes - start = ap length n ∙ length-drop start bytes in
+    let there = lie_same ss bytes new start 0 len k.lie (ap (take (item_size ss * len)) n) (omega (arith, size, k.all)) in
+    let items = there.is in
+    (record { all = omega (arith, size, k.all); lie = there.lie; few = k.few }, cc (items, e))

@@ -37,10 +37,11 @@ listed_bytes bytes rest xs taken e n r =
     ap listed (items-bytes bytes (length xs) (omega (arith, n))) ∙ ap byte_items (take_all (length xs) bytes (omega (arith, n))) in
     ap byte_items r ∙ sym (drop-map _ taken bytes) ∙ ap (drop taken) (sym all ∙ e)
 
-pub direct_list : (payload : Payload) (source : Source) (listing : TypedItems) (bytes rest : List ℕ) (taken : ℕ) → IsSource payload source → payload ≡ One U8 → source ≡ Listed listing → items_in (scalars_of listing.payload) bytes 0 (length listing.items) ≡ listing.items → length bytes ≡ item_size (scalars_of listing.payload) * length listing.items → rest ≡ drop taken bytes → Shows source taken rest
-direct_list payload source listing bytes rest taken h p o e n r =
-    let h' = subst (λ (s : Source). IsSource payload s) o h in
-    let q : listing.payload ≡ One U8 = h'.0 ∙ p in
-    let e' = subst (λ (u : Payload). items_in (scalars_of u) bytes 0 (length listing.items) ≡ listing.items) q e in
-    let n' : length bytes ≡ 1 * length listing.items = subst (λ (u : Payload). length bytes ≡ item_size (scalars_of u) * length listing.items) q n in
-    subst (λ (s : Source). Shows s taken rest) (sym o) (listed_bytes bytes rest listing.items taken e' (omega (arith, n')) r)
+module _ (payload : Payload) (source : Source) (listing : TypedItems) (bytes rest : List ℕ) (taken : ℕ) (h : IsSource payload source) (p : payload ≡ One U8) (o : source ≡ Listed listing) where
+  pub direct_list : items_in (scalars_of listing.payload) bytes 0 (length listing.items) ≡ listing.items → length bytes ≡ item_size (scalars_of listing.payload) * length listing.items → rest ≡ drop taken bytes → Shows source taken rest
+  direct_list e n r =
+      let h' = subst (λ (s : Source). IsSource payload s) o h in
+      let q : listing.payload ≡ One U8 = h'.0 ∙ p in
+      let e' = subst (λ (u : Payload). items_in (scalars_of u) bytes 0 (length listing.items) ≡ listing.items) q e in
+      let n' : length bytes ≡ 1 * length listing.items = subst (λ (u : Payload). length bytes ≡ item_size (scalars_of u) * length listing.items) q n in
+      subst (λ (s : Source). Shows s taken rest) (sym o) (listed_bytes bytes rest listing.items taken e' (omega (arith, n')) r)

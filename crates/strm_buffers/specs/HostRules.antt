@@ -1,17 +1,12 @@
 -- The rules that a host end owes, said of one record and the kind of its stream. Ours: wasmtime
 -- answers a broken rule by an error or a panic, or rules it out by its types.
-use Rattle.std.specs.Prelude.{◌≡◌, ℕ, ◌==◌, Bool, true, false, ◌&&◌, ◌||◌, not, List, length, nat_lt, nat_le, Option, Some, None}
+use Rattle.std.specs.Prelude.{ℕ, ◌==◌, Bool, true, false, ◌&&◌, ◌||◌, not, length, nat_lt, nat_le, Option, Some, None}
 use Rattle.strm_codes.specs.declared.codes.TransmitKind.{TransmitKind}
 use Rattle.strm_codes.specs.declared.codes.TransmitKind.TheVariants.{Stream, Future}
 use Rattle.strm_buffers.specs.declared.answers.Answer.{Answer}
 use Rattle.strm_buffers.specs.declared.answers.Answer.TheVariants.{Pending, Completed, Cancelled, Dropped, Failed}
 use Rattle.strm_buffers.specs.declared.answers.ReaderSaid.{ReaderSaid}
-use Rattle.strm_buffers.specs.Listing.{Item}
 use Rattle.strm_buffers.specs.Said.{WriterSaid}
-
--- there are items
-abbrev pub has_items : List Item → Bool
-has_items items = nat_lt 0 (length items)
 
 -- room is stated, for two items or more
 abbrev pub is_for_two : Option ℕ → Bool
@@ -19,20 +14,20 @@ is_for_two (Some room) = nat_le 2 room
 is_for_two None = false
 
 -- a writer breaks its rules by this answer, in a poll with this room that was asked to finish or
--- not, with these items
-abbrev pub writer_breaks : TransmitKind → Answer → Option ℕ → Bool → List Item → Bool
+-- not, and in which it produced so many items
+abbrev pub writer_breaks : TransmitKind → Answer → Option ℕ → Bool → ℕ → Bool
 -- Pending with items
-writer_breaks kind Pending room finish items = has_items items
+writer_breaks kind Pending room finish produced = nat_lt 0 produced
 -- Cancelled with items, or without being asked to finish
-writer_breaks kind Cancelled room finish items = has_items items || not finish
+writer_breaks kind Cancelled room finish produced = nat_lt 0 produced || not finish
 -- on a stream, Completed without items where there was room for two
-writer_breaks Stream Completed room finish items = not (has_items items) && is_for_two room
+writer_breaks Stream Completed room finish produced = (produced == 0) && is_for_two room
 -- on a future, Completed with another number of items than one
-writer_breaks Future Completed room finish items = not (length items == 1)
+writer_breaks Future Completed room finish produced = not (produced == 1)
 -- on a future, Dropped
-writer_breaks Stream Dropped room finish items = false
-writer_breaks Future Dropped room finish items = true
-writer_breaks kind Failed room finish items = false
+writer_breaks Stream Dropped room finish produced = false
+writer_breaks Future Dropped room finish produced = true
+writer_breaks kind Failed room finish produced = false
 
 -- no item was taken in this poll, nor since the end was last ready
 abbrev pub is_untouched : ℕ → ℕ → Bool
@@ -55,18 +50,10 @@ reader_breaks Stream Dropped offered since finish taken = false
 reader_breaks Future Dropped offered since finish taken = true
 reader_breaks kind Failed offered since finish taken = false
 
--- the same of a record
+-- the record of a writer of this kind breaks the rules
 abbrev pub breaks_as_writer : TransmitKind → WriterSaid → Bool
-breaks_as_writer kind said = writer_breaks kind said.answer said.room said.finish said.items
-
--- and of a reader end's
-abbrev pub breaks_as_reader : TransmitKind → ReaderSaid → Bool
-breaks_as_reader kind said = reader_breaks kind said.answer said.offered said.since said.finish said.taken
-
--- the record of a writer, or of a reader end, obeys the rules
-abbrev pub ObeysAsWriter : TransmitKind → WriterSaid → Type 0
-ObeysAsWriter kind said = breaks_as_writer kind said ≡ false
+breaks_as_writer kind said = writer_breaks kind said.answer said.room said.finish (length said.items)
 
 -- and of a reader end
-abbrev pub ObeysAsReader : TransmitKind → ReaderSaid → Type 0
-ObeysAsReader kind said = breaks_as_reader kind said ≡ false
+abbrev pub breaks_as_reader : TransmitKind → ReaderSaid → Bool
+breaks_as_reader kind said = reader_breaks kind said.answer said.offered said.since said.finish said.taken

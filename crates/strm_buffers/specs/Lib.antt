@@ -1,7 +1,11 @@
 pub mod Buffers
 pub mod Listing
 pub mod Windows
+pub mod Keeping
+pub mod Lending
 pub mod Offers
 pub mod Said
 pub mod HostRules
 pub mod Tells
+pub mod Polling
+pub mod Untyped

@@ -32,6 +32,14 @@ answer_of_result result.Completed = answer.Completed
 answer_of_result result.Cancelled = answer.Cancelled
 answer_of_result result.Dropped = answer.Dropped
 
+-- the turn that has this answer
+abbrev pub turn_of : Answer → Turn StreamResult
+turn_of answer.Pending = Pending
+turn_of answer.Completed = Ready result.Completed
+turn_of answer.Cancelled = Ready result.Cancelled
+turn_of answer.Dropped = Ready result.Dropped
+turn_of answer.Failed = Failed
+
 -- what holds of the answer of a turn; want of memory is none
 abbrev pub IfAnswered : Turn StreamResult → (Answer → Type 0) → Type 0
 IfAnswered Pending P = P answer.Pending

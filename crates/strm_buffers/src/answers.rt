@@ -3,7 +3,12 @@
 //! Source: wasmtime, `futures_and_streams.rs`, `StreamResult` behind a `Poll` of a `Result`. The
 //! record is ours.
 
+ghost use Rattle.std.specs.Prelude.{◌≡◌};
+ghost use Rattle.strm_buffers.specs.Said.{turn_of};
+ghost use Rattle.strm_buffers.specs.HostRules.{is_for_two, writer_breaks, breaks_as_reader};
+
 pub use strm_codes::codes::StreamResult;
+use strm_codes::codes::TransmitKind;
 
 /// What a poll answers.
 #[derive(Clone, Copy, Debug, PartialEq, Eq)]
@@ -36,6 +41,53 @@ pub enum Answer {
     Failed,
 }
 
+impl Answer {
+    /// The turn of a poll that has this answer.
+    pub fn turn(self) -> HostTurn
+        ensures { result ≡ turn_of self }
+    {
+        match self {
+            Answer::Pending => Turn::Pending,
+            Answer::Completed => Turn::Ready(StreamResult::Completed),
+            Answer::Cancelled => Turn::Ready(StreamResult::Cancelled),
+            Answer::Dropped => Turn::Ready(StreamResult::Dropped),
+            Answer::Failed => Turn::Failed,
+        }
+    }
+
+    /// Whether a host writer of this kind breaks the rules by this answer to a poll with this room,
+    /// in which it produced so many items.
+    pub fn breaks_as_writer(
+        self,
+        kind: TransmitKind,
+        room: Option<u32>,
+        finish: bool,
+        produced: usize,
+    ) -> bool
+        ensures { result ≡ writer_breaks kind self room finish produced }
+    {
+        match (self, kind) {
+            (Answer::Pending, _) => produced > 0,
+            (Answer::Cancelled, _) => produced > 0 || !finish,
+            (Answer::Completed, TransmitKind::Stream) => produced == 0 && is_for_two(room),
+            (Answer::Completed, TransmitKind::Future) => produced != 1,
+            (Answer::Dropped, TransmitKind::Stream) => false,
+            (Answer::Dropped, TransmitKind::Future) => true,
+            (Answer::Failed, _) => false,
+        }
+    }
+}
+
+// Whether room is stated, for two items or more.
+fn is_for_two(room: Option<u32>) -> bool
+    ensures { result ≡ is_for_two room }
+{
+    match room {
+        Some(room) => room >= 2,
+        None => false,
+    }
+}
+
 /// One poll of a host reader end. Counts are in items.
 #[derive(Clone, Copy, Debug, PartialEq, Eq)]
 pub struct ReaderSaid {
@@ -50,4 +102,23 @@ pub struct ReaderSaid {
     /// Whether it asked for an item that is none.
     pub bad: bool,
     pub answer: Answer,
+}
+
+impl ReaderSaid {
+    /// Whether a host reader end of this kind broke the rules in this poll.
+    pub fn breaks_rules(&self, kind: TransmitKind) -> bool
+        ensures { result ≡ breaks_as_reader kind self.now }
+    {
+        let is_untouched = self.taken == 0 && self.since == 0;
+        match (self.answer, kind) {
+            (Answer::Pending, _) => false,
+            (Answer::Cancelled, TransmitKind::Stream) => !self.finish,
+            (Answer::Cancelled, TransmitKind::Future) => !self.finish || !is_untouched,
+            (Answer::Completed, TransmitKind::Stream) => self.offered > 0 && is_untouched,
+            (Answer::Completed, TransmitKind::Future) => is_untouched,
+            (Answer::Dropped, TransmitKind::Stream) => false,
+            (Answer::Dropped, TransmitKind::Future) => true,
+            (Answer::Failed, _) => false,
+        }
+    }
 }

@@ -9,7 +9,7 @@ ghost use Rattle.std.specs.Mem.{FitsInMemory};
 use std::alloc::Global;
 
 /// What items are taken from, in order.
-pub trait WriteBuffer<T: Copy> {
+pub trait WriteBuffer<T> {
     ghost use Rattle.std.specs.Prelude.{List};
 
     // The items that are left.
@@ -45,7 +45,7 @@ pub trait WriteBuffer<T: Copy> {
 }
 
 /// What items are put into, in order.
-pub trait ReadBuffer<T: Copy> {
+pub trait ReadBuffer<T> {
     ghost use Rattle.std.specs.Prelude.{ℕ, List};
 
     // The items that were put.
@@ -73,7 +73,7 @@ pub trait ReadBuffer<T: Copy> {
         ensures room { room self.old ≤ room self.new + count };
 }
 
-impl<T: Copy> WriteBuffer<T> for Option<T> {
+impl<T: Drop> WriteBuffer<T> for Option<T> {
     ghost use Rattle.strm_buffers.specs.Buffers.{option_items};
 
     ghost items = { option_items };
@@ -99,17 +99,14 @@ impl<T: Copy> WriteBuffer<T> for Option<T> {
     }
 
     fn take_first(&mut self) -> T {
-        match *self {
-            Some(item) => {
-                *self = None;
-                item
-            }
+        match Option::take(self) {
+            Some(item) => item,
             None => unreachable!(),
         }
     }
 }
 
-impl<T: Copy> ReadBuffer<T> for Option<T> {
+impl<T: Drop> ReadBuffer<T> for Option<T> {
     ghost use Rattle.strm_buffers.specs.Buffers.{option_items, option_room};
 
     ghost items = { option_items };
@@ -123,13 +120,13 @@ impl<T: Copy> ReadBuffer<T> for Option<T> {
         }
     }
 
-    fn extend(&mut self, more: Vec<T>)
+    fn extend(&mut self, mut more: Vec<T>)
         requires { length more.items ≤ option_room self.old }
         ensures items { option_items self.new ≡ option_items self.old ++ more.items }
         ensures room { option_room self.old ≤ option_room self.new + length more.items }
     {
-        if more.len() > 0 {
-            *self = Some(more[0]);
+        if let Some(item) = more.pop() {
+            *self = Some(item);
         }
     }
 
@@ -140,7 +137,7 @@ impl<T: Copy> ReadBuffer<T> for Option<T> {
     }
 }
 
-impl<T: Copy> ReadBuffer<T> for Vec<T> {
+impl<T: Drop> ReadBuffer<T> for Vec<T> {
     ghost items = { λ v. v.items };
 
     ghost room = { λ v. vec_capacity v - vec_len v };
@@ -149,13 +146,13 @@ impl<T: Copy> ReadBuffer<T> for Vec<T> {
         self.capacity() - self.len()
     }
 
-    fn extend(&mut self, more: Vec<T>)
+    fn extend(&mut self, mut more: Vec<T>)
         requires { length more.items ≤ vec_capacity self.old - vec_len self.old }
         ensures items { self.new.items ≡ self.old.items ++ more.items }
         ensures room { vec_capacity self.old - vec_len self.old
             ≤ vec_capacity self.new - vec_len self.new + length more.items }
     {
-        match self.extend_from_slice(&more) {
+        match self.append(&mut more) {
             Ok(()) => {}
             Err(_) => unreachable!(),
         }

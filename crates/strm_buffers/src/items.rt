@@ -2,12 +2,13 @@
 //!
 //! Source: ours. Layout: Canonical ABI, "Loading" and "Storing".
 
-ghost use Rattle.std.specs.Prelude.{◌≡◌, ℕ, ◌+◌, ◌*◌, ◌<◌, ◌≤◌, [], ◌∷◌, ◌++◌, length, take, drop, replicate, slice_get, Some, IfOk, OnOk, OnErr};
+ghost use Rattle.std.specs.Prelude.{◌≡◌, ℕ, ◌+◌, ◌*◌, ◌^◌, ◌<◌, ◌≤◌, [], ◌∷◌, ◌++◌, length, take, drop, replicate, slice_get, Some, IfOk, OnOk, OnErr};
 ghost use Rattle.strm_codes.specs.Layout.{scalars_of, item_size};
 ghost use Rattle.strm_codes.specs.Items.{FitsItem};
-ghost use Rattle.strm_memory.specs.Items.{stored_at};
+ghost use Rattle.strm_memory.specs.Items.{stored_at, AreItems};
 ghost use Rattle.strm_buffers.specs.Listing.{kept_items, items_in, AreKept};
 
+use crate::kept_bytes::append_zeros;
 use std::alloc::Global;
 use std::marker::Model;
 use strm_codes::counts::OutOfMemory;
@@ -79,6 +80,13 @@ impl Items {
         self.payload
     }
 
+    /// Each fits the payload: what a caller may have to know of them. It does nothing.
+    pub fn sound(&self)
+        ensures { AreItems (scalars_of self.now.payload) self.now.items }
+    {
+        let _ = &self.bytes;
+    }
+
     /// How many items there are.
     pub fn len(&self) -> usize
         ensures exact { result ≡ length self.now.items }
@@ -117,6 +125,17 @@ impl Items {
         Ok(())
     }
 
+    /// A copy. After `OutOfMemory` nothing was kept.
+    pub fn copy(&self) -> Result<Items, OutOfMemory>
+        ensures { IfOk result (λ items. items ≡ self.now) }
+    {
+        let mut bytes = Vec::new(*self.bytes.allocator());
+        match bytes.extend_from_slice(self.bytes.as_slice().split_at(self.start).1) {
+            Ok(()) => Ok(Items::of_bytes(self.payload, bytes, self.len)),
+            Err(_) => Err(OutOfMemory),
+        }
+    }
+
     /// Takes so many items off the front.
     pub fn skip(&mut self, count: usize)
         requires { count ≤ length self.old.items }
@@ -126,6 +145,14 @@ impl Items {
         self.start += self.payload.size() as usize * count;
         self.len -= count;
     }
+}
+
+// Where the item of this number lies, from 0, behind those before it.
+pub(crate) fn item_place(address: usize, payload: Payload, index: u32) -> usize
+    requires { address + item_size (scalars_of payload) * index < 2 ^ 64 }
+    ensures { result ≡ address + item_size (scalars_of payload) * index }
+{
+    address + payload.size() as usize * index as usize
 }
 
 // Cuts bytes off at a place, and puts an item there. After `OutOfMemory` nothing has changed.
@@ -141,14 +168,9 @@ pub(crate) fn append_item(
         (take at bytes.old.items ++ replicate (item_size (scalars_of payload)) 0) at (item.now ∷ [])) }
     ensures err { OnErr result (bytes.new.items ≡ bytes.old.items) }
 {
-    let size = payload.size() as usize;
-    if bytes.reserve(size).is_err() {
-        return Err(OutOfMemory);
-    }
-    bytes.truncate(at);
-    match bytes.resize(at + size, 0) {
+    match append_zeros(bytes, at, payload.size() as usize) {
         Ok(()) => {}
-        Err(_) => unreachable!(),
+        Err(error) => return Err(error),
     }
     write_item(bytes, at, item, payload);
     Ok(())

@@ -1,12 +1,15 @@
 //! What host ends are made of: buffers of typed items, items as their bytes, the window that a poll
-//! fills and the offer that a poll takes from.
+//! fills and the offer that a poll takes from; and what a host writer and a host reader end are.
 #![tactic(auto)]
 
 pub mod answers;
+pub mod boxes;
 pub mod buffers;
 pub mod hosts;
 pub mod items;
+mod kept_bytes;
 pub mod offers;
+pub mod polling;
 pub mod readers;
 pub mod said;
 pub mod slice_buffer;

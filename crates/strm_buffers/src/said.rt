@@ -2,9 +2,13 @@
 //!
 //! Source: ours.
 
+ghost use Rattle.std.specs.Prelude.{◌≡◌};
+ghost use Rattle.strm_buffers.specs.HostRules.{breaks_as_writer};
+
 use crate::answers::Answer;
 use crate::items::Items;
 use std::marker::Model;
+use strm_codes::codes::TransmitKind;
 
 /// One poll of a host writer.
 #[derive(Drop)]
@@ -24,4 +28,14 @@ impl Model for WriterSaid {
     ghost Value = { WriterSaid };
 
     ghost view = { λ s. record { room = s.room; finish = s.finish; items = s.items.items; answer = s.answer } };
+}
+
+impl WriterSaid {
+    /// Whether a host writer of this kind broke the rules in this poll.
+    pub fn breaks_rules(&self, kind: TransmitKind) -> bool
+        ensures { result ≡ breaks_as_writer kind self.now }
+    {
+        self.answer
+            .breaks_as_writer(kind, self.room, self.finish, self.items.len())
+    }
 }

@@ -2,7 +2,7 @@
 //!
 //! Source: wasmtime, `futures_and_streams/buffers.rs`, `UntypedWriteBuffer`; `ValueBuffer` is ours.
 
-ghost use Rattle.std.specs.Prelude.{◌≡◌, ◌<◌, ◌≤◌, ◌↔◌, length, drop, map, slice_get, Some, Ok, Err, IsErr, IfErr, IsFalse};
+ghost use Rattle.std.specs.Prelude.{◌≡◌, ◌<◌, ◌≤◌, ◌↔◌, length, drop, map, slice_get, Some, Ok, Err, IsErr, IfErr, IfOk, IsFalse};
 ghost use Rattle.strm_codes.specs.Sameness.{same_payload};
 
 use crate::buffers::WriteBuffer;
@@ -104,18 +104,27 @@ pub struct TypeMismatch {
 }
 
 /// A buffer that is lent without its item's type.
+#[derive(Drop)]
 pub struct UntypedWriteBuffer<'a, B: ValueBuffer> {
     buffer: &'a mut B,
 }
 
 impl<'a, B: ValueBuffer> UntypedWriteBuffer<'a, B> {
+    ghost use Rattle.std.specs.Borrow.{sem};
+    ghost use Rattle.strm_buffers.specs.Untyped.{LendsBuffer};
+
     /// Lends a buffer.
-    pub fn new(buffer: &'a mut B) -> UntypedWriteBuffer<'a, B> {
+    pub fn new(buffer: &'a mut B) -> UntypedWriteBuffer<'a, B>
+        ensures same_reference { result.buffer.ghost_name ≡ buffer.entry.ghost_name }
+        ensures value { result.buffer.now ≡ buffer.old }
+    {
         UntypedWriteBuffer { buffer }
     }
 
     /// The buffer, where its items are of this type; else the payloads of both.
     pub fn get_mut<T: Payloaded>(&mut self) -> Result<&mut B, TypeMismatch>
+        ensures* lends { sem 𝓛 (LendsBuffer B.row self.entry result) }
+        ensures value { IfOk result (λ buffer. buffer.now ≡ self.old.buffer.now) }
         ensures mismatch { IsErr result ↔ IsFalse (same_payload T.payload B.payload) }
         ensures names { IfErr result
             (λ error. (error.expected ≡ T.payload) × (error.found ≡ B.payload)) }

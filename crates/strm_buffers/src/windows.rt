@@ -4,16 +4,20 @@
 //! window owns the bytes while the poll lasts, and gives them back as they were but for the marked
 //! items.
 
-ghost use Rattle.std.specs.Prelude.{◌≡◌, ◌≢◌, ◌+◌, ◌*◌, ◌≤◌, [], ◌∷◌, length, true, OnOk, OnErr};
+ghost use Rattle.std.specs.Prelude.{◌≡◌, ◌≢◌, ◌+◌, ◌*◌, ◌≤◌, ◌∷◌, [], length, true, OnOk, OnErr};
 ghost use Rattle.strm_codes.specs.Layout.{scalars_of, item_size};
 ghost use Rattle.strm_codes.specs.Items.{FitsItem};
-ghost use Rattle.strm_buffers.specs.Windows.{Memory, Between, room_of, HasRoom, with_items, memory_of};
+ghost use Rattle.strm_codes.specs.declared.payloads.Payload.TheVariants.{One};
+ghost use Rattle.strm_codes.specs.declared.scalars.Scalar.TheVariants.{U8};
+ghost use Rattle.strm_buffers.specs.Windows.{Between, room_of, HasRoom, CanCount, IsBehind, lent_memory, lent_between, with_items, with_marked, with_direct, memory_of, standing, IsSoundPlace};
 
-use crate::items::{Items, append_item, write_item};
+use crate::items::{Items, append_item, item_place, write_item};
+use crate::kept_bytes::{append_zeros, are_bytes, end_of, keep, last_of, put_back};
 use std::alloc::Global;
 use std::marker::Model;
 use strm_codes::counts::OutOfMemory;
 use strm_codes::payloads::Payload;
+use strm_codes::scalars::Scalar;
 use strm_codes::values::Value;
 use strm_memory::memories::GuestMemory;
 
@@ -21,48 +25,52 @@ use strm_memory::memories::GuestMemory;
 #[derive(Drop)]
 pub struct Window {
     payload: Payload,
-    // The whole memory; or between host ends the marked items and the lent bytes behind them.
+    // The whole memory; or between host ends the marked items and the bytes behind them.
     bytes: Vec<u8>,
     address: usize,
     room: Option<u32>,
     marked: u32,
     is_prepared: bool,
+    // Once bytes of a memory were lent: the last ones of the room as they were before.
+    kept: Vec<u8>,
 }
 
 impl Model for Window {
+    ghost use Rattle.std.specs.Prelude.{vec_capacity};
     ghost use Rattle.strm_buffers.specs.Windows.{Lent, window_kept, IsWindow};
 
     ghost Value = { Lent };
 
-    ghost view = { λ w. window_kept w.payload w.bytes.items w.address w.room w.marked w.is_prepared };
+    ghost view = { λ w. window_kept w.payload w.bytes.items w.kept.items w.address w.room w.marked w.is_prepared };
 
-    ghost invariant = { λ w. IsWindow w.payload w.bytes.items w.address w.room w.marked w.is_prepared };
+    ghost invariant = { λ w. IsWindow w.payload w.bytes.items w.kept.items (vec_capacity w.kept) w.address w.room w.marked w.is_prepared };
 }
 
 impl Window {
+    ghost use Rattle.std.specs.Borrow.{sem};
+    ghost use Rattle.strm_buffers.specs.Lending.{LendsUnmarked};
+
     /// Lends a memory from an address on, with room for so many items. Takes no memory.
     pub fn over(memory: GuestMemory, payload: Payload, address: u32, room: u32) -> Window
         requires { address + item_size (scalars_of payload) * room ≤ length memory }
-        ensures payload { result.payload ≡ payload }
-        ensures place { result.place ≡ Memory memory address room }
-        ensures marked { result.marked ≡ [] }
+        ensures { result ≡ lent_memory payload memory address room }
     {
+        let bytes = memory.into_bytes();
+        let alloc = *bytes.allocator();
         Window {
             payload,
-            bytes: memory.into_bytes(),
+            bytes,
             address: address as usize,
             room: Some(room),
             marked: 0,
             is_prepared: false,
+            kept: Vec::new(alloc),
         }
     }
 
     /// A window with as much room as is wanted. Takes no memory.
     pub fn unbounded(alloc: Global, payload: Payload) -> Window
-        ensures payload { result.payload ≡ payload }
-        ensures place { result.place ≡ Between }
-        ensures marked { result.marked ≡ [] }
-        ensures prepared { result.prepared ≡ true }
+        ensures { result ≡ lent_between payload }
     {
         Window {
             payload,
@@ -71,17 +79,35 @@ impl Window {
             room: None,
             marked: 0,
             is_prepared: true,
+            kept: Vec::new(alloc),
         }
     }
 
-    /// Takes what is needed before bytes are lent: nothing, as long as a window lends none. After
-    /// `OutOfMemory` nothing has changed.
+    /// Takes the memory in which `unmarked` keeps what it lends: as much as the room of bytes in a
+    /// guest's memory, else none. After `OutOfMemory` nothing has changed.
     pub fn prepare(&mut self) -> Result<(), OutOfMemory>
         ensures ok { OnOk result (self.new ≡ record self.old { prepared = true }) }
         ensures err { OnErr result (self.new ≡ self.old) }
     {
-        self.is_prepared = true;
-        Ok(())
+        let most = match (self.payload, self.room) {
+            (Payload::One(Scalar::U8), Some(room)) => room as usize,
+            _ => 0,
+        };
+        match self.kept.reserve(most) {
+            Ok(()) => {
+                self.is_prepared = true;
+                Ok(())
+            }
+            Err(_) => Err(OutOfMemory),
+        }
+    }
+
+    /// The room lies in the memory, and between host ends nothing is to be prepared: what a host end
+    /// may have to know of a window that it was lent. It does nothing.
+    pub fn sound(&self)
+        ensures { IsSoundPlace self.now.payload self.now.place self.now.prepared }
+    {
+        let _ = &self.room;
     }
 
     /// How many items there is room for in all; none between host ends.
@@ -106,8 +132,8 @@ impl Window {
         self.marked
     }
 
-    /// Marks one item more. After `OutOfMemory`, which comes only between host ends,
-    /// nothing has changed.
+    /// Marks one item more; between host ends the unmarked bytes are given up. After `OutOfMemory`,
+    /// which comes only there, nothing has changed.
     pub fn put(&mut self, item: &Value) -> Result<(), OutOfMemory>
         requires fits { FitsItem (scalars_of self.old.payload) item.now }
         requires room { HasRoom self.old.place (length self.old.marked) 1 }
@@ -115,7 +141,7 @@ impl Window {
         ensures err { OnErr result (self.new ≡ self.old) }
         ensures out_of_memory { OnErr result (self.old.place ≡ Between) }
     {
-        let at = self.address + self.payload.size() as usize * self.marked as usize;
+        let at = item_place(self.address, self.payload, self.marked);
         match self.room {
             Some(_) => {
                 write_item(&mut self.bytes, at, item, self.payload);
@@ -133,29 +159,87 @@ impl Window {
         }
     }
 
-    /// The whole memory as it stands.
+    /// Between host ends gives up the unmarked bytes, and makes so many that are 0; a memory's room
+    /// stays as it is. After `OutOfMemory`, which comes only between host ends, nothing has changed.
+    pub fn direct(&mut self, capacity: usize) -> Result<(), OutOfMemory>
+        requires bytes { self.old.payload ≡ One U8 }
+        requires prepared { self.old.prepared ≡ true }
+        requires few { CanCount self.old.place (length self.old.marked) capacity }
+        ensures ok { OnOk result (self.new ≡ with_direct self.old capacity) }
+        ensures err { OnErr result (self.new ≡ self.old) }
+        ensures out_of_memory { OnErr result (self.old.place ≡ Between) }
+    {
+        match self.room {
+            Some(_) => Ok(()),
+            None => {
+                match append_zeros(&mut self.bytes, self.marked as usize, capacity) {
+                    Ok(()) => {}
+                    Err(error) => return Err(error),
+                }
+                Ok(())
+            }
+        }
+    }
+
+    /// The bytes behind the marked items, to be written: the rest of the room, or what `direct` made.
+    /// The first call keeps those of a memory, at the cost of copying them; it takes no memory.
+    pub fn unmarked(&mut self) -> &mut [u8]
+        requires bytes { self.old.payload ≡ One U8 }
+        requires prepared { self.old.prepared ≡ true }
+        ensures* lends { sem 𝓛 (LendsUnmarked self.entry result) }
+        ensures value { result.now ≡ self.old.unmarked }
+        ensures all { IsBehind self.old.place (length self.old.marked) (length result.now) }
+    {
+        let from = self.address + self.marked as usize;
+        let to = end_of(self.address, self.room, self.bytes.len());
+        keep(&mut self.kept, self.room, &self.bytes[from..to]);
+        self.bytes.slice_mut(from..to)
+    }
+
+    /// Marks the first so many of the unmarked bytes, as they stand.
+    pub fn mark(&mut self, count: usize)
+        requires bytes { self.old.payload ≡ One U8 }
+        requires there { count ≤ length self.old.unmarked }
+        ensures { self.new ≡ with_marked self.old count }
+    {
+        are_bytes(&self.bytes);
+        self.marked += count as u32;
+    }
+
+    /// The whole memory as it stands, with what was written to unmarked bytes. Takes no memory.
     pub fn lent(&self) -> &[u8]
         requires { self.now.place ≢ Between }
-        ensures { result.now ≡ memory_of self.now.place }
+        ensures { result.now ≡ standing (scalars_of self.now.payload) self.now.place
+            (length self.now.marked) self.now.unmarked }
     {
         &self.bytes
     }
 
-    /// Gives the memory back with the marked items in it, and their number.
+    /// Gives the memory back with the marked items in it, and their number. All its other bytes are
+    /// as they were lent.
     pub fn into_memory(self) -> (GuestMemory, u32)
         requires { self.place ≢ Between }
         ensures memory { result.0 ≡ memory_of self.place }
         ensures marked { result.1 ≡ length self.marked }
     {
         let Window {
-            payload: _,
-            bytes,
-            address: _,
-            room: _,
+            payload,
+            mut bytes,
+            address,
+            room,
             marked,
             is_prepared: _,
+            kept,
         } = self;
-        (GuestMemory::of_bytes(bytes), marked)
+        match room {
+            Some(room) => {
+                let left = payload.size() as usize * (room - marked) as usize;
+                let from = item_place(address, payload, marked);
+                put_back(&mut bytes, from, last_of(&kept, left));
+                (GuestMemory::of_bytes(bytes), marked)
+            }
+            None => unreachable!(),
+        }
     }
 
     /// The marked items.
@@ -166,12 +250,14 @@ impl Window {
     {
         let Window {
             payload,
-            bytes,
+            mut bytes,
             address: _,
             room: _,
             marked,
             is_prepared: _,
+            kept: _,
         } = self;
+        bytes.truncate(payload.size() as usize * marked as usize);
         Items::of_bytes(payload, bytes, marked as usize)
     }
 }

@@ -1,5 +1,7 @@
 //! A writer that answers Pending to every poll.
 
+ghost use Rattle.std.specs.Prelude.{◌≡◌, []};
+
 use std::alloc::Global;
 use strm_buffers::answers::{Answer, HostTurn, Turn};
 use strm_buffers::items::Items;
@@ -20,8 +22,24 @@ pub struct SilentWriter {
     alloc: Global,
 }
 
+impl SilentWriter {
+    /// A writer of this type. Takes no memory.
+    pub fn new(alloc: Global, kind: TransmitKind, payload: Payload) -> SilentWriter
+        ensures payload { result.payload ≡ payload }
+        ensures said { result.said.items ≡ [] }
+    {
+        SilentWriter {
+            kind,
+            payload,
+            said: Vec::new(alloc),
+            closed: false,
+            alloc,
+        }
+    }
+}
+
 impl HostWriter for SilentWriter {
-    ghost use Rattle.std.specs.Prelude.{[], None};
+    ghost use Rattle.std.specs.Prelude.{None};
 
     ghost writer_tells = { λ w. record { kind = w.kind; payload = w.payload; said = w.said.items; holds = []; faults = 0; closed = w.closed; heard = None } };
 

@@ -81,7 +81,7 @@ module _ {E : Type 0} where
   inserted_other es (n ∷ ns) e k ne = entry_in-entries_with-other es n k (Some e) ne
 
   -- a sum over the entries after an insert, where nothing adds nothing
-  inserted_sum : (f : Option E → ℕ) → f None ≡ 0 → (es : List (Option E)) (ns : List ℕ) (e : E) → IsTable (record { entries = es; freed = ns }) → sum_by f (inserted_in es ns e).entries ≡ sum_by f es + f (Some e)
+  pub inserted_sum : (f : Option E → ℕ) → f None ≡ 0 → (es : List (Option E)) (ns : List ℕ) (e : E) → IsTable (record { entries = es; freed = ns }) → sum_by f (inserted_in es ns e).entries ≡ sum_by f es + f (Some e)
   inserted_sum f zero_none es [] e s = sum_by_push f es (Some e)
   inserted_sum f zero_none es (n ∷ ns) e s =
       let freed = first_freed es n ns s.free in

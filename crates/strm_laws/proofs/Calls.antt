@@ -60,6 +60,7 @@ accepted-settled act replies.Done a r = refl
 accepted-settled act (replies.Number n) a r = refl
 accepted-settled act (replies.Pair pair) a r = refl
 accepted-settled act (replies.Event code) a r = refl
+accepted-settled act (replies.Member member) a r = refl
 accepted-settled act (replies.Bytes bytes) a r = refl
 accepted-settled act (replies.Refused refusal) a r = refl
 accepted-settled act (replies.BadItem stream) a r = refl

@@ -59,7 +59,7 @@ rekind one other s side all state q k =
 quiet_next : (s : ℕ) (side : Side) (all : List Moment) (state : State) (step : Step) → IsSound state → length state.streams ≤ s → IsQuiet s side all → IsQuiet s side (all ++ moment_of state step ∷ [])
 quiet_next s side all state step h l q =
     let m = moment_of state step in
-    let u = unnamed s side m (names-unmade state (act_of step) s side h l) in
+    let u = unnamed s side m (names-unmade state (act_of step) m.reply s side h l) in
     record {
       none = rw (calls-push s side all m, q.none) u.takes;
       silent = λ kind. rw (all_reported-push kind s side all m, q.silent kind, u.reports) refl;

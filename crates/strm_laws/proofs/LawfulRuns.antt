@@ -11,6 +11,8 @@ use Rattle.strm_machine.specs.declared.steps.Step.{Step}
 use Rattle.strm_machine.specs.Soundness.{AreNamed, AreUnmoved}
 use Rattle.strm_machine.proofs.Lawful.{IsLawful, Reacts}
 use Rattle.strm_machine.proofs.LawfulLemmas.{reacts}
+use Rattle.strm_machine.proofs.WaitableSetLemmas.{HoldSets-none}
+use Rattle.strm_machine.proofs.ErrorContextLemmas.{HoldsContexts-none}
 use Rattle.strm_machine.proofs.SoundStepLemmas.{reaction-sound}
 use Rattle.strm_laws.specs.Conservation.{last}
 use Rattle.strm_laws.specs.Laws.{HasBytes, AreSteps, IsCounted, AreCounted}
@@ -42,7 +44,7 @@ pub record IsReady (state : State) (steps : List Step) : Type 0 where
 
 pub IsLawful-empty : (tag : ℕ) (limits : Limits) → IsLawful (empty tag limits)
 IsLawful-empty tag limits = record {
-  sound = record { named = All-nil (AreNamed []); placed = All-nil (StreamIsPlaced []); small = omega arith };
+  sound = record { named = All-nil (AreNamed []); placed = All-nil (StreamIsPlaced []); small = omega arith; sets = HoldSets-none; contexts = HoldsContexts-none };
   bytes = All-nil _;
   apart = λ s. refl;
   tallies = λ s. record { writing = tt; reading = tt; one = λ k. cc };

@@ -7,4 +7,7 @@ pub mod LawfulRuns
 pub mod Conserved
 pub mod Handles
 pub mod OtherBytes
+pub mod Answered
 pub mod Rows
+pub mod SetRows
+pub mod ContextRows

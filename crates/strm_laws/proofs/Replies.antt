@@ -17,6 +17,7 @@ after_step-ends told (replies.Number n) state next all end h = h
 after_step-ends told (replies.Pair pair) state next all end h = h
 after_step-ends told (replies.Code code) state next all end h = h
 after_step-ends told (replies.Event code) state next all end h = h
+after_step-ends told (replies.Member member) state next all end h = h
 after_step-ends told (replies.Bytes bytes) state next all end h = h
 after_step-ends told (replies.Refused refusal) state next all end h = h
 

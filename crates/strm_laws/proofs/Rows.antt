@@ -1,18 +1,22 @@
 -- Worked runs, computed: what was answered, written, read, received and handed over, as worked out by
 -- hand.
-use Rattle.std.proofs.Common.{◌≡◌, ℕ, List, [], ◌∷◌, Option, Some, None, refl}
-use Rattle.std.specs.Prelude.{ℤ, pos, map}
-use Rattle.strm_machine.specs.Words.{ReturnCode, TransmitIndex, State, empty, stream_at, Call, received}
+use Rattle.std.proofs.Common.{◌≡◌, ℕ, Bool, true, false, cond, List, [], ◌∷◌, Option, Some, None, refl, ap, ◌∙◌}
+use Rattle.std.specs.Cmp.{nat_cmp_total}
+use Rattle.std.specs.FinMap.{FinMap, get, remove, get-empty, get-remove}
+use Rattle.std.specs.Ordering.{eq_by_cmp, nat_cmp}
+use Rattle.std.specs.Prelude.{ℤ, pos, map, is_some}
+use Rattle.strm_machine.specs.Words.{ReturnCode, TransmitIndex, State, empty, stream_at, Call, Moment, received}
 use Rattle.strm_machine.specs.declared.streams.Side.TheVariants.{Writing}
 use Rattle.strm_machine.specs.declared.steps.Step.{Step}
 use Rattle.strm_machine.specs.declared.replies.Reply.{Reply}
-use Rattle.strm_codes.specs.declared.codes.ReturnCode.TheVariants.{Blocked, Completed, Dropped}
+use Rattle.strm_codes.specs.declared.codes.ReturnCode.TheVariants.{Blocked, Completed, Dropped, Cancelled}
+use Rattle.strm_codes.specs.declared.refusals.Refusal.TheVariants as refusals
 use Rattle.strm_codes.specs.declared.codes.TransmitIndex.TheVariants as index
 use Rattle.strm_codes.specs.declared.payloads.Payload.TheVariants.{One}
 use Rattle.strm_codes.specs.declared.scalars.Scalar.TheVariants.{U8, U16}
 use Rattle.strm_memory.specs.Items.{decode_from, encode_from, items, stored}
 use Rattle.strm_machine.specs.Turns.{turn}
-use Rattle.strm_machine.specs.Endings.{delivered, dropped}
+use Rattle.strm_machine.specs.Endings.{delivered, dropped, cancelled}
 use Rattle.strm_machine.specs.Refusals.{refusal}
 use Rattle.strm_machine.specs.Making.{with_stream}
 use Rattle.strm_machine.specs.Reactions.{performs, reaction}
@@ -21,44 +25,48 @@ use Rattle.strm_machine.specs.declared.replies.Reply.TheVariants as replies
 use Rattle.strm_machine.specs.Moments.{decoded}
 use Rattle.strm_laws.specs.Conservation.{moments, last, got, handed, all_handed, writes, reads}
 use Rattle.strm_laws.specs.Laws.{moved_at}
+use Rattle.strm_sets.specs.Sets.{no_sets}
+use Rattle.strm_laws.proofs.Answered.{Answer, Answered, moments_by, last_state, AllGive, steps_of, moments-by, last-state}
 
-abbrev bytes : TransmitIndex
+abbrev pub bytes : TransmitIndex
 bytes = index.Stream (One U8)
 
 abbrev words : TransmitIndex
 words = index.Stream (One U16)
 
-abbrev start : State
+abbrev pub start : State
 start = empty 0 (record { handles = 8; places = 8 })
 
-abbrev item : ℕ → Option (List ℤ)
+abbrev pub item : ℕ → Option (List ℤ)
 item n = Some (pos n ∷ [])
 
-abbrev call : ℕ → ℕ → ℕ → Option ReturnCode → Call
+abbrev pub call : ℕ → ℕ → ℕ → Option ReturnCode → Call
 call guest address asked report = record { guest = guest; address = address; asked = asked; report = report }
 
-abbrev replies_to : List Step → List Reply
+abbrev pub replies_to : List Step → List Reply
 replies_to run = map (λ m. m.reply) (moments start run)
 
 -- what the law speaks of, of one stream of a run
-record Account : Type 0 where
-  written : List Call
-  read : List Call
-  count : ℕ
-  taken : List (Option (List ℤ))
-  given : List (Option (List ℤ))
+pub record Account : Type 0 where
+  pub written : List Call
+  pub read : List Call
+  pub count : ℕ
+  pub taken : List (Option (List ℤ))
+  pub given : List (Option (List ℤ))
 
-abbrev account : ℕ → List Step → Account
-account s run =
-    let all = moments start run in
-    let end = last start run in
-    record {
-      written = writes s all;
-      read = reads s all;
-      count = received s end;
-      taken = got s all;
-      given = all_handed (stream_at end s).kind s all (moved_at s Writing end) 0 (writes s all);
-    }
+abbrev pub account_of : ℕ → List Moment → State → Account
+account_of s all end = record {
+  written = writes s all;
+  read = reads s all;
+  count = received s end;
+  taken = got s all;
+  given = all_handed (stream_at end s).kind s all (moved_at s Writing end) 0 (writes s all);
+}
+
+abbrev pub account : ℕ → List Step → Account
+account s run = account_of s (moments start run) (last start run)
+
+-- ## Ends that do not move
 
 -- a write that is read in parts, with a poke between them, and that is told with an item left; then
 -- one whose read end is dropped after a part of it
@@ -224,3 +232,188 @@ account-crossed_back : account 1 crossed ≡ record {
 }
 unfolding reaction refusal performs with_stream turn delivered dropped decode_from encode_from items stored decoded handed all_handed
 account-crossed_back = refl
+
+-- ## Ends that move
+
+-- the same by what sets answer
+pub replies-by : (run : List Answered) → AllGive start run → replies_to (steps_of run) ≡ map (λ m. m.reply) (moments_by start run)
+replies-by run all = ap (map (λ m. m.reply)) (moments-by start run all)
+
+pub account-by : (s : ℕ) (run : List Answered) → AllGive start run → account s (steps_of run) ≡ account_of s (moments_by start run) (last_state start run)
+account-by s run all =
+    ap (λ ms. account_of s ms (last start (steps_of run))) (moments-by start run all)
+    ∙ ap (account_of s (moments_by start run)) (last-state start run all)
+
+abbrev unset : Answer
+unset = record { in_set = false; has_member = false; ready = None; text = true }
+
+-- no handle is in a set
+abbrev apart : List Step → List Answered
+apart run = map (λ step. record { step = step; answer = unset }) run
+
+-- a handle is in none of no sets, and in none of those that another left
+pub in_none : (handle : ℕ) → is_some (get no_sets.homes handle) ≡ false
+in_none handle = ap is_some (get-empty nat_cmp handle)
+
+pub in_no_more : (homes : FinMap nat_cmp ℕ) (gone handle : ℕ) → is_some (get homes handle) ≡ false → is_some (get (remove homes gone) handle) ≡ false
+in_no_more homes gone handle e = ap is_some (get-remove nat_cmp_total homes gone handle) ∙ either (eq_by_cmp nat_cmp handle gone)
+  where
+    either : (b : Bool) → is_some (cond b None (get homes handle)) ≡ false
+    either true = refl
+    either false = e
+
+-- a read end that goes to a second and to a third reader, which is the writer's guest; each reads on
+-- where the one before it stopped
+abbrev passed_on : List Step
+passed_on =
+    steps.Guest 8
+    ∷ steps.Guest 4
+    ∷ steps.Guest 4
+    ∷ steps.Between 0 1 bytes
+    ∷ steps.Poke 0 0 (1 ∷ 2 ∷ 3 ∷ 4 ∷ [])
+    ∷ steps.Write 0 bytes 1 0 4
+    ∷ steps.Read 1 bytes 1 0 1
+    ∷ steps.Move 1 bytes 1 2
+    ∷ steps.Read 1 bytes 1 1 1
+    ∷ steps.Read 2 bytes 1 0 2
+    ∷ steps.Move 2 bytes 1 0
+    ∷ steps.Read 0 bytes 2 4 1
+    ∷ steps.Event 0 1
+    ∷ []
+
+gives-passed_on : AllGive start (apart passed_on)
+unfolding performs with_stream turn delivered dropped decode_from encode_from items stored
+gives-passed_on = (in_none 1, (in_none 1, tt))
+
+replies_to-passed_on : replies_to passed_on ≡
+    replies.Number 0
+    ∷ replies.Number 1
+    ∷ replies.Number 2
+    ∷ replies.Pair (record { read = 1; write = 1; stream = 0 })
+    ∷ replies.Done
+    ∷ replies.Code Blocked
+    ∷ replies.Code (Completed 1)
+    ∷ replies.Number 1
+    ∷ replies.Refused refusals.UnknownHandle
+    ∷ replies.Code (Completed 2)
+    ∷ replies.Number 2
+    ∷ replies.Code (Completed 1)
+    ∷ replies.Event (Some (Completed 4))
+    ∷ []
+unfolding performs with_stream turn delivered dropped decode_from encode_from items stored
+replies_to-passed_on = replies-by (apart passed_on) gives-passed_on
+
+account-passed_on : account 0 passed_on ≡ record {
+  written = call 0 0 4 (Some (Completed 4)) ∷ [];
+  read = call 1 0 1 (Some (Completed 1)) ∷ call 2 0 2 (Some (Completed 2)) ∷ call 0 4 1 (Some (Completed 1)) ∷ [];
+  count = 4;
+  taken = item 1 ∷ item 2 ∷ item 3 ∷ item 4 ∷ [];
+  given = item 1 ∷ item 2 ∷ item 3 ∷ item 4 ∷ [];
+}
+unfolding performs with_stream turn delivered dropped decode_from encode_from items stored decoded handed all_handed
+account-passed_on = account-by 0 (apart passed_on) gives-passed_on
+
+-- a read end that is lifted while a write is partly read, that is refused as one of another type and as
+-- one that isn't loose, that reads on where it is lowered, and that is closed
+abbrev lifted : List Step
+lifted =
+    steps.Guest 16
+    ∷ steps.Guest 16
+    ∷ steps.Between 0 1 bytes
+    ∷ steps.Poke 0 0 (10 ∷ 11 ∷ 12 ∷ [])
+    ∷ steps.Write 0 bytes 1 0 3
+    ∷ steps.Read 1 bytes 1 0 1
+    ∷ steps.Lower 0 1 bytes
+    ∷ steps.Lift 1 bytes 1
+    ∷ steps.Lower 0 1 words
+    ∷ steps.Lower 0 1 bytes
+    ∷ steps.Read 1 bytes 1 4 2
+    ∷ steps.Event 0 1
+    ∷ steps.Lift 1 bytes 1
+    ∷ steps.Close 0
+    ∷ steps.Lower 0 1 bytes
+    ∷ steps.Event 0 1
+    ∷ steps.DropWrite 0 bytes 1
+    ∷ steps.Dump 1 0 6
+    ∷ []
+
+gives-lifted : AllGive start (apart lifted)
+unfolding performs with_stream turn delivered dropped decode_from encode_from items stored
+gives-lifted = (in_none 1, (in_no_more _ 1 1 (in_none 1), tt))
+
+replies_to-lifted : replies_to lifted ≡
+    replies.Number 0
+    ∷ replies.Number 1
+    ∷ replies.Pair (record { read = 1; write = 1; stream = 0 })
+    ∷ replies.Done
+    ∷ replies.Code Blocked
+    ∷ replies.Code (Completed 1)
+    ∷ replies.Refused refusals.UnknownReader
+    ∷ replies.Number 0
+    ∷ replies.Refused refusals.WrongType
+    ∷ replies.Number 1
+    ∷ replies.Code (Completed 2)
+    ∷ replies.Event (Some (Completed 3))
+    ∷ replies.Number 0
+    ∷ replies.Done
+    ∷ replies.Refused refusals.UnknownReader
+    ∷ replies.Event (Some (Dropped 0))
+    ∷ replies.Done
+    ∷ replies.Bytes (10 ∷ 0 ∷ 0 ∷ 0 ∷ 11 ∷ 12 ∷ [])
+    ∷ []
+unfolding performs with_stream turn delivered dropped decode_from encode_from items stored
+replies_to-lifted = replies-by (apart lifted) gives-lifted
+
+account-lifted : account 0 lifted ≡ record {
+  written = call 0 0 3 (Some (Completed 3)) ∷ [];
+  read = call 1 0 1 (Some (Completed 1)) ∷ call 1 4 2 (Some (Completed 2)) ∷ [];
+  count = 3;
+  taken = item 10 ∷ item 11 ∷ item 12 ∷ [];
+  given = item 10 ∷ item 11 ∷ item 12 ∷ [];
+}
+unfolding performs with_stream turn delivered dropped decode_from encode_from items stored decoded handed all_handed
+account-lifted = account-by 0 (apart lifted) gives-lifted
+
+-- an end that goes to its own guest, which gets the number that was just freed and none freed before; and
+-- ends that stay: the write end, one that has a read, and one that was told that its writer is gone
+abbrev staying : List Step
+staying =
+    steps.Guest 4
+    ∷ steps.New 0 bytes
+    ∷ steps.New 0 bytes
+    ∷ steps.DropRead 0 bytes 3
+    ∷ steps.Move 0 bytes 1 0
+    ∷ steps.Move 0 bytes 2 0
+    ∷ steps.Move 0 bytes 1 1
+    ∷ steps.Read 0 bytes 1 0 1
+    ∷ steps.Move 0 bytes 1 0
+    ∷ steps.CancelRead 0 bytes 1
+    ∷ steps.DropWrite 0 bytes 2
+    ∷ steps.Event 0 1
+    ∷ steps.Lift 0 bytes 1
+    ∷ []
+
+gives-staying : AllGive start (apart staying)
+unfolding performs with_stream turn delivered dropped decode_from encode_from items stored cancelled
+gives-staying =
+    let first = in_no_more _ 3 1 (in_none 1) in
+    let later = in_no_more _ 1 1 first in
+    (first, (in_no_more _ 1 2 (in_no_more _ 3 2 (in_none 2)), (later, (later, (in_no_more _ 2 1 later, tt)))))
+
+replies_to-staying : replies_to staying ≡
+    replies.Number 0
+    ∷ replies.Pair (record { read = 1; write = 2; stream = 0 })
+    ∷ replies.Pair (record { read = 3; write = 4; stream = 1 })
+    ∷ replies.Done
+    ∷ replies.Number 1
+    ∷ replies.Refused refusals.WrongEnd
+    ∷ replies.Refused refusals.UnknownGuest
+    ∷ replies.Code Blocked
+    ∷ replies.Refused refusals.Busy
+    ∷ replies.Code (Cancelled 0)
+    ∷ replies.Done
+    ∷ replies.Event (Some (Dropped 0))
+    ∷ replies.Refused refusals.LiftDropped
+    ∷ []
+unfolding performs with_stream turn delivered dropped decode_from encode_from items stored cancelled
+replies_to-staying = replies-by (apart staying) gives-staying

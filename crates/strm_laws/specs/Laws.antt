@@ -1,13 +1,19 @@
 -- What holds of every run. Ours.
-use Rattle.std.specs.Prelude.{◌≡◌, ℕ, ◌+◌, ◌*◌, ◌<◌, ◌≤◌, true, false, List, [], ◌∷◌, ◌++◌, length, All, is_some, IsSome, Option, Some, None}
+use Rattle.std.specs.Prelude.{◌≡◌, ℕ, ◌+◌, ◌*◌, ◌<◌, ◌≤◌, true, false, List, [], ◌∷◌, ◌++◌, length, All, is_some, is_ok, IsSome, Ok, Option, Some, None}
 use Rattle.strm_codes.specs.Counts.{count_limit}
 use Rattle.strm_codes.specs.Layout.{scalars_of, item_size}
 use Rattle.strm_codes.specs.declared.codes.TransmitKind.{TransmitKind}
 use Rattle.strm_codes.specs.declared.payloads.Payload.{Payload}
-use Rattle.strm_machine.specs.State.{State, stream_at}
+use Rattle.strm_sets.specs.Sets.{is_there, is_member}
+use Rattle.strm_contexts.specs.Contexts.{count_at}
+use Rattle.strm_contexts.specs.Contexts as contexts
+use Rattle.strm_machine.specs.State.{State, sets_in, stream_at, is_held}
+use Rattle.strm_machine.specs.WaitableSets.{set_named}
+use Rattle.strm_machine.specs.ErrorContexts.{all_handles_to, context_named, message_named}
+use Rattle.strm_machine.specs.Soundness.{IsMessage}
 use Rattle.strm_machine.specs.Sides.{end_of}
 use Rattle.strm_machine.specs.Tests.{end_named}
-use Rattle.strm_machine.specs.declared.streams.Owner.TheVariants.{Held, Gone}
+use Rattle.strm_machine.specs.declared.streams.Owner.TheVariants.{Held}
 use Rattle.strm_machine.specs.declared.streams.Side.{Side}
 use Rattle.strm_machine.specs.declared.streams.Side.TheVariants.{Writing, Reading}
 use Rattle.strm_machine.specs.declared.streams.Operation.{Operation}
@@ -102,13 +108,42 @@ pub record HandlesHold (state : State) : Type 0 where
       (end_of side (stream_at state s)).owner ≡ Held g handle →
       is_end s side (end_named state g handle) ≡ true
 
--- two handles that name one end are the same handle of the same guest, and an end that is gone is
--- named by none
+-- two handles that name one end are the same handle of the same guest, and an end that no guest has,
+-- one that is loose or gone, is named by none
 pub record HandlesAreSingle (state : State) : Type 0 where
   pub single : (s : ℕ) (side : Side) (g handle k other : ℕ) →
       is_end s side (end_named state g handle) ≡ true →
       is_end s side (end_named state k other) ≡ true →
       (g ≡ k) × (handle ≡ other)
-  pub gone : (s : ℕ) (side : Side) (g handle : ℕ) →
-      (end_of side (stream_at state s)).owner ≡ Gone →
+  pub unheld : (s : ℕ) (side : Side) (g handle : ℕ) →
+      is_held (end_of side (stream_at state s)).owner ≡ false →
       is_end s side (end_named state g handle) ≡ false
+
+-- a member of a guest's set is a live handle of an end, and its set is there. Each handle of a set names
+-- one that is there, and each set that is there has one handle
+pub record MembersAreLive (state : State) : Type 0 where
+  pub live : (g number handle : ℕ) →
+      is_member (sets_in state.guests g) number handle ≡ true →
+      is_ok (end_named state g handle) ≡ true
+  pub kept : (g number handle : ℕ) →
+      is_member (sets_in state.guests g) number handle ≡ true →
+      is_there (sets_in state.guests g) number ≡ true
+  pub there : (g set number : ℕ) →
+      set_named state g set ≡ Ok number → is_there (sets_in state.guests g) number ≡ true
+  pub named : (g number : ℕ) →
+      is_there (sets_in state.guests g) number ≡ true → (set : ℕ) × (set_named state g set ≡ Ok number)
+  pub single : (g number set other : ℕ) →
+      set_named state g set ≡ Ok number → set_named state g other ≡ Ok number → set ≡ other
+
+-- each error context counts the handles to it in all tables together. One that is there has some, and
+-- one that is not has none; what a handle names is there, and keeps a message
+pub record ContextsCount (state : State) : Type 0 where
+  pub counted : (number : ℕ) →
+      count_at state.contexts number ≡ all_handles_to number state.guests
+  pub some : (number : ℕ) →
+      contexts.is_there state.contexts number ≡ true → 0 < all_handles_to number state.guests
+  pub none : (number : ℕ) →
+      contexts.is_there state.contexts number ≡ false → all_handles_to number state.guests ≡ 0
+  pub named : (g handle number : ℕ) →
+      context_named state g handle ≡ Ok number → contexts.is_there state.contexts number ≡ true
+  pub message : (g handle : ℕ) → IsMessage (message_named state g handle)

@@ -15,8 +15,8 @@ ghost use Rattle.strm_machine.specs.declared.steps.Step.{Step};
 ghost use Rattle.strm_machine.specs.Moments.{moment_of};
 ghost use Rattle.strm_laws.specs.Conservation.{moments, last, calls, got};
 ghost use Rattle.strm_machine.specs.Soundness.{IsSound, both_open, AreUnmoved};
-ghost use Rattle.strm_laws.specs.Laws.{AreSteps, Conserves, waiting, Stands, AreCounted, HandlesHold, HandlesAreSingle};
-ghost use Rattle.strm_machine.specs.Untouched.{StaysAside};
+ghost use Rattle.strm_laws.specs.Laws.{AreSteps, Conserves, waiting, Stands, AreCounted, HandlesHold, HandlesAreSingle, MembersAreLive, ContextsCount};
+ghost use Rattle.strm_machine.specs.Untouched.{LieThere, StaysAside};
 
 /// On each stream, what was received is, in order, exactly the first k items of each accepted
 /// write, k the count reported, each as the writer's memory held it just before it was copied. The
@@ -59,16 +59,17 @@ pub fn totals_are_counts()
         AreCounted (stream_at (last (empty tag limits) run) s) }
 {}
 
-/// Every state is sound, after whichever steps: handles name streams that were made, of their type, and
-/// the items that an operation has left lie in its guest's memory.
+/// Every state is sound, after whichever steps: handles name streams that were made, of their type, the
+/// items that an operation has left lie in its guest's memory, and each guest's table agrees with its
+/// waitable sets.
 pub fn states_are_sound()
     ensures { (tag : ℕ) (limits : Limits) (run : List Step) →
         IsSound (last (empty tag limits) run) }
 {}
 
 /// An end that a handle names is held under that handle, and an end that is held is named by its
-/// handle, after whichever steps. So an end has one handle at most, and none once it is gone: no
-/// handle names a stream whose both ends are gone.
+/// handle, after whichever steps. So an end has one handle at most, and none while it is loose or once it
+/// is gone: no handle names a stream whose both ends are gone.
 pub fn handles_hold_their_ends()
     ensures holds { (tag : ℕ) (limits : Limits) (run : List Step) →
         HandlesHold (last (empty tag limits) run) }
@@ -76,11 +77,34 @@ pub fn handles_hold_their_ends()
         HandlesAreSingle (last (empty tag limits) run) }
 {}
 
-/// Nothing but a poke and the items received changes a memory: in each step of a run all other bytes
-/// of each guest stay as they were, no guest goes, and no memory changes its length.
+/// A member of a waitable set is a live handle of a stream's or future's end, in the table of the set's
+/// guest, after whichever steps. Its set is there, and has one handle; and what a handle of a set names
+/// is there.
+pub fn members_are_live()
+    ensures { (tag : ℕ) (limits : Limits) (run : List Step) →
+        MembersAreLive (last (empty tag limits) run) }
+{}
+
+/// An error context counts the handles to it in all tables together, after whichever steps: it is there
+/// as long as there is one. What a handle of one names is there, and its message is UTF-8 of at most
+/// 4,096 bytes.
+pub fn contexts_count_their_handles()
+    ensures { (tag : ℕ) (limits : Limits) (run : List Step) →
+        ContextsCount (last (empty tag limits) run) }
+{}
+
+/// Nothing but a poke, a message and the items received changes a memory: in each step of a run all
+/// other bytes of each guest stay as they were, no guest goes, and no memory changes its length.
 pub fn other_bytes_stay()
     ensures { (tag : ℕ) (limits : Limits) (run : List Step) (step : Step) →
         AreSteps (run ++ step ∷ []) → StaysAside (moment_of (last (empty tag limits) run) step) }
+{}
+
+/// The bytes that a step puts into a memory, those of a poke or of an error context's message, lie there
+/// after it, in whichever run: exactly as many as the step names, or answers.
+pub fn bytes_are_put()
+    ensures { (tag : ℕ) (limits : Limits) (run : List Step) (step : Step) →
+        LieThere (moment_of (last (empty tag limits) run) step) }
 {}
 
 /// A step stops at a bad item exactly where one of the items that it asks to move at once is none, in

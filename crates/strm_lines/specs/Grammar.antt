@@ -7,7 +7,7 @@ use Rattle.strm_codes.specs.declared.payloads.Payload.TheVariants.{Tuple}
 use Rattle.strm_codes.specs.declared.codes.TransmitIndex.{TransmitIndex}
 use Rattle.strm_codes.specs.declared.codes.TransmitIndex.TheVariants.{Stream, Future}
 use Rattle.strm_machine.specs.declared.steps.Step.{Step}
-use Rattle.strm_machine.specs.declared.steps.Step.TheVariants.{Guest, New, Between, Write, Read, DropWrite, DropRead, CancelWrite, CancelRead, Event, Poke, Dump}
+use Rattle.strm_machine.specs.declared.steps.Step.TheVariants.{Guest, New, Between, Write, Read, DropWrite, DropRead, CancelWrite, CancelRead, Move, Lift, Lower, Close, Event, SetNew, SetJoin, SetPoll, SetDrop, ErrNew, ErrText, ErrMove, ErrDrop, Poke, Dump}
 use Rattle.strm_lines.specs.Words.{hex_pairs, type_word}
 
 -- words in a row, exactly one space between each two
@@ -24,7 +24,7 @@ abbrev pub operands : ℕ → TransmitIndex → ℕ → ℕ → ℕ → List (Li
 operands guest ty handle address count =
     decimal guest ∷ type_word ty ∷ decimal handle ∷ decimal address ∷ counted ty count
 
--- the words behind the drops and the cancels
+-- the words behind the drops, the cancels and `lift`
 abbrev pub named_end : ℕ → TransmitIndex → ℕ → List (List ℕ)
 named_end guest ty handle = decimal guest ∷ type_word ty ∷ decimal handle ∷ []
 
@@ -42,7 +42,25 @@ spelling (DropWrite guest ty handle) = words (codes "drop-write" ∷ named_end g
 spelling (DropRead guest ty handle) = words (codes "drop-read" ∷ named_end guest ty handle)
 spelling (CancelWrite guest ty handle) = words (codes "cancel-write" ∷ named_end guest ty handle)
 spelling (CancelRead guest ty handle) = words (codes "cancel-read" ∷ named_end guest ty handle)
+spelling (Move guest ty handle to) =
+    words (codes "move" ∷ decimal guest ∷ type_word ty ∷ decimal handle ∷ decimal to ∷ [])
+spelling (Lift guest ty handle) = words (codes "lift" ∷ named_end guest ty handle)
+spelling (Lower reader guest ty) =
+    words (codes "lower" ∷ decimal reader ∷ decimal guest ∷ type_word ty ∷ [])
+spelling (Close reader) = words (codes "close" ∷ decimal reader ∷ [])
 spelling (Event guest handle) = words (codes "event" ∷ decimal guest ∷ decimal handle ∷ [])
+spelling (SetNew guest) = words (codes "set-new" ∷ decimal guest ∷ [])
+spelling (SetJoin guest set handle) =
+    words (codes "set-join" ∷ decimal guest ∷ decimal set ∷ decimal handle ∷ [])
+spelling (SetPoll guest set) = words (codes "set-poll" ∷ decimal guest ∷ decimal set ∷ [])
+spelling (SetDrop guest set) = words (codes "set-drop" ∷ decimal guest ∷ decimal set ∷ [])
+spelling (ErrNew guest address len) =
+    words (codes "err-new" ∷ decimal guest ∷ decimal address ∷ decimal len ∷ [])
+spelling (ErrText guest handle address) =
+    words (codes "err-text" ∷ decimal guest ∷ decimal handle ∷ decimal address ∷ [])
+spelling (ErrMove guest handle to) =
+    words (codes "err-move" ∷ decimal guest ∷ decimal handle ∷ decimal to ∷ [])
+spelling (ErrDrop guest handle) = words (codes "err-drop" ∷ decimal guest ∷ decimal handle ∷ [])
 spelling (Poke guest address bytes) =
     words (codes "poke" ∷ decimal guest ∷ decimal address ∷ hex_pairs bytes ∷ [])
 spelling (Dump guest address len) =
@@ -81,7 +99,7 @@ abbrev pub AreOperands : ℕ → TransmitIndex → ℕ → ℕ → ℕ → Type 
 AreOperands guest ty handle address count =
     IsU32 guest × (IsType ty × (IsU32 handle × (IsU32 address × IsCount ty count)))
 
--- what the drops and the cancels can name
+-- what the drops, the cancels and `lift` can name
 abbrev pub IsNamedEnd : ℕ → TransmitIndex → ℕ → Type 0
 IsNamedEnd guest ty handle = IsU32 guest × (IsType ty × IsU32 handle)
 
@@ -96,6 +114,18 @@ HasLine (DropWrite guest ty handle) = IsNamedEnd guest ty handle
 HasLine (DropRead guest ty handle) = IsNamedEnd guest ty handle
 HasLine (CancelWrite guest ty handle) = IsNamedEnd guest ty handle
 HasLine (CancelRead guest ty handle) = IsNamedEnd guest ty handle
+HasLine (Move guest ty handle to) = IsU32 guest × (IsType ty × (IsU32 handle × IsU32 to))
+HasLine (Lift guest ty handle) = IsNamedEnd guest ty handle
+HasLine (Lower reader guest ty) = IsU32 reader × (IsU32 guest × IsType ty)
+HasLine (Close reader) = IsU32 reader
 HasLine (Event guest handle) = IsU32 guest × IsU32 handle
+HasLine (SetNew guest) = IsU32 guest
+HasLine (SetJoin guest set handle) = IsU32 guest × (IsU32 set × IsU32 handle)
+HasLine (SetPoll guest set) = IsU32 guest × IsU32 set
+HasLine (SetDrop guest set) = IsU32 guest × IsU32 set
+HasLine (ErrNew guest address len) = IsU32 guest × (IsU32 address × IsU32 len)
+HasLine (ErrText guest handle address) = IsU32 guest × (IsU32 handle × IsU32 address)
+HasLine (ErrMove guest handle to) = IsU32 guest × (IsU32 handle × IsU32 to)
+HasLine (ErrDrop guest handle) = IsU32 guest × IsU32 handle
 HasLine (Poke guest address bytes) = IsU32 guest × (IsU32 address × IsLineBytes bytes)
 HasLine (Dump guest address len) = IsU32 guest × (IsU32 address × IsBetween 1 64 len)

@@ -9,7 +9,7 @@ use Rattle.strm_codes.specs.declared.payloads.Payload.TheVariants.{Nothing, One,
 use Rattle.strm_codes.specs.declared.codes.TransmitIndex.{TransmitIndex}
 use Rattle.strm_codes.specs.declared.codes.TransmitIndex.TheVariants.{Stream, Future}
 use Rattle.strm_machine.specs.declared.steps.Step.{Step}
-use Rattle.strm_machine.specs.declared.steps.Step.TheVariants.{Guest, New, Between, Write, Read, DropWrite, DropRead, CancelWrite, CancelRead, Event, Poke, Dump}
+use Rattle.strm_machine.specs.declared.steps.Step.TheVariants.{Guest, New, Between, Write, Read, DropWrite, DropRead, CancelWrite, CancelRead, Move, Lift, Lower, Close, Event, SetNew, SetJoin, SetPoll, SetDrop, ErrNew, ErrText, ErrMove, ErrDrop, Poke, Dump}
 use Rattle.strm_lines.specs.Words.{scalar_word}
 
 -- a reading, and then another of what it found
@@ -162,7 +162,7 @@ place_of (Future payload) rest =
 unfoldable pub operands_of : List ℕ → Option (ℕ × (TransmitIndex × (ℕ × (ℕ × ℕ))))
 operands_of rest = followed_by number (followed_by_its type_read place_of) rest
 
--- the words behind the drops and the cancels: guest, type and handle
+-- the words behind the drops, the cancels and `lift`: guest, type and handle
 unfoldable pub named_end_of : List ℕ → Option (ℕ × (TransmitIndex × ℕ))
 named_end_of rest = followed_by number (followed_by type_read number) rest
 
@@ -205,9 +205,64 @@ cancel_write_of rest = option_map (λ v. CancelWrite v.0 v.1.0 v.1.1) (named_end
 unfoldable pub cancel_read_of : List ℕ → Option Step
 cancel_read_of rest = option_map (λ v. CancelRead v.0 v.1.0 v.1.1) (named_end_of rest)
 
+-- move G T H R
+unfoldable pub move_of : List ℕ → Option Step
+move_of rest =
+    option_map (λ v. Move v.0 v.1.0 v.1.1.0 v.1.1.1)
+    (followed_by number (followed_by type_read (followed_by number number)) rest)
+
+-- lift G T H
+unfoldable pub lift_of : List ℕ → Option Step
+lift_of rest = option_map (λ v. Lift v.0 v.1.0 v.1.1) (named_end_of rest)
+
+-- lower R G T
+unfoldable pub lower_of : List ℕ → Option Step
+lower_of rest =
+    option_map (λ v. Lower v.0 v.1.0 v.1.1) (followed_by number (followed_by number type_read) rest)
+
+-- close R
+unfoldable pub close_of : List ℕ → Option Step
+close_of rest = option_map Close (number rest)
+
+-- set-new G
+unfoldable pub set_new_of : List ℕ → Option Step
+set_new_of rest = option_map SetNew (number rest)
+
+-- set-join G N H
+unfoldable pub set_join_of : List ℕ → Option Step
+set_join_of rest =
+    option_map (λ v. SetJoin v.0 v.1.0 v.1.1) (followed_by number (followed_by number number) rest)
+
+-- set-poll G N
+unfoldable pub set_poll_of : List ℕ → Option Step
+set_poll_of rest = option_map (λ v. SetPoll v.0 v.1) (followed_by number number rest)
+
+-- set-drop G N
+unfoldable pub set_drop_of : List ℕ → Option Step
+set_drop_of rest = option_map (λ v. SetDrop v.0 v.1) (followed_by number number rest)
+
 -- event G H
 unfoldable pub event_of : List ℕ → Option Step
 event_of rest = option_map (λ v. Event v.0 v.1) (followed_by number number rest)
+
+-- err-new G A N
+unfoldable pub err_new_of : List ℕ → Option Step
+err_new_of rest =
+    option_map (λ v. ErrNew v.0 v.1.0 v.1.1) (followed_by number (followed_by number number) rest)
+
+-- err-text G H A
+unfoldable pub err_text_of : List ℕ → Option Step
+err_text_of rest =
+    option_map (λ v. ErrText v.0 v.1.0 v.1.1) (followed_by number (followed_by number number) rest)
+
+-- err-move G H R
+unfoldable pub err_move_of : List ℕ → Option Step
+err_move_of rest =
+    option_map (λ v. ErrMove v.0 v.1.0 v.1.1) (followed_by number (followed_by number number) rest)
+
+-- err-drop G H
+unfoldable pub err_drop_of : List ℕ → Option Step
+err_drop_of rest = option_map (λ v. ErrDrop v.0 v.1) (followed_by number number rest)
 
 -- poke G A HEX
 unfoldable pub poke_of : List ℕ → Option Step
@@ -235,12 +290,30 @@ often =
     command (codes "write ") write_of ∷ command (codes "read ") read_of ∷ command (codes "event ") event_of
     ∷ command (codes "poke ") poke_of ∷ command (codes "dump ") dump_of ∷ []
 
--- and the others
+-- those that make something or end it
 abbrev pub seldom : List Command
 seldom =
     command (codes "guest ") guest_of ∷ command (codes "new ") new_of ∷ command (codes "pair ") pair_of
     ∷ command (codes "drop-write ") drop_write_of ∷ command (codes "drop-read ") drop_read_of
     ∷ command (codes "cancel-write ") cancel_write_of ∷ command (codes "cancel-read ") cancel_read_of ∷ []
+
+-- those of read ends that change their owner
+abbrev pub moving : List Command
+moving =
+    command (codes "move ") move_of ∷ command (codes "lift ") lift_of ∷ command (codes "lower ") lower_of
+    ∷ command (codes "close ") close_of ∷ []
+
+-- those of waitable sets
+abbrev pub gathering : List Command
+gathering =
+    command (codes "set-new ") set_new_of ∷ command (codes "set-join ") set_join_of
+    ∷ command (codes "set-poll ") set_poll_of ∷ command (codes "set-drop ") set_drop_of ∷ []
+
+-- those of error contexts
+abbrev pub explaining : List Command
+explaining =
+    command (codes "err-new ") err_new_of ∷ command (codes "err-text ") err_text_of
+    ∷ command (codes "err-move ") err_move_of ∷ command (codes "err-drop ") err_drop_of ∷ []
 
 -- the step of the first of these commands that a line begins with
 abbrev pub read_by : List Command → List ℕ → Option Step
@@ -249,4 +322,4 @@ read_by (c ∷ commands) line = option_map_or c.read (behind c.front line) (read
 
 -- the step that a line spells, where it spells one
 unfoldable pub step_of : List ℕ → Option Step
-step_of line = read_by (often ++ seldom) line
+step_of line = read_by (often ++ (seldom ++ (moving ++ (gathering ++ explaining)))) line

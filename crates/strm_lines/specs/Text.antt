@@ -4,8 +4,9 @@ use Rattle.std.specs.List.{flat_map}
 use Rattle.strm_codes.specs.Codes.{word_of}
 use Rattle.strm_codes.specs.declared.codes.ReturnCode.{ReturnCode}
 use Rattle.strm_codes.specs.Refusals.{refusal_name}
+use Rattle.strm_machine.specs.declared.replies.Member as members
 use Rattle.strm_machine.specs.declared.replies.Reply.{Reply}
-use Rattle.strm_machine.specs.declared.replies.Reply.TheVariants.{Done, Number, Pair, Code, Event, Bytes, Refused, BadItem, StoreTrapped}
+use Rattle.strm_machine.specs.declared.replies.Reply.TheVariants.{Done, Number, Pair, Code, Event, Member, Bytes, Refused, BadItem, StoreTrapped}
 use Rattle.strm_lines.specs.Words.{hex_pair, hex_pairs}
 use Rattle.strm_lines.specs.Grammar.{words}
 
@@ -28,6 +29,11 @@ abbrev pub event_text : Option ReturnCode → List ℕ
 event_text (Some code) = code_text code
 event_text None = codes "none"
 
+-- the member of a set that was told something, and what it was told
+abbrev pub member_text : Option members.Member → List ℕ
+member_text (Some member) = words (decimal member.handle ∷ code_text member.code ∷ [])
+member_text None = codes "none"
+
 -- the text of a reply; a run has no reply of the last two kinds
 abbrev pub reply_text : Reply → List ℕ
 reply_text Done = codes "ok"
@@ -37,6 +43,7 @@ reply_text (Pair pair) =
     ∷ codes "stream" ∷ decimal pair.stream ∷ [])
 reply_text (Code code) = code_text code
 reply_text (Event told) = event_text told
+reply_text (Member told) = member_text told
 reply_text (Bytes bytes) = hex_pairs bytes
 reply_text (Refused refusal) = words (codes "refused" ∷ refusal_name refusal ∷ [])
 reply_text (BadItem stream) =

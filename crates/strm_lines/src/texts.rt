@@ -2,7 +2,7 @@
 //!
 //! Source: ours.
 
-ghost use Rattle.std.specs.Prelude.{◌≡◌, ◌++◌, ◌≤◌, ◌<◌, length, codes, decimal, IfOk, OnOk};
+ghost use Rattle.std.specs.Prelude.{◌≡◌, ◌++◌, ◌≤◌, ◌<◌, length, codes, decimal, Some, IfOk, OnOk};
 ghost use Rattle.strm_lines.specs.Words.{hex_digit, hex_pairs};
 ghost use Rattle.strm_lines.specs.Text.{ended, hex_word, reply_text, reply_lines, stream_text, stream_lines, done_text, transcript_text, stopped_text, usage_text, bad_line_text, too_long_text, read_fault_text};
 
@@ -11,7 +11,7 @@ use itoa::{Buffer, Integer};
 use std::alloc::Global;
 use strm_codes::counts::OutOfMemory;
 use strm_codes::refusals::Refusal;
-use strm_machine::replies::{Pair, Reply};
+use strm_machine::replies::{Member, Pair, Reply};
 
 // The lower-case hexadecimal digits.
 const DIGITS: [u8; 16] = *b"0123456789abcdef";
@@ -80,6 +80,15 @@ fn push_pair(out: &mut TextBytes, pair: &Pair) -> Result<(), OutOfMemory>
     out.push(b'\n')
 }
 
+// Adds the line of a member of a set and of what it was told.
+fn push_member(out: &mut TextBytes, member: &Member) -> Result<(), OutOfMemory>
+    ensures { OnOk result (out.new ≡ out.old ++ ended (reply_text (Reply.Member (Some member.now)))) }
+{
+    push_number(out, member.handle)?;
+    out.push(b' ')?;
+    out.push_slice(&hex_line(member.code.encode()))
+}
+
 // Adds the line of a refusal.
 fn push_refusal(out: &mut TextBytes, refusal: Refusal) -> Result<(), OutOfMemory>
     ensures { OnOk result (out.new ≡ out.old ++ ended (reply_text (Reply.Refused refusal))) }
@@ -95,7 +104,7 @@ fn push_reply(out: &mut TextBytes, reply: &Reply) -> Result<(), OutOfMemory>
 {
     match reply {
         Reply::Code(code) | Reply::Event(Some(code)) => out.push_slice(&hex_line(code.encode())),
-        Reply::Event(None) => out.push_slice(b"none\n"),
+        Reply::Event(None) | Reply::Member(None) => out.push_slice(b"none\n"),
         Reply::Done => out.push_slice(b"ok\n"),
         Reply::Bytes(bytes) => push_hex(out, bytes.as_slice()),
         Reply::Number(number) => {
@@ -103,6 +112,7 @@ fn push_reply(out: &mut TextBytes, reply: &Reply) -> Result<(), OutOfMemory>
             out.push(b'\n')
         }
         Reply::Pair(pair) => push_pair(out, pair),
+        Reply::Member(Some(member)) => push_member(out, member),
         Reply::Refused(refusal) => push_refusal(out, *refusal),
         Reply::BadItem { stream } => {
             out.push_slice(b"bad-item stream ")?;

@@ -3,10 +3,8 @@
 use Rattle.std.proofs.Common.{◌≡◌, ℕ, Bool, true, false, refl, sym, ap, ◌∙◌, inl, inr}
 use Rattle.std.specs.Prelude.{Ok, Err, ◌⊎◌, ◌==◌}
 use Rattle.std.proofs.lemmas.Bool.{and_parts, cases_eq, eqb-true}
-use Rattle.strm_machine.specs.Words.{same_side, Name, Gone, Side, Writing, Reading, is_end}
+use Rattle.strm_machine.specs.Words.{same_side, Name, Side, Writing, Reading, is_end, Owner, Held, is_held}
 use Rattle.strm_machine.specs.Tests.{side_of}
-use Rattle.strm_machine.specs.declared.streams.Owner.{Owner}
-use Rattle.strm_machine.specs.declared.streams.Owner.TheVariants.{Held}
 use Rattle.strm_machine.proofs.SideLemmas.{same_side_is}
 
 -- ## One end or another
@@ -41,9 +39,9 @@ not_true : (b : Bool) → b ≡ true → b ≡ false → ⊥
 not_true true e f = cc
 not_true false e f = cc
 
--- an end is not gone and held
-not_gone : (a b : Owner) (g handle : ℕ) → a ≡ Gone → b ≡ Held g handle → a ≡ b → ⊥
-not_gone a b g handle e f h = cc
+-- an end is not held by nobody and held
+not_held : (a b : Owner) (g handle : ℕ) → is_held a ≡ false → b ≡ Held g handle → a ≡ b → ⊥
+not_held a b g handle e f h = let is : is_held a ≡ true = ap is_held (h ∙ f) in cc
 
 same_owner : (g k handle other : ℕ) → Held g handle ≡ Held k other → (g ≡ k) × (handle ≡ other)
 same_owner g k handle other e = (cc, cc)
@@ -60,28 +58,28 @@ module _ (names : ℕ → ℕ → Name) (owners : ℕ → Side → Owner) (h : A
   pub Agree-single : (s : ℕ) (side : Side) (g handle k other : ℕ) → is_end s side (names g handle) ≡ true → is_end s side (names k other) ≡ true → (g ≡ k) × (handle ≡ other)
   Agree-single s side g handle k other e f = same_owner g k handle other (sym (h.named g handle s side e) ∙ h.named k other s side f)
 
-  -- and none once it is gone
-  pub Agree-gone : (s : ℕ) (side : Side) (g handle : ℕ) → owners s side ≡ Gone → is_end s side (names g handle) ≡ false
-  Agree-gone s side g handle e = unnamed (is_end s side (names g handle)) refl
+  -- and none where no guest has it
+  pub Agree-unheld : (s : ℕ) (side : Side) (g handle : ℕ) → is_held (owners s side) ≡ false → is_end s side (names g handle) ≡ false
+  Agree-unheld s side g handle e = unnamed (is_end s side (names g handle)) refl
     where
       unnamed : (b : Bool) → is_end s side (names g handle) ≡ b → b ≡ false
-      unnamed true is = let own = h.named g handle s side is in absurd (not_gone (owners s side) (owners s side) g handle e own refl)
+      unnamed true is = let own = h.named g handle s side is in absurd (not_held (owners s side) (owners s side) g handle e own refl)
       unnamed false is = refl
 
 module _ (names names' : ℕ → ℕ → Name) (owners owners' : ℕ → Side → Owner) (h : Agree names owners) where
   -- nothing has changed
-  pub Agree-same : ((g handle : ℕ) → names' g handle ≡ names g handle) → ((s : ℕ) (side : Side) → owners' s side ≡ owners s side) → Agree names' owners'
+  pub Agree-same : ((g handle s : ℕ) (side : Side) → is_end s side (names' g handle) ≡ is_end s side (names g handle)) → ((s : ℕ) (side : Side) → owners' s side ≡ owners s side) → Agree names' owners'
   Agree-same e f = record {
-    named = λ g handle s side is. f s side ∙ h.named g handle s side (ap (is_end s side) (sym (e g handle)) ∙ is);
-    held = λ g handle s side is. ap (is_end s side) (e g handle) ∙ h.held g handle s side (sym (f s side) ∙ is);
+    named = λ g handle s side is. f s side ∙ h.named g handle s side (sym (e g handle s side) ∙ is);
+    held = λ g handle s side is. e g handle s side ∙ h.held g handle s side (sym (f s side) ∙ is);
   }
 
   module _ (g : ℕ) (handle : ℕ) (s : ℕ) (side : Side)
       (others : (k other : ℕ) → ((k ≡ g) × (other ≡ handle) → ⊥) → names' k other ≡ names k other)
       (rest : (k : ℕ) (other : Side) → ((k ≡ s) × (other ≡ side) → ⊥) → owners' k other ≡ owners k other) where
-    -- a handle that named no end names one that was gone
+    -- a handle that named no end names one that no guest had
     module _ (free : (k : ℕ) (other : Side) → is_end k other (names g handle) ≡ false) (here : is_end s side (names' g handle) ≡ true)
-        (gone : owners s side ≡ Gone) (owned : owners' s side ≡ Held g handle) where
+        (unheld : is_held (owners s side) ≡ false) (owned : owners' s side ≡ Held g handle) where
       more_named : (k other t : ℕ) (a : Side) → is_end t a (names' k other) ≡ true → owners' t a ≡ Held k other
       more_named k other t a is =
           elim (cases_both (cases_eq k g) (cases_eq other handle)) [
@@ -95,7 +93,7 @@ module _ (names names' : ℕ → ℕ → Name) (owners owners' : ℕ → Side �
                 let owner : Held g handle ≡ Held k other = cc in
                 end ∙ owned ∙ owner
             | inr n ↦ let own : owners t a ≡ Held k other = h.named k other t a (ap (is_end t a) (sym (others k other n)) ∙ is) in
-                rest t a (λ q. let q0 = q.0 in let q1 = q.1 in let same : owners s side ≡ owners t a = cc in not_gone (owners s side) (owners t a) k other gone own same) ∙ own
+                rest t a (λ q. let q0 = q.0 in let q1 = q.1 in let same : owners s side ≡ owners t a = cc in not_held (owners s side) (owners t a) k other unheld own same) ∙ own
           ]
 
       more_held : (k other t : ℕ) (a : Side) → owners' t a ≡ Held k other → is_end t a (names' k other) ≡ true
@@ -116,9 +114,9 @@ module _ (names names' : ℕ → ℕ → Name) (owners owners' : ℕ → Side �
       pub Agree-more : Agree names' owners'
       Agree-more = record { named = more_named; held = more_held }
 
-    -- a handle that named an end names none, and the end is gone
+    -- a handle that named an end names none, and no guest has the end
     module _ (was : is_end s side (names g handle) ≡ true) (free : (k : ℕ) (other : Side) → is_end k other (names' g handle) ≡ false)
-        (gone : owners' s side ≡ Gone) where
+        (unheld : is_held (owners' s side) ≡ false) where
       less_named : (k other t : ℕ) (a : Side) → is_end t a (names' k other) ≡ true → owners' t a ≡ Held k other
       less_named k other t a is =
           elim (cases_both (cases_eq k g) (cases_eq other handle)) [
@@ -137,10 +135,23 @@ module _ (names names' : ℕ → ℕ → Name) (owners owners' : ℕ → Side �
             | inl q ↦ let q0 = q.0 in
                 let q1 = q.1 in
                 let same : owners' s side ≡ owners' t a = cc in
-                absurd (not_gone (owners' s side) (owners' t a) k other gone is same)
+                absurd (not_held (owners' s side) (owners' t a) k other unheld is same)
             | inr off ↦ let before : is_end t a (names k other) ≡ true = h.held k other t a (sym (rest t a off) ∙ is) in
                 ap (is_end t a) (others k other (λ p. let p0 = p.0 in let p1 = p.1 in let same : names g handle ≡ names k other = cc in off (is_end-once t s a side (names g handle) (ap (is_end t a) same ∙ before) was))) ∙ before
           ]
 
       pub Agree-less : Agree names' owners'
       Agree-less = record { named = less_named; held = less_held }
+
+  -- an end that no guest had gets an owner that is none either
+  module _ (s : ℕ) (side : Side) (same : (g handle : ℕ) → names' g handle ≡ names g handle)
+      (rest : (k : ℕ) (other : Side) → ((k ≡ s) × (other ≡ side) → ⊥) → owners' k other ≡ owners k other)
+      (was : is_held (owners s side) ≡ false) (unheld : is_held (owners' s side) ≡ false) where
+    beside : (owner : ℕ → Side → Owner) → is_held (owner s side) ≡ false → (g handle t : ℕ) (a : Side) → owner t a ≡ Held g handle → (t ≡ s) × (a ≡ side) → ⊥
+    beside owner none g handle t a is q = let q0 = q.0 in let q1 = q.1 in let here : owner s side ≡ owner t a = cc in not_held (owner s side) (owner t a) g handle none is here
+
+    pub Agree-beside : Agree names' owners'
+    Agree-beside = record {
+      named = λ g handle t a is. let own = h.named g handle t a (ap (is_end t a) (sym (same g handle)) ∙ is) in rest t a (beside owners was g handle t a own) ∙ own;
+      held = λ g handle t a is. ap (is_end t a) (same g handle) ∙ h.held g handle t a (sym (rest t a (beside owners' unheld g handle t a is)) ∙ is);
+    }

@@ -14,14 +14,21 @@ use Rattle.strm_machine.specs.Turns.{learns, waits, moves, completes_alone, rend
 use Rattle.strm_machine.specs.Tests.{items_asked}
 use Rattle.strm_machine.specs.Refusals.{refusal}
 use Rattle.strm_machine.specs.Making.{with_stream}
-use Rattle.strm_machine.specs.Reactions.{written_back, on_stream, on_end, makes, on_memory, performs}
+use Rattle.strm_machine.specs.Reactions.{written_back, on_stream, on_end, on_loose, makes, polls, on_set, on_context, on_memory, performs}
+use Rattle.strm_machine.specs.WaitableSets.{ready_in}
 use Rattle.strm_machine.specs.Plays.{is_settled}
 use Rattle.strm_machine.specs.Asked.{HasBadItem}
 use Rattle.strm_machine.specs.declared.streams.Meeting.{Meeting}
 use Rattle.strm_machine.specs.declared.streams.Meeting.TheVariants.{BothComplete, WriteCompletes, ReadCompletes}
 use Rattle.strm_machine.specs.declared.acts.Making.{Making}
-use Rattle.strm_machine.specs.declared.acts.Making.TheVariants.{Guest as MakeGuest, Between}
+use Rattle.strm_machine.specs.declared.acts.Making.TheVariants.{Guest as MakeGuest, Between, Set, Context}
 use Rattle.strm_machine.specs.declared.acts.EndAct.{EndAct}
+use Rattle.strm_machine.specs.declared.acts.LooseAct.{LooseAct}
+use Rattle.strm_machine.specs.declared.acts.LooseAct.TheVariants.{Lower, Close}
+use Rattle.strm_machine.specs.declared.acts.SetAct.{SetAct}
+use Rattle.strm_machine.specs.declared.acts.SetAct.TheVariants as set_acts
+use Rattle.strm_machine.specs.declared.acts.ContextAct.{ContextAct}
+use Rattle.strm_machine.specs.declared.acts.ContextAct.TheVariants as context_acts
 use Rattle.strm_machine.specs.declared.acts.MemoryAct.{MemoryAct}
 use Rattle.strm_machine.specs.declared.acts.MemoryAct.TheVariants.{Dump}
 use Rattle.strm_machine.specs.declared.replies.Reply.TheVariants as replies
@@ -123,11 +130,31 @@ pub record Proceeds (state : State) (r : Reaction) : Type 0 where
   pub settled : is_settled r.reply ≡ true
   pub trapped : r.state.trapped ≡ state.trapped
 
--- what is made, and what is done to a memory
+-- what is made, and what is done to a loose end, to a set, to an error context or to a memory
 makes-goes : (state : State) (making : Making) → Proceeds state (makes state making)
 unfolding with_stream
 makes-goes state (MakeGuest size) = record { settled = refl; trapped = refl }
 makes-goes state (Between writer reader ty) = record { settled = refl; trapped = refl }
+makes-goes state (Set g) = record { settled = refl; trapped = refl }
+makes-goes state (Context g address len) = record { settled = refl; trapped = refl }
+
+loose-goes : (state : State) (reader : ℕ) (act : LooseAct) → Proceeds state (on_loose state reader act)
+loose-goes state reader (Lower g ty) = record { settled = refl; trapped = refl }
+loose-goes state reader Close = record { settled = refl; trapped = refl }
+
+polls-goes : (state : State) (g : ℕ) (o : Option ℕ) → Proceeds state (polls state g o)
+polls-goes state g None = record { settled = refl; trapped = refl }
+polls-goes state g (Some handle) = record { settled = refl; trapped = refl }
+
+set-goes : (state : State) (g set : ℕ) (act : SetAct) → Proceeds state (on_set state g set act)
+set-goes state g set (set_acts.Join handle) = record { settled = refl; trapped = refl }
+set-goes state g set set_acts.Poll = polls-goes state g (ready_in state g set)
+set-goes state g set set_acts.Drop = record { settled = refl; trapped = refl }
+
+context-goes : (state : State) (g handle : ℕ) (act : ContextAct) → Proceeds state (on_context state g handle act)
+context-goes state g handle (context_acts.Text address) = record { settled = refl; trapped = refl }
+context-goes state g handle (context_acts.Move to) = record { settled = refl; trapped = refl }
+context-goes state g handle context_acts.Drop = record { settled = refl; trapped = refl }
 
 memory-goes : (state : State) (g : ℕ) (act : MemoryAct) → Proceeds state (on_memory state g act)
 memory-goes state g (Poke address bytes) = record { settled = refl; trapped = refl }
@@ -194,7 +221,10 @@ module _ (P : Reaction → Type 0) (state : State) (step : Step) (bad : (s : ℕ
       performs-by (λ act r. act_of step ≡ act → P r) state
       (λ making does. done _ (makes-goes state making))
       (λ side end act does. end-by side end act does e)
+      (λ reader act does. done _ (loose-goes state reader act))
       (λ g handle does. done _ (record { settled = refl; trapped = refl }))
+      (λ g set act does. done _ (set-goes state g set act))
+      (λ g handle act does. done _ (context-goes state g handle act))
       (λ g act does. done _ (memory-goes state g act))
       (act_of step) refl)
 

@@ -1,17 +1,18 @@
--- What an event, a drop and a cancel make of the end that they name: facts of one stream and its new end, from
--- which all laws of such a step follow.
-use Rattle.std.proofs.Common.{◌≡◌, Bool, true, false, cond, Option, Some, None, refl, sym, subst, inl, inr}
-use Rattle.std.specs.Prelude.{◌&&◌, not, is_some, if◌then◌else◌, IsSomeAnd}
+-- What an event and a cancel make of the end that they name: facts of one stream and its new end, from which
+-- all laws of such a step follow.
+use Rattle.std.proofs.Common.{◌≡◌, ℕ, Bool, true, false, cond, List, Option, Some, None, refl, sym, subst, inr}
+use Rattle.std.specs.Prelude.{◌&&◌, not, is_some, IsSomeAnd}
 use Rattle.std.specs.Option.{option_map}
 use Rattle.std.proofs.lemmas.Bool.{cond_both}
-use Rattle.strm_machine.specs.Words.{ReturnCode, TransmitKind, AStream, Future, end_of, report_on, told_end, as_report, count_reported, k_of, Gone, Side, Operation, End, Stream}
+use Rattle.strm_machine.specs.Words.{Payload, ReturnCode, TransmitKind, AStream, Future, end_of, with_end, report_on, told_end, as_report, count_reported, k_of, OperationIsPlaced, StreamIsPlaced, Side, Operation, End, Stream}
 use Rattle.strm_codes.specs.declared.codes.ReturnCode.TheVariants as codes
 use Rattle.strm_codes.specs.declared.codes.StreamResult.{StreamResult}
 use Rattle.strm_codes.specs.declared.codes.StreamResult.TheVariants.{Completed, Dropped, Cancelled}
 use Rattle.strm_events.specs.Reports.{outcome_code, report_of, left_pending, cancel_answer}
-use Rattle.strm_machine.specs.Endings.{pending_of, is_other_gone, code_of_cancel}
+use Rattle.strm_machine.specs.Endings.{pending_of, is_other_gone, delivered, code_of_cancel, cancelled}
 use Rattle.strm_machine.specs.Tests.{is_busy}
 use Rattle.strm_machine.proofs.EndLemmas.{IsLeft}
+use Rattle.strm_machine.proofs.SideLemmas.{StreamKeeps, end_placed, with_end-keeps}
 use Rattle.strm_machine.proofs.SoundLemmas.{left_told}
 use Rattle.strm_machine.specs.Soundness.{IsUnmoved}
 use Rattle.strm_machine.proofs.TallyLemmas.{AreOne, unmoved_on, Tallies, one_on, count_reported-dropped}
@@ -26,12 +27,11 @@ IsTold kind report None (Some q) = ⊥
 IsTold kind report (Some o) None = IsSomeAnd report (λ code. count_reported kind code ≡ o.moved)
 IsTold kind report (Some o) (Some q) = (report ≡ None) × (q ≡ o)
 
--- the end on a side becomes this one and is told this code, if any; where its handle is freed, it is
--- gone
-pub record Becomes (side : Side) (stream : Stream) (e : End) (code : Option ReturnCode) (frees : Bool) : Type 0 where
+-- the end on a side becomes this one of the same owner, and is told this code, if any
+pub record Becomes (side : Side) (stream : Stream) (e : End) (code : Option ReturnCode) : Type 0 where
   pub left : IsLeft (end_of side stream).operation e.operation
   pub told : Tallies stream → IsTold stream.kind (as_report code) (end_of side stream).operation e.operation
-  pub owner : e.owner ≡ (if frees then Gone else (end_of side stream).owner)
+  pub owner : e.owner ≡ (end_of side stream).owner
 
 -- ## An end is told its report
 
@@ -58,23 +58,10 @@ report_told Future (Some o) gone told passed one =
     (λ e. subst (λ (r : StreamResult). Tells Future (Some o) (Some (outcome_code Future r o.moved))) (sym h.completed) (sym (h.done e)))
     (λ e. cond_both (gone && not passed) _ _ (Tells Future (Some o)) (λ f. sym (h.waiting e)) (λ f. (refl, refl)))
 
-pub told-becomes : (side : Side) (stream : Stream) → Becomes side stream (told_end (report_on side stream) (end_of side stream)) (report_on side stream) false
+pub told-becomes : (side : Side) (stream : Stream) → Becomes side stream (told_end (report_on side stream) (end_of side stream)) (report_on side stream)
 told-becomes side stream = record {
   left = left_told (report_on side stream) (end_of side stream).operation;
   told = λ tallies. report_told stream.kind (end_of side stream).operation (is_other_gone side stream) (end_of side stream).told stream.passed (λ k. one_on side stream (tallies.one k));
-  owner = refl;
-}
-
--- ## An end is dropped
-
-idle_told : (kind : TransmitKind) (o : Option Operation) → is_some o ≡ false → IsTold kind None o o
-idle_told kind None e = refl
-idle_told kind (Some o) e = cc
-
-pub gone-becomes : (side : Side) (stream : Stream) → is_busy side stream ≡ false → Becomes side stream (record (end_of side stream) { owner = Gone }) None true
-gone-becomes side stream e = record {
-  left = inl refl;
-  told = λ tallies. idle_told stream.kind (end_of side stream).operation e;
   owner = refl;
 }
 
@@ -106,9 +93,31 @@ cancel_told stream (Some o) gone told e h one =
     let code = report_of stream.kind (option_map pending_of (Some o)) gone told stream.passed in
     cancelled_told stream.kind o code (unreported stream.kind o gone told stream.passed h) (report_told stream.kind (Some o) gone told stream.passed one)
 
-pub cancelled-becomes : (side : Side) (stream : Stream) → is_busy side stream ≡ true → Becomes side stream (told_end (Some (code_of_cancel side stream)) (end_of side stream)) (Some (code_of_cancel side stream)) false
+pub cancelled-becomes : (side : Side) (stream : Stream) → is_busy side stream ≡ true → Becomes side stream (told_end (Some (code_of_cancel side stream)) (end_of side stream)) (Some (code_of_cancel side stream))
 cancelled-becomes side stream e = record {
   left = inr refl;
   told = λ tallies. cancel_told stream (end_of side stream).operation (is_other_gone side stream) (end_of side stream).told e (unmoved_on side stream tallies) (λ k. one_on side stream (tallies.one k));
   owner = refl;
 }
+
+-- ## What stays of the stream
+
+left_placed : (sizes : List ℕ) (payload : Payload) (code : Option ReturnCode) (o : Option Operation) → OperationIsPlaced sizes payload o → OperationIsPlaced sizes payload (left_pending code o)
+left_placed sizes payload None o p = p
+left_placed sizes payload (Some code) o p = tt
+
+-- an end that was told a code, if any
+told_end-keeps : (side : Side) (sizes : List ℕ) (stream : Stream) (code : Option ReturnCode) → StreamIsPlaced sizes stream → StreamKeeps sizes stream (with_end side stream (told_end code (end_of side stream)))
+told_end-keeps side sizes stream code h =
+    with_end-keeps side sizes stream (told_end code (end_of side stream)) h refl
+    (left_placed sizes stream.payload code (end_of side stream).operation (end_placed side sizes stream h))
+
+-- an end that was told its report
+pub delivered-keeps : (side : Side) (sizes : List ℕ) (stream : Stream) → StreamIsPlaced sizes stream → StreamKeeps sizes stream (delivered side stream)
+unfolding delivered
+delivered-keeps side sizes stream h = told_end-keeps side sizes stream (report_on side stream) h
+
+-- an end whose operation was cancelled
+pub cancelled-keeps : (side : Side) (sizes : List ℕ) (stream : Stream) → StreamIsPlaced sizes stream → StreamKeeps sizes stream (cancelled side stream)
+unfolding cancelled
+cancelled-keeps side sizes stream h = told_end-keeps side sizes stream (Some (code_of_cancel side stream)) h

@@ -1,27 +1,25 @@
 -- Handles and ends agree after every step, by its shape: no step makes a handle or an end alone, or takes one.
-use Rattle.std.proofs.Common.{◌≡◌, ◌≢◌, ℕ, ◌<◌, Bool, true, false, List, [], ◌∷◌, ◌++◌, length, get_or, set, Option, Some, None, refl, sym, ap, ◌∙◌, subst, arith, ⊎_elim, length-set}
-use Rattle.std.specs.Prelude.{if◌then◌else◌}
+use Rattle.std.proofs.Common.{◌≡◌, ◌≢◌, ℕ, ◌<◌, true, false, List, [], ◌∷◌, ◌++◌, length, get_or, set, Option, Some, None, refl, sym, ap, ◌∙◌, subst, arith, ⊎_elim, length-set}
 use Rattle.std.proofs.lemmas.Bool.{cases_eq}
 use Rattle.std.proofs.lemmas.List.{get_or-set_same, get_or_push, get_or_past}
-use Rattle.strm_machine.specs.Words.{Guest, ReturnCode, TransmitIndex, Handles, removed, Entry, State, no_stream, guest_in, with_handles, stream_at, end_of, with_end, Turn, Name, named, stream_named, Reaction, written_back, is_end, Act, Gone, Side, Writing, Reading, End, Stream}
+use Rattle.strm_machine.specs.Words.{Guest, ReturnCode, TransmitIndex, Handles, removed, Entry, State, no_stream, Sets, guest_in, sets_in, with_handles, with_table, stream_at, end_of, with_end, Turn, Name, named, stream_named, Reaction, written_back, is_end, Act, Reply, Gone, Side, Writing, Reading, End, Stream, Owner, Held, Loose, with_owner, is_held}
 use Rattle.strm_codes.specs.declared.codes.TransmitIndex.TheVariants as index
 use Rattle.strm_handles.specs.Handles.{handle_limit, entry_at, next_index, inserted, IsTable}
 use Rattle.strm_handles.specs.Lookups.{end_rep_in, end_rep_of}
 use Rattle.strm_handles.proofs.HandleLemmas.{IsTable-inserted, IsTable-removed, entry_at-next_index, entry_at-inserted-same, entry_at-inserted-other, entry_at-removed-same, entry_at-removed-other}
+use Rattle.strm_sets.specs.Sets.{left}
 use Rattle.strm_machine.specs.State.{idle_end}
-use Rattle.strm_machine.specs.Making.{read_entry, write_entry, with_read_end, made_stream, made_pair, with_stream}
+use Rattle.strm_machine.specs.Making.{read_entry, write_entry, end_entry, with_read_end, made_stream, made_pair, with_stream}
 use Rattle.strm_machine.specs.Reactions.{reaction}
 use Rattle.strm_machine.specs.Soundness as machine
-use Rattle.strm_machine.specs.declared.streams.Owner.TheVariants.{Held}
-use Rattle.strm_machine.proofs.AgreeLemmas.{Agree, Agree-same, Agree-more, Agree-less}
+use Rattle.strm_machine.proofs.AgreeLemmas.{Agree, Agree-same, Agree-more, Agree-less, Agree-beside}
 use Rattle.strm_machine.proofs.EndLemmas.{with_end-replaces}
 use Rattle.strm_machine.proofs.NamedEndLemmas.{end_itself}
 use Rattle.strm_machine.proofs.SoundStepLemmas.{operate-keeps}
 use Rattle.strm_machine.proofs.TurnLemmas.{TurnKeeps}
 use Rattle.strm_machine.proofs.RefusalLemmas.{PairFits}
-use Rattle.strm_machine.proofs.SoundLemmas.{guests_after}
 use Rattle.strm_machine.proofs.TableLemmas.{handles_of-with_memory, with_end-owners, handles-same, handles-more, handles-with_same, handles-with_other, tables-with, owner_in, owner-set_same, owner-set_stays, owner-set_other, owner-push_either, owner-push_same, owner-push_other}
-use Rattle.strm_machine.proofs.Shapes.{turn_on, Shape, ByTurn, BySetting, ByPair, ByGuest, ByPoke, ByRest}
+use Rattle.strm_machine.proofs.Shapes.{turn_on, set_by, Owning, guests_freed, guests_given, owned_by, IsFreed, IsTaken, Owns, Tabling, tabled_by, Tables, Shape, ByTurn, BySetting, ByOwner, ByTable, ByPair, ByGuest, ByPut, ByRest}
 use Rattle.strm_machine.proofs.ShapeLemmas.{reaction-shape}
 
 abbrev pub names_in : List Guest → ℕ → ℕ → Name
@@ -41,24 +39,25 @@ StateIsHeld state = IsHeld state.guests state.streams
 IsHeld-same : (guests others : List Guest) (streams more : List Stream) → ((g : ℕ) → (guest_in others g).handles ≡ (guest_in guests g).handles) → ((s : ℕ) (side : Side) → owner_in more s side ≡ owner_in streams s side) → IsHeld guests streams → IsHeld others more
 IsHeld-same guests others streams more e f h = record {
   tables = λ g. subst (λ k. IsTable k) (sym (e g)) (h.tables g);
-  agree = Agree-same (names_in guests) (names_in others) (owner_in streams) (owner_in more) h.agree (λ g handle. ap (λ k. end_rep_of k handle) (e g)) f;
+  agree = Agree-same (names_in guests) (names_in others) (owner_in streams) (owner_in more) h.agree (λ g handle s side. ap (λ k. is_end s side (end_rep_of k handle)) (e g)) f;
 }
 
 -- what each handle names, but for one number of one table
-names-with : (guests : List Guest) (g : ℕ) (handles : Handles) (n : ℕ) → g < length guests → ((i : ℕ) → i ≢ n → entry_at handles i ≡ entry_at (guest_in guests g).handles i) → (k handle : ℕ) → ((k ≡ g) × (handle ≡ n) → ⊥) → names_in (with_handles guests g handles) k handle ≡ names_in guests k handle
-names-with guests g handles n l same k handle ne =
-    ⊎_elim
-    (λ e. let other : handle ≢ n = λ f. ne (e, f) in
-    ap (λ i. names_in (with_handles guests g handles) i handle) e
-    ∙ ap (λ t. end_rep_of t handle) (handles-with_same guests g handles l)
-    ∙ ap end_rep_in (same handle other)
-    ∙ ap (λ i. names_in guests i handle) (sym e))
-    (λ e. ap (λ t. end_rep_of t handle) (handles-with_other guests g handles k e))
-    (cases_eq k g)
+module _ (guests : List Guest) (g : ℕ) (handles : Handles) (sets : Sets) (n : ℕ) (l : g < length guests) where
+  names-with : ((i : ℕ) → i ≢ n → entry_at handles i ≡ entry_at (guest_in guests g).handles i) → (k handle : ℕ) → ((k ≡ g) × (handle ≡ n) → ⊥) → names_in (with_table guests g handles sets) k handle ≡ names_in guests k handle
+  names-with same k handle ne =
+      ⊎_elim
+      (λ e. let other : handle ≢ n = λ f. ne (e, f) in
+      ap (λ i. names_in (with_table guests g handles sets) i handle) e
+      ∙ ap (λ t. end_rep_of t handle) (handles-with_same guests g handles sets l)
+      ∙ ap end_rep_in (same handle other)
+      ∙ ap (λ i. names_in guests i handle) (sym e))
+      (λ e. ap (λ t. end_rep_of t handle) (handles-with_other guests g handles sets k e))
+      (cases_eq k g)
 
 -- what the changed number stands for
-names-here : (guests : List Guest) (g : ℕ) (handles : Handles) (n : ℕ) (o : Option Entry) → g < length guests → entry_at handles n ≡ o → names_in (with_handles guests g handles) g n ≡ end_rep_in o
-names-here guests g handles n o l e = ap (λ t. end_rep_of t n) (handles-with_same guests g handles l) ∙ ap end_rep_in e
+names-here : (guests : List Guest) (g : ℕ) (handles : Handles) (sets : Sets) (n : ℕ) (o : Option Entry) → g < length guests → entry_at handles n ≡ o → names_in (with_table guests g handles sets) g n ≡ end_rep_in o
+names-here guests g handles sets n o l e = ap (λ t. end_rep_of t n) (handles-with_same guests g handles sets l) ∙ ap end_rep_in e
 
 -- a number that names an end stands for an entry
 entry_there : (s : ℕ) (side : Side) (o : Option Entry) → is_end s side (end_rep_in o) ≡ true → (e : Entry) × (o ≡ Some e)
@@ -75,34 +74,35 @@ module _ (guests : List Guest) (streams more : List Stream) (g : ℕ) where
   table = (guest_in guests g).handles
 
   module _ (s : ℕ) (side : Side) (l : g < length guests) (rest : OthersStay streams more s side) (h : IsHeld guests streams) where
-    -- a handle is inserted, and an end that was gone is held under it
-    IsHeld-inserted : (e : Entry) → next_index table < handle_limit → is_end s side (end_rep_in (Some e)) ≡ true → owner_in streams s side ≡ Gone → owner_in more s side ≡ Held g (next_index table) → IsHeld (with_handles guests g (inserted table e)) more
-    IsHeld-inserted e small is gone owned =
+    -- a handle is inserted, and an end that no guest had is held under it
+    IsHeld-inserted : (e : Entry) → next_index table < handle_limit → is_end s side (end_rep_in (Some e)) ≡ true → is_held (owner_in streams s side) ≡ false → owner_in more s side ≡ Held g (next_index table) → IsHeld (with_handles guests g (inserted table e)) more
+    IsHeld-inserted e small is unheld owned =
         let old = (guest_in guests g).handles in
         let n = next_index old in
         let new = inserted old e in
+        let same = sets_in guests g in
         let sound : IsTable old = h.tables g in
         record {
-          tables = tables-with guests g new l (IsTable-inserted old e sound small) h.tables;
+          tables = tables-with guests g new same l (IsTable-inserted old e sound small) h.tables;
           agree = Agree-more (names_in guests) (names_in (with_handles guests g new)) (owner_in streams) (owner_in more) h.agree g n s side
-              (names-with guests g new n l (λ i ne. entry_at-inserted-other old e i ne)) rest
+              (names-with guests g new same n l (λ i ne. entry_at-inserted-other old e i ne)) rest
               (λ k other. ap (λ o. is_end k other (end_rep_in o)) (entry_at-next_index old sound))
-              (ap (is_end s side) (names-here guests g new n (Some e) l (entry_at-inserted-same old e sound)) ∙ is)
-              gone owned;
+              (ap (is_end s side) (names-here guests g new same n (Some e) l (entry_at-inserted-same old e sound)) ∙ is)
+              unheld owned;
         }
 
-    -- a handle is removed, and the end that it named is gone
-    IsHeld-removed : (handle : ℕ) → is_end s side (names_in guests g handle) ≡ true → owner_in more s side ≡ Gone → IsHeld (with_handles guests g (removed table handle)) more
-    IsHeld-removed handle is gone =
+    -- a handle is removed, and no guest has the end that it named
+    IsHeld-removed : (handle : ℕ) (sets : Sets) → is_end s side (names_in guests g handle) ≡ true → is_held (owner_in more s side) ≡ false → IsHeld (with_table guests g (removed table handle) sets) more
+    IsHeld-removed handle sets is unheld =
         let old = (guest_in guests g).handles in
         let new = removed old handle in
         let found = entry_there s side (entry_at old handle) is in
         record {
-          tables = tables-with guests g new l (IsTable-removed old handle found.0 found.1 (h.tables g)) h.tables;
-          agree = Agree-less (names_in guests) (names_in (with_handles guests g new)) (owner_in streams) (owner_in more) h.agree g handle s side
-              (names-with guests g new handle l (λ i ne. entry_at-removed-other old handle i ne)) rest is
-              (λ k other. ap (is_end k other) (names-here guests g new handle None l (entry_at-removed-same old handle)))
-              gone;
+          tables = tables-with guests g new sets l (IsTable-removed old handle found.0 found.1 (h.tables g)) h.tables;
+          agree = Agree-less (names_in guests) (names_in (with_table guests g new sets)) (owner_in streams) (owner_in more) h.agree g handle s side
+              (names-with guests g new sets handle l (λ i ne. entry_at-removed-other old handle i ne)) rest is
+              (λ k other. ap (is_end k other) (names-here guests g new sets handle None l (entry_at-removed-same old handle)))
+              unheld;
         }
 
 -- ## Reads and writes
@@ -142,30 +142,78 @@ owner-set_beside streams s side e k other ne =
     (λ off. owner-set_other streams s x k other off)
     (cases_eq k s)
 
--- a handle that is freed named the end that is gone; else handles and owners are as they were
-module _ (state : State) (g handle s : ℕ) (side : Side) (e : End) where
-  -- the streams with the end that is set
-  abbrev streams_set : List Stream
-  streams_set = set state.streams s (with_end side (stream_at state s) e)
+-- ## An end of another owner
 
-  sets_held : (frees : Bool) → g < length state.guests → s < length state.streams → is_end s side (names_in state.guests g handle) ≡ true → e.owner ≡ (if frees then Gone else (end_of side (stream_at state s)).owner) → StateIsHeld state → IsHeld (guests_after frees state.guests g handle) streams_set
-  sets_held true there made is owner h =
-      IsHeld-removed state.guests state.streams streams_set g s side there (λ k other. owner-set_beside state.streams s side e k other) h handle is
-      (owner-set_here state.streams s side e made ∙ owner)
-  sets_held false there made is owner h =
-      IsHeld-same state.guests state.guests state.streams streams_set
-      (λ k. refl)
-      (λ k other. owner-set_stays state.streams s (with_end side (stream_at state s) e) k other (with_end-owners side (stream_at state s) e owner)) h
+end_entry-end : (side : Side) (ty : TransmitIndex) (s : ℕ) → is_end s side (end_rep_in (Some (end_entry side ty s))) ≡ true
+end_entry-end Writing (index.Stream payload) s = end_itself s Writing
+end_entry-end Writing (index.Future payload) s = end_itself s Writing
+end_entry-end Reading (index.Stream payload) s = end_itself s Reading
+end_entry-end Reading (index.Future payload) s = end_itself s Reading
+
+-- handles are as they were, and an end that no guest had has an owner that is none either
+IsHeld-beside : (guests : List Guest) (streams more : List Stream) (s : ℕ) (side : Side) → OthersStay streams more s side → is_held (owner_in streams s side) ≡ false → is_held (owner_in more s side) ≡ false → IsHeld guests streams → IsHeld guests more
+IsHeld-beside guests streams more s side rest was unheld h = record {
+  tables = h.tables;
+  agree = Agree-beside (names_in guests) (names_in guests) (owner_in streams) (owner_in more) h.agree s side (λ g handle. refl) rest was unheld;
+}
+
+module _ (streams : List Stream) (s : ℕ) (side : Side) (made : s < length streams) where
+  -- the streams with this owner for the end
+  abbrev owned : Owner → List Stream
+  owned owner = set streams s (with_owner side (get_or streams s no_stream) owner)
+
+  owned_here : (owner : Owner) → owner_in (owned owner) s side ≡ owner
+  owned_here owner = owner-set_here streams s side (record (end_of side (get_or streams s no_stream)) { owner = owner }) made
+
+  owned_beside : (owner : Owner) → OthersStay streams (owned owner) s side
+  owned_beside owner k other = owner-set_beside streams s side (record (end_of side (get_or streams s no_stream)) { owner = owner }) k other
+
+  -- a handle is freed, or none is
+  freed_held : (guests : List Guest) (o : Option (ℕ × ℕ)) → IsFreed guests s side (owner_in streams s side) o → IsHeld guests streams → IsHeld (guests_freed guests o) (owned Loose)
+  freed_held guests None unheld h = IsHeld-beside guests streams (owned Loose) s side (owned_beside Loose) unheld (ap is_held (owned_here Loose)) h
+  freed_held guests (Some f) frees h =
+      IsHeld-removed guests streams (owned Loose) f.0 s side frees.there (owned_beside Loose) h f.1 (left (sets_in guests f.0) f.1) frees.held (ap is_held (owned_here Loose))
+
+  -- and then a guest gets one, or none does
+  taken_held : (guests : List Guest) (entry : Entry) (owner : Owner) (o : Option ℕ) → is_end s side (end_rep_in (Some entry)) ≡ true → IsTaken guests owner o → IsHeld guests (owned Loose) → IsHeld (guests_given guests entry o) (owned owner)
+  taken_held guests entry owner o is taken h = by o taken
+    where
+      rest : OthersStay (owned Loose) (owned owner) s side
+      rest k other ne = owned_beside owner k other ne ∙ sym (owned_beside Loose k other ne)
+
+      loose : is_held (owner_in (owned Loose) s side) ≡ false
+      loose = ap is_held (owned_here Loose)
+
+      by : (o : Option ℕ) → IsTaken guests owner o → IsHeld (guests_given guests entry o) (owned owner)
+      by None unheld = IsHeld-beside guests (owned Loose) (owned owner) s side rest loose (ap is_held (owned_here owner) ∙ unheld) h
+      by (Some g) takes = IsHeld-inserted guests (owned Loose) (owned owner) g s side takes.there rest h entry takes.small is loose (owned_here owner ∙ takes.owns)
+
+owned_held : (state : State) (reply : Reply) (x : Owning) → Owns state reply x → StateIsHeld state → StateIsHeld (owned_by state x)
+owned_held state reply x o h =
+    let freed = freed_held state.streams x.stream x.side o.made state.guests x.freed o.freed h in
+    taken_held state.streams x.stream x.side o.made (guests_freed state.guests x.freed) (end_entry x.side x.ty x.stream) x.owner x.taker (end_entry-end x.side x.ty x.stream) o.taken freed
+
+-- ## A table with its sets
+
+tabled_held : (state : State) (reply : Reply) (x : Tabling) → Tables state reply x → StateIsHeld state → StateIsHeld (tabled_by state x)
+tabled_held state reply x t h =
+    let guests = (tabled_by state x).guests in
+    record {
+      tables = tables-with state.guests x.guest x.handles x.sets t.there t.holds.table h.tables;
+      agree = Agree-same (names_in state.guests) (names_in guests) (owner_in state.streams) (owner_in state.streams) h.agree named (λ s side. refl);
+    }
+  where
+    named : (g handle s : ℕ) (side : Side) → is_end s side (names_in (tabled_by state x).guests g handle) ≡ is_end s side (names_in state.guests g handle)
+    named g handle s side =
+        ⊎_elim
+        (λ e. ap (λ i. is_end s side (names_in (tabled_by state x).guests i handle)) e
+        ∙ ap (λ k. is_end s side (end_rep_of k handle)) (handles-with_same state.guests x.guest x.handles x.sets t.there)
+        ∙ t.ends handle s side
+        ∙ ap (λ i. is_end s side (names_in state.guests i handle)) (sym e))
+        (λ ne. ap (λ k. is_end s side (end_rep_of k handle)) (handles-with_other state.guests x.guest x.handles x.sets g ne))
+        (cases_eq g x.guest)
 
 -- ## A stream more
-
-read_entry-end : (ty : TransmitIndex) (s : ℕ) → is_end s Reading (end_rep_in (Some (read_entry ty s))) ≡ true
-read_entry-end (index.Stream payload) s = end_itself s Reading
-read_entry-end (index.Future payload) s = end_itself s Reading
-
-write_entry-end : (ty : TransmitIndex) (s : ℕ) → is_end s Writing (end_rep_in (Some (write_entry ty s))) ≡ true
-write_entry-end (index.Stream payload) s = end_itself s Writing
-write_entry-end (index.Future payload) s = end_itself s Writing
 
 -- the owner of an end of a stream behind the others
 owner-made : (streams : List Stream) (x : Stream) (side : Side) → owner_in (streams ++ x ∷ []) (length streams) side ≡ (end_of side x).owner
@@ -183,9 +231,9 @@ between_held state writer reader ty fits h =
     let half : Stream = record whole { writer = idle_end Gone } in
     let many : writer < length held = omega (arith, fits.writer_there, length-set state.guests reader (record (guest_in state.guests reader) { handles = inserted (guest_in state.guests reader).handles (read_entry ty s) })) in
     let first = IsHeld-inserted state.guests streams (streams ++ half ∷ []) reader s Reading fits.reader_there (λ k other. half_other streams half refl k other) h
-    (read_entry ty s) fits.read (read_entry-end ty s) (ap (λ st. st.reader.owner) (get_or_past streams s no_stream (omega arith))) (owner-made streams half Reading) in
+    (read_entry ty s) fits.read (end_entry-end Reading ty s) (ap (λ st. is_held st.reader.owner) (get_or_past streams s no_stream (omega arith))) (owner-made streams half Reading) in
     IsHeld-inserted held (streams ++ half ∷ []) (streams ++ whole ∷ []) writer s Writing many (λ k other. whole_other streams whole half refl k other) first
-    (write_entry ty s) fits.write (write_entry-end ty s) (owner-made streams half Writing) (owner-made streams whole Writing)
+    (write_entry ty s) fits.write (end_entry-end Writing ty s) (ap is_held (owner-made streams half Writing)) (owner-made streams whole Writing)
   where
     half_other : (streams : List Stream) (half : Stream) → half.writer.owner ≡ Gone → (k : ℕ) (other : Side) → ((k ≡ length streams) × (other ≡ Reading) → ⊥) → owner_in (streams ++ half ∷ []) k other ≡ owner_in streams k other
     half_other streams half e k Writing ne = owner-push_same streams half k Writing e
@@ -208,10 +256,15 @@ shape-held state act r h (ByTurn side end address count a e o) =
     let t = turn_on state side end address count in
     rw e (turn_held state (stream_named (named state end)) t t.code (operate-keeps state side end address count o) h)
 shape-held state act r h (BySetting reply x e set) =
-    rw e (sets_held state x.guest x.handle x.stream x.side x.end x.frees set.found.there set.found.made set.found.held set.becomes.owner h)
+    rw e
+    (IsHeld-same state.guests state.guests state.streams (set_by state x).streams
+    (λ k. refl)
+    (λ k other. owner-set_stays state.streams x.stream (with_end x.side (stream_at state x.stream) x.end) k other (with_end-owners x.side (stream_at state x.stream) x.end set.becomes.owner)) h)
+shape-held state act r h (ByOwner reply x e o) = rw e (owned_held state reply x o h)
+shape-held state act r h (ByTable reply x e t) = rw e (tabled_held state reply x t h)
 shape-held state act r h (ByPair writer reader ty a e fits) = rw e (between_held state writer reader ty fits h)
 shape-held state act r h (ByGuest size a e fits) = rw e (guests_held state _ (λ g. handles-more state.guests _ g refl) h)
-shape-held state act r h (ByPoke g address bytes a e fits) =
+shape-held state act r h (ByPut reply g address bytes e p) =
     rw e (guests_held state _ (λ k. handles-same state.guests _ k (handles_of-with_memory state.guests g _)) h)
 shape-held state act r h (ByRest reply e none) = rw e h
 

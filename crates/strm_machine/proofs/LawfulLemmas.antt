@@ -5,15 +5,19 @@ use Rattle.std.specs.Prelude.{All, IsSome, ◌⊎◌}
 use Rattle.std.proofs.lemmas.Bool.{cond-true}
 use Rattle.std.proofs.lemmas.List.{get_or-set_same, set-get_or, get_or_append_left}
 use Rattle.std.proofs.lemmas.List.Elements.{All-push, All-set}
-use Rattle.strm_machine.specs.Words.{Guest, ReturnCode, TransmitIndex, Handles, removed, State, no_stream, guest_in, memory_in, with_handles, stream_at, opposite, same_side, end_of, with_end, Turn, named, stream_named, sizes_of, both_open, Reaction, goes, written_back, operates, Moment, names, as_report, report_in, accepted, k_of, items_in, received, NamedEnd, Poke, Act, Make, OnMemory, Side, Writing, Reading, Operation, End, Stream, Reply}
+use Rattle.strm_machine.specs.Words.{Guest, ReturnCode, TransmitIndex, Handles, Sets, Entry, removed, State, no_stream, guest_in, memory_in, sets_in, with_table, stream_at, opposite, same_side, end_of, with_end, Turn, named, stream_named, sizes_of, both_open, Reaction, goes, written_back, operates, Moment, names, as_report, report_in, accepted, k_of, items_in, received, NamedEnd, Act, Make, Side, Writing, Reading, Operation, End, Stream, Reply}
 use Rattle.strm_memory.specs.Bytes.{IsBytes}
-use Rattle.strm_machine.specs.Making.{made_stream, made_pair, with_stream}
+use Rattle.strm_handles.specs.Handles.{inserted}
+use Rattle.strm_sets.specs.Sets.{left}
+use Rattle.strm_machine.specs.Making.{end_entry, made_stream, made_pair, with_stream}
+use Rattle.strm_machine.specs.State.{with_bytes}
 use Rattle.strm_machine.specs.Reactions.{written, reaction}
 use Rattle.strm_machine.specs.Moments.{code_told, place_of, read_place, PutsBytes}
 use Rattle.strm_machine.specs.declared.acts.Making.TheVariants as makings
 use Rattle.strm_machine.specs.declared.replies.Reply.TheVariants as replies
 use Rattle.strm_machine.proofs.SideLemmas.{same_side-itself, end_placed}
-use Rattle.strm_machine.proofs.SoundLemmas.{guests_after, IsSound-guests, IsSound-turn, IsSound-with_stream, IsSound-set}
+use Rattle.strm_machine.proofs.SoundLemmas.{IsSound-guests, IsSound-turn, IsSound-with_stream, IsSound-table, IsSound-set}
+use Rattle.strm_machine.proofs.RefusalLemmas.{PairFits}
 use Rattle.strm_machine.proofs.SoundStepLemmas.{operate-keeps, poke-keeps, guest-sound}
 use Rattle.strm_machine.proofs.TurnLemmas.{TurnKeeps}
 use Rattle.strm_machine.proofs.Changes.{Scene, scene, Change, ByRest as RestChange, BySettling}
@@ -22,10 +26,11 @@ use Rattle.strm_machine.proofs.NamedEndLemmas.{IsFound, named_itself}
 use Rattle.strm_machine.proofs.EndLemmas.{each_side, same_side-opposite, IsReplaced, with_end-replaces, with_end-apart}
 use Rattle.strm_machine.proofs.EndingLemmas.{IsTold}
 use Rattle.strm_machine.proofs.TallyLemmas.{Tallies, begins_by, Tallies-with_end}
-use Rattle.strm_machine.proofs.MomentLemmas.{Seen, seen_reacts, Untold, unnamed, untold, nothing_got, seen_counted, end_still, seen_same, quiet_reacts, set_reacts}
+use Rattle.strm_machine.proofs.MomentLemmas.{Seen, seen_reacts, Untold, unnamed, untold, nothing_got, seen_counted, end_still, seen_same, quiet_reacts, set_reacts, set_reacts_beside}
+use Rattle.strm_machine.proofs.MoveLemmas.{end_by, IsSound-owned}
 use Rattle.strm_machine.proofs.TurnChangeLemmas.{scene_of, Does, Unturned, DoesBy, turn_does, still}
 use Rattle.strm_machine.proofs.Lawful.{IsLawful, HasRoom, as_moment, Reacts}
-use Rattle.strm_machine.proofs.Shapes.{operating, stream_on, begun_on, turn_on, Operates, Setting, set_by, Sets, Shape, ByTurn, BySetting, ByPair, ByGuest, ByPoke, ByRest}
+use Rattle.strm_machine.proofs.Shapes.{operating, stream_on, begun_on, turn_on, Operates, Setting, set_by, SetsEnd, Owning, guests_freed, guests_given, guests_by, owned_by, Owns, tabled_by, Shape, ByTurn, BySetting, ByOwner, ByTable, ByPair, ByGuest, ByPut, ByRest}
 use Rattle.strm_machine.proofs.ShapeLemmas.{reaction-shape}
 
 -- ## Reads and writes
@@ -59,7 +64,7 @@ trapped_reacts state act s t h keeps u =
     let streams : set state.streams s t.stream ≡ state.streams = ap (set state.streams s) u.same_stream ∙ set-get_or state.streams s no_stream in
     let sound = IsSound-turn state s t keeps h.sound in
     quiet_reacts state act (replies.BadItem s) (record (written state s t) { trapped = true }) streams refl h
-    (record { named = sound.named; placed = sound.placed; small = sound.small })
+    (record { named = sound.named; placed = sound.placed; small = sound.small; sets = sound.sets; contexts = sound.contexts })
     (subst AreBytes (sym u.same_guests) h.bytes)
 
 module _ (state : State) (side : Side) (end : NamedEnd) (address count : ℕ) (s : ℕ) (t : Turn)
@@ -72,9 +77,9 @@ module _ (state : State) (side : Side) (end : NamedEnd) (address count : ℕ) (s
       let mine = begun_on end address count in
       let m = as_moment state act (goes (replies.Code code) (written state s t)) in
       let after : stream_at m.after s ≡ t.stream = get_or-set_same state.streams s t.stream no_stream found.made in
-      let same : (other : Side) → scene s other m ≡ scene_of side other state.guests stream mine code t = λ other. operation_seen end address count code stream (stream_at m.after s) state.guests t side other (names s other state act) (names s Reading state act)
-      (named_itself state act s side other found.named) (named_itself state act s side Reading found.named) after in
-      set_reacts state act (replies.Code code) t.guests s side t.stream found.named h keeps.stream.kind
+      let same : (other : Side) → scene s other m ≡ scene_of side other state.guests stream mine code t = λ other. operation_seen end address count code stream (stream_at m.after s) state.guests t side other (names s other state act m.reply) (names s Reading state act m.reply)
+      (named_itself state act m.reply s side other (found.named m.reply)) (named_itself state act m.reply s side Reading (found.named m.reply)) after in
+      set_reacts state act (replies.Code code) t.guests s side t.stream (found.named (replies.Code code)) h keeps.stream.kind
       (record {
         change = λ other. subst (Change other) (sym (same other)) (d.change other);
         whole = subst (All IsSome) (sym (ap (λ v. v.got) (same Reading))) d.whole;
@@ -117,7 +122,7 @@ module _ (side : Side) (v : Scene) (takes : v.taken ≡ []) (nothing : v.got ≡
       still side v takes (r ∙ t.0) nothing payload count (is ∙ ap Some t.1 ∙ sym was)
 
 -- the end that is set is told its code, and the opposite one stays
-setting_seen : (state : State) (act : Act) (reply : Reply) (x : Setting) → IsLawful state → Sets state act reply x → Seen x.stream (as_moment state act (goes reply (set_by state x)))
+setting_seen : (state : State) (act : Act) (reply : Reply) (x : Setting) → IsLawful state → SetsEnd state act reply x → Seen x.stream (as_moment state act (goes reply (set_by state x)))
 setting_seen state act reply x h set =
     let s = x.stream in
     let side = x.side in
@@ -125,34 +130,68 @@ setting_seen state act reply x h set =
     let m = as_moment state act (goes reply (set_by state x)) in
     let new = with_end side stream x.end in
     let becomes = set.becomes in
-    let after : stream_at m.after s ≡ new = get_or-set_same state.streams s new no_stream set.found.made in
+    let after : stream_at m.after s ≡ new = get_or-set_same state.streams s new no_stream set.made in
     let replaced : IsReplaced side stream (stream_at m.after s) x.end = subst (λ st. IsReplaced side stream st x.end) (sym after) (with_end-replaces side stream x.end) in
-    let named = set.found.named in
-    let report : report_in s side m ≡ as_report (code_told reply) = cond-true (names s side state act) (as_report (code_told reply)) None (named_itself state act s side side named ∙ same_side-itself side) in
-    let untold = unnamed s (opposite side) m (named_itself state act s side (opposite side) named ∙ same_side-opposite side) in
+    let named = set.named in
+    let report : report_in s side m ≡ as_report (code_told reply) = cond-true (names s side state act reply) (as_report (code_told reply)) None (named_itself state act reply s side side named ∙ same_side-itself side) in
+    let untold = unnamed s (opposite side) m (named_itself state act reply s side (opposite side) named ∙ same_side-opposite side) in
     seen_counted s m
     (each_side (λ other. Change other (scene s other m)) side
-    (told_change side (scene s side m) (none_either (names s side state act) _ (set.untaken (report_in s side m))) (nothing_got s m replaced.count).0 replaced.payload replaced.count
+    (told_change side (scene s side m) (none_either (names s side state act reply) _ (set.untaken (report_in s side m))) (nothing_got s m replaced.count).0 replaced.payload replaced.count
     (as_report (code_told reply)) (end_of side stream).operation x.end.operation report refl (ap (λ (e : End). e.operation) replaced.here) (becomes.told (h.tallies s)))
     (end_still s (opposite side) m untold (record { operation = ap (λ (e : End). e.operation) replaced.other; payload = replaced.payload; kind = replaced.kind; count = replaced.count })))
     replaced.count
     (ap both_open after ∙ with_end-apart side stream x.end becomes.left (h.apart s))
     (subst Tallies (sym after) (Tallies-with_end side stream x.end becomes.left (h.tallies s)))
 
-AreBytes-with_handles : (guests : List Guest) (g : ℕ) (handles : Handles) → AreBytes guests → AreBytes (with_handles guests g handles)
-AreBytes-with_handles guests g handles h = All-set (λ (k : Guest). IsBytes k.memory) guests g (record (guest_in guests g) { handles = handles }) (memory_bytes guests g h) h
+AreBytes-with_table : (guests : List Guest) (g : ℕ) (handles : Handles) (sets : Sets) → AreBytes guests → AreBytes (with_table guests g handles sets)
+AreBytes-with_table guests g handles sets h = All-set (λ (k : Guest). IsBytes k.memory) guests g (record (guest_in guests g) { handles = handles; sets = sets }) (memory_bytes guests g h) h
 
-AreBytes-after : (frees : Bool) (guests : List Guest) (g handle : ℕ) → AreBytes guests → AreBytes (guests_after frees guests g handle)
-AreBytes-after true guests g handle h = AreBytes-with_handles guests g (removed (guest_in guests g).handles handle) h
-AreBytes-after false guests g handle h = h
-
-sets_reacts : (state : State) (act : Act) (reply : Reply) (x : Setting) → IsLawful state → Sets state act reply x → Reacts state act (goes reply (set_by state x))
+sets_reacts : (state : State) (act : Act) (reply : Reply) (x : Setting) → IsLawful state → SetsEnd state act reply x → Reacts state act (goes reply (set_by state x))
 sets_reacts state act reply x h set =
     let stream = stream_at state x.stream in
-    set_reacts state act reply (guests_after x.frees state.guests x.guest x.handle) x.stream x.side (with_end x.side stream x.end) set.found.named h (with_end-replaces x.side stream x.end).kind
+    set_reacts state act reply state.guests x.stream x.side (with_end x.side stream x.end) set.named h (with_end-replaces x.side stream x.end).kind
     (setting_seen state act reply x h set)
-    (IsSound-set state x.frees x.guest x.handle x.stream x.side x.end set.found.made set.becomes.left h.sound)
-    (AreBytes-after x.frees state.guests x.guest x.handle h.bytes)
+    (IsSound-set state x.stream x.side x.end set.made set.becomes.left h.sound)
+    h.bytes
+
+-- ## An end of another owner
+
+-- both ends stay, but for the owner of one
+owning_seen : (state : State) (act : Act) (reply : Reply) (x : Owning) → IsLawful state → Owns state reply x → Seen x.stream (as_moment state act (goes reply (owned_by state x)))
+owning_seen state act reply x h o =
+    let s = x.stream in
+    let side = x.side in
+    let stream = stream_at state s in
+    let e = end_by state x in
+    let new = with_end side stream e in
+    let m = as_moment state act (goes reply (owned_by state x)) in
+    let after : stream_at m.after s ≡ new = get_or-set_same state.streams s new no_stream o.made in
+    let replaced : IsReplaced side stream (stream_at m.after s) e = subst (λ st. IsReplaced side stream st e) (sym after) (with_end-replaces side stream e) in
+    seen_counted s m
+    (each_side (λ other. Change other (scene s other m)) side
+    (end_still s side m (untold s side m o.untold) (record { operation = ap (λ (k : End). k.operation) replaced.here; payload = replaced.payload; kind = replaced.kind; count = replaced.count }))
+    (end_still s (opposite side) m (untold s (opposite side) m o.untold) (record { operation = ap (λ (k : End). k.operation) replaced.other; payload = replaced.payload; kind = replaced.kind; count = replaced.count })))
+    replaced.count
+    (ap both_open after ∙ with_end-apart side stream e (inl refl) (h.apart s))
+    (subst Tallies (sym after) (Tallies-with_end side stream e (inl refl) (h.tallies s)))
+
+AreBytes-freed : (guests : List Guest) (o : Option (ℕ × ℕ)) → AreBytes guests → AreBytes (guests_freed guests o)
+AreBytes-freed guests None h = h
+AreBytes-freed guests (Some f) h = AreBytes-with_table guests f.0 (removed (guest_in guests f.0).handles f.1) (left (sets_in guests f.0) f.1) h
+
+AreBytes-given : (guests : List Guest) (entry : Entry) (o : Option ℕ) → AreBytes guests → AreBytes (guests_given guests entry o)
+AreBytes-given guests entry None h = h
+AreBytes-given guests entry (Some g) h = AreBytes-with_table guests g (inserted (guest_in guests g).handles entry) (sets_in guests g) h
+
+owns_reacts : (state : State) (act : Act) (reply : Reply) (x : Owning) → IsLawful state → Owns state reply x → Reacts state act (goes reply (owned_by state x))
+owns_reacts state act reply x h o =
+    let stream = stream_at state x.stream in
+    set_reacts_beside state act reply (guests_by state.guests x) x.stream x.side (with_end x.side stream (end_by state x))
+    (λ k ne end. untold k end (as_moment state act (goes reply (owned_by state x))) o.untold) h (with_end-replaces x.side stream (end_by state x)).kind
+    (owning_seen state act reply x h o)
+    (IsSound-owned state reply x o h.sound)
+    (AreBytes-given _ (end_entry x.side x.ty x.stream) x.taker (AreBytes-freed state.guests x.freed h.bytes))
 
 -- ## A stream more
 
@@ -188,9 +227,9 @@ new_seen s m ty writer write reader read u was is =
     new_operation Writing = refl
     new_operation Reading = refl
 
-between_reacts : (state : State) (writer reader : ℕ) (ty : TransmitIndex) → IsLawful state → Reacts state (Make (makings.Between writer reader ty)) (goes (replies.Pair (made_pair state writer reader ty)) (with_stream state writer reader ty))
+between_reacts : (state : State) (writer reader : ℕ) (ty : TransmitIndex) → PairFits state writer reader ty → IsLawful state → Reacts state (Make (makings.Between writer reader ty)) (goes (replies.Pair (made_pair state writer reader ty)) (with_stream state writer reader ty))
 unfolding with_stream
-between_reacts state writer reader ty h =
+between_reacts state writer reader ty fits h =
     let pair = made_pair state writer reader ty in
     let r = goes (replies.Pair pair) (with_stream state writer reader ty) in
     let act = Make (makings.Between writer reader ty) in
@@ -202,24 +241,29 @@ between_reacts state writer reader ty h =
     (λ new. new_seen s m ty writer pair.write reader pair.read (λ side. untold s side m refl) new.0 new.1)
     (made_at state.streams x s))
     (λ s l. record { there = omega (arith, l, length-append state.streams (x ∷ [])); kind = ap (λ (st : Stream). st.kind) (get_or_append_left state.streams (x ∷ []) no_stream s l) })
-    (IsSound-with_stream state writer reader ty h.sound)
-    (AreBytes-with_handles _ writer _ (AreBytes-with_handles state.guests reader _ h.bytes))
+    (IsSound-with_stream state writer reader ty fits.read fits.write h.sound)
+    (AreBytes-with_table _ writer _ _ (AreBytes-with_table state.guests reader _ _ h.bytes))
 
 -- ## Every step
 
 shape-reacts : (state : State) (act : Act) (r : Reaction) → PutsBytes act → IsLawful state → HasRoom state → Shape state act r → Reacts state act r
 shape-reacts state act r b h room (ByTurn side end address count a e o) = rw (a, e) (operates_reacts state side end address count h room o)
 shape-reacts state act r b h room (BySetting reply x e set) = rw e (sets_reacts state act reply x h set)
-shape-reacts state act r b h room (ByPair writer reader ty a e fits) = rw (a, e) (between_reacts state writer reader ty h)
+shape-reacts state act r b h room (ByOwner reply x e o) = rw e (owns_reacts state act reply x h o)
+shape-reacts state act r b h room (ByTable reply x e t) =
+    rw e
+    (quiet_reacts state act reply (tabled_by state x) refl t.untold h (IsSound-table state x.guest x.handles x.sets x.contexts t.named t.holds t.counts h.sound)
+    (AreBytes-with_table state.guests x.guest x.handles x.sets h.bytes))
+shape-reacts state act r b h room (ByPair writer reader ty a e fits) = rw (a, e) (between_reacts state writer reader ty fits h)
 shape-reacts state act r b h room (ByGuest size a e fits) =
     rw (a, e)
     (quiet_reacts state (Make (makings.Guest size)) (replies.Number (length state.guests)) _ refl refl h (guest-sound state size fits h.sound)
     (All-push (λ (k : Guest). IsBytes k.memory) state.guests _ h.bytes (IsBytes-zeros size)))
-shape-reacts state act r b h room (ByPoke g address bytes a e fits) =
-    rw (a, e)
-    (quiet_reacts state (OnMemory g (Poke address bytes)) replies.Done _ refl refl h
-    (IsSound-guests state _ (poke-keeps state g address bytes fits) h.sound)
-    (AreBytes-with_memory state.guests g _ (IsBytes-put_at (memory_in state.guests g) address bytes (memory_bytes state.guests g h.bytes) (subst PutsBytes a b)) h.bytes))
+shape-reacts state act r b h room (ByPut reply g address bytes e p) =
+    rw e
+    (quiet_reacts state act reply (with_bytes state g address bytes) refl p.untold h
+    (IsSound-guests state _ (poke-keeps state g address bytes p.fits) h.sound)
+    (AreBytes-with_memory state.guests g _ (IsBytes-put_at (memory_in state.guests g) address bytes (memory_bytes state.guests g h.bytes) (p.bytes_put b)) h.bytes))
 shape-reacts state act r b h room (ByRest reply e none) = rw e (quiet_reacts state act reply state refl none h h.sound h.bytes)
 
 pub reacts : (state : State) (act : Act) → PutsBytes act → IsLawful state → HasRoom state → Reacts state act (reaction state act)

@@ -1,9 +1,9 @@
 -- What one moment is seen to do to one stream, and a step's reaction from what is seen of each.
-use Rattle.std.proofs.Common.{◌≡◌, ℕ, ◌+◌, ◌^◌, ◌<◌, ◌≤◌, Bool, true, false, cond, List, [], length, get_or, set, Option, None, refl, sym, ap, ◌∙◌, subst, inl, inr, arith}
+use Rattle.std.proofs.Common.{◌≡◌, ◌≢◌, ℕ, ◌+◌, ◌^◌, ◌<◌, ◌≤◌, Bool, true, false, cond, List, [], length, get_or, set, Option, None, refl, sym, ap, ◌∙◌, subst, inl, inr, arith}
 use Rattle.std.specs.Prelude.{All, IsSome, ◌==◌, ◌&&◌}
 use Rattle.std.proofs.lemmas.Bool.{cases_eq, ne_eqb, cond-false}
 use Rattle.std.proofs.lemmas.List.{get_or-set_same, get_or-set_other, length-set}
-use Rattle.strm_machine.specs.Words.{Guest, ReturnCode, State, no_stream, stream_at, same_side, IsSound, Reaction, goes, Side, Stream, Act, Reply, Moment, names, as_report, report_in, accepted, accepted_in, received, got_in, both_open}
+use Rattle.strm_machine.specs.Words.{Guest, ReturnCode, State, no_stream, stream_at, same_side, IsSound, Reaction, goes, Side, Stream, Act, Reply, Moment, as_report, report_in, accepted, accepted_in, received, got_in, both_open}
 use Rattle.strm_machine.specs.declared.replies.Reply.TheVariants as replies
 use Rattle.strm_machine.specs.Moments.{is_named, code_told, target}
 use Rattle.strm_machine.proofs.Changes.{scene, Change}
@@ -53,6 +53,7 @@ untaken act (replies.Number n) r e = refl
 untaken act (replies.Pair pair) r e = refl
 untaken act (replies.Code code) r e = cc
 untaken act (replies.Event code) r e = refl
+untaken act (replies.Member member) r e = refl
 untaken act (replies.Bytes bytes) r e = refl
 untaken act (replies.Refused refusal) r e = refl
 untaken act (replies.BadItem stream) r e = refl
@@ -104,15 +105,23 @@ module _ (state : State) (act : Act) (reply : Reply) (guests : List Guest) (s : 
   abbrev set_to : State
   set_to = record state { guests = guests; streams = set state.streams s stream }
 
-  pub set_reacts : NamesEnd state act s side → IsLawful state → stream.kind ≡ (stream_at state s).kind → Seen s (as_moment state act (goes reply set_to)) → IsSound set_to → AreBytes guests → Reacts state act (goes reply set_to)
-  set_reacts named h kind seen sound bytes =
+  -- to whose other streams nothing is told
+  pub set_reacts_beside : ((k : ℕ) → k ≢ s → (end : Side) → Untold k end (as_moment state act (goes reply set_to))) → IsLawful state → stream.kind ≡ (stream_at state s).kind → Seen s (as_moment state act (goes reply set_to)) → IsSound set_to → AreBytes guests → Reacts state act (goes reply set_to)
+  set_reacts_beside quiet h kind seen sound bytes =
       let r = goes reply set_to in
       seen_reacts state act r
       (λ k. elim (cases_eq k s) [
         | inl e ↦ subst (λ j. Seen j (as_moment state act r)) (sym e) seen
-        | inr ne ↦ (let other : s == k ≡ false = ne_eqb s k (λ q. ne (sym q)) in
-            let quiet : (end : Side) → names k end state act ≡ false = λ end. named k end ∙ ap (λ b. b && same_side side end) other in
-            seen_same k (as_moment state act r) (λ end. unnamed k end (as_moment state act r) (quiet end)) (get_or-set_other state.streams s k stream no_stream ne) (h.apart k) (h.tallies k))
+        | inr ne ↦ seen_same k (as_moment state act r) (quiet k ne) (get_or-set_other state.streams s k stream no_stream ne) (h.apart k) (h.tallies k)
       ])
       (λ k l. record { there = omega (arith, l, length-set state.streams s stream); kind = set_kind state.streams s k stream kind l })
       sound bytes
+
+  -- which the act names
+  pub set_reacts : NamesEnd state act reply s side → IsLawful state → stream.kind ≡ (stream_at state s).kind → Seen s (as_moment state act (goes reply set_to)) → IsSound set_to → AreBytes guests → Reacts state act (goes reply set_to)
+  set_reacts named =
+      let m = as_moment state act (goes reply set_to) in
+      set_reacts_beside
+      (λ k ne end.
+      let other : s == k ≡ false = ne_eqb s k (λ q. ne (sym q)) in
+      unnamed k end m (named k end ∙ ap (λ b. b && same_side side end) other))

@@ -4,7 +4,7 @@ use Rattle.std.specs.Prelude.{IfOk, is_ok, is_some, ◌==◌, ◌&&◌, ◌||◌
 use Rattle.std.proofs.lemmas.Bool.{not-false, ne_eqb, and_from, eq-eqb}
 use Rattle.std.proofs.lemmas.List.{length-map}
 use Rattle.strm_codes.specs.Sameness.{same_payload}
-use Rattle.strm_machine.specs.Words.{kind_of, payload_of, TransmitIndex, Payload, Handles, Entry, State, guest_in, stream_at, same_side, end_of, Name, named, end_named, stream_named, has_ended, first_of, IsSound, is_end, names, NamedEnd, Act, OnEnd, Side, Stream}
+use Rattle.strm_machine.specs.Words.{kind_of, payload_of, TransmitIndex, Payload, Handles, Entry, State, guest_in, stream_at, same_side, end_of, Name, named, end_named, stream_named, has_ended, first_of, IsSound, is_end, names, NamedEnd, Act, OnEnd, Reply, Side, Stream}
 use Rattle.strm_codes.specs.declared.codes.TransmitIndex.TheVariants as index
 use Rattle.strm_handles.specs.Handles.{entry_at}
 use Rattle.strm_handles.specs.Lookups.{◌>>=◌, stream_in, future_in, end_rep_in, end_rep_of}
@@ -12,11 +12,14 @@ use Rattle.strm_handles.specs.declared.entries.Entry.TheVariants as entries
 use Rattle.strm_handles.specs.declared.entries.TransmitEnd.{TransmitEnd}
 use Rattle.strm_handles.specs.declared.errors.HandleError.TheVariants as errors
 use Rattle.strm_machine.specs.Tests.{named_by, side_of, side_named, is_busy}
-use Rattle.strm_machine.specs.Refusals.{end_reasons_of, event_reasons}
+use Rattle.strm_machine.specs.Refusals.{end_reasons_of, slot_reasons}
 use Rattle.strm_machine.specs.Soundness.{type_of, types_of, EntryIsNamed}
 use Rattle.strm_machine.specs.declared.acts.EndAct.{EndAct}
-use Rattle.strm_machine.specs.declared.acts.Act.TheVariants.{Event}
-use Rattle.strm_machine.proofs.NameLemmas.{entry_named, named_there, named_payload, named_kind, end_named_there}
+use Rattle.strm_machine.specs.declared.acts.Act.TheVariants.{Event, OnSet}
+use Rattle.strm_machine.specs.declared.acts.SetAct.TheVariants as set_acts
+use Rattle.strm_machine.specs.Moments.{is_end_told}
+use Rattle.strm_machine.specs.declared.replies.Reply.TheVariants as replies
+use Rattle.strm_machine.proofs.NameLemmas.{entry_named, named_there, named_type, named_payload, named_kind, end_named_there}
 use Rattle.strm_machine.proofs.RefusalLemmas.{not_refused, neither, EventFits}
 use Rattle.strm_machine.proofs.SideLemmas.{same_side_is, same_side-itself}
 use Rattle.strm_machine.proofs.SoundLemmas.{AreNamed-at}
@@ -36,6 +39,10 @@ found_payload state end h e = at_ok (λ s. (stream_at state s).payload ≡ paylo
 -- and the kind
 pub found_kind : (state : State) (end : NamedEnd) → IsSound state → is_ok (named state end) ≡ true → (stream_at state (stream_named (named state end))).kind ≡ kind_of end.ty
 found_kind state end h e = at_ok (λ s. (stream_at state s).kind ≡ kind_of end.ty) (named state end) e (named_kind state end (named state end) h refl)
+
+-- and the type
+pub found_type : (state : State) (end : NamedEnd) → IsSound state → is_ok (named state end) ≡ true → type_of (stream_at state (stream_named (named state end))) ≡ end.ty
+found_type state end h e = at_ok (λ s. type_of (stream_at state s) ≡ end.ty) (named state end) e (named_type state end (named state end) h refl)
 
 -- an answer is one end of one stream
 is_end-found : (k : ℕ) (other : Side) (name : Name) → is_ok name ≡ true → is_end k other name ≡ (stream_named name == k) && same_side (side_named name) other
@@ -63,7 +70,7 @@ end_fits stream side g ty named e =
     record { same = same_side_is side named (not-false (same_side side named) both.0); idle = none_is (end_of side stream).operation both.1; unended = second.0 }
 
 -- the same of an end of whichever type
-entry_found : (o : Option Entry) → first_of (event_reasons (end_rep_in o)) ≡ None → is_ok (end_rep_in o) ≡ true
+pub entry_found : (o : Option Entry) → first_of (slot_reasons (end_rep_in o)) ≡ None → is_ok (end_rep_in o) ≡ true
 entry_found None e = cc
 entry_found (Some (entries.Stream end)) e = refl
 entry_found (Some (entries.Future end)) e = refl
@@ -83,7 +90,7 @@ entry_there types (Some (entries.ErrorContext rep)) h e = cc
 entry_there types (Some (entries.Subtask rep is_host)) h e = cc
 entry_there types (Some (entries.WaitableSet rep)) h e = cc
 
-pub end_found : (state : State) (g handle : ℕ) → first_of (event_reasons (end_named state g handle)) ≡ None → is_ok (end_named state g handle) ≡ true
+pub end_found : (state : State) (g handle : ℕ) → first_of (slot_reasons (end_named state g handle)) ≡ None → is_ok (end_named state g handle) ≡ true
 end_found state g handle e = entry_found _ e
 
 pub end_there : (state : State) (g handle : ℕ) → IsSound state → is_ok (end_named state g handle) ≡ true → stream_named (end_named state g handle) < length state.streams
@@ -97,10 +104,26 @@ is_end-unmade : (n s : ℕ) (side : Side) (name : Name) → n ≤ s → IfOk nam
 is_end-unmade n s side (Ok answer) l h = ap (λ b. b && same_side (side_of answer.1) side) (ne_eqb answer.0 s (λ e. omega (arith, l, h, e)))
 is_end-unmade n s side (Err error) l h = refl
 
-pub names-unmade : (state : State) (act : Act) (s : ℕ) (side : Side) → IsSound state → length state.streams ≤ s → names s side state act ≡ false
-names-unmade state (OnEnd on end act) s side h l = is_end-unmade (length state.streams) s side (named state end) l (named_there state end (named state end) h refl)
-names-unmade state (Event g handle) s side h l = is_end-unmade (length state.streams) s side (end_named state g handle) l (end_named_there state g handle (end_named state g handle) h refl)
-names-unmade state _ s side h l = refl
+told-unmade : (state : State) (g s : ℕ) (side : Side) (reply : Reply) → IsSound state → length state.streams ≤ s → is_end_told s side state g reply ≡ false
+told-unmade state g s side (replies.Member None) h l = refl
+told-unmade state g s side (replies.Member (Some member)) h l = is_end-unmade (length state.streams) s side (end_named state g member.handle) l (end_named_there state g member.handle (end_named state g member.handle) h refl)
+told-unmade state g s side replies.Done h l = refl
+told-unmade state g s side (replies.Number n) h l = refl
+told-unmade state g s side (replies.Pair pair) h l = refl
+told-unmade state g s side (replies.Code code) h l = refl
+told-unmade state g s side (replies.Event code) h l = refl
+told-unmade state g s side (replies.Bytes bytes) h l = refl
+told-unmade state g s side (replies.Refused refusal) h l = refl
+told-unmade state g s side (replies.BadItem stream) h l = refl
+told-unmade state g s side replies.StoreTrapped h l = refl
+
+pub names-unmade : (state : State) (act : Act) (reply : Reply) (s : ℕ) (side : Side) → IsSound state → length state.streams ≤ s → names s side state act reply ≡ false
+names-unmade state (OnEnd on end act) reply s side h l = is_end-unmade (length state.streams) s side (named state end) l (named_there state end (named state end) h refl)
+names-unmade state (Event g handle) reply s side h l = is_end-unmade (length state.streams) s side (end_named state g handle) l (end_named_there state g handle (end_named state g handle) h refl)
+names-unmade state (OnSet g set set_acts.Poll) reply s side h l = told-unmade state g s side reply h l
+names-unmade state (OnSet g set (set_acts.Join handle)) reply s side h l = refl
+names-unmade state (OnSet g set set_acts.Drop) reply s side h l = refl
+names-unmade state _ reply s side h l = refl
 
 -- ## Look-ups with a type and without
 
@@ -129,19 +152,20 @@ end_itself s side = and_from (s == s) (same_side side side) (eq-eqb s s refl) (s
 -- ## The end that an act names
 
 -- it names this end of stream s, and no other
-abbrev pub NamesEnd : State → Act → ℕ → Side → Type 0
-NamesEnd state act s side = (k : ℕ) (other : Side) → names k other state act ≡ (s == k) && same_side side other
+abbrev pub NamesEnd : State → Act → Reply → ℕ → Side → Type 0
+NamesEnd state act reply s side = (k : ℕ) (other : Side) → names k other state act reply ≡ (s == k) && same_side side other
 
 -- the named end itself
-pub named_itself : (state : State) (act : Act) (s : ℕ) (side other : Side) → NamesEnd state act s side → names s other state act ≡ same_side side other
-named_itself state act s side other named = named s other ∙ ap (λ b. b && same_side side other) (eq-eqb s s refl)
+pub named_itself : (state : State) (act : Act) (reply : Reply) (s : ℕ) (side other : Side) → NamesEnd state act reply s side → names s other state act reply ≡ same_side side other
+named_itself state act reply s side other named = named s other ∙ ap (λ b. b && same_side side other) (eq-eqb s s refl)
 
--- a handle of a guest names this end of stream s, which was made, and the act is done to it
+-- a handle of a guest names this end of stream s, which was made, and the act is done to it, whatever the
+-- reply
 pub record IsFound (state : State) (act : Act) (g handle s : ℕ) (side : Side) : Type 0 where
   pub there : g < length state.guests
   pub made : s < length state.streams
   pub held : is_end s side (end_named state g handle) ≡ true
-  pub named : NamesEnd state act s side
+  pub named : (reply : Reply) → NamesEnd state act reply s side
 
 -- by a look-up with a type
 pub on_end-found : (state : State) (side : Side) (end : NamedEnd) (act : EndAct) → IsSound state → end.guest < length state.guests → is_ok (named state end) ≡ true → side_named (named state end) ≡ side → IsFound state (OnEnd side end act) end.guest end.handle (stream_named (named state end)) side
@@ -152,7 +176,7 @@ on_end-found state side end act h there found same =
       there = there;
       made = found_there state end h found;
       held = named_end s side end.ty (guest_in state.guests end.guest).handles end.handle (is_end_on s side side name found same ∙ end_itself s side);
-      named = λ k other. is_end_on k side other name found same;
+      named = λ reply k other. is_end_on k side other name found same;
     }
 
 -- and without
@@ -166,5 +190,10 @@ event-found state g handle h fits =
       there = fits.there;
       made = end_there state g handle h found;
       held = is_end_on s side side name found refl ∙ end_itself s side;
-      named = λ k other. is_end_on k side other name found refl;
+      named = λ reply k other. is_end_on k side other name found refl;
     }
+
+-- what names an end is found
+pub is_end-ok : (s : ℕ) (side : Side) (name : Name) → is_end s side name ≡ true → is_ok name ≡ true
+is_end-ok s side (Ok answer) is = refl
+is_end-ok s side (Err error) is = cc

@@ -5,12 +5,15 @@ use Rattle.std.specs.Option.{option_or}
 use Rattle.strm_codes.specs.declared.refusals.Refusal.{Refusal}
 use Rattle.strm_machine.specs.Words.{State, memory_in, end_named, stream_named, Side, first_of, Reaction, goes, NamedEnd, Act, Make, OnEnd, OnMemory}
 use Rattle.strm_machine.specs.Tests.{side_named}
-use Rattle.strm_machine.specs.Refusals.{Reason, on_end_reasons, bytes_reasons, refusal}
-use Rattle.strm_machine.specs.Reactions.{makes, on_end, tells, on_memory, performs, unless_refused, reaction}
+use Rattle.strm_machine.specs.Refusals.{Reason, on_end_reasons, on_context_reasons, lower_context_reasons, bytes_reasons, refusal}
+use Rattle.strm_machine.specs.Reactions.{makes, on_end, on_loose, tells, on_set, on_context, on_memory, shares, shares_unless, lowers_context, performs, unless_refused, reaction}
 use Rattle.strm_machine.specs.declared.acts.Making.{Making}
 use Rattle.strm_machine.specs.declared.acts.EndAct.{EndAct}
+use Rattle.strm_machine.specs.declared.acts.LooseAct.{LooseAct}
+use Rattle.strm_machine.specs.declared.acts.SetAct.{SetAct}
+use Rattle.strm_machine.specs.declared.acts.ContextAct.{ContextAct}
 use Rattle.strm_machine.specs.declared.acts.MemoryAct.{MemoryAct}
-use Rattle.strm_machine.specs.declared.acts.Act.TheVariants.{Event}
+use Rattle.strm_machine.specs.declared.acts.Act.TheVariants.{OnLoose, Event, OnSet, OnContext}
 use Rattle.strm_machine.specs.declared.acts.MemoryAct.TheVariants.{Dump}
 use Rattle.strm_machine.specs.declared.replies.Reply.TheVariants as replies
 
@@ -58,13 +61,49 @@ pub performs-on_end : (state : State) (side : Side) (end : NamedEnd) (act : EndA
 unfolding performs
 performs-on_end state side end act = refl
 
--- what holds of the four ways that an act can go holds of each act
-pub performs-by : (P : Act → Reaction → Type 0) (state : State) → ((making : Making) → P (Make making) (makes state making)) → ((side : Side) (end : NamedEnd) (act : EndAct) → P (OnEnd side end act) (on_end state side end act)) → ((g handle : ℕ) → P (Event g handle) (tells state (stream_named (end_named state g handle)) (side_named (end_named state g handle)))) → ((g : ℕ) (act : MemoryAct) → P (OnMemory g act) (on_memory state g act)) → (act : Act) → P act (performs state act)
+pub refusal-on_context : (state : State) (g handle : ℕ) (act : ContextAct) → refusal state (OnContext g handle act) ≡ first_of (on_context_reasons state g handle act)
+unfolding refusal
+refusal-on_context state g handle act = refl
+
+pub performs-on_context : (state : State) (g handle : ℕ) (act : ContextAct) → performs state (OnContext g handle act) ≡ on_context state g handle act
 unfolding performs
-performs-by P state made ended told moved (Make making) = made making
-performs-by P state made ended told moved (OnEnd side end act) = ended side end act
-performs-by P state made ended told moved (Event g handle) = told g handle
-performs-by P state made ended told moved (OnMemory g act) = moved g act
+performs-on_context state g handle act = refl
+
+-- the lowering of an error context, which is no step
+pub lowers_context-trapped : (state : State) (number g : ℕ) → state.trapped ≡ true → lowers_context state number g ≡ goes replies.StoreTrapped state
+unfolding lowers_context
+lowers_context-trapped state number g t = rw t refl
+
+pub lowers_context-refused : (state : State) (number g : ℕ) (r : Refusal) → state.trapped ≡ false → first_of (lower_context_reasons state number g) ≡ Some r → lowers_context state number g ≡ goes (replies.Refused r) state
+unfolding lowers_context
+lowers_context-refused state number g r t e =
+    ap (λ b. cond b (goes replies.StoreTrapped state) (shares_unless state number g (first_of (lower_context_reasons state number g)))) t
+    ∙ ap (shares_unless state number g) e
+
+pub lowers_context-performs : (state : State) (number g : ℕ) → state.trapped ≡ false → first_of (lower_context_reasons state number g) ≡ None → lowers_context state number g ≡ shares state number g
+unfolding lowers_context
+lowers_context-performs state number g t e =
+    ap (λ b. cond b (goes replies.StoreTrapped state) (shares_unless state number g (first_of (lower_context_reasons state number g)))) t
+    ∙ ap (shares_unless state number g) e
+
+-- what holds of the seven ways that an act can go holds of each act
+module _ (P : Act → Reaction → Type 0) (state : State)
+    (made : (making : Making) → P (Make making) (makes state making))
+    (ended : (side : Side) (end : NamedEnd) (act : EndAct) → P (OnEnd side end act) (on_end state side end act))
+    (loosed : (reader : ℕ) (act : LooseAct) → P (OnLoose reader act) (on_loose state reader act))
+    (told : (g handle : ℕ) → P (Event g handle) (tells state (stream_named (end_named state g handle)) (side_named (end_named state g handle))))
+    (grouped : (g set : ℕ) (act : SetAct) → P (OnSet g set act) (on_set state g set act))
+    (shared : (g handle : ℕ) (act : ContextAct) → P (OnContext g handle act) (on_context state g handle act))
+    (moved : (g : ℕ) (act : MemoryAct) → P (OnMemory g act) (on_memory state g act)) where
+  pub performs-by : (act : Act) → P act (performs state act)
+  unfolding performs
+  performs-by (Make making) = made making
+  performs-by (OnEnd side end act) = ended side end act
+  performs-by (OnLoose reader act) = loosed reader act
+  performs-by (Event g handle) = told g handle
+  performs-by (OnSet g set act) = grouped g set act
+  performs-by (OnContext g handle act) = shared g handle act
+  performs-by (OnMemory g act) = moved g act
 
 least : (len : ℕ) → min (min len 64) 64 ≡ min len 64
 least len = omega arith

@@ -6,20 +6,24 @@ use Rattle.std.proofs.lemmas.List.{length-map}
 use Rattle.std.specs.Prelude.{IfErr, IsOk, nat_lt, nat_le, ◌||◌, ◌&&◌, not, IsTrue}
 use Rattle.strm_codes.specs.declared.refusals.Refusal.{Refusal}
 use Rattle.strm_codes.specs.declared.refusals.Refusal.TheVariants as refusals
-use Rattle.strm_machine.specs.Words.{Payload, TransmitIndex, kind_of, payload_of, State, guest_in, stream_at, opposite, same_side, end_of, sizes_of, IsPlaced, Name, named, end_named, stream_named, has_ended, first_of, NamedEnd, Poke, Make, OnMemory, Side, Stream}
+use Rattle.strm_machine.specs.Words.{Payload, TransmitIndex, TransmitKind, AStream, Future, kind_of, payload_of, State, guest_in, stream_at, opposite, same_side, end_of, sizes_of, IsPlaced, Name, named, end_named, stream_named, has_ended, first_of, NamedEnd, Poke, Make, OnMemory, Side, Stream, without_handle, next_in, is_loose, OnLoose}
 use Rattle.strm_codes.specs.declared.codes.TransmitIndex.TheVariants as index
 use Rattle.strm_memory.specs.Items.{is_number_or_none}
 use Rattle.strm_machine.specs.State.{memory_limit, guest_limit, stream_limit, handles_in_use, bytes_in_use}
 use Rattle.strm_machine.specs.Meetings.{begun}
-use Rattle.strm_machine.specs.Tests.{is_no_handle, are_handles_full, are_places_full, are_streams_full, is_memory_too_big, are_guests_full, is_unknown_guest, are_bytes_out_of_bounds, side_named, is_too_big, items_asked, is_out_of_bounds, is_busy, owes_value, is_open_of, is_within_one_guest}
+use Rattle.strm_machine.specs.Tests.{is_no_handle, are_handles_full, are_places_full, are_streams_full, is_memory_too_big, are_guests_full, is_unknown_guest, are_bytes_out_of_bounds, side_named, is_too_big, items_asked, is_out_of_bounds, is_busy, owes_value, is_open_of, is_within_one_guest, is_spent, is_unknown_reader, same_kind, is_of_other_kind, is_of_other_payload}
 use Rattle.strm_handles.specs.Handles.{handle_limit, next_index}
 use Rattle.strm_codes.specs.Counts.{count_limit}
 use Rattle.strm_machine.specs.Making.{writer_index}
-use Rattle.strm_machine.specs.Refusals.{Reason, region_reasons, handle_reasons, end_reasons_of, event_reasons, where_, side_reasons, on_end_reasons, bytes_reasons, refusal}
+use Rattle.strm_codes.specs.Sameness.{same_payload}
+use Rattle.strm_codes.proofs.SamenessLemmas.{Decides-same_payload}
+use Rattle.strm_machine.specs.Refusals.{Reason, region_reasons, handle_reasons, end_reasons_of, slot_reasons, where_, side_reasons, own_reasons, last_reasons, on_end_reasons, bytes_reasons, refusal}
 use Rattle.strm_machine.specs.declared.acts.Making.TheVariants.{Guest, Between}
-use Rattle.strm_machine.specs.declared.acts.EndAct.TheVariants.{Drop}
+use Rattle.strm_machine.specs.declared.acts.EndAct.TheVariants.{Drop, Move, Lift}
+use Rattle.strm_machine.specs.declared.acts.LooseAct.TheVariants.{Lower, Close}
 use Rattle.strm_machine.specs.declared.acts.MemoryAct.TheVariants.{Dump}
 use Rattle.strm_machine.specs.declared.acts.Act.TheVariants.{Event}
+use Rattle.strm_machine.specs.WaitableSets.{is_in_set}
 use Rattle.strm_machine.proofs.TurnLemmas.{size_in}
 use Rattle.strm_machine.proofs.NameLemmas.{IsNameError, named_by-error}
 use Rattle.strm_handles.specs.declared.errors.HandleError.TheVariants as errors
@@ -164,13 +168,26 @@ named_ok state end e = name_ok (named state end) (named_by-error end.ty (guest_i
 -- an event that may be asked for
 pub record EventFits (state : State) (g handle : ℕ) : Type 0 where
   pub there : g < length state.guests
-  pub found : first_of (event_reasons (end_named state g handle)) ≡ None
+  pub found : first_of (slot_reasons (end_named state g handle)) ≡ None
 
 pub event_fits : (state : State) (g handle : ℕ) → refusal state (Event g handle) ≡ None → EventFits state g handle
 unfolding refusal
 event_fits state g handle e =
     let first = not_refused (is_unknown_guest state g) _ _ e in
     record { there = not_le (length state.guests) g first.0; found = first.1 }
+
+-- a handle of the side that is named, for which nothing else speaks against what is done
+pub record SideFits (state : State) (side : Side) (end : NamedEnd) (more : List Reason) : Type 0 where
+  pub found : first_of (handle_reasons (named state end)) ≡ None
+  pub same : same_side side (side_named (named state end)) ≡ true
+  pub rest : first_of more ≡ None
+
+side_fits : (state : State) (side : Side) (end : NamedEnd) (more : List Reason) → first_of (handle_reasons (named state end) ++ side_reasons side (side_named (named state end)) more) ≡ None → SideFits state side end more
+side_fits state side end more e =
+    let name = named state end in
+    let both = none_of_both (handle_reasons name) (side_reasons side (side_named name) more) e in
+    let same = not_refused (not (same_side side (side_named name))) _ _ both.1 in
+    record { found = both.0; same = not-false (same_side side (side_named name)) same.0; rest = same.1 }
 
 -- something may be done to the end that is named, as far as its guest, its handle and its side go
 pub record NamedFits (state : State) (side : Side) (end : NamedEnd) : Type 0 where
@@ -180,23 +197,97 @@ pub record NamedFits (state : State) (side : Side) (end : NamedEnd) : Type 0 whe
 
 pub named_fits : (state : State) (side : Side) (end : NamedEnd) (more : List Reason) → first_of (where_ (is_unknown_guest state end.guest) refusals.UnknownGuest ∷ (handle_reasons (named state end) ++ side_reasons side (side_named (named state end)) more)) ≡ None → NamedFits state side end × (first_of more ≡ None)
 named_fits state side end more e =
-    let name = named state end in
     let first = not_refused (is_unknown_guest state end.guest) _ _ e in
-    let both = none_of_both (handle_reasons name) (side_reasons side (side_named name) more) first.1 in
-    let same = not_refused (not (same_side side (side_named name))) _ _ both.1 in
-    (record { there = not_le (length state.guests) end.guest first.0; found = both.0; same = not-false (same_side side (side_named name)) same.0 }, same.1)
+    let fits = side_fits state side end more first.1 in
+    (record { there = not_le (length state.guests) end.guest first.0; found = fits.found; same = fits.same }, fits.rest)
 
--- an end that may be dropped
-pub record DropFits (state : State) (side : Side) (end : NamedEnd) : Type 0 where
+-- an end that may leave its guest
+pub record LeaveFits (state : State) (side : Side) (end : NamedEnd) : Type 0 where
   pub there : end.guest < length state.guests
   pub found : first_of (handle_reasons (named state end)) ≡ None
   pub same : same_side side (side_named (named state end)) ≡ true
   pub idle : is_busy side (stream_at state (stream_named (named state end))) ≡ false
 
-pub drop_fits : (state : State) (side : Side) (end : NamedEnd) → first_of (on_end_reasons state side end Drop) ≡ None → DropFits state side end
+pub drop_fits : (state : State) (side : Side) (end : NamedEnd) → first_of (on_end_reasons state side end Drop) ≡ None → LeaveFits state side end
 drop_fits state side end e =
     let name = named state end in
     let stream = stream_at state (stream_named name) in
     let fits = named_fits state side end (where_ (is_busy side stream) refusals.Busy ∷ where_ (owes_value side (kind_of end.ty) stream) refusals.FutureWithoutValue ∷ []) e in
     let idle = not_refused (is_busy side stream) _ _ fits.1 in
     record { there = fits.0.there; found = fits.0.found; same = fits.0.same; idle = idle.0 }
+
+abbrev lift_reasons : State → Side → NamedEnd → List Reason
+lift_reasons state side end =
+    let stream = stream_at state (stream_named (named state end)) in
+    where_ (is_busy side stream) refusals.Busy ∷ where_ (is_spent side stream) refusals.LiftDropped ∷ []
+
+pub lift_fits : (state : State) (side : Side) (end : NamedEnd) → first_of (on_end_reasons state side end Lift) ≡ None → LeaveFits state side end
+lift_fits state side end e =
+    let name = named state end in
+    let guest = not_refused (is_unknown_guest state end.guest) _ _ e in
+    let both = none_of_both (handle_reasons name ++ own_reasons state side end Lift) (last_reasons state end Lift) guest.1 in
+    let fits = side_fits state side end (lift_reasons state side end) both.0 in
+    let idle = not_refused (is_busy side (stream_at state (stream_named name))) _ _ fits.rest in
+    record { there = not_le (length state.guests) end.guest guest.0; found = fits.found; same = fits.same; idle = idle.0 }
+
+-- an end that may go to a guest
+pub record MoveFits (state : State) (side : Side) (end : NamedEnd) (to : ℕ) : Type 0 where
+  pub leaves : LeaveFits state side end
+  pub to_there : to < length state.guests
+  pub number : next_in (without_handle state end.guest end.handle) to < handle_limit
+
+pub move_fits : (state : State) (side : Side) (end : NamedEnd) (to : ℕ) → first_of (on_end_reasons state side end (Move to)) ≡ None → MoveFits state side end to
+move_fits state side end to e =
+    let name = named state end in
+    let first = not_refused (is_unknown_guest state end.guest || is_unknown_guest state to) _ _ e in
+    let there = neither (is_unknown_guest state end.guest) (is_unknown_guest state to) first.0 in
+    let both = none_of_both (handle_reasons name ++ own_reasons state side end (Move to)) (last_reasons state end (Move to)) first.1 in
+    let fits = side_fits state side end (lift_reasons state side end) both.0 in
+    let idle = not_refused (is_busy side (stream_at state (stream_named name))) _ _ fits.rest in
+    let apart = not_refused (is_in_set state end.guest end.handle) _ _ both.1 in
+    let number = not_refused (is_no_handle (next_in (without_handle state end.guest end.handle) to)) _ _ apart.1 in
+    record {
+      leaves = record { there = not_le (length state.guests) end.guest there.0; found = fits.found; same = fits.same; idle = idle.0 };
+      to_there = not_le (length state.guests) to there.1;
+      number = not_le handle_limit _ number.0;
+    }
+
+-- a loose read end that may come into a guest as one of a type
+pub record LowerFits (state : State) (s g : ℕ) (ty : TransmitIndex) : Type 0 where
+  pub there : g < length state.guests
+  pub loose : is_loose (stream_at state s).reader.owner ≡ true
+  pub kind : (stream_at state s).kind ≡ kind_of ty
+  pub payload : (stream_at state s).payload ≡ payload_of ty
+  pub number : next_in state g < handle_limit
+  pub handles : handles_in_use state + 1 ≤ state.limits.handles
+
+same_kind_is : (a b : TransmitKind) → same_kind a b ≡ true → a ≡ b
+same_kind_is AStream AStream e = refl
+same_kind_is AStream Future e = cc
+same_kind_is Future AStream e = cc
+same_kind_is Future Future e = refl
+
+pub lower_fits : (state : State) (s g : ℕ) (ty : TransmitIndex) → refusal state (OnLoose s (Lower g ty)) ≡ None → LowerFits state s g ty
+unfolding refusal
+lower_fits state s g ty e =
+    let stream = stream_at state s in
+    let guest = not_refused (is_unknown_guest state g) _ _ e in
+    let reader = not_refused (is_unknown_reader state s) _ _ guest.1 in
+    let kind = not_refused (is_of_other_kind ty stream) _ _ reader.1 in
+    let payload = not_refused (is_of_other_payload ty stream) _ _ kind.1 in
+    let number = not_refused (is_no_handle (next_in state g)) _ _ payload.1 in
+    let handles = not_refused (are_handles_full state 1) _ _ number.1 in
+    record {
+      there = not_le (length state.guests) g guest.0;
+      loose = not-false (is_loose stream.reader.owner) reader.0;
+      kind = same_kind_is stream.kind (kind_of ty) (not-false (same_kind stream.kind (kind_of ty)) kind.0);
+      payload = (Decides-same_payload stream.payload (payload_of ty)).0 (not-false (same_payload stream.payload (payload_of ty)) payload.0);
+      number = not_le handle_limit _ number.0;
+      handles = not_lt state.limits.handles (handles_in_use state + 1) handles.0;
+    }
+
+-- a loose read end that may be dropped
+pub close_fits : (state : State) (s : ℕ) → refusal state (OnLoose s Close) ≡ None → is_loose (stream_at state s).reader.owner ≡ true
+unfolding refusal
+close_fits state s e =
+    let reader = not_refused (is_unknown_reader state s) _ _ e in not-false (is_loose (stream_at state s).reader.owner) reader.0

@@ -1,29 +1,37 @@
 -- Every step has a shape.
-use Rattle.std.proofs.Common.{◌≡◌, ℕ, true, false, None, refl}
+use Rattle.std.proofs.Common.{◌≡◌, ℕ, ◌<◌, true, false, length, Option, Some, None, refl, ap, ◌∙◌, inl, inr, arith}
 use Rattle.std.specs.Prelude.{◌++◌}
 use Rattle.strm_codes.specs.declared.refusals.Refusal.TheVariants as refusals
-use Rattle.std.proofs.lemmas.Bool.{not-false}
-use Rattle.std.specs.Prelude.{not, [], ◌∷◌, Some}
-use Rattle.strm_machine.specs.Words.{State, stream_at, end_of, report_on, told_end, named, end_named, stream_named, first_of, IsSound, NamedEnd, Operate, Poke, Act, Make, OnEnd, OnMemory, Gone, Side}
+use Rattle.std.proofs.lemmas.Bool.{not-false, cases_lt}
+use Rattle.std.proofs.lemmas.List.{get_or_past}
+use Rattle.std.specs.Prelude.{not, [], ◌∷◌}
+use Rattle.strm_machine.specs.Words.{kind_of, payload_of, TransmitIndex, State, no_stream, stream_at, end_of, report_on, told_end, named, end_named, stream_named, first_of, IsSound, NamedEnd, Operate, Poke, Act, Make, OnEnd, OnMemory, Reply, Gone, Side, Reading, Stream, Owner, Held, Loose, is_held, is_loose, without_handle, next_in, OnLoose}
 use Rattle.strm_machine.specs.Endings.{delivered, dropped, code_of_cancel, cancelled}
 use Rattle.strm_machine.specs.Tests.{side_named, is_busy}
 use Rattle.strm_machine.specs.Refusals.{where_, region_reasons, handle_reasons, own_reasons, on_end_reasons, refusal}
-use Rattle.strm_machine.specs.Reactions.{tells, drops, cancels, on_end, makes, on_memory, performs, reaction}
+use Rattle.strm_machine.specs.Reactions.{tells, drops, cancels, transfers, lifts, on_end, on_loose, makes, on_memory, performs, reaction}
 use Rattle.strm_machine.specs.declared.acts.Making.{Making}
-use Rattle.strm_machine.specs.declared.acts.Making.TheVariants.{Guest, Between}
+use Rattle.strm_machine.specs.declared.acts.Making.TheVariants.{Guest, Between, Set, Context}
 use Rattle.strm_machine.specs.declared.acts.EndAct.{EndAct}
-use Rattle.strm_machine.specs.declared.acts.EndAct.TheVariants.{Drop, Cancel}
+use Rattle.strm_machine.specs.declared.acts.EndAct.TheVariants.{Drop, Cancel, Move, Lift}
+use Rattle.strm_machine.specs.declared.acts.LooseAct.{LooseAct}
+use Rattle.strm_machine.specs.declared.acts.LooseAct.TheVariants.{Lower, Close}
 use Rattle.strm_machine.specs.declared.acts.MemoryAct.{MemoryAct}
 use Rattle.strm_machine.specs.declared.acts.MemoryAct.TheVariants.{Dump}
 use Rattle.strm_machine.specs.declared.acts.Act.TheVariants.{Event}
+use Rattle.strm_machine.specs.Moments.{code_told}
+use Rattle.strm_machine.specs.Soundness.{type_with, type_of}
 use Rattle.strm_machine.specs.declared.replies.Reply.TheVariants as replies
 use Rattle.strm_machine.proofs.ReactionLemmas.{reaction-by, performs-by}
-use Rattle.strm_machine.proofs.RefusalLemmas.{named_fits, not_refused, named_fits, not_refused, none_of_both, NamedFits, named_ok, region_fits, placed_begun, event_fits, drop_fits, pair_fits, guest_fits, poke_fits}
-use Rattle.strm_machine.proofs.NamedEndLemmas.{IsFound, end_fits, found_payload, found_kind, on_end-found, event-found}
+use Rattle.strm_machine.proofs.RefusalLemmas.{named_fits, not_refused, none_of_both, NamedFits, LeaveFits, named_ok, region_fits, placed_begun, event_fits, drop_fits, lift_fits, move_fits, lower_fits, close_fits, pair_fits, guest_fits, poke_fits}
+use Rattle.strm_machine.proofs.NamedEndLemmas.{IsFound, end_fits, found_payload, found_kind, found_type, on_end-found, event-found}
+use Rattle.strm_machine.proofs.SetStepLemmas.{set_fits, set_new-shape, set-shape}
+use Rattle.strm_machine.proofs.ContextStepLemmas.{context_fits, context_new-shape, context-shape}
 use Rattle.strm_machine.proofs.SideLemmas.{same_side_is}
-use Rattle.strm_machine.proofs.SoundLemmas.{placed_at}
-use Rattle.strm_machine.proofs.EndingLemmas.{told-becomes, gone-becomes, cancelled-becomes}
-use Rattle.strm_machine.proofs.Shapes.{stream_on, Operates, Shape, ByTurn, BySetting, ByPair, ByGuest, ByPoke, ByRest}
+use Rattle.strm_machine.proofs.SoundLemmas.{placed_at, type_with-of}
+use Rattle.strm_machine.proofs.EndingLemmas.{told-becomes, cancelled-becomes}
+use Rattle.strm_machine.proofs.MoveLemmas.{length-freed}
+use Rattle.strm_machine.proofs.Shapes.{stream_on, Operates, Owning, guests_freed, IsTaken, Owns, Shape, ByTurn, BySetting, ByOwner, ByPair, ByGuest, ByPut, ByRest}
 
 -- ## What is done to the end that is named
 
@@ -50,14 +58,41 @@ operate-fits state side end address count h e =
 named-found : (state : State) (side : Side) (end : NamedEnd) (act : EndAct) → IsSound state → NamedFits state side end → IsFound state (OnEnd side end act) end.guest end.handle (stream_named (named state end)) side
 named-found state side end act h fits = on_end-found state side end act h fits.there (named_ok state end fits.found) (same_side_is side (side_named (named state end)) fits.same)
 
+-- an end that may leave its guest, gets this owner; its handle is freed, and a guest gets one or none does
+module _ (state : State) (side : Side) (end : NamedEnd) (owner : Owner) (taker : Option ℕ) where
+  abbrev owning : Owning
+  owning = record { stream = stream_named (named state end); side = side; ty = end.ty; owner = owner; freed = Some (end.guest, end.handle); taker = taker }
+
+  leaves-owns : (act : EndAct) (reply : Reply) → IsSound state → LeaveFits state side end → code_told reply ≡ None → IsTaken (guests_freed state.guests (Some (end.guest, end.handle))) owner taker → Owns state reply owning
+  leaves-owns act reply h fits untold taken =
+      let found = named-found state side end act h (record { there = fits.there; found = fits.found; same = fits.same }) in
+      record {
+        made = found.made;
+        typed = found_type state end h (named_ok state end fits.found);
+        untold = untold;
+        freed = record { there = found.there; held = found.held };
+        taken = taken;
+      }
+
 drop-shape : (state : State) (side : Side) (end : NamedEnd) → IsSound state → first_of (on_end_reasons state side end Drop) ≡ None → Shape state (OnEnd side end Drop) (drops state (stream_named (named state end)) side end)
 unfolding dropped
 drop-shape state side end h e =
-    let s = stream_named (named state end) in
-    let stream = stream_at state s in
-    let fits = drop_fits state side end e in
-    BySetting replies.Done (record { guest = end.guest; handle = end.handle; stream = s; side = side; end = record (end_of side stream) { owner = Gone }; frees = true }) refl
-    (record { found = named-found state side end Drop h (record { there = fits.there; found = fits.found; same = fits.same }); becomes = gone-becomes side stream fits.idle; untaken = λ report. refl })
+    ByOwner replies.Done (owning state side end Gone None) refl (leaves-owns state side end Gone None Drop replies.Done h (drop_fits state side end e) refl refl)
+
+move-shape : (state : State) (side : Side) (end : NamedEnd) (to : ℕ) → IsSound state → first_of (on_end_reasons state side end (Move to)) ≡ None → Shape state (OnEnd side end (Move to)) (transfers state (stream_named (named state end)) side end to)
+move-shape state side end to h e =
+    let fits = move_fits state side end to e in
+    let freed = without_handle state end.guest end.handle in
+    let number = next_in freed to in
+    let there : to < length freed.guests = omega (arith, fits.to_there, length-freed state.guests (Some (end.guest, end.handle))) in
+    ByOwner (replies.Number number) (owning state side end (Held to number) (Some to)) refl
+    (leaves-owns state side end (Held to number) (Some to) (Move to) (replies.Number number) h fits.leaves refl
+    (record { there = there; small = fits.number; owns = refl }))
+
+lift-shape : (state : State) (side : Side) (end : NamedEnd) → IsSound state → first_of (on_end_reasons state side end Lift) ≡ None → Shape state (OnEnd side end Lift) (lifts state (stream_named (named state end)) side end)
+lift-shape state side end h e =
+    let reply = replies.Number (stream_named (named state end)) in
+    ByOwner reply (owning state side end Loose None) refl (leaves-owns state side end Loose None Lift reply h (lift_fits state side end e) refl refl)
 
 cancel-shape : (state : State) (side : Side) (end : NamedEnd) → IsSound state → first_of (on_end_reasons state side end Cancel) ≡ None → Shape state (OnEnd side end Cancel) (cancels state (stream_named (named state end)) side)
 unfolding cancelled
@@ -67,14 +102,55 @@ cancel-shape state side end h e =
     let code = code_of_cancel side stream in
     let fits = named_fits state side end (where_ (not (is_busy side stream)) refusals.NoPending ∷ []) e in
     let busy = not_refused (not (is_busy side stream)) _ _ fits.1 in
-    BySetting (replies.Code code) (record { guest = end.guest; handle = end.handle; stream = s; side = side; end = told_end (Some code) (end_of side stream); frees = false }) refl
-    (record { found = named-found state side end Cancel h fits.0; becomes = cancelled-becomes side stream (not-false (is_busy side stream) busy.0); untaken = λ report. refl })
+    let found = named-found state side end Cancel h fits.0 in
+    BySetting (replies.Code code) (record { stream = s; side = side; end = told_end (Some code) (end_of side stream) }) refl
+    (record { made = found.made; named = found.named (replies.Code code); becomes = cancelled-becomes side stream (not-false (is_busy side stream) busy.0); untaken = λ report. refl })
 
-on_end-shape : (state : State) (side : Side) (end : NamedEnd) (act : EndAct) → IsSound state → refusal state (OnEnd side end act) ≡ None → Shape state (OnEnd side end act) (on_end state side end act)
+pub on_end-shape : (state : State) (side : Side) (end : NamedEnd) (act : EndAct) → IsSound state → refusal state (OnEnd side end act) ≡ None → Shape state (OnEnd side end act) (on_end state side end act)
 unfolding refusal
 on_end-shape state side end (Operate address count) h e = ByTurn side end address count refl refl (operate-fits state side end address count h e)
 on_end-shape state side end Drop h e = drop-shape state side end h e
 on_end-shape state side end Cancel h e = cancel-shape state side end h e
+on_end-shape state side end (Move to) h e = move-shape state side end to h e
+on_end-shape state side end Lift h e = lift-shape state side end h e
+
+-- ## What is done to a loose end
+
+-- it was made, and no guest has it
+loose_there : (state : State) (s : ℕ) → is_loose (stream_at state s).reader.owner ≡ true → s < length state.streams
+loose_there state s e =
+    elim (cases_lt s (length state.streams)) [
+      | inl l ↦ l
+      | inr l ↦ absurd (let none : is_loose (stream_at state s).reader.owner ≡ false = ap (λ (st : Stream). is_loose st.reader.owner) (get_or_past state.streams s no_stream l) in cc)
+    ]
+
+loose_unheld : (owner : Owner) → is_loose owner ≡ true → is_held owner ≡ false
+loose_unheld Gone e = refl
+loose_unheld Loose e = refl
+loose_unheld (Held g handle) e = cc
+
+type_of-by : (stream : Stream) (ty : TransmitIndex) → stream.kind ≡ kind_of ty → stream.payload ≡ payload_of ty → type_of stream ≡ ty
+type_of-by stream ty e f = ap (λ k. type_with k stream.payload) e ∙ ap (type_with (kind_of ty)) f ∙ type_with-of ty
+
+pub loose-shape : (state : State) (reader : ℕ) (act : LooseAct) → refusal state (OnLoose reader act) ≡ None → Shape state (OnLoose reader act) (on_loose state reader act)
+unfolding dropped
+loose-shape state s (Lower g ty) e =
+    let fits = lower_fits state s g ty e in
+    let stream = stream_at state s in
+    let number = next_in state g in
+    ByOwner (replies.Number number) (record { stream = s; side = Reading; ty = ty; owner = Held g number; freed = None; taker = Some g }) refl
+    (record {
+      made = loose_there state s fits.loose;
+      typed = type_of-by stream ty fits.kind fits.payload;
+      untold = refl;
+      freed = loose_unheld stream.reader.owner fits.loose;
+      taken = record { there = fits.there; small = fits.number; owns = refl };
+    })
+loose-shape state s Close e =
+    let loose = close_fits state s e in
+    let stream = stream_at state s in
+    ByOwner replies.Done (record { stream = s; side = Reading; ty = type_of stream; owner = Gone; freed = None; taker = None }) refl
+    (record { made = loose_there state s loose; typed = refl; untold = refl; freed = loose_unheld stream.reader.owner loose; taken = refl })
 
 -- ## What else is done
 
@@ -85,19 +161,19 @@ event-shape state g handle h e =
     let side = side_named name in
     let stream = stream_at state (stream_named name) in
     let code = report_on side stream in
-    BySetting (replies.Event code) (record { guest = g; handle = handle; stream = stream_named name; side = side; end = told_end code (end_of side stream); frees = false }) refl
-    (record {
-      found = event-found state g handle h (event_fits state g handle e);
-      becomes = told-becomes side stream;
-      untaken = λ report. refl;
-    })
+    let found = event-found state g handle h (event_fits state g handle e) in
+    BySetting (replies.Event code) (record { stream = stream_named name; side = side; end = told_end code (end_of side stream) }) refl
+    (record { made = found.made; named = found.named (replies.Event code); becomes = told-becomes side stream; untaken = λ report. refl })
 
-make-shape : (state : State) (making : Making) → refusal state (Make making) ≡ None → Shape state (Make making) (makes state making)
-make-shape state (Guest size) e = ByGuest size refl refl (guest_fits state size e)
-make-shape state (Between writer reader ty) e = ByPair writer reader ty refl refl (pair_fits state writer reader ty e)
+make-shape : (state : State) (making : Making) → IsSound state → refusal state (Make making) ≡ None → Shape state (Make making) (makes state making)
+make-shape state (Guest size) h e = ByGuest size refl refl (guest_fits state size e)
+make-shape state (Between writer reader ty) h e = ByPair writer reader ty refl refl (pair_fits state writer reader ty e)
+make-shape state (Set g) h e = set_new-shape state g h (set_fits state g e)
+make-shape state (Context g address len) h e = context_new-shape state g address len h (context_fits state g address len e)
 
 memory-shape : (state : State) (g : ℕ) (act : MemoryAct) → refusal state (OnMemory g act) ≡ None → Shape state (OnMemory g act) (on_memory state g act)
-memory-shape state g (Poke address bytes) e = ByPoke g address bytes refl refl (poke_fits state g address bytes e)
+memory-shape state g (Poke address bytes) e =
+    ByPut replies.Done g address bytes refl (record { fits = poke_fits state g address bytes e; where_ = refl; bytes_put = λ b. b; untold = refl })
 memory-shape state g (Dump address len) e = ByRest _ refl refl
 
 -- ## Every step
@@ -105,9 +181,12 @@ memory-shape state g (Dump address len) e = ByRest _ refl refl
 performs-shape : (state : State) → IsSound state → (act : Act) → refusal state act ≡ None → Shape state act (performs state act)
 performs-shape state h =
     performs-by (λ act r. refusal state act ≡ None → Shape state act r) state
-    (make-shape state)
+    (λ making. make-shape state making h)
     (λ side end act. on_end-shape state side end act h)
+    (loose-shape state)
     (λ g handle. event-shape state g handle h)
+    (λ g set act. set-shape state g set act h)
+    (λ g handle act. context-shape state g handle act h)
     (memory-shape state)
 
 pub reaction-shape : (state : State) (act : Act) → IsSound state → Shape state act (reaction state act)

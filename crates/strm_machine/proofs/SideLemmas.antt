@@ -1,9 +1,7 @@
 -- A stream after a change on one side: its type and owners stay, and its operations lie in memory.
-use Rattle.std.proofs.Common.{true, ◌≡◌, ℕ, ◌≤◌, List, Option, Some, None, refl, ◌∙◌, arith}
-use Rattle.strm_machine.specs.Words.{Payload, scalars_of, same_side, end_of, with_end, with_operation, advanced, report_on, told_end, ReturnCode, IsPlaced, OperationIsPlaced, StreamIsPlaced, Side, Writing, Reading, Operation, End, Stream}
+use Rattle.std.proofs.Common.{true, ◌≡◌, ℕ, ◌≤◌, List, Some, refl, ◌∙◌, arith}
+use Rattle.strm_machine.specs.Words.{Payload, scalars_of, same_side, end_of, with_end, with_operation, advanced, IsPlaced, OperationIsPlaced, StreamIsPlaced, Side, Writing, Reading, Operation, End, Stream}
 use Rattle.strm_machine.specs.Sides.{read_of}
-use Rattle.strm_machine.specs.Endings.{delivered, code_of_cancel, cancelled}
-use Rattle.strm_events.specs.Reports.{left_pending}
 use Rattle.strm_machine.proofs.BoundLemmas.{not_out-rest}
 
 -- a side is the same as itself, and as no other
@@ -63,23 +61,3 @@ IsPlaced-advanced sizes payload operation n h p = record {
 pub read_of-placed : (side : Side) (sizes : List ℕ) (payload : Payload) (mine theirs : Operation) → IsPlaced sizes payload mine → IsPlaced sizes payload theirs → IsPlaced sizes payload (read_of side mine theirs)
 read_of-placed Writing sizes payload mine theirs p q = q
 read_of-placed Reading sizes payload mine theirs p q = p
-
-left_placed : (sizes : List ℕ) (payload : Payload) (code : Option ReturnCode) (o : Option Operation) → OperationIsPlaced sizes payload o → OperationIsPlaced sizes payload (left_pending code o)
-left_placed sizes payload None o p = p
-left_placed sizes payload (Some code) o p = tt
-
--- an end that was told a code, if any
-told_end-keeps : (side : Side) (sizes : List ℕ) (stream : Stream) (code : Option ReturnCode) → StreamIsPlaced sizes stream → StreamKeeps sizes stream (with_end side stream (told_end code (end_of side stream)))
-told_end-keeps side sizes stream code h =
-    with_end-keeps side sizes stream (told_end code (end_of side stream)) h refl
-    (left_placed sizes stream.payload code (end_of side stream).operation (end_placed side sizes stream h))
-
--- an end that was told its report
-pub delivered-keeps : (side : Side) (sizes : List ℕ) (stream : Stream) → StreamIsPlaced sizes stream → StreamKeeps sizes stream (delivered side stream)
-unfolding delivered
-delivered-keeps side sizes stream h = told_end-keeps side sizes stream (report_on side stream) h
-
--- an end whose operation was cancelled
-pub cancelled-keeps : (side : Side) (sizes : List ℕ) (stream : Stream) → StreamIsPlaced sizes stream → StreamKeeps sizes stream (cancelled side stream)
-unfolding cancelled
-cancelled-keeps side sizes stream h = told_end-keeps side sizes stream (Some (code_of_cancel side stream)) h

@@ -1,25 +1,30 @@
 -- Each change of the machine leaves a sound state.
-use Rattle.std.proofs.Common.{Bool, true, false, ◌≡◌, ℕ, zero, suc, ◌+◌, ◌<◌, ◌≤◌, List, [], ◌∷◌, ◌++◌, length, set, Option, Some, None, refl, sym, ap, ◌∙◌, subst, inl, inr, arith, length-append}
-use Rattle.std.specs.Prelude.{All, sum}
+use Rattle.std.proofs.Common.{◌≡◌, true, ℕ, zero, suc, ◌+◌, ◌<◌, ◌≤◌, List, [], ◌∷◌, ◌++◌, length, set, Option, Some, None, refl, sym, ap, ◌∙◌, subst, inl, inr, arith, length-append}
+use Rattle.std.specs.Prelude.{All, sum, is_ok}
 use Rattle.std.proofs.Math.Seq.{map-set_same}
 use Rattle.std.proofs.Math.ListN.{get_or-map}
 use Rattle.std.proofs.lemmas.Bool.{cases_lt}
 use Rattle.std.proofs.lemmas.List.{get_or_past, length-map, map-append, get_or_append_left, map-set, get_or_push}
 use Rattle.std.proofs.lemmas.List.Elements.{All-set, All-push, All-weaker, All-get_or, All-nil}
 use Rattle.std.proofs.lemmas.List.Sums.{sum_by-append}
-use Rattle.strm_machine.specs.Words.{Guest, TransmitIndex, Payload, kind_of, payload_of, Handles, removed, no_handles, Entry, State, no_guest, no_stream, guest_in, with_handles, stream_at, Turn, ReturnCode, end_of, with_end, Gone, End, Writing, Reading, Side, sizes_of, IsPlaced, OperationIsPlaced, StreamIsPlaced, IsSound, Operation, Stream}
+use Rattle.strm_machine.specs.Words.{Guest, TransmitIndex, Payload, kind_of, payload_of, Handles, removed, no_handles, Entry, Sets, no_sets, State, no_guest, no_stream, guest_in, sets_in, with_handles, with_table, without_handle, end_named, HoldsSets, HoldSets, stream_at, Turn, ReturnCode, end_of, with_end, Gone, End, Writing, Reading, Side, sizes_of, IsPlaced, OperationIsPlaced, StreamIsPlaced, IsSound, Operation, Stream}
 use Rattle.strm_codes.specs.declared.codes.TransmitIndex.TheVariants as index
 use Rattle.strm_codes.specs.declared.payloads.Payload.TheVariants.{Nothing}
-use Rattle.strm_handles.specs.Handles.{inserted, inserted_in, entries_with}
+use Rattle.strm_handles.specs.Handles.{handle_limit, entry_at, next_index, inserted, inserted_in, entries_with}
+use Rattle.strm_handles.specs.Lookups.{end_rep_in}
+use Rattle.strm_sets.specs.Sets.{left}
+use Rattle.strm_contexts.specs.Contexts.{Contexts}
 use Rattle.strm_handles.specs.declared.entries.Entry.TheVariants as entries
 use Rattle.strm_handles.specs.declared.entries.TransmitEnd.{TransmitEnd}
 use Rattle.strm_handles.specs.Ends.{read_end, write_end}
 use Rattle.strm_machine.specs.State.{memory_limit}
 use Rattle.strm_events.specs.Reports.{left_pending}
 use Rattle.strm_machine.specs.Endings.{dropped}
-use Rattle.strm_machine.specs.Making.{read_entry, write_entry, with_read_end, with_ends, made_stream, made_pair, with_stream}
-use Rattle.strm_machine.specs.Soundness.{handles_of, type_with, type_of, types_of, is_idle_state, IsNamed, EntryIsNamed, AreNamed}
+use Rattle.strm_machine.specs.Making.{read_entry, write_entry, end_entry, with_read_end, with_ends, writer_index, made_stream, made_pair, with_stream}
+use Rattle.strm_machine.specs.Soundness.{handles_of, type_with, type_of, types_of, is_idle_state, IsNamed, EntryIsNamed, AreNamed, HoldsContexts}
 use Rattle.strm_machine.proofs.TurnLemmas.{GuestsKeep, TurnKeeps}
+use Rattle.strm_machine.proofs.WaitableSetLemmas.{end_some, HoldsSets-freed, HoldsSets-given_end, HoldSets-with, HoldSets-kept, HoldSets-more}
+use Rattle.strm_machine.proofs.ErrorContextLemmas.{end_leads_nowhere, all_handles-same, HoldsContexts-same, HoldsContexts-more, HoldsContexts-given, HoldsContexts-freed}
 use Rattle.strm_machine.proofs.EndLemmas.{IsLeft, left_by, with_end-type}
 
 -- guests with the handles and memory lengths of those before
@@ -28,6 +33,8 @@ IsSound-guests state guests k h = record {
   named = rw k.handles h.named;
   placed = rw k.sizes h.placed;
   small = rw k.sizes h.small;
+  sets = HoldSets-kept state.guests guests k.handles k.sets h.sets;
+  contexts = HoldsContexts-same state.guests guests state.contexts (λ number. all_handles-same number state.guests guests k.handles) h.contexts;
 }
 
 type_of-same : (a b : Stream) → a.payload ≡ b.payload → a.kind ≡ b.kind → type_of a ≡ type_of b
@@ -39,6 +46,8 @@ IsSound-stream state s stream e p h = record {
   named = rw (map-set_same type_of state.streams s stream no_stream e) h.named;
   placed = All-set (StreamIsPlaced (sizes_of state.guests)) state.streams s stream p h.placed;
   small = h.small;
+  sets = h.sets;
+  contexts = h.contexts;
 }
 
 -- a turn, written back
@@ -69,8 +78,8 @@ StreamIsPlaced-more sizes n stream p = record {
 }
 
 -- one guest more
-pub IsSound-guest : (state : State) (guest : Guest) → guest.handles ≡ no_handles → sum (sizes_of state.guests) + length guest.memory ≤ memory_limit → IsSound state → IsSound (record state { guests = state.guests ++ guest ∷ [] })
-IsSound-guest state guest e l h =
+pub IsSound-guest : (state : State) (guest : Guest) → guest.handles ≡ no_handles → guest.sets ≡ no_sets → sum (sizes_of state.guests) + length guest.memory ≤ memory_limit → IsSound state → IsSound (record state { guests = state.guests ++ guest ∷ [] })
+IsSound-guest state guest e f l h =
     let sizes : sizes_of (state.guests ++ guest ∷ []) ≡ sizes_of state.guests ++ length guest.memory ∷ [] = map-append (λ g. length g.memory) state.guests (guest ∷ []) in
     let handles : handles_of (state.guests ++ guest ∷ []) ≡ handles_of state.guests ++ guest.handles ∷ [] = map-append (λ g. g.handles) state.guests (guest ∷ []) in
     let total = sum_by-append (λ n. n) (sizes_of state.guests) (length guest.memory ∷ []) in
@@ -78,6 +87,8 @@ IsSound-guest state guest e l h =
       named = rw (handles, e) (All-push (AreNamed (types_of state.streams)) (handles_of state.guests) no_handles h.named (All-nil (EntryIsNamed (types_of state.streams))));
       placed = rw sizes (All-weaker (StreamIsPlaced (sizes_of state.guests)) (StreamIsPlaced (sizes_of state.guests ++ length guest.memory ∷ [])) (StreamIsPlaced-more (sizes_of state.guests) (length guest.memory)) state.streams h.placed);
       small = rw sizes (omega (arith, l, total));
+      sets = HoldSets-more state.guests guest e f h.sets;
+      contexts = HoldsContexts-more state.guests guest state.contexts e h.contexts;
     }
 
 IsNamed-more : (types : List TransmitIndex) (p ty : TransmitIndex) (end : TransmitEnd) → IsNamed types ty end → IsNamed (types ++ p ∷ []) ty end
@@ -108,7 +119,7 @@ inserted_in-named : (types : List TransmitIndex) (es : List (Option Entry)) (fre
 inserted_in-named types es [] e p h = All-push (EntryIsNamed types) es (Some e) h p
 inserted_in-named types es (n ∷ ns) e p h = entries_with-named types es n e p h
 
-AreNamed-inserted : (types : List TransmitIndex) (handles : Handles) (e : Entry) → EntryIsNamed types (Some e) → AreNamed types handles → AreNamed types (inserted handles e)
+pub AreNamed-inserted : (types : List TransmitIndex) (handles : Handles) (e : Entry) → EntryIsNamed types (Some e) → AreNamed types handles → AreNamed types (inserted handles e)
 AreNamed-inserted types handles e p h = inserted_in-named types handles.entries handles.freed e p h
 
 new_end-named : (types : List TransmitIndex) (ty : TransmitIndex) (end : TransmitEnd) → end.rep ≡ length types → is_idle_state end.state ≡ true → IsNamed (types ++ ty ∷ []) ty end
@@ -126,16 +137,19 @@ write_entry-named : (types : List TransmitIndex) (ty : TransmitIndex) → EntryI
 write_entry-named types (index.Stream payload) = new_end-named types (index.Stream payload) (write_end payload (length types)) refl refl
 write_entry-named types (index.Future payload) = new_end-named types (index.Future payload) (write_end payload (length types)) refl refl
 
-type_with-of : (ty : TransmitIndex) → type_with (kind_of ty) (payload_of ty) ≡ ty
+pub type_with-of : (ty : TransmitIndex) → type_with (kind_of ty) (payload_of ty) ≡ ty
 type_with-of (index.Stream payload) = refl
 type_with-of (index.Future payload) = refl
 
 -- the handles of a guest whose table was changed
-handles_of-with : (guests : List Guest) (g : ℕ) (handles : Handles) → handles_of (with_handles guests g handles) ≡ set (handles_of guests) g handles
-handles_of-with guests g handles = map-set (λ h. h.handles) guests g (record (guest_in guests g) { handles = handles })
+handles_of-with : (guests : List Guest) (g : ℕ) (handles : Handles) (sets : Sets) → handles_of (with_table guests g handles sets) ≡ set (handles_of guests) g handles
+handles_of-with guests g handles sets = map-set (λ h. h.handles) guests g (record (guest_in guests g) { handles = handles; sets = sets })
+
+pub sizes_of-with_table : (guests : List Guest) (g : ℕ) (handles : Handles) (sets : Sets) → sizes_of (with_table guests g handles sets) ≡ sizes_of guests
+sizes_of-with_table guests g handles sets = map-set_same (λ h. length h.memory) guests g (record (guest_in guests g) { handles = handles; sets = sets }) no_guest refl
 
 pub sizes_of-with_handles : (guests : List Guest) (g : ℕ) (handles : Handles) → sizes_of (with_handles guests g handles) ≡ sizes_of guests
-sizes_of-with_handles guests g handles = map-set_same (λ h. length h.memory) guests g (record (guest_in guests g) { handles = handles }) no_guest refl
+sizes_of-with_handles guests g handles = sizes_of-with_table guests g handles (sets_in guests g)
 
 pub AreNamed-at : (types : List TransmitIndex) (guests : List Guest) (g : ℕ) → All (AreNamed types) (handles_of guests) → AreNamed types (guest_in guests g).handles
 AreNamed-at types guests g h =
@@ -150,13 +164,31 @@ AreNamed-removed types handles (suc i) h = All-set (EntryIsNamed types) handles.
 
 with_handles-named : (types : List TransmitIndex) (guests : List Guest) (g : ℕ) (e : Entry) → EntryIsNamed types (Some e) → All (AreNamed types) (handles_of guests) → All (AreNamed types) (handles_of (with_handles guests g (inserted (guest_in guests g).handles e)))
 with_handles-named types guests g e p h =
-    rw (handles_of-with guests g (inserted (guest_in guests g).handles e))
+    rw (handles_of-with guests g (inserted (guest_in guests g).handles e) (sets_in guests g))
     (All-set (AreNamed types) (handles_of guests) g (inserted (guest_in guests g).handles e) (AreNamed-inserted types (guest_in guests g).handles e p (AreNamed-at types guests g h)) h)
 
+-- an entry of an end, whichever it is
+pub end_entry-ok : (side : Side) (ty : TransmitIndex) (s : ℕ) → is_ok (end_rep_in (Some (end_entry side ty s))) ≡ true
+end_entry-ok Writing (index.Stream payload) s = refl
+end_entry-ok Writing (index.Future payload) s = refl
+end_entry-ok Reading (index.Stream payload) s = refl
+end_entry-ok Reading (index.Future payload) s = refl
+
+-- a handle of an end more
+HoldSets-given : (guests : List Guest) (g : ℕ) (e : Entry) → is_ok (end_rep_in (Some e)) ≡ true → next_index (guest_in guests g).handles < handle_limit → HoldSets guests → HoldSets (with_handles guests g (inserted (guest_in guests g).handles e))
+HoldSets-given guests g e ok small h =
+    HoldSets-with guests g (inserted (guest_in guests g).handles e) (sets_in guests g)
+    (HoldsSets-given_end (guest_in guests g).handles (sets_in guests g) (h g) e small ok) h
+
+-- which leads to no error context
+HoldsContexts-end : (guests : List Guest) (contexts : Contexts) (g : ℕ) (e : Entry) → is_ok (end_rep_in (Some e)) ≡ true → HoldSets guests → HoldsContexts guests contexts → HoldsContexts (with_handles guests g (inserted (guest_in guests g).handles e)) contexts
+HoldsContexts-end guests contexts g e ok s h =
+    HoldsContexts-given guests contexts g (sets_in guests g) h e (s g).table (λ number. end_leads_nowhere number (Some e) ok)
+
 -- one stream more, with its two ends in their tables
-pub IsSound-with_stream : (state : State) (writer reader : ℕ) (ty : TransmitIndex) → IsSound state → IsSound (with_stream state writer reader ty)
+pub IsSound-with_stream : (state : State) (writer reader : ℕ) (ty : TransmitIndex) → next_index (guest_in state.guests reader).handles < handle_limit → writer_index state writer reader ty < handle_limit → IsSound state → IsSound (with_stream state writer reader ty)
 unfolding with_stream
-IsSound-with_stream state writer reader ty h =
+IsSound-with_stream state writer reader ty reads writes h =
     let s = length state.streams in
     let stream = made_stream ty writer (made_pair state writer reader ty).write reader (made_pair state writer reader ty).read in
     let old = types_of state.streams in
@@ -174,47 +206,89 @@ IsSound-with_stream state writer reader ty h =
       named = rw types named2;
       placed = rw sizes (All-push (StreamIsPlaced (sizes_of state.guests)) state.streams stream h.placed (record { writer = tt; reader = tt }));
       small = rw sizes h.small;
+      sets =
+          HoldSets-given held writer (write_entry ty s) (end_entry-ok Writing ty s) writes
+          (HoldSets-given state.guests reader (read_entry ty s) (end_entry-ok Reading ty s) reads h.sets);
+      contexts =
+          HoldsContexts-end held state.contexts writer (write_entry ty s) (end_entry-ok Writing ty s)
+          (HoldSets-given state.guests reader (read_entry ty s) (end_entry-ok Reading ty s) reads h.sets)
+          (HoldsContexts-end state.guests state.contexts reader (read_entry ty s) (end_entry-ok Reading ty s) h.sets h.contexts);
     }
+
+-- ## One guest's table and sets are others, and error contexts
+
+module _ (state : State) (g : ℕ) (handles : Handles) (sets : Sets) (contexts : Contexts) where
+  abbrev guests_with : List Guest
+  guests_with = with_table state.guests g handles sets
+
+  pub IsSound-table : AreNamed (types_of state.streams) handles → HoldsSets handles sets → HoldsContexts guests_with contexts → IsSound state → IsSound (record state { guests = guests_with; contexts = contexts })
+  IsSound-table named holds counts h =
+      let types = types_of state.streams in
+      let sizes = sizes_of-with_table state.guests g handles sets in
+      record {
+        named = rw (handles_of-with state.guests g handles sets) (All-set (AreNamed types) (handles_of state.guests) g handles named h.named);
+        placed = rw sizes h.placed;
+        small = rw sizes h.small;
+        sets = HoldSets-with state.guests g handles sets holds h.sets;
+        contexts = counts;
+      }
+
+-- a handle of an end is freed, which leaves its set
+pub IsSound-freed : (state : State) (g handle : ℕ) → is_ok (end_named state g handle) ≡ true → IsSound state → IsSound (without_handle state g handle)
+IsSound-freed state g handle ok h =
+    let types = types_of state.streams in
+    let guest = guest_in state.guests g in
+    let found = end_some (entry_at guest.handles handle) ok in
+    IsSound-table state g (removed guest.handles handle) (left guest.sets handle) state.contexts
+    (AreNamed-removed types guest.handles handle (AreNamed-at types state.guests g h.named))
+    (HoldsSets-freed guest.handles guest.sets (h.sets g) handle ok)
+    (HoldsContexts-freed state.guests state.contexts g (left guest.sets handle) h.contexts handle found.0 found.1
+    (λ number. end_leads_nowhere number (Some found.0) (ap (λ o. is_ok (end_rep_in o)) (sym found.1) ∙ ok))) h
+
+-- and one is given, for an end of a stream of its type
+module _ (state : State) (g : ℕ) (e : Entry) where
+  abbrev given_to : State
+  given_to = record state { guests = with_handles state.guests g (inserted (guest_in state.guests g).handles e) }
+
+  pub IsSound-given : EntryIsNamed (types_of state.streams) (Some e) → is_ok (end_rep_in (Some e)) ≡ true → next_index (guest_in state.guests g).handles < handle_limit → IsSound state → IsSound given_to
+  IsSound-given p ok few h =
+      let sizes = sizes_of-with_handles state.guests g (inserted (guest_in state.guests g).handles e) in
+      record {
+        named = with_handles-named (types_of state.streams) state.guests g e p h.named;
+        placed = rw sizes h.placed;
+        small = rw sizes h.small;
+        sets = HoldSets-given state.guests g e ok few h.sets;
+        contexts = HoldsContexts-end state.guests state.contexts g e ok h.sets h.contexts;
+      }
 
 -- ## A stream with another end
-
--- the guests, where a handle of one of them is freed or none is
-abbrev pub guests_after : Bool → List Guest → ℕ → ℕ → List Guest
-guests_after true guests g handle = with_handles guests g (removed (guest_in guests g).handles handle)
-guests_after false guests g handle = guests
-
-IsSound-freed : (frees : Bool) (state : State) (g handle : ℕ) → IsSound state → IsSound (record state { guests = guests_after frees state.guests g handle })
-IsSound-freed false state g handle h = record { named = h.named; placed = h.placed; small = h.small }
-IsSound-freed true state g handle h =
-    let types = types_of state.streams in
-    let handles = removed (guest_in state.guests g).handles handle in
-    let sizes = sizes_of-with_handles state.guests g handles in
-    record {
-      named = rw (handles_of-with state.guests g handles)
-          (All-set (AreNamed types) (handles_of state.guests) g handles (AreNamed-removed types (guest_in state.guests g).handles handle (AreNamed-at types state.guests g h.named)) h.named);
-      placed = rw sizes h.placed;
-      small = rw sizes h.small;
-    }
 
 with_end-placed : (side : Side) (sizes : List ℕ) (stream : Stream) (e : End) → IsLeft (end_of side stream).operation e.operation → StreamIsPlaced sizes stream → StreamIsPlaced sizes (with_end side stream e)
 with_end-placed Writing sizes stream e left h = record { writer = left_by (OperationIsPlaced sizes stream.payload) stream.writer.operation e.operation left h.writer tt; reader = h.reader }
 with_end-placed Reading sizes stream e left h = record { writer = h.writer; reader = left_by (OperationIsPlaced sizes stream.payload) stream.reader.operation e.operation left h.reader tt }
 
-module _ (state : State) (frees : Bool) (g handle s : ℕ) (side : Side) (e : End) where
-  -- an end of one stream is another, with its operation or none, and its handle is freed or not
-  pub IsSound-set : s < length state.streams → IsLeft (end_of side (stream_at state s)).operation e.operation → IsSound state → IsSound (record state { guests = guests_after frees state.guests g handle; streams = set state.streams s (with_end side (stream_at state s) e) })
-  IsSound-set l left h =
-      let stream = stream_at state s in
-      IsSound-freed frees (record state { streams = set state.streams s (with_end side stream e) }) g handle
-      (IsSound-stream state s (with_end side stream e) (with_end-type side stream e) (with_end-placed side (sizes_of state.guests) stream e left (placed_at state s l h)) h)
+-- an end of one stream is another, with its operation or none
+pub IsSound-set : (state : State) (s : ℕ) (side : Side) (e : End) → s < length state.streams → IsLeft (end_of side (stream_at state s)).operation e.operation → IsSound state → IsSound (record state { streams = set state.streams s (with_end side (stream_at state s) e) })
+IsSound-set state s side e l left h =
+    let stream = stream_at state s in
+    IsSound-stream state s (with_end side stream e) (with_end-type side stream e) (with_end-placed side (sizes_of state.guests) stream e left (placed_at state s l h)) h
 
 -- an operation whose end is told
 pub left_told : (code : Option ReturnCode) (o : Option Operation) → IsLeft o (left_pending code o)
 left_told None o = inl refl
 left_told (Some code) o = inr refl
 
--- an end was dropped, and its handle freed
-pub IsSound-dropped : (state : State) (s : ℕ) (side : Side) (g handle : ℕ) → s < length state.streams → IsSound state → IsSound (record state { guests = guests_after true state.guests g handle; streams = set state.streams s (dropped side (stream_at state s)) })
-unfolding dropped
-IsSound-dropped state s side g handle l h =
-    IsSound-set state true g handle s side (record (end_of side (stream_at state s)) { owner = Gone }) l (inl refl) h
+module _ (state : State) (s : ℕ) (side : Side) (g handle : ℕ) where
+  -- an end was dropped, and its handle freed
+  abbrev drop_of : State
+  drop_of = record state {
+    guests = (without_handle state g handle).guests;
+    streams = set state.streams s (dropped side (stream_at state s));
+  }
+
+  pub IsSound-dropped : s < length state.streams → is_ok (end_named state g handle) ≡ true → IsSound state → IsSound drop_of
+  unfolding dropped
+  IsSound-dropped l ok h =
+      let stream = stream_at state s in
+      let e = record (end_of side stream) { owner = Gone } in
+      IsSound-freed (record state { streams = set state.streams s (with_end side stream e) }) g handle ok (IsSound-set state s side e l (inl refl) h)

@@ -4,10 +4,9 @@ use Rattle.std.proofs.Math.Seq.{map-set_same}
 use Rattle.std.proofs.Math.ListN.{get_or-map}
 use Rattle.std.proofs.lemmas.Bool.{cases_eq}
 use Rattle.std.proofs.lemmas.List.{get_or-set_same, get_or-set_other}
-use Rattle.strm_machine.specs.Words.{Guest, Handles, no_handles, no_guest, no_stream, guest_in, with_memory, with_handles, end_of, with_end, Side, Writing, Reading, End, Stream}
+use Rattle.strm_machine.specs.Words.{Guest, Handles, no_handles, Sets, no_sets, no_guest, no_stream, guest_in, sets_in, with_memory, with_table, end_of, with_end, Side, Writing, Reading, End, Stream, Owner}
 use Rattle.strm_handles.specs.Handles.{IsTable}
 use Rattle.strm_machine.specs.Soundness.{handles_of}
-use Rattle.strm_machine.specs.declared.streams.Owner.{Owner}
 
 -- ## Guests
 
@@ -25,19 +24,26 @@ handles-more [] guest (suc g) e = refl
 handles-more (x ∷ xs) guest zero e = refl
 handles-more (x ∷ xs) guest (suc g) e = handles-more xs guest g e
 
-module _ (guests : List Guest) (g : ℕ) (handles : Handles) where
-  pub handles-with_same : g < length guests → (guest_in (with_handles guests g handles) g).handles ≡ handles
-  handles-with_same l = ap (λ (h : Guest). h.handles) (get_or-set_same guests g (record (guest_in guests g) { handles = handles }) no_guest l)
+-- and without sets
+pub sets-more : (guests : List Guest) (guest : Guest) (g : ℕ) → guest.sets ≡ no_sets → sets_in (guests ++ guest ∷ []) g ≡ sets_in guests g
+sets-more [] guest zero e = e
+sets-more [] guest (suc g) e = refl
+sets-more (x ∷ xs) guest zero e = refl
+sets-more (x ∷ xs) guest (suc g) e = sets-more xs guest g e
 
-  pub handles-with_other : (k : ℕ) → k ≢ g → (guest_in (with_handles guests g handles) k).handles ≡ (guest_in guests k).handles
-  handles-with_other k ne = ap (λ (h : Guest). h.handles) (get_or-set_other guests g k (record (guest_in guests g) { handles = handles }) no_guest ne)
+module _ (guests : List Guest) (g : ℕ) (handles : Handles) (sets : Sets) where
+  pub handles-with_same : g < length guests → (guest_in (with_table guests g handles sets) g).handles ≡ handles
+  handles-with_same l = ap (λ (h : Guest). h.handles) (get_or-set_same guests g (record (guest_in guests g) { handles = handles; sets = sets }) no_guest l)
+
+  pub handles-with_other : (k : ℕ) → k ≢ g → (guest_in (with_table guests g handles sets) k).handles ≡ (guest_in guests k).handles
+  handles-with_other k ne = ap (λ (h : Guest). h.handles) (get_or-set_other guests g k (record (guest_in guests g) { handles = handles; sets = sets }) no_guest ne)
 
   -- a sound table in place of one leaves all sound
-  pub tables-with : g < length guests → IsTable handles → ((k : ℕ) → IsTable (guest_in guests k).handles) → (k : ℕ) → IsTable (guest_in (with_handles guests g handles) k).handles
+  pub tables-with : g < length guests → IsTable handles → ((k : ℕ) → IsTable (guest_in guests k).handles) → (k : ℕ) → IsTable (guest_in (with_table guests g handles sets) k).handles
   tables-with l sound all k =
       ⊎_elim
-      (λ e. let same : (guest_in (with_handles guests g handles) k).handles ≡ handles = ap (λ i. (guest_in (with_handles guests g handles) i).handles) e ∙ handles-with_same l in rw same sound)
-      (λ ne. let same : (guest_in (with_handles guests g handles) k).handles ≡ (guest_in guests k).handles = handles-with_other k ne in rw same (all k))
+      (λ e. let same : (guest_in (with_table guests g handles sets) k).handles ≡ handles = ap (λ i. (guest_in (with_table guests g handles sets) i).handles) e ∙ handles-with_same l in rw same sound)
+      (λ ne. let same : (guest_in (with_table guests g handles sets) k).handles ≡ (guest_in guests k).handles = handles-with_other k ne in rw same (all k))
       (cases_eq k g)
 
 -- ## Streams

@@ -1,11 +1,11 @@
 -- What a read or write leaves as it was: the guests' handles, the lengths of their memories, the
 -- stream's type and owners.
-use Rattle.std.proofs.Common.{◌≡◌, ℕ, ◌≤◌, min, true, false, List, length, get_or, ℤ, Option, Some, None, refl, arith}
+use Rattle.std.proofs.Common.{◌≡◌, ℕ, ◌≤◌, min, true, false, List, length, map, get_or, ℤ, Option, Some, None, refl, arith}
 use Rattle.std.proofs.Math.Seq.{map-set_same}
 use Rattle.std.proofs.Math.ListN.{get_or-map}
 use Rattle.std.proofs.lemmas.Bool.{cond_both}
 use Rattle.std.specs.Option.{option_map}
-use Rattle.strm_machine.specs.Words.{Guest, Payload, Scalar, scalars_of, items_at, stored_at, no_guest, guest_in, memory_in, with_memory, opposite, same_side, end_of, with_operation, advanced, carried, Turn, with_received, sizes_of, IsPlaced, OperationIsPlaced, StreamIsPlaced, Side, Writing, Reading, Operation, Stream}
+use Rattle.strm_machine.specs.Words.{Guest, Sets, Payload, Scalar, scalars_of, items_at, stored_at, no_guest, guest_in, memory_in, with_memory, opposite, same_side, end_of, with_operation, advanced, carried, Turn, with_received, sizes_of, IsPlaced, OperationIsPlaced, StreamIsPlaced, Side, Writing, Reading, Operation, Stream}
 use Rattle.strm_memory.specs.Region.{is_out_of_bounds}
 use Rattle.strm_machine.specs.State.{is_gone}
 use Rattle.strm_machine.specs.Sides.{write_of, read_of}
@@ -16,23 +16,28 @@ use Rattle.strm_machine.specs.declared.streams.Meeting.TheVariants.{BothComplete
 use Rattle.strm_machine.proofs.BoundLemmas.{not_out-front, length-stored_region}
 use Rattle.strm_machine.proofs.SideLemmas.{StreamKeeps, kept, kept_on, end_placed, with_end-keeps, with_operation-keeps, IsPlaced-advanced, read_of-placed}
 
--- guests with the handles and the memory lengths of others
+abbrev pub sets_of : List Guest → List Sets
+sets_of guests = map (λ g. g.sets) guests
+
+-- guests with the handles, the sets and the memory lengths of others
 pub record GuestsKeep (old new : List Guest) : Type 0 where
   pub sizes : sizes_of new ≡ sizes_of old
   pub handles : handles_of new ≡ handles_of old
+  pub sets : sets_of new ≡ sets_of old
 
 pub record TurnKeeps (before : List Guest) (old : Stream) (t : Turn) : Type 0 where
   pub guests : GuestsKeep before t.guests
   pub stream : StreamKeeps (sizes_of before) old t.stream
 
 pub all_kept : (guests : List Guest) → GuestsKeep guests guests
-all_kept guests = record { sizes = refl; handles = refl }
+all_kept guests = record { sizes = refl; handles = refl; sets = refl }
 
 -- another memory of the same length
 pub with_memory-keeps : (guests : List Guest) (g : ℕ) (memory : List ℕ) → length memory ≡ length (memory_in guests g) → GuestsKeep guests (with_memory guests g memory)
 with_memory-keeps guests g memory e = record {
   sizes = map-set_same (λ h. length h.memory) guests g (record (guest_in guests g) { memory = memory }) no_guest e;
   handles = map-set_same (λ h. h.handles) guests g (record (guest_in guests g) { memory = memory }) no_guest refl;
+  sets = map-set_same (λ h. h.sets) guests g (record (guest_in guests g) { memory = memory }) no_guest refl;
 }
 
 pub size_in : (guests : List Guest) (g : ℕ) → get_or (sizes_of guests) g 0 ≡ length (memory_in guests g)

@@ -1,32 +1,29 @@
 -- What each step leaves of memories: all bytes but those that it pokes or receives items at.
-use Rattle.std.proofs.Common.{true, Bool, List, None, Option, Some, [], ap, arith, cond, drop, false, get_or, inl, inr, length, length-append, length-set, min, refl, set, subst, suc, sym, take, zero, ℕ, ℤ, ◌*◌, ◌++◌, ◌+◌, ◌-◌, ◌<◌, ◌^◌, ◌∙◌, ◌∷◌, ◌≡◌, ◌≤◌}
-use Rattle.std.proofs.Math.ListN.{get_or-map}
-use Rattle.std.proofs.Math.Seq.{map-set_same}
+use Rattle.std.proofs.Common.{Bool, List, None, Option, Some, [], ap, arith, cond, drop, false, get_or, inl, inr, length, length-append, length-set, min, refl, set, subst, suc, sym, take, zero, ℕ, ℤ, ◌*◌, ◌++◌, ◌+◌, ◌-◌, ◌<◌, ◌^◌, ◌∙◌, ◌∷◌, ◌≡◌, ◌≤◌}
 use Rattle.std.proofs.lemmas.Bool.{cases_eq, cases_lt, cond_both}
 use Rattle.std.proofs.lemmas.Bool.Decides.{nat_tests}
 use Rattle.std.proofs.lemmas.List.{append_assoc, get_or-set_same, get_or_append_left, length-map, take-append-drop}
-use Rattle.strm_machine.specs.Words.{Guest, item_size, scalars_of, ReturnCode, TransmitIndex, Payload, Scalar, Handles, removed, no_handles, Moment, names, received, advanced, carried, Reaction, goes, operates, written_back, end_of, opposite, same_side, with_operation, IsPlaced, IsSound, OperationIsPlaced, sizes_of, State, guest_in, memory_in, no_guest, no_stream, stream_at, with_handles, with_memory, named, stream_named, Turn, with_received, Operation, Side, Reading, Writing, Stream, put_at, items_at, stored_at, NamedEnd, Poke, Act, Make, OnMemory}
+use Rattle.strm_machine.specs.Words.{Guest, item_size, scalars_of, ReturnCode, TransmitIndex, Payload, Scalar, Handles, Sets, no_handles, no_sets, Moment, names, received, advanced, carried, Reaction, goes, operates, written_back, end_of, opposite, same_side, with_operation, IsPlaced, IsSound, OperationIsPlaced, sizes_of, State, guest_in, memory_in, no_guest, no_stream, sets_in, stream_at, with_handles, with_memory, with_table, named, stream_named, Turn, with_received, Operation, Side, Reading, Writing, Stream, put_at, items_at, stored_at, NamedEnd, Act, Make, Reply}
 use Rattle.strm_handles.specs.Handles.{inserted}
 use Rattle.strm_machine.proofs.EndLemmas.{read_fits}
 use Rattle.strm_machine.proofs.Lawful.{HasRoom, as_moment}
 use Rattle.strm_machine.proofs.NamedEndLemmas.{named_itself}
-use Rattle.strm_machine.proofs.RefusalLemmas.{BytesFit}
 use Rattle.strm_machine.proofs.SoundStepLemmas.{operate-keeps, poke-keeps}
-use Rattle.strm_machine.proofs.Shapes.{operating, stream_on, begun_on, turn_on, Operates, set_by, Shape, ByTurn, BySetting, ByPair, ByGuest, ByPoke, ByRest}
+use Rattle.strm_machine.proofs.Shapes.{operating, stream_on, begun_on, turn_on, Operates, set_by, owned_by, tabled_by, Puts, Shape, ByTurn, BySetting, ByOwner, ByTable, ByPair, ByGuest, ByPut, ByRest}
 use Rattle.strm_machine.proofs.ShapeLemmas.{reaction-shape}
 use Rattle.strm_machine.proofs.TurnChangeLemmas.{place_by, rose, there}
 use Rattle.strm_machine.specs.Moments.{Place, place_of, read_place, target}
-use Rattle.strm_machine.specs.Untouched.{LiesApart, Region, StaysAside, bytes_of, poked_by, received_by}
+use Rattle.strm_machine.specs.Untouched.{LiesApart, Region, StaysAside, bytes_of, put_by, received_by}
 use Rattle.strm_machine.proofs.BoundLemmas.{within}
 use Rattle.strm_machine.proofs.CarryLemmas.{carried-nothing}
 use Rattle.strm_machine.proofs.SideLemmas.{end_placed, read_of-placed}
-use Rattle.strm_machine.proofs.SoundLemmas.{guests_after}
-use Rattle.strm_machine.proofs.StateLemmas.{memory_in-with_memory, memory_in-with_memory_other}
+use Rattle.strm_machine.proofs.MoveLemmas.{length-by, memory_in-by}
+use Rattle.strm_machine.proofs.StateLemmas.{memory_in-with_memory, memory_in-with_memory_other, memory_in-with_table}
 use Rattle.strm_machine.proofs.TurnLemmas.{front_inside, size_in}
 use Rattle.strm_machine.specs.Making.{read_entry, with_stream}
-use Rattle.strm_machine.specs.Reactions.{makes, on_memory, reaction}
+use Rattle.strm_machine.specs.Reactions.{makes, reaction}
 use Rattle.strm_machine.specs.Sides.{read_of, write_of}
-use Rattle.strm_machine.specs.State.{is_gone}
+use Rattle.strm_machine.specs.State.{is_gone, with_bytes}
 use Rattle.strm_machine.specs.Turns.{completes_alone, finds, rendezvous_by, moves, turn}
 use Rattle.strm_machine.specs.declared.streams.Meeting.{Meeting}
 use Rattle.strm_machine.specs.declared.streams.Meeting.TheVariants.{BothComplete, ReadCompletes, WriteCompletes}
@@ -54,9 +51,9 @@ SizesStay-kept before after e = record {
   size = λ g l. sym (size_in after g) ∙ ap (λ xs. get_or xs g 0) e ∙ size_in before g;
 }
 
--- only what is poked is touched, or only what is received on one stream
-stays_poked : (m : Moment) → SizesStay m.before.guests m.after.guests → BytesStay m.before.guests m.after.guests (poked_by m.act m.reply) → StaysAside m
-stays_poked m s b = record { guests = s.guests; size = s.size; bytes = λ r l u. b r l u.poked }
+-- only what is put is touched, or only what is received on one stream
+stays_put : (m : Moment) → SizesStay m.before.guests m.after.guests → BytesStay m.before.guests m.after.guests (put_by m.act m.reply) → StaysAside m
+stays_put m s b = record { guests = s.guests; size = s.size; bytes = λ r l u. b r l u.put }
 
 stays_received : (s : ℕ) (m : Moment) → SizesStay m.before.guests m.after.guests → BytesStay m.before.guests m.after.guests (received_by s m) → StaysAside m
 stays_received s m k b = record { guests = k.guests; size = k.size; bytes = λ r l u. b r l (u.got s) }
@@ -71,13 +68,6 @@ stays_all m n e = record {
 
 stays_same : (m : Moment) → m.after.guests ≡ m.before.guests → StaysAside m
 stays_same m e = stays_all m (omega (arith, ap length e)) (λ g l. ap (λ guests. memory_in guests g) e)
-
-memory_in-with_handles : (guests : List Guest) (g : ℕ) (handles : Handles) (k : ℕ) → memory_in (with_handles guests g handles) k ≡ memory_in guests k
-memory_in-with_handles guests g handles k =
-    let new : Guest = record (guest_in guests g) { handles = handles } in
-    sym (get_or-map (λ (h : Guest). h.memory) (set guests g new) k no_guest)
-    ∙ ap (λ xs. get_or xs k []) (map-set_same (λ (h : Guest). h.memory) guests g new no_guest refl)
-    ∙ get_or-map (λ (h : Guest). h.memory) guests k no_guest
 
 -- bytes of one memory, where another is put in its place
 bytes_with : (guests : List Guest) (g : ℕ) (memory : List ℕ) (r : Region) → g < length guests → (r.place.guest ≡ g → bytes_at memory r.place.address r.size ≡ bytes_at (memory_in guests g) r.place.address r.size) → bytes_of (with_memory guests g memory) r ≡ bytes_of guests r
@@ -222,7 +212,7 @@ operates_stays state side end address count room o =
     let m = as_moment state act (operates state side end address count) in
     let guests : m.after.guests ≡ t.guests = back_guests state s t t.code in
     let rises : received s m.after ≡ t.stream.received = ap (λ (st : Stream). st.received) (back_stream state s t t.code o.found.made) in
-    let place : target s m ≡ place_by side stream mine = target_by side (names s Reading state act) end address count stream (named_itself state act s side Reading o.found.named) in
+    let place : target s m ≡ place_by side stream mine = target_by side (names s Reading state act m.reply) end address count stream (named_itself state act m.reply s side Reading (o.found.named m.reply)) in
     let here : received_by s m ≡ region_by side stream mine t = region_same (target s m) (place_by side stream mine) _ _ place (ap (λ k. item_size (scalars_of stream.payload) * (k - stream.received)) rises) in
     let stay = turn_stays side state.guests stream mine (room s) o.placed (end_placed (opposite side) (sizes_of state.guests) stream o.streams) in
     stays_received s m
@@ -231,48 +221,48 @@ operates_stays state side end address count room o =
 
 -- ## Every step
 
-poke_stays : (state : State) (g address : ℕ) (bytes : List ℕ) → BytesFit state g address (length bytes) → StaysAside (as_moment state (OnMemory g (Poke address bytes)) (on_memory state g (Poke address bytes)))
-poke_stays state g address bytes fits =
+bytes_stay : (state : State) (act : Act) (reply : Reply) (g address : ℕ) (bytes : List ℕ) → Puts state act reply g address bytes → StaysAside (as_moment state act (goes reply (with_bytes state g address bytes)))
+bytes_stay state act reply g address bytes p =
     let memory = memory_in state.guests g in
-    let m = as_moment state (OnMemory g (Poke address bytes)) (on_memory state g (Poke address bytes)) in
-    stays_poked m
-    (SizesStay-kept state.guests m.after.guests (poke-keeps state g address bytes fits).sizes)
-    (λ r l apart. bytes_with state.guests g (put_at memory address bytes) r fits.there (λ f. put_stays memory address bytes r.place.address r.size fits.inside (apart f)))
+    let m = as_moment state act (goes reply (with_bytes state g address bytes)) in
+    stays_put m
+    (SizesStay-kept state.guests m.after.guests (poke-keeps state g address bytes p.fits).sizes)
+    (subst (BytesStay state.guests m.after.guests) (sym p.where_)
+    (λ r l apart. bytes_with state.guests g (put_at memory address bytes) r p.fits.there (λ f. put_stays memory address bytes r.place.address r.size p.fits.inside (apart f))))
 
 -- a guest behind the others
 guest_stays : (state : State) (size : ℕ) → StaysAside (as_moment state (Make (makings.Guest size)) (makes state (makings.Guest size)))
 guest_stays state size =
-    let guest : Guest = record { memory = replicate size 0; handles = no_handles } in
+    let guest : Guest = record { memory = replicate size 0; handles = no_handles; sets = no_sets } in
     stays_all (as_moment state (Make (makings.Guest size)) (makes state (makings.Guest size)))
     (omega (arith, length-append state.guests (guest ∷ [])))
     (λ g l. ap (λ (k : Guest). k.memory) (get_or_append_left state.guests (guest ∷ []) no_guest g l))
 
-handles_stay : (m : Moment) (guests : List Guest) (g : ℕ) (handles : Handles) → length m.before.guests ≤ length guests → ((k : ℕ) → memory_in guests k ≡ memory_in m.before.guests k) → m.after.guests ≡ with_handles guests g handles → StaysAside m
-handles_stay m guests g handles n same e =
+table_stays : (m : Moment) (guests : List Guest) (g : ℕ) (handles : Handles) (sets : Sets) → length m.before.guests ≤ length guests → ((k : ℕ) → memory_in guests k ≡ memory_in m.before.guests k) → m.after.guests ≡ with_table guests g handles sets → StaysAside m
+table_stays m guests g handles sets n same e =
     stays_all m
-    (omega (arith, n, ap length e, length-set guests g (record (guest_in guests g) { handles = handles })))
-    (λ k l. ap (λ gs. memory_in gs k) e ∙ memory_in-with_handles guests g handles k ∙ same k)
-
--- a handle that is freed, or none is
-after_stays : (m : Moment) (frees : Bool) (g handle : ℕ) → m.after.guests ≡ guests_after frees m.before.guests g handle → StaysAside m
-after_stays m true g handle e = handles_stay m m.before.guests g (removed (guest_in m.before.guests g).handles handle) (omega arith) (λ k. refl) e
-after_stays m false g handle e = stays_same m e
+    (omega (arith, n, ap length e, length-set guests g (record (guest_in guests g) { handles = handles; sets = sets })))
+    (λ k l. ap (λ gs. memory_in gs k) e ∙ memory_in-with_table guests g handles sets k ∙ same k)
 
 pair_stays : (state : State) (writer reader : ℕ) (ty : TransmitIndex) → StaysAside (as_moment state (Make (makings.Between writer reader ty)) (makes state (makings.Between writer reader ty)))
 unfolding with_stream
 pair_stays state writer reader ty =
     let m = as_moment state (Make (makings.Between writer reader ty)) (makes state (makings.Between writer reader ty)) in
     let new = inserted (guest_in state.guests reader).handles (read_entry ty (length state.streams)) in
-    handles_stay m (with_handles state.guests reader new) writer _
+    table_stays m (with_handles state.guests reader new) writer _ _
     (omega (arith, length-set state.guests reader (record (guest_in state.guests reader) { handles = new })))
-    (memory_in-with_handles state.guests reader new) refl
+    (memory_in-with_table state.guests reader new (sets_in state.guests reader)) refl
 
 shape-stays : (state : State) (act : Act) (r : Reaction) → HasRoom state → Shape state act r → StaysAside (as_moment state act r)
 shape-stays state act r room (ByTurn side end address count a e o) = rw (a, e) (operates_stays state side end address count room o)
-shape-stays state act r room (BySetting reply x e set) = rw e (after_stays (as_moment state act (goes reply (set_by state x))) x.frees x.guest x.handle refl)
+shape-stays state act r room (BySetting reply x e set) = rw e (stays_same (as_moment state act (goes reply (set_by state x))) refl)
+shape-stays state act r room (ByOwner reply x e o) =
+    rw e (stays_all (as_moment state act (goes reply (owned_by state x))) (omega (arith, length-by state.guests x)) (λ g l. memory_in-by state.guests x g))
+shape-stays state act r room (ByTable reply x e t) =
+    rw e (table_stays (as_moment state act (goes reply (tabled_by state x))) state.guests x.guest x.handles x.sets (omega arith) (λ k. refl) refl)
 shape-stays state act r room (ByPair writer reader ty a e fits) = rw (a, e) (pair_stays state writer reader ty)
 shape-stays state act r room (ByGuest size a e fits) = rw (a, e) (guest_stays state size)
-shape-stays state act r room (ByPoke g address bytes a e fits) = rw (a, e) (poke_stays state g address bytes fits)
+shape-stays state act r room (ByPut reply g address bytes e p) = rw e (bytes_stay state act reply g address bytes p)
 shape-stays state act r room (ByRest reply e none) = rw e (stays_same (as_moment state act (goes reply state)) refl)
 
 pub reaction-stays : (state : State) (act : Act) → IsSound state → HasRoom state → StaysAside (as_moment state act (reaction state act))

@@ -2,11 +2,14 @@
 use Rattle.std.specs.Prelude.{ℕ}
 use Rattle.strm_codes.specs.declared.codes.TransmitIndex.{TransmitIndex}
 use Rattle.strm_machine.specs.declared.acts.NamedEnd.{NamedEnd}
-use Rattle.strm_machine.specs.declared.acts.Making.TheVariants.{Guest, Between}
-use Rattle.strm_machine.specs.declared.acts.EndAct.TheVariants.{Operate, Drop, Cancel}
+use Rattle.strm_machine.specs.declared.acts.Making.TheVariants.{Guest, Between, Set, Context}
+use Rattle.strm_machine.specs.declared.acts.EndAct.TheVariants.{Operate, Drop, Cancel, Move, Lift}
+use Rattle.strm_machine.specs.declared.acts.LooseAct.TheVariants.{Lower, Close}
+use Rattle.strm_machine.specs.declared.acts.SetAct.TheVariants as set_acts
+use Rattle.strm_machine.specs.declared.acts.ContextAct.TheVariants as context_acts
 use Rattle.strm_machine.specs.declared.acts.MemoryAct.TheVariants.{Poke, Dump}
 use Rattle.strm_machine.specs.declared.acts.Act.{Act}
-use Rattle.strm_machine.specs.declared.acts.Act.TheVariants.{Make, OnEnd, Event, OnMemory}
+use Rattle.strm_machine.specs.declared.acts.Act.TheVariants.{Make, OnEnd, OnLoose, Event, OnSet, OnContext, OnMemory}
 use Rattle.strm_machine.specs.declared.steps.Step.{Step}
 use Rattle.strm_machine.specs.declared.steps.Step.TheVariants as steps
 use Rattle.strm_machine.specs.declared.streams.Side.TheVariants.{Writing, Reading}
@@ -28,6 +31,18 @@ act_of (steps.DropWrite guest ty handle) = OnEnd Writing (end_named_by guest ty 
 act_of (steps.DropRead guest ty handle) = OnEnd Reading (end_named_by guest ty handle) Drop
 act_of (steps.CancelWrite guest ty handle) = OnEnd Writing (end_named_by guest ty handle) Cancel
 act_of (steps.CancelRead guest ty handle) = OnEnd Reading (end_named_by guest ty handle) Cancel
+act_of (steps.Move guest ty handle to) = OnEnd Reading (end_named_by guest ty handle) (Move to)
+act_of (steps.Lift guest ty handle) = OnEnd Reading (end_named_by guest ty handle) Lift
+act_of (steps.Lower reader guest ty) = OnLoose reader (Lower guest ty)
+act_of (steps.Close reader) = OnLoose reader Close
 act_of (steps.Event guest handle) = Event guest handle
+act_of (steps.SetNew guest) = Make (Set guest)
+act_of (steps.SetJoin guest set handle) = OnSet guest set (set_acts.Join handle)
+act_of (steps.SetPoll guest set) = OnSet guest set set_acts.Poll
+act_of (steps.SetDrop guest set) = OnSet guest set set_acts.Drop
+act_of (steps.ErrNew guest address len) = Make (Context guest address len)
+act_of (steps.ErrText guest handle address) = OnContext guest handle (context_acts.Text address)
+act_of (steps.ErrMove guest handle to) = OnContext guest handle (context_acts.Move to)
+act_of (steps.ErrDrop guest handle) = OnContext guest handle context_acts.Drop
 act_of (steps.Poke guest address bytes) = OnMemory guest (Poke address bytes)
 act_of (steps.Dump guest address len) = OnMemory guest (Dump address len)

@@ -7,6 +7,9 @@ pub mod Endings
 pub mod Tests
 pub mod Refusals
 pub mod Making
+pub mod Moves
+pub mod WaitableSets
+pub mod ErrorContexts
 pub mod Reactions
 pub mod Plays
 pub mod Asked

@@ -20,9 +20,10 @@ use Rattle.strm_machine.specs.Reactions.{react}
 use Rattle.strm_machine.specs.declared.acts.NamedEnd.{NamedEnd}
 use Rattle.strm_machine.specs.declared.acts.EndAct.{EndAct}
 use Rattle.strm_machine.specs.declared.acts.EndAct.TheVariants.{Operate}
+use Rattle.strm_machine.specs.declared.acts.SetAct.TheVariants as set_acts
 use Rattle.strm_machine.specs.declared.acts.MemoryAct.TheVariants.{Poke}
 use Rattle.strm_machine.specs.declared.acts.Act.{Act}
-use Rattle.strm_machine.specs.declared.acts.Act.TheVariants.{OnEnd, Event, OnMemory}
+use Rattle.strm_machine.specs.declared.acts.Act.TheVariants.{OnEnd, Event, OnSet, OnMemory}
 use Rattle.strm_machine.specs.declared.streams.Side.{Side}
 use Rattle.strm_machine.specs.declared.streams.Side.TheVariants.{Reading}
 use Rattle.strm_machine.specs.declared.streams.Operation.{Operation}
@@ -55,15 +56,21 @@ abbrev pub is_end : ℕ → Side → Name → Bool
 is_end s side (Ok answer) = (answer.0 == s) && same_side (side_of answer.1) side
 is_end s side (Err error) = false
 
--- the handle that an act names is this end of stream s
-abbrev pub names : ℕ → Side → State → Act → Bool
-names s side state (OnEnd on end act) = is_end s side (named state end)
-names s side state (Event g handle) = is_end s side (end_named state g handle)
-names s side state _ = false
+-- the member of a guest's set that a reply tells of, if one is told of, is this end of stream s
+abbrev pub is_end_told : ℕ → Side → State → ℕ → Reply → Bool
+is_end_told s side state g (replies.Member (Some member)) = is_end s side (end_named state g member.handle)
+is_end_told s side state g _ = false
 
--- the same of the act of a moment
+-- the handle that an act names is this end of stream s; a poll names the member that its reply tells of
+abbrev pub names : ℕ → Side → State → Act → Reply → Bool
+names s side state (OnEnd on end act) reply = is_end s side (named state end)
+names s side state (Event g handle) reply = is_end s side (end_named state g handle)
+names s side state (OnSet g set set_acts.Poll) reply = is_end_told s side state g reply
+names s side state _ reply = false
+
+-- the same of a moment
 abbrev pub is_named : ℕ → Side → Moment → Bool
-is_named s side m = names s side m.before m.act
+is_named s side m = names s side m.before m.act m.reply
 
 -- REPORTS
 
@@ -71,6 +78,7 @@ is_named s side m = names s side m.before m.act
 abbrev pub code_told : Reply → Option ReturnCode
 code_told (replies.Code code) = Some code
 code_told (replies.Event code) = code
+code_told (replies.Member (Some member)) = Some member.code
 code_told _ = None
 
 -- a code that reports how an operation ended: any but Blocked

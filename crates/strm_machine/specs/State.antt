@@ -1,33 +1,47 @@
--- The state of the machine: guests, each with a memory and a handle table, and the streams
--- between them.
--- Component Model, "Stream State" and "Waitable State"; wasmtime, futures_and_streams.rs.
-use Rattle.std.specs.Prelude.{ℕ, ◌*◌, Bool, false, true, ◌&&◌, not, List, [], length, slice_index_or, slice_set, sum_by, count_by, None}
+-- The state of the machine: guests, each with a memory, a handle table and waitable sets, the streams
+-- between them, and error contexts.
+-- Component Model, "Stream State", "Waitable State" and `ErrorContext`; wasmtime,
+-- futures_and_streams.rs.
+use Rattle.std.specs.Prelude.{ℕ, ◌+◌, ◌*◌, Bool, false, true, ◌&&◌, not, List, [], length, slice_index_or, slice_set, sum_by, count_by, None}
 use Rattle.strm_codes.specs.declared.codes.TransmitKind.TheVariants.{Stream as AStream}
 use Rattle.strm_codes.specs.declared.payloads.Payload.TheVariants.{Nothing}
 use Rattle.strm_handles.specs.Handles.{Handles, no_handles, live_of}
+use Rattle.strm_memory.specs.Bytes.{put_at}
+use Rattle.strm_sets.specs.Sets.{Sets, no_sets}
+use Rattle.strm_contexts.specs.Contexts.{Contexts, no_contexts, len as contexts_there}
 use Rattle.strm_machine.specs.declared.limits.Limits.{Limits}
 use Rattle.strm_machine.specs.declared.streams.Owner.{Owner}
-use Rattle.strm_machine.specs.declared.streams.Owner.TheVariants.{Held, Gone}
+use Rattle.strm_machine.specs.declared.streams.Owner.TheVariants.{Held, Loose, Gone}
 use Rattle.strm_machine.specs.declared.streams.End.{End}
 use Rattle.strm_machine.specs.declared.streams.Stream.{Stream}
 
--- a guest's bytes, and what its handles stand for
+-- a guest's bytes, what its handles stand for, and its waitable sets
 pub record Guest : Type 0 where
   pub memory : List ℕ
   pub handles : Handles
+  pub sets : Sets
 
--- guests and streams by their numbers; a stream whose both ends are gone keeps its place
+-- guests, streams and error contexts by their numbers; a stream whose both ends are gone keeps its
+-- place
 pub record State : Type 0 where
   -- the name that the store was made with, which no step changes. Ours
   pub tag : ℕ
   pub limits : Limits
   pub guests : List Guest
   pub streams : List Stream
+  pub contexts : Contexts
   pub trapped : Bool
 
--- no guest, no stream, under these limits
+-- no guest, no stream and no error context, under these limits
 abbrev pub empty : ℕ → Limits → State
-empty tag limits = record { tag = tag; limits = limits; guests = []; streams = []; trapped = false }
+empty tag limits = record {
+  tag = tag;
+  limits = limits;
+  guests = [];
+  streams = [];
+  contexts = no_contexts;
+  trapped = false;
+}
 
 -- the bytes of all memories together, at most. Ours
 abbrev pub memory_limit : ℕ
@@ -43,7 +57,7 @@ stream_limit = 4294967295
 
 -- what stands past the last guest
 abbrev pub no_guest : Guest
-no_guest = record { memory = []; handles = no_handles }
+no_guest = record { memory = []; handles = no_handles; sets = no_sets }
 
 -- the guest of a number
 abbrev pub guest_in : List Guest → ℕ → Guest
@@ -61,10 +75,36 @@ with_memory guests g memory = slice_set guests g (record (guest_in guests g) { m
 abbrev pub with_handles : List Guest → ℕ → Handles → List Guest
 with_handles guests g handles = slice_set guests g (record (guest_in guests g) { handles = handles })
 
--- nobody has the end
+-- a guest's waitable sets
+abbrev pub sets_in : List Guest → ℕ → Sets
+sets_in guests g = (guest_in guests g).sets
+
+-- the guests with other sets for one of them
+abbrev pub with_sets : List Guest → ℕ → Sets → List Guest
+with_sets guests g sets = slice_set guests g (record (guest_in guests g) { sets = sets })
+
+-- the guests with other handles and sets for one of them
+abbrev pub with_table : List Guest → ℕ → Handles → Sets → List Guest
+with_table guests g handles sets =
+    slice_set guests g (record (guest_in guests g) { handles = handles; sets = sets })
+
+-- the end was dropped
 abbrev pub is_gone : Owner → Bool
 is_gone Gone = true
+is_gone Loose = false
 is_gone (Held guest handle) = false
+
+-- a guest has the end
+abbrev pub is_held : Owner → Bool
+is_held Gone = false
+is_held Loose = false
+is_held (Held guest handle) = true
+
+-- the end was lifted out of a guest, and nobody has it yet
+abbrev pub is_loose : Owner → Bool
+is_loose Gone = false
+is_loose Loose = true
+is_loose (Held guest handle) = false
 
 -- an end that has this owner, was told nothing, and has no operation
 abbrev pub idle_end : Owner → End
@@ -93,9 +133,21 @@ is_live stream = not (is_gone stream.writer.owner && is_gone stream.reader.owner
 abbrev pub handles_in_use : State → ℕ
 handles_in_use state = sum_by (λ g. live_of g.handles) state.guests
 
--- a stream takes three places until both ends are gone. Ours: the crate's table of transmits
+-- waitable sets of all guests together
+abbrev pub sets_in_use : State → ℕ
+sets_in_use state = sum_by (λ g. count_by (λ there. there) g.sets.there) state.guests
+
+-- a stream takes three places until both ends are gone, a set and an error context one each. Ours: the
+-- crate's tables of transmits, of sets and of error contexts
 abbrev pub places_in_use : State → ℕ
-places_in_use state = 3 * count_by is_live state.streams
+places_in_use state =
+    3 * count_by is_live state.streams + sets_in_use state + contexts_there state.contexts
+
+-- the state with bytes put into a guest's memory, from an address on
+abbrev pub with_bytes : State → ℕ → ℕ → List ℕ → State
+with_bytes state g address bytes = record state {
+  guests = with_memory state.guests g (put_at (memory_in state.guests g) address bytes);
+}
 
 -- bytes of all memories together
 abbrev pub bytes_in_use : State → ℕ

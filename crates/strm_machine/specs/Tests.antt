@@ -7,7 +7,8 @@ use Rattle.strm_codes.specs.declared.codes.TransmitKind.{TransmitKind}
 use Rattle.strm_codes.specs.declared.codes.TransmitKind.TheVariants.{Stream as AStream, Future}
 use Rattle.strm_codes.specs.Layout.{scalars_of}
 use Rattle.strm_codes.specs.Counts.{count_limit}
-use Rattle.strm_codes.specs.Types.{payload_of}
+use Rattle.strm_codes.specs.Types.{kind_of, payload_of}
+use Rattle.strm_codes.specs.Sameness.{same_payload}
 use Rattle.strm_memory.specs.Items.{is_number_or_none}
 use Rattle.strm_memory.specs.Region as region
 use Rattle.strm_handles.specs.Handles.{handle_limit, Handles}
@@ -17,7 +18,7 @@ use Rattle.strm_handles.specs.declared.errors.HandleError.TheVariants as errors
 use Rattle.strm_handles.specs.declared.entries.TransmitLocalState.{TransmitLocalState}
 use Rattle.strm_handles.specs.declared.entries.TransmitLocalState.TheVariants as states
 use Rattle.strm_machine.specs.declared.acts.NamedEnd.{NamedEnd}
-use Rattle.strm_machine.specs.State.{State, guest_in, memory_in, handles_in_use, places_in_use, bytes_in_use, guest_limit, memory_limit, stream_limit}
+use Rattle.strm_machine.specs.State.{State, guest_in, memory_in, stream_at, is_loose, handles_in_use, places_in_use, bytes_in_use, guest_limit, memory_limit, stream_limit}
 use Rattle.strm_machine.specs.Sides.{opposite, end_of}
 use Rattle.strm_machine.specs.declared.streams.Side.{Side}
 use Rattle.strm_machine.specs.declared.streams.Side.TheVariants.{Writing, Reading}
@@ -94,12 +95,12 @@ abbrev pub end_named : State → ℕ → ℕ → Name
 end_named state g handle = end_rep_of (guest_in state.guests g).handles handle
 
 -- the table has no such handle
-abbrev pub is_unknown_handle : Name → Bool
+abbrev pub is_unknown_handle : {A : Type 0} → Result A HandleError → Bool
 is_unknown_handle (Err errors.UnknownHandle) = true
 is_unknown_handle _ = false
 
 -- it stands for something of another kind
-abbrev pub is_wrong_kind : Name → Bool
+abbrev pub is_wrong_kind : {A : Type 0} → Result A HandleError → Bool
 is_wrong_kind (Err errors.WrongKind) = true
 is_wrong_kind _ = false
 
@@ -149,3 +150,25 @@ is_open_of g (Some operation) = operation.is_open && (operation.guest == g)
 abbrev pub is_within_one_guest : ℕ → Side → TransmitIndex → Stream → Bool
 is_within_one_guest g side ty stream =
     is_open_of g (end_of (opposite side) stream).operation && not (is_number_or_none (payload_of ty))
+
+-- an end that was told that the other one is gone, or whose value passed: it stays where it is
+abbrev pub is_spent : Side → Stream → Bool
+is_spent side stream = (end_of side stream).told || stream.passed
+
+-- no stream of this number has a loose read end
+abbrev pub is_unknown_reader : State → ℕ → Bool
+is_unknown_reader state reader = not (is_loose (stream_at state reader).reader.owner)
+
+-- two kinds are the same
+abbrev pub same_kind : TransmitKind → TransmitKind → Bool
+same_kind AStream AStream = true
+same_kind Future Future = true
+same_kind _ _ = false
+
+-- a stream is of another kind than a type says
+abbrev pub is_of_other_kind : TransmitIndex → Stream → Bool
+is_of_other_kind ty stream = not (same_kind stream.kind (kind_of ty))
+
+-- or of another payload
+abbrev pub is_of_other_payload : TransmitIndex → Stream → Bool
+is_of_other_payload ty stream = not (same_payload stream.payload (payload_of ty))

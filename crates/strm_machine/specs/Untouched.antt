@@ -1,11 +1,14 @@
--- The memories of guests in a moment: which bytes it touches, and that all others stay. Ours.
-use Rattle.std.specs.Prelude.{◌≡◌, ℕ, ◌*◌, ◌<◌, ◌≤◌, List, length}
+-- The memories of guests in a moment: which bytes it touches, what is put there, and that all others
+-- stay. Ours.
+use Rattle.std.specs.Prelude.{◌≡◌, ℕ, ◌*◌, ◌<◌, ◌≤◌, List, [], length}
 use Rattle.strm_codes.specs.Layout.{scalars_of, item_size}
 use Rattle.strm_memory.specs.Bytes.{bytes_at, IsApart}
-use Rattle.strm_machine.specs.State.{Guest, memory_in, stream_at}
+use Rattle.strm_machine.specs.State.{State, Guest, memory_in, stream_at}
+use Rattle.strm_machine.specs.ErrorContexts.{message_named}
+use Rattle.strm_machine.specs.declared.acts.ContextAct.TheVariants.{Text}
 use Rattle.strm_machine.specs.declared.acts.MemoryAct.TheVariants.{Poke}
 use Rattle.strm_machine.specs.declared.acts.Act.{Act}
-use Rattle.strm_machine.specs.declared.acts.Act.TheVariants.{OnMemory}
+use Rattle.strm_machine.specs.declared.acts.Act.TheVariants.{OnContext, OnMemory}
 use Rattle.strm_machine.specs.declared.replies.Reply.{Reply}
 use Rattle.strm_machine.specs.declared.replies.Reply.TheVariants as replies
 use Rattle.strm_machine.specs.Moments.{Moment, Place, rise, target}
@@ -25,11 +28,24 @@ LiesApart r other =
     r.place.guest ≡ other.place.guest → 0 < r.size → 0 < other.size →
     IsApart other.place.address other.size r.place.address r.size
 
--- where the bytes of a poke are put, once it is done; no byte where there is none
-abbrev pub poked_by : Act → Reply → Region
-poked_by (OnMemory g (Poke address bytes)) replies.Done =
+-- where bytes are put once it is done: those of a poke, or of a message, whose number is answered; no
+-- byte elsewhere
+abbrev pub put_by : Act → Reply → Region
+put_by (OnMemory g (Poke address bytes)) replies.Done =
     record { place = record { guest = g; address = address }; size = length bytes }
-poked_by _ _ = record { place = record { guest = 0; address = 0 }; size = 0 }
+put_by (OnContext g handle (Text address)) (replies.Number size) =
+    record { place = record { guest = g; address = address }; size = size }
+put_by _ _ = record { place = record { guest = 0; address = 0 }; size = 0 }
+
+-- which bytes they are: those of the poke, or the message of the error context that was named
+abbrev pub bytes_put : State → Act → Reply → List ℕ
+bytes_put state (OnMemory g (Poke address bytes)) replies.Done = bytes
+bytes_put state (OnContext g handle (Text address)) (replies.Number size) = message_named state g handle
+bytes_put state _ _ = []
+
+-- after a moment they lie where they are put
+abbrev pub LieThere : Moment → Type 0
+LieThere m = bytes_of m.after.guests (put_by m.act m.reply) ≡ bytes_put m.before m.act m.reply
 
 -- where the items of stream s that are received in a moment lie
 abbrev pub received_by : ℕ → Moment → Region
@@ -38,9 +54,10 @@ received_by s m = record {
   size = item_size (scalars_of (stream_at m.before s).payload) * rise s m;
 }
 
--- no byte of the region is poked in a moment, and on no stream an item is received there
+-- in a moment no byte is put into the region by a poke or as a message, and on no stream an item is
+-- received there
 pub record IsUntouched (m : Moment) (r : Region) : Type 0 where
-  pub poked : LiesApart r (poked_by m.act m.reply)
+  pub put : LiesApart r (put_by m.act m.reply)
   pub got : (s : ℕ) → LiesApart r (received_by s m)
 
 -- guests stay, each with a memory of the same length, and what isn't touched of it is as it was

@@ -31,6 +31,16 @@ pub enum Making {
         reader: u32,
         ty: TransmitIndex,
     },
+    /// A waitable set of a guest, without members.
+    Set {
+        guest: u32,
+    },
+    /// An error context of a guest, whose message is so many bytes of its memory from `address` on.
+    Context {
+        guest: u32,
+        address: u32,
+        len: u32,
+    },
 }
 
 /// What is done to the end that is named.
@@ -43,6 +53,41 @@ pub enum EndAct {
     Drop,
     /// Its read or write is cancelled.
     Cancel,
+    /// It goes to another guest, or to the same under a new handle.
+    Move { to: u32 },
+    /// It leaves its guest, and is loose.
+    Lift,
+}
+
+/// What is done to the loose read end of a stream.
+#[derive(Clone, Copy, Debug, PartialEq, Eq)]
+pub enum LooseAct {
+    /// It comes into a guest, as one of this type.
+    Lower { guest: u32, ty: TransmitIndex },
+    /// It is dropped.
+    Close,
+}
+
+/// What is done to a waitable set.
+#[derive(Clone, Copy, Debug, PartialEq, Eq)]
+pub enum SetAct {
+    /// The end that a handle names joins it; of set 0, it leaves the set that it is in.
+    Join { handle: u32 },
+    /// Its least member that has a report is told that.
+    Poll,
+    /// It is dropped.
+    Drop,
+}
+
+/// What is done to the error context that a handle names, or to the handle.
+#[derive(Clone, Copy, Debug, PartialEq, Eq)]
+pub enum ContextAct {
+    /// Its message is put into the guest's memory, from `address` on.
+    Text { address: u32 },
+    /// Another guest, or the same, gets a handle to it; the guest keeps its own.
+    Move { to: u32 },
+    /// The handle is dropped, and the error context with its last one.
+    Drop,
 }
 
 /// What is done to the bytes of a guest's memory, from `address` on.
@@ -57,7 +102,7 @@ pub enum MemoryAct {
 /// What a step does.
 #[derive(Clone, Copy, Debug, PartialEq, Eq)]
 pub enum Act {
-    /// It makes a guest or a stream.
+    /// It makes a guest, a stream, a set or an error context.
     Make {
         making: Making,
     },
@@ -67,10 +112,27 @@ pub enum Act {
         end: NamedEnd,
         act: EndAct,
     },
+    /// It does something to the loose read end of a stream, by the stream's number.
+    OnLoose {
+        reader: u32,
+        act: LooseAct,
+    },
     /// It asks what the end that a handle names is to be told, whatever its type.
     Event {
         guest: u32,
         handle: u32,
+    },
+    /// It does something to the waitable set that a guest's handle names.
+    OnSet {
+        guest: u32,
+        set: u32,
+        act: SetAct,
+    },
+    /// It does something to the error context that a guest's handle names.
+    OnContext {
+        guest: u32,
+        handle: u32,
+        act: ContextAct,
     },
     /// It does something to a guest's memory alone.
     OnMemory {
@@ -141,7 +203,78 @@ impl Act {
                 end: NamedEnd { guest, ty, handle },
                 act: EndAct::Cancel,
             },
+            Step::Move {
+                guest,
+                ty,
+                handle,
+                to,
+            } => Act::OnEnd {
+                side: Side::Reading,
+                end: NamedEnd { guest, ty, handle },
+                act: EndAct::Move { to },
+            },
+            Step::Lift { guest, ty, handle } => Act::OnEnd {
+                side: Side::Reading,
+                end: NamedEnd { guest, ty, handle },
+                act: EndAct::Lift,
+            },
+            Step::Lower { reader, guest, ty } => Act::OnLoose {
+                reader,
+                act: LooseAct::Lower { guest, ty },
+            },
+            Step::Close { reader } => Act::OnLoose {
+                reader,
+                act: LooseAct::Close,
+            },
             Step::Event { guest, handle } => Act::Event { guest, handle },
+            Step::SetNew { guest } => Act::Make {
+                making: Making::Set { guest },
+            },
+            Step::SetJoin { guest, set, handle } => Act::OnSet {
+                guest,
+                set,
+                act: SetAct::Join { handle },
+            },
+            Step::SetPoll { guest, set } => Act::OnSet {
+                guest,
+                set,
+                act: SetAct::Poll,
+            },
+            Step::SetDrop { guest, set } => Act::OnSet {
+                guest,
+                set,
+                act: SetAct::Drop,
+            },
+            Step::ErrNew {
+                guest,
+                address,
+                len,
+            } => Act::Make {
+                making: Making::Context {
+                    guest,
+                    address,
+                    len,
+                },
+            },
+            Step::ErrText {
+                guest,
+                handle,
+                address,
+            } => Act::OnContext {
+                guest,
+                handle,
+                act: ContextAct::Text { address },
+            },
+            Step::ErrMove { guest, handle, to } => Act::OnContext {
+                guest,
+                handle,
+                act: ContextAct::Move { to },
+            },
+            Step::ErrDrop { guest, handle } => Act::OnContext {
+                guest,
+                handle,
+                act: ContextAct::Drop,
+            },
             Step::Poke {
                 guest,
                 address,

@@ -5,6 +5,6 @@
 pub struct Limits {
     /// Live handles of all guests together.
     pub handles: usize,
-    /// Places: a stream takes three.
+    /// Places: a stream takes three, a waitable set and an error context one each.
     pub places: u32,
 }

@@ -15,6 +15,14 @@ pub struct Pair {
     pub stream: u32,
 }
 
+/// A member of a waitable set, and what it was told.
+#[derive(Clone, Copy, Debug, PartialEq, Eq)]
+pub struct Member {
+    /// The member's handle, in the table of the set's guest.
+    pub handle: u32,
+    pub code: ReturnCode,
+}
+
 /// The answer to a step.
 #[derive(Clone, Copy, Debug, PartialEq, Eq)]
 pub enum Reply {
@@ -28,6 +36,8 @@ pub enum Reply {
     Code(ReturnCode),
     /// What an end was told, if anything.
     Event(Option<ReturnCode>),
+    /// The member of a set that was told something, if one was.
+    Member(Option<Member>),
     /// The bytes that were asked for.
     Bytes(Chunk),
     /// It may not be done now, and nothing has changed.

@@ -64,8 +64,81 @@ pub enum Step {
         ty: TransmitIndex,
         handle: u32,
     },
+    /// A read end from one guest to another, which may be the same. Canonical ABI, `lift_stream` and
+    /// `lower_stream` of a call from one component to another.
+    Move {
+        guest: u32,
+        ty: TransmitIndex,
+        handle: u32,
+        to: u32,
+    },
+    /// A read end out of a guest: it is loose then. Canonical ABI, `lift_stream`; wasmtime,
+    /// `lift_from_index`.
+    Lift {
+        guest: u32,
+        ty: TransmitIndex,
+        handle: u32,
+    },
+    /// The loose read end of a stream, by the stream's number, into a guest. Canonical ABI,
+    /// `lower_stream`; wasmtime, `lower_to_index`.
+    Lower {
+        reader: u32,
+        guest: u32,
+        ty: TransmitIndex,
+    },
+    /// The loose read end of a stream, by the stream's number, is dropped. wasmtime,
+    /// `StreamReader::close`.
+    Close {
+        reader: u32,
+    },
     /// What an end is to be told, whatever its type: an event of `canon waitable-set.poll`.
     Event {
+        guest: u32,
+        handle: u32,
+    },
+    /// `canon waitable-set.new`.
+    SetNew {
+        guest: u32,
+    },
+    /// `canon waitable.join`: the end joins the set, and leaves the one that it was in; of set 0 it
+    /// leaves that alone.
+    SetJoin {
+        guest: u32,
+        set: u32,
+        handle: u32,
+    },
+    /// `canon waitable-set.poll`: the least member that has a report is told it.
+    SetPoll {
+        guest: u32,
+        set: u32,
+    },
+    /// `canon waitable-set.drop`.
+    SetDrop {
+        guest: u32,
+        set: u32,
+    },
+    /// `canon error-context.new` of so many bytes of the guest's memory.
+    ErrNew {
+        guest: u32,
+        address: u32,
+        len: u32,
+    },
+    /// `canon error-context.debug-message`: the message's bytes are put at an address of the guest's
+    /// memory.
+    ErrText {
+        guest: u32,
+        handle: u32,
+        address: u32,
+    },
+    /// An error context to another guest, or to the same; the guest keeps its handle. wasmtime,
+    /// `error_context_transfer`.
+    ErrMove {
+        guest: u32,
+        handle: u32,
+        to: u32,
+    },
+    /// `canon error-context.drop`.
+    ErrDrop {
         guest: u32,
         handle: u32,
     },

@@ -30,6 +30,8 @@ pub enum Meeting {
 pub enum Owner {
     /// A guest, under a handle of its table.
     Held { guest: u32, handle: u32 },
+    /// Nobody yet: the end was lifted out of a guest, and not lowered into one since.
+    Loose,
     /// Nobody: the end was dropped.
     Gone,
 }

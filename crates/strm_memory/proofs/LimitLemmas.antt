@@ -94,8 +94,12 @@ blended-front (x ∷ ls) (s ∷ source) [] (suc n) e h l rest f = absurd (omega 
 blended-front (x ∷ ls) (s ∷ source) (b ∷ bytes) (suc n) e h l rest f =
     ap (λ t. limited x s b ∷ t) (blended-front ls source bytes n (omega arith) (omega arith) (omega arith) rest f)
 
--- the same as the code makes it, of the lanes' top bits
-pub lanes_blended : (ls source m : List ℕ) (from to n : ℕ) → length ls ≡ n → from + n ≤ length source → to + n ≤ length m → put_chunk to m (sel_l (map (top 7) (zip2 (λ a b. cond (eqb a b) 255 0) ls (replicate n 0))) (chunk to n m) (sel_l (map (top 7) (zip2 (λ a b. cond (ltb a b) 255 0) (chunk from n source) ls)) (chunk from n source) ls)) ≡ blended_on ls source from to m
+-- bytes under limits as the code makes them, of the lanes' top bits
+abbrev pub lanes_put : (ls source m : List ℕ) (from to n : ℕ) → List ℕ
+lanes_put ls source m from to n = put_chunk to m (sel_l (map (top 7) (zip2 (λ a b. cond (eqb a b) 255 0) ls (replicate n 0))) (chunk to n m) (sel_l (map (top 7) (zip2 (λ a b. cond (ltb a b) 255 0) (chunk from n source) ls)) (chunk from n source) ls))
+
+-- they are the same
+pub lanes_blended : (ls source m : List ℕ) (from to n : ℕ) → length ls ≡ n → from + n ≤ length source → to + n ≤ length m → lanes_put ls source m from to n ≡ blended_on ls source from to m
 lanes_blended ls source m from to n e h l =
     let s = take n (drop from source) in
     let b = take n (drop to m) in
@@ -114,15 +118,20 @@ front_of_front limits len k n h =
     let split : len ≡ k + (len - k) = omega arith in
     rw split (rw (drop-take k (len - k) limits) (take-take n (len - k) (drop k limits) (omega arith)))
 
-pub vector_more : (limits source m : List ℕ) (len from to k n : ℕ) → k + n ≤ len → len ≤ length limits → from + len ≤ length source → to + len ≤ length m → blended_on (drop (k + n) (take len limits)) source (from + (k + n)) (to + (k + n)) (blended_on (bytes_at limits k n) source (from + k) (to + k) m) ≡ blended_on (drop k (take len limits)) source (from + k) (to + k) m
-vector_more limits source m len from to k n h l p q =
-    let ls = drop k (take len limits) in
-    let size : length (take len limits) ≡ len = length-take-le len limits l in
-    let rest : length ls ≡ len - k = length-drop k (take len limits) ∙ ap (λ i. i - k) size in
-    let a : from + (k + n) ≡ from + k + n = omega arith in
-    let b : to + (k + n) ≡ to + k + n = omega arith in
-    rw (a, b, ← drop-drop n k (take len limits), ← front_of_front limits len k n h)
-    (blended_more ls source m (from + k) (to + k) n (omega (arith, rest)) (omega arith) (omega arith))
+module _ (limits source m : List ℕ) (len from to k n : ℕ) where
+  -- bytes under the limits behind so many of them
+  abbrev behind : ℕ → List ℕ → List ℕ
+  behind i bytes = blended_on (drop i (take len limits)) source (from + i) (to + i) bytes
+
+  pub vector_more : k + n ≤ len → len ≤ length limits → from + len ≤ length source → to + len ≤ length m → behind (k + n) (blended_on (bytes_at limits k n) source (from + k) (to + k) m) ≡ behind k m
+  vector_more h l p q =
+      let ls = drop k (take len limits) in
+      let size : length (take len limits) ≡ len = length-take-le len limits l in
+      let rest : length ls ≡ len - k = length-drop k (take len limits) ∙ ap (λ i. i - k) size in
+      let a : from + (k + n) ≡ from + k + n = omega arith in
+      let b : to + (k + n) ≡ to + k + n = omega arith in
+      rw (a, b, ← drop-drop n k (take len limits), ← front_of_front limits len k n h)
+      (blended_more ls source m (from + k) (to + k) n (omega (arith, rest)) (omega arith) (omega arith))
 
 -- all limits used
 pub vectors_end : (limits source m : List ℕ) (len k from to : ℕ) → len ≤ k → blended_on (drop k (take len limits)) source from to m ≡ m
@@ -175,21 +184,26 @@ item_within len size items most h e l =
     let fits : size ≤ size * items = rw split (omega arith) in
     omega arith
 
-pub periods_more : (limits source m : List ℕ) (len size items count done from to : ℕ) → len ≡ size * items → size ≤ length limits → take len limits ≡ repeated items (item_of limits size) → done + items ≤ count → from + size * count ≤ length source → to + size * count ≤ length m → blended_on (repeated (count - (done + items)) (item_of limits size)) source (from + size * (done + items)) (to + size * (done + items)) (blended_on (take len limits) source (from + size * done) (to + size * done) m) ≡ blended_on (repeated (count - done) (item_of limits size)) source (from + size * done) (to + size * done) m
-periods_more limits source m len size items count done from to e h p l k q =
-    let one = item_of limits size in
-    let w : length one ≡ size = length-take-le size limits h in
-    let ls = repeated (count - done) one in
-    let same : len ≡ length one * items = e ∙ ap (λ i. i * items) (sym w) in
-    let few : items ≤ count - done = omega arith in
-    let fits : size * done + size * items ≤ size * count = omega (arith, mul-le-mul_left size l) in
-    let front : take len ls ≡ take len limits = rw same (take-repeated items (count - done) one few) ∙ sym p in
-    let left : count - done - items ≡ count - (done + items) = omega arith in
-    let behind : drop len ls ≡ repeated (count - (done + items)) one = rw (same, ← left) (drop-repeated items (count - done) one few) in
-    let long : len ≤ length ls = rw (length-repeated (count - done) one, same) (mul-le-mul_left (length one) few) in
-    let a : from + size * (done + items) ≡ from + size * done + len = omega (arith, e) in
-    let b : to + size * (done + items) ≡ to + size * done + len = omega (arith, e) in
-    rw (a, b, ← behind, ← front) (blended_more ls source m (from + size * done) (to + size * done) len long (omega (arith, e, fits)) (omega (arith, e, fits)))
+module _ (limits source m : List ℕ) (len size items count done from to : ℕ) (e : len ≡ size * items) (h : size ≤ length limits) (p : take len limits ≡ repeated items (item_of limits size)) where
+  -- bytes under the limits of all items behind so many of them
+  abbrev periods_behind : ℕ → List ℕ → List ℕ
+  periods_behind i bytes = blended_on (repeated (count - i) (item_of limits size)) source (from + size * i) (to + size * i) bytes
+
+  pub periods_more : done + items ≤ count → from + size * count ≤ length source → to + size * count ≤ length m → periods_behind (done + items) (blended_on (take len limits) source (from + size * done) (to + size * done) m) ≡ periods_behind done m
+  periods_more l k q =
+      let one = item_of limits size in
+      let w : length one ≡ size = length-take-le size limits h in
+      let ls = repeated (count - done) one in
+      let same : len ≡ length one * items = e ∙ ap (λ i. i * items) (sym w) in
+      let few : items ≤ count - done = omega arith in
+      let fits : size * done + size * items ≤ size * count = omega (arith, mul-le-mul_left size l) in
+      let front : take len ls ≡ take len limits = rw same (take-repeated items (count - done) one few) ∙ sym p in
+      let left : count - done - items ≡ count - (done + items) = omega arith in
+      let behind : drop len ls ≡ repeated (count - (done + items)) one = rw (same, ← left) (drop-repeated items (count - done) one few) in
+      let long : len ≤ length ls = rw (length-repeated (count - done) one, same) (mul-le-mul_left (length one) few) in
+      let a : from + size * (done + items) ≡ from + size * done + len = omega (arith, e) in
+      let b : to + size * (done + items) ≡ to + size * done + len = omega (arith, e) in
+      rw (a, b, ← behind, ← front) (blended_more ls source m (from + size * done) (to + size * done) len long (omega (arith, e, fits)) (omega (arith, e, fits)))
 
 -- ## The limits of an item
 
@@ -260,16 +274,17 @@ module _ (m : List ℕ) (room at gap : ℕ) (s : Scalar) (long : length m ≡ ro
   limits_behind = rw limits_put (drop_at front _ (at + gap + size_of s) length-front)
 
 -- one field more, in a loop
-pub limits_step : (ss : List Scalar) (k at start size : ℕ) (s : Scalar) (m : List ℕ) (room : ℕ) → IsField ss k at start size s → length m ≡ room → start + 8 ≤ room → drop at m ≡ replicate (room - at) 0 → take (start + size) (put_at m start (limit_bytes s)) ++ limits_from (start + size) (drop (k + 1) ss) ≡ take at m ++ limits_from at (drop k ss)
-unfolding limits_from
-limits_step ss k at start size s m room f long fits zeros =
-    let gap = gap_before at (size_of s) in
-    rw (drop_field ss k at start size s f, f.begins, f.takes, limits_taken m room at gap s long (rw f.begins at fits) zeros)
-    (append_assoc (take at m) (replicate gap 0 ++ replicate (size_of s) (limit_of s)) (limits_from (at + gap + size_of s) (drop (k + 1) ss)))
+module _ (ss : List Scalar) (k at start size : ℕ) (s : Scalar) (m : List ℕ) (room : ℕ) (f : IsField ss k at start size s) (long : length m ≡ room) (fits : start + 8 ≤ room) (zeros : drop at m ≡ replicate (room - at) 0) where
+  pub limits_step : take (start + size) (put_at m start (limit_bytes s)) ++ limits_from (start + size) (drop (k + 1) ss) ≡ take at m ++ limits_from at (drop k ss)
+  unfolding limits_from
+  limits_step =
+      let gap = gap_before at (size_of s) in
+      rw (drop_field ss k at start size s f, f.begins, f.takes, limits_taken m room at gap s long (rw f.begins at fits) zeros)
+      (append_assoc (take at m) (replicate gap 0 ++ replicate (size_of s) (limit_of s)) (limits_from (at + gap + size_of s) (drop (k + 1) ss)))
 
-pub limits_step_behind : (ss : List Scalar) (k at start size : ℕ) (s : Scalar) (m : List ℕ) (room : ℕ) → IsField ss k at start size s → length m ≡ room → start + 8 ≤ room → drop at m ≡ replicate (room - at) 0 → drop (start + size) (put_at m start (limit_bytes s)) ≡ replicate (room - (start + size)) 0
-limits_step_behind ss k at start size s m room f long fits zeros =
-    rw (f.begins, f.takes) (limits_behind m room at (gap_before at (size_of s)) s long (rw f.begins at fits) zeros)
+  pub limits_step_behind : drop (start + size) (put_at m start (limit_bytes s)) ≡ replicate (room - (start + size)) 0
+  limits_step_behind =
+      rw (f.begins, f.takes) (limits_behind m room at (gap_before at (size_of s)) s long (rw f.begins at fits) zeros)
 
 pub limits_end : (ss : List Scalar) (k at : ℕ) (m : List ℕ) (room : ℕ) → length ss ≤ k → take at m ++ limits_from at (drop k ss) ≡ limits_from 0 ss → drop at m ≡ replicate (room - at) 0 → end_offset at (drop k ss) ≡ end_offset 0 ss → m ≡ limits_from 0 ss ++ replicate (room - end_offset 0 ss) 0
 unfolding limits_from

@@ -8,10 +8,10 @@ use Rattle.strm_machine.specs.Reactions.{react}
 use Rattle.strm_machine.specs.Plays.{play, Ends}
 use Rattle.strm_machine.specs.declared.steps.Step.{Step}
 use Rattle.strm_machine.specs.declared.replies.Reply.{Reply}
-use Rattle.strm_machine.specs.Moments.{moment_of}
+use Rattle.strm_machine.specs.Moments.{Moment, moment_of}
 use Rattle.strm_laws.specs.Conservation.{moments, last}
 use Rattle.strm_laws.specs.Laws.{HasBytes, AreSteps}
-use Rattle.strm_machine.specs.Untouched.{StaysAside}
+use Rattle.strm_machine.specs.Untouched.{StaysAside, LieThere}
 use Rattle.strm_laws.proofs.LawfulRuns.{AreSteps-take}
 use Rattle.strm_laws.proofs.Replies.{play-ends}
 use Rattle.strm_session.specs.Runs.{start, HasLaws, IsKept}
@@ -20,9 +20,9 @@ use Rattle.strm_session.specs.Runs.{start, HasLaws, IsKept}
 abbrev pub LawsHold : Type 0
 LawsHold = (steps : List Step) → AreSteps steps → HasLaws (moments start steps) (last start steps)
 
--- the law of one step behind others
-abbrev pub AsideHolds : Type 0
-AsideHolds = (steps : List Step) (step : Step) → AreSteps (steps ++ step ∷ []) → StaysAside (moment_of (last start steps) step)
+-- a law of one step behind others
+abbrev pub StepHolds : (Moment → Type 0) → Type 0
+StepHolds P = (steps : List Step) (step : Step) → AreSteps (steps ++ step ∷ []) → P (moment_of (last start steps) step)
 
 AreSteps-before : (xs ys : List Step) → AreSteps (xs ++ ys) → AreSteps xs
 AreSteps-before xs ys a = subst AreSteps (take_at xs ys (length xs) refl) (AreSteps-take (xs ++ ys) (length xs) a)
@@ -32,27 +32,28 @@ last-push state [] step = refl
 last-push state (first ∷ front) step = last-push (react state first).state front step
 
 -- each moment of steps behind others
-aside_from : AsideHolds → (front steps : List Step) → AreSteps (front ++ steps) → All StaysAside (moments (last start front) steps)
-aside_from each front [] a = All-nil StaysAside
-aside_from each front (step ∷ more) a =
+each_from : (P : Moment → Type 0) → StepHolds P → (front steps : List Step) → AreSteps (front ++ steps) → All P (moments (last start front) steps)
+each_from P each front [] a = All-nil P
+each_from P each front (step ∷ more) a =
     let longer : AreSteps ((front ++ step ∷ []) ++ more) = subst AreSteps (sym (append_assoc front (step ∷ []) more)) a in
     let here = each front step (AreSteps-before (front ++ step ∷ []) more longer) in
-    let rest = aside_from each (front ++ step ∷ []) more longer in
-    All-cons StaysAside (moment_of (last start front) step) (moments (react (last start front) step).state more) here
-    (subst (λ state. All StaysAside (moments state more)) (last-push start front step) rest)
+    let rest = each_from P each (front ++ step ∷ []) more longer in
+    All-cons P (moment_of (last start front) step) (moments (react (last start front) step).state more) here
+    (subst (λ state. All P (moments state more)) (last-push start front step) rest)
 
-pub run_kept : LawsHold → AsideHolds → (steps : List Step) (replies : List Reply) (state : State) → length steps ≤ 4294967295 → All HasBytes steps → play [] start steps ≡ Ends replies state → IsKept steps replies state
-run_kept laws each steps replies state few bytes e =
+pub run_kept : LawsHold → StepHolds StaysAside → StepHolds LieThere → (steps : List Step) (replies : List Reply) (state : State) → length steps ≤ 4294967295 → All HasBytes steps → play [] start steps ≡ Ends replies state → IsKept steps replies state
+run_kept laws aside put steps replies state few bytes e =
     let p = play-ends [] start steps replies state e in
     let a : AreSteps steps = record { few = few; bytes = bytes } in
     record {
       told = p.1;
       ends = p.0;
       laws = λ n. laws (take n steps) (AreSteps-take steps n a);
-      aside = aside_from each [] steps a;
+      aside = each_from StaysAside aside [] steps a;
+      put = each_from LieThere put [] steps a;
     }
 
 -- the same of the first of the steps
-pub front_kept : LawsHold → AsideHolds → (steps : List Step) (n : ℕ) (replies : List Reply) (state : State) → length steps ≤ 4294967295 → All HasBytes (take n steps) → play [] start (take n steps) ≡ Ends replies state → IsKept (take n steps) replies state
-front_kept laws each steps n replies state few bytes e =
-    run_kept laws each (take n steps) replies state (omega (arith, length-take n steps)) bytes e
+pub front_kept : LawsHold → StepHolds StaysAside → StepHolds LieThere → (steps : List Step) (n : ℕ) (replies : List Reply) (state : State) → length steps ≤ 4294967295 → All HasBytes (take n steps) → play [] start (take n steps) ≡ Ends replies state → IsKept (take n steps) replies state
+front_kept laws aside put steps n replies state few bytes e =
+    run_kept laws aside put (take n steps) replies state (omega (arith, length-take n steps)) bytes e

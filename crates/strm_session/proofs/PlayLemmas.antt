@@ -1,24 +1,14 @@
 -- One step more of a play.
 use Rattle.std.proofs.Math.Seq.{split_at}
 use Rattle.std.proofs.lemmas.List.{take_more, append-nil}
-use Rattle.std.proofs.Common.{◌≡◌, ℕ, ◌+◌, ◌<◌, true, false, List, [], ◌∷◌, ◌++◌, length, take, drop, get_or, suc, Option, Some, None, refl, sym, ap, ◌∙◌, subst, append_assoc}
-use Rattle.strm_machine.specs.Words.{ReturnCode, State, stream_at, act_of}
-use Rattle.strm_machine.specs.Turns.{Turn, turn}
-use Rattle.strm_machine.specs.Tests.{named, stream_named, items_asked}
-use Rattle.strm_machine.specs.Meetings.{begun}
-use Rattle.strm_machine.specs.Making.{with_stream}
-use Rattle.strm_machine.specs.Reactions.{Reaction, goes, written_back, performs, reaction, react}
+use Rattle.std.proofs.Common.{◌≡◌, ℕ, ◌+◌, ◌<◌, true, false, List, [], ◌∷◌, ◌++◌, length, take, drop, get_or, suc, Some, refl, sym, ap, ◌∙◌, subst, append_assoc}
+use Rattle.strm_machine.specs.Words.{State}
+use Rattle.strm_machine.specs.Reactions.{Reaction, goes, react}
 use Rattle.strm_machine.specs.Plays.{Played, Ends, Halts, after_step, play}
-use Rattle.strm_machine.specs.declared.acts.Act.{Act}
-use Rattle.strm_machine.specs.declared.acts.Act.TheVariants.{Make, OnEnd, Event, OnMemory}
-use Rattle.strm_machine.specs.declared.acts.EndAct.TheVariants.{Operate}
-use Rattle.strm_machine.specs.declared.acts.Making.TheVariants.{Guest}
-use Rattle.strm_machine.specs.declared.acts.MemoryAct.TheVariants.{Poke}
 use Rattle.strm_machine.specs.declared.steps.Step.{Step}
 use Rattle.strm_machine.specs.declared.replies.Reply.{Reply}
 use Rattle.strm_machine.specs.declared.replies.Reply.TheVariants as replies
-use Rattle.strm_machine.proofs.ReactionLemmas.{reaction-by}
-use Rattle.strm_machine.proofs.AskedLemmas.{reply-bad, bad-traps, bad-keeps}
+use Rattle.strm_machine.proofs.AskedLemmas.{react-by, reply-bad, bad-traps, bad-keeps}
 use Rattle.std.proofs.lemmas.Option.{slice_get-get_or}
 use Rattle.std.specs.Prelude.{slice_get}
 use Rattle.strm_transmit.specs.Meets.{is_done, is_settled}
@@ -27,15 +17,9 @@ use Rattle.strm_session.specs.declared.runs.RunCause.{RunCause}
 use Rattle.strm_session.specs.declared.runs.RunCause.TheVariants as causes
 
 after-goes : (told : List Reply) (reply : Reply) (state : State) (next : List Reply → State → Played) → is_settled reply ≡ true → after_step told reply state next ≡ next (told ++ reply ∷ []) state
-after-goes told replies.Done state next h = refl
-after-goes told (replies.Number n) state next h = refl
-after-goes told (replies.Pair pair) state next h = refl
-after-goes told (replies.Code code) state next h = refl
-after-goes told (replies.Event code) state next h = refl
-after-goes told (replies.Bytes bytes) state next h = refl
-after-goes told (replies.Refused r) state next h = refl
 after-goes told (replies.BadItem s) state next h = cc
 after-goes told replies.StoreTrapped state next h = cc
+after-goes told _ state next h = refl
 
 -- the run goes on
 pub play-goes : (told : List Reply) (state next : State) (step : Step) (more : List Step) (reply : Reply) → is_settled reply ≡ true → react state step ≡ goes reply next → play told state (step ∷ more) ≡ play (told ++ reply ∷ []) next more
@@ -53,43 +37,21 @@ pub record RunsOn (reaction : Reaction) : Type 0 where
   pub trapped : reaction.reply ≡ replies.StoreTrapped → ⊥
   pub goes_on : is_settled reaction.reply ≡ true → reaction.state.trapped ≡ false
 
-written-runs : (state : State) (s : ℕ) (t : Turn) (code : Option ReturnCode) → state.trapped ≡ false → RunsOn (written_back state s t code)
-written-runs state s t (Some code) h = record { trapped = λ e. cc; goes_on = λ e. h }
-written-runs state s t None h = record { trapped = λ e. cc; goes_on = λ e. cc }
-
-performs-runs : (state : State) (act : Act) → state.trapped ≡ false → RunsOn (performs state act)
-unfolding performs with_stream
-performs-runs state (OnEnd side end (Operate address count)) h =
-    let s = stream_named (named state end) in
-    let t = turn side state.guests (stream_at state s) (begun end.guest address (items_asked end.ty count)) in
-    written-runs state s t t.code h
-performs-runs state (OnEnd side end _) h = record { trapped = λ e. cc; goes_on = λ e. h }
-performs-runs state (Make (Guest size)) h = record { trapped = λ e. cc; goes_on = λ e. h }
-performs-runs state (Make _) h = record { trapped = λ e. cc; goes_on = λ e. h }
-performs-runs state (Event g handle) h = record { trapped = λ e. cc; goes_on = λ e. h }
-performs-runs state (OnMemory g (Poke address bytes)) h = record { trapped = λ e. cc; goes_on = λ e. h }
-performs-runs state (OnMemory g _) h = record { trapped = λ e. cc; goes_on = λ e. h }
-
-pub reaction-runs : (state : State) (act : Act) → state.trapped ≡ false → RunsOn (reaction state act)
-reaction-runs state act h =
-    reaction-by RunsOn state act (λ t. absurd (let wrong : true ≡ false = sym t ∙ h in cc))
-    (λ r e. record { trapped = λ e. cc; goes_on = λ e. h })
-    (λ e. performs-runs state act h)
+pub reaction-runs : (state : State) (step : Step) → state.trapped ≡ false → RunsOn (react state step)
+reaction-runs state step t =
+    react-by RunsOn state step
+    (λ s h. record { trapped = λ e. cc; goes_on = λ e. cc })
+    (λ r g. record { trapped = λ e. let wrong : true ≡ false = sym g.settled ∙ ap is_settled e in cc; goes_on = λ e. g.trapped ∙ t })
+    t
 
 -- the same of a reply and a state that are known
 pub RunsOn-to : (state next : State) (step : Step) (reply : Reply) → state.trapped ≡ false → react state step ≡ goes reply next → RunsOn (goes reply next)
-RunsOn-to state next step reply h e = subst RunsOn e (reaction-runs state (act_of step) h)
+RunsOn-to state next step reply h e = subst RunsOn e (reaction-runs state step h)
 
 settled_of : (told : List Reply) (reply : Reply) (state : State) (next : List Reply → State → Played) (all : List Reply) (end : State) → after_step told reply state next ≡ Ends all end → is_settled reply ≡ true
-settled_of told replies.Done state next all end e = refl
-settled_of told (replies.Number n) state next all end e = refl
-settled_of told (replies.Pair pair) state next all end e = refl
-settled_of told (replies.Code code) state next all end e = refl
-settled_of told (replies.Event code) state next all end e = refl
-settled_of told (replies.Bytes bytes) state next all end e = refl
-settled_of told (replies.Refused r) state next all end e = refl
 settled_of told (replies.BadItem s) state next all end e = cc
 settled_of told replies.StoreTrapped state next all end e = cc
+settled_of told _ state next all end e = refl
 
 -- a play that ends leaves a store that is not trapped, and goes on from there
 pub record LeadsTo (told : List Reply) (state : State) (steps : List Step) (all : List Reply) (end : State) : Type 0 where
@@ -105,20 +67,15 @@ play-leads told state (step ∷ steps) all end t e =
     let r = react state step in
     let h = settled_of told r.reply r.state (λ told' state'. play told' state' steps) all end e in
     let goes = λ (more : List Step). play-goes told state r.state step more r.reply h refl in
-    let rest = play-leads (told ++ r.reply ∷ []) r.state steps all end ((reaction-runs state (act_of step) t).goes_on h) (sym (goes steps) ∙ e) in
+    let rest = play-leads (told ++ r.reply ∷ []) r.state steps all end ((reaction-runs state step t).goes_on h) (sym (goes steps) ∙ e) in
     record { goes_on = λ more. goes (steps ++ more) ∙ rest.goes_on more; running = rest.running }
 
 -- a reply of a step that is done
 done_settled : (reply : Reply) → is_done reply ≡ true → is_settled reply ≡ true
-done_settled replies.Done e = refl
-done_settled (replies.Number n) e = refl
-done_settled (replies.Pair pair) e = refl
-done_settled (replies.Code code) e = refl
-done_settled (replies.Event code) e = refl
-done_settled (replies.Bytes bytes) e = refl
 done_settled (replies.Refused r) e = cc
 done_settled (replies.BadItem s) e = cc
 done_settled replies.StoreTrapped e = cc
+done_settled _ e = refl
 
 -- the machine goes on from a step
 abbrev pub StepGoesOn : List Reply → State → Step → Type 0

@@ -12,8 +12,8 @@ use Rattle.strm_machine.specs.declared.steps.Step.{Step}
 use Rattle.strm_machine.specs.declared.replies.Reply.{Reply}
 use Rattle.strm_machine.specs.declared.replies.Reply.TheVariants as replies
 use Rattle.strm_laws.specs.Conservation.{moments, last, replies_of, calls, got}
-use Rattle.strm_laws.specs.Laws.{Conserves, waiting, Stands, AreCounted, HandlesHold, HandlesAreSingle}
-use Rattle.strm_machine.specs.Untouched.{StaysAside}
+use Rattle.strm_laws.specs.Laws.{Conserves, waiting, Stands, AreCounted, HandlesHold, HandlesAreSingle, MembersAreLive, ContextsCount}
+use Rattle.strm_machine.specs.Untouched.{StaysAside, LieThere}
 use Rattle.strm_session.specs.declared.runs.RunCause.{RunCause}
 use Rattle.strm_session.specs.declared.runs.RunCause.TheVariants as causes
 
@@ -32,7 +32,8 @@ next_step told = min (length told + 1) 4294967295
 -- the laws of a run with these moments, which ends here: on each stream what was received is what was
 -- handed over, and what both ends report; a read or write that waits has moved what it says, and one
 -- that has not met nothing; a future passes one item at most; never are two sides open; the items of
--- each operation are a count; handles and ends agree, one handle an end; and the state is sound
+-- each operation are a count; handles and ends agree, one handle an end; members of sets are live; error
+-- contexts count their handles; and the state is sound
 pub record HasLaws (all : List Moment) (end : State) : Type 0 where
   pub conserves : (s : ℕ) → Conserves s all end
   pub stands : (s : ℕ) (side : Side) →
@@ -43,15 +44,19 @@ pub record HasLaws (all : List Moment) (end : State) : Type 0 where
   pub counted : (s : ℕ) → AreCounted (stream_at end s)
   pub hold : HandlesHold end
   pub single : HandlesAreSingle end
+  pub members : MembersAreLive end
+  pub contexts : ContextsCount end
   pub sound : IsSound end
 
 -- the replies are those of the run's moments, and the state is that after the last; the laws hold
--- after each step, the last one too, and in each all bytes stay that are neither poked nor received
+-- after each step, the last one too, in each all bytes stay that are neither put nor received, and those
+-- that are put lie there
 pub record IsKept (steps : List Step) (replies : List Reply) (end : State) : Type 0 where
   pub told : replies ≡ replies_of (moments start steps)
   pub ends : end ≡ last start steps
   pub laws : (n : ℕ) → HasLaws (moments start (take n steps)) (last start (take n steps))
   pub aside : All StaysAside (moments start steps)
+  pub put : All LieThere (moments start steps)
 
 -- the step behind these replies, in the state that the steps before it lead to, asks for items on
 -- stream s of which one is none

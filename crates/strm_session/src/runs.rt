@@ -14,14 +14,15 @@ ghost use Rattle.strm_machine.specs.declared.replies.Reply.{Reply};
 ghost use Rattle.strm_machine.specs.Moments.{moment_of};
 ghost use Rattle.strm_laws.specs.Conservation.{moments, last};
 ghost use Rattle.strm_laws.specs.Laws.{HasBytes, AreSteps};
-ghost use Rattle.strm_machine.specs.Untouched.{StaysAside};
+ghost use Rattle.strm_machine.specs.Untouched.{StaysAside, LieThere};
 ghost use Rattle.strm_session.specs.Runs.{start, counts_of, next_step, HasLaws, IsKept, AsksBad, AsksItems, StopsAt, StopsBy, StopsIn};
 
 use std::alloc::Global;
 use strm_codes::counts::OutOfMemory;
 use strm_laws::laws::{
-    conservation, futures_pass_one, handles_hold_their_ends, never_two_open, other_bytes_stay,
-    states_are_sound, totals_are_counts, unmet_has_moved_none,
+    bytes_are_put, conservation, contexts_count_their_handles, futures_pass_one,
+    handles_hold_their_ends, members_are_live, never_two_open, other_bytes_stay, states_are_sound,
+    totals_are_counts, unmet_has_moved_none,
 };
 use strm_lines::lists::{Counts, Replies};
 use strm_machine::limits::Limits;
@@ -105,6 +106,8 @@ fn laws_hold()
         HasLaws (moments start steps) (last start steps) }
     ensures aside { (steps : List Step) (step : Step) → AreSteps (steps ++ step ∷ []) →
         StaysAside (moment_of (last start steps) step) }
+    ensures put { (steps : List Step) (step : Step) → AreSteps (steps ++ step ∷ []) →
+        LieThere (moment_of (last start steps) step) }
 {
     conservation();
     futures_pass_one();
@@ -113,7 +116,10 @@ fn laws_hold()
     totals_are_counts();
     states_are_sound();
     handles_hold_their_ends();
+    members_are_live();
+    contexts_count_their_handles();
     other_bytes_stay();
+    bytes_are_put();
 }
 
 // A run that stopped behind these replies.

@@ -29,93 +29,122 @@ fn bad_line(alloc: Global, bytes: &[u8]) -> Result<u32, Fail> {
     }
 }
 
+// Inputs that are read.
+const GOOD: [&str; 19] = [
+    "",
+    "guest 0\n",
+    "guest 4294967295",
+    "new 0 stream:u8\n",
+    "pair 0 1 stream:u8\n",
+    "new 0 stream:none\nnew 0 future:char\npair 0 0 stream:(s64)",
+    "pair 1 0 future:(bool,s8,u8,s16,u16,s32,u32,s64)",
+    "write 0 future:(u64,char) 1 0\nread 0 future:none 1 0",
+    "write 0 stream:u8 1 4294967295 268435455\n",
+    "write 0 stream:u8 1 0 268435456\n",
+    "read 0 stream:u8 0 0 0\n",
+    "read 0 stream:u8 1 0 4294967295\n",
+    "event 0 1\nevent 4294967295 4294967295",
+    "drop-write 0 stream:u8 1\n",
+    "drop-read 0 stream:u8 4294967295\n",
+    "cancel-write 0 stream:u8 1\n",
+    "cancel-read 0 stream:u8 4294967295\n",
+    "poke 0 0 00\n",
+    "dump 0 0 1\ndump 0 0 64\n",
+];
+
 #[test]
 fn good_lines(rt: HostRuntime) -> Result<(), Fail> {
-    let inputs = [
-        "",
-        "guest 0\n",
-        "guest 4294967295",
-        "new 0 stream:u8\n",
-        "pair 0 1 stream:u8\n",
-        "new 0 stream:none\nnew 0 future:char\npair 0 0 stream:(s64)",
-        "pair 1 0 future:(bool,s8,u8,s16,u16,s32,u32,s64)",
-        "write 0 future:(u64,char) 1 0\nread 0 future:none 1 0",
-        "write 0 stream:u8 1 4294967295 268435455\n",
-        "write 0 stream:u8 1 0 268435456\n",
-        "read 0 stream:u8 0 0 0\n",
-        "read 0 stream:u8 1 0 4294967295\n",
-        "event 0 1\nevent 4294967295 4294967295",
-        "drop-write 0 stream:u8 1\n",
-        "drop-read 0 stream:u8 4294967295\n",
-        "cancel-write 0 stream:u8 1\n",
-        "cancel-read 0 stream:u8 4294967295\n",
-        "poke 0 0 00\n",
-        "dump 0 0 1\ndump 0 0 64\n",
-    ];
-    for input in inputs {
+    for input in GOOD {
         assert_eq!(rt; bad_line(rt.alloc(), input.as_bytes())?, 0, "{input}");
     }
     Ok(())
 }
 
+// Lines of a guest that are not in the grammar: blanks, signs, zeros and sizes.
+const BAD_NUMBERS: [&str; 14] = [
+    "",
+    "guest",
+    "guest ",
+    "guest  1",
+    " guest 1",
+    "guest 1 ",
+    "guest 1 2",
+    "guest\t1",
+    "guest 1\r",
+    "guest 01",
+    "guest +1",
+    "guest -1",
+    "guest 4294967296",
+    "Guest 1",
+];
+
+// Lines whose type is none.
+const BAD_TYPES: [&str; 13] = [
+    "pair 0 1 Stream:u8",
+    "pair 0 1 stream:",
+    "pair 0 1 stream:u128",
+    "pair 0 1 stream:()",
+    "pair 0 1 stream:(u8",
+    "pair 0 1 stream:(u8)8",
+    "pair 0 1 stream:(u8,)",
+    "pair 0 1 stream:(u8, u8)",
+    "pair 0 1 stream:(none)",
+    "pair 0 1 stream:((u8),u8)",
+    "pair 0 1 stream:(u8,u8,u8,u8,u8,u8,u8,u8,u8)",
+    "new 0 u8",
+    "new 0 futures:u8",
+];
+
+// Lines with too much or too little, or a number that is too large.
+const BAD_OPERANDS: [&str; 7] = [
+    "write 0 future:u8 1 0 1",
+    "read 0 future:u8 1",
+    "write 0 stream:u8 1 0 4294967296",
+    "read 0 stream:u8 1 0",
+    "event 0",
+    "event 0 1 2",
+    "event 0 stream:u8 1",
+];
+
+// Lines of ends, memories and unknown words.
+const BAD_COMMANDS: [&str; 16] = [
+    "drop-write 0 1",
+    "drop-write 0 stream:u8 1 0",
+    "drop 0 stream:u8 1",
+    "cancel-write 0 1",
+    "cancel-write 0 stream:u8 1 0",
+    "cancel-read 0 stream:u8 01",
+    "cancel 0 stream:u8 1",
+    "poke 0 0 ",
+    "poke 0 0 0",
+    "poke 0 0 0A",
+    "poke 0 0 0g",
+    "dump 0 0 0",
+    "dump 0 0 65",
+    "new 0",
+    "new 0 stream:u8 1",
+    "drive",
+];
+
+// The first of these lines that is read, from 1, each between two that are good.
+fn first_read(alloc: Global, lines: &[&str]) -> Result<usize, Fail> {
+    let mut at = 0usize;
+    for line in lines {
+        at = at.wrapping_add(1);
+        let input = format!(in alloc; "guest 1\n{line}\nguest 1\n")?;
+        if bad_line(alloc, input.as_bytes())? != 2 {
+            return Ok(at);
+        }
+    }
+    Ok(0)
+}
+
 #[test]
 fn bad_lines(rt: HostRuntime) -> Result<(), Fail> {
-    let lines = [
-        "",
-        "guest",
-        "guest ",
-        "guest  1",
-        " guest 1",
-        "guest 1 ",
-        "guest 1 2",
-        "guest\t1",
-        "guest 1\r",
-        "guest 01",
-        "guest +1",
-        "guest -1",
-        "guest 4294967296",
-        "Guest 1",
-        "pair 0 1 Stream:u8",
-        "pair 0 1 stream:",
-        "pair 0 1 stream:u128",
-        "pair 0 1 stream:()",
-        "pair 0 1 stream:(u8",
-        "pair 0 1 stream:(u8)8",
-        "pair 0 1 stream:(u8,)",
-        "pair 0 1 stream:(u8, u8)",
-        "pair 0 1 stream:(none)",
-        "pair 0 1 stream:((u8),u8)",
-        "pair 0 1 stream:(u8,u8,u8,u8,u8,u8,u8,u8,u8)",
-        "new 0 u8",
-        "new 0 futures:u8",
-        "write 0 future:u8 1 0 1",
-        "read 0 future:u8 1",
-        "write 0 stream:u8 1 0 4294967296",
-        "read 0 stream:u8 1 0",
-        "event 0",
-        "event 0 1 2",
-        "event 0 stream:u8 1",
-        "drop-write 0 1",
-        "drop-write 0 stream:u8 1 0",
-        "drop 0 stream:u8 1",
-        "cancel-write 0 1",
-        "cancel-write 0 stream:u8 1 0",
-        "cancel-read 0 stream:u8 01",
-        "cancel 0 stream:u8 1",
-        "poke 0 0 ",
-        "poke 0 0 0",
-        "poke 0 0 0A",
-        "poke 0 0 0g",
-        "dump 0 0 0",
-        "dump 0 0 65",
-        "new 0",
-        "new 0 stream:u8 1",
-        "drive",
-    ];
-    for line in lines {
-        let input = format!(in rt.alloc(); "guest 1\n{line}\nguest 1\n")?;
-        assert_eq!(rt; bad_line(rt.alloc(), input.as_bytes())?, 2, "{line}");
-    }
+    assert_eq!(rt; first_read(rt.alloc(), &BAD_NUMBERS)?, 0);
+    assert_eq!(rt; first_read(rt.alloc(), &BAD_TYPES)?, 0);
+    assert_eq!(rt; first_read(rt.alloc(), &BAD_OPERANDS)?, 0);
+    assert_eq!(rt; first_read(rt.alloc(), &BAD_COMMANDS)?, 0);
     Ok(())
 }
 
@@ -243,15 +272,20 @@ fn a_source_in_pieces(rt: HostRuntime) -> Result<(), Fail> {
     Ok(())
 }
 
+// Whether all was written in pieces of 3 bytes where the call of this number fails, what was taken
+// then, and how often nothing was.
+fn written(alloc: Global, failing: u32) -> Result<(bool, Vec<u8>, u64), Fail> {
+    let mut sink = BytesSink::new(alloc, 3, vec![in alloc; failing]?);
+    let is_written = write_whole(&mut sink, b"done 0\n").is_ok();
+    Ok((is_written, sink.taken().to_vec(alloc)?, sink.starved()))
+}
+
 #[test]
 fn a_sink_in_pieces(rt: HostRuntime) -> Result<(), Fail> {
     for (failing, taken) in [(9, "done 0\n"), (1, ""), (2, "don")] {
-        let failing = vec![in rt.alloc(); failing]?;
-        let mut sink = BytesSink::new(rt.alloc(), 3, failing);
-        let written = write_whole(&mut sink, b"done 0\n");
-        assert_eq!(rt; written.is_ok(), taken.len() == 7);
-        assert!(rt; sink.taken() == taken.as_bytes(), "{taken}");
-        assert_eq!(rt; sink.starved(), 0);
+        let (is_written, text, starved) = written(rt.alloc(), failing)?;
+        assert!(rt; is_written == (taken.len() == 7) && starved == 0, "{taken}");
+        assert!(rt; text.as_slice() == taken.as_bytes(), "{taken}");
     }
     Ok(())
 }
@@ -288,20 +322,26 @@ fn runs_are_served(rt: HostRuntime) -> Result<(), Fail> {
     Ok(())
 }
 
+const RUN: &[&str] = &["run"];
+
+const OTHER_WORDS: &[&str] = &["gen", "x", "1"];
+
 #[test]
 fn each_status_has_its_text(rt: HostRuntime) -> Result<(), Fail> {
-    let alloc = rt.alloc();
+    let many = vec![in rt.alloc(); b'\n'; 262_145]?;
     let usage = "usage: strm run | strm gen N SEED\n";
-    let (status, text) = served(alloc, &["gen", "x", "1"], b"", (9, 9))?;
-    assert!(rt; status == 1 && text.as_slice() == usage.as_bytes());
-    let (status, text) = served(alloc, &["run"], b"guest 16\nrea", (9, 9))?;
-    assert!(rt; status == 2 && text.as_slice() == b"bad line 2\n".as_slice());
-    let many = vec![in alloc; b'\n'; 262_145]?;
-    let (status, text) = served(alloc, &["run"], &many, (9999, 9))?;
-    assert!(rt; status == 3 && text.as_slice() == b"too long\n".as_slice());
-    let (status, text) = served(alloc, &["run"], b"guest 16\n", (1, 9))?;
-    assert!(rt; status == 4 && text.as_slice() == b"read fault\n".as_slice());
-    let (status, text) = served(alloc, &["run"], b"guest 16\n", (9, 1))?;
-    assert!(rt; status == 5 && text.is_empty());
+    // Words, input, the calls that fail, the status and its text.
+    let cases = [
+        (OTHER_WORDS, "".as_bytes(), (9, 9), 1, usage),
+        (RUN, "guest 16\nrea".as_bytes(), (9, 9), 2, "bad line 2\n"),
+        (RUN, many.as_slice(), (9999, 9), 3, "too long\n"),
+        (RUN, "guest 16\n".as_bytes(), (1, 9), 4, "read fault\n"),
+        (RUN, "guest 16\n".as_bytes(), (9, 1), 5, ""),
+    ];
+    for (words, input, failing, status, expected) in cases {
+        let (found, text) = served(rt.alloc(), words, input, failing)?;
+        assert_eq!(rt; found, status);
+        assert!(rt; text.as_slice() == expected.as_bytes(), "{status}");
+    }
     Ok(())
 }

@@ -8,14 +8,20 @@ mod calls;
 #[cfg(test)]
 mod cancels;
 #[cfg(test)]
+mod contexts;
+#[cfg(test)]
 mod futures;
 #[cfg(test)]
 mod meetings;
+#[cfg(test)]
+mod moves;
 #[cfg(test)]
 mod one_guest;
 #[cfg(test)]
 mod payloads;
 #[cfg(test)]
 mod regions;
+#[cfg(test)]
+mod sets;
 #[cfg(test)]
 mod stops;

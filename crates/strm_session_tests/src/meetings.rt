@@ -100,96 +100,38 @@ fn zero_lengths(rt: HostRuntime) -> Result<(), Fail> {
     Ok(())
 }
 
-// What the call is answered, what the side that waited is told then, and the items moved.
-type Outcome = (&'static str, &'static str, u32);
+// How a side that waits and a call meet: what the two are answered, what the side that waited is
+// told then, and the items moved.
+const CALL_WAITS: &str = "ffffffff\nffffffff\n00000000\nstream 0 moved 0\ndone 6\n";
+
+const CALL_COMPLETES: &str = "ffffffff\n00000000\nnone\nstream 0 moved 0\ndone 6\n";
+
+const ONE_MOVES: &str = "ffffffff\n00000010\n00000010\nstream 0 moved 1\ndone 6\n";
+
+const TWO_MOVE: &str = "ffffffff\n00000020\n00000020\nstream 0 moved 2\ndone 6\n";
+
+const FIVE_MOVE: &str = "ffffffff\n00000050\n00000050\nstream 0 moved 5\ndone 6\n";
 
 // The count that waits and the count that is called, and how they meet where the write waits, and
 // where the read waits.
-const MEETINGS: [(u32, u32, Outcome, Outcome); 16] = [
-    (0, 0, ("ffffffff", "00000000", 0), ("00000000", "none", 0)),
-    (
-        0,
-        1,
-        ("ffffffff", "00000000", 0),
-        ("ffffffff", "00000000", 0),
-    ),
-    (
-        0,
-        2,
-        ("ffffffff", "00000000", 0),
-        ("ffffffff", "00000000", 0),
-    ),
-    (
-        0,
-        5,
-        ("ffffffff", "00000000", 0),
-        ("ffffffff", "00000000", 0),
-    ),
-    (1, 0, ("00000000", "none", 0), ("00000000", "none", 0)),
-    (
-        1,
-        1,
-        ("00000010", "00000010", 1),
-        ("00000010", "00000010", 1),
-    ),
-    (
-        1,
-        2,
-        ("00000010", "00000010", 1),
-        ("00000010", "00000010", 1),
-    ),
-    (
-        1,
-        5,
-        ("00000010", "00000010", 1),
-        ("00000010", "00000010", 1),
-    ),
-    (2, 0, ("00000000", "none", 0), ("00000000", "none", 0)),
-    (
-        2,
-        1,
-        ("00000010", "00000010", 1),
-        ("00000010", "00000010", 1),
-    ),
-    (
-        2,
-        2,
-        ("00000020", "00000020", 2),
-        ("00000020", "00000020", 2),
-    ),
-    (
-        2,
-        5,
-        ("00000020", "00000020", 2),
-        ("00000020", "00000020", 2),
-    ),
-    (5, 0, ("00000000", "none", 0), ("00000000", "none", 0)),
-    (
-        5,
-        1,
-        ("00000010", "00000010", 1),
-        ("00000010", "00000010", 1),
-    ),
-    (
-        5,
-        2,
-        ("00000020", "00000020", 2),
-        ("00000020", "00000020", 2),
-    ),
-    (
-        5,
-        5,
-        ("00000050", "00000050", 5),
-        ("00000050", "00000050", 5),
-    ),
+const MEETINGS: [(u32, u32, &str, &str); 16] = [
+    (0, 0, CALL_WAITS, CALL_COMPLETES),
+    (0, 1, CALL_WAITS, CALL_WAITS),
+    (0, 2, CALL_WAITS, CALL_WAITS),
+    (0, 5, CALL_WAITS, CALL_WAITS),
+    (1, 0, CALL_COMPLETES, CALL_COMPLETES),
+    (1, 1, ONE_MOVES, ONE_MOVES),
+    (1, 2, ONE_MOVES, ONE_MOVES),
+    (1, 5, ONE_MOVES, ONE_MOVES),
+    (2, 0, CALL_COMPLETES, CALL_COMPLETES),
+    (2, 1, ONE_MOVES, ONE_MOVES),
+    (2, 2, TWO_MOVE, TWO_MOVE),
+    (2, 5, TWO_MOVE, TWO_MOVE),
+    (5, 0, CALL_COMPLETES, CALL_COMPLETES),
+    (5, 1, ONE_MOVES, ONE_MOVES),
+    (5, 2, TWO_MOVE, TWO_MOVE),
+    (5, 5, FIVE_MOVE, FIVE_MOVE),
 ];
-
-// Whether a side waits, meets a call and is told so.
-fn is_outcome(alloc: Global, lines: &str, outcome: Outcome) -> Result<bool, Fail> {
-    let (code, told, moved) = outcome;
-    let replies = format!(in alloc; "ffffffff\n{code}\n{told}\nstream 0 moved {moved}\ndone 6\n")?;
-    is_answered(alloc, lines, &replies)
-}
 
 #[test]
 fn all_meetings(rt: HostRuntime) -> Result<(), Fail> {
@@ -199,12 +141,12 @@ fn all_meetings(rt: HostRuntime) -> Result<(), Fail> {
             "write 0 stream:u8 1 0 {waiting}\n\
             read 1 stream:u8 1 0 {called}\nevent 0 1\n"
         )?;
-        assert!(rt; is_outcome(alloc, &lines, write_waits)?, "{lines}");
+        assert!(rt; is_answered(alloc, &lines, write_waits)?, "{lines}");
         let lines = format!(in alloc;
             "read 1 stream:u8 1 0 {waiting}\n\
             write 0 stream:u8 1 0 {called}\nevent 1 1\n"
         )?;
-        assert!(rt; is_outcome(alloc, &lines, read_waits)?, "{lines}");
+        assert!(rt; is_answered(alloc, &lines, read_waits)?, "{lines}");
     }
     Ok(())
 }
@@ -274,19 +216,25 @@ fn body_text(alloc: Global) -> Result<TextBytes, Fail> {
     Ok(text)
 }
 
-#[test]
-fn a_body_arrives(rt: HostRuntime) -> Result<(), Fail> {
-    let alloc = rt.alloc();
-    let mut steps = Steps::new(alloc);
-    body_is_poked(&mut steps)?;
-    body_is_moved(&mut steps)?;
-    assert_eq!(rt; steps.as_slice().len(), 1139);
-    let done = run(alloc, steps.as_slice()).ok().ok_or("the run stops")?;
-    let text = texts::text(alloc, &done)?;
-    assert!(rt; text.as_slice() == body_text(alloc)?.as_slice());
+// The text of the run of these steps, and whether its reader has what its writer has.
+fn arrived(alloc: Global, steps: &[Step]) -> Result<(TextBytes, bool), Fail> {
+    if steps.len() != 1139 {
+        return Err(Fail::from("other steps"));
+    }
+    let done = run(alloc, steps).ok().ok_or("the run stops")?;
     let written = done.store.memory(0).ok_or("a writer")?;
     let read = done.store.memory(1).ok_or("a reader")?;
-    assert_eq!(rt; written.len(), 65_536);
-    assert!(rt; read.starts_with(written));
+    let is_read = written.len() == 65_536 && read.starts_with(written);
+    Ok((texts::text(alloc, &done)?, is_read))
+}
+
+#[test]
+fn a_body_arrives(rt: HostRuntime) -> Result<(), Fail> {
+    let mut steps = Steps::new(rt.alloc());
+    body_is_poked(&mut steps)?;
+    body_is_moved(&mut steps)?;
+    let (text, is_read) = arrived(rt.alloc(), steps.as_slice())?;
+    assert!(rt; is_read);
+    assert!(rt; text.as_slice() == body_text(rt.alloc())?.as_slice());
     Ok(())
 }

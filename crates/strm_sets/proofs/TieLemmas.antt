@@ -23,7 +23,7 @@ pub is_number-is : (o : Option ℕ) (number : ℕ) → is_number o number ≡ tr
 is_number-is None number e = absurd (true≢false (sym e))
 is_number-is (Some other) number e = ap Some ((unsigned_Decides other number).0 e)
 
-eq-other : (a b : ℕ) → a ≢ b → nat_eq a b ≡ false
+pub eq-other : (a b : ℕ) → a ≢ b → nat_eq a b ≡ false
 eq-other a b other = by_eq a b (λ t. t ≡ false) (λ same. absurd (other same)) (λ _. refl)
 
 and-false : (a : Bool) → (a && false) ≡ false
@@ -77,8 +77,16 @@ flags-set slots at slot same = map-set_same is_some slots at slot None same
 
 -- ---- changes
 
+-- a slot has the handles of another and this one
+abbrev pub Adds : (old new : Slot) → ℕ → Type 0
+Adds old new handle = (other : ℕ) → has new other ≡ (nat_eq other handle || has old other)
+
+-- a slot has the handles of another but this one
+abbrev pub Takes : (old new : Slot) → ℕ → Type 0
+Takes old new handle = (other : ℕ) → has new other ≡ (not (nat_eq other handle) && has old other)
+
 -- a set has one handle more
-pub has-added : (slots : List Slot) (at handle : ℕ) (slot : Slot) → at < length slots → ((other : ℕ) → has slot other ≡ (nat_eq other handle || has (slot_at slots at) other)) → (number other : ℕ) → has (slot_at (set slots at slot) number) other ≡ ((nat_eq number at && nat_eq other handle) || has (slot_at slots number) other)
+pub has-added : (slots : List Slot) (at handle : ℕ) (slot : Slot) → at < length slots → Adds (slot_at slots at) slot handle → (number other : ℕ) → has (slot_at (set slots at slot) number) other ≡ ((nat_eq number at && nat_eq other handle) || has (slot_at slots number) other)
 has-added slots at handle slot inside is number other =
     has-set slots at number other slot inside
     ∙ by_eq number at (λ t. cond t (has slot other) (has (slot_at slots number) other) ≡ ((t && nat_eq other handle) || has (slot_at slots number) other))
@@ -86,7 +94,7 @@ has-added slots at handle slot inside is number other =
     (λ apart. refl)
 
 -- a set has one handle less
-pub has-taken : (slots : List Slot) (at handle : ℕ) (slot : Slot) → at < length slots → ((other : ℕ) → has slot other ≡ (not (nat_eq other handle) && has (slot_at slots at) other)) → (number other : ℕ) → has (slot_at (set slots at slot) number) other ≡ (not (nat_eq number at && nat_eq other handle) && has (slot_at slots number) other)
+pub has-taken : (slots : List Slot) (at handle : ℕ) (slot : Slot) → at < length slots → Takes (slot_at slots at) slot handle → (number other : ℕ) → has (slot_at (set slots at slot) number) other ≡ (not (nat_eq number at && nat_eq other handle) && has (slot_at slots number) other)
 has-taken slots at handle slot inside is number other =
     has-set slots at number other slot inside
     ∙ by_eq number at (λ t. cond t (has slot other) (has (slot_at slots number) other) ≡ (not (t && nat_eq other handle) && has (slot_at slots number) other))
@@ -148,14 +156,18 @@ module _ (slots : List Slot) (homes : BTreeMap ℕ ℕ) (hint : ℕ) (are : AreT
   home_inside handle home is = some_inside slots home (home_there handle home is)
 
   -- a handle leaves its set
-  pub tied-left : (to : BTreeMap ℕ ℕ) (handle home : ℕ) (slot : Slot) → tree.get nat_cmp homes handle ≡ Some home → Updates nat_cmp homes to handle None → is_some slot ≡ is_some (slot_at slots home) → ((other : ℕ) → has slot other ≡ (not (nat_eq other handle) && has (slot_at slots home) other)) → AreTied (set slots home slot) to hint
+  pub tied-left : (to : BTreeMap ℕ ℕ) (handle home : ℕ) (slot : Slot) → tree.get nat_cmp homes handle ≡ Some home → Updates nat_cmp homes to handle None → is_some slot ≡ is_some (slot_at slots home) → Takes (slot_at slots home) slot handle → AreTied (set slots home slot) to hint
   tied-left to handle home slot is updates same taken =
       still_tied slots _ homes to hint are (flags-set slots home slot same) (λ number other.
       has-taken slots home handle slot (home_inside handle home is) taken number other
       ∙ leaves (λ n q. has (slot_at slots n) q) (tree.get nat_cmp homes) are.tied home handle is number other
       ∙ ap (λ o. is_number o number) (sym (get-updated homes to handle None updates other)))
 
-  module _ (handle at : ℕ) (slot : Slot) (there : is_some (slot_at slots at) ≡ true) (same : is_some slot ≡ true) (added : (other : ℕ) → has slot other ≡ (nat_eq other handle || has (slot_at slots at) other)) where
+  module _ (handle at : ℕ) (slot : Slot) (there : is_some (slot_at slots at) ≡ true) (same : is_some slot ≡ true) (added : Adds (slot_at slots at) slot handle) where
+    -- the slots with it joined
+    abbrev more : List Slot
+    more = set slots at slot
+
     flags-joined : map is_some (set slots at slot) ≡ map is_some slots
     flags-joined = flags-set slots at slot (same ∙ sym there)
 
@@ -167,27 +179,29 @@ module _ (slots : List Slot) (homes : BTreeMap ℕ ℕ) (hint : ℕ) (are : AreT
         ∙ joins_first (λ n q. has (slot_at slots n) q) (tree.get nat_cmp homes) are.tied at handle none number other
         ∙ ap (λ o. is_number o number) (sym (get-updated homes to handle (Some at) updates other)))
 
-    two : (home : ℕ) (last : Slot) → home < length slots → ((other : ℕ) → has last other ≡ (not (nat_eq other handle) && has (slot_at (set slots at slot) home) other)) → (number other : ℕ) → has (slot_at (set (set slots at slot) home last) number) other ≡ (not (nat_eq number home && nat_eq other handle) && ((nat_eq number at && nat_eq other handle) || has (slot_at slots number) other))
-    two home last inside taken number other =
-        has-taken (set slots at slot) home handle last (rw (length-set slots at slot) inside) taken number other
-        ∙ ap (λ b. not (nat_eq number home && nat_eq other handle) && b) (has-added slots at handle slot (some_inside slots at there) added number other)
+    -- another slot than before in them, which has it no more
+    module _ (home : ℕ) (last : Slot) (last_same : is_some last ≡ is_some (slot_at more home)) (taken : Takes (slot_at more home) last handle) where
+      two : home < length slots → (number other : ℕ) → has (slot_at (set more home last) number) other ≡ (not (nat_eq number home && nat_eq other handle) && ((nat_eq number at && nat_eq other handle) || has (slot_at slots number) other))
+      two inside number other =
+          has-taken more home handle last (rw (length-set slots at slot) inside) taken number other
+          ∙ ap (λ b. not (nat_eq number home && nat_eq other handle) && b) (has-added slots at handle slot (some_inside slots at there) added number other)
 
-    flags-two : (home : ℕ) (last : Slot) → is_some last ≡ is_some (slot_at (set slots at slot) home) → map is_some (set (set slots at slot) home last) ≡ map is_some slots
-    flags-two home last last_same = flags-set (set slots at slot) home last last_same ∙ flags-joined
+      flags-two : map is_some (set more home last) ≡ map is_some slots
+      flags-two = flags-set more home last last_same ∙ flags-joined
 
-    -- a handle leaves one set for another
-    pub tied-moved : (to : BTreeMap ℕ ℕ) (home : ℕ) (last : Slot) → tree.get nat_cmp homes handle ≡ Some home → at ≢ home → Updates nat_cmp homes to handle (Some at) → is_some last ≡ is_some (slot_at (set slots at slot) home) → ((other : ℕ) → has last other ≡ (not (nat_eq other handle) && has (slot_at (set slots at slot) home) other)) → AreTied (set (set slots at slot) home last) to hint
-    tied-moved to home last is apart updates last_same taken =
-        still_tied slots _ homes to hint are (flags-two home last last_same) (λ number other.
-        two home last (home_inside handle home is) taken number other
-        ∙ joins_other (λ n q. has (slot_at slots n) q) (tree.get nat_cmp homes) are.tied at home handle is apart number other
-        ∙ ap (λ o. is_number o number) (sym (get-updated homes to handle (Some at) updates other)))
+      -- a handle leaves one set for another
+      pub tied-moved : (to : BTreeMap ℕ ℕ) → tree.get nat_cmp homes handle ≡ Some home → at ≢ home → Updates nat_cmp homes to handle (Some at) → AreTied (set more home last) to hint
+      tied-moved to is apart updates =
+          still_tied slots _ homes to hint are flags-two (λ number other.
+          two (home_inside handle home is) number other
+          ∙ joins_other (λ n q. has (slot_at slots n) q) (tree.get nat_cmp homes) are.tied at home handle is apart number other
+          ∙ ap (λ o. is_number o number) (sym (get-updated homes to handle (Some at) updates other)))
 
     -- a handle that was no member is put in and taken out
-    pub tied-undone : (to : BTreeMap ℕ ℕ) (last : Slot) → is_number (tree.get nat_cmp homes handle) at ≡ false → to.entries ≡ homes.entries → is_some last ≡ is_some (slot_at (set slots at slot) at) → ((other : ℕ) → has last other ≡ (not (nat_eq other handle) && has (slot_at (set slots at slot) at) other)) → AreTied (set (set slots at slot) at last) to hint
+    pub tied-undone : (to : BTreeMap ℕ ℕ) (last : Slot) → is_number (tree.get nat_cmp homes handle) at ≡ false → to.entries ≡ homes.entries → is_some last ≡ is_some (slot_at more at) → Takes (slot_at more at) last handle → AreTied (set more at last) to hint
     tied-undone to last none unchanged last_same taken =
-        still_tied slots _ homes to hint are (flags-two at last last_same) (λ number other.
-        two at last (some_inside slots at there) taken number other
+        still_tied slots _ homes to hint are (flags-two at last last_same taken) (λ number other.
+        two at last last_same taken (some_inside slots at there) number other
         ∙ goes_back (λ n q. has (slot_at slots n) q) (tree.get nat_cmp homes) are.tied at handle none number other
         ∙ ap (λ o. is_number o number) (sym (same_entries homes to other unchanged)))
 
@@ -222,17 +236,18 @@ placed-at flags number before inside was below =
       | inr above ↦ rw (le-ltb number (length flags) above) (by_eq before number (λ t. get_or (flags ++ true ∷ []) before false ≡ true) (λ same. get_or_push flags true false before (omega arith)) (λ apart. get_or_append_left flags (true ∷ []) false before (omega arith) ∙ was (omega arith)))
     ]
 
--- a set more, without members
-pub tied-placed : (slots new : List Slot) (homes : BTreeMap ℕ ℕ) (hint number : ℕ) → AreTied slots homes hint → number ≤ length slots → ((before : ℕ) → before < number → is_some (slot_at slots before) ≡ true) → map is_some new ≡ placed (map is_some slots) number → ((at handle : ℕ) → has (slot_at new at) handle ≡ has (slot_at slots at) handle) → AreTied new homes (number + 1)
-tied-placed slots new homes hint number are inside all flags same =
-    let long : number ≤ length (map is_some slots) = omega (arith, length-map slots is_some) in
-    let more = placed-length (map is_some slots) number long in
-    let new_long : length new ≡ length (placed (map is_some slots) number) = sym (length-map new is_some) ∙ ap length flags in
-    record {
-      tied = λ at handle. same at handle ∙ are.tied at handle;
-      inside = omega (arith, more, new_long);
-      taken = λ before below. sym (flag-at new before) ∙ ap (λ bs. get_or bs before false) flags ∙ placed-at (map is_some slots) number before long (λ lower. flag-at slots before ∙ all before lower) below;
-    }
+module _ (slots new : List Slot) (homes : BTreeMap ℕ ℕ) (hint number : ℕ) (are : AreTied slots homes hint) where
+  -- a set more, without members
+  pub tied-placed : number ≤ length slots → ((before : ℕ) → before < number → is_some (slot_at slots before) ≡ true) → map is_some new ≡ placed (map is_some slots) number → ((at handle : ℕ) → has (slot_at new at) handle ≡ has (slot_at slots at) handle) → AreTied new homes (number + 1)
+  tied-placed inside all flags same =
+      let long : number ≤ length (map is_some slots) = omega (arith, length-map slots is_some) in
+      let more = placed-length (map is_some slots) number long in
+      let new_long : length new ≡ length (placed (map is_some slots) number) = sym (length-map new is_some) ∙ ap length flags in
+      record {
+        tied = λ at handle. same at handle ∙ are.tied at handle;
+        inside = omega (arith, more, new_long);
+        taken = λ before below. sym (flag-at new before) ∙ ap (λ bs. get_or bs before false) flags ∙ placed-at (map is_some slots) number before long (λ lower. flag-at slots before ∙ all before lower) below;
+      }
 
 some_same : {a b : ℕ} → Some a ≡ Some b → a ≡ b
 some_same e = cc e

@@ -103,36 +103,42 @@ fn futures(rt: HostRuntime) -> Result<(), Fail> {
 }
 
 #[test]
-fn others(rt: HostRuntime) -> Result<(), Fail> {
+fn borrows(rt: HostRuntime) -> Result<(), Fail> {
     let mut counter = HandleCounter::new(0);
     counter.set_limit(100);
     assert_eq!(rt; counter.limit(), 100);
     let mut table = HandleTable::new(rt.alloc());
     let borrow = TypedResource::new(7, 70);
-    assert_eq!(rt;
-        table.resource_borrow_insert(&mut counter, borrow, Scope(9)),
-        Ok(1)
-    );
+    let inserted = table.resource_borrow_insert(&mut counter, borrow, Scope(9));
+    assert_eq!(rt; inserted, Ok(1));
     let index = TypedResourceIndex::new(7, 1);
     assert_eq!(rt; index.raw_index(), 1);
     assert_eq!(rt; table.resource_rep(index), Ok(70));
     assert_eq!(rt; table.resource_lend(&mut counter, index), Ok((70, false)));
-    assert_eq!(rt; table.error_context_insert(&mut counter, 2), Ok(2));
-    assert_eq!(rt; table.error_context_rep(2), Ok(2));
-    assert_eq!(rt; table.subtask_insert_guest(&mut counter, 3), Ok(3));
-    assert_eq!(rt; table.subtask_rep(3), Ok((3, false)));
-    assert_eq!(rt; table.subtask_insert_host(&mut counter, 4), Ok(4));
-    assert_eq!(rt;
-        table.waitable_rep(4),
-        Ok((4, Waitable::Subtask { is_host: true }))
-    );
-    assert_eq!(rt; table.waitable_set_insert(&mut counter, 5), Ok(5));
-    assert_eq!(rt; table.waitable_set_rep(5), Ok(5));
-    assert_eq!(rt; table.error_context_drop(&mut counter, 2), Ok(2));
-    assert_eq!(rt; table.subtask_remove(&mut counter, 4), Ok((4, true)));
-    assert_eq!(rt; table.waitable_set_remove(&mut counter, 5), Ok(5));
     let removed = table.remove_resource(&mut counter, index);
     assert_eq!(rt; removed, Ok(RemovedResource::Borrow { scope: Scope(9) }));
+    Ok(())
+}
+
+#[test]
+fn others(rt: HostRuntime) -> Result<(), Fail> {
+    let mut counter = HandleCounter::new(100);
+    let mut table = HandleTable::new(rt.alloc());
+    let inserted = [
+        table.error_context_insert(&mut counter, 1),
+        table.subtask_insert_guest(&mut counter, 2),
+        table.subtask_insert_host(&mut counter, 3),
+        table.waitable_set_insert(&mut counter, 4),
+    ];
+    assert_eq!(rt; inserted, [Ok(1), Ok(2), Ok(3), Ok(4)]);
+    assert_eq!(rt; table.error_context_rep(1), Ok(1));
+    assert_eq!(rt; table.subtask_rep(2), Ok((2, false)));
+    let waitable = table.waitable_rep(3);
+    assert_eq!(rt; waitable, Ok((3, Waitable::Subtask { is_host: true })));
+    assert_eq!(rt; table.waitable_set_rep(4), Ok(4));
+    assert_eq!(rt; table.error_context_drop(&mut counter, 1), Ok(1));
+    assert_eq!(rt; table.subtask_remove(&mut counter, 3), Ok((3, true)));
+    assert_eq!(rt; table.waitable_set_remove(&mut counter, 4), Ok(4));
     Ok(())
 }
 

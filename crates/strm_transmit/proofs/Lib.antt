@@ -2,3 +2,6 @@ pub mod StepLemmas
 pub mod StoreLemmas
 pub mod OperationLemmas
 pub mod EndingLemmas
+pub mod MoveLemmas
+pub mod SetLemmas
+pub mod ContextLemmas

@@ -1,8 +1,13 @@
 -- Two searches one after the other, as one.
-use Rattle.std.proofs.Common.{◌≡◌, ℕ, List, ◌++◌, Option, Some, None, Result, Ok, Err, refl, sym, ap, ◌∙◌}
+use Rattle.std.proofs.Common.{◌≡◌, ℕ, ◌<◌, ◌≤◌, Bool, true, false, length, List, [], ◌∷◌, ◌++◌, Option, Some, None, Result, Ok, Err, refl, sym, ap, ◌∙◌, arith}
+use Rattle.std.specs.Prelude.{◌||◌}
 use Rattle.std.specs.Option.{option_or}
+use Rattle.std.proofs.lemmas.Bool.Decides.{nat_tests}
 use Rattle.strm_codes.specs.declared.refusals.Refusal.{Refusal}
-use Rattle.strm_machine.specs.Refusals.{Reason, first_of}
+use Rattle.strm_handles.specs.Handles.{handle_limit}
+use Rattle.strm_machine.specs.State.{State}
+use Rattle.strm_machine.specs.Tests.{is_unknown_guest, is_no_handle}
+use Rattle.strm_machine.specs.Refusals.{Reason, where_, first_of}
 use Rattle.strm_machine.specs.declared.streams.Side.{Side}
 use Rattle.strm_machine.proofs.ReactionLemmas.{first_of-append}
 use Rattle.strm_transmit.specs.Meets.{or_found}
@@ -28,6 +33,25 @@ first_refused xs ys r x wanted e =
 pub second_refused : {S T U : Type 0} (xs ys : List Reason) (r : Refusal) (v x : S) (y : T) (wanted : U) → Ok v ≡ or_found (first_of xs) x → Err r ≡ or_found (first_of ys) y → Err r ≡ or_found (first_of (xs ++ ys)) wanted
 second_refused xs ys r v x y wanted e f =
     ap (λ o. or_found o wanted) (sym (first_of-append xs ys ∙ ap (λ o. option_or o (first_of ys)) (found_ok (first_of xs) v x e).none ∙ found_err (first_of ys) r y f))
+
+-- a reason before the search doesn't hold
+pub behind : {T : Type 0} (b : Bool) (q : Refusal) (rest : List Reason) (r : Result T Refusal) (wanted : T) → b ≡ false → r ≡ or_found (first_of rest) wanted → r ≡ or_found (first_of (where_ b q ∷ rest)) wanted
+behind true q rest r wanted e f = cc
+behind false q rest r wanted e f = f
+
+-- one reason, that holds
+pub alone : {T : Type 0} (b : Bool) (q : Refusal) (wanted : T) → b ≡ true → Err q ≡ or_found (first_of (where_ b q ∷ [])) wanted
+alone true q wanted e = refl
+alone false q wanted e = cc
+
+pub known : (state : State) (a : ℕ) → a < length state.guests → is_unknown_guest state a ≡ false
+known state a l = grind (arith, nat_tests)
+
+pub both_known : (state : State) (a b : ℕ) → a < length state.guests → b < length state.guests → is_unknown_guest state a || is_unknown_guest state b ≡ false
+both_known state a b l k = grind (arith, nat_tests)
+
+pub no_number : (n : ℕ) → handle_limit ≤ n → is_no_handle n ≡ true
+no_number n l = grind (arith, nat_tests)
 
 abbrev pair_found : {S U : Type 0} → U → S → Result (U × S) Refusal
 pair_found u s = Ok (u, s)
@@ -67,3 +91,19 @@ end_found xs ys found wanted e f =
   where
     stream_found : ℕ → Result ℕ Refusal
     stream_found n = Ok n
+
+abbrev found_value : {T : Type 0} → T → Result T Refusal
+found_value v = Ok v
+
+-- the first search finds none, and then nothing speaks against it
+pub both_none : {T : Type 0} (xs ys : List Reason) (value wanted : T) → Ok value ≡ or_found (first_of xs) wanted → None ≡ first_of ys → Ok value ≡ or_found (first_of (xs ++ ys)) wanted
+both_none {T = T} xs ys value wanted e f =
+    let p = found_ok (first_of xs) value wanted e in
+    ap (found_value {T = T}) p.same
+    ∙ ap (λ o. or_found o wanted) (sym (first_of-append xs ys ∙ ap (λ o. option_or o (first_of ys)) p.none ∙ sym f))
+
+-- the first search finds none, and then there is a refusal
+pub then_refused : {S T : Type 0} (xs ys : List Reason) (value x : S) (r : Refusal) (wanted : T) → Ok value ≡ or_found (first_of xs) x → Some r ≡ first_of ys → Err r ≡ or_found (first_of (xs ++ ys)) wanted
+then_refused xs ys value x r wanted e f =
+    let p = found_ok (first_of xs) value x e in
+    ap (λ o. or_found o wanted) (sym (first_of-append xs ys ∙ ap (λ o. option_or o (first_of ys)) p.none ∙ sym f))

@@ -1,6 +1,7 @@
 -- The store's counters after each change.
-use Rattle.std.proofs.Common.{◌≡◌, ℕ, cond, get_or, set, ◌+◌, ◌<◌, List, [], ◌∷◌, ◌++◌, length, map, sum_by, refl, sym, ap, ◌∙◌, subst, None, replicate, arith, length-append}
-use Rattle.std.specs.Prelude.{sum, count_by}
+use Rattle.std.proofs.Common.{◌≡◌, ℕ, Bool, cond, get_or, set, ◌+◌, ◌<◌, ◌≤◌, List, [], ◌∷◌, ◌++◌, length, map, sum_by, refl, sym, ap, ◌∙◌, subst, None, replicate, arith, length-append}
+use Rattle.std.specs.Prelude.{sum, count_by, nat_lt, ◌*◌}
+use Rattle.std.proofs.Math.Seq.{map-set_same}
 use Rattle.std.proofs.lemmas.List.{map-append, length-map, length-replicate, length-set, get_or_default}
 use Rattle.std.proofs.lemmas.List.Sums.{sum_by-append, sum_by-set, sum-map}
 use Rattle.strm_machine.specs.Turns.{Turn}
@@ -10,22 +11,25 @@ use Rattle.strm_handles.specs.Handles.{Handles, no_handles, live_of, next_index}
 use Rattle.strm_handles.proofs.HandleLemmas.{live_of-no_handles}
 use Rattle.strm_machine.specs.State as machine
 use Rattle.strm_memory.specs.Bytes.{put_at}
-use Rattle.strm_machine.specs.State.{State, guest_in, no_stream, stream_at, memory_in, with_memory, is_live, handles_in_use, bytes_in_use}
+use Rattle.strm_sets.specs.Sets.{Sets, no_sets}
+use Rattle.strm_contexts.specs.Contexts.{len as contexts_there}
+use Rattle.strm_machine.specs.State.{State, guest_in, no_guest, sets_in, no_stream, stream_at, memory_in, with_memory, with_sets, with_table, is_live, handles_in_use, sets_in_use, bytes_in_use}
 use Rattle.strm_machine.specs.Soundness.{IsSound, sizes_of, handles_of}
+use Rattle.strm_machine.specs.Tests.{are_places_full}
 use Rattle.strm_machine.specs.Refusals.{refusal}
 use Rattle.strm_machine.specs.Reactions.{goes, performs}
 use Rattle.strm_machine.specs.declared.acts.Making.TheVariants.{Guest, Between}
 use Rattle.strm_machine.specs.declared.acts.MemoryAct.TheVariants.{Poke}
 use Rattle.strm_machine.specs.declared.acts.Act.TheVariants.{Make, OnMemory}
 use Rattle.strm_machine.specs.declared.replies.Reply.TheVariants as replies
-use Rattle.strm_machine.proofs.RefusalLemmas.{guest_fits, poke_fits, pair_fits}
+use Rattle.strm_machine.proofs.RefusalLemmas.{BytesFit, guest_fits, poke_fits, pair_fits}
 use Rattle.strm_machine.proofs.SoundLemmas.{IsSound-guest, IsSound-guests, IsSound-turn, IsSound-with_stream, sizes_of-with_handles}
 use Rattle.strm_machine.proofs.BoundLemmas.{length-poked}
-use Rattle.strm_machine.proofs.TurnLemmas.{GuestsKeep, TurnKeeps, with_memory-keeps}
+use Rattle.strm_machine.proofs.TurnLemmas.{GuestsKeep, TurnKeeps, with_memory-keeps, sets_of}
 use Rattle.strm_codes.specs.declared.codes.TransmitIndex.{TransmitIndex}
 use Rattle.strm_machine.specs.Making.{with_read_end, with_ends, made_stream, made_pair, with_stream}
 use Rattle.strm_machine.specs.declared.replies.Pair.{Pair}
-use Rattle.strm_turns.specs.Guests.{guest_of, seen, live_in}
+use Rattle.strm_turns.specs.Guests.{guest_of, seen, live_in, sets_among}
 use Rattle.strm_transmit.specs.Inside.{state_of, IsStore}
 use Rattle.strm_turns.specs.declared.guests.Guest as ours
 use Rattle.strm_transmit.specs.declared.store.Store.TheInside.{Inside}
@@ -34,6 +38,7 @@ use Rattle.strm_transmit.specs.declared.store.Store.TheInside.{Inside}
 pub record SameBut (old new : Inside) : Type 0 where
   pub tag : new.tag ≡ old.tag
   pub limits : new.limits ≡ old.limits
+  pub contexts : new.contexts ≡ old.contexts
   pub trapped : new.is_trapped ≡ old.is_trapped
 
 seen-push : (guests : List ours.Guest) (g : ours.Guest) → seen (guests ++ g ∷ []) ≡ seen guests ++ guest_of g ∷ []
@@ -48,30 +53,44 @@ pub record AddsGuest (old new : Inside) (g : ours.Guest) (size : ℕ) : Type 0 w
   pub counter : new.counter ≡ old.counter
   pub streams : new.streams ≡ old.streams
   pub live_streams : new.live_streams ≡ old.live_streams
+  pub live_sets : new.live_sets ≡ old.live_sets
   pub guests : new.guests.items ≡ old.guests.items ++ g ∷ []
   pub bytes : new.bytes ≡ old.bytes + size
   pub memory : g.memory ≡ replicate size 0
   pub handles : g.table.handles ≡ no_handles
+  pub sets : g.sets ≡ no_sets
 
 state_of-guest : (old new : Inside) (g : ours.Guest) (size : ℕ) → AddsGuest old new g size → state_of new ≡ record (state_of old) { guests = seen old.guests.items ++ guest_of g ∷ [] }
 state_of-guest old new g size h =
-    rw (h.same.tag, h.same.limits, h.same.trapped, h.streams, h.guests, seen-push old.guests.items g) refl
+    rw (h.same.tag, h.same.limits, h.same.contexts, h.same.trapped, h.streams, h.guests, seen-push old.guests.items g) refl
+
+-- how many sets are there
+abbrev pub how_many : Sets → ℕ
+how_many sets = count_by (λ there. there) sets.there
+
+-- the waitable sets of a guest
+abbrev pub sets_held : machine.Guest → ℕ
+sets_held g = how_many g.sets
 
 pub IsStore-guest : (old new : Inside) (g : ours.Guest) (size : ℕ) → AddsGuest old new g size → refusal (state_of old) (Make (Guest size)) ≡ None → IsStore old → IsStore new
 IsStore-guest old new g size h e s =
     let fits = guest_fits (state_of old) size e in
     let many : length g.memory ≡ size = rw h.memory (length-replicate size 0) in
     let total : sum (sizes_of (seen old.guests.items)) ≡ bytes_in_use (state_of old) = sum-map (λ k. length k.memory) (seen old.guests.items) in
-    let sound = IsSound-guest (state_of old) (guest_of g) h.handles (omega (arith, total, many, fits.bytes)) s.sound in
+    let sound = IsSound-guest (state_of old) (guest_of g) h.handles h.sets (omega (arith, total, many, fits.bytes)) s.sound in
     let after = state_of-guest old new g size h in
     let none : live_of g.table.handles ≡ 0 = rw h.handles live_of-no_handles in
     let live : handles_in_use (state_of old) ≡ handles_in_use (state_of new) = added _ _ _ (sum_by-push (λ k. live_of k.handles) (seen old.guests.items) (guest_of g)) none ∙ sym (ap handles_in_use after) in
+    let no_set : sets_held (guest_of g) ≡ 0 = ap how_many h.sets in
+    let sets : sets_in_use (state_of old) ≡ sets_in_use (state_of new) = added _ _ _ (sum_by-push sets_held (seen old.guests.items) (guest_of g)) no_set ∙ sym (ap sets_in_use after) in
     let bytes : bytes_in_use (state_of old) + length g.memory ≡ bytes_in_use (state_of new) = sym (sum_by-push (λ k. length k.memory) (seen old.guests.items) (guest_of g)) ∙ sym (ap bytes_in_use after) in
     record {
       sound = rw after sound;
       limit = rw (h.counter, h.same.limits) s.limit;
       live = ap (λ (c : Counter). c.live) h.counter ∙ s.live ∙ live;
+      within = rw h.counter s.within;
       streams = rw (h.live_streams, h.streams) s.streams;
+      sets = h.live_sets ∙ s.sets ∙ sets;
       bytes = omega (arith, h.bytes, s.bytes, bytes, many);
       few_guests = rw h.guests (omega (arith, fits.count, length-map old.guests.items guest_of, length-append old.guests.items (g ∷ [])));
       few_streams = rw h.streams s.few_streams;
@@ -83,23 +102,34 @@ IsStore-guest old new g size h e s =
 pub performs-guest : (old new : Inside) (g : ours.Guest) (size n : ℕ) → AddsGuest old new g size → n ≡ length old.guests.items → performs (state_of old) (Make (Guest size)) ≡ goes (replies.Number n) (state_of new)
 unfolding performs
 performs-guest old new g size n h e =
-    rw (state_of-guest old new g size h, h.memory, h.handles, e, length-map old.guests.items guest_of) refl
+    rw (state_of-guest old new g size h, h.memory, h.handles, h.sets, e, length-map old.guests.items guest_of) refl
 
-map-map : (f : machine.Guest → Handles) (g : Handles → ℕ) (xs : List machine.Guest) → map g (map f xs) ≡ map (λ x. g (f x)) xs
+map-map : {X : Type 0} (f : machine.Guest → X) (g : X → ℕ) (xs : List machine.Guest) → map g (map f xs) ≡ map (λ x. g (f x)) xs
 map-map f g [] = refl
 map-map f g (x ∷ xs) = ap (λ ys. g (f x) ∷ ys) (map-map f g xs)
 
-by_map : (f : machine.Guest → Handles) (g : Handles → ℕ) (xs : List machine.Guest) → sum_by g (map f xs) ≡ sum_by (λ x. g (f x)) xs
+by_map : {X : Type 0} (f : machine.Guest → X) (g : X → ℕ) (xs : List machine.Guest) → sum_by g (map f xs) ≡ sum_by (λ x. g (f x)) xs
 by_map f g xs = sym (sum-map g (map f xs)) ∙ ap sum (map-map f g xs) ∙ sum-map (λ x. g (f x)) xs
 
--- what is counted of guests with the memory lengths, or the handles, of others
+-- what is counted of guests with the memory lengths, the handles or the sets of others
 pub same_handles : (old new : List machine.Guest) → handles_of new ≡ handles_of old → sum_by (λ (g : machine.Guest). live_of g.handles) new ≡ sum_by (λ (g : machine.Guest). live_of g.handles) old
 same_handles old new e = sym (by_map (λ g. g.handles) live_of new) ∙ ap (sum_by live_of) e ∙ by_map (λ g. g.handles) live_of old
+
+pub same_sets : (old new : List machine.Guest) → sets_of new ≡ sets_of old → sets_among new ≡ sets_among old
+same_sets old new e = sym (by_map (λ g. g.sets) how_many new) ∙ ap (sum_by how_many) e ∙ by_map (λ g. g.sets) how_many old
+
+-- one guest's table and sets are others, of which there are as many
+pub sets-with_table : (guests : List machine.Guest) (g : ℕ) (handles : Handles) (sets : Sets) → how_many sets ≡ how_many (sets_in guests g) → sets_among (with_table guests g handles sets) ≡ sets_among guests
+sets-with_table guests g handles sets e =
+    let new : List machine.Guest = with_table guests g handles sets in
+    sym (sum-map sets_held new)
+    ∙ ap sum (map-set_same sets_held guests g (record (guest_in guests g) { handles = handles; sets = sets }) no_guest e)
+    ∙ sum-map sets_held guests
 
 pub same_bytes : (old new : List machine.Guest) → sizes_of new ≡ sizes_of old → sum_by (λ (g : machine.Guest). length g.memory) new ≡ sum_by (λ (g : machine.Guest). length g.memory) old
 same_bytes old new e = sym (sum-map (λ (g : machine.Guest). length g.memory) new) ∙ ap sum e ∙ sum-map (λ (g : machine.Guest). length g.memory) old
 
-same_count : (old new : List machine.Guest) → sizes_of new ≡ sizes_of old → length new ≡ length old
+pub same_count : (old new : List machine.Guest) → sizes_of new ≡ sizes_of old → length new ≡ length old
 same_count old new e = sym (length-map new (λ (g : machine.Guest). length g.memory)) ∙ ap length e ∙ length-map old (λ (g : machine.Guest). length g.memory)
 
 -- bytes put into a guest's memory
@@ -108,74 +138,85 @@ pub record PutsBytes (old new : Inside) (g address : ℕ) (bytes : List ℕ) : T
   pub counter : new.counter ≡ old.counter
   pub streams : new.streams ≡ old.streams
   pub live_streams : new.live_streams ≡ old.live_streams
+  pub live_sets : new.live_sets ≡ old.live_sets
   pub count : new.bytes ≡ old.bytes
   pub guests : seen new.guests.items ≡ with_memory (seen old.guests.items) g (put_at (memory_in (seen old.guests.items) g) address bytes)
 
 pub performs-poke : (old new : Inside) (g address : ℕ) (bytes : List ℕ) → PutsBytes old new g address bytes → performs (state_of old) (OnMemory g (Poke address bytes)) ≡ goes replies.Done (state_of new)
 unfolding performs
 performs-poke old new g address bytes h =
-    rw (h.same.tag, h.same.limits, h.same.trapped, h.streams, h.guests) refl
+    rw (h.same.tag, h.same.limits, h.same.contexts, h.same.trapped, h.streams, h.guests) refl
 
-pub IsStore-poke : (old new : Inside) (g address : ℕ) (bytes : List ℕ) → PutsBytes old new g address bytes → refusal (state_of old) (OnMemory g (Poke address bytes)) ≡ None → IsStore old → IsStore new
-IsStore-poke old new g address bytes h e s =
-    let fits = poke_fits (state_of old) g address bytes e in
+pub IsStore-put : (old new : Inside) (g address : ℕ) (bytes : List ℕ) → PutsBytes old new g address bytes → BytesFit (state_of old) g address (length bytes) → IsStore old → IsStore new
+IsStore-put old new g address bytes h fits s =
     let size = length-poked (memory_in (seen old.guests.items) g) address bytes fits.inside in
     let keeps = with_memory-keeps (seen old.guests.items) g (put_at (memory_in (seen old.guests.items) g) address bytes) size in
     let kept : GuestsKeep (seen old.guests.items) (seen new.guests.items) = rw h.guests keeps in
-    let state : state_of new ≡ record (state_of old) { guests = seen new.guests.items } = rw (h.same.tag, h.same.limits, h.same.trapped, h.streams) refl in
+    let state : state_of new ≡ record (state_of old) { guests = seen new.guests.items } = rw (h.same.tag, h.same.limits, h.same.contexts, h.same.trapped, h.streams) refl in
     let count = same_count (seen old.guests.items) (seen new.guests.items) kept.sizes in
     record {
       sound = rw state (IsSound-guests (state_of old) (seen new.guests.items) kept s.sound);
       limit = rw (h.counter, h.same.limits) s.limit;
       live = ap (λ (c : Counter). c.live) h.counter ∙ s.live ∙ sym (same_handles (seen old.guests.items) (seen new.guests.items) kept.handles);
+      within = rw h.counter s.within;
       streams = rw (h.live_streams, h.streams) s.streams;
+      sets = h.live_sets ∙ s.sets ∙ sym (same_sets (seen old.guests.items) (seen new.guests.items) kept.sets);
       bytes = h.count ∙ s.bytes ∙ sym (same_bytes (seen old.guests.items) (seen new.guests.items) kept.sizes);
       few_guests = omega (arith, count, s.few_guests, length-map old.guests.items guest_of, length-map new.guests.items guest_of);
       few_streams = rw h.streams s.few_streams;
     }
 
+pub IsStore-poke : (old new : Inside) (g address : ℕ) (bytes : List ℕ) → PutsBytes old new g address bytes → refusal (state_of old) (OnMemory g (Poke address bytes)) ≡ None → IsStore old → IsStore new
+IsStore-poke old new g address bytes h e s =
+    IsStore-put old new g address bytes h (poke_fits (state_of old) g address bytes e) s
+
 -- guests and one stream as a turn left them
 pub record TakesTurn (old new : Inside) (s : ℕ) (t : Turn) : Type 0 where
   pub tag : new.tag ≡ old.tag
   pub limits : new.limits ≡ old.limits
+  pub contexts : new.contexts ≡ old.contexts
   pub counter : new.counter ≡ old.counter
   pub live_streams : new.live_streams ≡ old.live_streams
+  pub live_sets : new.live_sets ≡ old.live_sets
   pub bytes : new.bytes ≡ old.bytes
   pub guests : seen new.guests.items ≡ t.guests
   pub streams : new.streams.items ≡ set old.streams.items s t.stream
 
-abbrev pub live_weight : Stream → ℕ
-live_weight stream = cond (is_live stream) 1 0
+abbrev live_by : Bool → ℕ
+live_by b = cond b 1 0
 
-pub live_sum : (streams : List Stream) (s : ℕ) (stream : Stream) → s < length streams → count_by is_live (set streams s stream) + live_weight (get_or streams s no_stream) ≡ count_by is_live streams + live_weight stream
+abbrev live_weight : Stream → ℕ
+live_weight stream = live_by (is_live stream)
+
+live_sum : (streams : List Stream) (s : ℕ) (stream : Stream) → s < length streams → count_by is_live (set streams s stream) + live_weight (get_or streams s no_stream) ≡ count_by is_live streams + live_weight stream
 live_sum streams s stream l = sum_by-set live_weight streams s stream no_stream l
 
 -- one stream set to another, and the memories with their lengths
 pub record SetsStream (old new : Inside) (s : ℕ) (stream : Stream) : Type 0 where
   pub limit : new.counter.limit ≡ new.limits.handles
   pub live : new.counter.live ≡ handles_in_use (state_of new)
+  pub within : new.counter.live ≤ new.counter.limit
   pub sizes : sizes_of (seen new.guests.items) ≡ sizes_of (seen old.guests.items)
   pub bytes : new.bytes ≡ old.bytes
-  pub live_streams : new.live_streams + live_weight (stream_at (state_of old) s) ≡ old.live_streams + live_weight stream
+  pub counted : new.live_streams ≡ count_by is_live new.streams.items
+  pub sets : new.live_sets ≡ sets_in_use (state_of new)
   pub streams : new.streams.items ≡ set old.streams.items s stream
 
 -- a call that sets one stream keeps the store's invariant where the state stays sound
-pub IsStore-stream : (old new : Inside) (s : ℕ) (stream : Stream) → s < length old.streams.items → SetsStream old new s stream → IsSound (state_of new) → IsStore old → IsStore new
-IsStore-stream old new s stream l h sound i =
-    let there = live_sum old.streams.items s stream l in
+pub IsStore-stream : (old new : Inside) (s : ℕ) (stream : Stream) → SetsStream old new s stream → IsSound (state_of new) → IsStore old → IsStore new
+IsStore-stream old new s stream h sound i =
     let count = same_count (seen old.guests.items) (seen new.guests.items) h.sizes in
     record {
       sound = sound;
       limit = h.limit;
       live = h.live;
-      streams = rw h.streams (as_many _ _ _ _ _ _ h.live_streams there i.streams);
+      within = h.within;
+      streams = h.counted;
+      sets = h.sets;
       bytes = h.bytes ∙ i.bytes ∙ sym (same_bytes (seen old.guests.items) (seen new.guests.items) h.sizes);
       few_guests = omega (arith, count, i.few_guests, length-map old.guests.items guest_of, length-map new.guests.items guest_of);
       few_streams = rw (h.streams, length-set old.streams.items s stream) i.few_streams;
     }
-  where
-    as_many : (n m w v a b : ℕ) → n + w ≡ m + v → a + w ≡ b + v → m ≡ b → n ≡ a
-    as_many n m w v a b e f g = omega (arith, e, f, g)
 
 -- guests and one stream as a turn left them, which keeps handles, memory lengths, type and owners
 pub IsStore-turn : (old new : Inside) (s : ℕ) (t : Turn) → s < length old.streams.items → TurnKeeps (seen old.guests.items) (stream_at (state_of old) s) t → TakesTurn old new s t → IsStore old → IsStore new
@@ -184,20 +225,28 @@ IsStore-turn old new s t l keeps h i =
     let owners : is_live t.stream ≡ is_live (stream_at (state_of old) s) = rw (keeps.stream.writer, keeps.stream.reader) refl in
     let handles : handles_in_use (state_of new) ≡ handles_in_use (state_of old) =
     same_handles (seen old.guests.items) (seen new.guests.items) (rw h.guests keeps.guests.handles) in
-    IsStore-stream old new s t.stream l
+    let there = live_sum old.streams.items s t.stream l in
+    IsStore-stream old new s t.stream
     (record {
       limit = rw (h.counter, h.limits) i.limit;
       live = ap (λ (c : Counter). c.live) h.counter ∙ i.live ∙ sym handles;
+      within = rw h.counter i.within;
       sizes = rw h.guests keeps.guests.sizes;
       bytes = h.bytes;
-      live_streams = rw (h.live_streams, owners) refl;
+      counted = rw h.streams (as_many _ _ _ _ _ there (ap live_by owners) (h.live_streams ∙ i.streams));
+      sets = h.live_sets ∙ i.sets ∙ sym (same_sets (seen old.guests.items) (seen new.guests.items) (rw h.guests keeps.guests.sets));
       streams = h.streams;
     })
     (record {
       named = rw (h.guests, h.streams) sound.named;
       placed = rw (h.guests, h.streams) sound.placed;
       small = rw h.guests sound.small;
+      sets = rw h.guests sound.sets;
+      contexts = rw (h.guests, h.contexts) sound.contexts;
     }) i
+  where
+    as_many : (a w b v n : ℕ) → a + w ≡ b + v → v ≡ w → n ≡ b → n ≡ a
+    as_many a w b v n e f g = omega (arith, e, f, g)
 
 pub stream_at-there : (s : Inside) (stream : ℕ) (x : Stream) → stream < length s.streams.items → x ≡ get_or s.streams.items stream x → stream_at (state_of s) stream ≡ x
 stream_at-there s stream x l e = get_or_default s.streams.items stream no_stream x l ∙ sym e
@@ -213,13 +262,14 @@ pub record MakesStream (old new : Inside) (writer reader : ℕ) (ty : TransmitIn
   pub counter : new.counter ≡ counted (counted old.counter)
   pub live : live_in (seen new.guests.items) ≡ live_in (seen old.guests.items) + 2
   pub live_streams : new.live_streams ≡ old.live_streams + 1
+  pub live_sets : new.live_sets ≡ old.live_sets
   pub bytes : new.bytes ≡ old.bytes
   pub guests : seen new.guests.items ≡ with_ends (seen old.guests.items) writer reader ty (length old.streams.items)
   pub streams : new.streams.items ≡ old.streams.items ++ stream_made old writer reader ty ∷ []
 
 state_of-made : (old new : Inside) (writer reader : ℕ) (ty : TransmitIndex) → MakesStream old new writer reader ty → state_of new ≡ with_stream (state_of old) writer reader ty
 unfolding with_stream
-state_of-made old new writer reader ty h = rw (h.same.tag, h.same.limits, h.same.trapped, h.guests, h.streams) refl
+state_of-made old new writer reader ty h = rw (h.same.tag, h.same.limits, h.same.contexts, h.same.trapped, h.guests, h.streams) refl
 
 pub performs-made : (old new : Inside) (writer reader : ℕ) (ty : TransmitIndex) (pair : Pair) → MakesStream old new writer reader ty → pair ≡ made_pair (state_of old) writer reader ty → performs (state_of old) (Make (Between writer reader ty)) ≡ goes (replies.Pair pair) (state_of new)
 unfolding performs
@@ -231,6 +281,11 @@ sizes-made : (guests : List machine.Guest) (writer reader : ℕ) (ty : TransmitI
 sizes-made guests writer reader ty s =
     sizes_of-with_handles (with_read_end guests reader ty s) writer _ ∙ sizes_of-with_handles guests reader _
 
+sets-made : (guests : List machine.Guest) (writer reader : ℕ) (ty : TransmitIndex) (s : ℕ) → sets_among (with_ends guests writer reader ty s) ≡ sets_among guests
+sets-made guests writer reader ty s =
+    let held = with_read_end guests reader ty s in
+    sets-with_table held writer _ (sets_in held writer) refl ∙ sets-with_table guests reader _ (sets_in guests reader) refl
+
 pub IsStore-made : (old new : Inside) (writer reader : ℕ) (ty : TransmitIndex) → MakesStream old new writer reader ty → refusal (state_of old) (Make (Between writer reader ty)) ≡ None → IsStore old → IsStore new
 IsStore-made old new writer reader ty h e s =
     let fits = pair_fits (state_of old) writer reader ty e in
@@ -240,10 +295,12 @@ IsStore-made old new writer reader ty h e s =
     let stream = stream_made old writer reader ty in
     let live : count_by is_live new.streams.items ≡ count_by is_live old.streams.items + 1 = ap (count_by is_live) h.streams ∙ sum_by-push live_weight old.streams.items stream in
     record {
-      sound = subst IsSound (sym (state_of-made old new writer reader ty h)) (IsSound-with_stream (state_of old) writer reader ty s.sound);
+      sound = subst IsSound (sym (state_of-made old new writer reader ty h)) (IsSound-with_stream (state_of old) writer reader ty fits.read fits.write s.sound);
       limit = rw (h.counter, h.same.limits) s.limit;
       live = omega (arith, ap (λ (c : Counter). c.live) h.counter, s.live, h.live);
+      within = rw h.counter (omega (arith, fits.handles, s.limit, s.live));
       streams = omega (arith, h.live_streams, s.streams, live);
+      sets = h.live_sets ∙ s.sets ∙ sym (ap sets_among h.guests ∙ sets-made (seen old.guests.items) writer reader ty (length old.streams.items));
       bytes = h.bytes ∙ s.bytes ∙ sym bytes;
       few_guests = omega (arith, count, s.few_guests, length-map old.guests.items guest_of, length-map new.guests.items guest_of);
       few_streams = rw h.streams (omega (arith, fits.streams, length-append old.streams.items (stream ∷ [])));
@@ -265,3 +322,12 @@ pub pair_is : (old : Inside) (writer reader : ℕ) (ty : TransmitIndex) (stream 
 pair_is old writer reader ty stream numbers e n =
     ap (λ (k : ℕ × ℕ). as_pair k stream) (n ∙ ap (numbers_of old writer reader ty) e)
     ∙ ap (as_pair (numbers_of old writer reader ty (length old.streams.items))) e
+
+-- handles stay where one guest's sets are others
+pub live-with_sets : (guests : List machine.Guest) (g : ℕ) (sets : Sets) → live_in (with_sets guests g sets) ≡ live_in guests
+live-with_sets guests g sets =
+    same_handles guests (with_sets guests g sets) (map-set_same (λ (k : machine.Guest). k.handles) guests g (record (guest_in guests g) { sets = sets }) no_guest refl)
+
+-- so many places are passed as the machine counts
+pub places_passed : (s : Inside) (needed : ℕ) → IsStore s → nat_lt s.limits.places (3 * s.live_streams + s.live_sets + contexts_there s.contexts + needed) ≡ are_places_full (state_of s) needed
+places_passed s needed i = rw (i.streams, i.sets) refl

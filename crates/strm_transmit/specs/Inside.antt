@@ -1,6 +1,6 @@
 -- The store's fields as the machine's state, and what they keep: counters that agree with it. Ours.
 use Rattle.std.specs.Prelude.{◌≡◌, ◌≤◌, length, count_by}
-use Rattle.strm_machine.specs.State.{State, is_live, handles_in_use, bytes_in_use}
+use Rattle.strm_machine.specs.State.{State, is_live, handles_in_use, sets_in_use, bytes_in_use}
 use Rattle.strm_machine.specs.Soundness.{IsSound}
 use Rattle.strm_turns.specs.Guests.{seen}
 use Rattle.strm_transmit.specs.declared.store.Store.TheInside.{Inside}
@@ -12,15 +12,18 @@ state_of s = record {
   limits = s.limits;
   guests = seen s.guests.items;
   streams = s.streams.items;
+  contexts = s.contexts;
   trapped = s.is_trapped;
 }
 
--- handles name streams and operations lie in memory; what is counted is what is there
+-- handles name streams and sets, and operations lie in memory; what is counted is what is there
 pub record IsStore (s : Inside) : Type 0 where
   pub sound : IsSound (state_of s)
   pub limit : s.counter.limit ≡ s.limits.handles
   pub live : s.counter.live ≡ handles_in_use (state_of s)
+  pub within : s.counter.live ≤ s.counter.limit
   pub streams : s.live_streams ≡ count_by is_live s.streams.items
+  pub sets : s.live_sets ≡ sets_in_use (state_of s)
   pub bytes : s.bytes ≡ bytes_in_use (state_of s)
   pub few_guests : length s.guests.items ≤ 1048576
   pub few_streams : length s.streams.items ≤ 4294967295

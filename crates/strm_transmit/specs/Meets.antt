@@ -6,7 +6,11 @@ use Rattle.strm_machine.specs.Acts.{act_of}
 use Rattle.strm_machine.specs.State.{State}
 use Rattle.strm_machine.specs.Reactions.{Reaction, goes}
 use Rattle.strm_machine.specs.declared.acts.Act.{Act}
-use Rattle.strm_machine.specs.declared.acts.Act.TheVariants.{Make, OnEnd, Event, OnMemory}
+use Rattle.strm_machine.specs.declared.acts.Act.TheVariants.{Make, OnEnd, OnLoose, OnSet, OnContext}
+use Rattle.strm_machine.specs.declared.acts.ContextAct.TheVariants as context_acts
+use Rattle.strm_machine.specs.declared.acts.EndAct.TheVariants.{Move}
+use Rattle.strm_machine.specs.declared.acts.LooseAct.TheVariants.{Lower}
+use Rattle.strm_machine.specs.declared.acts.SetAct.TheVariants.{Join}
 use Rattle.strm_machine.specs.declared.steps.Step.{Step}
 use Rattle.strm_machine.specs.declared.replies.Reply.{Reply}
 use Rattle.strm_machine.specs.declared.replies.Reply.TheVariants as replies
@@ -57,12 +61,14 @@ refused_too (Err StoreTrapped) = Err StoreTrapped
 refused_too (Err OutOfMemory) = Err OutOfMemory
 refused_too (Ok reply) = Ok reply
 
--- an act that takes memory: it makes something
+-- an act that takes memory: it makes something, gives a guest a handle, or a set a member
 abbrev pub act_takes_memory : Act → Bool
 act_takes_memory (Make making) = true
-act_takes_memory (OnEnd side end act) = false
-act_takes_memory (Event guest handle) = false
-act_takes_memory (OnMemory guest act) = false
+act_takes_memory (OnEnd side end (Move to)) = true
+act_takes_memory (OnLoose reader (Lower guest ty)) = true
+act_takes_memory (OnSet guest set (Join handle)) = true
+act_takes_memory (OnContext guest handle (context_acts.Move to)) = true
+act_takes_memory _ = false
 
 -- a step that takes memory
 abbrev pub takes_memory : Step → Bool

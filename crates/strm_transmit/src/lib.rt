@@ -2,7 +2,7 @@
 //!
 //! Each call is a step of the machine of `strm_machine`, by one form of clause (`Meets`): its
 //! answer is the machine's, and so is the store afterwards. It stands on the handle tables of
-//! `strm_handles` and the memories of `strm_memory`.
+//! `strm_handles`, the memories of `strm_memory` and the waitable sets of `strm_sets`.
 #![tactic(auto)]
 
 pub mod errors;
@@ -11,5 +11,5 @@ pub mod store;
 
 pub use strm_machine::chunks::Chunk;
 pub use strm_machine::limits::Limits;
-pub use strm_machine::replies::{Pair, Reply};
+pub use strm_machine::replies::{Member, Pair, Reply};
 pub use strm_machine::steps::Step;

@@ -7,12 +7,13 @@ ghost use Rattle.strm_codes.specs.declared.refusals.Refusal.{Refusal};
 ghost use Rattle.strm_machine.specs.Reactions.{react, reaction};
 ghost use Rattle.strm_machine.specs.declared.acts.Act.TheVariants as acts;
 ghost use Rattle.strm_machine.specs.declared.acts.MemoryAct.TheVariants as memory_acts;
+ghost use Rattle.strm_machine.specs.declared.acts.SetAct.TheVariants as set_acts;
 ghost use Rattle.strm_machine.specs.declared.replies.Reply.TheVariants as replies;
 ghost use Rattle.strm_transmit.specs.Meets.{Meets, replied, refused_too, is_settled, act_takes_memory, takes_memory};
 
 use crate::errors::StoreError;
 use crate::store::Store;
-use strm_machine::acts::{Act, EndAct, Making, MemoryAct, NamedEnd};
+use strm_machine::acts::{Act, ContextAct, EndAct, LooseAct, Making, MemoryAct, NamedEnd, SetAct};
 use strm_machine::replies::Reply;
 use strm_machine::steps::Step;
 use strm_machine::streams::Side;
@@ -55,7 +56,10 @@ fn perform(store: &mut Store, act: Act) -> Result<Reply, StoreError>
     match act {
         Act::Make { making } => make(store, making),
         Act::OnEnd { side, end, act } => on_end(store, side, &end, act),
+        Act::OnLoose { reader, act } => on_loose(store, reader, act),
         Act::Event { guest, handle } => store.take_event(guest, handle).map(Reply::Event),
+        Act::OnSet { guest, set, act } => on_set(store, guest, set, act),
+        Act::OnContext { guest, handle, act } => on_context(store, guest, handle, act),
         Act::OnMemory { guest, act } => on_memory(store, guest, act),
     }
 }
@@ -70,6 +74,16 @@ fn make(store: &mut Store, making: Making) -> Result<Reply, StoreError>
         Making::Between { writer, reader, ty } => {
             store.new_between(writer, reader, ty).map(Reply::Pair)
         }
+        Making::Set { guest } => store.set_new(guest).map(Reply::Number),
+        Making::Context {
+            guest,
+            address,
+            len,
+        } => {
+            store
+                .error_context_new(guest, address, len)
+                .map(Reply::Number)
+        }
     }
 }
 
@@ -79,7 +93,8 @@ fn on_end(store: &mut Store, side: Side, end: &NamedEnd, act: EndAct) -> Result<
     ensures meets { Meets store.old store.new result
         (reaction store.old (acts.OnEnd side end.now act)) }
     ensures settled { IfOk result (λ reply. IsTrue (is_settled reply)) }
-    ensures takes_no_memory { result ≢ Err StoreError.OutOfMemory }
+    ensures takes_no_memory { act_takes_memory (acts.OnEnd side end.now act) ≡ false
+        → result ≢ Err StoreError.OutOfMemory }
 {
     match act {
         EndAct::Operate { address, count } => {
@@ -87,6 +102,78 @@ fn on_end(store: &mut Store, side: Side, end: &NamedEnd, act: EndAct) -> Result<
         }
         EndAct::Drop => store.drop_side(side, end).map(done),
         EndAct::Cancel => store.cancel_side(side, end).map(Reply::Code),
+        EndAct::Move { to } => store.move_side(side, end, to).map(Reply::Number),
+        EndAct::Lift => store.lift_side(side, end).map(Reply::Number),
+    }
+}
+
+// What is done to the loose read end of a stream.
+fn on_loose(store: &mut Store, reader: u32, act: LooseAct) -> Result<Reply, StoreError>
+    ensures meets { Meets store.old store.new result
+        (reaction store.old (acts.OnLoose reader act)) }
+    ensures settled { IfOk result (λ reply. IsTrue (is_settled reply)) }
+    ensures takes_no_memory { act_takes_memory (acts.OnLoose reader act) ≡ false
+        → result ≢ Err StoreError.OutOfMemory }
+{
+    match act {
+        LooseAct::Lower { guest, ty } => store.lower(reader, guest, ty).map(Reply::Number),
+        LooseAct::Close => store.close(reader).map(done),
+    }
+}
+
+// The least member of a waitable set that is ready is told its report.
+fn poll(store: &mut Store, guest: u32, set: u32) -> Result<Reply, StoreError>
+    ensures meets { Meets store.old store.new result
+        (reaction store.old (acts.OnSet guest set set_acts.Poll)) }
+    ensures settled { IfOk result (λ reply. IsTrue (is_settled reply)) }
+    ensures takes_no_memory { result ≢ Err StoreError.OutOfMemory }
+{
+    match store.set_poll(guest, set) {
+        Ok(member) => Ok(Reply::Member(member)),
+        Err(error) => Err(error),
+    }
+}
+
+// What is done to the waitable set that a handle names.
+fn on_set(store: &mut Store, guest: u32, set: u32, act: SetAct) -> Result<Reply, StoreError>
+    ensures meets { Meets store.old store.new result
+        (reaction store.old (acts.OnSet guest set act)) }
+    ensures settled { IfOk result (λ reply. IsTrue (is_settled reply)) }
+    ensures takes_no_memory { act_takes_memory (acts.OnSet guest set act) ≡ false
+        → result ≢ Err StoreError.OutOfMemory }
+{
+    match act {
+        SetAct::Join { handle } => store.set_join(guest, set, handle).map(done),
+        SetAct::Poll => poll(store, guest, set),
+        SetAct::Drop => store.set_drop(guest, set).map(done),
+    }
+}
+
+// What is done to the error context that a handle names, or to the handle.
+fn on_context(
+    store: &mut Store,
+    guest: u32,
+    handle: u32,
+    act: ContextAct,
+) -> Result<Reply, StoreError>
+    ensures meets { Meets store.old store.new result
+        (reaction store.old (acts.OnContext guest handle act)) }
+    ensures settled { IfOk result (λ reply. IsTrue (is_settled reply)) }
+    ensures takes_no_memory { act_takes_memory (acts.OnContext guest handle act) ≡ false
+        → result ≢ Err StoreError.OutOfMemory }
+{
+    match act {
+        ContextAct::Text { address } => {
+            store
+                .error_context_message(guest, handle, address)
+                .map(Reply::Number)
+        }
+        ContextAct::Move { to } => {
+            store
+                .error_context_transfer(guest, handle, to)
+                .map(Reply::Number)
+        }
+        ContextAct::Drop => store.error_context_drop(guest, handle).map(done),
     }
 }
 

@@ -7,22 +7,26 @@ ghost use Rattle.std.specs.Prelude.{◌≡◌, ◌≢◌, Err, ◌<◌, ◌↔�
 ghost use Rattle.strm_codes.specs.Types.{kind_of, payload_of};
 ghost use Rattle.strm_machine.specs.State.{empty, is_live, stream_at, memory_in};
 
+mod contexts;
 mod endings;
 mod making;
 mod memories;
+mod moves;
 mod operations;
 mod refusals;
+mod sets;
 
 use crate::errors::StoreError;
 use std::alloc::Global;
 use std::marker::Model;
 use strm_codes::codes::{TransmitIndex, TransmitKind};
 use strm_codes::refusals::Refusal;
+use strm_contexts::contexts::ErrorContexts;
 use strm_handles::counters::HandleCounter;
 use strm_machine::limits::Limits;
 use strm_machine::streams::Stream;
-use strm_turns::endings::is_live;
 use strm_turns::guests::Guest;
+use strm_turns::owners::is_live;
 
 /// Guests and the streams between them.
 #[derive(Drop)]
@@ -32,8 +36,11 @@ pub struct Store {
     counter: HandleCounter,
     guests: Vec<Guest>,
     streams: Vec<Stream>,
+    contexts: ErrorContexts,
     // Streams of which an end is there.
     live_streams: u32,
+    // Waitable sets of all guests together.
+    live_sets: u32,
     // The bytes of all memories together.
     bytes: u32,
     is_trapped: bool,
@@ -42,8 +49,13 @@ pub struct Store {
 
 impl Model for Store {
     ghost use Rattle.strm_machine.specs.State.{State};
+    ghost use Rattle.std.specs.Coded.{codes};
+    ghost use Rattle.strm_contexts.specs.Contexts.{contexts_code};
+    ghost use Rattle.strm_sets.specs.Sets.{sets_code};
 
     ghost Value = { State };
+
+    ghost coded = { Prim.hlevel (codes, sets_code, contexts_code) };
 
     ghost use Rattle.strm_transmit.specs.Inside.{state_of, IsStore};
 
@@ -65,7 +77,9 @@ impl Store {
             counter: HandleCounter::new(limits.handles),
             guests: Vec::new(alloc),
             streams: Vec::new(alloc),
+            contexts: ErrorContexts::new(alloc),
             live_streams: 0,
+            live_sets: 0,
             bytes: 0,
             is_trapped: false,
             alloc,

@@ -1,137 +1,259 @@
 //! Cancels by example: of a future's end in each state of its read or write, and of streams whose
 //! items no line names.
 
-use std::alloc::Global;
-use std::test::Fail;
-use strm_codes::codes::{ReturnCode, TransmitIndex};
-use strm_codes::counts::ItemCount;
+use crate::calls::{Act, Call, Told, first_wrong_of_new};
+use strm_codes::codes::TransmitIndex;
 use strm_codes::payloads::Payload;
 use strm_codes::refusals::Refusal;
 use strm_codes::scalars::Scalar;
 use strm_machine::limits::Limits;
-use strm_transmit::errors::StoreError;
-use strm_transmit::store::Store;
 
-const WORDS: Payload = Payload::One(Scalar::U32);
+const FUTURE: TransmitIndex = TransmitIndex::Future(Payload::One(Scalar::U32));
 
-const FLAGS: Payload = Payload::One(Scalar::Bool);
+const FLAG: TransmitIndex = TransmitIndex::Future(Payload::One(Scalar::Bool));
+
+const WORDS: TransmitIndex = TransmitIndex::Stream(Payload::One(Scalar::U32));
+
+const FLAGS: TransmitIndex = TransmitIndex::Stream(Payload::One(Scalar::Bool));
 
 const LIMITS: Limits = Limits {
     handles: 4,
     places: 6,
 };
 
-type Answer = Result<ReturnCode, StoreError>;
+// Two guests, and a future of numbers from guest 0 to guest 1, each of whose ends has handle 1.
+const GUEST_0: (Call, Told) = (Call::AddGuest(16), Told::Number(0));
 
-const BLOCKED: Answer = Ok(ReturnCode::Blocked);
+const GUEST_1: (Call, Told) = (Call::AddGuest(16), Told::Number(1));
 
-const CANCELLED: Answer = Ok(ReturnCode::Cancelled(ItemCount::ZERO));
+const BETWEEN: (Call, Told) = (Call::Between(0, 1, FUTURE), Told::Pair(1, 1, 0));
 
-const COMPLETED: Answer = Ok(ReturnCode::Completed(ItemCount::ZERO));
+// Nothing waits on either end; each handle is the one of its side.
+const IDLE_FUTURES: [(Call, Told); 9] = [
+    GUEST_0,
+    GUEST_1,
+    BETWEEN,
+    (
+        Call::OnEnd(0, FUTURE, 1, Act::CancelWrite),
+        Told::Refused(Refusal::NoPending),
+    ),
+    (
+        Call::OnEnd(1, FUTURE, 1, Act::CancelRead),
+        Told::Refused(Refusal::NoPending),
+    ),
+    (
+        Call::OnEnd(0, FUTURE, 1, Act::CancelRead),
+        Told::Refused(Refusal::WrongEnd),
+    ),
+    (
+        Call::OnEnd(1, FUTURE, 1, Act::CancelWrite),
+        Told::Refused(Refusal::WrongEnd),
+    ),
+    (
+        Call::OnEnd(0, FLAG, 1, Act::CancelWrite),
+        Told::Refused(Refusal::WrongType),
+    ),
+    (
+        Call::OnEnd(0, WORDS, 1, Act::CancelWrite),
+        Told::Refused(Refusal::WrongKind),
+    ),
+];
 
-const DROPPED: Answer = Ok(ReturnCode::Dropped(ItemCount::ZERO));
-
-const NO_PENDING: Answer = Err(StoreError::Refused(Refusal::NoPending));
-
-// A future of numbers from guest 0 to guest 1, each of whose ends has handle 1.
-fn with_future(alloc: Global) -> Result<Store, StoreError> {
-    let mut store = Store::new(alloc, 0, LIMITS);
-    store.add_guest(16)?;
-    store.add_guest(16)?;
-    store.new_between(0, 1, TransmitIndex::Future(WORDS))?;
-    Ok(store)
+#[test]
+fn idle_futures(rt: HostRuntime) {
+    let wrong = first_wrong_of_new(rt.alloc(), LIMITS, &IDLE_FUTURES);
+    assert_eq!(rt; wrong, 0);
 }
 
-/// Nothing waits on either end; each handle is the one of its side.
+// A write that nobody has met ends; the value is still owed, and may be written again.
+const OPEN_FUTURES: [(Call, Told); 12] = [
+    GUEST_0,
+    GUEST_1,
+    BETWEEN,
+    (Call::OnEnd(0, FUTURE, 1, Act::Write(0, 1)), Told::Blocked),
+    (
+        Call::OnEnd(0, FUTURE, 1, Act::CancelWrite),
+        Told::Cancelled(0),
+    ),
+    (
+        Call::OnEnd(0, FUTURE, 1, Act::CancelWrite),
+        Told::Refused(Refusal::NoPending),
+    ),
+    (
+        Call::OnEnd(0, FUTURE, 1, Act::DropWrite),
+        Told::Refused(Refusal::FutureWithoutValue),
+    ),
+    (Call::OnEnd(1, FUTURE, 1, Act::Read(0, 1)), Told::Blocked),
+    (
+        Call::OnEnd(1, FUTURE, 1, Act::CancelRead),
+        Told::Cancelled(0),
+    ),
+    (Call::OnEnd(0, FUTURE, 1, Act::Write(0, 1)), Told::Blocked),
+    (
+        Call::OnEnd(1, FUTURE, 1, Act::Read(0, 1)),
+        Told::Completed(0),
+    ),
+    (Call::Moved(0), Told::Number(1)),
+];
+
 #[test]
-fn idle_futures(rt: HostRuntime) -> Result<(), Fail> {
-    let mut store = with_future(rt.alloc()).ok().ok_or("a future")?;
-    assert_eq!(rt; store.future_cancel_write(0, WORDS, 1), NO_PENDING);
-    assert_eq!(rt; store.future_cancel_read(1, WORDS, 1), NO_PENDING);
-    let other = Err(StoreError::Refused(Refusal::WrongEnd));
-    assert_eq!(rt; store.future_cancel_read(0, WORDS, 1), other);
-    assert_eq!(rt; store.future_cancel_write(1, WORDS, 1), other);
-    let wrong_type = Err(StoreError::Refused(Refusal::WrongType));
-    assert_eq!(rt; store.future_cancel_write(0, FLAGS, 1), wrong_type);
-    let wrong_kind = Err(StoreError::Refused(Refusal::WrongKind));
-    assert_eq!(rt; store.stream_cancel_write(0, WORDS, 1), wrong_kind);
-    Ok(())
+fn open_futures(rt: HostRuntime) {
+    let wrong = first_wrong_of_new(rt.alloc(), LIMITS, &OPEN_FUTURES);
+    assert_eq!(rt; wrong, 0);
 }
 
-/// A write that nobody has met ends; the value is still owed, and may be written again.
+// Once the value has passed, a cancel of the write says Completed.
+const PASSED_WRITE: [(Call, Told); 8] = [
+    GUEST_0,
+    GUEST_1,
+    BETWEEN,
+    (Call::OnEnd(0, FUTURE, 1, Act::Write(0, 1)), Told::Blocked),
+    (
+        Call::OnEnd(1, FUTURE, 1, Act::Read(0, 1)),
+        Told::Completed(0),
+    ),
+    (
+        Call::OnEnd(0, FUTURE, 1, Act::CancelWrite),
+        Told::Completed(0),
+    ),
+    (
+        Call::OnEnd(0, FUTURE, 1, Act::Write(0, 1)),
+        Told::Refused(Refusal::WriteToDroppedFuture),
+    ),
+    (Call::TakeEvent(0, 1), Told::Nothing),
+];
+
+// The same where the other end is gone.
+const PASSED_WRITE_AND_DROPPED: [(Call, Told); 9] = [
+    GUEST_0,
+    GUEST_1,
+    BETWEEN,
+    (Call::OnEnd(0, FUTURE, 1, Act::Write(0, 1)), Told::Blocked),
+    (
+        Call::OnEnd(1, FUTURE, 1, Act::Read(0, 1)),
+        Told::Completed(0),
+    ),
+    (Call::OnEnd(1, FUTURE, 1, Act::DropRead), Told::Done),
+    (
+        Call::OnEnd(0, FUTURE, 1, Act::CancelWrite),
+        Told::Completed(0),
+    ),
+    (
+        Call::OnEnd(0, FUTURE, 1, Act::Write(0, 1)),
+        Told::Refused(Refusal::WriteToDroppedFuture),
+    ),
+    (Call::TakeEvent(0, 1), Told::Nothing),
+];
+
+// Both of the read.
+const PASSED_READ: [(Call, Told); 8] = [
+    GUEST_0,
+    GUEST_1,
+    BETWEEN,
+    (Call::OnEnd(1, FUTURE, 1, Act::Read(0, 1)), Told::Blocked),
+    (
+        Call::OnEnd(0, FUTURE, 1, Act::Write(0, 1)),
+        Told::Completed(0),
+    ),
+    (
+        Call::OnEnd(1, FUTURE, 1, Act::CancelRead),
+        Told::Completed(0),
+    ),
+    (
+        Call::OnEnd(1, FUTURE, 1, Act::Read(0, 1)),
+        Told::Refused(Refusal::FutureAlreadyRead),
+    ),
+    (Call::TakeEvent(1, 1), Told::Nothing),
+];
+
+const PASSED_READ_AND_DROPPED: [(Call, Told); 9] = [
+    GUEST_0,
+    GUEST_1,
+    BETWEEN,
+    (Call::OnEnd(1, FUTURE, 1, Act::Read(0, 1)), Told::Blocked),
+    (
+        Call::OnEnd(0, FUTURE, 1, Act::Write(0, 1)),
+        Told::Completed(0),
+    ),
+    (Call::OnEnd(0, FUTURE, 1, Act::DropWrite), Told::Done),
+    (
+        Call::OnEnd(1, FUTURE, 1, Act::CancelRead),
+        Told::Completed(0),
+    ),
+    (
+        Call::OnEnd(1, FUTURE, 1, Act::Read(0, 1)),
+        Told::Refused(Refusal::FutureAlreadyRead),
+    ),
+    (Call::TakeEvent(1, 1), Told::Nothing),
+];
+
 #[test]
-fn open_futures(rt: HostRuntime) -> Result<(), Fail> {
-    let mut store = with_future(rt.alloc()).ok().ok_or("a future")?;
-    assert_eq!(rt; store.future_write(0, WORDS, 1, 0), BLOCKED);
-    assert_eq!(rt; store.future_cancel_write(0, WORDS, 1), CANCELLED);
-    assert_eq!(rt; store.future_cancel_write(0, WORDS, 1), NO_PENDING);
-    let owes = Err(StoreError::Refused(Refusal::FutureWithoutValue));
-    assert_eq!(rt; store.future_drop_writable(0, WORDS, 1), owes);
-    assert_eq!(rt; store.future_read(1, WORDS, 1, 0), BLOCKED);
-    assert_eq!(rt; store.future_cancel_read(1, WORDS, 1), CANCELLED);
-    assert_eq!(rt; store.future_write(0, WORDS, 1, 0), BLOCKED);
-    assert_eq!(rt; store.future_read(1, WORDS, 1, 0), COMPLETED);
-    assert_eq!(rt; store.moved(0), Some(1));
-    Ok(())
+fn futures_whose_value_passed(rt: HostRuntime) {
+    let alloc = rt.alloc();
+    assert_eq!(rt; first_wrong_of_new(alloc, LIMITS, &PASSED_WRITE), 0);
+    let wrong = first_wrong_of_new(alloc, LIMITS, &PASSED_WRITE_AND_DROPPED);
+    assert_eq!(rt; wrong, 0);
+    assert_eq!(rt; first_wrong_of_new(alloc, LIMITS, &PASSED_READ), 0);
+    let wrong = first_wrong_of_new(alloc, LIMITS, &PASSED_READ_AND_DROPPED);
+    assert_eq!(rt; wrong, 0);
 }
 
-/// Once the value has passed, a cancel of either end says Completed, also where the other is gone.
+// The write of a future that nobody reads any more: its end was told so, and may be dropped.
+const NOBODY_READS: [(Call, Told); 10] = [
+    GUEST_0,
+    GUEST_1,
+    BETWEEN,
+    (Call::OnEnd(0, FUTURE, 1, Act::Write(0, 1)), Told::Blocked),
+    (Call::OnEnd(1, FUTURE, 1, Act::DropRead), Told::Done),
+    (
+        Call::OnEnd(0, FUTURE, 1, Act::CancelWrite),
+        Told::Dropped(0),
+    ),
+    (Call::TakeEvent(0, 1), Told::Nothing),
+    (
+        Call::OnEnd(0, FUTURE, 1, Act::Write(0, 1)),
+        Told::Refused(Refusal::WriteToDroppedFuture),
+    ),
+    (Call::OnEnd(0, FUTURE, 1, Act::DropWrite), Told::Done),
+    (Call::Moved(0), Told::Number(0)),
+];
+
 #[test]
-fn futures_whose_value_passed(rt: HostRuntime) -> Result<(), Fail> {
-    for drops in [false, true] {
-        let mut store = with_future(rt.alloc()).ok().ok_or("a future")?;
-        assert_eq!(rt; store.future_write(0, WORDS, 1, 0), BLOCKED);
-        assert_eq!(rt; store.future_read(1, WORDS, 1, 0), COMPLETED);
-        if drops {
-            assert_eq!(rt; store.future_drop_readable(1, WORDS, 1), Ok(()));
-        }
-        assert_eq!(rt; store.future_cancel_write(0, WORDS, 1), COMPLETED);
-        let written = Err(StoreError::Refused(Refusal::WriteToDroppedFuture));
-        assert_eq!(rt; store.future_write(0, WORDS, 1, 0), written);
-        assert_eq!(rt; store.take_event(0, 1), Ok(None));
-        let mut store = with_future(rt.alloc()).ok().ok_or("a future")?;
-        assert_eq!(rt; store.future_read(1, WORDS, 1, 0), BLOCKED);
-        assert_eq!(rt; store.future_write(0, WORDS, 1, 0), COMPLETED);
-        if drops {
-            assert_eq!(rt; store.future_drop_writable(0, WORDS, 1), Ok(()));
-        }
-        assert_eq!(rt; store.future_cancel_read(1, WORDS, 1), COMPLETED);
-        let read = Err(StoreError::Refused(Refusal::FutureAlreadyRead));
-        assert_eq!(rt; store.future_read(1, WORDS, 1, 0), read);
-        assert_eq!(rt; store.take_event(1, 1), Ok(None));
-    }
-    Ok(())
+fn futures_that_nobody_reads(rt: HostRuntime) {
+    let wrong = first_wrong_of_new(rt.alloc(), LIMITS, &NOBODY_READS);
+    assert_eq!(rt; wrong, 0);
 }
 
-/// The write of a future that nobody reads any more: its end was told so, and may be dropped.
-#[test]
-fn futures_that_nobody_reads(rt: HostRuntime) -> Result<(), Fail> {
-    let mut store = with_future(rt.alloc()).ok().ok_or("a future")?;
-    assert_eq!(rt; store.future_write(0, WORDS, 1, 0), BLOCKED);
-    assert_eq!(rt; store.future_drop_readable(1, WORDS, 1), Ok(()));
-    assert_eq!(rt; store.future_cancel_write(0, WORDS, 1), DROPPED);
-    assert_eq!(rt; store.take_event(0, 1), Ok(None));
-    let written = Err(StoreError::Refused(Refusal::WriteToDroppedFuture));
-    assert_eq!(rt; store.future_write(0, WORDS, 1, 0), written);
-    assert_eq!(rt; store.future_drop_writable(0, WORDS, 1), Ok(()));
-    assert_eq!(rt; store.moved(0), Some(0));
-    Ok(())
-}
+// Both ends in one guest: what the other side may not meet is cancelled.
+const FLAGS_WITHIN_ONE_GUEST: [(Call, Told); 9] = [
+    GUEST_0,
+    (Call::Between(0, 0, FLAGS), Told::Pair(1, 2, 0)),
+    (Call::OnEnd(0, FLAGS, 2, Act::Write(0, 1)), Told::Blocked),
+    (
+        Call::OnEnd(0, FLAGS, 1, Act::Read(4, 1)),
+        Told::Refused(Refusal::IntraComponent),
+    ),
+    (
+        Call::OnEnd(0, FLAGS, 2, Act::CancelWrite),
+        Told::Cancelled(0),
+    ),
+    (Call::OnEnd(0, FLAGS, 1, Act::Read(4, 1)), Told::Blocked),
+    (
+        Call::OnEnd(0, FLAGS, 2, Act::Write(0, 1)),
+        Told::Refused(Refusal::IntraComponent),
+    ),
+    (
+        Call::OnEnd(0, FLAGS, 1, Act::CancelRead),
+        Told::Cancelled(0),
+    ),
+    (
+        Call::OnEnd(0, FLAGS, 1, Act::CancelRead),
+        Told::Refused(Refusal::NoPending),
+    ),
+];
 
-/// Both ends in one guest: what the other side may not meet is cancelled.
 #[test]
-fn flags_within_one_guest(rt: HostRuntime) -> Result<(), Fail> {
-    let mut store = Store::new(rt.alloc(), 0, LIMITS);
-    assert_eq!(rt; store.add_guest(16), Ok(0));
-    let ty = TransmitIndex::Stream(FLAGS);
-    assert!(rt; store.new_between(0, 0, ty).is_ok());
-    assert_eq!(rt; store.stream_write(0, FLAGS, 2, 0, 1), BLOCKED);
-    let within = Err(StoreError::Refused(Refusal::IntraComponent));
-    assert_eq!(rt; store.stream_read(0, FLAGS, 1, 4, 1), within);
-    assert_eq!(rt; store.stream_cancel_write(0, FLAGS, 2), CANCELLED);
-    assert_eq!(rt; store.stream_read(0, FLAGS, 1, 4, 1), BLOCKED);
-    assert_eq!(rt; store.stream_write(0, FLAGS, 2, 0, 1), within);
-    assert_eq!(rt; store.stream_cancel_read(0, FLAGS, 1), CANCELLED);
-    assert_eq!(rt; store.stream_cancel_read(0, FLAGS, 1), NO_PENDING);
-    Ok(())
+fn flags_within_one_guest(rt: HostRuntime) {
+    let wrong = first_wrong_of_new(rt.alloc(), LIMITS, &FLAGS_WITHIN_ONE_GUEST);
+    assert_eq!(rt; wrong, 0);
 }

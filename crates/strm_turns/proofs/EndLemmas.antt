@@ -13,7 +13,7 @@ use Rattle.strm_handles.specs.declared.entries.TransmitEnd.{TransmitEnd}
 use Rattle.strm_handles.specs.declared.errors.HandleError.{HandleError}
 use Rattle.strm_handles.proofs.LookupLemmas.{live_of-removed-stream, live_of-removed-future}
 use Rattle.strm_machine.specs.State as machine
-use Rattle.strm_machine.specs.State.{no_guest, guest_in, with_handles}
+use Rattle.strm_machine.specs.State.{no_guest, guest_in}
 use Rattle.strm_machine.specs.Making.{end_entry}
 use Rattle.strm_machine.specs.declared.streams.Side.{Side}
 use Rattle.strm_machine.specs.declared.streams.Side.TheVariants.{Writing, Reading}
@@ -41,34 +41,34 @@ room_of g = g.table.room
 room_read : (guests : List Guest) (g : ℕ) (x : Guest) → g < length guests → x ≡ get_or guests g x → room_in guests g ≡ x.table.room
 room_read guests g x l e = get_or-map room_of guests g x 0 l ∙ ap room_of (sym e)
 
--- another table in a guest's place, whose room is at most so much less
-pub rooms_after : (guests : List Guest) (g : ℕ) (x : Guest) (table : Table) (d n : ℕ) → g < length guests → x ≡ get_or guests g x → x.table.room ≤ table.room + d → room_in guests n ≤ room_in (set guests g (record { memory = x.memory; table = table })) n + d
-rooms_after guests g x table d n l e h =
-    rw (map-set room_of guests g (record { memory = x.memory; table = table }))
-    (at_most (map room_of guests) g table.room d n (omega (arith, room_read guests g x l e, h)))
+-- another guest in a guest's place, the room of whose table is at most so much less
+pub rooms_after : (guests : List Guest) (g : ℕ) (x y : Guest) (d n : ℕ) → g < length guests → x ≡ get_or guests g x → x.table.room ≤ y.table.room + d → room_in guests n ≤ room_in (set guests g y) n + d
+rooms_after guests g x y d n l e h =
+    rw (map-set room_of guests g y)
+    (at_most (map room_of guests) g y.table.room d n (omega (arith, room_read guests g x l e, h)))
 
-pub room_after : (guests : List Guest) (g : ℕ) (x : Guest) (table : Table) → g < length guests → room_in (set guests g (record { memory = x.memory; table = table })) g ≡ table.room
-room_after guests g x table l =
-    rw (map-set room_of guests g (record { memory = x.memory; table = table }))
-    (get_or-set_same (map room_of guests) g table.room 0 (omega (arith, l, length-map guests room_of)))
+pub room_after : (guests : List Guest) (g : ℕ) (y : Guest) → g < length guests → room_in (set guests g y) g ≡ y.table.room
+room_after guests g y l =
+    rw (map-set room_of guests g y)
+    (get_or-set_same (map room_of guests) g y.table.room 0 (omega (arith, l, length-map guests room_of)))
 
 -- another table of the same handles
-pub seen-same : (guests : List Guest) (g : ℕ) (x : Guest) (table : Table) → g < length guests → x ≡ get_or guests g x → table.handles ≡ x.table.handles → seen (set guests g (record { memory = x.memory; table = table })) ≡ seen guests
+pub seen-same : (guests : List Guest) (g : ℕ) (x : Guest) (table : Table) → g < length guests → x ≡ get_or guests g x → table.handles ≡ x.table.handles → seen (set guests g (record x { table = table })) ≡ seen guests
 seen-same guests g x table l e h =
-    map-set guest_of guests g (record { memory = x.memory; table = table })
-    ∙ ap (λ (k : Handles). set (seen guests) g (record { memory = x.memory; handles = k })) h
+    map-set guest_of guests g (record x { table = table })
+    ∙ ap (λ (k : Handles). set (seen guests) g (record (guest_of x) { handles = k })) h
     ∙ ap (set (seen guests) g) (sym (guest_in-seen guests g x l e))
     ∙ set-get_or (seen guests) g no_guest
 
 -- one live handle more in one table is one more in all
-pub live_after : (guests : List machine.Guest) (g : ℕ) (handles : Handles) → g < length guests → live_of handles ≡ live_of (guest_in guests g).handles + 1 → live_in (with_handles guests g handles) ≡ live_in guests + 1
-live_after guests g handles l h =
-    omega (arith, h, sum_by-set (λ (k : machine.Guest). live_of k.handles) guests g (record (guest_in guests g) { handles = handles }) no_guest l)
+pub live_after : (guests : List machine.Guest) (g : ℕ) (y : machine.Guest) → g < length guests → live_of y.handles ≡ live_of (guest_in guests g).handles + 1 → live_in (set guests g y) ≡ live_in guests + 1
+live_after guests g y l h =
+    omega (arith, h, sum_by-set (λ (k : machine.Guest). live_of k.handles) guests g y no_guest l)
 
 -- one live handle less in one table is one less in all
-pub live_less : (guests : List machine.Guest) (g : ℕ) (handles : Handles) → g < length guests → live_of handles + 1 ≡ live_of (guest_in guests g).handles → live_in (with_handles guests g handles) + 1 ≡ live_in guests
-live_less guests g handles l h =
-    omega (arith, h, sum_by-set (λ (k : machine.Guest). live_of k.handles) guests g (record (guest_in guests g) { handles = handles }) no_guest l)
+pub live_less : (guests : List machine.Guest) (g : ℕ) (y : machine.Guest) → g < length guests → live_of y.handles + 1 ≡ live_of (guest_in guests g).handles → live_in (set guests g y) + 1 ≡ live_in guests
+live_less guests g y l h =
+    omega (arith, h, sum_by-set (λ (k : machine.Guest). live_of k.handles) guests g y no_guest l)
 
 first_ok : {A B : Type 0} (r : Result A HandleError) (next : A → Result B HandleError) → without_value (r >>= next) ≡ Ok tt → IsOk r
 first_ok (Ok x) next e = refl

@@ -4,7 +4,8 @@ use Rattle.std.specs.Prelude.{is_err, OnOk}
 use Rattle.std.proofs.lemmas.List.{get_or-map, map-set}
 use Rattle.strm_handles.specs.Handles.{Table}
 use Rattle.strm_machine.specs.State as machine
-use Rattle.strm_machine.specs.State.{no_guest, guest_in, memory_in, with_memory, with_handles}
+use Rattle.strm_sets.specs.Sets.{Sets}
+use Rattle.strm_machine.specs.State.{no_guest, guest_in, memory_in, with_memory, with_handles, with_sets, with_table}
 use Rattle.strm_turns.specs.Guests.{guest_of, seen}
 use Rattle.strm_turns.specs.declared.guests.Guest.{Guest}
 
@@ -12,15 +13,31 @@ use Rattle.strm_turns.specs.declared.guests.Guest.{Guest}
 pub guest_in-seen : (guests : List Guest) (g : ℕ) (x : Guest) → g < length guests → x ≡ get_or guests g x → guest_in (seen guests) g ≡ guest_of x
 guest_in-seen guests g x l e = get_or-map guest_of guests g x no_guest l ∙ ap guest_of (sym e)
 
-pub seen-with_memory : (guests : List Guest) (g : ℕ) (x : Guest) (memory : List ℕ) → g < length guests → x ≡ get_or guests g x → seen (set guests g (record { memory = memory; table = x.table })) ≡ with_memory (seen guests) g memory
+pub seen-with_memory : (guests : List Guest) (g : ℕ) (x : Guest) (memory : List ℕ) → g < length guests → x ≡ get_or guests g x → seen (set guests g (record x { memory = memory })) ≡ with_memory (seen guests) g memory
 seen-with_memory guests g x memory l e =
-    map-set guest_of guests g (record { memory = memory; table = x.table })
+    map-set guest_of guests g (record x { memory = memory })
     ∙ ap (λ (k : machine.Guest). set (seen guests) g (record k { memory = memory })) (sym (guest_in-seen guests g x l e))
 
-pub seen-with_handles : (guests : List Guest) (g : ℕ) (x : Guest) (table : Table) → g < length guests → x ≡ get_or guests g x → seen (set guests g (record { memory = x.memory; table = table })) ≡ with_handles (seen guests) g table.handles
+pub seen-with_handles : (guests : List Guest) (g : ℕ) (x : Guest) (table : Table) → g < length guests → x ≡ get_or guests g x → seen (set guests g (record x { table = table })) ≡ with_handles (seen guests) g table.handles
 seen-with_handles guests g x table l e =
-    map-set guest_of guests g (record { memory = x.memory; table = table })
+    map-set guest_of guests g (record x { table = table })
     ∙ ap (λ (k : machine.Guest). set (seen guests) g (record k { handles = table.handles })) (sym (guest_in-seen guests g x l e))
+
+pub seen-with_table : (guests : List Guest) (g : ℕ) (x : Guest) (table : Table) (sets : Sets) → g < length guests → x ≡ get_or guests g x → seen (set guests g (record x { table = table; sets = sets })) ≡ with_table (seen guests) g table.handles sets
+seen-with_table guests g x table sets l e =
+    map-set guest_of guests g (record x { table = table; sets = sets })
+    ∙ ap (λ (k : machine.Guest). set (seen guests) g (record k { handles = table.handles; sets = sets })) (sym (guest_in-seen guests g x l e))
+
+pub seen-with_sets : (guests : List Guest) (g : ℕ) (x : Guest) (sets : Sets) → g < length guests → x ≡ get_or guests g x → seen (set guests g (record x { sets = sets })) ≡ with_sets (seen guests) g sets
+seen-with_sets guests g x sets l e =
+    map-set guest_of guests g (record x { sets = sets })
+    ∙ ap (λ (k : machine.Guest). set (seen guests) g (record k { sets = sets })) (sym (guest_in-seen guests g x l e))
+
+-- a guest that became what a function makes of it, as the machine's
+pub seen-made : (guests : List Guest) (g : ℕ) (x y : Guest) (f : machine.Guest → machine.Guest) → g < length guests → x ≡ get_or guests g x → guest_of y ≡ f (guest_of x) → seen (set guests g y) ≡ set (seen guests) g (f (guest_in (seen guests) g))
+seen-made guests g x y f l e h =
+    map-set guest_of guests g y
+    ∙ ap (set (seen guests) g) (h ∙ ap f (sym (guest_in-seen guests g x l e)))
 
 pub memory_in-seen : (guests : List Guest) (g : ℕ) (x : Guest) → g < length guests → x ≡ get_or guests g x → memory_in (seen guests) g ≡ x.memory
 memory_in-seen guests g x l e = ap (λ (k : machine.Guest). k.memory) (guest_in-seen guests g x l e)

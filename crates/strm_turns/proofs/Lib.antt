@@ -1,3 +1,6 @@
 pub mod GuestLemmas
 pub mod CarryingLemmas
 pub mod EndLemmas
+pub mod OwnerLemmas
+pub mod SetLemmas
+pub mod ContextLemmas

@@ -1,20 +1,17 @@
-//! How operations and ends end: an end is told its report, its operation is cancelled, or it is
-//! dropped.
+//! How operations end: an end is told its report, or its operation is cancelled.
 //!
 //! Meaning: `Endings.antt` of `strm_machine`. Source: Canonical ABI, the events of reads and writes,
-//! `canon stream.cancel-{read,write}` and `canon stream.drop-{readable,writable}`; wasmtime,
-//! `guest_cancel_read`, `guest_cancel_write`, `host_drop_writer` and `host_drop_reader`.
+//! and `canon stream.cancel-{read,write}`; wasmtime, `guest_cancel_read` and `guest_cancel_write`.
 
-ghost use Rattle.std.specs.Prelude.{◌≡◌, ◌&&◌, not, Some};
+ghost use Rattle.std.specs.Prelude.{◌≡◌, Some};
 ghost use Rattle.std.specs.Option.{option_map};
 ghost use Rattle.strm_events.specs.Reports.{report_of, cancel_answer};
-ghost use Rattle.strm_machine.specs.State.{is_live};
-ghost use Rattle.strm_machine.specs.Endings.{pending_of, is_other_gone, report_on, told_end, delivered, code_of_cancel, cancelled, dropped};
+ghost use Rattle.strm_machine.specs.Endings.{pending_of, is_other_gone, report_on, told_end, delivered, code_of_cancel, cancelled};
 
 use crate::sides::{end_of, opposite};
 use strm_codes::codes::{ReturnCode, TransmitKind};
 use strm_codes::counts::ItemCount;
-use strm_events::reports::{Pending, cancelled, deliver};
+use strm_events::reports::{Pending, cancelled, deliver, report};
 use strm_machine::streams::{End, Operation, Owner, Side, Stream};
 
 // Of an operation, what its report may depend on.
@@ -40,6 +37,21 @@ fn is_other_gone(side: Side, stream: &Stream) -> bool
     ensures { result ≡ is_other_gone side stream.now }
 {
     end_of(stream, opposite(side)).owner == Owner::Gone
+}
+
+/// What the end on a side is to be told, if anything.
+pub fn report_on(stream: &Stream, side: Side) -> Option<ReturnCode>
+    ensures { result ≡ report_on side stream.now }
+{
+    let end = end_of(stream, side);
+    let pending = pending(&end.operation);
+    report(
+        stream.kind,
+        pending.as_ref(),
+        is_other_gone(side, stream),
+        end.told,
+        stream.passed,
+    )
 }
 
 // Tells an end of a stream its report, if it has one; its operation has ended then.
@@ -105,25 +117,4 @@ pub fn cancel_operation(stream: &mut Stream, side: Side) -> ReturnCode
         Side::Writing => cancel_end(&mut stream.writer, kind, is_other_gone, passed),
         Side::Reading => cancel_end(&mut stream.reader, kind, is_other_gone, passed),
     }
-}
-
-/// Whether an end is there.
-pub fn is_live(stream: &Stream) -> bool
-    ensures { result ≡ is_live stream.now }
-{
-    stream.writer.owner != Owner::Gone || stream.reader.owner != Owner::Gone
-}
-
-/// The end on a side is gone from now on. Answers whether the stream is removed with it.
-#[tactic(auto, unfolding(strm_machine::specs::Endings::dropped))]
-pub fn drop_end(stream: &mut Stream, side: Side) -> bool
-    ensures stream { stream.new ≡ dropped side stream.old }
-    ensures removed { result ≡ is_live stream.old && not (is_live stream.new) }
-{
-    let was_live = is_live(stream);
-    match side {
-        Side::Writing => stream.writer.owner = Owner::Gone,
-        Side::Reading => stream.reader.owner = Owner::Gone,
-    }
-    was_live && !is_live(stream)
 }

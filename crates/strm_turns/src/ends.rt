@@ -1,15 +1,16 @@
 //! The handles of a stream's ends, given and freed.
 //!
-//! Meaning: `Making.antt` of `strm_machine`. Source: Canonical ABI, `canon stream.new`; the room
-//! that is taken before the first insert is ours.
+//! Meaning: `Making.antt` and `Moves.antt` of `strm_machine`. Source: Canonical ABI,
+//! `canon stream.new`, `lift_stream` and `lower_stream`; the room that is taken before the first
+//! insert is ours.
 
 ghost use Rattle.std.specs.Prelude.{◌≡◌, Ok, ◌+◌, ◌^◌, ◌<◌, ◌≤◌, ℕ, length, IfOk, OnOk, OnErr};
-ghost use Rattle.strm_handles.specs.Handles.{next_index, inserted, removed, live_of};
+ghost use Rattle.strm_handles.specs.Handles.{next_index, inserted, live_of};
 ghost use Rattle.strm_handles.specs.Changes.{Inserts, Removes};
 ghost use Rattle.strm_handles.specs.Counters.{counted, uncounted};
-ghost use Rattle.strm_machine.specs.State.{guest_in, with_handles};
+ghost use Rattle.strm_machine.specs.State.{guest_in};
 ghost use Rattle.strm_machine.specs.Making.{end_entry, with_read_end, with_ends};
-ghost use Rattle.strm_turns.specs.Guests.{seen, room_in, live_in, removable};
+ghost use Rattle.strm_turns.specs.Guests.{seen, room_in, live_in, with_end_in, without_handle_in, removable};
 
 use crate::guests::Guest;
 use strm_codes::codes::TransmitIndex;
@@ -66,15 +67,15 @@ fn insert(
     try_insert(table, counter, side, ty, stream).unwrap()
 }
 
-// Room for two handles in a guest's table.
-fn reserve_two(guests: &mut Vec<Guest>, guest: usize) -> Result<(), OutOfMemory>
+// Room for so many handles in a guest's table.
+pub(crate) fn reserve(guests: &mut Vec<Guest>, guest: usize, needed: u32) -> Result<(), OutOfMemory>
     requires { guest < length guests.old.items }
     ensures seen { seen guests.new.items ≡ seen guests.old.items }
     ensures count { length guests.new.items ≡ length guests.old.items }
-    ensures room { OnOk result (2 ≤ room_in guests.new.items guest) }
+    ensures room { OnOk result (needed ≤ room_in guests.new.items guest) }
     ensures rooms { (n : ℕ) → room_in guests.old.items n ≤ room_in guests.new.items n }
 {
-    match guests[guest].table.reserve(2) {
+    match guests[guest].table.reserve(needed) {
         Ok(()) => Ok(()),
         Err(_) => Err(OutOfMemory),
     }
@@ -94,8 +95,8 @@ fn insert_end(
     requires small { next_index (guest_in (seen guests.old.items) guest).handles < 2 ^ 28 }
     requires below { counter.old.live < counter.old.limit }
     ensures number { result ≡ next_index (guest_in (seen guests.old.items) guest).handles }
-    ensures guests { seen guests.new.items ≡ with_handles (seen guests.old.items) guest
-        (inserted (guest_in (seen guests.old.items) guest).handles (end_entry side ty stream)) }
+    ensures guests { seen guests.new.items
+        ≡ with_end_in (seen guests.old.items) guest side ty stream }
     ensures counter { counter.new ≡ counted counter.old }
     ensures rooms { (n : ℕ) → room_in guests.old.items n ≤ room_in guests.new.items n + 1 }
     ensures live { live_in (seen guests.new.items) ≡ live_in (seen guests.old.items) + 1 }
@@ -134,11 +135,11 @@ pub fn insert_ends(
     ensures count { length guests.new.items ≡ length guests.old.items }
 {
     let same = ty;
-    match reserve_two(guests, reader) {
+    match reserve(guests, reader, 2) {
         Ok(()) => {}
         Err(error) => return Err(error),
     }
-    match reserve_two(guests, writer) {
+    match reserve(guests, writer, 2) {
         Ok(()) => {}
         Err(error) => return Err(error),
     }
@@ -175,18 +176,87 @@ fn try_remove(
     Ok(())
 }
 
-/// Frees the handle of an end that the table shows idle, in its guest's table.
+/// Frees the handle of an end that the table shows idle, in its guest's table; it leaves the set that
+/// it is in.
 pub fn remove_end(guests: &mut Vec<Guest>, counter: &mut HandleCounter, side: Side, end: &NamedEnd)
     requires there { end.now.guest < length guests.old.items }
     requires idle { removable side end.now.ty (guest_in (seen guests.old.items) end.now.guest).handles
         end.now.handle ≡ Ok tt }
     requires live { live_in (seen guests.old.items) ≤ counter.old.live }
-    ensures guests { seen guests.new.items ≡ with_handles (seen guests.old.items) end.now.guest
-        (removed (guest_in (seen guests.old.items) end.now.guest).handles end.now.handle) }
+    ensures guests { seen guests.new.items
+        ≡ without_handle_in (seen guests.old.items) end.now.guest end.now.handle }
     ensures counter { counter.new ≡ uncounted counter.old }
+    ensures rooms { (n : ℕ) → room_in guests.old.items n ≤ room_in guests.new.items n }
     ensures live { live_in (seen guests.new.items) + 1 ≡ live_in (seen guests.old.items) }
     ensures count { length guests.new.items ≡ length guests.old.items }
 {
-    let table = &mut guests[end.guest as usize].table;
-    try_remove(table, counter, side, end.ty, end.handle).unwrap()
+    let guest = &mut guests[end.guest as usize];
+    try_remove(&mut guest.table, counter, side, end.ty, end.handle).unwrap();
+    guest.sets.leave(end.handle);
+}
+
+/// The handle of an end in a guest's table: answers its number. After want of memory nothing has
+/// changed.
+pub fn give_end(
+    guests: &mut Vec<Guest>,
+    counter: &mut HandleCounter,
+    guest: usize,
+    side: Side,
+    ty: TransmitIndex,
+    stream: u32,
+) -> Result<u32, OutOfMemory>
+    requires there { guest < length guests.old.items }
+    requires small { next_index (guest_in (seen guests.old.items) guest).handles < 2 ^ 28 }
+    requires below { counter.old.live < counter.old.limit }
+    ensures number { IfOk result (λ number. number
+        ≡ next_index (guest_in (seen guests.old.items) guest).handles) }
+    ensures guests { OnOk result (seen guests.new.items
+        ≡ with_end_in (seen guests.old.items) guest side ty stream) }
+    ensures counter { OnOk result (counter.new ≡ counted counter.old) }
+    ensures live { OnOk result
+        (live_in (seen guests.new.items) ≡ live_in (seen guests.old.items) + 1) }
+    ensures err { OnErr result (seen guests.new.items ≡ seen guests.old.items) }
+    ensures kept { OnErr result (counter.new ≡ counter.old) }
+    ensures count { length guests.new.items ≡ length guests.old.items }
+{
+    match reserve(guests, guest, 1) {
+        Ok(()) => Ok(insert_end(guests, counter, guest, side, ty, stream)),
+        Err(error) => Err(error),
+    }
+}
+
+/// Frees the handle of an end that its guest's table shows idle, and gives the end one in another
+/// guest's table, or in the same: answers its number. As many handles are live as before. After want
+/// of memory nothing has changed.
+pub fn move_end(
+    guests: &mut Vec<Guest>,
+    counter: &mut HandleCounter,
+    side: Side,
+    end: &NamedEnd,
+    to: usize,
+    stream: u32,
+) -> Result<u32, OutOfMemory>
+    requires from { end.now.guest < length guests.old.items }
+    requires to { to < length guests.old.items }
+    requires idle { removable side end.now.ty (guest_in (seen guests.old.items) end.now.guest).handles
+        end.now.handle ≡ Ok tt }
+    requires small { next_index (guest_in (without_handle_in (seen guests.old.items) end.now.guest
+        end.now.handle) to).handles < 2 ^ 28 }
+    requires live { live_in (seen guests.old.items) ≤ counter.old.live }
+    requires limit { counter.old.live ≤ counter.old.limit }
+    ensures number { IfOk result (λ number. number ≡ next_index (guest_in (without_handle_in
+        (seen guests.old.items) end.now.guest end.now.handle) to).handles) }
+    ensures guests { OnOk result (seen guests.new.items ≡ with_end_in (without_handle_in
+        (seen guests.old.items) end.now.guest end.now.handle) to side end.now.ty stream) }
+    ensures counter { counter.new ≡ counter.old }
+    ensures live { live_in (seen guests.new.items) ≡ live_in (seen guests.old.items) }
+    ensures err { OnErr result (seen guests.new.items ≡ seen guests.old.items) }
+    ensures count { length guests.new.items ≡ length guests.old.items }
+{
+    match reserve(guests, to, 1) {
+        Ok(()) => {}
+        Err(error) => return Err(error),
+    }
+    remove_end(guests, counter, side, end);
+    Ok(insert_end(guests, counter, to, side, end.ty, stream))
 }

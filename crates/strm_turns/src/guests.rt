@@ -1,4 +1,4 @@
-//! Guests: a memory and a handle table each.
+//! Guests: a memory, a handle table and waitable sets each.
 //!
 //! Source: wasmtime, the component instances that a store keeps.
 
@@ -12,12 +12,14 @@ use std::alloc::Global;
 use std::mem;
 use strm_handles::tables::HandleTable;
 use strm_memory::memories::GuestMemory;
+use strm_sets::sets::WaitableSets;
 
 /// A guest.
 #[derive(Drop)]
 pub struct Guest {
     pub memory: GuestMemory,
     pub table: HandleTable,
+    pub sets: WaitableSets,
 }
 
 /// The memory of a guest.

@@ -1,1 +1,2 @@
 pub mod TransmitLemmas
+pub mod BufferLemmas

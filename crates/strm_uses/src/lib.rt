@@ -3,6 +3,7 @@
 //! Each clause says what the caller then knows. The crates' `CALLING.md` quote these callers.
 #![tactic(auto)]
 
+pub mod buffers;
 pub mod handles;
 pub mod memory;
 pub mod resources;

@@ -8,8 +8,8 @@
 ghost use Rattle.std.specs.Prelude.{◌≡◌, ◌≢◌, ◌<◌, length, Err, None, IfOk, IfErr};
 ghost use Rattle.strm_codes.specs.declared.codes.TransmitIndex.TheVariants as index;
 ghost use Rattle.strm_machine.specs.Tests.{named, end_named, stream_named, side_named};
-ghost use Rattle.strm_machine.specs.Refusals.{refusal};
-ghost use Rattle.strm_machine.specs.Reactions.{goes, tells, drops, cancels, react, reaction};
+ghost use Rattle.strm_machine.specs.Refusals.{refusal, first_of, slot_reasons};
+ghost use Rattle.strm_machine.specs.Reactions.{goes, tells, cancels, react, reaction};
 ghost use Rattle.strm_machine.specs.declared.acts.Act.TheVariants.{OnEnd, Event};
 ghost use Rattle.strm_machine.specs.declared.acts.EndAct.TheVariants.{Drop, Cancel};
 ghost use Rattle.strm_machine.specs.declared.replies.Reply.TheVariants as replies;
@@ -26,14 +26,17 @@ use strm_codes::refusals::Refusal;
 use strm_handles::entries::TransmitLocalState;
 use strm_handles::errors::HandleError;
 use strm_machine::acts::{EndAct, NamedEnd};
-use strm_machine::streams::Side;
-use strm_turns::endings::{cancel_operation, deliver_report, drop_end};
-use strm_turns::ends::remove_end;
+use strm_machine::streams::{Owner, Side};
+use strm_turns::endings::{cancel_operation, deliver_report};
 
 impl Store {
     // The stream and the end that a handle names, whatever its type.
     #[inline(always)]
-    fn end_name(&self, guest: u32, handle: u32) -> Result<(u32, TransmitLocalState), HandleError>
+    pub(crate) fn end_name(
+        &self,
+        guest: u32,
+        handle: u32,
+    ) -> Result<(u32, TransmitLocalState), HandleError>
         requires { guest < length self.now.guests }
         ensures answer { result ≡ end_named self.now guest handle }
         ensures there { IfOk result (λ name. name.0 < length self.now.streams) }
@@ -44,6 +47,22 @@ impl Store {
 
     // The same as a refusal or the stream and the side of the end.
     #[inline(always)]
+    pub(crate) fn end_found(&self, guest: u32, handle: u32) -> Result<(u32, Side), Refusal>
+        requires { guest < length self.now.guests }
+        ensures exact { result ≡ or_found (first_of (slot_reasons (end_named self.now guest handle)))
+            (stream_named (end_named self.now guest handle), side_named (end_named self.now guest handle)) }
+        ensures there { IfOk result (λ found. found.0 < length self.now.streams) }
+    {
+        match self.end_name(guest, handle) {
+            Ok(name) => Ok((name.0, side_of(name.1))),
+            Err(HandleError::UnknownHandle) => Err(Refusal::UnknownHandle),
+            Err(HandleError::WrongKind) => Err(Refusal::WrongKind),
+            Err(_) => unreachable!(),
+        }
+    }
+
+    // The end that is to be told what it has to be told.
+    #[inline(always)]
     #[tactic(auto, unfolding(strm_machine::specs::Refusals::refusal))]
     fn event_found(&self, guest: u32, handle: u32) -> Result<(u32, Side), Refusal>
         ensures exact { result ≡ or_found (refusal self.now (Event guest handle))
@@ -53,17 +72,12 @@ impl Store {
         if guest as usize >= self.guests.len() {
             return Err(Refusal::UnknownGuest);
         }
-        match self.end_name(guest, handle) {
-            Ok(name) => Ok((name.0, side_of(name.1))),
-            Err(HandleError::UnknownHandle) => Err(Refusal::UnknownHandle),
-            Err(HandleError::WrongKind) => Err(Refusal::WrongKind),
-            Err(_) => unreachable!(),
-        }
+        self.end_found(guest, handle)
     }
 
     // An end of a stream is told its report, if it has one.
     #[inline(always)]
-    fn tell(&mut self, stream: u32, side: Side) -> Option<ReturnCode>
+    pub(crate) fn tell(&mut self, stream: u32, side: Side) -> Option<ReturnCode>
         requires { stream < length self.old.streams }
         ensures { tells self.old stream side ≡ goes (replies.Event result) self.new }
     {
@@ -96,18 +110,6 @@ impl Store {
         self.found(side, end, EndAct::Drop)
     }
 
-    // A guest's handle is freed, and the end of a stream that it names is gone.
-    fn drop_named(&mut self, side: Side, end: &NamedEnd, stream: u32)
-        requires may { refusal self.old (OnEnd side end.now Drop) ≡ None }
-        requires stream { stream ≡ stream_named (named self.old end.now) }
-        ensures { drops self.old stream side end.now ≡ goes replies.Done self.new }
-    {
-        let (guests, counter) = (&mut self.guests, &mut self.counter);
-        remove_end(guests, counter, side, end);
-        let is_removed = drop_end(&mut self.streams[stream as usize], side);
-        self.live_streams -= u32::from(is_removed);
-    }
-
     /// Drops the end that a handle names, which is gone then; a stream whose both ends are gone is
     /// removed at once.
     pub(crate) fn drop_side(&mut self, side: Side, end: &NamedEnd) -> Result<(), StoreError>
@@ -117,7 +119,7 @@ impl Store {
     {
         match self.admit(self.drop_found(side, end)) {
             Ok(stream) => {
-                self.drop_named(side, end, stream);
+                self.release(side, end, stream, Owner::Gone);
                 Ok(())
             }
             Err(error) => Err(error),

@@ -3,7 +3,7 @@
 //! Meaning: the making of a stream between two guests, `Making.antt` of `strm_machine`. Source:
 //! Canonical ABI, `canon stream.new` and `canon future.new`; two guests at once are ours.
 
-ghost use Rattle.std.specs.Prelude.{◌≡◌, ◌<◌, ◌||◌, ◌++◌, ◌∷◌, [], false, length, vec_len, Err, None};
+ghost use Rattle.std.specs.Prelude.{◌≡◌, ◌<◌, ◌+◌, ◌*◌, nat_lt, ◌||◌, ◌++◌, ◌∷◌, [], false, length, vec_len, Err, None};
 ghost use Rattle.std.specs.Vec.{vec_capacity};
 ghost use Rattle.strm_codes.specs.Types.{kind_of, payload_of};
 ghost use Rattle.strm_codes.specs.declared.codes.TransmitIndex.{TransmitIndex};
@@ -65,6 +65,15 @@ fn made_stream(ty: TransmitIndex, writer: End, reader: End) -> Stream
     }
 }
 
+// Whether so many places more would pass a limit, beside those of so many streams, sets and error
+// contexts.
+fn pass_limit(limit: u32, streams: u32, sets: u32, contexts: usize, needed: u32) -> bool
+    ensures { result ≡ nat_lt limit (3 * streams + sets + contexts + needed) }
+{
+    let taken = 3 * u128::from(streams) + u128::from(sets) + contexts as u128;
+    u128::from(limit) < taken + u128::from(needed)
+}
+
 // One item more, in room that is there.
 fn place<T: Copy>(items: &mut Vec<T>, item: &T)
     requires { vec_len items.old < vec_capacity items.old }
@@ -101,18 +110,30 @@ impl Store {
     }
 
     // Whether so many handles more would pass the limit.
-    fn are_handles_full(&self, needed: u32) -> bool
+    pub(crate) fn are_handles_full(&self, needed: u32) -> bool
         ensures { result ≡ are_handles_full self.now needed }
     {
         (self.limits.handles as u128) < self.counter.live() as u128 + u128::from(needed)
+    }
+
+    // Whether so many places more would pass the limit.
+    pub(crate) fn are_places_full(&self, needed: u32) -> bool
+        ensures { result ≡ are_places_full self.now needed }
+    {
+        pass_limit(
+            self.limits.places,
+            self.live_streams,
+            self.live_sets,
+            self.contexts.len(),
+            needed,
+        )
     }
 
     // Whether a stream more would pass the limit on places, or have no number.
     fn are_streams_full(&self) -> bool
         ensures { result ≡ are_places_full self.now 3 || are_streams_full self.now }
     {
-        u64::from(self.limits.places) < 3 * u64::from(self.live_streams) + 3
-            || self.streams.len() >= MOST_STREAMS
+        self.are_places_full(3) || self.streams.len() >= MOST_STREAMS
     }
 
     // Whether a stream may be made between two guests.

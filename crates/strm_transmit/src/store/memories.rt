@@ -18,6 +18,7 @@ use strm_codes::refusals::Refusal;
 use strm_handles::tables::HandleTable;
 use strm_machine::chunks::Chunk;
 use strm_memory::memories::GuestMemory;
+use strm_sets::sets::WaitableSets;
 use strm_turns::guests::{Guest, read_bytes, write_bytes};
 
 /// The bytes of all memories together, at most.
@@ -60,6 +61,7 @@ impl Store {
         self.guests.push_reserved(Guest {
             memory,
             table: HandleTable::new(self.alloc),
+            sets: WaitableSets::new(self.alloc),
         });
         self.bytes += size;
         Ok(number)

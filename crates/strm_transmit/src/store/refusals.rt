@@ -7,7 +7,7 @@ ghost use Rattle.std.specs.Prelude.{◌≡◌, ◌<◌, ◌++◌, length, IfOk, 
 ghost use Rattle.strm_codes.specs.Types.{payload_of};
 ghost use Rattle.strm_memory.specs.Items.{is_number_or_none};
 ghost use Rattle.strm_machine.specs.State.{stream_at};
-ghost use Rattle.strm_machine.specs.Tests.{named, stream_named, side_named, side_of, has_ended, owes_value, is_within_one_guest};
+ghost use Rattle.strm_machine.specs.Tests.{named, stream_named, side_named, side_of, has_ended, owes_value, is_spent, is_within_one_guest};
 ghost use Rattle.strm_machine.specs.Refusals.{first_of, ended_refusal, handle_reasons, end_reasons_of, own_reasons_of, own_reasons};
 ghost use Rattle.strm_machine.proofs.NameLemmas.{IsNameError};
 ghost use Rattle.strm_transmit.specs.Meets.{or_found};
@@ -115,6 +115,13 @@ fn owes_value(side: Side, kind: TransmitKind, stream: &Stream) -> bool
     }
 }
 
+// Whether an end was told that the other one is gone, or its value passed.
+fn is_spent(side: Side, stream: &Stream) -> bool
+    ensures { result ≡ is_spent side stream.now }
+{
+    end_of(stream, side).told || stream.passed
+}
+
 // Why this may not be done to an end now.
 #[inline(always)]
 fn own_refusal(
@@ -129,11 +136,14 @@ fn own_refusal(
     match act {
         EndAct::Operate { .. } => end_refusal(side, end, stream, named_side),
         _ if !same_side(side, named_side) => Some(Refusal::WrongEnd),
-        EndAct::Drop if is_busy(side, stream) => Some(Refusal::Busy),
+        EndAct::Cancel if !is_busy(side, stream) => Some(Refusal::NoPending),
+        EndAct::Cancel => None,
+        _ if is_busy(side, stream) => Some(Refusal::Busy),
         EndAct::Drop if owes_value(side, end.ty.kind(), stream) => Some(
             Refusal::FutureWithoutValue,
         ),
-        EndAct::Cancel if !is_busy(side, stream) => Some(Refusal::NoPending),
+        EndAct::Drop => None,
+        _ if is_spent(side, stream) => Some(Refusal::LiftDropped),
         _ => None,
     }
 }

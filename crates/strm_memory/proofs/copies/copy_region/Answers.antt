@@ -1,4 +1,4 @@
-use Rattle.std.proofs.Common.{[], ◌∷◌, drop, refl, sym, arith}
+use Rattle.std.proofs.Common.{rules, [], ◌∷◌, drop, refl, sym, arith}
 use Rattle.strm_memory.proofs.CopyLemmas.{items-no_char, number_no_char, numbers_copied_at, nothing_copied_at, never_none}
 use Rattle.strm_memory.proofs.copies.copy_region.Goals as goal
 
@@ -16,3 +16,6 @@ returns-in-One-clause-ok c =
 pub returns-in-One-clause-bad : goal.returns-in-One-clause-bad
 returns-in-One-clause-bad c =
     rw c.in-One.is (never_none _ (items-no_char (c.in-One.scalar ∷ []) c.args.count (drop c.args.from c.args.source.now) (number_no_char c.in-One.scalar (sym c.if-is_whole_number.ensures))))
+
+pub returns-in-One-clause-numbers : goal.returns-in-One-clause-numbers
+returns-in-One-clause-numbers c = search rules

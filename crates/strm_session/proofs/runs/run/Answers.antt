@@ -16,7 +16,7 @@ returns-in-Err-clause-stop c =
     rw c.stopped.ensures (record {
       state = stop.0;
       before = stop.1;
-      kept = front_kept c.laws_hold.ensures.laws c.laws_hold.ensures.aside c.args.steps.now (length told) told stop.0 c.requires.few c.in-Err.ensures.bytes stop.1;
+      kept = front_kept c.laws_hold.ensures.laws c.laws_hold.ensures.aside c.laws_hold.ensures.put c.args.steps.now (length told) told stop.0 c.requires.few c.in-Err.ensures.bytes stop.1;
       at = stop.2;
     })
 
@@ -32,7 +32,7 @@ returns-in-Ok-clause-stop c =
     (λ stop e. rw e (record {
       state = state;
       before = before;
-      kept = front_kept c.laws_hold.ensures.laws c.laws_hold.ensures.aside steps (length told) told state c.requires.few c.in-Ok.ensures.bytes before;
+      kept = front_kept c.laws_hold.ensures.laws c.laws_hold.ensures.aside c.laws_hold.ensures.put steps (length told) told state c.requires.few c.in-Ok.ensures.bytes before;
       at = ([], state, ap (play [] start) more ∙ c.in-Ok.ensures.ok ∙ ap (λ t. Ends t state) (sym (append-nil told)));
     }))
     c.finished.ensures.stop
@@ -41,7 +41,7 @@ pub returns-in-Ok-clause-kept : goal.returns-in-Ok-clause-kept
 returns-in-Ok-clause-kept c =
     let all = take_all (length c.play_steps.new.replies) c.args.steps.now (omega (arith, c.in-Ok.ensures.all)) in
     let bytes = subst (All HasBytes) all c.in-Ok.ensures.bytes in
-    let kept = run_kept c.laws_hold.ensures.laws c.laws_hold.ensures.aside c.args.steps.now c.play_steps.new.replies c.play_steps.new.store c.requires.few bytes c.in-Ok.ensures.ok in
+    let kept = run_kept c.laws_hold.ensures.laws c.laws_hold.ensures.aside c.laws_hold.ensures.put c.args.steps.now c.play_steps.new.replies c.play_steps.new.store c.requires.few bytes c.in-Ok.ensures.ok in
     IfOk-weaker c.finished.result _ _ (λ t e. rw (e.0, e.1) kept) c.finished.ensures.ok
 
 pub returns-in-Err-clause-bad_item : goal.returns-in-Err-clause-bad_item

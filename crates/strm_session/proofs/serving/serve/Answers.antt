@@ -1,6 +1,12 @@
-use Rattle.std.proofs.Common.{inl}
+use Rattle.std.proofs.Common.{rules, inl}
 use Rattle.strm_session.proofs.ServingLemmas.{told_done, told_bad_item, told_bad_line, told_too_long, told_usage}
 use Rattle.strm_session.proofs.serving.serve.Goals as goal
+
+pub returns-in-Ok-write_whole-clause-told : goal.returns-in-Ok-write_whole-clause-told
+returns-in-Ok-write_whole-clause-told g c = search rules
+
+pub returns-in-Ok-clause-nothing : goal.returns-in-Ok-clause-nothing
+returns-in-Ok-clause-nothing g c = search rules
 
 pub returns-in-Ok-write_whole-clause-complete : goal.returns-in-Ok-write_whole-clause-complete
 returns-in-Ok-write_whole-clause-complete g c = λ input steps f s long items.

@@ -18,12 +18,12 @@ returns-clause-guests c =
 
 pub returns-clause-rooms : goal.returns-clause-rooms
 returns-clause-rooms c = λ n.
-    rooms_after c.args.guests.now.items c.args.guest c.index_mut.result.now c.insert.new.table 1 n c.requires.there c.index_mut.ensures.value c.insert.ensures.room
+    rooms_after c.args.guests.now.items c.args.guest c.index_mut.result.now (record c.index_mut.result.now { table = c.insert.new.table }) 1 n c.requires.there c.index_mut.ensures.value c.insert.ensures.room
 
 pub returns-clause-live : goal.returns-clause-live
 returns-clause-live c =
     let guests = c.args.guests.now.items in
     let read = guest_in-seen guests c.args.guest c.index_mut.result.now c.requires.there c.index_mut.ensures.value in
     ap live_in (seen-with_handles guests c.args.guest c.index_mut.result.now c.insert.new.table c.requires.there c.index_mut.ensures.value)
-    ∙ live_after (seen guests) c.args.guest c.insert.new.table.handles (omega (arith, c.requires.there, length-map guests guest_of))
+    ∙ live_after (seen guests) c.args.guest (record (guest_in (seen guests) c.args.guest) { handles = c.insert.new.table.handles }) (omega (arith, c.requires.there, length-map guests guest_of))
     (omega (arith, c.insert.ensures.live, ap (λ (k : machine.Guest). live_of k.handles) read))

@@ -1,14 +1,9 @@
-use Rattle.std.proofs.Common.{length, arith, ap}
-use Rattle.strm_codes.specs.Layout.{scalars_of}
-use Rattle.strm_buffers.proofs.ListingLemmas.{lie_none}
+use Rattle.std.proofs.Common.{arith}
+use Rattle.strm_buffers.proofs.MarkLemmas.{over_memory}
 use Rattle.strm_buffers.proofs.windows.Window.over.Goals as goal
 
 pub invariant_of-result : goal.invariant_of-result
-invariant_of-result c =
-    let n = ap length c.into_bytes.ensures in
-    record { lie = (lie_none (scalars_of c.args.payload) c.into_bytes.result.items c.args.address (omega (arith, n, c.requires))).lie; inside = (omega arith, omega (arith, n, c.requires), omega (arith, c.ranges.room.fits)) }
+invariant_of-result c = (over_memory c.args.payload c.args.memory c.into_bytes-bytes.result.items c.new.result.items _ c.args.address _ c.into_bytes-bytes.ensures c.new.ensures.items (omega (arith, c.requires)) (omega (arith, c.ranges.room.fits))).is_window
 
-pub returns-clause-marked : goal.returns-clause-marked
-returns-clause-marked c =
-    let n = ap length c.into_bytes.ensures in
-    (lie_none (scalars_of c.args.payload) c.into_bytes.result.items c.args.address (omega (arith, n, c.requires))).is
+pub returns : goal.returns
+returns c = (over_memory c.args.payload c.args.memory c.into_bytes-bytes.result.items c.new.result.items 0 c.args.address _ c.into_bytes-bytes.ensures c.new.ensures.items (omega (arith, c.requires)) (omega (arith, c.ranges.room.fits))).is

@@ -1,10 +1,8 @@
-use Rattle.std.proofs.Common.{length, arith, ap, refl}
-use Rattle.strm_codes.specs.Layout.{scalars_of}
-use Rattle.strm_buffers.proofs.ListingLemmas.{lie_none}
+use Rattle.strm_buffers.proofs.MarkLemmas.{over_nothing}
 use Rattle.strm_buffers.proofs.windows.Window.unbounded.Goals as goal
 
 pub invariant_of-result : goal.invariant_of-result
-invariant_of-result c = record { lie = (lie_none (scalars_of c.args.payload) c.new.result.items 0 (omega arith)).lie; inside = (refl, omega (arith, ap length c.new.ensures.items), omega arith, refl) }
+invariant_of-result c = (over_nothing c.args.payload c.new.result.items c.new-2.result.items _ c.new.ensures.items c.new-2.ensures.items).is_window
 
-pub returns-clause-marked : goal.returns-clause-marked
-returns-clause-marked c = (lie_none (scalars_of c.args.payload) c.new.result.items 0 (omega arith)).is
+pub returns : goal.returns
+returns c = (over_nothing c.args.payload c.new.result.items c.new-2.result.items 0 c.new.ensures.items c.new-2.ensures.items).is

@@ -1,4 +1,4 @@
-use Rattle.std.proofs.Common.{arith}
+use Rattle.std.proofs.Common.{rules, arith}
 use Rattle.strm_handles.proofs.ChainLemmas.{slot_freed, few_free}
 use Rattle.strm_handles.proofs.slots.Slots.remove.Goals as goal
 
@@ -19,3 +19,6 @@ returns-clause-handles g c =
     let here = rw (← c.self.view_is) at c.requires.here in
     rw (← c.self.view_is)
     (slot_freed t.slots.items t.free t.first c.args.number here c.self.invariant).1
+
+pub returns-clause-live : goal.returns-clause-live
+returns-clause-live g c = search rules

@@ -57,7 +57,7 @@ invariant_of-self-in-Ok-Some c =
     let home = get_or_read more c.in-Ok-Some.home c.index_mut-in-Ok-Some.result.now (omega (arith, length-set s.sets.items c.args.set c.add_member.new.slot)) c.index_mut-in-Ok-Some.ensures.value None in
     let apart = another s.homes c.args.set c.args.handle c.in-Ok-Some.home (not_yet s.sets.items s.homes c.args.self.now c.args.set c.args.handle c.self.view_is (sym c.is_member.ensures ∙ c.if-is_member.false)) was in
     tied-moved s.sets.items s.homes s.hint c.self.invariant c.args.handle c.args.set c.add_member.new.slot there c.add_member.ensures.there (rw (← at) c.in_ok-add_member.ensures.ok)
-    c.insert.new.self c.in-Ok-Some.home c.remove_member.new.slot was apart c.in-Ok-Some.ensures.updates (c.remove_member.ensures.there ∙ ap is_some home) (rw (← home) c.remove_member.ensures.others)
+    c.in-Ok-Some.home c.remove_member.new.slot (c.remove_member.ensures.there ∙ ap is_some home) (rw (← home) c.remove_member.ensures.others) c.insert.new.self was apart c.in-Ok-Some.ensures.updates
 
 pub invariant_of-self-in-Ok-None : goal.invariant_of-self-in-Ok-None
 invariant_of-self-in-Ok-None c =

@@ -3,7 +3,7 @@ use Rattle.strm_machine.specs.Endings.{cancelled}
 use Rattle.strm_machine.specs.State.{stream_at}
 use Rattle.strm_machine.specs.Soundness.{sizes_of}
 use Rattle.strm_machine.specs.declared.streams.Stream.{Stream}
-use Rattle.strm_machine.proofs.SideLemmas.{cancelled-keeps}
+use Rattle.strm_machine.proofs.EndingLemmas.{cancelled-keeps}
 use Rattle.strm_turns.specs.Guests.{seen}
 use Rattle.strm_transmit.specs.Inside.{state_of}
 use Rattle.strm_transmit.proofs.StoreLemmas.{stream_at-there}
@@ -18,10 +18,11 @@ invariant_of-self c =
     IsStore-set c.self.inside _ c.args.stream (cancelled c.args.side stream) there
     (cancelled-keeps c.args.side (sizes_of (seen c.self.inside.guests.items)) stream)
     (record {
-      same = record { tag = refl; limits = refl; trapped = refl };
+      same = record { tag = refl; limits = refl; contexts = refl; trapped = refl };
       counter = refl;
       guests = refl;
       live_streams = refl;
+      live_sets = refl;
       bytes = refl;
       streams = ap (set c.self.inside.streams.items c.args.stream) (c.cancel_operation.ensures.stream ∙ ap (λ (s : Stream). cancelled c.args.side s) (sym here));
     })

@@ -1,22 +1,28 @@
-use Rattle.std.proofs.Common.{◌∙◌}
-use Rattle.strm_machine.specs.Reactions.{drops}
+use Rattle.std.proofs.Common.{sym, ap, ◌∙◌}
+use Rattle.strm_machine.specs.Endings.{dropped}
+use Rattle.strm_machine.specs.Reactions.{goes, drops}
 use Rattle.strm_machine.specs.declared.acts.EndAct.TheVariants.{Drop}
-use Rattle.strm_machine.proofs.ReactionLemmas.{performs-on_end}
+use Rattle.strm_machine.specs.declared.replies.Reply.TheVariants as replies
+use Rattle.strm_machine.proofs.ReactionLemmas.{refusal-on_end, performs-on_end}
+use Rattle.strm_machine.proofs.RefusalLemmas.{drop_fits}
 use Rattle.strm_transmit.proofs.StepLemmas.{is_admitted, reacts, meets_not_admitted}
 use Rattle.strm_transmit.proofs.store.Store.drop_side.Goals as goal
 
-pub drop_named-requires-clause-may : goal.drop_named-requires-clause-may
-drop_named-requires-clause-may c = (is_admitted _ _ _ _ _ c.drop_found.ensures.exact c.in-Ok.ensures.exact).none
+pub release-requires-clause-fits : goal.release-requires-clause-fits
+release-requires-clause-fits c =
+    drop_fits c.args.self.now c.args.side c.args.end.now
+    (sym (refusal-on_end c.args.self.now c.args.side c.args.end.now Drop) ∙ (is_admitted _ _ _ _ _ c.drop_found.ensures.exact c.in-Ok.ensures.exact).none)
 
-pub drop_named-requires-clause-stream : goal.drop_named-requires-clause-stream
-drop_named-requires-clause-stream c = (is_admitted _ _ _ _ _ c.drop_found.ensures.exact c.in-Ok.ensures.exact).same
+pub release-requires-clause-stream : goal.release-requires-clause-stream
+release-requires-clause-stream c = (is_admitted _ _ _ _ _ c.drop_found.ensures.exact c.in-Ok.ensures.exact).same
 
 pub returns-in-Ok-clause-meets : goal.returns-in-Ok-clause-meets
+unfolding dropped
 returns-in-Ok-clause-meets c =
     reacts _ _ _ _ _ (λ s. drops c.args.self.now s c.args.side c.args.end.now)
     (is_admitted _ _ _ _ _ c.drop_found.ensures.exact c.in-Ok.ensures.exact)
     (performs-on_end c.args.self.now c.args.side c.args.end.now Drop)
-    ∙ c.drop_named.ensures
+    ∙ ap (goes replies.Done) (sym c.release.ensures)
 
 pub returns-in-Err-clause-meets : goal.returns-in-Err-clause-meets
 returns-in-Err-clause-meets c = meets_not_admitted _ _ _ _ _ c.drop_found.ensures.exact c.in-Err.ensures.exact

@@ -16,8 +16,10 @@ invariant_of-self c =
     (record {
       tag = refl;
       limits = refl;
+      contexts = refl;
       counter = refl;
       live_streams = refl;
+      live_sets = refl;
       bytes = refl;
       guests = sym (ap (λ (t : Turn). t.guests) e);
       streams = sym (ap (λ (t : Turn). set c.self.inside.streams.items c.args.stream t.stream) e);
@@ -33,8 +35,10 @@ invariant_of-self-in-Err c =
     (record {
       tag = refl;
       limits = refl;
+      contexts = refl;
       counter = refl;
       live_streams = refl;
+      live_sets = refl;
       bytes = refl;
       guests = sym (ap (λ (t : Turn). t.guests) e);
       streams = sym (ap (λ (t : Turn). set c.self.inside.streams.items c.args.stream t.stream) e);

@@ -1,0 +1,167 @@
+-- Items marked one after another, and an offer's taken one after another.
+use Rattle.std.proofs.Common.{◌≡◌, ℕ, ◌+◌, ◌*◌, ◌<◌, ◌≤◌, List, [], ◌∷◌, ◌++◌, length, take, drop, Bool, true, false, Option, Some, None, refl, sym, ap, ◌∙◌, arith, append_assoc, length-drop}
+use Rattle.std.proofs.lemmas.List.{length-take-le, take_more, take-append-drop}
+use Rattle.std.proofs.Math.Nat.{mul-le-mul_left}
+use Rattle.std.proofs.Math.Seq.{take-append-add, drop-append-add}
+use Rattle.std.proofs.lemmas.Option.{get_or_from_slice_get, slice_get_within}
+use Rattle.std.specs.Prelude.{slice_get, IsSome, option_and_then, nat_lt, if◌then◌else◌}
+use Rattle.std.specs.Option.{option_map}
+use Rattle.strm_codes.specs.Layout.{scalars_of, item_size}
+use Rattle.strm_codes.specs.declared.scalars.Scalar.{Scalar}
+use Rattle.strm_codes.specs.declared.payloads.Payload.{Payload}
+use Rattle.strm_memory.specs.Items.{decode, encode, items, stored, items_at, stored_at}
+use Rattle.strm_memory.proofs.AppendLemmas.{items_at-more}
+use Rattle.strm_memory.proofs.RegionLemmas.{length-items, length-stored}
+use Rattle.strm_buffers.specs.Listing.{Item, listed}
+use Rattle.strm_buffers.specs.Windows.{Lent, Place, Memory, Between, HasRoom, with_items, stored_in, IsSoundPlace}
+use Rattle.strm_buffers.specs.Offers.{Offered, item_behind, after_next}
+use Rattle.strm_buffers.specs.Tells.{Fills, SameOffer, first_lent}
+use Rattle.strm_buffers.specs.Polling.{AreGood}
+use Rattle.strm_buffers.specs.declared.sources.Source.{Source}
+use Rattle.strm_buffers.specs.declared.sources.Source.TheVariants.{Region, Listed}
+use Rattle.strm_buffers.proofs.EndLemmas.{Fills-same}
+
+-- the next of a list behind those before it
+pub take_next : {A : Type 0} (xs : List A) (i : ℕ) (x : A) → slice_get xs i ≡ Some x → take i xs ++ x ∷ [] ≡ take (i + 1) xs
+take_next xs i x e = sym (ap (λ y. take i xs ++ y ∷ []) (get_or_from_slice_get xs i x x e)) ∙ sym (take_more xs i x (slice_get_within xs i x e))
+
+-- the bytes with an item at their front are as many
+encoded_size : (ss : List Scalar) (bytes : List ℕ) (x : Item) → item_size ss ≤ length bytes → length (encode ss bytes x) ≡ length bytes
+unfolding stored
+encoded_size ss bytes x h =
+    ap length (sym (take-append-drop (item_size ss) (encode ss bytes x))) ∙ length-stored ss bytes (x ∷ []) (omega (arith, h))
+
+-- items stored behind others
+stored-behind : (ss : List Scalar) (bytes : List ℕ) (xs ys : List Item) → item_size ss * length xs ≤ length bytes → take (item_size ss * length xs) (stored ss bytes xs) ++ stored ss (drop (item_size ss * length xs) (stored ss bytes xs)) ys ≡ stored ss bytes (xs ++ ys)
+unfolding stored
+stored-behind ss bytes [] ys h = let none : item_size ss * 0 ≡ 0 = omega arith in rw none refl
+stored-behind ss bytes (x ∷ xs) ys h =
+    let w = item_size ss in
+    let e = encode ss bytes x in
+    let k = w * length xs in
+    let rest = stored ss (drop w e) xs in
+    let more : w * length (x ∷ xs) ≡ w + k = omega arith in
+    let room : w + k ≤ length bytes = omega (arith, h) in
+    let n : length e ≡ length bytes = encoded_size ss bytes x (omega (arith, room)) in
+    let front : length (take w e) ≡ w = length-take-le w e (omega (arith, n, room)) in
+    let place : w + k ≡ length (take w e) + k = omega (arith, front) in
+    let first : take (w + k) (take w e ++ rest) ≡ take w e ++ take k rest = ap (λ j. take j (take w e ++ rest)) place ∙ take-append-add (take w e) rest k in
+    let last : drop (w + k) (take w e ++ rest) ≡ drop k rest = ap (λ j. drop j (take w e ++ rest)) place ∙ drop-append-add (take w e) rest k in
+    let there = stored-behind ss (drop w e) xs ys (omega (arith, n, room, length-drop w e)) in
+    rw (more, first, last) (append_assoc (take w e) (take k rest) (stored ss (drop k rest) ys) ∙ ap (λ l. take w e ++ l) there)
+
+-- and in a memory
+pub stored_at-behind : (ss : List Scalar) (m : List ℕ) (a : ℕ) (xs ys : List Item) → a + item_size ss * length xs ≤ length m → stored_at ss (stored_at ss m a xs) (a + item_size ss * length xs) ys ≡ stored_at ss m a (xs ++ ys)
+stored_at-behind ss m a xs ys h =
+    let k = item_size ss * length xs in
+    let rest = stored ss (drop a m) xs in
+    let front : length (take a m) ≡ a = length-take-le a m (omega (arith, h)) in
+    let place : a + k ≡ length (take a m) + k = omega (arith, front) in
+    let first : take (a + k) (take a m ++ rest) ≡ take a m ++ take k rest = ap (λ j. take j (take a m ++ rest)) place ∙ take-append-add (take a m) rest k in
+    let last : drop (a + k) (take a m ++ rest) ≡ drop k rest = ap (λ j. drop j (take a m ++ rest)) place ∙ drop-append-add (take a m) rest k in
+    let there = stored-behind ss (drop a m) xs ys (omega (arith, h, length-drop a m)) in
+    rw (first, last) (append_assoc (take a m) (take k rest) (stored ss (drop k rest) ys) ∙ ap (λ l. take a m ++ l) there)
+
+module _ (payload : Payload) where
+  -- the place with items, and then with more
+  stored_in-behind : (place : Place) (prepared : Bool) (n : ℕ) (xs ys : List Item) → IsSoundPlace payload place prepared → HasRoom place n (length xs) → stored_in (scalars_of payload) (stored_in (scalars_of payload) place n xs) (n + length xs) ys ≡ stored_in (scalars_of payload) place n (xs ++ ys)
+  stored_in-behind Between prepared n xs ys s h = refl
+  stored_in-behind (Memory memory address room) prepared n xs ys s h =
+      let w = item_size (scalars_of payload) in
+      let sizes : w * (n + length xs) ≡ w * n + w * length xs = grind arith in
+      let fit : w * (n + length xs) ≤ w * room = mul-le-mul_left w h in
+      let place : address + w * (n + length xs) ≡ address + w * n + w * length xs = omega (arith, sizes) in
+      ap (λ m. Memory m address room) (rw place (stored_at-behind (scalars_of payload) memory (address + w * n) xs ys (omega (arith, sizes, fit, s.0))))
+
+-- room for so many is room for fewer
+pub room_fewer : (place : Place) (n k : ℕ) → HasRoom place 0 n → k ≤ n → HasRoom place 0 k
+room_fewer (Memory memory address room) n k h l = omega (arith, h, l)
+room_fewer Between n k h l = omega (arith, h, l)
+
+-- the first so many items are marked, where none were
+pub record MarksFirst (w v : Lent) (xs : List Item) (n : ℕ) : Type 0 where
+  pub fills : Fills w v
+  pub marked : v.marked ≡ take n xs
+
+-- none of them
+pub marks_none : (w : Lent) (xs : List Item) → w.marked ≡ [] → MarksFirst w w xs 0
+marks_none w xs m = record { fills = Fills-same w; marked = m }
+
+-- one more of them
+pub mark_next : (w v u : Lent) (xs : List Item) (x : Item) (i count : ℕ) → w.marked ≡ [] → HasRoom w.place 0 count → IsSoundPlace w.payload w.place w.prepared → i < count → MarksFirst w v xs i → slice_get xs i ≡ Some x → u ≡ with_items v (x ∷ []) → MarksFirst w u xs (i + 1)
+mark_next w v u xs x i count m h s l f g p =
+    let ss = scalars_of w.payload in
+    let size : length (take i xs) ≡ i = length-take-le i xs (omega (arith, slice_get_within xs i x g)) in
+    let room : HasRoom w.place 0 (length (take i xs)) = rw size (room_fewer w.place count i h (omega (arith, l))) in
+    let none : 0 + length (take i xs) ≡ length (take i xs) = omega arith in
+    let before : v.place ≡ stored_in ss w.place 0 (take i xs) = f.fills.place ∙ rw (m, f.marked) refl in
+    let marked : u.marked ≡ take (i + 1) xs = ap (λ (y : Lent). y.marked) p ∙ ap (λ ys. ys ++ x ∷ []) f.marked ∙ take_next xs i x g in
+    let place : u.place ≡ stored_in ss w.place 0 (take (i + 1) xs) =
+    ap (λ (y : Lent). y.place) p ∙ rw (f.fills.payload, before, f.marked, ← none) (stored_in-behind w.payload w.place w.prepared 0 (take i xs) (x ∷ []) s room) ∙ ap (stored_in ss w.place 0) (take_next xs i x g) in
+    record {
+      fills = record {
+        payload = ap (λ (y : Lent). y.payload) p ∙ f.fills.payload;
+        place = place ∙ rw (m, marked) refl;
+        marked = rw m refl;
+        prepared = ap (λ (y : Lent). y.prepared) p ∙ f.fills.prepared;
+      };
+      marked = marked;
+    }
+
+-- no items are good
+pub good_none : (ss : List Scalar) (source : Source) → AreGood ss source 0
+unfolding items
+good_none ss (Region memory address count) = refl
+good_none ss (Listed items) = omega arith
+
+-- one item lies where it is decoded
+one_there : (ss : List Scalar) (bytes : List ℕ) (x : Item) → decode ss bytes ≡ Some x → items ss bytes 1 ≡ Some (x ∷ [])
+unfolding items
+one_there ss bytes x e = ap (option_and_then (λ y. option_map (λ ys. y ∷ ys) (Some []))) e
+
+good_more : (ss : List Scalar) (memory : List ℕ) (address n : ℕ) (x : Item) (o : Option (List Item)) → items_at ss memory address n ≡ o → IsSome o → decode ss (drop (address + item_size ss * n) memory) ≡ Some x → IsSome (items_at ss memory address (n + 1))
+good_more ss memory address n x None e i d = cc
+good_more ss memory address n x (Some xs) e i d =
+    rw (items_at-more ss memory address n 1 xs (x ∷ []) e (one_there ss (drop (address + item_size ss * n) memory) x d)) refl
+
+-- one more item is good
+pub good_next : (ss : List Scalar) (source : Source) (n : ℕ) (x : Item) → AreGood ss source n → item_behind ss source n ≡ Some x → AreGood ss source (n + 1)
+good_next ss (Region memory address count) n x g e =
+    good_more ss memory address n x (items_at ss memory address n) refl g (decoded (nat_lt n count) e)
+  where
+    decoded : (b : Bool) → (if b then decode ss (drop (address + item_size ss * n) memory) else None) ≡ Some x → decode ss (drop (address + item_size ss * n) memory) ≡ Some x
+    decoded true q = q
+    decoded false q = cc
+good_next ss (Listed items) n x g e = omega (arith, slice_get_within items.items n x e)
+
+-- an offer of which one item more is taken
+pub record TakenNext (o : Offered) (ss : List Scalar) (source : Source) (n : ℕ) : Type 0 where
+  pub taken : o.taken ≡ n
+  pub not_bad : o.bad ≡ false
+  pub good : AreGood ss source n
+
+module _ (old o new : Offered) (n : ℕ) (x : Item) (next : Option Item) where
+  pub taken_next : SameOffer old o → TakenNext o (scalars_of old.payload) old.source n → next ≡ item_behind (scalars_of o.payload) o.source o.taken → next ≡ Some x → new ≡ after_next o next → SameOffer old new × TakenNext new (scalars_of old.payload) old.source (n + 1)
+  taken_next s t e p a =
+      let is : new ≡ record o { taken = o.taken + 1 } = a ∙ ap (after_next o) p in
+      let there : item_behind (scalars_of old.payload) old.source n ≡ Some x = rw (← s.payload, ← s.source, ← t.taken) (sym e ∙ p) in (
+        record {
+          payload = ap (λ (y : Offered). y.payload) is ∙ s.payload;
+          source = ap (λ (y : Offered). y.source) is ∙ s.source;
+          since = ap (λ (y : Offered). y.since) is ∙ s.since;
+        },
+        record {
+          taken = ap (λ (y : Offered). y.taken) is ∙ ap (λ k. k + 1) t.taken;
+          not_bad = ap (λ (y : Offered). y.bad) is ∙ t.not_bad;
+          good = good_next (scalars_of old.payload) old.source n x t.good there;
+        },
+      )
+
+-- as many items as were taken
+pub length-first_lent : (ss : List Scalar) (source : Source) (n : ℕ) → AreGood ss source n → length (first_lent ss source n) ≡ n
+length-first_lent ss (Region memory address count) n g = counted (items_at ss memory address n) refl g
+  where
+    counted : (o : Option (List Item)) → items_at ss memory address n ≡ o → IsSome o → length (listed o) ≡ n
+    counted None e i = cc
+    counted (Some xs) e i = length-items ss (drop address memory) n xs e
+length-first_lent ss (Listed items) n g = length-take-le n items.items g

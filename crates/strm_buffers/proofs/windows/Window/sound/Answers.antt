@@ -1,0 +1,5 @@
+use Rattle.strm_buffers.proofs.SoundLemmas.{place_sound}
+use Rattle.strm_buffers.proofs.windows.Window.sound.Goals as goal
+
+pub returns : goal.returns
+returns c = place_sound c.self.inside.payload c.self.inside.bytes.items c.self.inside.kept.items _ c.self.inside.address c.self.inside.marked c.self.inside.room c.self.inside.is_prepared c.args.self.now c.self.invariant c.self.view_is

@@ -1,0 +1,94 @@
+//! What host ends do in a poll: mark the items that there is room for, and take so many.
+//!
+//! Source: ours.
+
+ghost use Rattle.std.specs.Prelude.{◌≡◌, ◌+◌, ◌≤◌, false, [], length, take, drop, IfOk, OnOk, OnErr};
+ghost use Rattle.strm_codes.specs.Layout.{scalars_of};
+ghost use Rattle.strm_buffers.specs.Windows.{Between, room_of, HasRoom};
+ghost use Rattle.strm_buffers.specs.Said.{in_room, past_room};
+ghost use Rattle.strm_buffers.specs.Tells.{Fills, first_lent};
+ghost use Rattle.strm_buffers.specs.Polling.{TakesUpTo};
+
+use crate::items::Items;
+use crate::offers::Offer;
+use crate::windows::Window;
+use std::alloc::Global;
+use strm_codes::counts::OutOfMemory;
+
+/// Marks the first of these items, as many as there is room for: their number. `OutOfMemory` comes
+/// only between host ends, and then none is marked.
+pub fn mark_in_room(alloc: Global, window: &mut Window, items: &Items) -> Result<usize, OutOfMemory>
+    requires payload { items.now.payload ≡ window.old.payload }
+    requires nothing_marked { window.old.marked ≡ [] }
+    ensures marked { OnOk result (window.new.marked ≡
+        in_room (room_of window.old.place) items.now.items) }
+    ensures count { IfOk result (λ count. count ≤ length items.now.items) }
+    ensures behind { IfOk result (λ count. drop count items.now.items ≡
+        past_room (room_of window.old.place) items.now.items) }
+    ensures unmarked { OnErr result (window.new.marked ≡ []) }
+    ensures out_of_memory { OnErr result (window.old.place ≡ Between) }
+    ensures fills { Fills window.old window.new }
+{
+    let count = count_in_room(window, items);
+    match mark_first(window, items, count) {
+        Ok(()) => Ok(count),
+        // Only between host ends, where a new window is the same with none marked.
+        Err(error) => {
+            let payload = window.payload();
+            *window = Window::unbounded(alloc, payload);
+            Err(error)
+        }
+    }
+}
+
+// How many of these items there is room for, where none is marked.
+fn count_in_room(window: &Window, items: &Items) -> usize
+    ensures most { result ≤ length items.now.items }
+    ensures room { HasRoom window.now.place 0 result }
+    ensures first { take result items.now.items ≡ in_room (room_of window.now.place) items.now.items }
+    ensures behind { drop result items.now.items ≡ past_room (room_of window.now.place) items.now.items }
+{
+    window.sound();
+    match window.room() {
+        Some(room) => items.len().min(room as usize),
+        None => items.len(),
+    }
+}
+
+// Marks so many of the first of these items.
+fn mark_first(window: &mut Window, items: &Items, count: usize) -> Result<(), OutOfMemory>
+    requires payload { items.now.payload ≡ window.old.payload }
+    requires there { count ≤ length items.now.items }
+    requires nothing_marked { window.old.marked ≡ [] }
+    requires room { HasRoom window.old.place 0 count }
+    ensures ok { OnOk result (window.new.marked ≡ take count items.now.items) }
+    ensures fills { Fills window.old window.new }
+    ensures out_of_memory { OnErr result (window.old.place ≡ Between) }
+{
+    window.sound();
+    for index in 0..count {
+        let item = items.get(index);
+        match window.put(&item) {
+            Ok(()) => {}
+            Err(error) => return Err(error),
+        }
+    }
+    Ok(())
+}
+
+/// Takes as many items as are wanted or left; it stops at a bad one, and does not take that.
+pub fn take_up_to(offer: &mut Offer, wanted: u32)
+    requires nothing_taken { offer.old.taken ≡ 0 }
+    requires not_bad { offer.old.bad ≡ false }
+    ensures takes { TakesUpTo wanted offer.old offer.new }
+    ensures counted { length (first_lent (scalars_of offer.old.payload) offer.old.source offer.new.taken)
+        ≡ offer.new.taken }
+{
+    let count = wanted.min(offer.remaining());
+    for _ in 0..count {
+        match offer.next() {
+            Some(_) => {}
+            None => return,
+        }
+    }
+}

@@ -1,0 +1,42 @@
+-- What a host reader end with a credit tells, and what it answers. Ours.
+use Rattle.std.specs.Prelude.{ℕ, ◌==◌, Bool, true, false, ◌&&◌, ◌||◌, nat_lt, if◌then◌else◌, [], map, Some, None}
+use Rattle.strm_codes.specs.declared.codes.TransmitKind.{TransmitKind}
+use Rattle.strm_codes.specs.declared.codes.TransmitKind.TheVariants.{Stream, Future}
+use Rattle.strm_codes.specs.declared.payloads.Payload.{Payload}
+use Rattle.strm_buffers.specs.declared.answers.Answer.{Answer}
+use Rattle.strm_buffers.specs.declared.answers.Answer.TheVariants.{Pending, Completed, Cancelled, Dropped}
+use Rattle.strm_buffers.specs.Tells.{ReaderTells}
+use Rattle.strm_buffers_tests.specs.declared.credit_reader.CreditReader.{CreditReader}
+
+-- what it tells: not the items that it took
+abbrev pub credit_tells : CreditReader → ReaderTells
+credit_tells reader =
+    record {
+      kind = reader.kind;
+      payload = reader.payload;
+      said = reader.said.items;
+      holds = None;
+      faults = 0;
+      closed = reader.closed;
+      heard = Some (map (λ grant. (grant.records, grant.count)) reader.heard.items);
+    }
+
+-- what it tells before its first poll and its first grant
+abbrev pub unpolled_reader : TransmitKind → Payload → ReaderTells
+unpolled_reader kind payload =
+    record { kind = kind; payload = payload; said = []; holds = None; faults = 0; closed = false; heard = Some [] }
+
+-- of a stream, not of a future
+abbrev pub is_stream : TransmitKind → Bool
+is_stream Stream = true
+is_stream Future = false
+
+-- what it answers with this credit left, ended or not, after it took so many of the items offered:
+-- Dropped where nothing can come any more, Completed where it took some or has credit for more than
+-- was offered, and else by whether it was asked to finish
+abbrev pub credit_answer : TransmitKind → ℕ → Bool → ℕ → ℕ → Bool → Answer
+credit_answer kind credit ended offered taken finish =
+    if is_stream kind && ((credit == 0) && ended) then Dropped
+    else if nat_lt 0 taken || (is_stream kind && ((offered == 0) && nat_lt 0 credit)) then Completed
+    else if finish then Cancelled
+    else Pending

@@ -1,0 +1,3 @@
+pub mod LoneLemmas
+pub mod KeptLemmas
+pub mod HeldLemmas

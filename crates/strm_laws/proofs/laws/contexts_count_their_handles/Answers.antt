@@ -1,0 +1,6 @@
+-- Error contexts count their handles after whichever steps.
+use Rattle.strm_laws.proofs.Handles.{contexts_count}
+use Rattle.strm_laws.proofs.laws.contexts_count_their_handles.Goals as goal
+
+pub returns : goal.returns
+returns c tag limits run = contexts_count tag limits run

@@ -1,0 +1,6 @@
+-- Members of sets are live after whichever steps.
+use Rattle.strm_laws.proofs.Handles.{members_are_live}
+use Rattle.strm_laws.proofs.laws.members_are_live.Goals as goal
+
+pub returns : goal.returns
+returns c tag limits run = members_are_live tag limits run

@@ -1,0 +1,188 @@
+-- The store after an end of a stream has another owner, and its handle was freed, given or neither.
+use Rattle.std.proofs.Common.{◌≡◌, ℕ, ◌+◌, ◌-◌, ◌<◌, ◌≤◌, true, false, List, length, set, None, refl, sym, ap, ◌∙◌, subst, inl, ⊎_elim, arith}
+use Rattle.std.specs.Prelude.{count_by, is_ok}
+use Rattle.std.proofs.lemmas.Bool.{cases_lt}
+use Rattle.std.proofs.lemmas.List.{get_or_past}
+use Rattle.strm_codes.specs.declared.codes.TransmitIndex.{TransmitIndex}
+use Rattle.strm_handles.specs.Counters.{Counter, counted, uncounted}
+use Rattle.strm_sets.specs.Sets.{left}
+use Rattle.strm_machine.specs.State.{Guest, State, sets_in, no_stream, stream_at, is_loose, is_live, sets_in_use}
+use Rattle.strm_machine.specs.Sides.{end_of}
+use Rattle.strm_machine.specs.Moves.{without_handle, next_in, with_owner}
+use Rattle.strm_machine.specs.Tests.{named, end_named, stream_named}
+use Rattle.strm_machine.specs.Refusals.{refusal}
+use Rattle.strm_machine.specs.Reactions.{Reaction, goes, transfers, lowers, performs}
+use Rattle.strm_machine.specs.Soundness.{sizes_of, IsSound}
+use Rattle.strm_machine.specs.declared.acts.NamedEnd.{NamedEnd}
+use Rattle.strm_machine.specs.declared.acts.Act.{Act}
+use Rattle.strm_machine.specs.declared.acts.Act.TheVariants.{OnEnd, OnLoose}
+use Rattle.strm_machine.specs.declared.acts.EndAct.TheVariants.{Move}
+use Rattle.strm_machine.specs.declared.acts.LooseAct.TheVariants.{Lower, Close}
+use Rattle.strm_machine.specs.declared.replies.Reply.TheVariants as replies
+use Rattle.strm_machine.specs.declared.streams.Owner.{Owner}
+use Rattle.strm_machine.specs.declared.streams.Owner.TheVariants.{Held}
+use Rattle.strm_machine.specs.declared.streams.Side.{Side}
+use Rattle.strm_machine.specs.declared.streams.Side.TheVariants.{Reading}
+use Rattle.strm_machine.proofs.ReactionLemmas.{reaction-performs}
+use Rattle.strm_machine.proofs.RefusalLemmas.{lower_fits, close_fits}
+use Rattle.strm_machine.proofs.SoundLemmas.{IsSound-set, IsSound-freed, sizes_of-with_table, sizes_of-with_handles}
+use Rattle.strm_machine.proofs.SoundStepLemmas.{reaction-sound}
+use Rattle.strm_turns.specs.Guests.{seen, live_in, sets_among, without_handle_in, with_end_in}
+use Rattle.strm_transmit.specs.Inside.{state_of, IsStore}
+use Rattle.strm_transmit.specs.declared.store.Store.TheInside.{Inside}
+use Rattle.strm_transmit.proofs.StoreLemmas.{SameBut, IsStore-stream, sets-with_table}
+
+-- an end of stream s has another owner
+pub record SetsOwner (old new : Inside) (s : ℕ) (side : Side) (owner : Owner) : Type 0 where
+  pub same : SameBut old new
+  pub bytes : new.bytes ≡ old.bytes
+  pub live_sets : new.live_sets ≡ old.live_sets
+  pub counted : new.live_streams ≡ count_by is_live new.streams.items
+  pub streams : new.streams.items ≡ set old.streams.items s (with_owner side (stream_at (state_of old) s) owner)
+
+-- the handles of guests stay, and their counter
+pub record KeepsHandles (old new : Inside) : Type 0 where
+  pub counter : new.counter ≡ old.counter
+  pub guests : new.guests ≡ old.guests
+
+-- a handle of a guest is freed and counted off
+pub record FreesHandle (old new : Inside) (g handle : ℕ) : Type 0 where
+  pub counter : new.counter ≡ uncounted old.counter
+  pub live : live_in (seen new.guests.items) + 1 ≡ live_in (seen old.guests.items)
+  pub guests : seen new.guests.items ≡ without_handle_in (seen old.guests.items) g handle
+
+module _ (old new : Inside) (s : ℕ) (side : Side) (owner : Owner) (l : s < length old.streams.items) (o : SetsOwner old new s side owner) (i : IsStore old) where
+  -- the stream alone
+  owned : IsSound (record (state_of old) { streams = new.streams.items })
+  owned = rw o.streams (IsSound-set (state_of old) s side (record (end_of side (stream_at (state_of old) s)) { owner = owner }) l (inl refl) i.sound)
+
+  sound_of : (guests : List Guest) → seen new.guests.items ≡ guests → IsSound (record (state_of old) { guests = guests; streams = new.streams.items }) → IsSound (state_of new)
+  sound_of guests e h = record {
+    named = rw e h.named;
+    placed = rw e h.placed;
+    small = rw e h.small;
+    sets = rw e h.sets;
+    contexts = rw (e, o.same.contexts) h.contexts;
+  }
+
+  -- as many sets as there were
+  as_many : sets_among (seen new.guests.items) ≡ sets_among (seen old.guests.items) → new.live_sets ≡ sets_in_use (state_of new)
+  as_many e = o.live_sets ∙ i.sets ∙ sym e
+
+  pub IsStore-owned : KeepsHandles old new → IsStore new
+  IsStore-owned h =
+      IsStore-stream old new s _
+      (record {
+        limit = rw (h.counter, o.same.limits) i.limit;
+        live = rw (h.counter, h.guests) i.live;
+        within = rw h.counter i.within;
+        sizes = rw h.guests refl;
+        bytes = o.bytes;
+        counted = o.counted;
+        sets = as_many (ap (λ (g : _). sets_among (seen g.items)) h.guests);
+        streams = o.streams;
+      })
+      (sound_of (seen old.guests.items) (ap (λ (g : _). seen g.items) h.guests) owned) i
+
+  pub IsStore-released : (g handle : ℕ) → is_ok (end_named (state_of old) g handle) ≡ true → FreesHandle old new g handle → IsStore new
+  IsStore-released g handle ok h =
+      IsStore-stream old new s _
+      (record {
+        limit = rw (h.counter, o.same.limits) i.limit;
+        live = ap (λ (c : Counter). c.live) h.counter ∙ fewer _ _ _ i.live h.live;
+        within = rw h.counter (less _ _ i.within);
+        sizes = ap sizes_of h.guests ∙ sizes_of-with_table (seen old.guests.items) g _ _;
+        bytes = o.bytes;
+        counted = o.counted;
+        sets = as_many (ap sets_among h.guests ∙ sets-with_table (seen old.guests.items) g _ _ refl);
+        streams = o.streams;
+      })
+      (sound_of _ h.guests (IsSound-freed (record (state_of old) { streams = new.streams.items }) g handle ok owned)) i
+    where
+      fewer : (c n m : ℕ) → c ≡ n → m + 1 ≡ n → c - 1 ≡ m
+      fewer c n m e f = omega (arith, e, f)
+
+      less : (c n : ℕ) → c ≤ n → c - 1 ≤ n
+      less c n e = omega (arith, e)
+
+-- ## Handles that are given
+
+-- a handle of a guest is freed, and one is given to a guest
+pub record MovesHandle (old new : Inside) (side : Side) (end : NamedEnd) (to s : ℕ) : Type 0 where
+  pub counter : new.counter ≡ old.counter
+  pub live : live_in (seen new.guests.items) ≡ live_in (seen old.guests.items)
+  pub guests : seen new.guests.items ≡ with_end_in (without_handle_in (seen old.guests.items) end.guest end.handle) to side end.ty s
+
+-- a handle is given and counted
+pub record GivesHandle (old new : Inside) (side : Side) (ty : TransmitIndex) (to s : ℕ) : Type 0 where
+  pub counter : new.counter ≡ counted old.counter
+  pub live : live_in (seen new.guests.items) ≡ live_in (seen old.guests.items) + 1
+  pub guests : seen new.guests.items ≡ with_end_in (seen old.guests.items) to side ty s
+
+-- a step that nothing refuses leaves a sound state
+performs-sound : (state : State) (act : Act) → state.trapped ≡ false → refusal state act ≡ None → IsSound state → IsSound (performs state act).state
+performs-sound state act t e h = subst (λ (r : Reaction). IsSound r.state) (reaction-performs state act t e) (reaction-sound state act h)
+
+transfers-sound : (state : State) (side : Side) (end : NamedEnd) (to s : ℕ) → state.trapped ≡ false → refusal state (OnEnd side end (Move to)) ≡ None → s ≡ stream_named (named state end) → IsSound state → IsSound (transfers state s side end to).state
+unfolding performs
+transfers-sound state side end to s t e same h = rw same (performs-sound state (OnEnd side end (Move to)) t e h)
+
+lowers-sound : (state : State) (reader g : ℕ) (ty : TransmitIndex) → state.trapped ≡ false → refusal state (OnLoose reader (Lower g ty)) ≡ None → IsSound state → IsSound (lowers state reader g ty).state
+unfolding performs
+lowers-sound state reader g ty t e h = performs-sound state (OnLoose reader (Lower g ty)) t e h
+
+-- the end of a stream went to a guest, under this handle
+module _ (old new : Inside) (s : ℕ) (side : Side) (end : NamedEnd) (to number : ℕ) (o : SetsOwner old new s side (Held to number)) (m : MovesHandle old new side end to s) (n : number ≡ next_in (without_handle (state_of old) end.guest end.handle) to) where
+  pub transfers-is : transfers (state_of old) s side end to ≡ goes (replies.Number number) (state_of new)
+  transfers-is = rw (o.same.tag, o.same.limits, o.same.contexts, o.same.trapped, m.guests, o.streams, n) refl
+
+  pub IsStore-moved : old.is_trapped ≡ false → refusal (state_of old) (OnEnd side end (Move to)) ≡ None → s ≡ stream_named (named (state_of old) end) → IsStore old → IsStore new
+  IsStore-moved t e same i =
+      let sound = transfers-sound (state_of old) side end to s t e same i.sound in
+      IsStore-stream old new s _
+      (record {
+        limit = rw (m.counter, o.same.limits) i.limit;
+        live = ap (λ (c : Counter). c.live) m.counter ∙ i.live ∙ sym m.live;
+        within = rw m.counter i.within;
+        sizes = ap sizes_of m.guests ∙ sizes_of-with_handles (without_handle_in (seen old.guests.items) end.guest end.handle) to _ ∙ sizes_of-with_table (seen old.guests.items) end.guest _ _;
+        bytes = o.bytes;
+        counted = o.counted;
+        sets = o.live_sets ∙ i.sets ∙ sym (ap sets_among m.guests ∙ sets-with_table (without_handle_in (seen old.guests.items) end.guest end.handle) to _ (sets_in (without_handle_in (seen old.guests.items) end.guest end.handle) to) refl ∙ sets-with_table (seen old.guests.items) end.guest _ (left (sets_in (seen old.guests.items) end.guest) end.handle) refl);
+        streams = o.streams;
+      })
+      (subst (λ (r : Reaction). IsSound r.state) transfers-is sound) i
+
+-- ## Loose ends
+
+loose_made : (state : State) (reader : ℕ) → is_loose (stream_at state reader).reader.owner ≡ true → reader < length state.streams
+loose_made state reader e =
+    ⊎_elim (λ l. l) (λ l. let past : stream_at state reader ≡ no_stream = get_or_past state.streams reader no_stream l in let no = rw past at e in cc) (cases_lt reader (length state.streams))
+
+-- a loose end that may be dropped, and one that may be lowered, is one of a stream that was made
+pub close_made : (state : State) (reader : ℕ) → refusal state (OnLoose reader Close) ≡ None → reader < length state.streams
+close_made state reader e = loose_made state reader (close_fits state reader e)
+
+pub lower_made : (state : State) (reader g : ℕ) (ty : TransmitIndex) → refusal state (OnLoose reader (Lower g ty)) ≡ None → reader < length state.streams
+lower_made state reader g ty e = loose_made state reader (lower_fits state reader g ty e).loose
+
+-- a loose end came into a guest, under this handle
+module _ (old new : Inside) (s g : ℕ) (ty : TransmitIndex) (number : ℕ) (o : SetsOwner old new s Reading (Held g number)) (m : GivesHandle old new Reading ty g s) (n : number ≡ next_in (state_of old) g) where
+  pub lowers-is : lowers (state_of old) s g ty ≡ goes (replies.Number number) (state_of new)
+  lowers-is = rw (o.same.tag, o.same.limits, o.same.contexts, o.same.trapped, m.guests, o.streams, n) refl
+
+  pub IsStore-lowered : old.is_trapped ≡ false → refusal (state_of old) (OnLoose s (Lower g ty)) ≡ None → IsStore old → IsStore new
+  IsStore-lowered t e i =
+      let fits = lower_fits (state_of old) s g ty e in
+      let sound = lowers-sound (state_of old) s g ty t e i.sound in
+      IsStore-stream old new s _
+      (record {
+        limit = rw (m.counter, o.same.limits) i.limit;
+        live = omega (arith, ap (λ (c : Counter). c.live) m.counter, i.live, m.live);
+        within = rw m.counter (omega (arith, fits.handles, i.limit, i.live));
+        sizes = ap sizes_of m.guests ∙ sizes_of-with_handles (seen old.guests.items) g _;
+        bytes = o.bytes;
+        counted = o.counted;
+        sets = o.live_sets ∙ i.sets ∙ sym (ap sets_among m.guests ∙ sets-with_table (seen old.guests.items) g _ (sets_in (seen old.guests.items) g) refl);
+        streams = o.streams;
+      })
+      (subst (λ (r : Reaction). IsSound r.state) lowers-is sound) i

@@ -1,0 +1,38 @@
+use Rattle.std.proofs.Common.{refl, arith}
+use Rattle.std.proofs.lemmas.List.{length-map}
+use Rattle.strm_machine.proofs.SetStepLemmas.{set_fits}
+use Rattle.strm_turns.specs.Guests.{guest_of}
+use Rattle.strm_transmit.specs.Inside.{state_of}
+use Rattle.strm_transmit.proofs.SetLemmas.{IsStore-made_set}
+use Rattle.strm_transmit.proofs.store.Store.make_set.Goals as goal
+
+pub give_set-requires-clause-there : goal.give_set-requires-clause-there
+give_set-requires-clause-there c =
+    let fits = set_fits (state_of c.self.inside) c.args.guest (rw (← c.self.view_is) at c.requires) in
+    omega (arith, fits.there, length-map c.self.inside.guests.items guest_of)
+
+pub give_set-requires-clause-small : goal.give_set-requires-clause-small
+give_set-requires-clause-small c = (set_fits (state_of c.self.inside) c.args.guest (rw (← c.self.view_is) at c.requires)).number
+
+pub give_set-requires-clause-below : goal.give_set-requires-clause-below
+give_set-requires-clause-below c =
+    let fits = set_fits (state_of c.self.inside) c.args.guest (rw (← c.self.view_is) at c.requires) in
+    omega (arith, fits.handles, c.self.invariant.limit, c.self.invariant.live)
+
+pub one_more-self-inside-requires : goal.one_more-self-inside-requires
+one_more-self-inside-requires c =
+    let fits = set_fits (state_of c.self.inside) c.args.guest (rw (← c.self.view_is) at c.requires) in
+    omega (arith, fits.places, c.self.invariant.sets)
+
+pub invariant_of-self : goal.invariant_of-self
+invariant_of-self c =
+    IsStore-made_set c.self.inside _ c.args.guest
+    (record { same = record { tag = refl; limits = refl; contexts = refl; trapped = refl }; streams = refl; live_streams = refl; bytes = refl })
+    (record {
+      counter = c.in-Ok.ensures.counter;
+      live = c.in-Ok.ensures.live;
+      sets = c.in-Ok.ensures.sets;
+      live_sets = c.one_more-self-inside.ensures;
+      guests = c.in-Ok.ensures.guests;
+    })
+    (rw (← c.self.view_is) at c.requires) c.self.invariant

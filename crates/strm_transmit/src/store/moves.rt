@@ -1,0 +1,339 @@
+//! Ends that change their owner: moves, lifts, lowers and closes.
+//!
+//! Meaning: `transfers`, `lifts`, `lowers` and `closes` of `Reactions.antt` of `strm_machine`. Source:
+//! Canonical ABI, `lift_stream`, `lower_stream` and those of futures; wasmtime, `lift_from_index`,
+//! `lower_to_index` and `close` of readers. Ours: a transfer as one call.
+
+ghost use Rattle.std.specs.Prelude.{◌≡◌, ◌≢◌, ◌<◌, false, length, Err, None};
+ghost use Rattle.strm_codes.specs.declared.codes.TransmitIndex.TheVariants as index;
+ghost use Rattle.strm_machine.specs.State.{stream_at};
+ghost use Rattle.strm_machine.specs.Tests.{named, stream_named, same_kind, is_unknown_reader};
+ghost use Rattle.strm_machine.specs.Moves.{without_handle, next_in, with_owner};
+ghost use Rattle.strm_machine.specs.Refusals.{refusal, first_of, last_reasons};
+ghost use Rattle.strm_machine.specs.Reactions.{transfers, lowers, with_stream_at, react, reaction};
+ghost use Rattle.strm_machine.specs.declared.acts.Act.TheVariants.{OnEnd, OnLoose};
+ghost use Rattle.strm_machine.specs.declared.acts.EndAct.TheVariants.{Move, Lift};
+ghost use Rattle.strm_machine.specs.declared.acts.LooseAct.TheVariants.{Lower, Close};
+ghost use Rattle.strm_machine.specs.declared.replies.Reply.TheVariants as replies;
+ghost use Rattle.strm_machine.specs.declared.steps.Step.TheVariants as steps;
+ghost use Rattle.strm_machine.proofs.RefusalLemmas.{LeaveFits};
+ghost use Rattle.strm_transmit.specs.Meets.{Meets, replied, or_found};
+
+use crate::errors::StoreError;
+use crate::store::Store;
+use strm_codes::codes::{TransmitIndex, TransmitKind};
+use strm_codes::payloads::Payload;
+use strm_codes::refusals::Refusal;
+use strm_handles::entries::MAX_HANDLE;
+use strm_machine::acts::{EndAct, NamedEnd};
+use strm_machine::streams::{Owner, Side};
+use strm_turns::ends::{give_end, move_end, remove_end};
+use strm_turns::owners::set_owner;
+use strm_turns::sets::is_in_set;
+
+// Whether two kinds are the same.
+fn same_kind(one: TransmitKind, other: TransmitKind) -> bool
+    ensures { result ≡ same_kind one other }
+{
+    match (one, other) {
+        (TransmitKind::Stream, TransmitKind::Stream)
+        | (TransmitKind::Future, TransmitKind::Future) => true,
+        _ => false,
+    }
+}
+
+impl Store {
+    // An end of a stream has another owner.
+    fn own(&mut self, stream: u32, side: Side, owner: Owner)
+        requires { stream < length self.old.streams }
+        ensures { self.new ≡ with_stream_at self.old stream
+            (with_owner side (stream_at self.old stream) owner) }
+    {
+        let (streams, live_streams) = (&mut self.streams, &mut self.live_streams);
+        set_owner(streams, live_streams, stream as usize, side, owner);
+    }
+
+    // A guest's handle is freed, and the end of a stream that it names has another owner.
+    pub(crate) fn release(&mut self, side: Side, end: &NamedEnd, stream: u32, owner: Owner)
+        requires fits { LeaveFits self.old side end.now }
+        requires stream { stream ≡ stream_named (named self.old end.now) }
+        ensures { self.new ≡ with_stream_at (without_handle self.old end.now.guest end.now.handle)
+            stream (with_owner side (stream_at self.old stream) owner) }
+    {
+        let (guests, counter) = (&mut self.guests, &mut self.counter);
+        remove_end(guests, counter, side, end);
+        let (streams, live_streams) = (&mut self.streams, &mut self.live_streams);
+        set_owner(streams, live_streams, stream as usize, side, owner);
+    }
+
+    // The number that an end gets in a guest's table, once its handle is freed.
+    fn moved_index(&self, end: &NamedEnd, to: u32) -> u32
+        requires from { end.now.guest < length self.now.guests }
+        requires to { to < length self.now.guests }
+        ensures { result ≡ next_in (without_handle self.now end.now.guest end.now.handle) to }
+    {
+        if end.guest == to {
+            end.handle
+        } else {
+            self.guests[to as usize].table.next_index()
+        }
+    }
+
+    // Why an end may not leave its guest, where nothing else speaks against it.
+    fn lift_refusal(&self, end: &NamedEnd) -> Option<Refusal>
+        requires { end.now.guest < length self.now.guests }
+        ensures { result ≡ first_of (last_reasons self.now end.now Lift) }
+    {
+        if is_in_set(&self.guests, end.guest as usize, end.handle) {
+            return Some(Refusal::LiftInSet);
+        }
+        None
+    }
+
+    // Why it may not go to another guest.
+    fn move_refusal(&self, end: &NamedEnd, to: u32) -> Option<Refusal>
+        requires from { end.now.guest < length self.now.guests }
+        requires to { to < length self.now.guests }
+        ensures { result ≡ first_of (last_reasons self.now end.now (Move to)) }
+    {
+        match self.lift_refusal(end) {
+            None if self.moved_index(end, to) >= MAX_HANDLE => Some(Refusal::IndexOverflow),
+            refusal => refusal,
+        }
+    }
+
+    // The stream whose end a handle of a guest names, where that end may go to another guest.
+    #[tactic(auto, unfolding(strm_machine::specs::Refusals::refusal))]
+    fn move_found(&self, side: Side, end: &NamedEnd, to: u32) -> Result<u32, Refusal>
+        ensures { result ≡ or_found (refusal self.now (OnEnd side end.now (Move to)))
+            (stream_named (named self.now end.now)) }
+    {
+        let guests = self.guests.len();
+        if end.guest as usize >= guests || to as usize >= guests {
+            return Err(Refusal::UnknownGuest);
+        }
+        match self.found(side, end, EndAct::Move { to }) {
+            Ok(stream) => match self.move_refusal(end, to) {
+                Some(refusal) => Err(refusal),
+                None => Ok(stream),
+            },
+            Err(refusal) => Err(refusal),
+        }
+    }
+
+    // The end that is named goes to a guest. After want of memory nothing has changed.
+    fn move_named(
+        &mut self,
+        side: Side,
+        end: &NamedEnd,
+        to: u32,
+        stream: u32,
+    ) -> Result<u32, StoreError>
+        requires may { refusal self.old (OnEnd side end.now (Move to)) ≡ None }
+        requires stream { stream ≡ stream_named (named self.old end.now) }
+        requires untrapped { self.old.trapped ≡ false }
+        ensures { Meets self.old self.new (replied replies.Number result)
+            (transfers self.old stream side end.now to) }
+    {
+        let (guests, counter) = (&mut self.guests, &mut self.counter);
+        match move_end(guests, counter, side, end, to as usize, stream) {
+            Ok(handle) => {
+                let owner = Owner::Held { guest: to, handle };
+                let (streams, live_streams) = (&mut self.streams, &mut self.live_streams);
+                set_owner(streams, live_streams, stream as usize, side, owner);
+                Ok(handle)
+            }
+            Err(_) => Err(StoreError::OutOfMemory),
+        }
+    }
+
+    /// The end that a handle names goes to another guest, or to the same: its handle is freed, and
+    /// the answer is the one that it gets there.
+    pub(crate) fn move_side(
+        &mut self,
+        side: Side,
+        end: &NamedEnd,
+        to: u32,
+    ) -> Result<u32, StoreError>
+        ensures meets { Meets self.old self.new (replied replies.Number result)
+            (reaction self.old (OnEnd side end.now (Move to))) }
+    {
+        match self.admit(self.move_found(side, end, to)) {
+            Ok(stream) => self.move_named(side, end, to, stream),
+            Err(error) => Err(error),
+        }
+    }
+
+    /// Moves the read end of a stream to another guest, or to the same: its handle is freed, and the
+    /// answer is the one that it gets there. Refused, after what is wrong with the guests and the
+    /// handle, are a busy end, one that was told that the write end is gone, one that is in a waitable
+    /// set, and a table without a number left.
+    pub fn stream_transfer(
+        &mut self,
+        guest: u32,
+        payload: Payload,
+        handle: u32,
+        to: u32,
+    ) -> Result<u32, StoreError>
+        ensures meets { Meets self.old self.new (replied replies.Number result)
+            (react self.old (steps.Move guest (index.Stream payload) handle to)) }
+    {
+        let ty = TransmitIndex::Stream(payload);
+        let end = NamedEnd { guest, ty, handle };
+        self.move_side(Side::Reading, &end, to)
+    }
+
+    /// Moves the read end of a future to another guest, or to the same. Refused as `stream_transfer`
+    /// is, and once its value has passed.
+    pub fn future_transfer(
+        &mut self,
+        guest: u32,
+        payload: Payload,
+        handle: u32,
+        to: u32,
+    ) -> Result<u32, StoreError>
+        ensures meets { Meets self.old self.new (replied replies.Number result)
+            (react self.old (steps.Move guest (index.Future payload) handle to)) }
+    {
+        let ty = TransmitIndex::Future(payload);
+        let end = NamedEnd { guest, ty, handle };
+        self.move_side(Side::Reading, &end, to)
+    }
+
+    // The stream whose end a handle of a guest names, where that end may leave its guest.
+    #[tactic(auto, unfolding(strm_machine::specs::Refusals::refusal))]
+    fn lift_found(&self, side: Side, end: &NamedEnd) -> Result<u32, Refusal>
+        ensures { result ≡ or_found (refusal self.now (OnEnd side end.now Lift))
+            (stream_named (named self.now end.now)) }
+    {
+        if end.guest as usize >= self.guests.len() {
+            return Err(Refusal::UnknownGuest);
+        }
+        match self.found(side, end, EndAct::Lift) {
+            Ok(stream) => match self.lift_refusal(end) {
+                Some(refusal) => Err(refusal),
+                None => Ok(stream),
+            },
+            Err(refusal) => Err(refusal),
+        }
+    }
+
+    /// The end that a handle names leaves its guest, and its handle is freed: the answer is the
+    /// number of its stream.
+    pub(crate) fn lift_side(&mut self, side: Side, end: &NamedEnd) -> Result<u32, StoreError>
+        ensures meets { Meets self.old self.new (replied replies.Number result)
+            (reaction self.old (OnEnd side end.now Lift)) }
+        ensures takes_no_memory { result ≢ Err StoreError.OutOfMemory }
+    {
+        match self.admit(self.lift_found(side, end)) {
+            Ok(stream) => {
+                self.release(side, end, stream, Owner::Loose);
+                Ok(stream)
+            }
+            Err(error) => Err(error),
+        }
+    }
+
+    /// Takes the read end of a stream or future out of a guest: its handle is freed, the end is
+    /// loose, and the answer is the stream's number. Refused as a transfer is, but for the number.
+    pub fn lift(&mut self, guest: u32, ty: TransmitIndex, handle: u32) -> Result<u32, StoreError>
+        ensures meets { Meets self.old self.new (replied replies.Number result)
+            (react self.old (steps.Lift guest ty handle)) }
+        ensures takes_no_memory { result ≢ Err StoreError.OutOfMemory }
+    {
+        let end = NamedEnd { guest, ty, handle };
+        self.lift_side(Side::Reading, &end)
+    }
+
+    // Whether no stream of this number has a loose read end.
+    fn is_unknown_reader(&self, reader: u32) -> bool
+        ensures { result ≡ is_unknown_reader self.now reader }
+    {
+        reader as usize >= self.streams.len() || self.stream(reader).reader.owner != Owner::Loose
+    }
+
+    // Whether the loose read end of a stream may come into a guest.
+    #[tactic(auto, unfolding(strm_machine::specs::Refusals::refusal))]
+    fn lower_fits(&self, reader: u32, guest: u32, ty: &TransmitIndex) -> Result<(), Refusal>
+        ensures { result ≡ or_found (refusal self.now (OnLoose reader (Lower guest ty.now))) tt }
+    {
+        if guest as usize >= self.guests.len() {
+            return Err(Refusal::UnknownGuest);
+        }
+        if self.is_unknown_reader(reader) {
+            return Err(Refusal::UnknownReader);
+        }
+        if !same_kind(self.stream(reader).kind, ty.kind()) {
+            return Err(Refusal::WrongKind);
+        }
+        if self.stream(reader).payload != ty.payload() {
+            return Err(Refusal::WrongType);
+        }
+        if self.guests[guest as usize].table.next_index() >= MAX_HANDLE {
+            return Err(Refusal::IndexOverflow);
+        }
+        if self.are_handles_full(1) {
+            return Err(Refusal::HandleLimit);
+        }
+        Ok(())
+    }
+
+    // The loose read end of a stream comes into a guest. After want of memory nothing has changed.
+    fn lower_loose(&mut self, reader: u32, guest: u32, ty: TransmitIndex) -> Result<u32, StoreError>
+        requires may { refusal self.old (OnLoose reader (Lower guest ty)) ≡ None }
+        requires untrapped { self.old.trapped ≡ false }
+        ensures { Meets self.old self.new (replied replies.Number result)
+            (lowers self.old reader guest ty) }
+    {
+        let (guests, counter) = (&mut self.guests, &mut self.counter);
+        match give_end(guests, counter, guest as usize, Side::Reading, ty, reader) {
+            Ok(handle) => {
+                let owner = Owner::Held { guest, handle };
+                let (streams, live_streams) = (&mut self.streams, &mut self.live_streams);
+                set_owner(streams, live_streams, reader as usize, Side::Reading, owner);
+                Ok(handle)
+            }
+            Err(_) => Err(StoreError::OutOfMemory),
+        }
+    }
+
+    /// Gives a guest the loose read end of a stream or future, by the stream's number: the answer is
+    /// its handle. Refused, in this order, are an unknown guest, a stream without a loose read end or
+    /// of another type, a table without a number left, and handles past their limit.
+    pub fn lower(&mut self, reader: u32, guest: u32, ty: TransmitIndex) -> Result<u32, StoreError>
+        ensures meets { Meets self.old self.new (replied replies.Number result)
+            (react self.old (steps.Lower reader guest ty)) }
+    {
+        match self.admit(self.lower_fits(reader, guest, &ty)) {
+            Ok(()) => self.lower_loose(reader, guest, ty),
+            Err(error) => Err(error),
+        }
+    }
+
+    // Whether the loose read end of a stream may be dropped.
+    #[tactic(auto, unfolding(strm_machine::specs::Refusals::refusal))]
+    fn close_fits(&self, reader: u32) -> Result<(), Refusal>
+        ensures { result ≡ or_found (refusal self.now (OnLoose reader Close)) tt }
+    {
+        if self.is_unknown_reader(reader) {
+            return Err(Refusal::UnknownReader);
+        }
+        Ok(())
+    }
+
+    /// Drops the loose read end of a stream or future, by the stream's number; a stream whose both
+    /// ends are gone is removed at once. Refused is a stream without a loose read end.
+    pub fn close(&mut self, reader: u32) -> Result<(), StoreError>
+        ensures meets { Meets self.old self.new (replied (λ _. replies.Done) result)
+            (react self.old (steps.Close reader)) }
+        ensures takes_no_memory { result ≢ Err StoreError.OutOfMemory }
+    {
+        match self.admit(self.close_fits(reader)) {
+            Ok(()) => {
+                self.own(reader, Side::Reading, Owner::Gone);
+                Ok(())
+            }
+            Err(error) => Err(error),
+        }
+    }
+}

@@ -1,8 +1,0 @@
-use Rattle.std.proofs.Common.{rules}
-use Rattle.strm_turns.proofs.endings.is_live.Goals as goal
-
-pub returns-then-ne : goal.returns-then-ne
-returns-then-ne c = search rules
-
-pub returns-else-ne : goal.returns-else-ne
-returns-else-ne c = search rules

@@ -1,0 +1,26 @@
+-- What a poll through a window leaves of the memory around its room.
+use Rattle.std.proofs.Common.{◌≡◌, ℕ, ◌+◌, ◌*◌, ◌≤◌, inl, inr, true, List, length, refl, ap, subst, ◌∙◌, arith}
+use Rattle.std.proofs.Math.Nat.{mul-le-mul_left}
+use Rattle.strm_codes.specs.Layout.{scalars_of, item_size}
+use Rattle.strm_codes.specs.declared.payloads.Payload.{Payload}
+use Rattle.strm_memory.specs.Bytes.{bytes_at, IsApart}
+use Rattle.strm_memory.specs.Items.{stored_at}
+use Rattle.strm_memory.proofs.RegionLemmas.{bytes_at-stored_at}
+use Rattle.strm_buffers.specs.Windows.{Lent, Place, Memory, HasRoom, lent_memory, memory_of}
+use Rattle.strm_buffers.specs.Tells.{Fills}
+
+apart_less : (address n k other m : ℕ) → k ≤ n → IsApart address n other m → IsApart address k other m
+apart_less address n k other m h (inl behind) = inl (omega (arith, h, behind))
+apart_less address n k other m h (inr before) = inr before
+
+-- the bytes that lie apart from the room
+pub stays_outside : (payload : Payload) (memory after : List ℕ) (address room count : ℕ) (w v : Lent) → address + item_size (scalars_of payload) * room ≤ length memory → w ≡ record (lent_memory payload memory address room) { prepared = true } → Fills w v → after ≡ memory_of v.place → count ≡ length v.marked → HasRoom v.place count 0
+    → (other n : ℕ) → IsApart address (item_size (scalars_of payload) * room) other n → bytes_at after other n ≡ bytes_at memory other n
+stays_outside payload memory after address room count w v h e f a c r other n apart =
+    let ss = scalars_of payload in
+    let place : v.place ≡ Memory (stored_at ss memory (address + item_size ss * 0) v.marked) address room = f.place ∙ rw e refl in
+    let at : address + item_size ss * 0 ≡ address = omega arith in
+    let few : count + 0 ≤ room = subst (λ (p : Place). HasRoom p count 0) place r in
+    let most : item_size ss * length v.marked ≤ item_size ss * room = mul-le-mul_left (item_size ss) (omega (arith, few, c)) in
+    let is : after ≡ stored_at ss memory address v.marked = a ∙ ap memory_of place ∙ ap (λ k. stored_at ss memory k v.marked) at in
+    rw is (bytes_at-stored_at ss memory address v.marked other n (omega (arith, most, h)) (apart_less address (item_size ss * room) (item_size ss * length v.marked) other n most apart))
