@@ -6,10 +6,10 @@ use Rattle.std.proofs.lemmas.Option.{none-some}
 use Rattle.strm_codes.specs.declared.codes.TransmitIndex.{TransmitIndex}
 use Rattle.strm_codes.specs.declared.codes.TransmitIndex.TheVariants.{Stream, Future}
 use Rattle.strm_machine.specs.declared.steps.Step.{Step}
-use Rattle.strm_machine.specs.declared.steps.Step.TheVariants.{Guest, New, Between, Write, Read, DropWrite, DropRead, CancelWrite, CancelRead, Move, Lift, Lower, Close, Event, SetNew, SetJoin, SetPoll, SetDrop, Poke, Dump}
+use Rattle.strm_machine.specs.declared.steps.Step.TheVariants.{Guest, New, Between, Write, Read, DropWrite, DropRead, CancelWrite, CancelRead, Move, Lift, Lower, Close, Event, SetNew, SetJoin, SetPoll, SetDrop, ErrNew, ErrText, ErrMove, ErrDrop, Poke, Dump}
 use Rattle.strm_lines.specs.Words.{hex_pairs, type_word}
 use Rattle.strm_lines.specs.Grammar.{words, operands, spelling, HasLine, IsU32, IsBetween, IsLineBytes, IsType, IsCount}
-use Rattle.strm_lines.specs.Reading.{Command, command, behind, read_by, often, seldom, moving, gathering, followed_by, number, number_within, hex, type_read, place_of, operands_of, named_end_of, guest_of, new_of, pair_of, write_of, read_of, drop_write_of, drop_read_of, cancel_write_of, cancel_read_of, move_of, lift_of, lower_of, close_of, set_new_of, set_join_of, set_poll_of, set_drop_of, event_of, poke_of, dump_of, step_of}
+use Rattle.strm_lines.specs.Reading.{Command, command, behind, read_by, often, seldom, moving, gathering, explaining, followed_by, number, number_within, hex, type_read, place_of, operands_of, named_end_of, guest_of, new_of, pair_of, write_of, read_of, drop_write_of, drop_read_of, cancel_write_of, cancel_read_of, move_of, lift_of, lower_of, close_of, set_new_of, set_join_of, set_poll_of, set_drop_of, err_new_of, err_text_of, err_move_of, err_drop_of, event_of, poke_of, dump_of, step_of}
 use Rattle.strm_lines.proofs.CutLemmas.{option_map_some}
 use Rattle.strm_lines.proofs.ReadingLemmas.{IsReading, IsReading-number, IsWord-number, IsReading-within, IsReading-hex, IsReading-followed_by, IsReading-followed_by_its, behind_sound}
 use Rattle.strm_lines.proofs.TypeLemmas.{IsReading-type, IsWord-type}
@@ -75,8 +75,8 @@ IsReading-pair = IsReading-followed_by IsReading-number IsWord-number (IsReading
 IsReading-move : IsReading (followed_by number (followed_by type_read (followed_by number number))) (λ v. decimal v.0 ++ 32 ∷ (type_word v.1.0 ++ 32 ∷ (decimal v.1.1.0 ++ 32 ∷ decimal v.1.1.1))) (λ v. IsU32 v.0 × (IsType v.1.0 × (IsU32 v.1.1.0 × IsU32 v.1.1.1)))
 IsReading-move = IsReading-followed_by IsReading-number IsWord-number (IsReading-followed_by IsReading-type IsWord-type (IsReading-followed_by IsReading-number IsWord-number IsReading-number))
 
-IsReading-set_join : IsReading (followed_by number (followed_by number number)) (λ v. decimal v.0 ++ 32 ∷ (decimal v.1.0 ++ 32 ∷ decimal v.1.1)) (λ v. IsU32 v.0 × (IsU32 v.1.0 × IsU32 v.1.1))
-IsReading-set_join = IsReading-followed_by IsReading-number IsWord-number (IsReading-followed_by IsReading-number IsWord-number IsReading-number)
+IsReading-three : IsReading (followed_by number (followed_by number number)) (λ v. decimal v.0 ++ 32 ∷ (decimal v.1.0 ++ 32 ∷ decimal v.1.1)) (λ v. IsU32 v.0 × (IsU32 v.1.0 × IsU32 v.1.1))
+IsReading-three = IsReading-followed_by IsReading-number IsWord-number (IsReading-followed_by IsReading-number IsWord-number IsReading-number)
 
 IsReading-poke : IsReading (followed_by number (followed_by number hex)) (λ v. decimal v.0 ++ 32 ∷ (decimal v.1.0 ++ 32 ∷ hex_pairs v.1.1)) (λ v. IsU32 v.0 × (IsU32 v.1.0 × IsLineBytes v.1.1))
 IsReading-poke = IsReading-followed_by IsReading-number IsWord-number (IsReading-followed_by IsReading-number IsWord-number IsReading-hex)
@@ -156,7 +156,7 @@ set_new_sound = made_sound (codes "set-new ") IsReading-number (record { spelled
 
 set_join_sound : IsSound (command (codes "set-join ") set_join_of)
 unfolding set_join_of
-set_join_sound = made_sound (codes "set-join ") IsReading-set_join (record { spelled = λ v. refl; fits = λ v f. f })
+set_join_sound = made_sound (codes "set-join ") IsReading-three (record { spelled = λ v. refl; fits = λ v f. f })
 
 set_poll_sound : IsSound (command (codes "set-poll ") set_poll_of)
 unfolding set_poll_of
@@ -169,6 +169,22 @@ set_drop_sound = made_sound (codes "set-drop ") IsReading-event (record { spelle
 event_sound : IsSound (command (codes "event ") event_of)
 unfolding event_of
 event_sound = made_sound (codes "event ") IsReading-event (record { spelled = λ v. refl; fits = λ v f. f })
+
+err_new_sound : IsSound (command (codes "err-new ") err_new_of)
+unfolding err_new_of
+err_new_sound = made_sound (codes "err-new ") IsReading-three (record { spelled = λ v. refl; fits = λ v f. f })
+
+err_text_sound : IsSound (command (codes "err-text ") err_text_of)
+unfolding err_text_of
+err_text_sound = made_sound (codes "err-text ") IsReading-three (record { spelled = λ v. refl; fits = λ v f. f })
+
+err_move_sound : IsSound (command (codes "err-move ") err_move_of)
+unfolding err_move_of
+err_move_sound = made_sound (codes "err-move ") IsReading-three (record { spelled = λ v. refl; fits = λ v f. f })
+
+err_drop_sound : IsSound (command (codes "err-drop ") err_drop_of)
+unfolding err_drop_of
+err_drop_sound = made_sound (codes "err-drop ") IsReading-event (record { spelled = λ v. refl; fits = λ v f. f })
 
 poke_sound : IsSound (command (codes "poke ") poke_of)
 unfolding poke_of
@@ -195,17 +211,17 @@ read_by_sound (c ∷ commands) line s h e = by_front (behind c.front line) refl 
     by_front None f others e = others e
     by_front (Some rest) f others e = rw (behind_sound c.front line rest f) (h.0 rest s e)
 
-all_sound : AreSound (often ++ (seldom ++ (moving ++ gathering)))
-all_sound = (write_sound, (read_sound, (event_sound, (poke_sound, (dump_sound, (guest_sound, (new_sound, (pair_sound, (drop_write_sound, (drop_read_sound, (cancel_write_sound, (cancel_read_sound, (move_sound, (lift_sound, (lower_sound, (close_sound, (set_new_sound, (set_join_sound, (set_poll_sound, (set_drop_sound, tt))))))))))))))))))))
+all_sound : AreSound (often ++ (seldom ++ (moving ++ (gathering ++ explaining))))
+all_sound = (write_sound, (read_sound, (event_sound, (poke_sound, (dump_sound, (guest_sound, (new_sound, (pair_sound, (drop_write_sound, (drop_read_sound, (cancel_write_sound, (cancel_read_sound, (move_sound, (lift_sound, (lower_sound, (close_sound, (set_new_sound, (set_join_sound, (set_poll_sound, (set_drop_sound, (err_new_sound, (err_text_sound, (err_move_sound, (err_drop_sound, tt))))))))))))))))))))))))
 
 pub step_sound : (line : List ℕ) (s : Step) → step_of line ≡ Some s → (spelling s ≡ line) × HasLine s
 unfolding step_of
-step_sound line s e = read_by_sound (often ++ (seldom ++ (moving ++ gathering))) line s all_sound e
+step_sound line s e = read_by_sound (often ++ (seldom ++ (moving ++ (gathering ++ explaining)))) line s all_sound e
 
 -- what is spelled is read as the step
 
 pub step_complete : (s : Step) → HasLine s → step_of (spelling s) ≡ Some s
-unfolding step_of behind guest_of new_of pair_of write_of read_of drop_write_of drop_read_of cancel_write_of cancel_read_of move_of lift_of lower_of close_of set_new_of set_join_of set_poll_of set_drop_of event_of poke_of dump_of
+unfolding step_of behind guest_of new_of pair_of write_of read_of drop_write_of drop_read_of cancel_write_of cancel_read_of move_of lift_of lower_of close_of set_new_of set_join_of set_poll_of set_drop_of err_new_of err_text_of err_move_of err_drop_of event_of poke_of dump_of
 step_complete (Guest size) h = rw (IsReading-number.complete size h) refl
 step_complete (New guest ty) h = rw (IsReading-new.complete (guest, ty) h) refl
 step_complete (Between writer reader ty) h = rw (IsReading-pair.complete (writer, (reader, ty)) h) refl
@@ -223,8 +239,12 @@ step_complete (Lower reader guest ty) h = rw (IsReading-pair.complete (reader, (
 step_complete (Close reader) h = rw (IsReading-number.complete reader h) refl
 step_complete (Event guest handle) h = rw (IsReading-event.complete (guest, handle) h) refl
 step_complete (SetNew guest) h = rw (IsReading-number.complete guest h) refl
-step_complete (SetJoin guest set handle) h = rw (IsReading-set_join.complete (guest, (set, handle)) h) refl
+step_complete (SetJoin guest set handle) h = rw (IsReading-three.complete (guest, (set, handle)) h) refl
 step_complete (SetPoll guest set) h = rw (IsReading-event.complete (guest, set) h) refl
 step_complete (SetDrop guest set) h = rw (IsReading-event.complete (guest, set) h) refl
+step_complete (ErrNew guest address len) h = rw (IsReading-three.complete (guest, (address, len)) h) refl
+step_complete (ErrText guest handle address) h = rw (IsReading-three.complete (guest, (handle, address)) h) refl
+step_complete (ErrMove guest handle to) h = rw (IsReading-three.complete (guest, (handle, to)) h) refl
+step_complete (ErrDrop guest handle) h = rw (IsReading-event.complete (guest, handle) h) refl
 step_complete (Poke guest address bytes) h = rw (IsReading-poke.complete (guest, (address, bytes)) h) refl
 step_complete (Dump guest address len) h = rw (IsReading-dump.complete (guest, (address, len)) h) refl

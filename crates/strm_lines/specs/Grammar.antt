@@ -7,7 +7,7 @@ use Rattle.strm_codes.specs.declared.payloads.Payload.TheVariants.{Tuple}
 use Rattle.strm_codes.specs.declared.codes.TransmitIndex.{TransmitIndex}
 use Rattle.strm_codes.specs.declared.codes.TransmitIndex.TheVariants.{Stream, Future}
 use Rattle.strm_machine.specs.declared.steps.Step.{Step}
-use Rattle.strm_machine.specs.declared.steps.Step.TheVariants.{Guest, New, Between, Write, Read, DropWrite, DropRead, CancelWrite, CancelRead, Move, Lift, Lower, Close, Event, SetNew, SetJoin, SetPoll, SetDrop, Poke, Dump}
+use Rattle.strm_machine.specs.declared.steps.Step.TheVariants.{Guest, New, Between, Write, Read, DropWrite, DropRead, CancelWrite, CancelRead, Move, Lift, Lower, Close, Event, SetNew, SetJoin, SetPoll, SetDrop, ErrNew, ErrText, ErrMove, ErrDrop, Poke, Dump}
 use Rattle.strm_lines.specs.Words.{hex_pairs, type_word}
 
 -- words in a row, exactly one space between each two
@@ -54,6 +54,13 @@ spelling (SetJoin guest set handle) =
     words (codes "set-join" ∷ decimal guest ∷ decimal set ∷ decimal handle ∷ [])
 spelling (SetPoll guest set) = words (codes "set-poll" ∷ decimal guest ∷ decimal set ∷ [])
 spelling (SetDrop guest set) = words (codes "set-drop" ∷ decimal guest ∷ decimal set ∷ [])
+spelling (ErrNew guest address len) =
+    words (codes "err-new" ∷ decimal guest ∷ decimal address ∷ decimal len ∷ [])
+spelling (ErrText guest handle address) =
+    words (codes "err-text" ∷ decimal guest ∷ decimal handle ∷ decimal address ∷ [])
+spelling (ErrMove guest handle to) =
+    words (codes "err-move" ∷ decimal guest ∷ decimal handle ∷ decimal to ∷ [])
+spelling (ErrDrop guest handle) = words (codes "err-drop" ∷ decimal guest ∷ decimal handle ∷ [])
 spelling (Poke guest address bytes) =
     words (codes "poke" ∷ decimal guest ∷ decimal address ∷ hex_pairs bytes ∷ [])
 spelling (Dump guest address len) =
@@ -116,5 +123,9 @@ HasLine (SetNew guest) = IsU32 guest
 HasLine (SetJoin guest set handle) = IsU32 guest × (IsU32 set × IsU32 handle)
 HasLine (SetPoll guest set) = IsU32 guest × IsU32 set
 HasLine (SetDrop guest set) = IsU32 guest × IsU32 set
+HasLine (ErrNew guest address len) = IsU32 guest × (IsU32 address × IsU32 len)
+HasLine (ErrText guest handle address) = IsU32 guest × (IsU32 handle × IsU32 address)
+HasLine (ErrMove guest handle to) = IsU32 guest × (IsU32 handle × IsU32 to)
+HasLine (ErrDrop guest handle) = IsU32 guest × IsU32 handle
 HasLine (Poke guest address bytes) = IsU32 guest × (IsU32 address × IsLineBytes bytes)
 HasLine (Dump guest address len) = IsU32 guest × (IsU32 address × IsBetween 1 64 len)

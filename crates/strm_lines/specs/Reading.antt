@@ -9,7 +9,7 @@ use Rattle.strm_codes.specs.declared.payloads.Payload.TheVariants.{Nothing, One,
 use Rattle.strm_codes.specs.declared.codes.TransmitIndex.{TransmitIndex}
 use Rattle.strm_codes.specs.declared.codes.TransmitIndex.TheVariants.{Stream, Future}
 use Rattle.strm_machine.specs.declared.steps.Step.{Step}
-use Rattle.strm_machine.specs.declared.steps.Step.TheVariants.{Guest, New, Between, Write, Read, DropWrite, DropRead, CancelWrite, CancelRead, Move, Lift, Lower, Close, Event, SetNew, SetJoin, SetPoll, SetDrop, Poke, Dump}
+use Rattle.strm_machine.specs.declared.steps.Step.TheVariants.{Guest, New, Between, Write, Read, DropWrite, DropRead, CancelWrite, CancelRead, Move, Lift, Lower, Close, Event, SetNew, SetJoin, SetPoll, SetDrop, ErrNew, ErrText, ErrMove, ErrDrop, Poke, Dump}
 use Rattle.strm_lines.specs.Words.{scalar_word}
 
 -- a reading, and then another of what it found
@@ -245,6 +245,25 @@ set_drop_of rest = option_map (λ v. SetDrop v.0 v.1) (followed_by number number
 unfoldable pub event_of : List ℕ → Option Step
 event_of rest = option_map (λ v. Event v.0 v.1) (followed_by number number rest)
 
+-- err-new G A N
+unfoldable pub err_new_of : List ℕ → Option Step
+err_new_of rest =
+    option_map (λ v. ErrNew v.0 v.1.0 v.1.1) (followed_by number (followed_by number number) rest)
+
+-- err-text G H A
+unfoldable pub err_text_of : List ℕ → Option Step
+err_text_of rest =
+    option_map (λ v. ErrText v.0 v.1.0 v.1.1) (followed_by number (followed_by number number) rest)
+
+-- err-move G H R
+unfoldable pub err_move_of : List ℕ → Option Step
+err_move_of rest =
+    option_map (λ v. ErrMove v.0 v.1.0 v.1.1) (followed_by number (followed_by number number) rest)
+
+-- err-drop G H
+unfoldable pub err_drop_of : List ℕ → Option Step
+err_drop_of rest = option_map (λ v. ErrDrop v.0 v.1) (followed_by number number rest)
+
 -- poke G A HEX
 unfoldable pub poke_of : List ℕ → Option Step
 poke_of rest =
@@ -290,6 +309,12 @@ gathering =
     command (codes "set-new ") set_new_of ∷ command (codes "set-join ") set_join_of
     ∷ command (codes "set-poll ") set_poll_of ∷ command (codes "set-drop ") set_drop_of ∷ []
 
+-- those of error contexts
+abbrev pub explaining : List Command
+explaining =
+    command (codes "err-new ") err_new_of ∷ command (codes "err-text ") err_text_of
+    ∷ command (codes "err-move ") err_move_of ∷ command (codes "err-drop ") err_drop_of ∷ []
+
 -- the step of the first of these commands that a line begins with
 abbrev pub read_by : List Command → List ℕ → Option Step
 read_by [] line = None
@@ -297,4 +322,4 @@ read_by (c ∷ commands) line = option_map_or c.read (behind c.front line) (read
 
 -- the step that a line spells, where it spells one
 unfoldable pub step_of : List ℕ → Option Step
-step_of line = read_by (often ++ (seldom ++ (moving ++ gathering))) line
+step_of line = read_by (often ++ (seldom ++ (moving ++ (gathering ++ explaining)))) line

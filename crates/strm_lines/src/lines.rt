@@ -4,7 +4,7 @@
 
 ghost use Rattle.std.specs.Prelude.{◌≡◌, ◌<◌, ◌++◌, is_some, vec_len, vec_capacity};
 ghost use Rattle.std.specs.Option.{option_map, option_to_list};
-ghost use Rattle.strm_lines.specs.Reading.{place_of, operands_of, named_end_of, guest_of, new_of, pair_of, write_of, read_of, drop_write_of, drop_read_of, cancel_write_of, cancel_read_of, move_of, lift_of, lower_of, close_of, set_new_of, set_join_of, set_poll_of, set_drop_of, event_of, poke_of, dump_of, seldom, moving, gathering, read_by, step_of};
+ghost use Rattle.strm_lines.specs.Reading.{place_of, operands_of, named_end_of, guest_of, new_of, pair_of, write_of, read_of, drop_write_of, drop_read_of, cancel_write_of, cancel_read_of, move_of, lift_of, lower_of, close_of, set_new_of, set_join_of, set_poll_of, set_drop_of, err_new_of, err_text_of, err_move_of, err_drop_of, event_of, poke_of, dump_of, seldom, moving, gathering, explaining, read_by, step_of};
 
 use crate::words::{
     behind, hex, leading_number, leading_type, number, number_within, transmit_type,
@@ -257,6 +257,53 @@ fn event_line(rest: &[u8]) -> Option<Step>
     Some(Step::Event { guest, handle })
 }
 
+#[tactic(auto, unfolding(crate::specs::Reading::err_new_of))]
+fn err_new_line(rest: &[u8]) -> Option<Step>
+    ensures { result ≡ err_new_of rest.now }
+{
+    let (guest, rest) = leading_number(rest)?;
+    let (address, rest) = leading_number(rest)?;
+    let len = number(rest)?;
+    Some(Step::ErrNew {
+        guest,
+        address,
+        len,
+    })
+}
+
+#[tactic(auto, unfolding(crate::specs::Reading::err_text_of))]
+fn err_text_line(rest: &[u8]) -> Option<Step>
+    ensures { result ≡ err_text_of rest.now }
+{
+    let (guest, rest) = leading_number(rest)?;
+    let (handle, rest) = leading_number(rest)?;
+    let address = number(rest)?;
+    Some(Step::ErrText {
+        guest,
+        handle,
+        address,
+    })
+}
+
+#[tactic(auto, unfolding(crate::specs::Reading::err_move_of))]
+fn err_move_line(rest: &[u8]) -> Option<Step>
+    ensures { result ≡ err_move_of rest.now }
+{
+    let (guest, rest) = leading_number(rest)?;
+    let (handle, rest) = leading_number(rest)?;
+    let to = number(rest)?;
+    Some(Step::ErrMove { guest, handle, to })
+}
+
+#[tactic(auto, unfolding(crate::specs::Reading::err_drop_of))]
+fn err_drop_line(rest: &[u8]) -> Option<Step>
+    ensures { result ≡ err_drop_of rest.now }
+{
+    let (guest, rest) = leading_number(rest)?;
+    let handle = number(rest)?;
+    Some(Step::ErrDrop { guest, handle })
+}
+
 #[tactic(auto, unfolding(crate::specs::Reading::poke_of))]
 fn poke_line(rest: &[u8]) -> Option<Step>
     ensures { result ≡ poke_of rest.now }
@@ -302,11 +349,32 @@ fn keep<T: Copy>(items: &mut Vec<T>, read: Option<T>) -> bool
     }
 }
 
-// Keeps the step of a line that begins with a command of a waitable set.
+// Keeps the step of a line that begins with a command of an error context.
+fn keep_explaining(steps: &mut Vec<Step>, line: &[u8]) -> bool
+    requires room { vec_len steps.old < vec_capacity steps.old }
+    ensures items { steps.new.items ≡ steps.old.items ++ option_to_list (read_by explaining line.now) }
+    ensures found { result ≡ is_some (read_by explaining line.now) }
+    ensures capacity { vec_capacity steps.new ≡ vec_capacity steps.old }
+{
+    if let Some(rest) = behind(line, b"err-new ") {
+        keep(steps, err_new_line(rest))
+    } else if let Some(rest) = behind(line, b"err-text ") {
+        keep(steps, err_text_line(rest))
+    } else if let Some(rest) = behind(line, b"err-move ") {
+        keep(steps, err_move_line(rest))
+    } else if let Some(rest) = behind(line, b"err-drop ") {
+        keep(steps, err_drop_line(rest))
+    } else {
+        false
+    }
+}
+
+// Keeps the step of a line that begins with a command of a waitable set or an
+// error context.
 fn keep_gathering(steps: &mut Vec<Step>, line: &[u8]) -> bool
     requires room { vec_len steps.old < vec_capacity steps.old }
-    ensures items { steps.new.items ≡ steps.old.items ++ option_to_list (read_by gathering line.now) }
-    ensures found { result ≡ is_some (read_by gathering line.now) }
+    ensures items { steps.new.items ≡ steps.old.items ++ option_to_list (read_by (gathering ++ explaining) line.now) }
+    ensures found { result ≡ is_some (read_by (gathering ++ explaining) line.now) }
     ensures capacity { vec_capacity steps.new ≡ vec_capacity steps.old }
 {
     if let Some(rest) = behind(line, b"set-new ") {
@@ -318,7 +386,7 @@ fn keep_gathering(steps: &mut Vec<Step>, line: &[u8]) -> bool
     } else if let Some(rest) = behind(line, b"set-drop ") {
         keep(steps, set_drop_line(rest))
     } else {
-        false
+        keep_explaining(steps, line)
     }
 }
 
@@ -326,8 +394,8 @@ fn keep_gathering(steps: &mut Vec<Step>, line: &[u8]) -> bool
 // waitable set.
 fn keep_moving(steps: &mut Vec<Step>, line: &[u8]) -> bool
     requires room { vec_len steps.old < vec_capacity steps.old }
-    ensures items { steps.new.items ≡ steps.old.items ++ option_to_list (read_by (moving ++ gathering) line.now) }
-    ensures found { result ≡ is_some (read_by (moving ++ gathering) line.now) }
+    ensures items { steps.new.items ≡ steps.old.items ++ option_to_list (read_by (moving ++ (gathering ++ explaining)) line.now) }
+    ensures found { result ≡ is_some (read_by (moving ++ (gathering ++ explaining)) line.now) }
     ensures capacity { vec_capacity steps.new ≡ vec_capacity steps.old }
 {
     if let Some(rest) = behind(line, b"move ") {
@@ -346,8 +414,8 @@ fn keep_moving(steps: &mut Vec<Step>, line: &[u8]) -> bool
 // Keeps the step of a line that begins with none of the commands that most lines do.
 fn keep_seldom(steps: &mut Vec<Step>, line: &[u8]) -> bool
     requires room { vec_len steps.old < vec_capacity steps.old }
-    ensures items { steps.new.items ≡ steps.old.items ++ option_to_list (read_by (seldom ++ (moving ++ gathering)) line.now) }
-    ensures found { result ≡ is_some (read_by (seldom ++ (moving ++ gathering)) line.now) }
+    ensures items { steps.new.items ≡ steps.old.items ++ option_to_list (read_by (seldom ++ (moving ++ (gathering ++ explaining))) line.now) }
+    ensures found { result ≡ is_some (read_by (seldom ++ (moving ++ (gathering ++ explaining))) line.now) }
     ensures capacity { vec_capacity steps.new ≡ vec_capacity steps.old }
 {
     if let Some(rest) = behind(line, b"guest ") {

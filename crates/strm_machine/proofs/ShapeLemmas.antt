@@ -9,7 +9,7 @@ use Rattle.strm_machine.specs.Words.{kind_of, payload_of, TransmitIndex, State, 
 use Rattle.strm_machine.specs.Endings.{delivered, dropped, code_of_cancel, cancelled}
 use Rattle.strm_machine.specs.Tests.{side_named, is_busy}
 use Rattle.strm_machine.specs.Refusals.{where_, region_reasons, handle_reasons, own_reasons, on_end_reasons, refusal}
-use Rattle.strm_machine.specs.Reactions.{tells, drops, cancels, moves, lifts, on_end, on_loose, makes, on_memory, performs, reaction}
+use Rattle.strm_machine.specs.Reactions.{tells, drops, cancels, transfers, lifts, on_end, on_loose, makes, on_memory, performs, reaction}
 use Rattle.strm_machine.specs.declared.acts.Making.{Making}
 use Rattle.strm_machine.specs.declared.acts.Making.TheVariants.{Guest, Between, Set, Context}
 use Rattle.strm_machine.specs.declared.acts.EndAct.{EndAct}
@@ -79,7 +79,7 @@ unfolding dropped
 drop-shape state side end h e =
     ByOwner replies.Done (owning state side end Gone None) refl (leaves-owns state side end Gone None Drop replies.Done h (drop_fits state side end e) refl refl)
 
-move-shape : (state : State) (side : Side) (end : NamedEnd) (to : ℕ) → IsSound state → first_of (on_end_reasons state side end (Move to)) ≡ None → Shape state (OnEnd side end (Move to)) (moves state (stream_named (named state end)) side end to)
+move-shape : (state : State) (side : Side) (end : NamedEnd) (to : ℕ) → IsSound state → first_of (on_end_reasons state side end (Move to)) ≡ None → Shape state (OnEnd side end (Move to)) (transfers state (stream_named (named state end)) side end to)
 move-shape state side end to h e =
     let fits = move_fits state side end to e in
     let freed = without_handle state end.guest end.handle in

@@ -95,8 +95,8 @@ cancels state s side =
     goes (replies.Code (code_of_cancel side stream)) (with_stream_at state s (cancelled side stream))
 
 -- the end of stream s that is named goes to a guest, whose next handle it gets once its own is freed
-abbrev pub moves : State → ℕ → Side → NamedEnd → ℕ → Reaction
-moves state s side end to =
+abbrev pub transfers : State → ℕ → Side → NamedEnd → ℕ → Reaction
+transfers state s side end to =
     let freed = without_handle state end.guest end.handle in
     let number = next_in freed to in
     goes (replies.Number number)
@@ -174,7 +174,7 @@ abbrev pub on_end : State → Side → NamedEnd → EndAct → Reaction
 on_end state side end (Operate address count) = operates state side end address count
 on_end state side end Drop = drops state (stream_named (named state end)) side end
 on_end state side end Cancel = cancels state (stream_named (named state end)) side
-on_end state side end (Move to) = moves state (stream_named (named state end)) side end to
+on_end state side end (Move to) = transfers state (stream_named (named state end)) side end to
 on_end state side end Lift = lifts state (stream_named (named state end)) side end
 
 -- what is made

@@ -4,3 +4,4 @@ pub mod OperationLemmas
 pub mod EndingLemmas
 pub mod MoveLemmas
 pub mod SetLemmas
+pub mod ContextLemmas

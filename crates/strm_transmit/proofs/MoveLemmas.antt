@@ -11,7 +11,7 @@ use Rattle.strm_machine.specs.Sides.{end_of}
 use Rattle.strm_machine.specs.Moves.{without_handle, next_in, with_owner}
 use Rattle.strm_machine.specs.Tests.{named, end_named, stream_named}
 use Rattle.strm_machine.specs.Refusals.{refusal}
-use Rattle.strm_machine.specs.Reactions.{Reaction, goes, moves, lowers, performs}
+use Rattle.strm_machine.specs.Reactions.{Reaction, goes, transfers, lowers, performs}
 use Rattle.strm_machine.specs.Soundness.{sizes_of, IsSound}
 use Rattle.strm_machine.specs.declared.acts.NamedEnd.{NamedEnd}
 use Rattle.strm_machine.specs.declared.acts.Act.{Act}
@@ -62,6 +62,7 @@ module _ (old new : Inside) (s : ℕ) (side : Side) (owner : Owner) (l : s < len
     placed = rw e h.placed;
     small = rw e h.small;
     sets = rw e h.sets;
+    contexts = rw (e, o.same.contexts) h.contexts;
   }
 
   -- as many sets as there were
@@ -122,9 +123,9 @@ pub record GivesHandle (old new : Inside) (side : Side) (ty : TransmitIndex) (to
 performs-sound : (state : State) (act : Act) → state.trapped ≡ false → refusal state act ≡ None → IsSound state → IsSound (performs state act).state
 performs-sound state act t e h = subst (λ (r : Reaction). IsSound r.state) (reaction-performs state act t e) (reaction-sound state act h)
 
-moves-sound : (state : State) (side : Side) (end : NamedEnd) (to s : ℕ) → state.trapped ≡ false → refusal state (OnEnd side end (Move to)) ≡ None → s ≡ stream_named (named state end) → IsSound state → IsSound (moves state s side end to).state
+transfers-sound : (state : State) (side : Side) (end : NamedEnd) (to s : ℕ) → state.trapped ≡ false → refusal state (OnEnd side end (Move to)) ≡ None → s ≡ stream_named (named state end) → IsSound state → IsSound (transfers state s side end to).state
 unfolding performs
-moves-sound state side end to s t e same h = rw same (performs-sound state (OnEnd side end (Move to)) t e h)
+transfers-sound state side end to s t e same h = rw same (performs-sound state (OnEnd side end (Move to)) t e h)
 
 lowers-sound : (state : State) (reader g : ℕ) (ty : TransmitIndex) → state.trapped ≡ false → refusal state (OnLoose reader (Lower g ty)) ≡ None → IsSound state → IsSound (lowers state reader g ty).state
 unfolding performs
@@ -132,12 +133,12 @@ lowers-sound state reader g ty t e h = performs-sound state (OnLoose reader (Low
 
 -- the end of a stream went to a guest, under this handle
 module _ (old new : Inside) (s : ℕ) (side : Side) (end : NamedEnd) (to number : ℕ) (o : SetsOwner old new s side (Held to number)) (m : MovesHandle old new side end to s) (n : number ≡ next_in (without_handle (state_of old) end.guest end.handle) to) where
-  pub moves-is : moves (state_of old) s side end to ≡ goes (replies.Number number) (state_of new)
-  moves-is = rw (o.same.tag, o.same.limits, o.same.trapped, m.guests, o.streams, n) refl
+  pub transfers-is : transfers (state_of old) s side end to ≡ goes (replies.Number number) (state_of new)
+  transfers-is = rw (o.same.tag, o.same.limits, o.same.contexts, o.same.trapped, m.guests, o.streams, n) refl
 
   pub IsStore-moved : old.is_trapped ≡ false → refusal (state_of old) (OnEnd side end (Move to)) ≡ None → s ≡ stream_named (named (state_of old) end) → IsStore old → IsStore new
   IsStore-moved t e same i =
-      let sound = moves-sound (state_of old) side end to s t e same i.sound in
+      let sound = transfers-sound (state_of old) side end to s t e same i.sound in
       IsStore-stream old new s _
       (record {
         limit = rw (m.counter, o.same.limits) i.limit;
@@ -149,7 +150,7 @@ module _ (old new : Inside) (s : ℕ) (side : Side) (end : NamedEnd) (to number 
         sets = o.live_sets ∙ i.sets ∙ sym (ap sets_among m.guests ∙ sets-with_table (without_handle_in (seen old.guests.items) end.guest end.handle) to _ (sets_in (without_handle_in (seen old.guests.items) end.guest end.handle) to) refl ∙ sets-with_table (seen old.guests.items) end.guest _ (left (sets_in (seen old.guests.items) end.guest) end.handle) refl);
         streams = o.streams;
       })
-      (subst (λ (r : Reaction). IsSound r.state) moves-is sound) i
+      (subst (λ (r : Reaction). IsSound r.state) transfers-is sound) i
 
 -- ## Loose ends
 
@@ -167,7 +168,7 @@ lower_made state reader g ty e = loose_made state reader (lower_fits state reade
 -- a loose end came into a guest, under this handle
 module _ (old new : Inside) (s g : ℕ) (ty : TransmitIndex) (number : ℕ) (o : SetsOwner old new s Reading (Held g number)) (m : GivesHandle old new Reading ty g s) (n : number ≡ next_in (state_of old) g) where
   pub lowers-is : lowers (state_of old) s g ty ≡ goes (replies.Number number) (state_of new)
-  lowers-is = rw (o.same.tag, o.same.limits, o.same.trapped, m.guests, o.streams, n) refl
+  lowers-is = rw (o.same.tag, o.same.limits, o.same.contexts, o.same.trapped, m.guests, o.streams, n) refl
 
   pub IsStore-lowered : old.is_trapped ≡ false → refusal (state_of old) (OnLoose s (Lower g ty)) ≡ None → IsStore old → IsStore new
   IsStore-lowered t e i =

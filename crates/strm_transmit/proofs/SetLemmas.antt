@@ -57,7 +57,7 @@ IsStore-tables old new k h sound i =
 
 -- the state, where streams stay and guests are these
 state_with : (old new : Inside) → KeepsStreams old new → (guests : List Guest) → seen new.guests.items ≡ guests → state_of new ≡ record (state_of old) { guests = guests }
-state_with old new k guests e = rw (k.same.tag, k.same.limits, k.same.trapped, k.streams, e) refl
+state_with old new k guests e = rw (k.same.tag, k.same.limits, k.same.contexts, k.same.trapped, k.streams, e) refl
 
 -- ## A set more
 

@@ -12,6 +12,7 @@ use Rattle.strm_handles.proofs.HandleLemmas.{live_of-no_handles}
 use Rattle.strm_machine.specs.State as machine
 use Rattle.strm_memory.specs.Bytes.{put_at}
 use Rattle.strm_sets.specs.Sets.{Sets, no_sets}
+use Rattle.strm_contexts.specs.Contexts.{len as contexts_there}
 use Rattle.strm_machine.specs.State.{State, guest_in, no_guest, sets_in, no_stream, stream_at, memory_in, with_memory, with_sets, with_table, is_live, handles_in_use, sets_in_use, bytes_in_use}
 use Rattle.strm_machine.specs.Soundness.{IsSound, sizes_of, handles_of}
 use Rattle.strm_machine.specs.Tests.{are_places_full}
@@ -21,7 +22,7 @@ use Rattle.strm_machine.specs.declared.acts.Making.TheVariants.{Guest, Between}
 use Rattle.strm_machine.specs.declared.acts.MemoryAct.TheVariants.{Poke}
 use Rattle.strm_machine.specs.declared.acts.Act.TheVariants.{Make, OnMemory}
 use Rattle.strm_machine.specs.declared.replies.Reply.TheVariants as replies
-use Rattle.strm_machine.proofs.RefusalLemmas.{guest_fits, poke_fits, pair_fits}
+use Rattle.strm_machine.proofs.RefusalLemmas.{BytesFit, guest_fits, poke_fits, pair_fits}
 use Rattle.strm_machine.proofs.SoundLemmas.{IsSound-guest, IsSound-guests, IsSound-turn, IsSound-with_stream, sizes_of-with_handles}
 use Rattle.strm_machine.proofs.BoundLemmas.{length-poked}
 use Rattle.strm_machine.proofs.TurnLemmas.{GuestsKeep, TurnKeeps, with_memory-keeps, sets_of}
@@ -37,6 +38,7 @@ use Rattle.strm_transmit.specs.declared.store.Store.TheInside.{Inside}
 pub record SameBut (old new : Inside) : Type 0 where
   pub tag : new.tag ≡ old.tag
   pub limits : new.limits ≡ old.limits
+  pub contexts : new.contexts ≡ old.contexts
   pub trapped : new.is_trapped ≡ old.is_trapped
 
 seen-push : (guests : List ours.Guest) (g : ours.Guest) → seen (guests ++ g ∷ []) ≡ seen guests ++ guest_of g ∷ []
@@ -60,7 +62,7 @@ pub record AddsGuest (old new : Inside) (g : ours.Guest) (size : ℕ) : Type 0 w
 
 state_of-guest : (old new : Inside) (g : ours.Guest) (size : ℕ) → AddsGuest old new g size → state_of new ≡ record (state_of old) { guests = seen old.guests.items ++ guest_of g ∷ [] }
 state_of-guest old new g size h =
-    rw (h.same.tag, h.same.limits, h.same.trapped, h.streams, h.guests, seen-push old.guests.items g) refl
+    rw (h.same.tag, h.same.limits, h.same.contexts, h.same.trapped, h.streams, h.guests, seen-push old.guests.items g) refl
 
 -- how many sets are there
 abbrev pub how_many : Sets → ℕ
@@ -143,15 +145,14 @@ pub record PutsBytes (old new : Inside) (g address : ℕ) (bytes : List ℕ) : T
 pub performs-poke : (old new : Inside) (g address : ℕ) (bytes : List ℕ) → PutsBytes old new g address bytes → performs (state_of old) (OnMemory g (Poke address bytes)) ≡ goes replies.Done (state_of new)
 unfolding performs
 performs-poke old new g address bytes h =
-    rw (h.same.tag, h.same.limits, h.same.trapped, h.streams, h.guests) refl
+    rw (h.same.tag, h.same.limits, h.same.contexts, h.same.trapped, h.streams, h.guests) refl
 
-pub IsStore-poke : (old new : Inside) (g address : ℕ) (bytes : List ℕ) → PutsBytes old new g address bytes → refusal (state_of old) (OnMemory g (Poke address bytes)) ≡ None → IsStore old → IsStore new
-IsStore-poke old new g address bytes h e s =
-    let fits = poke_fits (state_of old) g address bytes e in
+pub IsStore-put : (old new : Inside) (g address : ℕ) (bytes : List ℕ) → PutsBytes old new g address bytes → BytesFit (state_of old) g address (length bytes) → IsStore old → IsStore new
+IsStore-put old new g address bytes h fits s =
     let size = length-poked (memory_in (seen old.guests.items) g) address bytes fits.inside in
     let keeps = with_memory-keeps (seen old.guests.items) g (put_at (memory_in (seen old.guests.items) g) address bytes) size in
     let kept : GuestsKeep (seen old.guests.items) (seen new.guests.items) = rw h.guests keeps in
-    let state : state_of new ≡ record (state_of old) { guests = seen new.guests.items } = rw (h.same.tag, h.same.limits, h.same.trapped, h.streams) refl in
+    let state : state_of new ≡ record (state_of old) { guests = seen new.guests.items } = rw (h.same.tag, h.same.limits, h.same.contexts, h.same.trapped, h.streams) refl in
     let count = same_count (seen old.guests.items) (seen new.guests.items) kept.sizes in
     record {
       sound = rw state (IsSound-guests (state_of old) (seen new.guests.items) kept s.sound);
@@ -165,10 +166,15 @@ IsStore-poke old new g address bytes h e s =
       few_streams = rw h.streams s.few_streams;
     }
 
+pub IsStore-poke : (old new : Inside) (g address : ℕ) (bytes : List ℕ) → PutsBytes old new g address bytes → refusal (state_of old) (OnMemory g (Poke address bytes)) ≡ None → IsStore old → IsStore new
+IsStore-poke old new g address bytes h e s =
+    IsStore-put old new g address bytes h (poke_fits (state_of old) g address bytes e) s
+
 -- guests and one stream as a turn left them
 pub record TakesTurn (old new : Inside) (s : ℕ) (t : Turn) : Type 0 where
   pub tag : new.tag ≡ old.tag
   pub limits : new.limits ≡ old.limits
+  pub contexts : new.contexts ≡ old.contexts
   pub counter : new.counter ≡ old.counter
   pub live_streams : new.live_streams ≡ old.live_streams
   pub live_sets : new.live_sets ≡ old.live_sets
@@ -236,6 +242,7 @@ IsStore-turn old new s t l keeps h i =
       placed = rw (h.guests, h.streams) sound.placed;
       small = rw h.guests sound.small;
       sets = rw h.guests sound.sets;
+      contexts = rw (h.guests, h.contexts) sound.contexts;
     }) i
   where
     as_many : (a w b v n : ℕ) → a + w ≡ b + v → v ≡ w → n ≡ b → n ≡ a
@@ -262,7 +269,7 @@ pub record MakesStream (old new : Inside) (writer reader : ℕ) (ty : TransmitIn
 
 state_of-made : (old new : Inside) (writer reader : ℕ) (ty : TransmitIndex) → MakesStream old new writer reader ty → state_of new ≡ with_stream (state_of old) writer reader ty
 unfolding with_stream
-state_of-made old new writer reader ty h = rw (h.same.tag, h.same.limits, h.same.trapped, h.guests, h.streams) refl
+state_of-made old new writer reader ty h = rw (h.same.tag, h.same.limits, h.same.contexts, h.same.trapped, h.guests, h.streams) refl
 
 pub performs-made : (old new : Inside) (writer reader : ℕ) (ty : TransmitIndex) (pair : Pair) → MakesStream old new writer reader ty → pair ≡ made_pair (state_of old) writer reader ty → performs (state_of old) (Make (Between writer reader ty)) ≡ goes (replies.Pair pair) (state_of new)
 unfolding performs
@@ -322,5 +329,5 @@ live-with_sets guests g sets =
     same_handles guests (with_sets guests g sets) (map-set_same (λ (k : machine.Guest). k.handles) guests g (record (guest_in guests g) { sets = sets }) no_guest refl)
 
 -- so many places are passed as the machine counts
-pub places_passed : (s : Inside) (needed : ℕ) → IsStore s → nat_lt s.limits.places (3 * s.live_streams + s.live_sets + needed) ≡ are_places_full (state_of s) needed
+pub places_passed : (s : Inside) (needed : ℕ) → IsStore s → nat_lt s.limits.places (3 * s.live_streams + s.live_sets + contexts_there s.contexts + needed) ≡ are_places_full (state_of s) needed
 places_passed s needed i = rw (i.streams, i.sets) refl

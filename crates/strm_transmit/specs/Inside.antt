@@ -12,6 +12,7 @@ state_of s = record {
   limits = s.limits;
   guests = seen s.guests.items;
   streams = s.streams.items;
+  contexts = s.contexts;
   trapped = s.is_trapped;
 }
 

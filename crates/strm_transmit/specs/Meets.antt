@@ -6,7 +6,8 @@ use Rattle.strm_machine.specs.Acts.{act_of}
 use Rattle.strm_machine.specs.State.{State}
 use Rattle.strm_machine.specs.Reactions.{Reaction, goes}
 use Rattle.strm_machine.specs.declared.acts.Act.{Act}
-use Rattle.strm_machine.specs.declared.acts.Act.TheVariants.{Make, OnEnd, OnLoose, OnSet}
+use Rattle.strm_machine.specs.declared.acts.Act.TheVariants.{Make, OnEnd, OnLoose, OnSet, OnContext}
+use Rattle.strm_machine.specs.declared.acts.ContextAct.TheVariants as context_acts
 use Rattle.strm_machine.specs.declared.acts.EndAct.TheVariants.{Move}
 use Rattle.strm_machine.specs.declared.acts.LooseAct.TheVariants.{Lower}
 use Rattle.strm_machine.specs.declared.acts.SetAct.TheVariants.{Join}
@@ -66,6 +67,7 @@ act_takes_memory (Make making) = true
 act_takes_memory (OnEnd side end (Move to)) = true
 act_takes_memory (OnLoose reader (Lower guest ty)) = true
 act_takes_memory (OnSet guest set (Join handle)) = true
+act_takes_memory (OnContext guest handle (context_acts.Move to)) = true
 act_takes_memory _ = false
 
 -- a step that takes memory

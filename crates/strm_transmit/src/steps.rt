@@ -13,7 +13,7 @@ ghost use Rattle.strm_transmit.specs.Meets.{Meets, replied, refused_too, is_sett
 
 use crate::errors::StoreError;
 use crate::store::Store;
-use strm_machine::acts::{Act, EndAct, LooseAct, Making, MemoryAct, NamedEnd, SetAct};
+use strm_machine::acts::{Act, ContextAct, EndAct, LooseAct, Making, MemoryAct, NamedEnd, SetAct};
 use strm_machine::replies::Reply;
 use strm_machine::steps::Step;
 use strm_machine::streams::Side;
@@ -59,6 +59,7 @@ fn perform(store: &mut Store, act: Act) -> Result<Reply, StoreError>
         Act::OnLoose { reader, act } => on_loose(store, reader, act),
         Act::Event { guest, handle } => store.take_event(guest, handle).map(Reply::Event),
         Act::OnSet { guest, set, act } => on_set(store, guest, set, act),
+        Act::OnContext { guest, handle, act } => on_context(store, guest, handle, act),
         Act::OnMemory { guest, act } => on_memory(store, guest, act),
     }
 }
@@ -74,6 +75,15 @@ fn make(store: &mut Store, making: Making) -> Result<Reply, StoreError>
             store.new_between(writer, reader, ty).map(Reply::Pair)
         }
         Making::Set { guest } => store.set_new(guest).map(Reply::Number),
+        Making::Context {
+            guest,
+            address,
+            len,
+        } => {
+            store
+                .error_context_new(guest, address, len)
+                .map(Reply::Number)
+        }
     }
 }
 
@@ -136,6 +146,34 @@ fn on_set(store: &mut Store, guest: u32, set: u32, act: SetAct) -> Result<Reply,
         SetAct::Join { handle } => store.set_join(guest, set, handle).map(done),
         SetAct::Poll => poll(store, guest, set),
         SetAct::Drop => store.set_drop(guest, set).map(done),
+    }
+}
+
+// What is done to the error context that a handle names, or to the handle.
+fn on_context(
+    store: &mut Store,
+    guest: u32,
+    handle: u32,
+    act: ContextAct,
+) -> Result<Reply, StoreError>
+    ensures meets { Meets store.old store.new result
+        (reaction store.old (acts.OnContext guest handle act)) }
+    ensures settled { IfOk result (λ reply. IsTrue (is_settled reply)) }
+    ensures takes_no_memory { act_takes_memory (acts.OnContext guest handle act) ≡ false
+        → result ≢ Err StoreError.OutOfMemory }
+{
+    match act {
+        ContextAct::Text { address } => {
+            store
+                .error_context_message(guest, handle, address)
+                .map(Reply::Number)
+        }
+        ContextAct::Move { to } => {
+            store
+                .error_context_transfer(guest, handle, to)
+                .map(Reply::Number)
+        }
+        ContextAct::Drop => store.error_context_drop(guest, handle).map(done),
     }
 }
 

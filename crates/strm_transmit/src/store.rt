@@ -7,6 +7,7 @@ ghost use Rattle.std.specs.Prelude.{◌≡◌, ◌≢◌, Err, ◌<◌, ◌↔�
 ghost use Rattle.strm_codes.specs.Types.{kind_of, payload_of};
 ghost use Rattle.strm_machine.specs.State.{empty, is_live, stream_at, memory_in};
 
+mod contexts;
 mod endings;
 mod making;
 mod memories;
@@ -20,6 +21,7 @@ use std::alloc::Global;
 use std::marker::Model;
 use strm_codes::codes::{TransmitIndex, TransmitKind};
 use strm_codes::refusals::Refusal;
+use strm_contexts::contexts::ErrorContexts;
 use strm_handles::counters::HandleCounter;
 use strm_machine::limits::Limits;
 use strm_machine::streams::Stream;
@@ -34,6 +36,7 @@ pub struct Store {
     counter: HandleCounter,
     guests: Vec<Guest>,
     streams: Vec<Stream>,
+    contexts: ErrorContexts,
     // Streams of which an end is there.
     live_streams: u32,
     // Waitable sets of all guests together.
@@ -47,11 +50,12 @@ pub struct Store {
 impl Model for Store {
     ghost use Rattle.strm_machine.specs.State.{State};
     ghost use Rattle.std.specs.Coded.{codes};
+    ghost use Rattle.strm_contexts.specs.Contexts.{contexts_code};
     ghost use Rattle.strm_sets.specs.Sets.{sets_code};
 
     ghost Value = { State };
 
-    ghost coded = { Prim.hlevel (codes, sets_code) };
+    ghost coded = { Prim.hlevel (codes, sets_code, contexts_code) };
 
     ghost use Rattle.strm_transmit.specs.Inside.{state_of, IsStore};
 
@@ -73,6 +77,7 @@ impl Store {
             counter: HandleCounter::new(limits.handles),
             guests: Vec::new(alloc),
             streams: Vec::new(alloc),
+            contexts: ErrorContexts::new(alloc),
             live_streams: 0,
             live_sets: 0,
             bytes: 0,

@@ -6,10 +6,14 @@ mod calls;
 #[cfg(test)]
 mod cancels;
 #[cfg(test)]
+mod contexts;
+#[cfg(test)]
 mod making;
 #[cfg(test)]
 mod meetings;
 #[cfg(test)]
 mod moves;
+#[cfg(test)]
+mod sets;
 #[cfg(test)]
 mod steps;

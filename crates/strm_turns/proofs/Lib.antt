@@ -3,3 +3,4 @@ pub mod CarryingLemmas
 pub mod EndLemmas
 pub mod OwnerLemmas
 pub mod SetLemmas
+pub mod ContextLemmas

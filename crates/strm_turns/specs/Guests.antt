@@ -43,6 +43,15 @@ without_handle_in guests g handle =
 abbrev pub with_end_in : List machine.Guest → ℕ → Side → TransmitIndex → ℕ → List machine.Guest
 with_end_in guests g side ty s = with_handles guests g (inserted (guest_in guests g).handles (end_entry side ty s))
 
+-- the guests with a handle more of one of them, for the error context of a number
+abbrev pub with_context_in : List machine.Guest → ℕ → ℕ → List machine.Guest
+with_context_in guests g number =
+    with_handles guests g (inserted (guest_in guests g).handles (entries.ErrorContext number))
+
+-- the guests without a handle of one of them, which leads to an error context
+abbrev pub without_context_in : List machine.Guest → ℕ → ℕ → List machine.Guest
+without_context_in guests g handle = with_handles guests g (removed (guest_in guests g).handles handle)
+
 -- a guest with a set more, under its next handle
 abbrev pub with_set_of : machine.Guest → machine.Guest
 with_set_of g = record g {

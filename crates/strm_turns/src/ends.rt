@@ -68,7 +68,7 @@ fn insert(
 }
 
 // Room for so many handles in a guest's table.
-fn reserve(guests: &mut Vec<Guest>, guest: usize, needed: u32) -> Result<(), OutOfMemory>
+pub(crate) fn reserve(guests: &mut Vec<Guest>, guest: usize, needed: u32) -> Result<(), OutOfMemory>
     requires { guest < length guests.old.items }
     ensures seen { seen guests.new.items ≡ seen guests.old.items }
     ensures count { length guests.new.items ≡ length guests.old.items }

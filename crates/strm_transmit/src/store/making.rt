@@ -65,12 +65,13 @@ fn made_stream(ty: TransmitIndex, writer: End, reader: End) -> Stream
     }
 }
 
-// Whether so many places more would pass a limit, beside those of so many streams and sets.
-fn pass_limit(limit: u32, streams: u32, sets: u32, needed: u32) -> bool
-    ensures { result ≡ nat_lt limit (3 * streams + sets + needed) }
+// Whether so many places more would pass a limit, beside those of so many streams, sets and error
+// contexts.
+fn pass_limit(limit: u32, streams: u32, sets: u32, contexts: usize, needed: u32) -> bool
+    ensures { result ≡ nat_lt limit (3 * streams + sets + contexts + needed) }
 {
-    let taken = 3 * u64::from(streams) + u64::from(sets);
-    u64::from(limit) < taken + u64::from(needed)
+    let taken = 3 * u128::from(streams) + u128::from(sets) + contexts as u128;
+    u128::from(limit) < taken + u128::from(needed)
 }
 
 // One item more, in room that is there.
@@ -123,6 +124,7 @@ impl Store {
             self.limits.places,
             self.live_streams,
             self.live_sets,
+            self.contexts.len(),
             needed,
         )
     }

@@ -1,6 +1,6 @@
 //! Ends that change their owner: moves, lifts, lowers and closes.
 //!
-//! Meaning: `moves`, `lifts`, `lowers` and `closes` of `Reactions.antt` of `strm_machine`. Source:
+//! Meaning: `transfers`, `lifts`, `lowers` and `closes` of `Reactions.antt` of `strm_machine`. Source:
 //! Canonical ABI, `lift_stream`, `lower_stream` and those of futures; wasmtime, `lift_from_index`,
 //! `lower_to_index` and `close` of readers. Ours: a transfer as one call.
 
@@ -10,7 +10,7 @@ ghost use Rattle.strm_machine.specs.State.{stream_at};
 ghost use Rattle.strm_machine.specs.Tests.{named, stream_named, same_kind, is_unknown_reader};
 ghost use Rattle.strm_machine.specs.Moves.{without_handle, next_in, with_owner};
 ghost use Rattle.strm_machine.specs.Refusals.{refusal, first_of, last_reasons};
-ghost use Rattle.strm_machine.specs.Reactions.{moves, lowers, with_stream_at, react, reaction};
+ghost use Rattle.strm_machine.specs.Reactions.{transfers, lowers, with_stream_at, react, reaction};
 ghost use Rattle.strm_machine.specs.declared.acts.Act.TheVariants.{OnEnd, OnLoose};
 ghost use Rattle.strm_machine.specs.declared.acts.EndAct.TheVariants.{Move, Lift};
 ghost use Rattle.strm_machine.specs.declared.acts.LooseAct.TheVariants.{Lower, Close};
@@ -133,7 +133,7 @@ impl Store {
         requires stream { stream ≡ stream_named (named self.old end.now) }
         requires untrapped { self.old.trapped ≡ false }
         ensures { Meets self.old self.new (replied replies.Number result)
-            (moves self.old stream side end.now to) }
+            (transfers self.old stream side end.now to) }
     {
         let (guests, counter) = (&mut self.guests, &mut self.counter);
         match move_end(guests, counter, side, end, to as usize, stream) {

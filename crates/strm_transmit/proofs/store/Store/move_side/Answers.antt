@@ -1,4 +1,4 @@
-use Rattle.strm_machine.specs.Reactions.{moves}
+use Rattle.strm_machine.specs.Reactions.{transfers}
 use Rattle.strm_machine.specs.declared.acts.EndAct.TheVariants.{Move}
 use Rattle.strm_machine.specs.declared.replies.Reply.TheVariants as replies
 use Rattle.strm_machine.proofs.ReactionLemmas.{performs-on_end}
@@ -18,7 +18,7 @@ move_named-requires-clause-untrapped c = (is_admitted _ _ _ _ _ c.move_found.ens
 pub returns-in-Ok : goal.returns-in-Ok
 returns-in-Ok c = record {
   meets = meets_admitted c.args.self.now c.move_named.new.self _ (replied replies.Number c.move_named.result) _
-      (reacts _ _ _ _ _ (λ s. moves c.args.self.now s c.args.side c.args.end.now c.args.to)
+      (reacts _ _ _ _ _ (λ s. transfers c.args.self.now s c.args.side c.args.end.now c.args.to)
       (is_admitted _ _ _ _ _ c.move_found.ensures c.in-Ok.ensures.exact)
       (performs-on_end c.args.self.now c.args.side c.args.end.now (Move c.args.to)))
       c.move_named.ensures;

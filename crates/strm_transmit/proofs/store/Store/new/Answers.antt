@@ -2,11 +2,12 @@ use Rattle.std.proofs.Common.{[], refl, arith}
 use Rattle.std.proofs.lemmas.List.Elements.{All-nil}
 use Rattle.strm_machine.specs.Soundness.{AreNamed, StreamIsPlaced}
 use Rattle.strm_machine.proofs.WaitableSetLemmas.{HoldSets-none}
+use Rattle.strm_machine.proofs.ErrorContextLemmas.{HoldsContexts-none}
 use Rattle.strm_transmit.proofs.store.Store.new.Goals as goal
 
 pub invariant_of-result : goal.invariant_of-result
 invariant_of-result c = record {
-  sound = rw (c.new-2.ensures.items, c.new-3.ensures.items) (record { named = All-nil (AreNamed []); placed = All-nil (StreamIsPlaced []); small = omega arith; sets = HoldSets-none });
+  sound = rw (c.new-2.ensures.items, c.new-3.ensures.items, c.new-4.ensures) (record { named = All-nil (AreNamed []); placed = All-nil (StreamIsPlaced []); small = omega arith; sets = HoldSets-none; contexts = HoldsContexts-none });
   limit = rw c.new.ensures refl;
   live = rw (c.new.ensures, c.new-2.ensures.items) refl;
   within = rw c.new.ensures (omega arith);

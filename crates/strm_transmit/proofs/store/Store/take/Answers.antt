@@ -16,6 +16,7 @@ invariant_of-self c =
     (record {
       tag = refl;
       limits = refl;
+      contexts = refl;
       counter = refl;
       live_streams = refl;
       live_sets = refl;
@@ -34,6 +35,7 @@ invariant_of-self-in-Err c =
     (record {
       tag = refl;
       limits = refl;
+      contexts = refl;
       counter = refl;
       live_streams = refl;
       live_sets = refl;

@@ -1,0 +1,26 @@
+use Rattle.std.proofs.Common.{refl, ◌∙◌}
+use Rattle.strm_machine.specs.Reactions.{shares, performs}
+use Rattle.strm_machine.specs.declared.replies.Reply.TheVariants as replies
+use Rattle.strm_machine.proofs.ContextStepLemmas.{transfer_fits}
+use Rattle.strm_transmit.specs.Meets.{replied}
+use Rattle.strm_transmit.proofs.StepLemmas.{is_admitted, reacts, meets_admitted, meets_not_admitted}
+use Rattle.strm_transmit.proofs.store.Store.error_context_transfer.Goals as goal
+
+pub share-requires : goal.share-requires
+share-requires c =
+    let admitted = is_admitted _ _ _ _ _ c.transfer_found.ensures c.in-Ok.ensures.exact in
+    rw admitted.same (transfer_fits c.args.self.now c.args.guest c.args.handle c.args.to c.sound.ensures admitted.none).share
+
+pub returns-in-Ok : goal.returns-in-Ok
+unfolding performs
+returns-in-Ok c = record {
+  meets = meets_admitted c.args.self.now c.share.new.self _ (replied replies.Number c.share.result) _
+      (reacts _ _ _ _ _ (λ number. shares c.args.self.now number c.args.to)
+      (is_admitted _ _ _ _ _ c.transfer_found.ensures c.in-Ok.ensures.exact) refl)
+      c.share.ensures;
+}
+
+pub returns-in-Err : goal.returns-in-Err
+returns-in-Err c = record {
+  meets = meets_not_admitted _ _ _ _ _ c.transfer_found.ensures c.in-Err.ensures.exact;
+}
