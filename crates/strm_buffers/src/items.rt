@@ -114,7 +114,7 @@ impl Items {
         ensures fits { FitsItem (scalars_of self.now.payload) item.new }
     {
         let size = self.payload.size() as usize;
-        if !lift_item_into(&self.bytes, self.start + size * index, self.payload, item) {
+        if !lift_item_into(&self.bytes, self.start + size * index, &self.payload, item) {
             unreachable!();
         }
     }

@@ -192,7 +192,7 @@ impl Offer {
         ensures after { self.new ≡ after_next self.old result }
     {
         let mut item = Value::empty();
-        if behind_into(&self.source, self.payload, self.taken, &mut item) {
+        if behind_into(&self.source, &self.payload, self.taken, &mut item) {
             self.taken += 1;
             Some(item)
         } else {
@@ -214,11 +214,11 @@ fn lent(source: &Source) -> u32
 }
 
 // Puts the item behind so many into an empty one: whether there is one.
-fn behind_into(source: &Source, payload: Payload, taken: u32, item: &mut Value) -> bool
-    requires source { IsSource payload source.now }
+fn behind_into(source: &Source, payload: &Payload, taken: u32, item: &mut Value) -> bool
+    requires source { IsSource payload.now source.now }
     requires empty { item.old ≡ [] }
     ensures exact { then_some result item.new ≡
-        item_behind (scalars_of payload) source.now taken }
+        item_behind (scalars_of payload.now) source.now taken }
     ensures there { IsTrue result → taken + 1 ≤ items_lent source.now }
 {
     match source {

@@ -62,22 +62,6 @@ pub some_more : (ss : List Scalar) (source : List ℕ) (from at k size : ℕ) (x
 some_more ss source from at k size x e p good d =
     rw (add-one, items_last ss (drop from source) k, good, drop-drop (item_size ss * k) from source, ← e, ← p, ← d) refl
 
-some_from : {A : Type 0} (o : Option A) → is_some o ≡ true → IsSome o
-some_from None e = cc
-some_from (Some x) e = refl
-
-none_from : {A : Type 0} (o : Option A) → None ≡ o → IsNone o
-none_from None e = refl
-none_from (Some x) e = cc
-
--- one item more that is none
-pub first_bad : (ss : List Scalar) (source : List ℕ) (from at k n size : ℕ) → k < n → size ≡ item_size ss → at ≡ from + size * k → is_some (items ss (drop from source) k) ≡ true → None ≡ decode ss (drop at source) → IsFirstBad ss (drop from source) n k
-first_bad ss source from at k n size h e p good d = record {
-  within = h;
-  before = some_from (items ss (drop from source) k) good;
-  bad = rw (drop-drop (item_size ss * k) from source, ← e, ← p) (none_from (decode ss (drop at source)) d);
-}
-
 pub all_lifted : (ss : List Scalar) (source : List ℕ) (n : ℕ) (old new : List (List ℤ)) (o : Option (List (List ℤ))) → with_front new (items ss source (n - n)) ≡ with_front old o → IsSomeAnd o (λ xs. new ≡ old ++ xs)
 unfolding items
 all_lifted ss source n old new o h =

@@ -94,7 +94,7 @@ pub fn lift_item_at(bytes: &[u8], from: usize, payload: Payload) -> Option<Value
     ensures { result ≡ decode (scalars_of payload) (drop from bytes.now) }
 {
     let mut item = Value::empty();
-    if lift_item_into(bytes, from, payload, &mut item) {
+    if lift_item_into(bytes, from, &payload, &mut item) {
         Some(item)
     } else {
         None
@@ -103,10 +103,10 @@ pub fn lift_item_at(bytes: &[u8], from: usize, payload: Payload) -> Option<Value
 
 /// The same, put into an empty item: whether there is one, else what it holds then is no item. A
 /// caller that keeps the item moves it once less than an `Option` of it.
-pub fn lift_item_into(bytes: &[u8], from: usize, payload: Payload, item: &mut Value) -> bool
-    requires holds { from + item_size (scalars_of payload) ≤ length bytes.now }
+pub fn lift_item_into(bytes: &[u8], from: usize, payload: &Payload, item: &mut Value) -> bool
+    requires holds { from + item_size (scalars_of payload.now) ≤ length bytes.now }
     requires empty { item.old ≡ [] }
-    ensures { then_some result item.new ≡ decode (scalars_of payload) (drop from bytes.now) }
+    ensures { then_some result item.new ≡ decode (scalars_of payload.now) (drop from bytes.now) }
 {
     lift_fields_into(payload.scalars(), bytes, from, item)
 }
