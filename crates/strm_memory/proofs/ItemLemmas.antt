@@ -3,12 +3,12 @@ use Rattle.std.proofs.Common.{◌≡◌, ℕ, zero, suc, ◌+◌, ◌*◌, ◌<�
 use Rattle.std.proofs.lemmas.List.{length-take-le, drop-drop, take-append-drop, drop_more, drop_all}
 use Rattle.std.proofs.Math.Nat.{mul-le-mul_left}
 use Rattle.std.proofs.Math.Seq.{take-append-add, drop-append-add}
-use Rattle.std.specs.Prelude.{is_some, IsSome, IsNone, IsSomeAnd, option_and_then}
+use Rattle.std.specs.Prelude.{is_some, IsSomeAnd, option_and_then}
 use Rattle.std.specs.Option.{option_map}
 use Rattle.strm_codes.specs.Layout.{item_size}
 use Rattle.strm_codes.specs.declared.scalars.Scalar.{Scalar}
 use Rattle.strm_codes.specs.Items.{FitsItem}
-use Rattle.strm_memory.specs.Items.{decode, encode, items, stored, AreItems, IsFirstBad}
+use Rattle.strm_memory.specs.Items.{decode, encode, items, stored, AreItems}
 use Rattle.strm_memory.proofs.FieldLemmas.{is_some-both, from_on, with_front, with_front-more}
 
 pub item_fits : (k n size : ℕ) → k < n → size * k + size ≤ size * n

@@ -1,4 +1,4 @@
-use Rattle.std.proofs.Common.{arith, ◌≡◌, ◌+◌, ◌∙◌, ◌∷◌, [], length, length-append, refl, sym, drop, to_z, of_z}
+use Rattle.std.proofs.Common.{arith, ◌+◌, ◌∙◌, ◌∷◌, [], length-append, refl, sym, drop, to_z, of_z}
 use Rattle.std.proofs.lemmas.Int.{to_z-of_z, ints}
 use Rattle.std.specs.Int.{w128}
 use mir.Val.{SFits}
