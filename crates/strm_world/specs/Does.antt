@@ -8,7 +8,7 @@ use Rattle.strm_memory.specs.Items.{AreItems}
 use Rattle.strm_buffers.specs.declared.answers.ReaderSaid.{ReaderSaid}
 use Rattle.strm_buffers.specs.Listing.{Item}
 use Rattle.strm_buffers.specs.Said.{WriterSaid}
-use Rattle.strm_buffers.specs.Tells.{WriterTells, ReaderTells}
+use Rattle.strm_buffers.specs.Tells.{WriterTells, ReaderTells, Tells}
 use Rattle.strm_machine.specs.State.{State, empty, producer_at, stream_at}
 use Rattle.strm_machine.specs.declared.limits.Limits.{Limits}
 use Rattle.strm_machine.specs.declared.streams.Duty.{Duty}
@@ -24,12 +24,7 @@ use Rattle.strm_world.specs.World.{World}
 use Rattle.strm_world.specs.Outcomes.{Stop, HostFailed, Outcome, Goes, Stops}
 use Rattle.strm_world.specs.HostPlays.{play, Ends, Halts}
 
--- WHAT HOST ENDS TELL
-
--- what all host ends tell
-pub record Tells : Type 0 where
-  pub writers : List WriterTells
-  pub readers : List ReaderTells
+-- WHAT HOST ENDS SAY
 
 -- the records that each will have in the end
 pub record Logs : Type 0 where
