@@ -1,13 +1,13 @@
 -- Host writers and streams agree after every step, by its shape: no step gives a host end an end, or takes one.
-use Rattle.std.proofs.Common.{◌≡◌, ℕ, zero, suc, ◌<◌, true, false, List, [], ◌∷◌, ◌++◌, length, get_or, set, Option, Some, None, refl, sym, ap, ◌∙◌, subst, inl, inr, ⊎_elim, arith}
+use Rattle.std.proofs.Common.{◌≡◌, ℕ, zero, suc, ◌<◌, true, false, List, [], ◌∷◌, ◌++◌, length, get_or, set, Option, Some, None, refl, sym, ap, ◌∙◌, subst, inl, inr, arith}
 use Rattle.std.specs.Prelude.{replicate}
 use Rattle.std.proofs.lemmas.Bool.{cases_eq, cases_lt, cond_both}
 use Rattle.std.proofs.lemmas.List.{get_or-set_same, get_or-set_other, get_or_past, length-replicate}
-use Rattle.strm_machine.specs.Words.{Guest, ReturnCode, TransmitIndex, State, empty, no_stream, stream_at, end_of, with_end, Turn, named, stream_named, Reaction, written_back, is_end, act_of, react, NamedEnd, Act, Step, Limits, Reply, Side, Writing, Reading, Operation, End, Stream, Owner, Gone, Held, is_loose, is_held, IsSound}
+use Rattle.strm_machine.specs.Words.{Guest, ReturnCode, TransmitIndex, State, empty, no_stream, stream_at, end_of, with_end, Turn, named, stream_named, Reaction, written_back, is_end, NamedEnd, Act, Limits, Side, Writing, Reading, Operation, End, Stream, Owner, is_loose, IsSound}
 use Rattle.strm_machine.specs.State.{host_limit, no_producer, producer_at, is_host, is_gone}
-use Rattle.strm_machine.specs.Hosting.{ServesOne, HostsHold}
+use Rattle.strm_machine.specs.Hosting.{HostsHold}
 use Rattle.strm_machine.specs.Making.{made_stream, made_pair, with_stream}
-use Rattle.strm_machine.specs.Turns.{learns, finds, turn}
+use Rattle.strm_machine.specs.Turns.{finds, turn}
 use Rattle.strm_machine.specs.Reactions.{reaction}
 use Rattle.strm_machine.specs.declared.streams.Duty.TheVariants.{Unused, Serves}
 use Rattle.strm_machine.specs.declared.streams.Producer.{Producer}
