@@ -42,6 +42,11 @@ pub record ReaderTells : Type 0 where
   pub closed : Bool
   pub heard : Heard ℕ
 
+-- what all host ends tell, by their numbers
+pub record Tells : Type 0 where
+  pub writers : List WriterTells
+  pub readers : List ReaderTells
+
 -- THE CALLS OF A HOST WRITER
 
 -- Failed comes only where the count of faults rose, which never falls
