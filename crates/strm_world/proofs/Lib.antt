@@ -5,3 +5,5 @@ pub mod ReactedLemmas
 pub mod DriveLemmas
 pub mod PollLemmas
 pub mod CloseLemmas
+pub mod SettleLemmas
+pub mod OutcomeLemmas

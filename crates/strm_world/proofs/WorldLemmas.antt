@@ -51,6 +51,21 @@ first_duty-drop [] n d l = absurd (omega (arith, l))
 first_duty-drop (p ∷ ps) zero d l = refl
 first_duty-drop (p ∷ ps) (suc n) d l = first_duty-drop ps n d (omega (arith, l))
 
+-- what is kept of one writer, but its duty, is nothing to the machine's writers
+pub writers_from-duty : (ps : List Producer) (ws : List WriterTells) (logs : List (List WriterSaid)) (n : ℕ) (p d : Producer)
+    → (slice_index_or ps n d).duty ≡ p.duty → writers_from (slice_set ps n p) ws logs ≡ writers_from ps ws logs
+writers_from-duty [] ws logs n p d e = refl
+writers_from-duty (q ∷ ps) [] logs n p d e = refl
+writers_from-duty (q ∷ ps) (x ∷ ws) logs zero p d e = ap (λ k. writer_of k x (first_log logs) ∷ writers_from ps ws (drop 1 logs)) (sym e)
+writers_from-duty (q ∷ ps) (x ∷ ws) logs (suc n) p d e =
+    ap (λ more. writer_of q.duty x (first_log logs) ∷ more) (writers_from-duty ps ws (drop 1 logs) n p d e)
+
+-- a place that gets what it had
+pub set-same : {A : Type 0} (xs : List A) (n : ℕ) (d : A) → slice_set xs n (slice_index_or xs n d) ≡ xs
+set-same [] n d = refl
+set-same (x ∷ xs) zero d = refl
+set-same (x ∷ xs) (suc n) d = ap (λ more. x ∷ more) (set-same xs n d)
+
 drop-length : {A : Type 0} (xs ys : List A) → drop (length xs) (xs ++ ys) ≡ ys
 drop-length [] ys = refl
 drop-length (x ∷ xs) ys = drop-length xs ys
