@@ -7,3 +7,4 @@ pub mod PollLemmas
 pub mod CloseLemmas
 pub mod SettleLemmas
 pub mod OutcomeLemmas
+pub mod TurnLemmas
