@@ -1,1 +1,2 @@
 pub mod Producing
+pub mod Erasing
