@@ -1,2 +1,3 @@
 pub mod Producing
 pub mod Erasing
+pub mod Lending
