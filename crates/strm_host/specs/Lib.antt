@@ -1,0 +1,3 @@
+pub mod Producing
+pub mod Erasing
+pub mod Lending
