@@ -1,13 +1,15 @@
 //! Host ends by example, in boxes and not.
 
-ghost use Rattle.std.specs.Prelude.{◌≡◌, [], IfOk};
+ghost use Rattle.std.specs.Prelude.{◌≡◌, IfOk};
+ghost use Rattle.strm_codes.specs.declared.codes.TransmitKind.TheVariants.{Stream};
 ghost use Rattle.strm_codes.specs.declared.payloads.Payload.TheVariants.{One};
 ghost use Rattle.strm_codes.specs.declared.scalars.Scalar.TheVariants.{U8};
+ghost use Rattle.strm_ends.specs.Scripts.{scripted_tells, unpolled_writer};
 
 #[cfg(test)]
 mod tests {
     use crate::credit_reader::CreditReader;
-    use crate::scripted_writer::{ScriptedWriter, WriterTurn};
+    use strm_ends::scripted_writer::{ScriptedWriter, WriterTurn};
     use crate::silent::SilentWriter;
     use std::alloc::Global;
     use std::test::Fail;
@@ -28,9 +30,7 @@ mod tests {
 
     // A writer of one turn of three bytes.
     fn of_three_bytes(alloc: Global) -> Result<ScriptedWriter, Fail>
-        ensures payload { IfOk result (λ writer. writer.payload ≡ One U8) }
-        ensures held { IfOk result (λ writer. writer.held.items ≡ []) }
-        ensures said { IfOk result (λ writer. writer.said.items ≡ []) }
+        ensures { IfOk result (λ writer. scripted_tells writer ≡ unpolled_writer Stream (One U8)) }
     {
         let mut items = Items::new(alloc, BYTES);
         items.push(&7u8.lower())?;
