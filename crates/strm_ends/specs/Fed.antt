@@ -30,9 +30,13 @@ abbrev pub bytes_of_feed : List ℕ → List ℕ → Feed → List ℕ
 bytes_of_feed bytes rest feed =
     bytes_at bytes feed.start feed.len ++ bytes_at rest feed.rest_start feed.rest_len
 
+-- what was heard of a feed
+abbrev pub heard_of : List ℕ → List ℕ → Feed → ℕ × List ℕ
+heard_of bytes rest feed = (feed.records, bytes_of_feed bytes rest feed)
+
 -- and of all of them
 abbrev pub heard_kept : List ℕ → List ℕ → List Feed → List (ℕ × List ℕ)
-heard_kept bytes rest feeds = map (λ feed. (feed.records, bytes_of_feed bytes rest feed)) feeds
+heard_kept bytes rest feeds = map (heard_of bytes rest) feeds
 
 -- how it is kept: the bytes of so many items, all other bytes, and where those of each feed lie
 abbrev pub fed_kept : Payload → List ℕ → ℕ → List ℕ → List Feed → AllFed

@@ -106,8 +106,9 @@ impl Feeds {
         if self.feeds.reserve(1).is_err() || self.rest.reserve(rest.len()).is_err() {
             return Err(OutOfMemory);
         }
-        if self.bytes.extend_from_slice(items).is_err() {
-            return Err(OutOfMemory);
+        match self.bytes.extend_from_slice(items) {
+            Ok(()) => {}
+            Err(_) => return Err(OutOfMemory),
         }
         match self.rest.extend_from_slice(rest) {
             Ok(()) => {}
@@ -126,7 +127,7 @@ impl Feeds {
     {
         let mut bytes = Vec::new(*self.bytes.allocator());
         match bytes.extend_from_slice(self.bytes_of(start, count)) {
-            Ok(()) => Ok(Items::of_bytes(self.payload, bytes, count as usize)),
+            Ok(()) => Ok(Items::of_bytes(self.payload(), bytes, count as usize)),
             Err(_) => Err(OutOfMemory),
         }
     }
@@ -146,7 +147,7 @@ impl Feeds {
         ensures marked { OnOk result (window.new.marked ≡ take count (drop start self.now.items)) }
         ensures fills { Fills window.old window.new }
     {
-        match self.payload {
+        match self.payload() {
             Payload::One(Scalar::U8) => mark_bytes(window, self.bytes_of(start, count)),
             _ => self.put(window, start, count),
         }
@@ -168,8 +169,8 @@ impl Feeds {
         ensures all { length result.now ≡ item_size (scalars_of self.now.payload) * count }
     {
         let size = self.payload.size() as usize;
-        let from = size * start;
-        &self.bytes[from..from + size * count as usize]
+        let (_, behind) = self.bytes.as_slice().split_at(size * start);
+        behind.split_at(size * count as usize).0
     }
 
     // An item, from 0.
@@ -195,6 +196,7 @@ impl Feeds {
         ensures fills { Fills window.old window.new }
     {
         window.sound();
+        let _ = self.len();
         for index in 0..count {
             let item = self.get(start + index as usize);
             match window.put(&item) {
