@@ -6,6 +6,7 @@ mod buffers;
 mod credit_reader;
 mod ends;
 mod host_rules;
+mod queues;
 mod silent;
 mod untyped;
 mod windows;

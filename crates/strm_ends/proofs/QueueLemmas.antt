@@ -1,6 +1,6 @@
 -- What a poll gives of a queue, and that its records stay when more is fed.
 use Rattle.std.proofs.Common.{◌≡◌, ℕ, zero, suc, ◌+◌, ◌-◌, ◌<◌, ◌≤◌, Bool, true, false, List, [], ◌∷◌, ◌++◌, length, take, drop, Option, Some, None, refl, sym, ap, ◌∙◌, arith, append-nil, length-append, length-drop, length-take}
-use Rattle.std.proofs.lemmas.List.{take_all, drop_all, drop-append-le, drop-drop}
+use Rattle.std.proofs.lemmas.List.{take_all, drop_all, drop-drop, length-map}
 use Rattle.std.proofs.lemmas.List.Elements.{All-weaker}
 use Rattle.std.specs.Prelude.{All, min}
 use Rattle.strm_codes.specs.declared.codes.TransmitKind.{TransmitKind}
@@ -12,10 +12,10 @@ use Rattle.strm_buffers.specs.Windows.{Place, Memory, Between, room_of, HasRoom}
 use Rattle.strm_codes.specs.Layout.{scalars_of}
 use Rattle.strm_buffers.specs.Windows.{Lent}
 use Rattle.strm_buffers.specs.Said.{in_room, past_room}
-use Rattle.strm_buffers.specs.Tells.{PollsWriter, Rises, writer_record}
+use Rattle.strm_buffers.specs.Tells.{WriterTells, PollsWriter, Rises, writer_record, fed}
 use Rattle.strm_buffers.specs.declared.answers.Answer.{Answer}
-use Rattle.strm_ends.specs.Fed.{AllFed}
-use Rattle.strm_ends.specs.Queues.{most_given, items_given, queue_left, is_over, answer_by, answer_given}
+use Rattle.strm_ends.specs.Fed.{AllFed, more_fed}
+use Rattle.strm_ends.specs.Queues.{items_fed, most_given, items_given, queue_left, is_over, answer_by, answer_given}
 use Rattle.strm_ends.specs.QueueTells.{queue_of, queue_tells}
 use Rattle.strm_ends.specs.declared.queue_writer.QueueWriter.{QueueWriter}
 use Rattle.strm_ends.specs.Polls.{said_of, said_kept, IsPoll}
@@ -120,3 +120,15 @@ gives_polls old new window after finish a g =
       kind = g.kind;
       payload = ap (λ (f : AllFed). f.payload) g.fed;
     })
+
+-- what a writer tells that was fed so
+abbrev tells_of : TransmitKind → AllFed → List Poll → Bool → WriterTells
+tells_of kind all polls closed =
+    record { kind = kind; payload = all.payload; said = said_kept all.items polls; holds = []; faults = 0; closed = closed; heard = Some all.heard }
+
+-- a feed is heard, and the records stay
+pub fed_tells : (kind : TransmitKind) (old new : AllFed) (polls : List Poll) (closed : Bool) (records : ℕ) (bytes : List ℕ) → All (IsPoll old.items) polls → new ≡ more_fed old records bytes → records ≡ length polls → tells_of kind new polls closed ≡ fed (tells_of kind old polls closed) bytes
+fed_tells kind old new polls closed records bytes p n e =
+    let count : records ≡ length (said_kept old.items polls) = e ∙ sym (length-map polls (said_of old.items)) in
+    let stay : said_kept (old.items ++ items_fed old.payload bytes) polls ≡ said_kept old.items polls = said-more old.items (items_fed old.payload bytes) polls p in
+    ap (λ (f : AllFed). tells_of kind f polls closed) n ∙ rw (stay, count) refl
