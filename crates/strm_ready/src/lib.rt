@@ -1,0 +1,5 @@
+//! Scratch.
+#![tactic(auto)]
+
+pub mod futures;
+pub mod turning;
