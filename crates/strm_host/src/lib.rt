@@ -1,0 +1,5 @@
+//! Host ends typed by Rust's types: producers of streams, and what makes a host writer of one.
+#![tactic(auto)]
+
+pub mod destinations;
+pub mod producers;
