@@ -1,3 +1,0 @@
-pub mod Rising
-pub mod Futures
-pub mod Turnings

@@ -1,5 +1,0 @@
-//! Scratch.
-#![tactic(auto)]
-
-pub mod futures;
-pub mod turning;
