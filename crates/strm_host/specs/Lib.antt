@@ -1,1 +1,4 @@
 pub mod Producing
+pub mod Futures
+pub mod Turnings
+pub mod Lists

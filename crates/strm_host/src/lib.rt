@@ -2,4 +2,7 @@
 #![tactic(auto)]
 
 pub mod destinations;
+pub mod futures;
+pub mod lists;
 pub mod producers;
+pub mod turning;
