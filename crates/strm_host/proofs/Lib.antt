@@ -1,1 +1,2 @@
+pub mod FutureLemmas
 pub mod ListLemmas

@@ -2,6 +2,7 @@
 #![tactic(auto)]
 
 pub mod destinations;
+pub mod empty;
 pub mod futures;
 pub mod lists;
 pub mod producers;
