@@ -16,17 +16,13 @@ FuturePlan A = Bool → Turn (Option A)
 -- what holds where a poll failed
 abbrev pub IfFailed : {A : Type 0} → Turn A → Type 0 → Type 0
 IfFailed Failed P = P
-IfFailed Pending P = Unit {0}
-IfFailed (Ready x) P = Unit {0}
-IfFailed NoMemory P = Unit {0}
+IfFailed turn P = Unit {0}
 
 -- a poll answers what was planned, or memory was wanting
 abbrev pub IsPlanned : {A : Type 0} → Option (FuturePlan A) → Bool → Turn (Option A) → Type 0
 IsPlanned None finish turn = Unit {0}
 IsPlanned (Some plan) finish NoMemory = Unit {0}
-IsPlanned (Some plan) finish Pending = Pending ≡ plan finish
-IsPlanned (Some plan) finish (Ready value) = Ready value ≡ plan finish
-IsPlanned (Some plan) finish Failed = Failed ≡ plan finish
+IsPlanned (Some plan) finish turn = turn ≡ plan finish
 
 -- AS A STREAM
 
@@ -46,7 +42,4 @@ stream_plan item plan = option_map (λ next room finish. poll_of item (next fini
 abbrev pub IsValued : {A : Type 0} → Turn StreamResult → Option A → Type 0
 IsValued (Ready result.Completed) buffer = IsSome buffer
 IsValued (Ready result.Dropped) buffer = ⊥
-IsValued (Ready result.Cancelled) buffer = buffer ≡ None
-IsValued Pending buffer = buffer ≡ None
-IsValued Failed buffer = buffer ≡ None
-IsValued NoMemory buffer = buffer ≡ None
+IsValued turn buffer = buffer ≡ None

@@ -24,7 +24,7 @@ module _ {A : Type 0} where
   answer_of Over finish = turn.Failed
 
   -- what a poll leaves: the value is given once, and each poll after that is a fault
-  abbrev pub polled : Progress A → ℕ → Turning A
-  polled Pending faults = record { progress = Pending; faults = faults }
-  polled (Ready value) faults = record { progress = Over; faults = faults }
-  polled Over faults = record { progress = Over; faults = one_more faults }
+  abbrev pub after_poll : Progress A → ℕ → Turning A
+  after_poll Pending faults = record { progress = Pending; faults = faults }
+  after_poll (Ready value) faults = record { progress = Over; faults = faults }
+  after_poll Over faults = record { progress = Over; faults = one_more faults }

@@ -13,7 +13,7 @@ use strm_memory::payloaded::Payloaded;
 
 /// A source of one value, which is polled until it gives it.
 pub trait FutureProducer: Drop {
-    ghost use Rattle.std.specs.Prelude.{ℕ, Option};
+    ghost use Rattle.std.specs.Prelude.{ℕ, Option, None};
     ghost use Rattle.strm_host.specs.Futures.{FuturePlan};
 
     /// The type of the value.
@@ -23,7 +23,7 @@ pub trait FutureProducer: Drop {
     ghost faults: { Self → ℕ };
 
     // What its next poll answers, asked to finish or not, where it tells.
-    ghost plan: { Self → Option (FuturePlan Self.Item) };
+    ghost plan: { Self → Option (FuturePlan Self.Item) } = { λ _. None };
 
     /// The value, `Pending` while there is none yet, or none where it was asked to finish and gave up.
     fn poll_produce(&mut self, finish: bool) -> Turn<Option<Self::Item>>

@@ -78,7 +78,7 @@ impl<T: Payloaded> FutureProducer for Turning<T> {
     ghost use Rattle.std.specs.Prelude.{◌≤◌, Some};
     ghost use Rattle.strm_buffers.specs.Tells.{Rose};
     ghost use Rattle.strm_host.specs.Futures.{IfFailed};
-    ghost use Rattle.strm_host.specs.Turnings.{answer_of, polled};
+    ghost use Rattle.strm_host.specs.Turnings.{answer_of, after_poll};
 
     type Item = T;
 
@@ -92,7 +92,7 @@ impl<T: Payloaded> FutureProducer for Turning<T> {
 
         // All that it does.
         ensures answer { result ≡ answer_of self.old.progress finish }
-        ensures after { self.new ≡ polled self.old.progress self.old.faults }
+        ensures after { self.new ≡ after_poll self.old.progress self.old.faults }
     {
         match self.progress {
             Progress::Pending => {
