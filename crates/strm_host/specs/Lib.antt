@@ -1,4 +1,5 @@
 pub mod Producing
+pub mod Erasing
 pub mod Futures
-pub mod Turnings
 pub mod Lists
+pub mod Turnings
