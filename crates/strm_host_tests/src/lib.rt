@@ -2,3 +2,5 @@
 #![tactic(auto)]
 
 pub mod countdown;
+mod ready;
+mod turning;
