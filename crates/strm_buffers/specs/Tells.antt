@@ -1,5 +1,5 @@
 -- What a host end tells of itself, and what each call does to it. Ours.
-use Rattle.std.specs.Prelude.{◌≡◌, ℕ, ◌+◌, ◌-◌, ◌^◌, ◌≤◌, min, Bool, true, false, List, [], ◌∷◌, ◌++◌, length, take, drop, slice_index_or, slice_set, Option, None}
+use Rattle.std.specs.Prelude.{◌≡◌, ℕ, ◌+◌, ◌-◌, ◌^◌, ◌≤◌, nat_lt, if◌then◌else◌, Bool, true, false, List, [], ◌∷◌, ◌++◌, length, take, drop, slice_index_or, slice_set, Option, None}
 use Rattle.std.specs.Option.{option_map}
 use Rattle.strm_codes.specs.declared.codes.TransmitKind.{TransmitKind}
 use Rattle.strm_codes.specs.declared.codes.TransmitKind.TheVariants.{Stream}
@@ -85,7 +85,7 @@ with_told tells n told = record tells { writers = slice_set tells.writers n told
 
 -- one more, in a counter of 64 bits that stands still at its end
 abbrev pub one_more : ℕ → ℕ
-one_more n = min (n + 1) (2 ^ 64 - 1)
+one_more n = if nat_lt n (2 ^ 64 - 1) then n + 1 else n
 
 -- a count of faults rose, or stands at its counter's end
 abbrev pub Rose : ℕ → ℕ → Type 0
