@@ -40,17 +40,17 @@ fn answer_of(turn: HostTurn) -> Option<Answer>
 pub fn poll_into(
     alloc: Global,
     guests: &mut Vec<Guest>,
-    payload: Payload,
+    payload: &Payload,
     writer: &mut Box<dyn HostWriter>,
     read: &Operation,
 ) -> Result<(Answer, u32), OutOfMemory>
-    requires placed { IsPlaced (sizes_of (seen guests.old.items)) payload read.now }
-    requires payload { (writer_tells writer.old).payload ≡ payload }
+    requires placed { IsPlaced (sizes_of (seen guests.old.items)) payload.now read.now }
+    requires payload { (writer_tells writer.old).payload ≡ payload.now }
     requires nothing_held { (writer_tells writer.old).holds ≡ [] }
     ensures ok { IfOk result (λ r. PollsInto (writer_tells writer.old) (writer_tells writer.new)
-        (seen guests.old.items) (seen guests.new.items) payload read.now r.0 r.1) }
+        (seen guests.old.items) (seen guests.new.items) payload.now read.now r.0 r.1) }
     ensures no_memory { OnErr result (KeepsWriter (writer_tells writer.old) (writer_tells writer.new)) }
-    ensures lowers { OnErr result (Lowers (seen guests.old.items) (seen guests.new.items) payload read.now) }
+    ensures lowers { OnErr result (Lowers (seen guests.old.items) (seen guests.new.items) payload.now read.now) }
 {
     let mut window = lend_region(alloc, guests, payload, read);
     match window.prepare() {

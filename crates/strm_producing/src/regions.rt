@@ -19,8 +19,8 @@ use strm_machine::streams::Operation;
 use strm_turns::guests::{Guest, put_memory, take_memory};
 
 // Where a read's next items are to lie. Those that take no bytes lie anywhere, so at the front.
-fn region_address(payload: Payload, read: &Operation) -> u32
-    ensures { result ≡ region_address payload read.now }
+fn region_address(payload: &Payload, read: &Operation) -> u32
+    ensures { result ≡ region_address payload.now read.now }
 {
     if payload.size() == 0 || read.left.equals_u32(0) {
         0
@@ -34,18 +34,18 @@ fn region_address(payload: Payload, read: &Operation) -> u32
 pub fn lend_region(
     alloc: Global,
     guests: &mut Vec<Guest>,
-    payload: Payload,
+    payload: &Payload,
     read: &Operation,
 ) -> Window
-    requires placed { IsPlaced (sizes_of (seen guests.old.items)) payload read.now }
-    ensures window { result ≡ lent_memory payload (memory_in (seen guests.old.items) read.now.guest)
-        (region_address payload read.now) read.now.left }
+    requires placed { IsPlaced (sizes_of (seen guests.old.items)) payload.now read.now }
+    ensures window { result ≡ lent_memory payload.now (memory_in (seen guests.old.items) read.now.guest)
+        (region_address payload.now read.now) read.now.left }
     ensures guests { seen guests.new.items ≡ with_memory (seen guests.old.items) read.now.guest [] }
     ensures count { length guests.new.items ≡ length guests.old.items }
 {
     let memory = take_memory(alloc, guests, read.guest as usize);
     let address = region_address(payload, read);
-    Window::over(memory, payload, address, read.left.as_u32())
+    Window::over(memory, *payload, address, read.left.as_u32())
 }
 
 /// Gives a guest its memory back, with the marked items: their number.

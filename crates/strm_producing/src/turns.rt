@@ -78,7 +78,7 @@ fn hand_over(
         scene (seen guests.new.items) stream.new producer (writer_tells writer.new) ≡
         handed_over (scene (seen guests.old.items) stream.old producer (writer_tells writer.old)) read.now }
 {
-    let mut window = lend_region(alloc, guests, stream.payload, read);
+    let mut window = lend_region(alloc, guests, &stream.payload, read);
     match give(writer, &mut window) {
         Ok(()) => {}
         Err(_) => unreachable!(),
@@ -125,7 +125,7 @@ fn poll_once(
         (scene (seen guests.old.items) stream.old producer.old (writer_tells writer.old))
         (scene (seen guests.new.items) stream.new producer.new (writer_tells writer.new)) read.now }
 {
-    let (answer, marked) = match poll_into(alloc, guests, stream.payload, writer, read) {
+    let (answer, marked) = match poll_into(alloc, guests, &stream.payload, writer, read) {
         Ok(polled) => polled,
         Err(_) => return Err(TurnError::OutOfMemory),
     };
