@@ -6,6 +6,7 @@
 ghost use Rattle.std.specs.Prelude.{◌≡◌, ◌+◌, ◌^◌, ◌<◌, ◌≤◌, [], sum, Some};
 ghost use Rattle.strm_codes.specs.declared.codes.StreamResult.TheVariants.{Dropped};
 ghost use Rattle.strm_machine.specs.declared.streams.Side.TheVariants.{Reading};
+ghost use Rattle.strm_world.specs.Producing.{is_last};
 ghost use Rattle.strm_world.specs.Settling.{moved_on};
 ghost use Rattle.strm_machine.specs.Soundness.{sizes_of, IsPlaced};
 ghost use Rattle.strm_turns.specs.Guests.{seen};
@@ -43,6 +44,13 @@ fn count_of(items: u32) -> ItemCount
         Ok(count) => count,
         Err(_) => unreachable!(),
     }
+}
+
+// A writer that answered Dropped has no more to come.
+fn is_last(answer: Answer) -> bool
+    ensures { result ≡ is_last answer }
+{
+    answer == Answer::Dropped
 }
 
 // Why an answer to a poll for a read, in which so many items were produced, stops the step, if it does.
@@ -130,8 +138,11 @@ fn poll_once(
         Err(_) => return Err(TurnError::OutOfMemory),
     };
     let held = held_by(writer);
-    judge(stream.kind, answer, read, marked as usize + held)?;
-    producer.over = producer.over || answer == Answer::Dropped;
+    match judge(stream.kind, answer, read, marked as usize + held) {
+        Ok(()) => {}
+        Err(error) => return Err(error),
+    }
+    producer.over = producer.over || is_last(answer);
     let count = count_of(marked);
     move_on(
         stream,
