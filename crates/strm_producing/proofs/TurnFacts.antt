@@ -62,11 +62,13 @@ module _ (guests after : List Guest) (stream : Stream) (producer : Producer) (te
   stayed = scene after stream producer told
 
   pub wants : Lowers guests after stream.payload read → KeepsWriter tells told → Polled (Err OutOfMemory) before stayed read
-  wants l k =
-      (l.items, record {
-        tells = k;
-        stopped = record { few = l.few; after = ap (λ g. scene g stream producer told) l.lowered };
-      })
+  wants l k = (
+    l.items,
+    record {
+      tells = k;
+      stopped = record { few = l.few; after = ap (λ g. scene g stream producer told) l.lowered };
+    },
+  )
 
   module _ (answer : Answer) (count held : ℕ) (p : PollsInto tells told guests after stream.payload read answer count) (holds : held ≡ length told.holds) where
     rest_held : told.holds ≡ drop read.left p.said.items
@@ -108,10 +110,12 @@ module _ (guests after : List Guest) (stream : Stream) (producer : Producer) (te
     -- the step goes on
     pub judged_passes : (moved : Stream) (kept : Producer) → judged stream.kind answer read (count + held) ≡ Ok tt → moved ≡ moved_on Reading stream read count (produced_result answer told.holds) → kept ≡ record producer { over = producer.over || is_last answer } → Polled (Ok tt) before (scene after moved kept told) read
     judged_passes moved kept e m k =
-        let fine = passed (is_failed answer) (writer_breaks stream.kind answer (Some read.left) read.asked (count + held)) e in
-        (p.said, record {
-          polled = p.polled;
-          failed = rw p.answer_is fine.0;
-          broke = rules ∙ fine.1;
-          after = rw (p.answer_is, m, k, p.lowers, p.received_is, rest_held) refl;
-        })
+        let fine = passed (is_failed answer) (writer_breaks stream.kind answer (Some read.left) read.asked (count + held)) e in (
+          p.said,
+          record {
+            polled = p.polled;
+            failed = rw p.answer_is fine.0;
+            broke = rules ∙ fine.1;
+            after = rw (p.answer_is, m, k, p.lowers, p.received_is, rest_held) refl;
+          },
+        )
