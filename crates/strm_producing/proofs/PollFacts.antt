@@ -1,9 +1,10 @@
 -- One poll through a window over a read's region, by what the writer's record says.
-use Rattle.std.proofs.Common.{◌≡◌, ℕ, ◌≤◌, Bool, List, [], ◌++◌, length, take, Option, Some, None, refl, sym, ap, subst, ◌∙◌}
+use Rattle.std.proofs.Common.{◌≡◌, ℕ, ◌≤◌, Bool, List, [], ◌++◌, length, take, Option, Some, None, refl, sym, ap, subst, ◌∙◌, arith, length-take}
 use Rattle.strm_codes.specs.declared.codes.StreamResult.{StreamResult}
 use Rattle.strm_codes.specs.declared.codes.StreamResult.TheVariants as results
 use Rattle.strm_codes.specs.declared.payloads.Payload.{Payload}
 use Rattle.strm_buffers.specs.declared.answers.Answer.{Answer}
+use Rattle.strm_buffers.specs.declared.answers.Answer.TheVariants as answers
 use Rattle.strm_buffers.specs.declared.answers.Turn.{Turn}
 use Rattle.strm_buffers.specs.declared.answers.Turn.TheVariants.{Pending, Ready, Failed, NoMemory}
 use Rattle.strm_buffers.specs.Listing.{Item}
@@ -21,29 +22,20 @@ pub record Reads (turn : Turn StreamResult) (read : Option Answer) : Type 0 wher
   pub answered : IfAnswered turn (λ answer. read ≡ Some answer)
   pub no_memory : IfNoMemory turn (read ≡ None)
 
-some_is : {P : Answer → Type 0} (a b : Answer) (o : Option Answer) → o ≡ Some a → o ≡ Some b → P a → P b
-some_is {P} a b o e f p = subst P (cc) p
+some_is : (P : Answer → Type 0) (a b : Answer) (o : Option Answer) → o ≡ Some b → P a → o ≡ Some a → P b
+some_is P a b o f p e = let same : a ≡ b = cc in subst P same p
 
-some_none : {P : Type 0} (a : Answer) (o : Option Answer) → o ≡ Some a → o ≡ None → P
-some_none a o e f = cc
+some_none : (P : Type 0) (a : Answer) (o : Option Answer) → o ≡ Some a → o ≡ None → P
+some_none P a o e f = cc
 
 -- what holds of the answer of a turn holds of the answer that was read off it
 pub of_answer : (P : Answer → Type 0) (turn : Turn StreamResult) (o : Option Answer) (a : Answer) → Reads turn o → o ≡ Some a → IfAnswered turn P → P a
-of_answer P Pending o a r e p = some_is _ a o r.answered e p
-of_answer P (Ready results.Completed) o a r e p = some_is _ a o r.answered e p
-of_answer P (Ready results.Cancelled) o a r e p = some_is _ a o r.answered e p
-of_answer P (Ready results.Dropped) o a r e p = some_is _ a o r.answered e p
-of_answer P Failed o a r e p = some_is _ a o r.answered e p
-of_answer P NoMemory o a r e p = some_none a o e r.no_memory
-
--- and what holds where memory was wanting
-pub of_none : (P : Type 0) (turn : Turn StreamResult) (o : Option Answer) → Reads turn o → o ≡ None → IfNoMemory turn P → P
-of_none P Pending o r e p = some_none _ o r.answered e
-of_none P (Ready results.Completed) o r e p = some_none _ o r.answered e
-of_none P (Ready results.Cancelled) o r e p = some_none _ o r.answered e
-of_none P (Ready results.Dropped) o r e p = some_none _ o r.answered e
-of_none P Failed o r e p = some_none _ o r.answered e
-of_none P NoMemory o r e p = p
+of_answer P Pending o a r e p = some_is P answers.Pending a o e p r.answered
+of_answer P (Ready results.Completed) o a r e p = some_is P answers.Completed a o e p r.answered
+of_answer P (Ready results.Cancelled) o a r e p = some_is P answers.Cancelled a o e p r.answered
+of_answer P (Ready results.Dropped) o a r e p = some_is P answers.Dropped a o e p r.answered
+of_answer P Failed o a r e p = some_is P answers.Failed a o e p r.answered
+of_answer P NoMemory o a r e p = some_none (P a) a o e r.no_memory
 
 module _ (guests : List Guest) (payload : Payload) (read : Operation) (between after : List Guest) (window filled : Lent) (h : Returns guests payload read between after window filled) (tells told : WriterTells) where
   -- the poll's record
@@ -62,3 +54,15 @@ module _ (guests : List Guest) (payload : Payload) (read : Operation) (between a
         received_is = n ∙ ap length marks;
         lowers = subst (λ xs. after ≡ lowered guests payload read xs) marks (marked_lowered guests payload read between after window filled h);
       }
+
+-- a read receives no more items than it has left
+pub received_few : (tells told : WriterTells) (guests after : List Guest) (payload : Payload) (read : Operation) (answer : Answer) (count : ℕ) → PollsInto tells told guests after payload read answer count → count ≤ read.left
+received_few tells told guests after payload read answer count p =
+    omega (arith, p.received_is, length-take read.left p.said.items)
+
+-- held items that were given are those that there was room for
+pub given_items : (room : Option ℕ) (left : ℕ) (marked holds : List Item) → marked ≡ in_room room holds → room ≡ Some left → marked ≡ take left holds
+given_items room left marked holds m r = m ∙ ap (λ o. in_room o holds) r
+
+pub given_few : (left count : ℕ) (marked holds : List Item) → marked ≡ take left holds → count ≡ length marked → count ≤ left
+given_few left count marked holds m n = omega (arith, n, ap length m, length-take left holds)

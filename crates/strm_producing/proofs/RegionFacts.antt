@@ -1,5 +1,5 @@
 -- A read's region, lent to a window and taken back: the items that were marked are lowered.
-use Rattle.std.proofs.Common.{◌≡◌, ℕ, zero, suc, ◌+◌, ◌*◌, ◌<◌, ◌≤◌, Bool, List, [], ◌∷◌, length, take, refl, sym, ap, subst, ◌∙◌, arith}
+use Rattle.std.proofs.Common.{◌≡◌, ℕ, zero, suc, ◌+◌, ◌*◌, ◌<◌, ◌≤◌, Bool, false, List, [], ◌∷◌, length, take, refl, sym, ap, subst, ◌∙◌, arith}
 use Rattle.std.specs.Prelude.{◌==◌, ◌||◌, if◌then◌else◌}
 use Rattle.std.proofs.lemmas.List.{take-append-drop}
 use Rattle.strm_codes.specs.Layout.{scalars_of, item_size}
@@ -26,12 +26,12 @@ use Rattle.strm_producing.specs.Polls.{Lowers}
 -- the region lies in the memory
 pub region_inside : (guests : List Guest) (payload : Payload) (read : Operation) → IsPlaced (sizes_of guests) payload read → region_address payload read + item_size (scalars_of payload) * read.left ≤ length (memory_in guests read.guest)
 region_inside guests payload read h =
-    by_size (item_size (scalars_of payload)) read.left (within _ (scalars_of payload) read.address read.left (front_inside guests payload read read.left (omega arith) h))
+    by_size read.address (length (memory_in guests read.guest)) (item_size (scalars_of payload)) read.left (within _ (scalars_of payload) read.address read.left (front_inside guests payload read read.left (omega arith) h))
   where
-    by_size : {address size : ℕ} (w n : ℕ) → (0 < n → 0 < w → address + w * n ≤ size) → (if (w == 0) || (n == 0) then 0 else address) + w * n ≤ size
-    by_size zero n h = omega arith
-    by_size (suc w) zero h = omega arith
-    by_size (suc w) (suc n) h = h (omega arith) (omega arith)
+    by_size : (address size w n : ℕ) → (0 < n → 0 < w → address + w * n ≤ size) → (if (w == 0) || (n == 0) then 0 else address) + w * n ≤ size
+    by_size address size zero n h = omega arith
+    by_size address size (suc w) zero h = omega arith
+    by_size address size (suc w) (suc n) h = h (omega arith) (omega arith)
 
 stored-nothing : (bytes : List ℕ) (items : List Item) → stored [] bytes items ≡ bytes
 unfolding stored encode_from
@@ -47,11 +47,13 @@ module _ (payload : Payload) (read : Operation) (memory : List ℕ) (items : Lis
   stored_for w n = stored_at (scalars_of payload) memory (if (w == 0) || (n == 0) then 0 else read.address) items
 
   stored_by_size : (w n : ℕ) → item_size (scalars_of payload) ≡ w → length items ≤ n → stored_for w n ≡ stored_at (scalars_of payload) memory read.address items
-  stored_by_size zero n e l = rw (no_scalars (scalars_of payload) e, stored_at-nothing) refl
+  stored_by_size zero n e l =
+      let none : scalars_of payload ≡ [] = no_scalars (scalars_of payload) e in
+      rw none (stored_at-nothing memory 0 items ∙ sym (stored_at-nothing memory read.address items))
   stored_by_size (suc w) zero e l = none items (omega (arith, l))
     where
       none : (xs : List Item) → length xs ≡ 0 → stored_at (scalars_of payload) memory 0 xs ≡ stored_at (scalars_of payload) memory read.address xs
-      none [] e = rw stored_at-nil refl
+      none [] e = stored_at-nil (scalars_of payload) memory 0 ∙ sym (stored_at-nil (scalars_of payload) memory read.address)
       none (x ∷ xs) e = cc
   stored_by_size (suc w) (suc n) e l = refl
 
@@ -95,3 +97,10 @@ module _ (guests : List Guest) (payload : Payload) (read : Operation) where
   -- no items leave all as it is
   pub lowered-none : lowered guests payload read [] ≡ guests
   lowered-none = rw (stored_at-nil (scalars_of payload) (memory_in guests read.guest) read.address) (with_memory-same guests read.guest)
+
+  -- a region lent, and returned without a call
+  pub unpolled : (between after : List Guest) (window : Lent) → window ≡ region_window false → between ≡ with_memory guests read.guest [] → after ≡ with_memory between read.guest (memory_of window.place) → Lowers guests after payload read
+  unpolled between after window l o b =
+      let whole : memory_of window.place ≡ memory_in guests read.guest = rw l refl in
+      let same : after ≡ guests = b ∙ rw (o, whole) (with_memory-twice guests read.guest [] (memory_in guests read.guest) ∙ with_memory-same guests read.guest) in
+      record { items = []; few = omega arith; lowered = same ∙ sym lowered-none }

@@ -1,6 +1,6 @@
 -- What a turn does, by the held items that it handed over, or by the poll that it did.
 use Rattle.std.proofs.Common.{◌≡◌, ℕ, ◌+◌, ◌<◌, ◌≤◌, ◌*◌, Bool, true, false, List, [], ◌∷◌, ◌++◌, length, take, drop, Some, Result, Ok, Err, refl, sym, ap, ◌∙◌, arith, length-append, length-take}
-use Rattle.std.specs.Prelude.{◌^◌, ◌||◌, if◌then◌else◌, sum}
+use Rattle.std.specs.Prelude.{◌^◌, ◌||◌, sum}
 use Rattle.std.proofs.lemmas.List.{take-append-drop}
 use Rattle.strm_codes.specs.Layout.{scalars_of, item_size}
 use Rattle.strm_codes.specs.declared.payloads.Payload.{Payload}
@@ -22,7 +22,7 @@ use Rattle.strm_world.specs.Polls.{is_failed}
 use Rattle.strm_world.specs.Producing.{lowered, is_last, produced_result}
 use Rattle.strm_world.specs.Settling.{moved_on}
 use Rattle.strm_producing.specs.Polls.{PollsInto, Lowers}
-use Rattle.strm_producing.specs.Turning.{Scene, scene, handed_over, ended, produced, Stopped, judged, Produces, Fails, Breaks, Wants, Polled}
+use Rattle.strm_producing.specs.Turning.{Scene, scene, handed_over, ended, produced, Stopped, judged_by, judged, Produces, Fails, Breaks, Wants, Polled, TurnsEmpty, TurnsHolding}
 use Rattle.strm_producing.specs.declared.turns.TurnError.{TurnError}
 use Rattle.strm_producing.specs.declared.turns.TurnError.TheVariants.{Failed, OutOfMemory, Broke}
 use Rattle.strm_producing.proofs.RegionFacts.{lowered-none}
@@ -89,7 +89,7 @@ module _ (guests after : List Guest) (stream : Stream) (producer : Producer) (te
       after = ap (λ g. scene g stream producer told) p.lowers;
     }
 
-    stops_by : (error : TurnError) (failed broke : Bool) → is_failed answer ≡ failed → writer_breaks stream.kind answer (Some read.left) read.asked (count + held) ≡ broke → (if failed then Err Failed else (if broke then Err Broke else Ok tt)) ≡ Err error → Polled (Err error) before stayed read
+    stops_by : (error : TurnError) (failed broke : Bool) → is_failed answer ≡ failed → writer_breaks stream.kind answer (Some read.left) read.asked (count + held) ≡ broke → judged_by failed broke ≡ Err error → Polled (Err error) before stayed read
     stops_by Failed true broke f b e = (p.said, record { polled = p.polled; failed = p.answer_is ∙ failed_is answer f; stopped = stopped })
     stops_by Broke true broke f b e = cc
     stops_by OutOfMemory true broke f b e = cc
@@ -102,7 +102,7 @@ module _ (guests after : List Guest) (stream : Stream) (producer : Producer) (te
     pub judged_stops : (error : TurnError) → judged stream.kind answer read (count + held) ≡ Err error → Polled (Err error) before stayed read
     judged_stops error e = stops_by error (is_failed answer) _ refl refl e
 
-    passed : (failed broke : Bool) → (if failed then Err Failed else (if broke then Err Broke else Ok tt)) ≡ Ok tt → (failed ≡ false) × (broke ≡ false)
+    passed : (failed broke : Bool) → judged_by failed broke ≡ Ok tt → (failed ≡ false) × (broke ≡ false)
     passed true broke e = cc
     passed false true e = cc
     passed false false e = (refl, refl)
@@ -119,3 +119,13 @@ module _ (guests after : List Guest) (stream : Stream) (producer : Producer) (te
             after = rw (p.answer_is, m, k, p.lowers, p.received_is, rest_held) refl;
           },
         )
+
+-- ## The turn
+
+pub holding : (items : List Item) (result : Result (Unit {0}) TurnError) (old new : Scene) (read : Operation) → 0 < length items → result ≡ Ok tt → new ≡ handed_over old read → TurnsHolding items result old new read
+holding [] result old new read l r n = absurd (omega (arith, l))
+holding (item ∷ items) result old new read l r n = (r, n)
+
+pub empty : (items : List Item) (result : Result (Unit {0}) TurnError) (old new : Scene) (read : Operation) → length items ≡ 0 → TurnsEmpty old.producer.over result old new read → TurnsHolding items result old new read
+empty [] result old new read l t = t
+empty (item ∷ items) result old new read l t = absurd (omega (arith, l))

@@ -1,6 +1,6 @@
 -- What one turn of a host writer does to what it touches: a producer turn without the rest of the
 -- world. Ours.
-use Rattle.std.specs.Prelude.{◌≡◌, ℕ, ◌≤◌, Bool, true, false, ◌||◌, if◌then◌else◌, List, [], ◌∷◌, length, take, drop, Option, Some, Result, Ok, Err}
+use Rattle.std.specs.Prelude.{◌≡◌, ℕ, ◌≤◌, Bool, true, false, ◌||◌, List, [], ◌∷◌, length, take, drop, Option, Some, Result, Ok, Err}
 use Rattle.strm_codes.specs.declared.codes.TransmitKind.{TransmitKind}
 use Rattle.strm_codes.specs.declared.codes.StreamResult.{StreamResult}
 use Rattle.strm_codes.specs.declared.codes.StreamResult.TheVariants.{Completed, Dropped}
@@ -69,11 +69,16 @@ pub record Stopped (old new : Scene) (read : Operation) (items : List Item) : Ty
 
 -- THE POLL
 
--- why this answer to a poll for a read, in which so many items were produced, stops the step, if it does
+-- what comes of a poll, by whether the writer failed, and whether it broke the rules
+abbrev pub judged_by : Bool → Bool → Result (Unit {0}) TurnError
+judged_by true broke = Err Failed
+judged_by false true = Err Broke
+judged_by false false = Ok tt
+
+-- of one for a read that had this answer, and in which so many items were produced
 abbrev pub judged : TransmitKind → Answer → Operation → ℕ → Result (Unit {0}) TurnError
 judged kind answer read produced =
-    if is_failed answer then Err Failed
-    else (if writer_breaks kind answer (Some read.left) read.asked produced then Err Broke else Ok tt)
+    judged_by (is_failed answer) (writer_breaks kind answer (Some read.left) read.asked produced)
 
 -- a poll that goes on: it didn't fail, and kept the rules
 pub record Produces (old new : Scene) (read : Operation) (said : WriterSaid) : Type 0 where

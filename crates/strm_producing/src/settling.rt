@@ -90,6 +90,7 @@ fn let_go(stream: &mut Stream, side: Side, outcome: Option<StreamResult>)
 
 /// So many items of the operation on a side came from the host end on the other side, or went to it,
 /// and the operation is settled so, if it is.
+#[tactic(auto, unfolding(strm_world::specs::Settling::moved_on))]
 pub fn move_on(
     stream: &mut Stream,
     side: Side,

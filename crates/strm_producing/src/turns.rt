@@ -3,7 +3,7 @@
 //! Meaning: `Producing.antt` of `strm_world`. Source: wasmtime, `futures_and_streams.rs`,
 //! `guest_read` with `WriteState::HostReady`, and what `set_producer` makes of it.
 
-ghost use Rattle.std.specs.Prelude.{◌≡◌, ◌+◌, ◌^◌, ◌<◌, ◌≤◌, [], sum, Some};
+ghost use Rattle.std.specs.Prelude.{◌≡◌, ◌+◌, ◌^◌, ◌<◌, ◌≤◌, ◌||◌, [], sum, Some};
 ghost use Rattle.strm_codes.specs.declared.codes.StreamResult.TheVariants.{Dropped};
 ghost use Rattle.strm_machine.specs.declared.streams.Side.TheVariants.{Reading};
 ghost use Rattle.strm_world.specs.Producing.{is_last};
@@ -47,10 +47,11 @@ fn count_of(items: u32) -> ItemCount
 }
 
 // A writer that answered Dropped has no more to come.
-fn is_last(answer: Answer) -> bool
-    ensures { result ≡ is_last answer }
+fn note_last(producer: &mut Producer, answer: Answer)
+    ensures { producer.new ≡
+        record producer.old { over = producer.old.over || is_last answer } }
 {
-    answer == Answer::Dropped
+    producer.over = producer.over || answer == Answer::Dropped;
 }
 
 // Why an answer to a poll for a read, in which so many items were produced, stops the step, if it does.
@@ -77,16 +78,16 @@ fn hand_over(
     guests: &mut Vec<Guest>,
     stream: &mut Stream,
     writer: &mut Box<dyn HostWriter>,
-    read: &Operation,
+    read: Operation,
 )
-    requires placed { IsPlaced (sizes_of (seen guests.old.items)) stream.old.payload read.now }
+    requires placed { IsPlaced (sizes_of (seen guests.old.items)) stream.old.payload read }
     requires sizes { sum (sizes_of (seen guests.old.items)) ≤ 268435456 }
     requires payload { (writer_tells writer.old).payload ≡ stream.old.payload }
     ensures { (producer : Producer) →
         scene (seen guests.new.items) stream.new producer (writer_tells writer.new) ≡
-        handed_over (scene (seen guests.old.items) stream.old producer (writer_tells writer.old)) read.now }
+        handed_over (scene (seen guests.old.items) stream.old producer (writer_tells writer.old)) read }
 {
-    let mut window = lend_region(alloc, guests, &stream.payload, read);
+    let mut window = lend_region(alloc, guests, &stream.payload, &read);
     match give(writer, &mut window) {
         Ok(()) => {}
         Err(_) => unreachable!(),
@@ -96,21 +97,21 @@ fn hand_over(
     move_on(
         stream,
         Side::Reading,
-        read,
+        &read,
         count,
         Some(StreamResult::Completed),
     );
 }
 
 // A writer that has no more to come, and holds nothing, is gone.
-fn end_read(stream: &mut Stream, read: &Operation)
-    requires { read.now.moved + read.now.left < 2 ^ 28 }
-    ensures { stream.new ≡ moved_on Reading stream.old read.now 0 (Some Dropped) }
+fn end_read(stream: &mut Stream, read: Operation)
+    requires { read.moved + read.left < 2 ^ 28 }
+    ensures { stream.new ≡ moved_on Reading stream.old read 0 (Some Dropped) }
 {
     move_on(
         stream,
         Side::Reading,
-        read,
+        &read,
         ItemCount::ZERO,
         Some(StreamResult::Dropped),
     );
@@ -123,31 +124,31 @@ fn poll_once(
     stream: &mut Stream,
     producer: &mut Producer,
     writer: &mut Box<dyn HostWriter>,
-    read: &Operation,
+    read: Operation,
 ) -> Result<(), TurnError>
-    requires placed { IsPlaced (sizes_of (seen guests.old.items)) stream.old.payload read.now }
+    requires placed { IsPlaced (sizes_of (seen guests.old.items)) stream.old.payload read }
     requires sizes { sum (sizes_of (seen guests.old.items)) ≤ 268435456 }
     requires payload { (writer_tells writer.old).payload ≡ stream.old.payload }
     requires nothing_held { (writer_tells writer.old).holds ≡ [] }
     ensures { Polled result
         (scene (seen guests.old.items) stream.old producer.old (writer_tells writer.old))
-        (scene (seen guests.new.items) stream.new producer.new (writer_tells writer.new)) read.now }
+        (scene (seen guests.new.items) stream.new producer.new (writer_tells writer.new)) read }
 {
-    let (answer, marked) = match poll_into(alloc, guests, &stream.payload, writer, read) {
+    let (answer, marked) = match poll_into(alloc, guests, &stream.payload, writer, &read) {
         Ok(polled) => polled,
         Err(_) => return Err(TurnError::OutOfMemory),
     };
     let held = held_by(writer);
-    match judge(stream.kind, answer, read, marked as usize + held) {
+    match judge(stream.kind, answer, &read, marked as usize + held) {
         Ok(()) => {}
         Err(error) => return Err(error),
     }
-    producer.over = producer.over || is_last(answer);
+    note_last(producer, answer);
     let count = count_of(marked);
     move_on(
         stream,
         Side::Reading,
-        read,
+        &read,
         count,
         produced_result(answer, held),
     );
@@ -162,14 +163,14 @@ pub fn producer_turn(
     stream: &mut Stream,
     producer: &mut Producer,
     writer: &mut Box<dyn HostWriter>,
-    read: &Operation,
+    read: Operation,
 ) -> Result<(), TurnError>
-    requires placed { IsPlaced (sizes_of (seen guests.old.items)) stream.old.payload read.now }
+    requires placed { IsPlaced (sizes_of (seen guests.old.items)) stream.old.payload read }
     requires sizes { sum (sizes_of (seen guests.old.items)) ≤ 268435456 }
     requires payload { (writer_tells writer.old).payload ≡ stream.old.payload }
     ensures { Turns result
         (scene (seen guests.old.items) stream.old producer.old (writer_tells writer.old))
-        (scene (seen guests.new.items) stream.new producer.new (writer_tells writer.new)) read.now }
+        (scene (seen guests.new.items) stream.new producer.new (writer_tells writer.new)) read }
 {
     if held_by(writer) > 0 {
         hand_over(alloc, guests, stream, writer, read);
