@@ -1,6 +1,7 @@
 -- A read's region, lent to a window and taken back: the items that were marked are lowered.
 use Rattle.std.proofs.Common.{◌≡◌, ℕ, zero, suc, ◌+◌, ◌*◌, ◌<◌, ◌≤◌, Bool, false, List, [], ◌∷◌, length, take, refl, sym, ap, subst, ◌∙◌, arith}
 use Rattle.std.specs.Prelude.{◌==◌, ◌||◌, if◌then◌else◌}
+use Rattle.std.proofs.lemmas.Bool.Decides.{nat_tests}
 use Rattle.std.proofs.lemmas.List.{take-append-drop}
 use Rattle.strm_codes.specs.Layout.{scalars_of, item_size}
 use Rattle.strm_codes.specs.declared.payloads.Payload.{Payload}
@@ -23,6 +24,10 @@ use Rattle.strm_producing.specs.Polls.{Lowers}
 
 -- ## Its address
 
+-- what is behind the front is not at it
+not_zero : (n : ℕ) → (suc n == 0) ≡ false
+not_zero n = grind (arith, nat_tests)
+
 -- the region lies in the memory
 pub region_inside : (guests : List Guest) (payload : Payload) (read : Operation) → IsPlaced (sizes_of guests) payload read → region_address payload read + item_size (scalars_of payload) * read.left ≤ length (memory_in guests read.guest)
 region_inside guests payload read h =
@@ -30,8 +35,8 @@ region_inside guests payload read h =
   where
     by_size : (address size w n : ℕ) → (0 < n → 0 < w → address + w * n ≤ size) → (if (w == 0) || (n == 0) then 0 else address) + w * n ≤ size
     by_size address size zero n h = omega arith
-    by_size address size (suc w) zero h = omega arith
-    by_size address size (suc w) (suc n) h = h (omega arith) (omega arith)
+    by_size address size (suc w) zero h = rw (not_zero w) (omega arith)
+    by_size address size (suc w) (suc n) h = rw (not_zero w, not_zero n) (h (omega arith) (omega arith))
 
 stored-nothing : (bytes : List ℕ) (items : List Item) → stored [] bytes items ≡ bytes
 unfolding stored encode_from
@@ -50,12 +55,12 @@ module _ (payload : Payload) (read : Operation) (memory : List ℕ) (items : Lis
   stored_by_size zero n e l =
       let none : scalars_of payload ≡ [] = no_scalars (scalars_of payload) e in
       rw none (stored_at-nothing memory 0 items ∙ sym (stored_at-nothing memory read.address items))
-  stored_by_size (suc w) zero e l = none items (omega (arith, l))
+  stored_by_size (suc w) zero e l = rw (not_zero w) (none items (omega (arith, l)))
     where
       none : (xs : List Item) → length xs ≡ 0 → stored_at (scalars_of payload) memory 0 xs ≡ stored_at (scalars_of payload) memory read.address xs
       none [] e = stored_at-nil (scalars_of payload) memory 0 ∙ sym (stored_at-nil (scalars_of payload) memory read.address)
       none (x ∷ xs) e = cc
-  stored_by_size (suc w) (suc n) e l = refl
+  stored_by_size (suc w) (suc n) e l = rw (not_zero w, not_zero n) refl
 
   -- items that the read has left are stored there as at the read's own address
   pub stored_region : length items ≤ read.left → stored_at (scalars_of payload) memory (region_address payload read) items ≡ stored_at (scalars_of payload) memory read.address items

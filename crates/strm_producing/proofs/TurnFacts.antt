@@ -35,13 +35,12 @@ room_behind guests payload read n h s a l =
 
 -- ## Without a poll
 
-module _ (guests after : List Guest) (stream moved : Stream) (producer : Producer) (tells told : WriterTells) (read : Operation) where
-  pub handed : (items : List Item) (count : ℕ) → items ≡ take read.left tells.holds → count ≡ length items → after ≡ lowered guests stream.payload read items → moved ≡ moved_on Reading stream read count (Some results.Completed) → told ≡ given tells (Some read.left)
-      → scene after moved producer told ≡ handed_over (scene guests stream producer tells) read
-  handed items count i n a m t = rw (a, m, t, n, i) refl
+pub handed : (guests after : List Guest) (stream moved : Stream) (producer : Producer) (tells told : WriterTells) (read : Operation) (items : List Item) (count : ℕ) → items ≡ take read.left tells.holds → count ≡ length items → after ≡ lowered guests stream.payload read items → moved ≡ moved_on Reading stream read count (Some results.Completed) → told ≡ given tells (Some read.left)
+    → scene after moved producer told ≡ handed_over (scene guests stream producer tells) read
+handed guests after stream moved producer tells told read items count i n a m t = rw (a, m, t, n, i) refl
 
-  pub gone : moved ≡ moved_on Reading stream read 0 (Some results.Dropped) → scene guests moved producer tells ≡ ended (scene guests stream producer tells) read
-  gone m = rw (m, lowered-none guests stream.payload read) refl
+pub gone : (guests : List Guest) (stream moved : Stream) (producer : Producer) (tells : WriterTells) (read : Operation) → moved ≡ moved_on Reading stream read 0 (Some results.Dropped) → scene guests moved producer tells ≡ ended (scene guests stream producer tells) read
+gone guests stream moved producer tells read m = rw (m, lowered-none guests stream.payload read) refl
 
 -- ## By a poll
 
@@ -122,10 +121,17 @@ module _ (guests after : List Guest) (stream : Stream) (producer : Producer) (te
 
 -- ## The turn
 
+-- held items were handed over
 pub holding : (items : List Item) (result : Result (Unit {0}) TurnError) (old new : Scene) (read : Operation) → 0 < length items → result ≡ Ok tt → new ≡ handed_over old read → TurnsHolding items result old new read
 holding [] result old new read l r n = absurd (omega (arith, l))
 holding (item ∷ items) result old new read l r n = (r, n)
 
+-- nothing was held
 pub empty : (items : List Item) (result : Result (Unit {0}) TurnError) (old new : Scene) (read : Operation) → length items ≡ 0 → TurnsEmpty old.producer.over result old new read → TurnsHolding items result old new read
 empty [] result old new read l t = t
 empty (item ∷ items) result old new read l t = absurd (omega (arith, l))
+
+-- and there was no more to come
+pub over : (b : Bool) (result : Result (Unit {0}) TurnError) (old new : Scene) (read : Operation) → b ≡ true → result ≡ Ok tt → new ≡ ended old read → TurnsEmpty b result old new read
+over true result old new read e r n = (r, n)
+over false result old new read e r n = cc
