@@ -1,3 +1,4 @@
 pub mod RegionFacts
 pub mod PollFacts
 pub mod TurnFacts
+pub mod StepFacts

@@ -103,6 +103,43 @@ faults-told : (tells : Tells) (n : ℕ) (w : WriterTells) → (told_by tells n).
 faults-told tells n w h (ends.Writer m) = faults-set tells.writers n m w h
 faults-told tells n w h (ends.Reader m) = omega arith
 
+-- what host ends told after what they told before
+pub record Follows (tells told : Tells) : Type 0 where
+  pub begins : (logs : Logs) → Extends told logs → Extends tells logs
+  pub supplied : AreSupplied tells → AreSupplied told
+  pub faults : (end : HostEnd) → faults_of tells end ≤ faults_of told end
+
+pub follows-same : (tells : Tells) → Follows tells tells
+follows-same tells = record { begins = λ logs e. e; supplied = λ s. s; faults = λ end. omega arith }
+
+pub follows-told : (tells : Tells) (n : ℕ) (w : WriterTells) → n < length tells.writers → Grows (told_by tells n) w → Follows tells (with_told tells n w)
+follows-told tells n w there g = record {
+  begins = λ logs e. (begin-before tells.writers logs.writers n w g e.0, e.1);
+  supplied = λ s. All-set IsSupplied tells.writers n w (g.supplied (s n no_tells there)) s;
+  faults = faults-told tells n w g.faults;
+}
+
+at_most : (a b c : ℕ) → a ≤ b → b ≤ c → a ≤ c
+at_most a b c h k = omega (arith, h, k)
+
+pub follows-then : (a b c : Tells) → Follows a b → Follows b c → Follows a c
+follows-then a b c f g = record {
+  begins = λ logs e. f.begins logs (g.begins logs e);
+  supplied = λ s. g.supplied (f.supplied s);
+  faults = λ end. at_most (faults_of a end) (faults_of b end) (faults_of c end) (f.faults end) (g.faults end);
+}
+
+-- a call that does what the machine does on whatever is yet to come
+pub Does-follows : (old new : State) (tells told : Tells) (result : Answered) (machine : World → Outcome) → Follows tells told
+    → ((logs : Logs) → Extends told logs → Gives result (world_of new told logs) (machine (world_of old tells logs))) → Caused result tells told → Does old new tells told result machine
+Does-follows old new tells told result machine f gives cause = record {
+  begins = f.begins;
+  gives = gives;
+  supplied = f.supplied;
+  faults = f.faults;
+  cause = cause;
+}
+
 module _ (old new : State) (tells : Tells) (n : ℕ) (w : WriterTells) (result : Answered) (machine : World → Outcome) (there : n < length tells.writers) where
   -- what the machine does, on whatever is yet to come
   abbrev pub AllGive : Type 0
@@ -110,10 +147,5 @@ module _ (old new : State) (tells : Tells) (n : ℕ) (w : WriterTells) (result :
 
   -- a call in which one writer told more
   pub Does-told : Grows (told_by tells n) w → AllGive → Caused result tells (with_told tells n w) → Does old new tells (with_told tells n w) result machine
-  Does-told g gives cause = record {
-    begins = λ logs e. (begin-before tells.writers logs.writers n w g e.0, e.1);
-    gives = gives;
-    supplied = λ s. All-set IsSupplied tells.writers n w (g.supplied (s n no_tells there)) s;
-    faults = faults-told tells n w g.faults;
-    cause = cause;
-  }
+  Does-told g gives cause =
+      Does-follows old new tells (with_told tells n w) result machine (follows-told tells n w there g) gives cause

@@ -8,3 +8,6 @@ pub mod CloseLemmas
 pub mod SettleLemmas
 pub mod OutcomeLemmas
 pub mod TurnLemmas
+pub mod BackLemmas
+pub mod AttachLemmas
+pub mod ReadLemmas

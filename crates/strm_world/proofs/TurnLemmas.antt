@@ -58,7 +58,7 @@ world_of-kept state tells logs n guests producer e =
     (writers_from-duty state.producers tells.writers logs.writers n producer no_producer e)
 
 -- a writer that is told to be what it is
-told-same : (tells : Tells) (n : ℕ) → with_told tells n (told_by tells n) ≡ tells
+pub told-same : (tells : Tells) (n : ℕ) → with_told tells n (told_by tells n) ≡ tells
 told-same tells n = ap (λ ws. record tells { writers = ws }) (set-same tells.writers n no_tells)
 
 kept-same : (state : State) (n : ℕ) (guests : List Guest) → turned_but state n guests (producer_at state n) ≡ record state { guests = guests }
