@@ -29,7 +29,7 @@ use Rattle.strm_producing.specs.Turning.{Scene, received, handed_over, ended, pr
 use Rattle.strm_producing.specs.Regions.{region_address}
 use Rattle.strm_producing.specs.declared.turns.TurnError.{TurnError}
 use Rattle.strm_producing.specs.declared.turns.TurnError.TheVariants.{Failed, OutOfMemory, Broke}
-use Rattle.strm_producing.proofs.RegionFacts.{region_inside, stored_region}
+use Rattle.strm_producing.proofs.RegionLemmas.{region_inside, stored_region}
 
 -- ## Guests
 
