@@ -11,3 +11,5 @@ pub mod TurnLemmas
 pub mod BackLemmas
 pub mod AttachLemmas
 pub mod ReadLemmas
+pub mod FitsLemmas
+pub mod DropLemmas
