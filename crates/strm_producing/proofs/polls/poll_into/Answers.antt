@@ -2,8 +2,8 @@ use Rattle.std.proofs.Common.{true, ap, subst, ◌∙◌}
 use Rattle.strm_buffers.specs.Tells.{PollsWriter, writer_record}
 use Rattle.strm_buffers.specs.Windows.{Lent, HasRoom}
 use Rattle.strm_turns.specs.Guests.{seen}
-use Rattle.strm_producing.proofs.RegionFacts.{Returns, unpolled, marked_lowers}
-use Rattle.strm_producing.proofs.PollFacts.{of_answer, polls_into}
+use Rattle.strm_producing.proofs.RegionLemmas.{Returns, unpolled, marked_lowers}
+use Rattle.strm_producing.proofs.PollLemmas.{of_answer, polls_into}
 use Rattle.strm_producing.proofs.polls.poll_into.Goals as goal
 
 pub returns-in-Err-clause-lowers : goal.returns-in-Err-clause-lowers

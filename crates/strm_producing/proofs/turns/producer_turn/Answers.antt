@@ -1,6 +1,6 @@
 use Rattle.std.proofs.Common.{arith, refl}
 use Rattle.strm_turns.specs.Guests.{seen}
-use Rattle.strm_producing.proofs.TurnFacts.{holding, empty, over, gone}
+use Rattle.strm_producing.proofs.TurnLemmas.{holding, empty, over, gone}
 use Rattle.strm_producing.proofs.turns.producer_turn.Goals as goal
 
 pub returns-then-held_by-gt0 : goal.returns-then-held_by-gt0

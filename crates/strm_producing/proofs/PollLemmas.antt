@@ -15,7 +15,7 @@ use Rattle.strm_machine.specs.State.{Guest}
 use Rattle.strm_machine.specs.declared.streams.Operation.{Operation}
 use Rattle.strm_world.specs.Producing.{lowered}
 use Rattle.strm_producing.specs.Polls.{PollsInto, Lowers}
-use Rattle.strm_producing.proofs.RegionFacts.{Returns, marked_few, marked_lowered}
+use Rattle.strm_producing.proofs.RegionLemmas.{Returns, marked_few, marked_lowered}
 
 -- an answer was read off a turn, or none where memory was wanting
 pub record Reads (turn : Turn StreamResult) (read : Option Answer) : Type 0 where
