@@ -23,15 +23,19 @@ pub struct Produced<B> {
 }
 
 /// Where a producer puts its items while a poll lasts.
+#[derive(Drop)]
 pub struct Destination<'a, T: Payloaded, B: WriteBuffer<T> + Drop> {
-    pub(crate) produced: &'a mut Produced<B>,
-    pub(crate) items: PhantomData<T>,
+    pub produced: &'a mut Produced<B>,
+    pub items: PhantomData<T>,
 }
 
 // The most items of one poll.
 const MOST: usize = 4_294_967_294;
 
 impl<'a, T: Payloaded, B: WriteBuffer<T> + Drop> Destination<'a, T, B> {
+    ghost use Rattle.std.specs.Borrow.{sem};
+    ghost use Rattle.strm_host.specs.Lending.{LendsDestination};
+
     /// The buffer; one without items stands in its place.
     pub fn take_buffer(&mut self) -> B
         ensures same_reference { self.new.produced.ghost_name ≡ self.old.produced.ghost_name }
@@ -75,6 +79,7 @@ impl<'a, T: Payloaded, B: WriteBuffer<T> + Drop> Destination<'a, T, B> {
 
     /// Another one, for as long as this one is lent.
     pub fn reborrow(&mut self) -> Destination<'_, T, B>
+        ensures* lends { sem 𝓛 (LendsDestination T.row B.row self.entry result.produced) }
         ensures value { result.produced.now ≡ self.old.produced.now }
     {
         Destination {
