@@ -126,7 +126,10 @@ mod tests {
         let count = writer.records();
         assert!(rt; count == 1);
         let said = writer.record_at(0)?;
-        assert_eq!(rt; (said.room, said.finish, said.items.len()), (Some(4), true, 2));
+        assert_eq!(rt;
+            (said.room, said.finish, said.items.len()),
+            (Some(4), true, 2)
+        );
         assert!(rt; !said.breaks_rules(writer.kind()));
         Ok(())
     }

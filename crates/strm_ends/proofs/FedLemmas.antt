@@ -141,10 +141,10 @@ fed_more payload bytes rest given len n k records feeds old i v e f s h g =
     map-append (heard_of (bytes ++ new) (rest ++ left)) feeds (feed ∷ []) ∙ ap (λ l. l ++ heard_kept (bytes ++ new) (rest ++ left) (feed ∷ [])) (heard-more bytes rest new left feeds i.there) ∙ ap (λ b. heard_kept bytes rest feeds ++ (records, b) ∷ []) (bytes_behind bytes rest given records k h) in
     record {
       is_fed = record {
-          all = omega (arith, i.all, both, size, sizes, s);
-          lie = lie.lie;
-          counted = omega (arith, i.counted, both, beside, size, other, g, h);
-          there = All-push (LiesThere (bytes ++ new) (rest ++ left)) feeds feed (there-more bytes rest new left feeds i.there) last;
-        };
+        all = omega (arith, i.all, both, size, sizes, s);
+        lie = lie.lie;
+        counted = omega (arith, i.counted, both, beside, size, other, g, h);
+        there = All-push (LiesThere (bytes ++ new) (rest ++ left)) feeds feed (there-more bytes rest new left feeds i.there) last;
+      };
       is = rw (lie.is, heard) (ap (λ (a : AllFed). more_fed a records given) v);
     }

@@ -48,11 +48,11 @@ marks_with w bytes unmarked m =
     let marked : w.marked ++ byte_items (take (length bytes) (bytes ++ unmarked)) ≡ byte_items bytes = rw (m, first) refl in
     record {
       fills = record {
-          payload = refl;
-          place = rw m refl;
-          marked = rw m refl;
-          prepared = refl;
-        };
+        payload = refl;
+        place = rw m refl;
+        marked = rw m refl;
+        prepared = refl;
+      };
       marked = marked;
     }
 

@@ -82,4 +82,4 @@ answer_by over finish (suc n) (suc left) = Completed
 abbrev pub answer_given : TransmitKind → Option ℕ → Bool → Queue → Answer
 answer_given kind room finish queue =
     answer_by (is_over kind queue.ended) finish (length queue.items)
-        (length (queue_left kind room queue).items)
+    (length (queue_left kind room queue).items)
