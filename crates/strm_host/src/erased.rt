@@ -5,6 +5,7 @@
 ghost use Rattle.std.specs.Prelude.{◌≡◌};
 ghost use Rattle.strm_codes.specs.declared.codes.TransmitKind.TheVariants.{Stream};
 
+use crate::futures::{FutureProducer, Producer};
 use crate::producers::StreamProducer;
 use crate::producing::{Fetched, fetch};
 use std::alloc::Global;
@@ -49,6 +50,13 @@ impl<P: StreamProducer> Erased<P> {
             closed: false,
             alloc,
         }
+    }
+}
+
+impl<F: FutureProducer> Erased<Producer<F>> {
+    /// A host writer of a future, which asks this producer.
+    pub fn future(alloc: Global, producer: F) -> Erased<Producer<F>> {
+        Erased::of(alloc, Producer::new(producer), TransmitKind::Future)
     }
 }
 

@@ -1,4 +1,6 @@
-//! Producers that a user of `strm_host` would write, and tests of typed host ends.
+//! Producers that a user of `strm_host` would write, and tests of it by public calls alone.
 #![tactic(auto)]
 
 pub mod countdown;
+mod ready;
+mod turning;
