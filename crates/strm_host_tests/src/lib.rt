@@ -2,5 +2,6 @@
 #![tactic(auto)]
 
 pub mod countdown;
+pub mod greeting;
 mod ready;
 mod turning;
