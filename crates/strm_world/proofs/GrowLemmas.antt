@@ -2,9 +2,10 @@
 use Rattle.std.proofs.Common.{◌≡◌, ℕ, zero, suc, ◌<◌, ◌≤◌, List, [], ◌∷◌, ◌++◌, length, drop, refl, sym, ap, subst, ◌∙◌, append-nil, arith}
 use Rattle.std.specs.Prelude.{slice_set, slice_index_or, map, All}
 use Rattle.std.proofs.lemmas.List.Elements.{All-append, All-set}
+use Rattle.std.proofs.lemmas.Bool.Decides.{nat_tests}
 use Rattle.strm_buffers.specs.Listing.{Item}
 use Rattle.strm_buffers.specs.Said.{WriterSaid}
-use Rattle.strm_buffers.specs.Tells.{WriterTells, Tells, no_tells, told_by, with_told, PollsWriter, KeepsWriter, ClosesWriter, Rises, given, fed}
+use Rattle.strm_buffers.specs.Tells.{WriterTells, Tells, no_tells, told_by, with_told, PollsWriter, KeepsWriter, ClosesWriter, Rises, Rose, given, fed}
 use Rattle.strm_buffers.specs.declared.answers.Answer.{Answer}
 use Rattle.strm_buffers.specs.declared.answers.Answer.TheVariants.{Failed}
 use Rattle.strm_machine.specs.State.{State}
@@ -44,8 +45,11 @@ grows-same old new e f g = record {
   faults = g;
 }
 
+rose_at_most : (a b : ℕ) → Rose a b → a ≤ b
+rose_at_most a b r = grind (arith, nat_tests)
+
 rises_at_most : (answer : Answer) (a b : ℕ) → Rises answer a b → a ≤ b
-rises_at_most Failed a b r = omega (arith, r)
+rises_at_most Failed a b r = rose_at_most a b r
 rises_at_most _ a b r = r
 
 pub grows-polled : (old new : WriterTells) (said : WriterSaid) (marked : List Item) → PollsWriter old new said marked → Grows old new

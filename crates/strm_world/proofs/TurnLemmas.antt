@@ -9,7 +9,7 @@ use Rattle.strm_buffers.specs.declared.answers.Answer.TheVariants.{Failed}
 use Rattle.strm_buffers.specs.HostRules.{breaks_as_writer}
 use Rattle.strm_buffers.specs.Listing.{Item}
 use Rattle.strm_buffers.specs.Said.{WriterSaid}
-use Rattle.strm_buffers.specs.Tells.{WriterTells, Tells, no_tells, told_by, with_told, PollsWriter, KeepsWriter, Rises, given}
+use Rattle.strm_buffers.specs.Tells.{WriterTells, Tells, no_tells, told_by, with_told, PollsWriter, KeepsWriter, Rises, Rose, given}
 use Rattle.strm_machine.specs.State.{State, Guest, no_producer, producer_at, stream_at}
 use Rattle.strm_machine.specs.declared.stops.Stop.{Stop}
 use Rattle.strm_machine.specs.declared.stops.Stop.TheVariants.{HostFailed, HostBroke}
@@ -167,9 +167,9 @@ module _ (old : State) (tells : Tells) (n s : ℕ) (read : Operation) (i : IsSer
   stops-by new logs stop e =
       ap (λ ps. Stops stop (writers_from ps (with_told tells n w).writers logs.writers) (readers_from tells.readers logs.readers)) (sym e)
 
-  faults_rise : said.answer ≡ Failed → (told_by tells n).faults < (told_by (with_told tells n w) n).faults
+  faults_rise : said.answer ≡ Failed → Rose (told_by tells n).faults (told_by (with_told tells n w) n).faults
   faults_rise f =
-      subst (λ (v : WriterTells). (told_by tells n).faults < v.faults) (sym (told_by-told tells.writers n w no_tells i.there))
+      subst (λ (v : WriterTells). Rose (told_by tells n).faults v.faults) (sym (told_by-told tells.writers n w no_tells i.there))
       (subst (λ a. Rises a (told_by tells n).faults w.faults) f p.polls.faults)
 
   pub turn-failed : (new : State) → said.answer ≡ Failed → new.producers ≡ old.producers
