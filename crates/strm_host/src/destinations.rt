@@ -36,7 +36,7 @@ pub struct Destination<'a, T: Payloaded, B: WriteBuffer<T> + Drop> {
 }
 
 // The most items of one poll.
-const MOST: usize = 4_294_967_294;
+pub(crate) const MOST: usize = 4_294_967_294;
 
 impl<'a, T: Payloaded, B: WriteBuffer<T> + Drop> Destination<'a, T, B> {
     /// The buffer; one without items stands in its place.

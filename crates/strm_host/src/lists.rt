@@ -5,16 +5,13 @@
 
 ghost use Rattle.std.specs.Prelude.{◌≡◌, [], drop};
 
-use crate::destinations::Destination;
+use crate::destinations::{Destination, MOST};
 use crate::producers::StreamProducer;
 use std::boxed::BoxedSlice;
 use std::mem;
 use strm_buffers::answers::{HostTurn, StreamResult, Turn};
 use strm_buffers::vec_buffer::VecBuffer;
 use strm_memory::payloaded::Payloaded;
-
-// The most items of one poll.
-const MOST: usize = 4_294_967_294;
 
 impl<T: Payloaded> StreamProducer for Vec<T> {
     ghost use Rattle.strm_host.specs.Lists.{list_faults, list_plan, list_turn, list_gives, list_keeps};
@@ -40,12 +37,13 @@ impl<T: Payloaded> StreamProducer for Vec<T> {
             ≡ list_gives self.old.items }
         ensures kept { self.new.items ≡ list_keeps self.old.items }
     {
-        let Destination { produced, items: _ } = destination;
+        let Destination { produced, items } = destination;
+        let mut destination = Destination { produced, items };
         if self.len() > MOST {
             return Turn::Failed;
         }
         let none = Vec::new(*self.allocator());
-        produced.buffer = VecBuffer::from_vec(mem::replace(self, none));
+        destination.set_buffer(VecBuffer::from_vec(mem::replace(self, none)));
         Turn::Ready(StreamResult::Dropped)
     }
 }
@@ -75,12 +73,13 @@ impl<T: Payloaded> StreamProducer for BoxedSlice<T> {
             ≡ list_gives (boxed_slice_items self.old) }
         ensures kept { boxed_slice_items self.new ≡ list_keeps (boxed_slice_items self.old) }
     {
-        let Destination { produced, items: _ } = destination;
+        let Destination { produced, items } = destination;
+        let none = Vec::new(produced.alloc).into_boxed_slice();
+        let mut destination = Destination { produced, items };
         if self.as_slice().len() > MOST {
             return Turn::Failed;
         }
-        let none = Vec::new(produced.alloc).into_boxed_slice();
-        produced.buffer = VecBuffer::from_vec(mem::replace(self, none).into_vec());
+        destination.set_buffer(VecBuffer::from_vec(mem::replace(self, none).into_vec()));
         Turn::Ready(StreamResult::Dropped)
     }
 }

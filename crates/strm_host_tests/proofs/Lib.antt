@@ -1,1 +1,2 @@
 pub mod CountdownLemmas
+pub mod GreetingLemmas

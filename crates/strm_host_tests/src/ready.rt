@@ -4,8 +4,9 @@
 mod tests {
     use std::alloc::Global;
     use std::test::Fail;
-    use strm_buffers::answers::{Answer, StreamResult, Turn};
+    use strm_buffers::answers::{HostTurn, StreamResult, Turn};
     use strm_buffers::boxes::{give, held_by, poll_writer, writer_kind, writer_payload};
+    use strm_buffers::items::Items;
     use strm_buffers::windows::Window;
     use strm_buffers::writers::HostWriter;
     use strm_codes::codes::TransmitKind;
@@ -18,55 +19,60 @@ mod tests {
 
     const BYTES: Payload = Payload::One(Scalar::U8);
 
-    // A window of two bytes behind the first of four.
-    fn two_bytes(alloc: Global) -> Result<Window, Fail> {
-        let mut window = Window::over(GuestMemory::new(alloc, 4)?, BYTES, 1, 2);
-        window.prepare()?;
-        Ok(window)
+    // A boxed writer gives what it holds, and is polled: its turn, and what it produced.
+    fn polled(
+        alloc: Global,
+        writer: &mut Box<dyn HostWriter>,
+        finish: bool,
+    ) -> Result<(HostTurn, Items), Fail> {
+        let mut held = Window::unbounded(alloc, writer_payload(writer));
+        give(writer, &mut held)?;
+        let mut window = Window::unbounded(alloc, writer_payload(writer));
+        let turn = poll_writer(writer, &mut window, finish);
+        let _ = window.marked();
+        Ok((turn, window.into_items()))
     }
 
     #[test]
-    fn a_vector_gives_all_at_once(rt: HostRuntime) -> Result<(), Fail> {
+    fn a_vector_gives_what_there_is_room_for_and_holds_the_rest(
+        rt: HostRuntime,
+    ) -> Result<(), Fail> {
         let alloc = rt.alloc();
         let erased = Erased::stream(alloc, [7u8, 8, 9].to_vec(alloc)?);
         let mut writer: Box<dyn HostWriter> = Box::new(alloc, erased)?;
-        assert_eq!(rt; writer_kind(&writer), TransmitKind::Stream);
-        assert_eq!(rt; writer_payload(&writer), BYTES);
-        let mut window = two_bytes(alloc)?;
+        let mut window = Window::over(GuestMemory::new(alloc, 4)?, BYTES, 1, 2);
+        window.prepare()?;
         let turn = poll_writer(&mut writer, &mut window, false);
         assert_eq!(rt; turn, Turn::Ready(StreamResult::Dropped));
         let (memory, marked) = window.into_memory();
         assert_eq!(rt; marked, 2);
         assert_eq!(rt; memory.bytes(), [0, 7, 8, 0].as_slice());
         assert_eq!(rt; held_by(&writer), 1);
-        let said = writer.record_at(0)?;
-        assert_eq!(rt; said.items.len(), 3);
-        assert_eq!(rt; said.room, Some(2));
-        let mut window = two_bytes(alloc)?;
-        give(&mut writer, &mut window)?;
-        let (memory, marked) = window.into_memory();
-        assert_eq!(rt; marked, 1);
-        assert_eq!(rt; memory.bytes(), [0, 9, 0, 0].as_slice());
-        assert_eq!(rt; held_by(&writer), 0);
-        let mut window = two_bytes(alloc)?;
-        let turn = poll_writer(&mut writer, &mut window, true);
-        assert_eq!(rt; turn, Turn::Ready(StreamResult::Dropped));
-        assert_eq!(rt; window.marked(), 0);
         Ok(())
     }
 
     #[test]
-    fn a_boxed_slice_gives_all_at_once(rt: HostRuntime) -> Result<(), Fail> {
+    fn a_vector_gives_all_once(rt: HostRuntime) -> Result<(), Fail> {
+        let alloc = rt.alloc();
+        let erased = Erased::stream(alloc, [7u8, 8, 9].to_vec(alloc)?);
+        let mut writer: Box<dyn HostWriter> = Box::new(alloc, erased)?;
+        let (turn, items) = polled(alloc, &mut writer, false)?;
+        assert_eq!(rt; turn, Turn::Ready(StreamResult::Dropped));
+        assert_eq!(rt; items.len(), 3);
+        let (turn, items) = polled(alloc, &mut writer, true)?;
+        assert_eq!(rt; turn, Turn::Ready(StreamResult::Dropped));
+        assert_eq!(rt; items.len(), 0);
+        Ok(())
+    }
+
+    #[test]
+    fn a_boxed_slice_gives_all(rt: HostRuntime) -> Result<(), Fail> {
         let alloc = rt.alloc();
         let items = [(7u8, true), (8, false)].to_vec(alloc)?.into_boxed_slice();
         let mut writer: Box<dyn HostWriter> = Box::new(alloc, Erased::stream(alloc, items))?;
-        let mut window = Window::unbounded(alloc, writer_payload(&writer));
-        let turn = poll_writer(&mut writer, &mut window, false);
+        let (turn, items) = polled(alloc, &mut writer, false)?;
         assert_eq!(rt; turn, Turn::Ready(StreamResult::Dropped));
-        let items = window.into_items();
         assert_eq!(rt; items.len(), 2);
-        assert_eq!(rt; items.get(1).as_slice(), [8, 0].as_slice());
-        assert_eq!(rt; held_by(&writer), 0);
         Ok(())
     }
 
@@ -75,11 +81,10 @@ mod tests {
         let alloc = rt.alloc();
         let empty: Empty<u8> = Empty::new();
         let mut writer: Box<dyn HostWriter> = Box::new(alloc, Erased::stream(alloc, empty))?;
-        let mut window = two_bytes(alloc)?;
-        let turn = poll_writer(&mut writer, &mut window, false);
+        assert_eq!(rt; writer_kind(&writer), TransmitKind::Stream);
+        let (turn, items) = polled(alloc, &mut writer, false)?;
         assert_eq!(rt; turn, Turn::Ready(StreamResult::Dropped));
-        assert_eq!(rt; window.marked(), 0);
-        assert_eq!(rt; held_by(&writer), 0);
+        assert_eq!(rt; items.len(), 0);
         Ok(())
     }
 
@@ -89,16 +94,12 @@ mod tests {
         let erased = Erased::future(alloc, Turning::ready(7u8));
         let mut writer: Box<dyn HostWriter> = Box::new(alloc, erased)?;
         assert_eq!(rt; writer_kind(&writer), TransmitKind::Future);
-        let mut window = two_bytes(alloc)?;
-        let turn = poll_writer(&mut writer, &mut window, false);
+        let (turn, items) = polled(alloc, &mut writer, false)?;
         assert_eq!(rt; turn, Turn::Ready(StreamResult::Completed));
-        let (memory, marked) = window.into_memory();
-        assert_eq!(rt; marked, 1);
-        assert_eq!(rt; memory.bytes(), [0, 7, 0, 0].as_slice());
-        let mut window = two_bytes(alloc)?;
-        assert_eq!(rt; poll_writer(&mut writer, &mut window, true), Turn::Failed);
-        assert_eq!(rt; window.marked(), 0);
-        assert_eq!(rt; writer.record_at(1)?.answer, Answer::Failed);
+        assert_eq!(rt; items.len(), 1);
+        let (turn, items) = polled(alloc, &mut writer, true)?;
+        assert_eq!(rt; turn, Turn::Failed);
+        assert_eq!(rt; items.len(), 0);
         Ok(())
     }
 
@@ -107,11 +108,11 @@ mod tests {
         let alloc = rt.alloc();
         let turning: Turning<u8> = Turning::pending();
         let mut writer: Box<dyn HostWriter> = Box::new(alloc, Erased::future(alloc, turning))?;
-        let mut window = two_bytes(alloc)?;
-        assert_eq!(rt; poll_writer(&mut writer, &mut window, false), Turn::Pending);
-        let turn = poll_writer(&mut writer, &mut window, true);
+        let (turn, _) = polled(alloc, &mut writer, false)?;
+        assert_eq!(rt; turn, Turn::Pending);
+        let (turn, items) = polled(alloc, &mut writer, true)?;
         assert_eq!(rt; turn, Turn::Ready(StreamResult::Cancelled));
-        assert_eq!(rt; window.marked(), 0);
+        assert_eq!(rt; items.len(), 0);
         assert_eq!(rt; writer.records(), 2);
         Ok(())
     }
