@@ -2,4 +2,3 @@ pub mod RegionLemmas
 pub mod PollLemmas
 pub mod TurnLemmas
 pub mod StepLemmas
-pub mod KeptLemmas

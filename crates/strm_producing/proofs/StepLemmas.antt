@@ -55,6 +55,14 @@ pub record GoesOn (old : State) (tells : Tells) (n s : ℕ) (read : Operation) (
   pub back : WritesBack old (turned_but old n new.guests new.producer) tells (told_in tells n new) s new.stream (λ w. producer_turn w s n read)
 
 module _ (old : State) (tells : Tells) (n s : ℕ) (read : Operation) (i : IsServing old tells n s) where
+  -- its turn
+  abbrev pub its_turn : World → Outcome
+  its_turn world = producer_turn world s n read
+
+  -- a turn that stops the step
+  abbrev pub StopsBy : TurnError → Scene → State → Type 0
+  StopsBy e new after = Does old after tells (told_in tells n new) (stop_of e n) its_turn
+
   hands_on : (item : Item) (items : List Item) → (told_by tells n).holds ≡ item ∷ items → GoesOn old tells n s read (handed_over (scene_in old tells n s) read)
   hands_on item items e = record {
     follows = follows-told tells n (given (told_by tells n) (Some read.left)) i.there (grows-same (told_by tells n) (given (told_by tells n) (Some read.left)) refl refl (omega arith));
@@ -64,7 +72,7 @@ module _ (old : State) (tells : Tells) (n s : ℕ) (read : Operation) (i : IsSer
   ends_it : (told_by tells n).holds ≡ [] → (producer_at old n).over ≡ true → GoesOn old tells n s read (ended (scene_in old tells n s) read)
   ends_it e over = record {
     follows = subst (Follows tells) (sym (told-same tells n)) (follows-same tells);
-    back = subst (λ t. WritesBack old (turned_but old n (lowered_in old s read []) (producer_at old n)) tells t s (moved_in old s read [] (Some Dropped)) (λ w. producer_turn w s n read)) (sym (told-same tells n)) (turn-ended old tells n s read i e over);
+    back = subst (λ t. WritesBack old (turned_but old n (lowered_in old s read []) (producer_at old n)) tells t s (moved_in old s read [] (Some Dropped)) its_turn) (sym (told-same tells n)) (turn-ended old tells n s read i e over);
   }
 
   polled_for : (told_by tells n).holds ≡ [] → (producer_at old n).over ≡ false → (said : WriterSaid) (w : WriterTells) → IsPolled (told_by tells n) w read said → IsPolledFor old tells n read said w
@@ -90,36 +98,36 @@ module _ (old : State) (tells : Tells) (n s : ℕ) (read : Operation) (i : IsSer
 
   -- its writer stays
   pub turn_stays : (new : Scene) → Turns (Ok tt) (scene_in old tells n s) new read → new.stream.writer.owner ≡ (stream_at old s).writer.owner
-      → Does old (turned_in old n s new) tells (told_in tells n new) (Ok replies.Done) (λ w. producer_turn w s n read)
+      → Does old (turned_in old n s new) tells (told_in tells n new) (Ok replies.Done) its_turn
   turn_stays new t e =
       let g = goes_on new t in
-      Does-stays old (turned_but old n new.guests new.producer) tells (told_in tells n new) s new.stream (λ w. producer_turn w s n read) g.follows g.back e
+      Does-stays old (turned_but old n new.guests new.producer) tells (told_in tells n new) s new.stream its_turn g.follows g.back e
 
   -- its writer is gone, and was closed
   pub turn_left : (new : Scene) (w : WriterTells) → Turns (Ok tt) (scene_in old tells n s) new read → IsLeft (turned_but old n new.guests new.producer) (told_in tells n new) s n new.stream w
-      → Does old (ended_in (turned_in old n s new) n) tells (with_told (told_in tells n new) n w) (Ok replies.Done) (λ v. producer_turn v s n read)
+      → Does old (ended_in (turned_in old n s new) n) tells (with_told (told_in tells n new) n w) (Ok replies.Done) its_turn
   turn_left new w t l =
       let g = goes_on new t in
-      Does-left old (turned_but old n new.guests new.producer) tells (told_in tells n new) s n new.stream w (λ v. producer_turn v s n read) g.follows g.back l
+      Does-left old (turned_but old n new.guests new.producer) tells (told_in tells n new) s n new.stream w its_turn g.follows g.back l
 
   -- IT STOPS
 
   polls_stop : (e : TurnError) (new : Scene) (after : State) → (told_by tells n).holds ≡ [] → (producer_at old n).over ≡ false → after.producers ≡ old.producers → Polled (Err e) (scene_in old tells n s) new read
-      → Does old after tells (told_in tells n new) (stop_of e n) (λ w. producer_turn w s n read)
+      → StopsBy e new after
   polls_stop Failed new after h o k t = turn-failed old tells n s read i t.0 new.tells (polled_for h o t.0 new.tells t.1.polled) after t.1.failed k
   polls_stop Broke new after h o k t = turn-broke old tells n s read i t.0 new.tells (polled_for h o t.0 new.tells t.1.polled) after t.1.failed t.1.broke k
-  polls_stop OutOfMemory new after h o k t = turn-wanting old after tells n new.tells (λ w. producer_turn w s n read) i.there t.1.tells
+  polls_stop OutOfMemory new after h o k t = turn-wanting old after tells n new.tells its_turn i.there t.1.tells
 
   empty_stops : (over : Bool) (e : TurnError) (new : Scene) (after : State) → (told_by tells n).holds ≡ [] → (producer_at old n).over ≡ over → after.producers ≡ old.producers → TurnsEmpty over (Err e) (scene_in old tells n s) new read
-      → Does old after tells (told_in tells n new) (stop_of e n) (λ w. producer_turn w s n read)
+      → StopsBy e new after
   empty_stops true e new after h o k t = cc (t.0)
   empty_stops false e new after h o k t = polls_stop e new after h o k t
 
   holding_stops : (held : List Item) (e : TurnError) (new : Scene) (after : State) → (told_by tells n).holds ≡ held → after.producers ≡ old.producers → TurnsHolding held (Err e) (scene_in old tells n s) new read
-      → Does old after tells (told_in tells n new) (stop_of e n) (λ w. producer_turn w s n read)
+      → StopsBy e new after
   holding_stops (item ∷ items) e new after h k t = cc (t.0)
   holding_stops [] e new after h k t = empty_stops (producer_at old n).over e new after h refl k t
 
   pub turn_stops : (e : TurnError) (new : Scene) (after : State) → Turns (Err e) (scene_in old tells n s) new read → after.producers ≡ old.producers
-      → Does old after tells (told_in tells n new) (stop_of e n) (λ w. producer_turn w s n read)
+      → StopsBy e new after
   turn_stops e new after t k = holding_stops (told_by tells n).holds e new after refl k t

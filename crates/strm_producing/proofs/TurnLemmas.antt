@@ -1,5 +1,5 @@
 -- What a turn does, by the held items that it handed over, or by the poll that it did.
-use Rattle.std.proofs.Common.{◌≡◌, ℕ, ◌+◌, ◌<◌, ◌≤◌, ◌*◌, Bool, true, false, List, [], ◌∷◌, ◌++◌, length, take, drop, Some, Result, Ok, Err, refl, sym, ap, ◌∙◌, arith, length-append, length-take}
+use Rattle.std.proofs.Common.{◌≡◌, ℕ, ◌+◌, ◌<◌, ◌≤◌, ◌*◌, Bool, true, false, List, [], ◌∷◌, length, take, drop, Some, Result, Ok, Err, refl, sym, ap, ◌∙◌, arith, length-append, length-take}
 use Rattle.std.specs.Prelude.{◌^◌, ◌||◌, sum}
 use Rattle.std.proofs.lemmas.List.{take-append-drop}
 use Rattle.strm_codes.specs.Layout.{scalars_of, item_size}
@@ -10,7 +10,7 @@ use Rattle.strm_buffers.specs.declared.answers.Answer.TheVariants as answers
 use Rattle.strm_buffers.specs.Listing.{Item}
 use Rattle.strm_buffers.specs.Said.{past_room}
 use Rattle.strm_buffers.specs.HostRules.{writer_breaks, breaks_as_writer}
-use Rattle.strm_buffers.specs.Tells.{WriterTells, KeepsWriter, given}
+use Rattle.strm_buffers.specs.Tells.{WriterTells, given}
 use Rattle.strm_machine.specs.State.{Guest, memory_limit}
 use Rattle.strm_machine.specs.Soundness.{sizes_of, IsPlaced}
 use Rattle.strm_machine.specs.declared.streams.Side.TheVariants.{Reading}
@@ -21,8 +21,8 @@ use Rattle.strm_machine.proofs.BoundLemmas.{address_room, not_out-front}
 use Rattle.strm_world.specs.Polls.{is_failed}
 use Rattle.strm_world.specs.Producing.{lowered, is_last, produced_result}
 use Rattle.strm_world.specs.Settling.{moved_on}
-use Rattle.strm_producing.specs.Polls.{PollsInto, Lowers}
-use Rattle.strm_producing.specs.Turning.{Scene, scene, handed_over, ended, produced, Stopped, judged_by, judged, Produces, Fails, Breaks, Wants, Polled, TurnsEmpty, TurnsHolding}
+use Rattle.strm_producing.specs.Polls.{PollsInto}
+use Rattle.strm_producing.specs.Turning.{Scene, scene, handed_over, ended, Stopped, judged_by, judged, Polled, TurnsEmpty, TurnsHolding}
 use Rattle.strm_producing.specs.declared.turns.TurnError.{TurnError}
 use Rattle.strm_producing.specs.declared.turns.TurnError.TheVariants.{Failed, OutOfMemory, Broke}
 use Rattle.strm_producing.proofs.RegionLemmas.{lowered-none}
@@ -59,15 +59,6 @@ module _ (guests after : List Guest) (stream : Stream) (producer : Producer) (te
   -- after one that stops the step
   abbrev stayed : Scene
   stayed = scene after stream producer told
-
-  pub wants : Lowers guests after stream.payload read → KeepsWriter tells told → Polled (Err OutOfMemory) before stayed read
-  wants l k = (
-    l.items,
-    record {
-      tells = k;
-      stopped = record { few = l.few; after = ap (λ g. scene g stream producer told) l.lowered };
-    },
-  )
 
   module _ (answer : Answer) (count held : ℕ) (p : PollsInto tells told guests after stream.payload read answer count) (holds : held ≡ length told.holds) where
     rest_held : told.holds ≡ drop read.left p.said.items

@@ -1,14 +1,16 @@
 -- Where no host end has an end of a stream, a step that names none is the machine's without them, and so
 -- is a run of such steps.
-use Rattle.std.proofs.Common.{◌≡◌, ℕ, zero, suc, ◌+◌, ◌<◌, Bool, true, false, cond, List, [], ◌∷◌, ◌++◌, length, append-nil, Some, None, refl, sym, ap, subst, ◌∙◌, arith}
-use Rattle.std.specs.Prelude.{All, slice_index_or}
+use Rattle.std.proofs.Common.{◌≡◌, ℕ, zero, suc, ◌+◌, Bool, true, false, List, [], ◌∷◌, ◌++◌, length, append-nil, refl, sym, ap, ◌∙◌, arith}
+use Rattle.std.specs.Prelude.{All, slice_index_or, replicate}
 use Rattle.strm_buffers.specs.Tells.{Tells}
-use Rattle.strm_machine.specs.State.{State, stream_at, is_host, producer_at}
+use Rattle.strm_machine.specs.State.{State, empty, host_limit, stream_at, is_host, no_producer, producer_at}
+use Rattle.strm_machine.specs.Soundness.{IsSound}
+use Rattle.strm_machine.specs.declared.limits.Limits.{Limits}
 use Rattle.strm_machine.specs.Hosting.{HostsHold}
 use Rattle.strm_machine.specs.Sides.{opposite, end_of}
 use Rattle.strm_machine.specs.Tests.{named, stream_named}
 use Rattle.strm_machine.specs.Refusals.{refusal}
-use Rattle.strm_machine.specs.Reactions.{Reaction, goes, performs, reaction, react}
+use Rattle.strm_machine.specs.Reactions.{performs, react}
 use Rattle.strm_machine.specs.Acts.{act_of}
 use Rattle.strm_machine.specs.Plays as machine
 use Rattle.strm_machine.specs.declared.acts.Act.{Act}
@@ -26,10 +28,13 @@ use Rattle.strm_machine.specs.declared.steps.Step.{Step}
 use Rattle.strm_machine.specs.declared.replies.Reply.{Reply}
 use Rattle.strm_machine.specs.declared.replies.Reply.TheVariants as replies
 use Rattle.strm_machine.proofs.ReactionLemmas.{reaction-trapped, reaction-performs}
+use Rattle.strm_machine.proofs.SoundStepLemmas.{reaction-sound}
+use Rattle.strm_machine.proofs.HeldLemmas.{StateIsHeld, reaction-held}
+use Rattle.strm_machine.proofs.HostLemmas.{reaction-hosts, HostsHold-empty}
 use Rattle.strm_world.specs.World.{World}
-use Rattle.strm_world.specs.Outcomes.{Outcome, stops, done, of_reply, reacted}
+use Rattle.strm_world.specs.Outcomes.{done, of_reply, reacted}
 use Rattle.strm_world.specs.Driving.{driven, round_of}
-use Rattle.strm_world.specs.Steps.{reacts, performs_in, touches, outcome, step_of}
+use Rattle.strm_world.specs.Steps.{reacts, performs_in, outcome, step_of}
 use Rattle.strm_world.specs.HostPlays.{Played, Ends, Halts, after_step, play}
 use Rattle.strm_world.specs.Does.{Logs, writers_from, readers_from, world_of}
 use Rattle.strm_world.proofs.OutcomeLemmas.{outcome-trapped, outcome-performs, refusal_in-drive}
@@ -105,12 +110,19 @@ module _ (P : State → Type 0) (lasts : Lasts P) (first : State) (tells : Tells
   abbrev Follow : List Step → Type 0
   Follow more = (told : List Reply) (state : State) → state.producers ≡ first.producers → P state → play told (world_of state tells logs) more ≡ among first tells logs (machine.play told state more)
 
+  -- and as a run goes on
+  abbrev goes_on : List Step → List Reply → World → Played
+  goes_on more told world = play told world more
+
+  abbrev machine_goes_on : List Step → List Reply → State → machine.Played
+  machine_goes_on more told state = machine.play told state more
+
   halts_same : (told : List Reply) (stop : Stop) (state : State) → state.producers ≡ first.producers
       → Halts told stop (world_of state tells logs).writers (world_of state tells logs).readers ≡ Halts told stop (world_of first tells logs).writers (world_of first tells logs).readers
   halts_same told stop state e = ap (λ ps. Halts told stop (writers_from ps tells.writers logs.writers) (readers_from tells.readers logs.readers)) e
 
   after_alone : (told : List Reply) (reply : Reply) (state : State) (more : List Step) → state.producers ≡ first.producers → P state → Follow more
-      → after_step told (of_reply reply (world_of state tells logs)) (λ told' world'. play told' world' more) ≡ among first tells logs (machine.after_step told reply state (λ told' state'. machine.play told' state' more))
+      → after_step told (of_reply reply (world_of state tells logs)) (goes_on more) ≡ among first tells logs (machine.after_step told reply state (machine_goes_on more))
   after_alone told (replies.BadItem s) state more e p follow = halts_same told (BadItem s) state e
   after_alone told replies.StoreTrapped state more e p follow = halts_same told StoreTrapped state e
   after_alone told reply state more e p follow = follow (told ++ reply ∷ []) state e p
@@ -133,3 +145,30 @@ not_host _ h = refl
 pub unused-no_host : (state : State) → HostsHold state → ((n : ℕ) → (producer_at state n).duty ≡ Unused) → HasNoHost state
 unused-no_host state h u s Writing = not_host (stream_at state s).writer.owner (λ n e. let d : (producer_at state n).duty ≡ Serves s = (h.serve n s).serves e in let f : Unused ≡ Serves s = sym (u n) ∙ d in cc)
 unused-no_host state h u s Reading = h.unpiped s
+
+-- a store of guests alone
+pub record IsUnhosted (state : State) : Type 0 where
+  pub sound : IsSound state
+  pub held : StateIsHeld state
+  pub hosts : HostsHold state
+  pub unused : (n : ℕ) → (producer_at state n).duty ≡ Unused
+
+pub unhosted-lasts : Lasts IsUnhosted
+unhosted-lasts = record {
+  alone = λ state p. unused-no_host state p.hosts p.unused;
+  stays = λ state step p g. record {
+    sound = reaction-sound state (act_of step) p.sound;
+    held = reaction-held state (act_of step) p.sound p.held;
+    hosts = reaction-hosts state (act_of step) p.sound p.held p.hosts;
+    unused = λ n. ap (λ ps. (slice_index_or ps n no_producer).duty) (reaction-producers state (act_of step)) ∙ p.unused n;
+  };
+}
+
+none_used : (m n : ℕ) → (slice_index_or (replicate m no_producer) n no_producer).duty ≡ Unused
+none_used zero n = refl
+none_used (suc m) zero = refl
+none_used (suc m) (suc n) = none_used m n
+
+pub unhosted-empty : (tag : ℕ) (limits : Limits) → IsSound (empty tag limits) → StateIsHeld (empty tag limits) → IsUnhosted (empty tag limits)
+unhosted-empty tag limits s h =
+    record { sound = s; held = h; hosts = HostsHold-empty tag limits; unused = none_used host_limit }

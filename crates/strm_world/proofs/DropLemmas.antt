@@ -1,10 +1,10 @@
 -- A read end that is dropped, or closed, where a host writer has the other end: it goes in the same step.
-use Rattle.std.proofs.Common.{◌≡◌, ℕ, true, false, Bool, cond, None, Ok, refl, sym, ap, subst, ◌∙◌}
+use Rattle.std.proofs.Common.{◌≡◌, ℕ, false, cond, None, Ok, refl, ap, ◌∙◌}
 use Rattle.strm_buffers.specs.Tells.{Tells}
 use Rattle.strm_machine.specs.State.{State, stream_at, is_host}
 use Rattle.strm_machine.specs.Tests.{named, stream_named}
 use Rattle.strm_machine.specs.Refusals.{refusal}
-use Rattle.strm_machine.specs.Reactions.{Reaction, goes, reaction}
+use Rattle.strm_machine.specs.Reactions.{goes, reaction}
 use Rattle.strm_machine.specs.declared.acts.Act.{Act}
 use Rattle.strm_machine.specs.declared.acts.Act.TheVariants.{OnEnd, OnLoose}
 use Rattle.strm_machine.specs.declared.acts.EndAct.TheVariants.{Drop}
@@ -13,12 +13,13 @@ use Rattle.strm_machine.specs.declared.acts.NamedEnd.{NamedEnd}
 use Rattle.strm_machine.specs.declared.streams.Owner.TheVariants.{Host}
 use Rattle.strm_machine.specs.declared.streams.Side.TheVariants.{Reading}
 use Rattle.strm_machine.specs.declared.replies.Reply.TheVariants as replies
-use Rattle.strm_world.specs.World.{World, stream_in, with_stream_in}
-use Rattle.strm_world.specs.Outcomes.{Outcome, Goes, done, of_reply, reacted}
-use Rattle.strm_world.specs.Attaching.{forsaken, forsakes}
+use Rattle.strm_world.specs.Outcomes.{reacted}
+use Rattle.strm_world.specs.Attaching.{forsakes}
 use Rattle.strm_world.specs.Steps.{reacts, drops_in, performs_in, outcome}
-use Rattle.strm_world.specs.Does.{Logs, Answered, Gives, world_of, Does}
+use Rattle.strm_world.specs.Does.{Logs, world_of, Does}
 use Rattle.strm_world.proofs.DoesLemmas.{Does-as}
+use Rattle.strm_world.proofs.BackLemmas.{forsakes_in}
+use Rattle.strm_world.proofs.ReadLemmas.{stream_of}
 use Rattle.strm_world.proofs.OutcomeLemmas.{outcome-performs, refusal_in-on_end, refusal_in-on_loose}
 use Rattle.strm_world.proofs.ReactedLemmas.{world_of-state}
 
@@ -29,10 +30,6 @@ pub record IsDropped (old mid : State) (s n : ℕ) (act : Act) : Type 0 where
   pub owner : (stream_at old s).writer.owner ≡ Host n
   pub reacts : reaction old act ≡ goes replies.Done mid
   pub kept : mid.producers ≡ old.producers
-
--- the host end on the other side of stream s goes
-abbrev pub forsakes_in : ℕ → World → Outcome
-forsakes_in s world = done (with_stream_in world s (forsaken Reading (stream_in world s)))
 
 drops-forsakes : (old mid : State) (tells : Tells) (logs : Logs) (s n : ℕ) (act : Act) → IsDropped old mid s n act → drops_in (world_of old tells logs) s Reading act ≡ forsakes_in s (world_of mid tells logs)
 drops-forsakes old mid tells logs s n act d =
@@ -54,8 +51,8 @@ where_drop : (old : State) (tells : Tells) (logs : Logs) (end : NamedEnd) → pe
 unfolding performs_in
 where_drop old tells logs end = refl
 
-pub Does-drop : (old mid new : State) (tells told : Tells) (n : ℕ) (end : NamedEnd) → IsDropped old mid (stream_named (named old end)) n (OnEnd Reading end Drop)
-    → Does mid new tells told (Ok replies.Done) (forsakes_in (stream_named (named old end))) → Does old new tells told (Ok replies.Done) (λ w. outcome w (OnEnd Reading end Drop))
+pub Does-drop : (old mid new : State) (tells told : Tells) (n : ℕ) (end : NamedEnd) → IsDropped old mid (stream_of old end) n (OnEnd Reading end Drop)
+    → Does mid new tells told (Ok replies.Done) (forsakes_in (stream_of old end)) → Does old new tells told (Ok replies.Done) (λ w. outcome w (OnEnd Reading end Drop))
 Does-drop old mid new tells told n end h d =
     let s = stream_named (named old end) in
     let act = OnEnd Reading end Drop in

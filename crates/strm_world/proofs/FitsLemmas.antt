@@ -1,5 +1,5 @@
 -- The host ends that a store needs stay there, with the kinds and payloads of their streams.
-use Rattle.std.proofs.Common.{◌≡◌, ◌≢◌, ℕ, zero, suc, ◌<◌, ◌+◌, ◌≤◌, ◌==◌, Bool, true, false, cond, List, [], ◌∷◌, ◌++◌, length, Option, Some, None, refl, sym, ap, subst, ◌∙◌, arith}
+use Rattle.std.proofs.Common.{◌≡◌, ℕ, zero, suc, ◌<◌, ◌+◌, ◌≤◌, ◌==◌, Bool, true, false, cond, List, [], ◌∷◌, length, Option, Some, None, refl, sym, ap, subst, ◌∙◌, arith}
 use Rattle.std.specs.Prelude.{slice_set, slice_index_or}
 use Rattle.strm_codes.specs.declared.codes.TransmitKind.{TransmitKind}
 use Rattle.strm_codes.specs.declared.payloads.Payload.{Payload}
@@ -11,8 +11,7 @@ use Rattle.strm_buffers.specs.Tells.{WriterTells, Tells, no_tells, told_by, with
 use Rattle.strm_machine.specs.State.{State, no_producer, no_stream, producer_at, stream_at, is_host}
 use Rattle.strm_machine.specs.Reactions.{with_stream_at}
 use Rattle.strm_machine.specs.Turns.{with_received}
-use Rattle.strm_machine.specs.declared.streams.Duty.{Duty}
-use Rattle.strm_machine.specs.declared.streams.Duty.TheVariants.{Unused, Serves, Ended}
+use Rattle.strm_machine.specs.declared.streams.Duty.TheVariants.{Serves, Ended}
 use Rattle.strm_machine.specs.declared.streams.Owner.{Owner}
 use Rattle.strm_machine.specs.declared.streams.Owner.TheVariants.{Host}
 use Rattle.strm_machine.specs.declared.streams.Operation.{Operation}
@@ -31,8 +30,11 @@ pub record IsLike (a : TransmitKind) (p : Payload) (b : TransmitKind) (q : Paylo
 
 -- A WRITER THAT TELLS SOMETHING ELSE
 
-set-like : (ws : List WriterTells) (n m : ℕ) (w : WriterTells) → IsLike w.kind w.payload (slice_index_or ws n no_tells).kind (slice_index_or ws n no_tells).payload
-    → IsLike (slice_index_or (slice_set ws n w) m no_tells).kind (slice_index_or (slice_set ws n w) m no_tells).payload (slice_index_or ws m no_tells).kind (slice_index_or ws m no_tells).payload
+-- a writer that tells of itself what it told
+abbrev pub KeepsType : WriterTells → WriterTells → Type 0
+KeepsType old new = IsLike new.kind new.payload old.kind old.payload
+
+set-like : (ws : List WriterTells) (n m : ℕ) (w : WriterTells) → KeepsType (slice_index_or ws n no_tells) w → KeepsType (slice_index_or ws m no_tells) (slice_index_or (slice_set ws n w) m no_tells)
 set-like [] n m w h = record { kind = refl; payload = refl }
 set-like (x ∷ ws) zero zero w h = h
 set-like (x ∷ ws) zero (suc m) w h = record { kind = refl; payload = refl }
@@ -43,10 +45,6 @@ length-told : (ws : List WriterTells) (n : ℕ) (w : WriterTells) → length (sl
 length-told [] n w = refl
 length-told (x ∷ ws) zero w = refl
 length-told (x ∷ ws) (suc n) w = ap suc (length-told ws n w)
-
--- a writer that tells of itself what it told
-abbrev pub KeepsType : WriterTells → WriterTells → Type 0
-KeepsType old new = IsLike new.kind new.payload old.kind old.payload
 
 pub keeps-polled : {said : WriterSaid} {marked : List Item} (old new : WriterTells) → PollsWriter old new said marked → KeepsType old new
 keeps-polled old new p = record { kind = p.kind; payload = p.payload }
@@ -67,17 +65,16 @@ Fits-told state tells n w k fits m s d =
 
 -- ANOTHER STREAM OF ITS KIND AND PAYLOAD
 
-stream_set-like : (xs : List Stream) (s t : ℕ) (x : Stream) → IsLike x.kind x.payload (slice_index_or xs s no_stream).kind (slice_index_or xs s no_stream).payload
-    → IsLike (slice_index_or xs t no_stream).kind (slice_index_or xs t no_stream).payload (slice_index_or (slice_set xs s x) t no_stream).kind (slice_index_or (slice_set xs s x) t no_stream).payload
+-- a stream of the kind and payload of another
+abbrev pub KeepsKind : Stream → Stream → Type 0
+KeepsKind old new = IsLike new.kind new.payload old.kind old.payload
+
+stream_set-like : (xs : List Stream) (s t : ℕ) (x : Stream) → KeepsKind (slice_index_or xs s no_stream) x → KeepsKind (slice_index_or (slice_set xs s x) t no_stream) (slice_index_or xs t no_stream)
 stream_set-like [] s t x h = record { kind = refl; payload = refl }
 stream_set-like (y ∷ xs) zero zero x h = record { kind = sym h.kind; payload = sym h.payload }
 stream_set-like (y ∷ xs) zero (suc t) x h = record { kind = refl; payload = refl }
 stream_set-like (y ∷ xs) (suc s) zero x h = record { kind = refl; payload = refl }
 stream_set-like (y ∷ xs) (suc s) (suc t) x h = stream_set-like xs s t x h
-
--- a stream of the kind and payload of another
-abbrev pub KeepsKind : Stream → Stream → Type 0
-KeepsKind old new = IsLike new.kind new.payload old.kind old.payload
 
 pub Fits-stream : (state : State) (tells : Tells) (s : ℕ) (stream : Stream) → KeepsKind (stream_at state s) stream → Fits state tells → Fits (with_stream_at state s stream) tells
 Fits-stream state tells s stream k fits n t d =
