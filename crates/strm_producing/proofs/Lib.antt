@@ -1,4 +1,4 @@
-pub mod RegionFacts
-pub mod PollFacts
-pub mod TurnFacts
-pub mod StepFacts
+pub mod RegionLemmas
+pub mod PollLemmas
+pub mod TurnLemmas
+pub mod StepLemmas

@@ -1,7 +1,7 @@
 use Rattle.std.proofs.Common.{◌∙◌, refl, sym, arith}
 use Rattle.strm_turns.specs.Guests.{seen}
-use Rattle.strm_producing.proofs.PollFacts.{received_few}
-use Rattle.strm_producing.proofs.TurnFacts.{room_behind, judged_stops, judged_passes}
+use Rattle.strm_producing.proofs.PollLemmas.{received_few}
+use Rattle.strm_producing.proofs.TurnLemmas.{room_behind, judged_stops, judged_passes}
 use Rattle.strm_producing.proofs.turns.poll_once.Goals as goal
 
 pub returns-in-Err-judge : goal.returns-in-Err-judge

@@ -15,7 +15,7 @@ use Rattle.strm_machine.specs.State.{Guest}
 use Rattle.strm_machine.specs.declared.streams.Operation.{Operation}
 use Rattle.strm_world.specs.Producing.{lowered}
 use Rattle.strm_producing.specs.Polls.{PollsInto, Lowers}
-use Rattle.strm_producing.proofs.RegionFacts.{Returns, marked_few, marked_lowered}
+use Rattle.strm_producing.proofs.RegionLemmas.{Returns, marked_few, marked_lowered}
 
 -- an answer was read off a turn, or none where memory was wanting
 pub record Reads (turn : Turn StreamResult) (read : Option Answer) : Type 0 where
@@ -29,7 +29,7 @@ some_none : (P : Type 0) (a : Answer) (o : Option Answer) → o ≡ Some a → o
 some_none P a o e f = cc
 
 -- what holds of the answer of a turn holds of the answer that was read off it
-pub of_answer : (P : Answer → Type 0) (turn : Turn StreamResult) (o : Option Answer) (a : Answer) → Reads turn o → o ≡ Some a → IfAnswered turn P → P a
+of_answer : (P : Answer → Type 0) (turn : Turn StreamResult) (o : Option Answer) (a : Answer) → Reads turn o → o ≡ Some a → IfAnswered turn P → P a
 of_answer P Pending o a r e p = some_is P answers.Pending a o e p r.answered
 of_answer P (Ready results.Completed) o a r e p = some_is P answers.Completed a o e p r.answered
 of_answer P (Ready results.Cancelled) o a r e p = some_is P answers.Cancelled a o e p r.answered
@@ -42,7 +42,7 @@ module _ (guests : List Guest) (payload : Payload) (read : Operation) (between a
   abbrev record_of : Answer → WriterSaid
   record_of answer = writer_record window read.asked filled.marked told.holds answer
 
-  pub polls_into : (answer : Answer) (count : ℕ) → count ≡ length filled.marked → PollsWriter tells told (record_of answer) filled.marked → PollsInto tells told guests after payload read answer count
+  polls_into : (answer : Answer) (count : ℕ) → count ≡ length filled.marked → PollsWriter tells told (record_of answer) filled.marked → PollsInto tells told guests after payload read answer count
   polls_into answer count n p =
       let said = record_of answer in
       let room : room_of window.place ≡ Some read.left = ap (λ (w : Lent). room_of w.place) h.lent in
@@ -54,6 +54,11 @@ module _ (guests : List Guest) (payload : Payload) (read : Operation) (between a
         received_is = n ∙ ap length marks;
         lowers = subst (λ xs. after ≡ lowered guests payload read xs) marks (marked_lowered guests payload read between after window filled h);
       }
+
+  -- by the turn, and the answer that was read off it
+  pub polls_read : (turn : Turn StreamResult) (o : Option Answer) (answer : Answer) (count : ℕ) → Reads turn o → o ≡ Some answer → count ≡ length filled.marked → IfAnswered turn (λ a. PollsWriter tells told (record_of a) filled.marked) → PollsInto tells told guests after payload read answer count
+  polls_read turn o answer count r e n p =
+      polls_into answer count n (of_answer (λ a. PollsWriter tells told (record_of a) filled.marked) turn o answer r e p)
 
 -- a read receives no more items than it has left
 pub received_few : (tells told : WriterTells) (guests after : List Guest) (payload : Payload) (read : Operation) (answer : Answer) (count : ℕ) → PollsInto tells told guests after payload read answer count → count ≤ read.left

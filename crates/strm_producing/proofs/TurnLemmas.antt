@@ -25,7 +25,7 @@ use Rattle.strm_producing.specs.Polls.{PollsInto, Lowers}
 use Rattle.strm_producing.specs.Turning.{Scene, scene, handed_over, ended, produced, Stopped, judged_by, judged, Produces, Fails, Breaks, Wants, Polled, TurnsEmpty, TurnsHolding}
 use Rattle.strm_producing.specs.declared.turns.TurnError.{TurnError}
 use Rattle.strm_producing.specs.declared.turns.TurnError.TheVariants.{Failed, OutOfMemory, Broke}
-use Rattle.strm_producing.proofs.RegionFacts.{lowered-none}
+use Rattle.strm_producing.proofs.RegionLemmas.{lowered-none}
 
 -- the address behind some of the items that a read has left
 pub room_behind : (guests : List Guest) (payload : Payload) (read : Operation) (n : ℕ) → IsPlaced (sizes_of guests) payload read → sum (sizes_of guests) ≤ memory_limit → read.address < 2 ^ 32 → n ≤ read.left → read.address + item_size (scalars_of payload) * n < 2 ^ 32
