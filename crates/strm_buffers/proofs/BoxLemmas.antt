@@ -15,10 +15,11 @@ pub ruleset boxes = (common_steps, map-set, get_or-map, length-map)
 -- where what was written is seen as what was there
 pub ruleset same_boxes = (map-set, get_or-map, map-set_same, length-map)
 
+-- a poll that answered so, of an end that told this and then tells that
+abbrev Polls : Turn StreamResult → Lent → Lent → Bool → WriterTells → WriterTells → Type 0
+Polls turn old new finish was is =
+    IfAnswered turn (λ answer. PollsWriter was is (writer_record old finish new.marked is.holds answer) new.marked)
+
 -- a poll of a box is one of the end that tells the same
-pub polls_as : (turn : Turn StreamResult) (old new : Lent) (finish : Bool) (a b x y : WriterTells) → a ≡ x → b ≡ y
-    → IfAnswered turn (λ answer. PollsWriter a b (writer_record old finish new.marked b.holds answer) new.marked)
-    → IfAnswered turn (λ answer. PollsWriter x y (writer_record old finish new.marked y.holds answer) new.marked)
-polls_as turn old new finish a b x y e f p =
-    subst (λ c. IfAnswered turn (λ answer. PollsWriter x c (writer_record old finish new.marked c.holds answer) new.marked)) f
-    (subst (λ c. IfAnswered turn (λ answer. PollsWriter c b (writer_record old finish new.marked b.holds answer) new.marked)) e p)
+pub polls_as : (turn : Turn StreamResult) (old new : Lent) (finish : Bool) (a b x y : WriterTells) → a ≡ x → b ≡ y → Polls turn old new finish a b → Polls turn old new finish x y
+polls_as turn old new finish a b x y e f p = subst (Polls turn old new finish x) f (subst (λ c. Polls turn old new finish c b) e p)
