@@ -3,7 +3,7 @@
 //! Source: ours; wasmtime erases the type of a producer behind a closure.
 
 ghost use Rattle.std.specs.Prelude.{◌≡◌};
-ghost use Rattle.strm_codes.specs.declared.codes.TransmitKind.TheVariants.{Stream};
+ghost use Rattle.strm_codes.specs.declared.codes.TransmitKind.TheVariants.{Stream, Future};
 
 use crate::futures::{FutureProducer, Producer};
 use crate::producers::StreamProducer;
@@ -34,13 +34,21 @@ pub struct Erased<P: StreamProducer> {
 }
 
 impl<P: StreamProducer> Erased<P> {
+    ghost use Rattle.strm_host.specs.Erasing.{erased_tells, unpolled};
+
     /// A host writer of a stream, which asks this producer.
-    pub fn stream(alloc: Global, producer: P) -> Erased<P> {
+    pub fn stream(alloc: Global, producer: P) -> Erased<P>
+        ensures producer { result.producer ≡ producer }
+        ensures tells { erased_tells result ≡ unpolled Stream P.Item.payload (P.faults producer) }
+    {
         Erased::of(alloc, producer, TransmitKind::Stream)
     }
 
     // A host writer of this kind.
-    pub(crate) fn of(alloc: Global, producer: P, kind: TransmitKind) -> Erased<P> {
+    pub(crate) fn of(alloc: Global, producer: P, kind: TransmitKind) -> Erased<P>
+        ensures producer { result.producer ≡ producer }
+        ensures tells { erased_tells result ≡ unpolled kind P.Item.payload (P.faults producer) }
+    {
         let held = Items::new(alloc, P::Item::payload());
         Erased {
             producer,
@@ -54,8 +62,13 @@ impl<P: StreamProducer> Erased<P> {
 }
 
 impl<F: FutureProducer> Erased<Producer<F>> {
+    ghost use Rattle.strm_host.specs.Erasing.{erased_tells, unpolled};
+
     /// A host writer of a future, which asks this producer.
-    pub fn future(alloc: Global, producer: F) -> Erased<Producer<F>> {
+    pub fn future(alloc: Global, producer: F) -> Erased<Producer<F>>
+        ensures producer { result.producer.future ≡ producer }
+        ensures tells { erased_tells result ≡ unpolled Future F.Item.payload (F.faults producer) }
+    {
         Erased::of(alloc, Producer::new(producer), TransmitKind::Future)
     }
 }
