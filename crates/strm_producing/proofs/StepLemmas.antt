@@ -59,6 +59,10 @@ module _ (old : State) (tells : Tells) (n s : ℕ) (read : Operation) (i : IsSer
   abbrev pub its_turn : World → Outcome
   its_turn world = producer_turn world s n read
 
+  -- the state after it, but for its stream
+  abbrev pub all_but : Scene → State
+  all_but new = turned_but old n new.guests new.producer
+
   -- a turn that stops the step
   abbrev pub StopsBy : TurnError → Scene → State → Type 0
   StopsBy e new after = Does old after tells (told_in tells n new) (stop_of e n) its_turn
@@ -104,7 +108,7 @@ module _ (old : State) (tells : Tells) (n s : ℕ) (read : Operation) (i : IsSer
       Does-stays old (turned_but old n new.guests new.producer) tells (told_in tells n new) s new.stream its_turn g.follows g.back e
 
   -- its writer is gone, and was closed
-  pub turn_left : (new : Scene) (w : WriterTells) → Turns (Ok tt) (scene_in old tells n s) new read → IsLeft (turned_but old n new.guests new.producer) (told_in tells n new) s n new.stream w
+  pub turn_left : (new : Scene) (w : WriterTells) → Turns (Ok tt) (scene_in old tells n s) new read → IsLeft (all_but new) (told_in tells n new) s n new.stream w
       → Does old (ended_in (turned_in old n s new) n) tells (with_told (told_in tells n new) n w) (Ok replies.Done) its_turn
   turn_left new w t l =
       let g = goes_on new t in

@@ -111,18 +111,18 @@ module _ (P : State → Type 0) (lasts : Lasts P) (first : State) (tells : Tells
   Follow more = (told : List Reply) (state : State) → state.producers ≡ first.producers → P state → play told (world_of state tells logs) more ≡ among first tells logs (machine.play told state more)
 
   -- and as a run goes on
-  abbrev goes_on : List Step → List Reply → World → Played
-  goes_on more told world = play told world more
+  abbrev go_on : List Step → List Reply → World → Played
+  go_on more told world = play told world more
 
-  abbrev machine_goes_on : List Step → List Reply → State → machine.Played
-  machine_goes_on more told state = machine.play told state more
+  abbrev guests_go_on : List Step → List Reply → State → machine.Played
+  guests_go_on more told state = machine.play told state more
 
   halts_same : (told : List Reply) (stop : Stop) (state : State) → state.producers ≡ first.producers
       → Halts told stop (world_of state tells logs).writers (world_of state tells logs).readers ≡ Halts told stop (world_of first tells logs).writers (world_of first tells logs).readers
   halts_same told stop state e = ap (λ ps. Halts told stop (writers_from ps tells.writers logs.writers) (readers_from tells.readers logs.readers)) e
 
   after_alone : (told : List Reply) (reply : Reply) (state : State) (more : List Step) → state.producers ≡ first.producers → P state → Follow more
-      → after_step told (of_reply reply (world_of state tells logs)) (goes_on more) ≡ among first tells logs (machine.after_step told reply state (machine_goes_on more))
+      → after_step told (of_reply reply (world_of state tells logs)) (go_on more) ≡ among first tells logs (machine.after_step told reply state (guests_go_on more))
   after_alone told (replies.BadItem s) state more e p follow = halts_same told (BadItem s) state e
   after_alone told replies.StoreTrapped state more e p follow = halts_same told StoreTrapped state e
   after_alone told reply state more e p follow = follow (told ++ reply ∷ []) state e p

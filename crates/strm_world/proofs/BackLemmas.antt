@@ -16,20 +16,23 @@ use Rattle.strm_world.proofs.SettleLemmas.{with_stream_in-stays, IsLeft, with_st
 use Rattle.strm_world.proofs.TurnLemmas.{WritesBack}
 
 -- its writer stays
-pub Does-stays : (old but : State) (tells told : Tells) (s : ℕ) (stream : Stream) (machine : Part) → Follows tells told
-    → WritesBack old but tells told s stream machine → stream.writer.owner ≡ (stream_at but s).writer.owner
-    → Does old (with_stream_at but s stream) tells told (Ok replies.Done) machine
-Does-stays old but tells told s stream machine f back e =
-    Does-follows old (with_stream_at but s stream) tells told (Ok replies.Done) machine f
+pub Does-stays : (old but : State) (tells told : Tells) (s : ℕ) (stream : Stream) (part : Part) → Follows tells told
+    → WritesBack old but tells told s stream part → stream.writer.owner ≡ (stream_at but s).writer.owner
+    → Does old (with_stream_at but s stream) tells told (Ok replies.Done) part
+Does-stays old but tells told s stream part f back e =
+    Does-follows old (with_stream_at but s stream) tells told (Ok replies.Done) part f
     (λ logs x. back logs x ∙ ap done (with_stream_in-stays but told logs s stream e)) tt
 
+-- the state after its writer is gone
+abbrev pub left_in : State → ℕ → ℕ → Stream → State
+left_in but s n stream = ended_in (with_stream_at but s stream) n
+
 -- its writer is gone, and was closed
-pub Does-left : (old but : State) (tells told : Tells) (s n : ℕ) (stream : Stream) (w : WriterTells) (machine : Part) → Follows tells told
-    → WritesBack old but tells told s stream machine → IsLeft but told s n stream w
-    → Does old (ended_in (with_stream_at but s stream) n) tells (with_told told n w) (Ok replies.Done) machine
-Does-left old but tells told s n stream w machine f back l =
+pub Does-left : (old but : State) (tells told : Tells) (s n : ℕ) (stream : Stream) (w : WriterTells) (part : Part) → Follows tells told
+    → WritesBack old but tells told s stream part → IsLeft but told s n stream w → Does old (left_in but s n stream) tells (with_told told n w) (Ok replies.Done) part
+Does-left old but tells told s n stream w part f back l =
     let g = follows-told told n w l.there (grows-closed (told_by told n) w l.closes) in
-    Does-follows old (ended_in (with_stream_at but s stream) n) tells (with_told told n w) (Ok replies.Done) machine
+    Does-follows old (ended_in (with_stream_at but s stream) n) tells (with_told told n w) (Ok replies.Done) part
     (follows-then tells told (with_told told n w) f g)
     (λ logs x. back logs (g.begins logs x) ∙ ap done (with_stream_in-left but told logs s n stream w l)) tt
 

@@ -12,8 +12,12 @@ use Rattle.strm_machine.specs.declared.streams.Producer.{Producer}
 use Rattle.strm_world.specs.Ends.{Writer, writer_in, polled_writer}
 use Rattle.strm_world.specs.Does.{Begins, first_duty, first_log, writer_of, writers_from}
 
+-- the records of all writers
+abbrev pub Saids : Type 0
+Saids = List (List WriterSaid)
+
 -- the log of the n-th writer
-abbrev pub log_of : List (List WriterSaid) → ℕ → List WriterSaid
+abbrev pub log_of : Saids → ℕ → List WriterSaid
 log_of logs n = first_log (drop n logs)
 
 -- what the n-th writer is to the machine
