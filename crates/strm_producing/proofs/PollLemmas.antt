@@ -1,5 +1,5 @@
 -- One poll through a window over a read's region, by what the writer's record says.
-use Rattle.std.proofs.Common.{◌≡◌, ℕ, ◌≤◌, Bool, List, [], ◌++◌, length, take, Option, Some, None, refl, sym, ap, subst, ◌∙◌, arith, length-take}
+use Rattle.std.proofs.Common.{◌≡◌, ℕ, ◌≤◌, List, length, take, Option, Some, None, refl, ap, subst, ◌∙◌, arith, length-take}
 use Rattle.strm_codes.specs.declared.codes.StreamResult.{StreamResult}
 use Rattle.strm_codes.specs.declared.codes.StreamResult.TheVariants as results
 use Rattle.strm_codes.specs.declared.payloads.Payload.{Payload}
@@ -14,8 +14,8 @@ use Rattle.strm_buffers.specs.Windows.{Lent, room_of}
 use Rattle.strm_machine.specs.State.{Guest}
 use Rattle.strm_machine.specs.declared.streams.Operation.{Operation}
 use Rattle.strm_world.specs.Producing.{lowered}
-use Rattle.strm_producing.specs.Polls.{PollsInto, Lowers}
-use Rattle.strm_producing.proofs.RegionLemmas.{Returns, marked_few, marked_lowered}
+use Rattle.strm_producing.specs.Polls.{PollsInto}
+use Rattle.strm_producing.proofs.RegionLemmas.{Returns, marked_lowered}
 
 -- an answer was read off a turn, or none where memory was wanting
 pub record Reads (turn : Turn StreamResult) (read : Option Answer) : Type 0 where

@@ -1,42 +1,28 @@
 -- A read's region, lent to a window and taken back: the items that were marked are lowered.
-use Rattle.std.proofs.Common.{◌≡◌, ℕ, zero, suc, ◌+◌, ◌*◌, ◌<◌, ◌≤◌, Bool, false, List, [], ◌∷◌, length, take, refl, sym, ap, subst, ◌∙◌, arith}
+use Rattle.std.proofs.Common.{◌≡◌, ℕ, zero, suc, ◌+◌, ◌*◌, ◌≤◌, Bool, false, List, [], ◌∷◌, length, refl, sym, ap, subst, ◌∙◌, arith}
 use Rattle.std.specs.Prelude.{◌==◌, ◌||◌, if◌then◌else◌}
 use Rattle.std.proofs.lemmas.Bool.Decides.{nat_tests}
 use Rattle.std.proofs.lemmas.List.{take-append-drop}
 use Rattle.strm_codes.specs.Layout.{scalars_of, item_size}
 use Rattle.strm_codes.specs.declared.payloads.Payload.{Payload}
-use Rattle.strm_codes.specs.declared.scalars.Scalar.{Scalar}
 use Rattle.strm_memory.specs.Items.{stored, stored_at, encode_from}
 use Rattle.strm_memory.proofs.RegionLemmas.{stored_at-nil}
 use Rattle.strm_buffers.specs.Listing.{Item}
 use Rattle.strm_buffers.specs.Windows.{Lent, Place, Memory, HasRoom, lent_memory, memory_of}
 use Rattle.strm_buffers.specs.Tells.{Fills}
 use Rattle.strm_machine.specs.State.{Guest, memory_in, with_memory}
-use Rattle.strm_machine.specs.Soundness.{sizes_of, IsPlaced}
 use Rattle.strm_machine.specs.declared.streams.Operation.{Operation}
 use Rattle.strm_machine.proofs.StateLemmas.{with_memory-same, with_memory-twice}
-use Rattle.strm_machine.proofs.BoundLemmas.{within}
 use Rattle.strm_machine.proofs.CarryLemmas.{no_scalars}
-use Rattle.strm_machine.proofs.TurnLemmas.{front_inside}
 use Rattle.strm_world.specs.Producing.{lowered}
 use Rattle.strm_producing.specs.Regions.{region_address}
 use Rattle.strm_producing.specs.Polls.{Lowers}
 
 -- ## Its address
 
--- what is behind the front is not at it
+-- a successor is not 0
 not_zero : (n : ℕ) → (suc n == 0) ≡ false
 not_zero n = grind (arith, nat_tests)
-
--- the region lies in the memory
-pub region_inside : (guests : List Guest) (payload : Payload) (read : Operation) → IsPlaced (sizes_of guests) payload read → region_address payload read + item_size (scalars_of payload) * read.left ≤ length (memory_in guests read.guest)
-region_inside guests payload read h =
-    by_size read.address (length (memory_in guests read.guest)) (item_size (scalars_of payload)) read.left (within _ (scalars_of payload) read.address read.left (front_inside guests payload read read.left (omega arith) h))
-  where
-    by_size : (address size w n : ℕ) → (0 < n → 0 < w → address + w * n ≤ size) → (if (w == 0) || (n == 0) then 0 else address) + w * n ≤ size
-    by_size address size zero n h = omega arith
-    by_size address size (suc w) zero h = rw (not_zero w) (omega arith)
-    by_size address size (suc w) (suc n) h = rw (not_zero w, not_zero n) (h (omega arith) (omega arith))
 
 stored-nothing : (bytes : List ℕ) (items : List Item) → stored [] bytes items ≡ bytes
 unfolding stored encode_from

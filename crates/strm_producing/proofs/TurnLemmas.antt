@@ -1,5 +1,5 @@
 -- What a turn does, by the held items that it handed over, or by the poll that it did.
-use Rattle.std.proofs.Common.{◌≡◌, ℕ, ◌+◌, ◌<◌, ◌≤◌, ◌*◌, Bool, true, false, List, [], ◌∷◌, ◌++◌, length, take, drop, Some, Result, Ok, Err, refl, sym, ap, ◌∙◌, arith, length-append, length-take}
+use Rattle.std.proofs.Common.{◌≡◌, ℕ, ◌+◌, ◌<◌, ◌≤◌, ◌*◌, Bool, true, false, List, [], ◌∷◌, length, take, drop, Some, Result, Ok, Err, refl, sym, ap, ◌∙◌, arith, length-append, length-take}
 use Rattle.std.specs.Prelude.{◌^◌, ◌||◌, sum}
 use Rattle.std.proofs.lemmas.List.{take-append-drop}
 use Rattle.strm_codes.specs.Layout.{scalars_of, item_size}
@@ -10,7 +10,7 @@ use Rattle.strm_buffers.specs.declared.answers.Answer.TheVariants as answers
 use Rattle.strm_buffers.specs.Listing.{Item}
 use Rattle.strm_buffers.specs.Said.{past_room}
 use Rattle.strm_buffers.specs.HostRules.{writer_breaks, breaks_as_writer}
-use Rattle.strm_buffers.specs.Tells.{WriterTells, KeepsWriter, given}
+use Rattle.strm_buffers.specs.Tells.{WriterTells, given}
 use Rattle.strm_machine.specs.State.{Guest, memory_limit}
 use Rattle.strm_machine.specs.Soundness.{sizes_of, IsPlaced}
 use Rattle.strm_machine.specs.declared.streams.Side.TheVariants.{Reading}
@@ -21,8 +21,8 @@ use Rattle.strm_machine.proofs.BoundLemmas.{address_room, not_out-front}
 use Rattle.strm_world.specs.Polls.{is_failed}
 use Rattle.strm_world.specs.Producing.{lowered, is_last, produced_result}
 use Rattle.strm_world.specs.Settling.{moved_on}
-use Rattle.strm_producing.specs.Polls.{PollsInto, Lowers}
-use Rattle.strm_producing.specs.Turning.{Scene, scene, handed_over, ended, produced, Stopped, judged_by, judged, Produces, Fails, Breaks, Wants, Polled, TurnsEmpty, TurnsHolding}
+use Rattle.strm_producing.specs.Polls.{PollsInto}
+use Rattle.strm_producing.specs.Turning.{Scene, scene, handed_over, ended, Stopped, judged_by, judged, Polled, TurnsEmpty, TurnsHolding}
 use Rattle.strm_producing.specs.declared.turns.TurnError.{TurnError}
 use Rattle.strm_producing.specs.declared.turns.TurnError.TheVariants.{Failed, OutOfMemory, Broke}
 use Rattle.strm_producing.proofs.RegionLemmas.{lowered-none}
@@ -35,9 +35,19 @@ room_behind guests payload read n h s a l =
 
 -- ## Without a poll
 
-pub handed : (guests after : List Guest) (stream moved : Stream) (producer : Producer) (tells told : WriterTells) (read : Operation) (items : List Item) (count : ℕ) → items ≡ take read.left tells.holds → count ≡ length items → after ≡ lowered guests stream.payload read items → moved ≡ moved_on Reading stream read count (Some results.Completed) → told ≡ given tells (Some read.left)
+-- held items were lowered and counted, and the read was settled
+pub record Hands (guests after : List Guest) (stream moved : Stream) (tells told : WriterTells) (read : Operation) : Type 0 where
+  pub items : List Item
+  pub count : ℕ
+  pub held : items ≡ take read.left tells.holds
+  pub counted : count ≡ length items
+  pub lowers : after ≡ lowered guests stream.payload read items
+  pub moves : moved ≡ moved_on Reading stream read count (Some results.Completed)
+  pub gives : told ≡ given tells (Some read.left)
+
+pub handed : (guests after : List Guest) (stream moved : Stream) (producer : Producer) (tells told : WriterTells) (read : Operation) → Hands guests after stream moved tells told read
     → scene after moved producer told ≡ handed_over (scene guests stream producer tells) read
-handed guests after stream moved producer tells told read items count i n a m t = rw (a, m, t, n, i) refl
+handed guests after stream moved producer tells told read h = rw (h.lowers, h.moves, h.gives, h.counted, h.held) refl
 
 pub gone : (guests : List Guest) (stream moved : Stream) (producer : Producer) (tells : WriterTells) (read : Operation) → moved ≡ moved_on Reading stream read 0 (Some results.Dropped) → scene guests moved producer tells ≡ ended (scene guests stream producer tells) read
 gone guests stream moved producer tells read m = rw (m, lowered-none guests stream.payload read) refl
@@ -59,15 +69,6 @@ module _ (guests after : List Guest) (stream : Stream) (producer : Producer) (te
   -- after one that stops the step
   abbrev stayed : Scene
   stayed = scene after stream producer told
-
-  pub wants : Lowers guests after stream.payload read → KeepsWriter tells told → Polled (Err OutOfMemory) before stayed read
-  wants l k = (
-    l.items,
-    record {
-      tells = k;
-      stopped = record { few = l.few; after = ap (λ g. scene g stream producer told) l.lowered };
-    },
-  )
 
   module _ (answer : Answer) (count held : ℕ) (p : PollsInto tells told guests after stream.payload read answer count) (holds : held ≡ length told.holds) where
     rest_held : told.holds ≡ drop read.left p.said.items
@@ -106,8 +107,16 @@ module _ (guests after : List Guest) (stream : Stream) (producer : Producer) (te
     passed false true e = cc
     passed false false e = (refl, refl)
 
+    -- the stream, once its read received and is settled by the answer
+    abbrev pub settled_read : Stream
+    settled_read = moved_on Reading stream read count (produced_result answer told.holds)
+
+    -- what is kept of the writer
+    abbrev pub noted : Producer
+    noted = record producer { over = producer.over || is_last answer }
+
     -- the step goes on
-    pub judged_passes : (moved : Stream) (kept : Producer) → judged stream.kind answer read (count + held) ≡ Ok tt → moved ≡ moved_on Reading stream read count (produced_result answer told.holds) → kept ≡ record producer { over = producer.over || is_last answer } → Polled (Ok tt) before (scene after moved kept told) read
+    pub judged_passes : (moved : Stream) (kept : Producer) → judged stream.kind answer read (count + held) ≡ Ok tt → moved ≡ settled_read → kept ≡ noted → Polled (Ok tt) before (scene after moved kept told) read
     judged_passes moved kept e m k =
         let fine = passed (is_failed answer) (writer_breaks stream.kind answer (Some read.left) read.asked (count + held)) e in (
           p.said,
