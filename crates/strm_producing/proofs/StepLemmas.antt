@@ -1,20 +1,18 @@
 -- A turn, as what the machine does among its host ends.
-use Rattle.std.proofs.Common.{◌≡◌, ℕ, true, false, Bool, List, [], ◌∷◌, take, drop, Some, None, Ok, Err, Result, refl, sym, ap, subst, ◌∙◌, arith}
+use Rattle.std.proofs.Common.{◌≡◌, ℕ, true, false, Bool, List, [], ◌∷◌, take, Some, None, Ok, Err, refl, sym, subst, arith}
 use Rattle.std.specs.Prelude.{slice_set}
-use Rattle.strm_codes.specs.declared.codes.StreamResult.TheVariants.{Completed, Dropped}
+use Rattle.strm_codes.specs.declared.codes.StreamResult.TheVariants.{Dropped}
 use Rattle.strm_buffers.specs.Listing.{Item}
 use Rattle.strm_buffers.specs.Said.{WriterSaid}
-use Rattle.strm_buffers.specs.Tells.{WriterTells, Tells, told_by, with_told, given, ClosesWriter}
-use Rattle.strm_machine.specs.State.{State, Guest, producer_at, stream_at}
+use Rattle.strm_buffers.specs.Tells.{WriterTells, Tells, told_by, with_told, given}
+use Rattle.strm_machine.specs.State.{State, producer_at, stream_at}
 use Rattle.strm_machine.specs.declared.stops.Stop.TheVariants.{HostFailed, HostBroke}
 use Rattle.strm_machine.specs.declared.streams.HostEnd.TheVariants as ends
-use Rattle.strm_machine.specs.declared.streams.Owner.TheVariants.{Host, Gone}
 use Rattle.strm_machine.specs.declared.streams.Operation.{Operation}
-use Rattle.strm_machine.specs.declared.streams.Stream.{Stream}
 use Rattle.strm_machine.specs.declared.replies.Reply.TheVariants as replies
 use Rattle.strm_world.specs.World.{World}
 use Rattle.strm_world.specs.Outcomes.{Outcome}
-use Rattle.strm_world.specs.Producing.{producer_turn, produced_result}
+use Rattle.strm_world.specs.Producing.{producer_turn}
 use Rattle.strm_world.specs.Does.{Answered, Does}
 use Rattle.strm_world.proofs.GrowLemmas.{Follows, follows-same, follows-told, grows-same, grows-polled}
 use Rattle.strm_world.proofs.CloseLemmas.{ended_in}
@@ -23,7 +21,7 @@ use Rattle.strm_world.proofs.SettleLemmas.{IsLeft}
 use Rattle.strm_world.proofs.BackLemmas.{Does-stays, Does-left}
 use Rattle.strm_world.proofs.TurnLemmas.{turned_but, lowered_in, moved_in, WritesBack, told-same, turn-hands_over, turn-ended, IsPolledFor, turn-produced, turn-failed, turn-broke, turn-wanting}
 use Rattle.strm_producing.specs.Polls.{IsPolled}
-use Rattle.strm_producing.specs.Turning.{Scene, scene, handed_over, ended, produced, Produces, Fails, Breaks, Wants, Polled, TurnsEmpty, TurnsHolding, Turns}
+use Rattle.strm_producing.specs.Turning.{Scene, scene, handed_over, ended, Produces, Polled, TurnsEmpty, TurnsHolding, Turns}
 use Rattle.strm_producing.specs.declared.turns.TurnError.{TurnError}
 use Rattle.strm_producing.specs.declared.turns.TurnError.TheVariants.{Failed, OutOfMemory, Broke}
 

@@ -35,9 +35,19 @@ room_behind guests payload read n h s a l =
 
 -- ## Without a poll
 
-pub handed : (guests after : List Guest) (stream moved : Stream) (producer : Producer) (tells told : WriterTells) (read : Operation) (items : List Item) (count : ℕ) → items ≡ take read.left tells.holds → count ≡ length items → after ≡ lowered guests stream.payload read items → moved ≡ moved_on Reading stream read count (Some results.Completed) → told ≡ given tells (Some read.left)
+-- held items were lowered and counted, and the read was settled
+pub record Hands (guests after : List Guest) (stream moved : Stream) (tells told : WriterTells) (read : Operation) : Type 0 where
+  pub items : List Item
+  pub count : ℕ
+  pub held : items ≡ take read.left tells.holds
+  pub counted : count ≡ length items
+  pub lowers : after ≡ lowered guests stream.payload read items
+  pub moves : moved ≡ moved_on Reading stream read count (Some results.Completed)
+  pub gives : told ≡ given tells (Some read.left)
+
+pub handed : (guests after : List Guest) (stream moved : Stream) (producer : Producer) (tells told : WriterTells) (read : Operation) → Hands guests after stream moved tells told read
     → scene after moved producer told ≡ handed_over (scene guests stream producer tells) read
-handed guests after stream moved producer tells told read items count i n a m t = rw (a, m, t, n, i) refl
+handed guests after stream moved producer tells told read h = rw (h.lowers, h.moves, h.gives, h.counted, h.held) refl
 
 pub gone : (guests : List Guest) (stream moved : Stream) (producer : Producer) (tells : WriterTells) (read : Operation) → moved ≡ moved_on Reading stream read 0 (Some results.Dropped) → scene guests moved producer tells ≡ ended (scene guests stream producer tells) read
 gone guests stream moved producer tells read m = rw (m, lowered-none guests stream.payload read) refl
@@ -97,8 +107,16 @@ module _ (guests after : List Guest) (stream : Stream) (producer : Producer) (te
     passed false true e = cc
     passed false false e = (refl, refl)
 
+    -- the stream, once its read received and is settled by the answer
+    abbrev pub settled_read : Stream
+    settled_read = moved_on Reading stream read count (produced_result answer told.holds)
+
+    -- what is kept of the writer
+    abbrev pub noted : Producer
+    noted = record producer { over = producer.over || is_last answer }
+
     -- the step goes on
-    pub judged_passes : (moved : Stream) (kept : Producer) → judged stream.kind answer read (count + held) ≡ Ok tt → moved ≡ moved_on Reading stream read count (produced_result answer told.holds) → kept ≡ record producer { over = producer.over || is_last answer } → Polled (Ok tt) before (scene after moved kept told) read
+    pub judged_passes : (moved : Stream) (kept : Producer) → judged stream.kind answer read (count + held) ≡ Ok tt → moved ≡ settled_read → kept ≡ noted → Polled (Ok tt) before (scene after moved kept told) read
     judged_passes moved kept e m k =
         let fine = passed (is_failed answer) (writer_breaks stream.kind answer (Some read.left) read.asked (count + held)) e in (
           p.said,

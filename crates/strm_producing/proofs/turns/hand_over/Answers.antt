@@ -28,5 +28,12 @@ returns g c producer =
       room = subst (λ n. HasRoom filled.place n 0) c.return_region-marked.ensures.marked c.return_region-marked.ensures.room;
       back = c.return_region-marked.ensures.guests;
     }) in
-    handed (seen c.args.guests.now.items) (seen c.return_region-marked.new.guests.items) c.args.stream.now c.move_on.new.stream producer _ _ c.args.read
-    filled.marked c.count_of-count.result items (c.count_of-count.ensures ∙ c.return_region-marked.ensures.marked) lowered c.move_on.ensures (c.in-Ok.ensures.ok ∙ ap (given _) room)
+    handed (seen c.args.guests.now.items) (seen c.return_region-marked.new.guests.items) c.args.stream.now c.move_on.new.stream producer _ _ c.args.read (record {
+      items = filled.marked;
+      count = c.count_of-count.result;
+      held = items;
+      counted = c.count_of-count.ensures ∙ c.return_region-marked.ensures.marked;
+      lowers = lowered;
+      moves = c.move_on.ensures;
+      gives = c.in-Ok.ensures.ok ∙ ap (given _) room;
+    })
