@@ -12,5 +12,4 @@ pub mod BackLemmas
 pub mod AttachLemmas
 pub mod ReadLemmas
 pub mod FitsLemmas
-pub mod DropLemmas
 pub mod AloneLemmas

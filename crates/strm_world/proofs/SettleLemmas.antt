@@ -1,13 +1,14 @@
 -- A stream that is written back among its host ends: its writer stays, or goes with its box closed.
-use Rattle.std.proofs.Common.{◌≡◌, ℕ, ◌<◌, ◌==◌, Bool, true, false, cond, length, Option, Some, None, Ok, refl, ap, ◌∙◌}
+use Rattle.std.proofs.Common.{◌≡◌, ℕ, ◌<◌, ◌==◌, Bool, true, false, cond, length, Option, Some, None, Ok, refl, sym, ap, subst, ◌∙◌}
 use Rattle.strm_codes.specs.declared.codes.ReturnCode.{ReturnCode}
 use Rattle.strm_codes.specs.declared.codes.ReturnCode.TheVariants.{Blocked}
 use Rattle.strm_codes.specs.declared.codes.StreamResult.{StreamResult}
 use Rattle.strm_codes.specs.declared.codes.StreamResult.TheVariants as results
 use Rattle.strm_buffers.specs.Tells.{WriterTells, Tells, told_by, with_told, ClosesWriter}
-use Rattle.strm_machine.specs.State.{State, stream_at}
-use Rattle.strm_machine.specs.Reactions.{with_stream_at, told}
-use Rattle.strm_machine.specs.Endings.{report_on, delivered}
+use Rattle.strm_machine.specs.State.{State, no_stream, stream_at}
+use Rattle.strm_machine.specs.Sides.{with_end}
+use Rattle.strm_machine.specs.Reactions.{Reaction, goes, with_stream_at, told, tells as tells_end}
+use Rattle.strm_machine.specs.Endings.{report_on, told_end, delivered}
 use Rattle.strm_machine.specs.Turns.{with_received}
 use Rattle.strm_machine.specs.declared.streams.Owner.{Owner}
 use Rattle.strm_machine.specs.declared.streams.Owner.TheVariants.{Host, Gone}
@@ -19,6 +20,7 @@ use Rattle.strm_world.specs.World.{World, leaves_writer, with_stream_in}
 use Rattle.strm_world.specs.Outcomes.{Goes}
 use Rattle.strm_world.specs.Settling.{moved_on, answered_with, answered}
 use Rattle.strm_world.specs.Does.{Logs, world_of, Does}
+use Rattle.strm_world.proofs.WorldLemmas.{set-same}
 use Rattle.strm_world.proofs.CloseLemmas.{ended_in, without_writer-box}
 use Rattle.strm_world.proofs.DoesLemmas.{Does-untold}
 
@@ -88,3 +90,30 @@ pub Does-blocked : (state : State) (tells : Tells) (s : ℕ) → report_on Readi
 Does-blocked state tells s e =
     Does-untold state state tells (Ok (replies.Code Blocked)) (λ w. answered w s Reading)
     (λ logs. ap (answered_with (world_of state tells logs) s Reading) e) tt
+
+-- what is answered where this is to be told
+abbrev pub code_told : Option ReturnCode → ReturnCode
+code_told (Some code) = code
+code_told None = Blocked
+
+-- a stream whose end was told nothing is as it was
+told-nothing : (state : State) (s : ℕ) → report_on Reading (stream_at state s) ≡ None → told state s Reading ≡ state
+unfolding delivered
+told-nothing state s e =
+    ap (λ code. with_stream_at state s (with_end Reading (stream_at state s) (told_end code (stream_at state s).reader))) e
+    ∙ ap (λ xs. record state { streams = xs }) (set-same state.streams s no_stream)
+
+answers_by : (state : State) (tells : Tells) (s : ℕ) (report : Option ReturnCode) → report_on Reading (stream_at state s) ≡ report
+    → Does state (told state s Reading) tells tells (Ok (replies.Code (code_told report))) (λ w. answered w s Reading)
+answers_by state tells s (Some code) e = Does-delivered state tells s code e
+answers_by state tells s None e =
+    subst (λ (new : State). Does state new tells tells (Ok (replies.Code Blocked)) (λ w. answered w s Reading)) (sym (told-nothing state s e)) (Does-blocked state tells s e)
+
+-- a call that told the read end its report, if there was one, answers that
+pub Does-answers : (old new : State) (s : ℕ) (report : Option ReturnCode) → tells_end old s Reading ≡ goes (replies.Event report) new → (tells : Tells)
+    → Does old new tells tells (Ok (replies.Code (code_told report))) (λ w. answered w s Reading)
+Does-answers old new s report e tells =
+    let reply_is : replies.Event (report_on Reading (stream_at old s)) ≡ replies.Event report = ap (λ (r : Reaction). r.reply) e in
+    let report_is : report_on Reading (stream_at old s) ≡ report = cc in
+    let state_is : told old s Reading ≡ new = ap (λ (r : Reaction). r.state) e in
+    subst (λ (x : State). Does old x tells tells (Ok (replies.Code (code_told report))) (λ w. answered w s Reading)) state_is (answers_by old tells s report report_is)
