@@ -1,7 +1,6 @@
 -- Bytes written over the unmarked ones of a window.
 use Rattle.std.proofs.Common.{◌≡◌, ℕ, ◌+◌, List, ◌++◌, length, take, drop, min, refl, sym, ap, ◌∙◌, arith, length-append, length-drop}
 use Rattle.std.proofs.lemmas.List.{take_all, take_at, drop_at, take-append-drop, length-take}
-use Rattle.strm_buffers.specs.Listing.{byte_items}
 use Rattle.strm_buffers.specs.Windows.{Lent, Place, Memory, Between, with_marked}
 use Rattle.strm_buffers.specs.Lending.{past, with_past, room_end, written_over, with_unmarked}
 use Rattle.strm_host.specs.Producing.{with_written}

@@ -1,11 +1,11 @@
 -- A list that gives all its items, or fails, does what every producer of a stream owes.
-use Rattle.std.proofs.Common.{◌≡◌, ℕ, ◌+◌, ◌<◌, ◌≤◌, ◌^◌, ◌-◌, Bool, true, false, if◌then◌else◌, List, [], map, length, refl, arith}
+use Rattle.std.proofs.Common.{◌≡◌, ◌<◌, ◌≤◌, List, [], length, arith}
 use Rattle.std.proofs.lemmas.Grind.{common_steps}
 use Rattle.strm_buffers.specs.Listing.{Item}
 use Rattle.strm_buffers.specs.Said.{IfAnswered}
 use Rattle.strm_buffers.specs.Tells.{Rises}
 use Rattle.strm_host.specs.Producing.{polled}
-use Rattle.strm_host.specs.Lists.{is_too_long, list_faults, list_turn, list_gives, list_keeps, list_poll}
+use Rattle.strm_host.specs.Lists.{list_faults, list_turn, list_gives, list_keeps, list_poll}
 
 module _ {T : Type 0} (items : List T) where
   pub few_given : length (list_gives items) < 4294967295

@@ -1,6 +1,6 @@
 -- What a list answers to a poll: it gives all its items at once. wasmtime, `StreamProducer` for `Vec`
 -- and `Box<[T]>`; that one may be too long for a poll is ours.
-use Rattle.std.specs.Prelude.{ℕ, ◌-◌, ◌^◌, nat_lt, if◌then◌else◌, Bool, List, [], map, length, Option, Some}
+use Rattle.std.specs.Prelude.{ℕ, ◌-◌, ◌^◌, nat_lt, if◌then◌else◌, Bool, List, [], map, length, Some}
 use Rattle.strm_codes.specs.declared.codes.StreamResult.{StreamResult}
 use Rattle.strm_codes.specs.declared.codes.StreamResult.TheVariants as result
 use Rattle.strm_buffers.specs.declared.answers.Answer.TheVariants as answer

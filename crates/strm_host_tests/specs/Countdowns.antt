@@ -1,5 +1,5 @@
 -- What a countdown gives and answers. Ours.
-use Rattle.std.specs.Prelude.{ℕ, zero, suc, pos, List, [], ◌∷◌, Option, Some, None}
+use Rattle.std.specs.Prelude.{ℕ, zero, suc, pos, [], ◌∷◌, Option, Some, None}
 use Rattle.strm_codes.specs.declared.codes.StreamResult.{StreamResult}
 use Rattle.strm_codes.specs.declared.codes.StreamResult.TheVariants as result
 use Rattle.strm_buffers.specs.declared.answers.Answer.TheVariants as answer

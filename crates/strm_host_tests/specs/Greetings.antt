@@ -1,5 +1,5 @@
 -- What a greeting leaves. Ours.
-use Rattle.std.specs.Prelude.{◌≡◌, ◌≢◌, ℕ, ◌⊎◌, List, [], ◌∷◌, length, take, min}
+use Rattle.std.specs.Prelude.{◌≡◌, ◌≢◌, ◌⊎◌, [], ◌∷◌, length, take, min}
 use Rattle.strm_codes.specs.declared.codes.StreamResult.{StreamResult}
 use Rattle.strm_buffers.specs.declared.answers.Turn.{Turn}
 use Rattle.strm_buffers.specs.declared.answers.Turn.TheVariants.{Failed}
