@@ -1,4 +1,5 @@
 pub mod StepLemmas
+pub mod ServedLemmas
 pub mod StoreLemmas
 pub mod OperationLemmas
 pub mod EndingLemmas
