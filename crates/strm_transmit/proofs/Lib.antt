@@ -1,9 +1,15 @@
 pub mod StepLemmas
+pub mod HostStepLemmas
 pub mod ServedLemmas
 pub mod FitsLemmas
+pub mod ForsakeLemmas
 pub mod StoreLemmas
 pub mod OperationLemmas
+pub mod DropLemmas
 pub mod EndingLemmas
 pub mod MoveLemmas
+pub mod SceneLemmas
+pub mod SceneStoreLemmas
+pub mod ProduceLemmas
 pub mod SetLemmas
 pub mod ContextLemmas

@@ -75,7 +75,7 @@ module _ (old new : Inside) (s : ℕ) (side : Side) (owner : Owner) (l : s < len
 
   -- no host end came to the stream
   served : AreServed new.producers new.streams.items
-  served = rw (o.same.producers, o.streams) (AreServed-set old.producers old.streams.items i.served s _ l (owned-comes side (stream_at (state_of old) s) owner u))
+  served = rw (o.same.producers, o.streams) (AreServed-set old.producers old.streams.items i.served s (with_owner side (stream_at (state_of old) s) owner) l (owned-comes side (stream_at (state_of old) s) owner u))
 
   -- as many sets as there were
   as_many : sets_among (seen new.guests.items) ≡ sets_among (seen old.guests.items) → new.live_sets ≡ sets_in_use (state_of new)
@@ -167,7 +167,7 @@ module _ (old new : Inside) (s : ℕ) (side : Side) (end : NamedEnd) (to number 
         counted = o.counted;
         sets = o.live_sets ∙ i.sets ∙ sym (ap sets_among m.guests ∙ sets-with_table (without_handle_in (seen old.guests.items) end.guest end.handle) to _ (sets_in (without_handle_in (seen old.guests.items) end.guest end.handle) to) refl ∙ sets-with_table (seen old.guests.items) end.guest _ (left (sets_in (seen old.guests.items) end.guest) end.handle) refl);
         streams = o.streams;
-        served = rw (o.same.producers, o.streams) (AreServed-set old.producers old.streams.items i.served s _ (moved_made (state_of old) side end to s e same i.sound) (owned-comes side (stream_at (state_of old) s) (Held to number) refl));
+        served = rw (o.same.producers, o.streams) (AreServed-set old.producers old.streams.items i.served s (with_owner side (stream_at (state_of old) s) (Held to number)) (moved_made (state_of old) side end to s e same i.sound) (owned-comes side (stream_at (state_of old) s) (Held to number) refl));
       })
       (subst (λ (r : Reaction). IsSound r.state) transfers-is sound) i
 
@@ -203,6 +203,6 @@ module _ (old new : Inside) (s g : ℕ) (ty : TransmitIndex) (number : ℕ) (o :
         counted = o.counted;
         sets = o.live_sets ∙ i.sets ∙ sym (ap sets_among m.guests ∙ sets-with_table (seen old.guests.items) g _ (sets_in (seen old.guests.items) g) refl);
         streams = o.streams;
-        served = rw (o.same.producers, o.streams) (AreServed-set old.producers old.streams.items i.served s _ (lower_made (state_of old) s g ty e) (owned-comes Reading (stream_at (state_of old) s) (Held g number) refl));
+        served = rw (o.same.producers, o.streams) (AreServed-set old.producers old.streams.items i.served s (with_owner Reading (stream_at (state_of old) s) (Held g number)) (lower_made (state_of old) s g ty e) (owned-comes Reading (stream_at (state_of old) s) (Held g number) refl));
       })
       (subst (λ (r : Reaction). IsSound r.state) lowers-is sound) i

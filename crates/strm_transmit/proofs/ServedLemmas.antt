@@ -88,3 +88,81 @@ AreServed-none = record {
   made = λ n s e. absurd (none_serves n s e);
   unpiped = λ s. ap (λ (x : Stream). is_host x.reader.owner) (no_streams s);
 }
+
+-- ## Host writers that begin, go on and end
+
+same_stream : (a b : ℕ) (d : Duty) → d ≡ Serves a → d ≡ Serves b → a ≡ b
+same_stream a b d e f = cc
+
+not_unused : (d : Duty) (s : ℕ) → d ≡ Unused → d ≢ Serves s
+not_unused d s e f = cc
+
+pub ended_no : (d : Duty) (s : ℕ) → d ≡ Ended → d ≢ Serves s
+ended_no d s e f = cc
+
+-- a host writer that serves a stream is one of those that are kept
+pub serving_kept : (producers : List Producer) (n s : ℕ) → (get_or producers n no_producer).duty ≡ Serves s → n < length producers
+serving_kept producers n s e =
+    ⊎_elim (λ l. l)
+    (λ l. let past : get_or producers n no_producer ≡ no_producer = get_or_past producers n no_producer l in
+    absurd (not_unused (get_or producers n no_producer).duty s (ap (λ (p : Producer). p.duty) past) e))
+    (cases_lt n (length producers))
+
+-- a host writer and the stream that it serves are others: it serves that one or none
+pub record Turned (streams : List Stream) (s n : ℕ) (producer : Producer) (stream : Stream) : Type 0 where
+  pub made : s < length streams
+  pub owner : (get_or streams s no_stream).writer.owner ≡ Host n
+  pub stays : (m : ℕ) → stream.writer.owner ≡ Host m → m ≡ n
+  pub serves : (m : ℕ) → stream.writer.owner ≡ Host m → producer.duty ≡ Serves s
+  pub duty : (k : ℕ) → producer.duty ≡ Serves k → k ≡ s
+  pub reader : is_host (get_or streams s no_stream).reader.owner ≡ false → is_host stream.reader.owner ≡ false
+
+module _ (producers : List Producer) (streams : List Stream) (h : AreServed producers streams) (n : ℕ) (p : Producer) where
+  pub AreServed-turned : (s : ℕ) (stream : Stream) → Turned streams s n p stream → AreServed (set producers n p) (set streams s stream)
+  AreServed-turned s stream t =
+      let served : (get_or producers n no_producer).duty ≡ Serves s = h.serves n s t.owner in
+      let kept = serving_kept producers n s served in
+      record {
+        all = length-set producers n p ∙ h.all;
+        serves = λ m k. at_set streams s stream no_stream k (λ x. x.writer.owner ≡ Host m → (get_or (set producers n p) m no_producer).duty ≡ Serves k) t.made
+            (λ e o. at_set producers n p no_producer m (λ q. q.duty ≡ Serves k) kept (λ _. rw e (t.serves m o)) (λ other. absurd (other (t.stays m o))))
+            (λ other o. at_set producers n p no_producer m (λ q. q.duty ≡ Serves k) kept
+            (λ e. absurd (other (same_stream k s (get_or producers m no_producer).duty (h.serves m k o) (rw e served)))) (λ _. h.serves m k o));
+        made = λ m k. at_set producers n p no_producer m (λ q. q.duty ≡ Serves k → k < length (set streams s stream)) kept
+            (λ _ f. rw (t.duty k f, length-set streams s stream) t.made) (λ _ f. rw (length-set streams s stream) (h.made m k f));
+        unpiped = λ k. at_set streams s stream no_stream k (λ x. is_host x.reader.owner ≡ false) t.made (λ _. t.reader (h.unpiped s)) (λ _. h.unpiped k);
+      }
+
+  -- an unused one serves a stream more
+  pub AreServed-hosted : (stream : Stream) → n < length producers → (get_or producers n no_producer).duty ≡ Unused → p.duty ≡ Serves (length streams) → stream.writer.owner ≡ Host n → is_host stream.reader.owner ≡ false → AreServed (set producers n p) (streams ++ stream ∷ [])
+  AreServed-hosted stream kept unused serves owner reader = record {
+    all = length-set producers n p ∙ h.all;
+    serves = λ m k. at_push streams stream no_stream k (λ x. x.writer.owner ≡ Host m → (get_or (set producers n p) m no_producer).duty ≡ Serves k)
+        (λ e o. at_set producers n p no_producer m (λ q. q.duty ≡ Serves k) kept (λ _. rw e serves) (λ other. absurd (other (same_host m n stream.writer.owner o owner))))
+        (λ _ o. at_set producers n p no_producer m (λ q. q.duty ≡ Serves k) kept
+        (λ e. absurd (not_unused (get_or producers m no_producer).duty k (rw e unused) (h.serves m k o))) (λ _. h.serves m k o));
+    made = λ m k. at_set producers n p no_producer m (λ q. q.duty ≡ Serves k → k < length (streams ++ stream ∷ [])) kept
+        (λ _ f. omega (arith, same_stream k (length streams) p.duty f serves, length-append streams (stream ∷ [])))
+        (λ _ f. omega (arith, h.made m k f, length-append streams (stream ∷ [])));
+    unpiped = λ k. at_push streams stream no_stream k (λ x. is_host x.reader.owner ≡ false) (λ _. reader) (λ _. h.unpiped k);
+  }
+    where
+      same_host : (a b : ℕ) (o : Owner) → o ≡ Host a → o ≡ Host b → a ≡ b
+      same_host a b o e f = cc
+
+  -- one whose stream has no write end any more serves none
+  pub AreServed-retired : (s : ℕ) → (get_or producers n no_producer).duty ≡ Serves s → (get_or streams s no_stream).writer.owner ≡ Gone → p.duty ≡ Ended → AreServed (set producers n p) streams
+  AreServed-retired s served gone ended =
+      let kept = serving_kept producers n s served in
+      record {
+        all = length-set producers n p ∙ h.all;
+        serves = λ m k o. at_set producers n p no_producer m (λ q. q.duty ≡ Serves k) kept
+            (λ e. let same = same_stream k s (get_or producers m no_producer).duty (h.serves m k o) (rw e served) in
+            absurd (gone_no (get_or streams k no_stream).writer.owner m (rw same gone) o)) (λ _. h.serves m k o);
+        made = λ m k. at_set producers n p no_producer m (λ q. q.duty ≡ Serves k → k < length streams) kept
+            (λ _ f. absurd (ended_no p.duty k ended f)) (λ _ f. h.made m k f);
+        unpiped = h.unpiped;
+      }
+    where
+      gone_no : (o : Owner) (m : ℕ) → o ≡ Gone → o ≡ Host m → ⊥
+      gone_no o m e f = cc

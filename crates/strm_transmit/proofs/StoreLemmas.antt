@@ -5,6 +5,7 @@ use Rattle.std.proofs.Math.Seq.{map-set_same}
 use Rattle.std.proofs.lemmas.List.{map-append, length-map, length-replicate, length-set, get_or_default}
 use Rattle.std.proofs.lemmas.List.Sums.{sum_by-append, sum_by-set, sum-map}
 use Rattle.strm_machine.specs.Turns.{Turn}
+use Rattle.strm_machine.specs.declared.streams.Producer.{Producer}
 use Rattle.strm_machine.specs.declared.streams.Stream.{Stream}
 use Rattle.strm_handles.specs.Counters.{Counter, counted}
 use Rattle.strm_handles.specs.Handles.{Handles, no_handles, live_of, next_index}
@@ -207,6 +208,23 @@ pub record SetsStream (old new : Inside) (s : ℕ) (stream : Stream) : Type 0 wh
   pub sets : new.live_sets ≡ sets_in_use (state_of new)
   pub streams : new.streams.items ≡ set old.streams.items s stream
   pub served : AreServed new.producers new.streams.items
+
+-- what is kept of host writers alone is another
+pub IsStore-producers : (s : Inside) (producers : List Producer) → AreServed producers s.streams.items → IsStore s → IsStore (record s { producers = producers })
+IsStore-producers s producers h i =
+    let sound = i.sound in
+    record {
+      sound = record { named = sound.named; placed = sound.placed; small = sound.small; sets = sound.sets; contexts = sound.contexts };
+      limit = i.limit;
+      live = i.live;
+      within = i.within;
+      streams = i.streams;
+      served = h;
+      sets = i.sets;
+      bytes = i.bytes;
+      few_guests = i.few_guests;
+      few_streams = i.few_streams;
+    }
 
 -- a call that sets one stream keeps the store's invariant where the state stays sound
 pub IsStore-stream : (old new : Inside) (s : ℕ) (stream : Stream) → SetsStream old new s stream → IsSound (state_of new) → IsStore old → IsStore new

@@ -255,7 +255,7 @@ impl Store {
     }
 
     // What a handle names is there.
-    fn sound(&self)
+    pub(crate) fn sound(&self)
         ensures { IsSound self.now }
     {
         let _ = &self.contexts;

@@ -7,6 +7,8 @@
 
 ghost use Rattle.std.specs.Prelude.{◌≡◌, ◌≢◌, ◌<◌, length, Err, None, IfOk, IfErr};
 ghost use Rattle.strm_codes.specs.declared.codes.TransmitIndex.TheVariants as index;
+ghost use Rattle.strm_buffers.specs.AllTells.{tells_of};
+ghost use Rattle.strm_machine.specs.Acts.{act_of};
 ghost use Rattle.strm_machine.specs.Tests.{named, end_named, stream_named, side_named};
 ghost use Rattle.strm_machine.specs.Refusals.{refusal, first_of, slot_reasons};
 ghost use Rattle.strm_machine.specs.Reactions.{goes, tells, cancels, react, reaction};
@@ -15,7 +17,9 @@ ghost use Rattle.strm_machine.specs.declared.acts.EndAct.TheVariants.{Drop, Canc
 ghost use Rattle.strm_machine.specs.declared.replies.Reply.TheVariants as replies;
 ghost use Rattle.strm_machine.specs.declared.steps.Step.TheVariants as steps;
 ghost use Rattle.strm_machine.proofs.NameLemmas.{IsEndError};
+ghost use Rattle.strm_world.specs.Does.{Fits};
 ghost use Rattle.strm_transmit.specs.Meets.{Meets, replied, or_found};
+ghost use Rattle.strm_transmit.specs.Hosted.{MeetsHosted};
 
 use crate::errors::StoreError;
 use crate::store::Store;
@@ -114,10 +118,14 @@ impl Store {
     /// Drops the end that a handle names, which is gone then; a stream whose both ends are gone is
     /// removed at once.
     pub(crate) fn drop_side(&mut self, hosts: &mut Hosts, side: Side, end: &NamedEnd) -> Result<(), StoreError>
-        ensures meets { Meets self.old self.new (replied (λ _. replies.Done) result)
-            (reaction self.old (OnEnd side end.now Drop)) }
+        requires fits { Fits self.old (tells_of writer_tells reader_tells hosts.old) }
+        ensures meets { MeetsHosted self.old self.new (tells_of writer_tells reader_tells hosts.old)
+            (tells_of writer_tells reader_tells hosts.new) (replied (λ _. replies.Done) result)
+            (OnEnd side end.now Drop) }
         ensures takes_no_memory { result ≢ Err StoreError.OutOfMemory }
     {
+        self.sound();
+        self.served();
         match self.admit(self.drop_found(side, end)) {
             Ok(stream) => {
                 self.release(side, end, stream, Owner::Gone);
@@ -136,8 +144,10 @@ impl Store {
         payload: Payload,
         handle: u32,
     ) -> Result<(), StoreError>
-        ensures meets { Meets self.old self.new (replied (λ _. replies.Done) result)
-            (react self.old (steps.DropRead guest (index.Stream payload) handle)) }
+        requires fits { Fits self.old (tells_of writer_tells reader_tells hosts.old) }
+        ensures meets { MeetsHosted self.old self.new (tells_of writer_tells reader_tells hosts.old)
+            (tells_of writer_tells reader_tells hosts.new) (replied (λ _. replies.Done) result)
+            (act_of (steps.DropRead guest (index.Stream payload) handle)) }
         ensures takes_no_memory { result ≢ Err StoreError.OutOfMemory }
     {
         let ty = TransmitIndex::Stream(payload);
@@ -153,8 +163,10 @@ impl Store {
         payload: Payload,
         handle: u32,
     ) -> Result<(), StoreError>
-        ensures meets { Meets self.old self.new (replied (λ _. replies.Done) result)
-            (react self.old (steps.DropWrite guest (index.Stream payload) handle)) }
+        requires fits { Fits self.old (tells_of writer_tells reader_tells hosts.old) }
+        ensures meets { MeetsHosted self.old self.new (tells_of writer_tells reader_tells hosts.old)
+            (tells_of writer_tells reader_tells hosts.new) (replied (λ _. replies.Done) result)
+            (act_of (steps.DropWrite guest (index.Stream payload) handle)) }
         ensures takes_no_memory { result ≢ Err StoreError.OutOfMemory }
     {
         let ty = TransmitIndex::Stream(payload);
@@ -170,8 +182,10 @@ impl Store {
         payload: Payload,
         handle: u32,
     ) -> Result<(), StoreError>
-        ensures meets { Meets self.old self.new (replied (λ _. replies.Done) result)
-            (react self.old (steps.DropRead guest (index.Future payload) handle)) }
+        requires fits { Fits self.old (tells_of writer_tells reader_tells hosts.old) }
+        ensures meets { MeetsHosted self.old self.new (tells_of writer_tells reader_tells hosts.old)
+            (tells_of writer_tells reader_tells hosts.new) (replied (λ _. replies.Done) result)
+            (act_of (steps.DropRead guest (index.Future payload) handle)) }
         ensures takes_no_memory { result ≢ Err StoreError.OutOfMemory }
     {
         let ty = TransmitIndex::Future(payload);
@@ -188,8 +202,10 @@ impl Store {
         payload: Payload,
         handle: u32,
     ) -> Result<(), StoreError>
-        ensures meets { Meets self.old self.new (replied (λ _. replies.Done) result)
-            (react self.old (steps.DropWrite guest (index.Future payload) handle)) }
+        requires fits { Fits self.old (tells_of writer_tells reader_tells hosts.old) }
+        ensures meets { MeetsHosted self.old self.new (tells_of writer_tells reader_tells hosts.old)
+            (tells_of writer_tells reader_tells hosts.new) (replied (λ _. replies.Done) result)
+            (act_of (steps.DropWrite guest (index.Future payload) handle)) }
         ensures takes_no_memory { result ≢ Err StoreError.OutOfMemory }
     {
         let ty = TransmitIndex::Future(payload);

@@ -4,21 +4,28 @@
 //! `canon stream.{read,write}` and `canon future.{read,write}`; wasmtime, `guest_read` and
 //! `guest_write`.
 
-ghost use Rattle.std.specs.Prelude.{◌≡◌, ◌≢◌, ◌<◌, ◌↔◌, length, true, false, Err, IfOk, OnOk, IsTrue, IsErr};
+ghost use Rattle.std.specs.Prelude.{◌≡◌, ◌≢◌, ◌<◌, ◌↔◌, length, true, false, Err, IfOk, OnOk, IfSome, IfNone, IsTrue, IsErr};
 ghost use Rattle.strm_codes.specs.declared.codes.TransmitIndex.TheVariants as index;
 ghost use Rattle.strm_memory.specs.Items.{is_number_or_none};
-ghost use Rattle.strm_machine.specs.State.{stream_at};
+ghost use Rattle.strm_buffers.specs.AllTells.{tells_of};
+ghost use Rattle.strm_machine.specs.Acts.{act_of};
+ghost use Rattle.strm_machine.specs.State.{stream_at, is_host};
 ghost use Rattle.strm_machine.specs.Meetings.{begun};
 ghost use Rattle.strm_machine.specs.Sides.{opposite, end_of};
 ghost use Rattle.strm_machine.specs.Tests.{is_too_big, items_asked, named, stream_named, is_open_of};
 ghost use Rattle.strm_machine.specs.Refusals.{first_of, region_reasons, refusal};
-ghost use Rattle.strm_machine.specs.Reactions.{react, reaction, on_stream};
+ghost use Rattle.strm_machine.specs.Reactions.{on_stream};
 ghost use Rattle.strm_machine.specs.Soundness.{sizes_of, IsPlaced};
 ghost use Rattle.strm_machine.specs.declared.acts.Act.TheVariants.{OnEnd};
 ghost use Rattle.strm_machine.specs.declared.acts.EndAct.TheVariants.{Operate};
 ghost use Rattle.strm_machine.specs.declared.replies.Reply.TheVariants as replies;
 ghost use Rattle.strm_machine.specs.declared.steps.Step.TheVariants as steps;
+ghost use Rattle.strm_machine.specs.declared.streams.Owner.TheVariants.{Host};
+ghost use Rattle.strm_machine.specs.declared.streams.Side.TheVariants.{Writing, Reading};
+ghost use Rattle.strm_world.specs.Steps.{touches};
+ghost use Rattle.strm_world.specs.Does.{Fits};
 ghost use Rattle.strm_transmit.specs.Meets.{Meets, replied, or_found};
+ghost use Rattle.strm_transmit.specs.Hosted.{lone, MeetsHosted};
 
 use crate::errors::StoreError;
 use crate::store::Store;
@@ -100,7 +107,12 @@ impl Store {
 
     // The host writer on the other side of an end, if there is one.
     #[inline(always)]
-    fn writer_across(&self, side: Side, stream: u32) -> Option<u32> {
+    fn writer_across(&self, side: Side, stream: u32) -> Option<u32>
+        requires { stream < length self.now.streams }
+        ensures some { IfSome result (λ number. (side ≡ Reading) × ((stream_at self.now stream).writer.owner ≡ Host number)) }
+        ensures none { IfNone result (is_host (end_of (opposite side) (stream_at self.now stream)).owner ≡ false) }
+    {
+        self.served();
         match (side, self.stream(stream).writer.owner) {
             (Side::Reading, Owner::Host { number }) => Some(number),
             _ => None,
@@ -139,15 +151,19 @@ impl Store {
         address: u32,
         count: u32,
     ) -> Result<ReturnCode, StoreError>
-        ensures meets { Meets self.old self.new (replied replies.Code result)
-            (reaction self.old (OnEnd side end.now (Operate address count))) }
-        ensures takes_no_memory { result ≢ Err StoreError.OutOfMemory }
+        requires fits { Fits self.old (tells_of writer_tells reader_tells hosts.old) }
+        ensures meets { MeetsHosted self.old self.new (tells_of writer_tells reader_tells hosts.old)
+            (tells_of writer_tells reader_tells hosts.new) (replied replies.Code result)
+            (OnEnd side end.now (Operate address count)) }
+        ensures writes { side ≡ Writing → result ≢ Err StoreError.OutOfMemory }
+        ensures takes_no_memory { touches (lone self.old) (OnEnd side end.now (Operate address count)) ≡ false
+            → result ≢ Err StoreError.OutOfMemory }
     {
         match self.admit(self.operation_found(side, end, address, count)) {
             Ok(found) => {
                 let mine = begin(end.guest, address, found.1);
                 match self.writer_across(side, found.0) {
-                    Some(number) => self.read_from(hosts, found.0, number, mine),
+                    Some(_) => self.take(side, found.0, mine),
                     None => self.take(side, found.0, mine),
                 }
             }
@@ -165,9 +181,12 @@ impl Store {
         address: u32,
         count: u32,
     ) -> Result<ReturnCode, StoreError>
-        ensures meets { Meets self.old self.new (replied replies.Code result)
-            (react self.old (steps.Read guest (index.Stream payload) handle address count)) }
-        ensures takes_no_memory { result ≢ Err StoreError.OutOfMemory }
+        requires fits { Fits self.old (tells_of writer_tells reader_tells hosts.old) }
+        ensures meets { MeetsHosted self.old self.new (tells_of writer_tells reader_tells hosts.old)
+            (tells_of writer_tells reader_tells hosts.new) (replied replies.Code result)
+            (act_of (steps.Read guest (index.Stream payload) handle address count)) }
+        ensures takes_no_memory { touches (lone self.old) (act_of (steps.Read guest (index.Stream payload) handle address count)) ≡ false
+            → result ≢ Err StoreError.OutOfMemory }
     {
         let ty = TransmitIndex::Stream(payload);
         let end = NamedEnd { guest, ty, handle };
@@ -184,8 +203,10 @@ impl Store {
         address: u32,
         count: u32,
     ) -> Result<ReturnCode, StoreError>
-        ensures meets { Meets self.old self.new (replied replies.Code result)
-            (react self.old (steps.Write guest (index.Stream payload) handle address count)) }
+        requires fits { Fits self.old (tells_of writer_tells reader_tells hosts.old) }
+        ensures meets { MeetsHosted self.old self.new (tells_of writer_tells reader_tells hosts.old)
+            (tells_of writer_tells reader_tells hosts.new) (replied replies.Code result)
+            (act_of (steps.Write guest (index.Stream payload) handle address count)) }
         ensures takes_no_memory { result ≢ Err StoreError.OutOfMemory }
     {
         let ty = TransmitIndex::Stream(payload);
@@ -202,9 +223,12 @@ impl Store {
         handle: u32,
         address: u32,
     ) -> Result<ReturnCode, StoreError>
-        ensures meets { Meets self.old self.new (replied replies.Code result)
-            (react self.old (steps.Read guest (index.Future payload) handle address 1)) }
-        ensures takes_no_memory { result ≢ Err StoreError.OutOfMemory }
+        requires fits { Fits self.old (tells_of writer_tells reader_tells hosts.old) }
+        ensures meets { MeetsHosted self.old self.new (tells_of writer_tells reader_tells hosts.old)
+            (tells_of writer_tells reader_tells hosts.new) (replied replies.Code result)
+            (act_of (steps.Read guest (index.Future payload) handle address 1)) }
+        ensures takes_no_memory { touches (lone self.old) (act_of (steps.Read guest (index.Future payload) handle address 1)) ≡ false
+            → result ≢ Err StoreError.OutOfMemory }
     {
         let ty = TransmitIndex::Future(payload);
         let end = NamedEnd { guest, ty, handle };
@@ -220,8 +244,10 @@ impl Store {
         handle: u32,
         address: u32,
     ) -> Result<ReturnCode, StoreError>
-        ensures meets { Meets self.old self.new (replied replies.Code result)
-            (react self.old (steps.Write guest (index.Future payload) handle address 1)) }
+        requires fits { Fits self.old (tells_of writer_tells reader_tells hosts.old) }
+        ensures meets { MeetsHosted self.old self.new (tells_of writer_tells reader_tells hosts.old)
+            (tells_of writer_tells reader_tells hosts.new) (replied replies.Code result)
+            (act_of (steps.Write guest (index.Future payload) handle address 1)) }
         ensures takes_no_memory { result ≢ Err StoreError.OutOfMemory }
     {
         let ty = TransmitIndex::Future(payload);
