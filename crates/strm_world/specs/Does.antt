@@ -6,7 +6,7 @@ use Rattle.strm_memory.specs.Items.{AreItems}
 use Rattle.strm_buffers.specs.declared.answers.ReaderSaid.{ReaderSaid}
 use Rattle.strm_buffers.specs.Listing.{Item}
 use Rattle.strm_buffers.specs.Said.{WriterSaid}
-use Rattle.strm_buffers.specs.Tells.{WriterTells, ReaderTells, Tells, no_reader_tells, told_by}
+use Rattle.strm_buffers.specs.Tells.{WriterTells, ReaderTells, Tells, Rose, no_reader_tells, told_by}
 use Rattle.strm_machine.specs.State.{State, empty, producer_at, stream_at}
 use Rattle.strm_machine.specs.declared.limits.Limits.{Limits}
 use Rattle.strm_machine.specs.declared.streams.Duty.{Duty}
@@ -143,19 +143,18 @@ abbrev pub faults_of : Tells → HostEnd → ℕ
 faults_of tells (ends.Writer n) = (told_by tells n).faults
 faults_of tells (ends.Reader n) = (slice_index_or tells.readers n no_reader_tells).faults
 
--- HostFailed comes only where that end's count of faults rose
+-- HostFailed comes only where that end's count of faults rose, or stands at its counter's end
 abbrev pub Caused : Answered → Tells → Tells → Type 0
-Caused (Err (Some (HostFailed end))) old new = faults_of old end < faults_of new end
+Caused (Err (Some (HostFailed end))) old new = Rose (faults_of old end) (faults_of new end)
 Caused result old new = Unit {0}
 
 -- the items of a writer's record are items of its payload
 abbrev pub SaidFits : Payload → WriterSaid → Type 0
 SaidFits payload said = AreItems (scalars_of payload) said.items
 
--- the items of a writer's records and those that it holds are
-pub record IsSupplied (tells : WriterTells) : Type 0 where
-  pub holds : AreItems (scalars_of tells.payload) tells.holds
-  pub said : All (SaidFits tells.payload) tells.said
+-- the items of all records of a writer are
+abbrev pub IsSupplied : WriterTells → Type 0
+IsSupplied tells = All (SaidFits tells.payload) tells.said
 
 -- the same of all host writers
 abbrev pub AreSupplied : Tells → Type 0
