@@ -11,5 +11,6 @@ pub mod MoveLemmas
 pub mod SceneLemmas
 pub mod SceneStoreLemmas
 pub mod ProduceLemmas
+pub mod DriveStoreLemmas
 pub mod SetLemmas
 pub mod ContextLemmas

@@ -82,7 +82,7 @@ fn perform(store: &mut Store, hosts: &mut Hosts, act: Act) -> Result<Reply, Stor
         Act::OnEnd { side, end, act } => on_end(store, hosts, side, &end, act),
         Act::OnLoose { reader, act } => on_loose(store, hosts, reader, act),
         Act::OnHost { host, act } => on_host(store, hosts, host, act),
-        Act::Drive => Ok(Reply::Done),
+        Act::Drive => store.drive_once(hosts).map(done),
         Act::Event { guest, handle } => event(store, guest, handle),
         Act::OnSet { guest, set, act } => on_set(store, guest, set, act),
         Act::OnContext { guest, handle, act } => on_context(store, guest, handle, act),

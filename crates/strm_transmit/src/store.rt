@@ -8,6 +8,7 @@ ghost use Rattle.strm_codes.specs.Types.{kind_of, payload_of};
 ghost use Rattle.strm_machine.specs.State.{empty, is_live, stream_at, memory_in};
 
 mod contexts;
+mod driving;
 mod endings;
 mod hosting;
 mod making;

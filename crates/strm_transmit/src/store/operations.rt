@@ -163,7 +163,7 @@ impl Store {
             Ok(found) => {
                 let mine = begin(end.guest, address, found.1);
                 match self.writer_across(side, found.0) {
-                    Some(_) => self.take(side, found.0, mine),
+                    Some(number) => self.read_from(hosts, found.0, number, mine),
                     None => self.take(side, found.0, mine),
                 }
             }

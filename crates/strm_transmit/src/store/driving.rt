@@ -18,7 +18,7 @@ ghost use Rattle.strm_turns.specs.Guests.{seen};
 ghost use Rattle.strm_producing.specs.Turning.{scene, Turns};
 ghost use Rattle.strm_world.specs.Settling.{answered as answers_read};
 ghost use Rattle.strm_world.specs.Producing.{producer_turn};
-ghost use Rattle.strm_world.specs.Driving.{drive_turn};
+ghost use Rattle.strm_world.specs.Driving.{drive_turn, driven, round_of};
 ghost use Rattle.strm_world.specs.Steps.{reads_from};
 ghost use Rattle.strm_world.specs.Does.{Fits, Does};
 ghost use Rattle.strm_transmit.specs.Meets.{replied};
@@ -257,16 +257,16 @@ impl Store {
         }
     }
 
-    /// Gives each host writer whose stream has an open read its turn, by the streams' numbers. It
-    /// costs nothing by all streams ever made. Want of memory traps the store.
-    pub fn drive_once(&mut self, hosts: &mut Hosts) -> Result<(), StoreError>
+    // The turns of all streams that a host writer serves, by their numbers.
+    fn drive_all(&mut self, hosts: &mut Hosts) -> Result<(), StoreError>
         requires fits { Fits self.old (tells_of writer_tells reader_tells hosts.old) }
-        ensures meets { MeetsHosted self.old self.new (tells_of writer_tells reader_tells hosts.old)
-            (tells_of writer_tells reader_tells hosts.new) (replied (λ _. replies.Done) result) Drive }
+        ensures does { Does self.old self.new (tells_of writer_tells reader_tells hosts.old)
+            (tells_of writer_tells reader_tells hosts.new) (answered (replied (λ _. replies.Done) result))
+            (λ world. driven world (round_of world)) }
+        ensures fits { Fits self.new (tells_of writer_tells reader_tells hosts.new) }
+        ensures stop { IfErr result IsStop }
+        ensures trapped { IfErr result (λ _. self.new.trapped ≡ true) }
     {
-        if self.is_trapped {
-            return Err(StoreError::StoreTrapped);
-        }
         let mut next = 0;
         while let Some(stream) = self.next_served(next) {
             match self.drive_stream(hosts, stream) {
@@ -275,5 +275,18 @@ impl Store {
             }
         }
         Ok(())
+    }
+
+    /// Gives each host writer whose stream has an open read its turn, by the streams' numbers. It
+    /// costs nothing by all streams ever made. Want of memory traps the store.
+    pub fn drive_once(&mut self, hosts: &mut Hosts) -> Result<(), StoreError>
+        requires fits { Fits self.old (tells_of writer_tells reader_tells hosts.old) }
+        ensures meets { MeetsHosted self.old self.new (tells_of writer_tells reader_tells hosts.old)
+            (tells_of writer_tells reader_tells hosts.new) (replied (λ _. replies.Done) result) Drive }
+    {
+        match self.admit(Ok(())) {
+            Ok(()) => self.drive_all(hosts),
+            Err(error) => Err(error),
+        }
     }
 }
