@@ -83,9 +83,10 @@ unserved_by Gone f = refl
 
 alone_from : (state : State) (tells : Tells) (logs : Logs) (from n : ℕ) → AreServed state.producers state.streams → ((m k : ℕ) → (producer_at state m).duty ≡ Serves k → from ≤ k → from + n ≤ k) → AreAlone (world_of state tells logs) from n
 alone_from state tells logs from zero h least = tt
-alone_from state tells logs from (suc n) h least =
-    (unserved_by (stream_at state from).writer.owner (λ m e. no_less from n (least m from (h.serves m from e) (omega arith))),
-    alone_from state tells logs (from + 1) n h (λ m k e l. let far = least m k e (omega (arith, l)) in omega (arith, far)))
+alone_from state tells logs from (suc n) h least = (
+  unserved_by (stream_at state from).writer.owner (λ m e. no_less from n (least m from (h.serves m from e) (omega arith))),
+  alone_from state tells logs (from + 1) n h (λ m k e l. let far = least m k e (omega (arith, l)) in omega (arith, far)),
+)
   where
     no_less : (a b : ℕ) → a + suc b ≤ a → ⊥
     no_less a b e = omega (arith, e)

@@ -108,11 +108,11 @@ module _ (old mid : State) (tells : Tells) (act : Act) (s : ℕ) (side : Side) (
 
 -- ## The two drops
 
-refused-end : (world : World) (side : Side) (end : NamedEnd) (act : EndAct) → refusal_in world (OnEnd side end act) ≡ refusal world.state (OnEnd side end act)
+pub refused-end : (world : World) (side : Side) (end : NamedEnd) (act : EndAct) → refusal_in world (OnEnd side end act) ≡ refusal world.state (OnEnd side end act)
 unfolding refusal_in refusal
 refused-end world side end act = refl
 
-refused-loose : (world : World) (reader : ℕ) (act : LooseAct) → refusal_in world (OnLoose reader act) ≡ refusal world.state (OnLoose reader act)
+pub refused-loose : (world : World) (reader : ℕ) (act : LooseAct) → refusal_in world (OnLoose reader act) ≡ refusal world.state (OnLoose reader act)
 unfolding refusal_in refusal
 refused-loose world reader act = refl
 

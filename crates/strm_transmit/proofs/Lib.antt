@@ -12,5 +12,7 @@ pub mod SceneLemmas
 pub mod SceneStoreLemmas
 pub mod ProduceLemmas
 pub mod DriveStoreLemmas
+pub mod HostingLemmas
+pub mod OperateLemmas
 pub mod SetLemmas
 pub mod ContextLemmas

@@ -22,7 +22,9 @@ use crate::errors::StoreError;
 use crate::store::Store;
 use strm_buffers::hosts::Hosts;
 use strm_codes::codes::TransmitIndex;
-use strm_machine::acts::{Act, ContextAct, EndAct, HostAct, LooseAct, Making, MemoryAct, NamedEnd, SetAct};
+use strm_machine::acts::{
+    Act, ContextAct, EndAct, HostAct, LooseAct, Making, MemoryAct, NamedEnd, SetAct,
+};
 use strm_machine::replies::Reply;
 use strm_machine::steps::Step;
 use strm_machine::streams::Side;
@@ -174,12 +176,7 @@ fn on_end(
 }
 
 // A loose read end comes into a guest.
-fn lower(
-    store: &mut Store,
-    reader: u32,
-    guest: u32,
-    ty: TransmitIndex,
-) -> Result<Reply, StoreError>
+fn lower(store: &mut Store, reader: u32, guest: u32, ty: TransmitIndex) -> Result<Reply, StoreError>
     ensures meets { Meets store.old store.new result
         (reaction store.old (acts.OnLoose reader (loose_acts.Lower guest ty))) }
     ensures settled { IfOk result (λ reply. IsTrue (is_settled reply)) }

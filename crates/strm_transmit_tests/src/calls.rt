@@ -114,8 +114,12 @@ fn on_stream(
         Act::CancelRead => store
             .stream_cancel_read(guest, payload, handle)
             .map(Reply::Code),
-        Act::DropWrite => store.stream_drop_writable(hosts, guest, payload, handle).map(done),
-        Act::DropRead => store.stream_drop_readable(hosts, guest, payload, handle).map(done),
+        Act::DropWrite => store
+            .stream_drop_writable(hosts, guest, payload, handle)
+            .map(done),
+        Act::DropRead => store
+            .stream_drop_readable(hosts, guest, payload, handle)
+            .map(done),
     }
 }
 
@@ -143,8 +147,12 @@ fn on_future(
         Act::CancelRead => store
             .future_cancel_read(guest, payload, handle)
             .map(Reply::Code),
-        Act::DropWrite => store.future_drop_writable(hosts, guest, payload, handle).map(done),
-        Act::DropRead => store.future_drop_readable(hosts, guest, payload, handle).map(done),
+        Act::DropWrite => store
+            .future_drop_writable(hosts, guest, payload, handle)
+            .map(done),
+        Act::DropRead => store
+            .future_drop_readable(hosts, guest, payload, handle)
+            .map(done),
     }
 }
 

@@ -1,9 +1,9 @@
 //! Error contexts by example: made, transferred, told and dropped by steps, lowered by calls, and
 //! limits.
 
+use crate::calls::{apply_fitting, no_hosts};
 use std::alloc::Global;
 use std::test::Fail;
-use crate::calls::{apply_fitting, no_hosts};
 use strm_buffers::hosts::Hosts;
 use strm_codes::refusals::Refusal;
 use strm_machine::chunks::Chunk;
@@ -123,10 +123,16 @@ const GONE: [(Step, Reply); 2] = [
 #[test]
 fn a_message_is_told(rt: HostRuntime) -> Result<(), Fail> {
     let mut store = with_text(rt.alloc()).ok().ok_or("guests")?;
-    assert_eq!(rt; first_wrong(&mut store, &mut no_hosts(rt.alloc()), &TOLD), 0);
+    assert_eq!(rt;
+        first_wrong(&mut store, &mut no_hosts(rt.alloc()), &TOLD),
+        0
+    );
     let told = Chunk::new(b"\0\0oop").unwrap();
     assert_eq!(rt; store.dump(1, 0, 5), Ok(told));
-    assert_eq!(rt; first_wrong(&mut store, &mut no_hosts(rt.alloc()), &GONE), 0);
+    assert_eq!(rt;
+        first_wrong(&mut store, &mut no_hosts(rt.alloc()), &GONE),
+        0
+    );
     Ok(())
 }
 
@@ -142,7 +148,10 @@ fn no_messages(rt: HostRuntime) -> Result<(), Fail> {
     let mut store = with_text(rt.alloc()).ok().ok_or("guests")?;
     let bytes = Chunk::new(&[0xff]).unwrap();
     assert_eq!(rt; store.poke(0, 0, &bytes), Ok(()));
-    assert_eq!(rt; first_wrong(&mut store, &mut no_hosts(rt.alloc()), &NO_MESSAGE), 0);
+    assert_eq!(rt;
+        first_wrong(&mut store, &mut no_hosts(rt.alloc()), &NO_MESSAGE),
+        0
+    );
     Ok(())
 }
 
@@ -164,7 +173,10 @@ const LIMITED: [(Step, Reply); 10] = [
 #[test]
 fn limits(rt: HostRuntime) -> Result<(), Fail> {
     let mut store = with_text(rt.alloc()).ok().ok_or("guests")?;
-    assert_eq!(rt; first_wrong(&mut store, &mut no_hosts(rt.alloc()), &LIMITED), 0);
+    assert_eq!(rt;
+        first_wrong(&mut store, &mut no_hosts(rt.alloc()), &LIMITED),
+        0
+    );
     Ok(())
 }
 

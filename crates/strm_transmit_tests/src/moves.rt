@@ -119,7 +119,10 @@ fn an_end_that_was_told_stays(rt: HostRuntime) -> Result<(), Fail> {
     assert_eq!(rt; store.stream_drop_writable(&mut hosts, 0, BYTES, 1), Ok(()));
     let mut moving = with_stream(rt.alloc()).ok().ok_or("a stream")?;
     assert!(rt; moving.fits(&hosts));
-    assert_eq!(rt; moving.stream_drop_writable(&mut hosts, 0, BYTES, 1), Ok(()));
+    assert_eq!(rt;
+        moving.stream_drop_writable(&mut hosts, 0, BYTES, 1),
+        Ok(())
+    );
     assert_eq!(rt; moving.stream_transfer(1, BYTES, 1, 0), Ok(1));
     assert!(rt; moving.fits(&hosts));
     assert_eq!(rt; moving.stream_read(&mut hosts, 0, BYTES, 1, 0, 1), Ok(GONE));
@@ -144,7 +147,10 @@ fn a_future_that_passed_stays(rt: HostRuntime) -> Result<(), Fail> {
     let busy = Err(StoreError::Refused(Refusal::Busy));
     assert_eq!(rt; store.future_transfer(1, WORDS, 1, 0), busy);
     assert!(rt; store.fits(&hosts));
-    assert_eq!(rt; store.future_write(&mut hosts, 0, WORDS, 2, 0), Ok(completed(0)));
+    assert_eq!(rt;
+        store.future_write(&mut hosts, 0, WORDS, 2, 0),
+        Ok(completed(0))
+    );
     let told = Ok(Some(completed(0)));
     assert_eq!(rt; store.take_event(1, 1), told);
     assert_eq!(rt; store.future_transfer(1, WORDS, 1, 0), SPENT);

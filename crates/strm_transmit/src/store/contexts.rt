@@ -255,6 +255,7 @@ impl Store {
     }
 
     // What a handle names is there.
+    #[inline(always)]
     pub(crate) fn sound(&self)
         ensures { IsSound self.now }
     {

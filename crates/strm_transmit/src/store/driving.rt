@@ -79,7 +79,7 @@ fn turn_of(
         stream,
         producer,
         &mut hosts.writers[number],
-        read,
+        *read,
     )
 }
 
@@ -121,7 +121,15 @@ impl Store {
         let was_live = is_live(served);
         let mut producer = self.producers[number as usize];
         let (guests, place) = (&mut self.guests, number as usize);
-        let turned = turn_of(self.alloc, guests, served, &mut producer, hosts, place, read);
+        let turned = turn_of(
+            self.alloc,
+            guests,
+            served,
+            &mut producer,
+            hosts,
+            place,
+            read,
+        );
         self.live_streams = self.live_streams - u32::from(was_live) + u32::from(is_live(served));
         self.producers[place] = producer;
         turned

@@ -117,7 +117,12 @@ impl Store {
 
     /// Drops the end that a handle names, which is gone then; a stream whose both ends are gone is
     /// removed at once.
-    pub(crate) fn drop_side(&mut self, hosts: &mut Hosts, side: Side, end: &NamedEnd) -> Result<(), StoreError>
+    pub(crate) fn drop_side(
+        &mut self,
+        hosts: &mut Hosts,
+        side: Side,
+        end: &NamedEnd,
+    ) -> Result<(), StoreError>
         requires fits { Fits self.old (tells_of writer_tells reader_tells hosts.old) }
         ensures meets { MeetsHosted self.old self.new (tells_of writer_tells reader_tells hosts.old)
             (tells_of writer_tells reader_tells hosts.new) (replied (λ _. replies.Done) result)

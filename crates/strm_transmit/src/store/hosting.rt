@@ -174,7 +174,11 @@ impl Store {
         match self.admit(self.host_fits(hosts, writer)) {
             Ok(()) => {
                 let number = writer as usize;
-                self.host(writer, hosts.writer_kind(number), hosts.writer_payload(number))
+                self.host(
+                    writer,
+                    hosts.writer_kind(number),
+                    hosts.writer_payload(number),
+                )
             }
             Err(error) => Err(error),
         }
@@ -212,8 +216,10 @@ impl Store {
     pub(crate) fn retire(&mut self, stream: u32, number: u32)
         requires serves { (producer_at self.old number).duty ≡ Serves stream }
         requires gone { (stream_at self.old stream).writer.owner ≡ Gone }
-        ensures { self.new ≡ record self.old { producers = slice_set self.old.producers number
-            (record (producer_at self.old number) { duty = Ended }) } }
+        ensures { self.new ≡ record self.old {
+          producers = slice_set self.old.producers number
+              (record (producer_at self.old number) { duty = Ended });
+        } }
     {
         self.producers[number as usize].duty = Duty::Ended;
     }

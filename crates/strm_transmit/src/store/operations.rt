@@ -159,6 +159,8 @@ impl Store {
         ensures takes_no_memory { touches (lone self.old) (OnEnd side end.now (Operate address count)) ≡ false
             → result ≢ Err StoreError.OutOfMemory }
     {
+        self.sound();
+        self.served();
         match self.admit(self.operation_found(side, end, address, count)) {
             Ok(found) => {
                 let mine = begin(end.guest, address, found.1);
