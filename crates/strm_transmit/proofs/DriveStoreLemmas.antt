@@ -22,11 +22,19 @@ use Rattle.strm_transmit.specs.Turning.{due_in}
 
 -- ## One stream
 
-some_due : (b : Bool) (n m : ℕ) (operation read : Operation) → cond b (Some (n, operation)) None ≡ Some (m, read) → (b ≡ true) × (n ≡ m) × (operation ≡ read)
-some_due true n m operation read e = (refl, cc, cc)
+number_due : ℕ → Option (ℕ × Operation) → ℕ
+number_due n None = n
+number_due n (Some due) = due.0
+
+read_due : Operation → Option (ℕ × Operation) → Operation
+read_due operation None = operation
+read_due operation (Some due) = due.1
+
+some_due : (b : Bool) (n m : ℕ) (operation read : Operation) → cond {A = Option (ℕ × Operation)} b (Some (n, operation)) None ≡ Some (m, read) → (b ≡ true) × (n ≡ m) × (operation ≡ read)
+some_due true n m operation read e = (refl, ap (number_due 0) e, ap (read_due read) e)
 some_due false n m operation read e = cc
 
-none_due : (b : Bool) (n : ℕ) (operation : Operation) → ◌≡◌ {A = Option (ℕ × Operation)} (cond b (Some (n, operation)) None) None → b ≡ false
+none_due : (b : Bool) (n : ℕ) (operation : Operation) → ◌≡◌ {A = Option (ℕ × Operation)} (cond {A = Option (ℕ × Operation)} b (Some (n, operation)) None) None → b ≡ false
 none_due true n operation e = cc
 none_due false n operation e = refl
 
@@ -93,11 +101,14 @@ alone_from state tells logs from (suc n) h least = (
 
 -- ## Numbers
 
-pub numbers-append : (a m n : ℕ) → numbers_from a (m + n) ≡ numbers_from a m ++ numbers_from (a + m) n
-numbers-append a zero n = let e : a ≡ a + 0 = omega arith in ap (λ k. numbers_from k n) e
-numbers-append a (suc m) n =
-    let e : (a + 1) + m ≡ a + suc m = omega arith in
-    ap (λ xs. a ∷ xs) (numbers-append (a + 1) m n ∙ ap (λ k. numbers_from (a + 1) m ++ numbers_from k n) e)
+pub numbers-append : (a m n c : ℕ) → c ≡ a + m → numbers_from a (m + n) ≡ numbers_from a m ++ numbers_from c n
+numbers-append a zero n c h =
+    let e : a ≡ c = omega (arith, h) in
+    let f : 0 + n ≡ n = omega arith in
+    ap (numbers_from a) f ∙ ap (λ k. numbers_from k n) e
+numbers-append a (suc m) n c h =
+    let f : suc m + n ≡ suc (m + n) = omega arith in
+    ap (numbers_from a) f ∙ ap (λ xs. a ∷ xs) (numbers-append (a + 1) m n c (omega (arith, h)))
 
 -- ## The round
 
@@ -124,9 +135,8 @@ module _ (old now : State) (tells told : Tells) where
   up_to : (next s : ℕ) → next ≤ s → numbers_from 0 (s + 1) ≡ numbers_from 0 next ++ (numbers_from next (s - next) ++ s ∷ [])
   up_to next s l =
       let e : s + 1 ≡ next + ((s - next) + 1) = omega (arith, l) in
-      let f : next + (s - next) ≡ s = omega (arith, l) in
-      ap (numbers_from 0) e ∙ numbers-append 0 next ((s - next) + 1)
-      ∙ ap (λ xs. numbers_from 0 next ++ xs) (numbers-append next (s - next) 1 ∙ ap (λ k. numbers_from next (s - next) ++ k ∷ []) f)
+      ap (numbers_from 0) e ∙ numbers-append 0 next ((s - next) + 1) next (omega arith)
+      ∙ ap (λ xs. numbers_from 0 next ++ xs) (numbers-append next (s - next) 1 s (omega (arith, l)))
 
   -- a stream more
   pub drive_on : (new : State) (after : Tells) (next s : ℕ) → next ≤ s → AreServed now.producers now.streams → ((m k : ℕ) → (producer_at now m).duty ≡ Serves k → next ≤ k → s ≤ k) → Does old now tells told (Ok replies.Done) (λ w. driven w (numbers_from 0 next)) → Does now new told after (Ok replies.Done) (λ w. drive_turn w s) → Does old new tells after (Ok replies.Done) (λ w. driven w (numbers_from 0 (s + 1)))
@@ -140,7 +150,7 @@ module _ (old now : State) (tells told : Tells) where
   drive_end next total l h none d =
       let e : next + (total - next) ≡ total = omega (arith, l) in
       subst (λ xs. Does old now tells told (Ok replies.Done) (λ w. driven w xs))
-      (ap (λ xs. numbers_from 0 next ++ xs) (append-nil (numbers_from next (total - next))) ∙ sym (numbers-append 0 next (total - next)) ∙ ap (numbers_from 0) e)
+      (ap (λ xs. numbers_from 0 next ++ xs) (append-nil (numbers_from next (total - next))) ∙ sym (numbers-append 0 next (total - next) next (omega arith)) ∙ ap (numbers_from 0) e)
       (behind now told (Ok replies.Done) (numbers_from 0 next) (numbers_from next (total - next) ++ []) d
       (passed now told (Ok replies.Done) next (total - next) [] h (λ m j e f. absurd (none m j e f)) (Does-untold now now told (Ok replies.Done) (λ v. driven v []) (λ logs. refl) tt)))
 
@@ -150,12 +160,10 @@ module _ (old now : State) (tells told : Tells) where
 
   pub drive_stop : (new : State) (after : Tells) (stop : Option Stop) (next s total : ℕ) → next ≤ s → s < total → AreServed now.producers now.streams → ((m k : ℕ) → (producer_at now m).duty ≡ Serves k → next ≤ k → s ≤ k) → Does old now tells told (Ok replies.Done) (λ w. driven w (numbers_from 0 next)) → Does now new told after (Err stop) (λ w. drive_turn w s) → Does old new tells after (Err stop) (λ w. driven w (numbers_from 0 total))
   drive_stop new after stop next s total l b h least d k =
-      let e : next + ((s - next) + (1 + (total - (s + 1)))) ≡ total = omega (arith, l, b) in
-      let f : next + (s - next) ≡ s = omega (arith, l) in
+      let e : next + ((s - next) + suc (total - (s + 1))) ≡ total = omega (arith, l, b) in
       subst (λ xs. Does old new tells after (Err stop) (λ w. driven w xs))
-      (ap (λ xs. numbers_from 0 next ++ xs)
-      (ap (λ j. numbers_from next (s - next) ++ (j ∷ numbers_from (j + 1) (total - (s + 1)))) (sym f) ∙ sym (numbers-append next (s - next) (1 + (total - (s + 1)))))
-      ∙ sym (numbers-append 0 next ((s - next) + (1 + (total - (s + 1)))))
+      (ap (λ xs. numbers_from 0 next ++ xs) (sym (numbers-append next (s - next) (suc (total - (s + 1))) s (omega (arith, l))))
+      ∙ sym (numbers-append 0 next ((s - next) + suc (total - (s + 1))) next (omega arith))
       ∙ ap (numbers_from 0) e)
       (behind new after (Err stop) (numbers_from 0 next) (numbers_from next (s - next) ++ (s ∷ numbers_from (s + 1) (total - (s + 1)))) d
       (passed new after (Err stop) next (s - next) (s ∷ numbers_from (s + 1) (total - (s + 1))) h (λ m j e' f'. let far = least m j e' f' in omega (arith, far, l)) (stopped_single new after stop s (numbers_from (s + 1) (total - (s + 1))) k)))

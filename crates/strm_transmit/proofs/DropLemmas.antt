@@ -102,7 +102,7 @@ module _ (old mid : State) (tells : Tells) (act : Act) (s : ℕ) (side : Side) (
         (Does-as old new tells told (Ok replies.Done) (λ w. then_on (reacts w act) (λ v. done (forsaken_in v s))) (λ w. performs_in w act) drops-is
         (Does-then old mid new tells tells told replies.Done (Ok replies.Done) (λ w. reacts w act) (λ v. done (forsaken_in v s)) mid-does f));
     fits = fits;
-    alone = λ u. record { meets = d.reaction ∙ ap (goes replies.Done) (sym (same u)); tells = untold u };
+    alone = λ u. record { meets = d.reaction ∙ ap (goes replies.Done) (sym (same u)); ends = untold u };
     err = tt;
   }
 

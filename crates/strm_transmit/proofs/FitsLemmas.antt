@@ -51,7 +51,7 @@ pub with_end-type : (side : Side) (stream : Stream) (end : End) → SameType str
 with_end-type Writing stream end = record { kind = refl; payload = refl }
 with_end-type Reading stream end = record { kind = refl; payload = refl }
 
-same_streams : (old new : State) → new.producers ≡ old.producers → new.streams ≡ old.streams → KeepsTypes old new
+pub same_streams : (old new : State) → new.producers ≡ old.producers → new.streams ≡ old.streams → KeepsTypes old new
 same_streams old new p e = record {
   producers = p;
   types = λ s l. rw e (record { kind = refl; payload = refl });

@@ -47,7 +47,7 @@ outcome-unless world act o t e =
 
 -- store and host ends as they were
 pub all_stays : (state : State) (tells : Tells) → Stays state state tells tells
-all_stays state tells = record { state = refl; tells = refl }
+all_stays state tells = record { same = refl; ends = refl }
 
 -- what the machine refuses of an act on a store's state, whatever records are yet to come
 abbrev pub RefusedBy : State → Tells → Act → Option Refusal → Type 0
@@ -68,7 +68,7 @@ hosted_not_admitted {V = V} state tells act o wanted found error r e a fits alon
         record {
           does = subst (λ x. Does state state tells tells (answered (Err x)) (λ w. outcome w act)) same does;
           fits = fits;
-          alone = λ u. record { meets = alone u; tells = refl };
+          alone = λ u. record { meets = alone u; ends = refl };
           err = subst (Leaves act state state tells tells) same (all_stays state tells);
         }
 
@@ -81,7 +81,7 @@ hosted_not_admitted {V = V} state tells act o wanted found error r e a fits alon
         record {
           does = subst (λ x. Does state state tells tells (answered (Err x)) (λ w. outcome w act)) same does;
           fits = fits;
-          alone = λ u. record { meets = alone u; tells = refl };
+          alone = λ u. record { meets = alone u; ends = refl };
           err = subst (Leaves act state state tells tells) same (all_stays state tells);
         }
     trapped_or false t k = refused o t refl k
@@ -135,12 +135,12 @@ unpolled world _ u = u
 
 meets-leaves : (old new : State) (tells : Tells) (act : Act) (result : Result Reply StoreError) → touches (lone old) act ≡ false → Meets old new result (reaction old act) → IfErr result (Leaves act old new tells tells)
 meets-leaves old new tells act (Ok reply) u m = tt
-meets-leaves old new tells act (Err (Refused q)) u m = record { state = m.1; tells = refl }
+meets-leaves old new tells act (Err (Refused q)) u m = record { same = m.1; ends = refl }
 meets-leaves old new tells act (Err (HostFailed end)) u m = absurd m
 meets-leaves old new tells act (Err (HostBroke end)) u m = absurd m
 meets-leaves old new tells act (Err (BadItem stream)) u m = m.1
-meets-leaves old new tells act (Err StoreTrapped) u m = record { state = m.1; tells = refl }
-meets-leaves old new tells act (Err OutOfMemory) u m = rw (unpolled (lone old) act u) (record { state = m.1; tells = refl })
+meets-leaves old new tells act (Err StoreTrapped) u m = record { same = m.1; ends = refl }
+meets-leaves old new tells act (Err OutOfMemory) u m = rw (unpolled (lone old) act u) (record { same = m.1; ends = refl })
 
 -- a store's streams that are served were made
 abbrev pub AreMade : State → Type 0
@@ -152,6 +152,6 @@ hosted_alone old new tells act result h made u s m fits =
     record {
       does = meets-does old new tells act result u types.producers s m;
       fits = Fits-kept old new tells made (meets-types old new result (reaction old act) m types) fits;
-      alone = λ _. record { meets = m; tells = refl };
+      alone = λ _. record { meets = m; ends = refl };
       err = meets-leaves old new tells act result u m;
     }

@@ -70,11 +70,11 @@ host_refusal-feed state tells n bytes logs =
 -- a first reason that doesn't hold
 record Passes (b : Bool) (rest : List Reason) : Type 0 where
   pub test : b ≡ false
-  pub rest : first_of rest ≡ None
+  pub behind : first_of rest ≡ None
 
 passes : (b : Bool) (q : Refusal) (rest : List Reason) → first_of (where_ b q ∷ rest) ≡ None → Passes b rest
 passes true q rest e = cc
-passes false q rest e = record { test = refl; rest = e }
+passes false q rest e = record { test = refl; behind = e }
 
 known_host : (count n : ℕ) → is_unknown_host count n ≡ false → (n < count) × (n < host_limit)
 known_host count n e = (grind (arith, nat_tests), grind (arith, nat_tests))
@@ -96,9 +96,9 @@ pub record HostFits (state : State) (tells : Tells) (n : ℕ) : Type 0 where
 
 pub host_fits : (state : State) (tells : Tells) (n : ℕ) (logs : Logs) → refusal_in (world_of state tells logs) (OnHost n New) ≡ None → HostFits state tells n
 host_fits state tells n logs e =
-    let a = passes (is_unknown_host (length tells.writers) n) refusals.UnknownHost _ (sym (host_refusal-new state tells n logs) ∙ e) in
-    let b = passes (is_used (producer_at state n).duty) refusals.HostUsed _ a.rest in
-    let c = passes (are_places_full state 3 || are_streams_full state) refusals.Full [] b.rest in
+    let a = passes (is_unknown_host (length tells.writers) n) refusals.UnknownHost (where_ (is_used (producer_at state n).duty) refusals.HostUsed ∷ where_ (are_places_full state 3 || are_streams_full state) refusals.Full ∷ []) (sym (host_refusal-new state tells n logs) ∙ e) in
+    let b = passes (is_used (producer_at state n).duty) refusals.HostUsed (where_ (are_places_full state 3 || are_streams_full state) refusals.Full ∷ []) a.behind in
+    let c = passes (are_places_full state 3 || are_streams_full state) refusals.Full [] b.behind in
     let known = known_host (length tells.writers) n a.test in
     record { there = known.0; few = known.1; unused = unused_is (producer_at state n).duty b.test; streams = streams_few state c.test }
 

@@ -1,5 +1,5 @@
 -- The store after an end of a stream has another owner, and its handle was freed, given or neither.
-use Rattle.std.proofs.Common.{◌≡◌, ℕ, ◌+◌, ◌-◌, ◌<◌, ◌≤◌, true, false, List, length, set, None, refl, sym, ap, ◌∙◌, subst, inl, ⊎_elim, arith}
+use Rattle.std.proofs.Common.{◌≡◌, ℕ, ◌+◌, ◌-◌, ◌<◌, ◌≤◌, true, false, List, length, set, None, refl, sym, ap, ◌∙◌, subst, ⊎_elim, arith}
 use Rattle.std.specs.Prelude.{count_by, is_ok}
 use Rattle.std.proofs.lemmas.Bool.{cases_lt}
 use Rattle.std.proofs.lemmas.List.{get_or_past}
@@ -24,6 +24,7 @@ use Rattle.strm_machine.specs.declared.streams.Owner.TheVariants.{Held}
 use Rattle.strm_machine.specs.declared.streams.Side.{Side}
 use Rattle.strm_machine.specs.declared.streams.Side.TheVariants.{Writing, Reading}
 use Rattle.strm_machine.specs.declared.streams.Stream.{Stream}
+use Rattle.strm_machine.proofs.EndLemmas.{Unchanged}
 use Rattle.strm_machine.proofs.ReactionLemmas.{reaction-performs, refusal-on_end}
 use Rattle.strm_machine.proofs.RefusalLemmas.{move_fits, lower_fits, close_fits}
 use Rattle.strm_machine.proofs.SoundLemmas.{IsSound-set, IsSound-freed, sizes_of-with_table, sizes_of-with_handles}
@@ -62,7 +63,7 @@ owned-comes Reading stream owner u = record { writer = λ n e. e; reader = λ r.
 module _ (old new : Inside) (s : ℕ) (side : Side) (owner : Owner) (l : s < length old.streams.items) (u : is_host owner ≡ false) (o : SetsOwner old new s side owner) (i : IsStore old) where
   -- the stream alone
   owned : IsSound (record (state_of old) { streams = new.streams.items })
-  owned = rw o.streams (IsSound-set (state_of old) s side (record (end_of side (stream_at (state_of old) s)) { owner = owner }) l (inl refl) i.sound)
+  owned = rw o.streams (IsSound-set (state_of old) s side (record (end_of side (stream_at (state_of old) s)) { owner = owner }) l (Unchanged refl) i.sound)
 
   sound_of : (guests : List Guest) → seen new.guests.items ≡ guests → IsSound (record (state_of old) { guests = guests; streams = new.streams.items }) → IsSound (state_of new)
   sound_of guests e h = record {

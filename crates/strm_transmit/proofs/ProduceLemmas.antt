@@ -23,7 +23,7 @@ use Rattle.strm_world.proofs.TurnLemmas.{turned_but}
 use Rattle.strm_producing.specs.Turning.{Scene, Polled, TurnsEmpty, TurnsHolding, Turns}
 use Rattle.strm_producing.specs.declared.turns.TurnError.{TurnError}
 use Rattle.strm_producing.specs.declared.turns.TurnError.TheVariants.{Failed, OutOfMemory, Broke}
-use Rattle.strm_producing.proofs.StepFacts.{scene_in, told_in, turned_in, stop_of, turn_stays, turn_left, turn_stops}
+use Rattle.strm_producing.proofs.StepLemmas.{scene_in, told_in, turned_in, stop_of, turn_stays, turn_left, turn_stops}
 use Rattle.strm_transmit.specs.Inside.{AreServed}
 use Rattle.strm_transmit.specs.Turning.{TurnsStream}
 use Rattle.strm_transmit.proofs.ServedLemmas.{at_set, serving_kept, ended_no}
@@ -86,7 +86,7 @@ module _ (old : State) (tells : Tells) (n s : ℕ) (read : Operation) (h : IsSer
         }) h.fits
 
     pub mid-fits : Fits mid told
-    mid-fits = subst (λ (x : State). Fits x told) (sym t.state) (subst (λ (x : Tells). Fits (turned_in old n s t.after) x) (sym t.tells) turned-fits)
+    mid-fits = subst (λ (x : State). Fits x told) (sym t.state) (subst (λ (x : Tells). Fits (turned_in old n s t.after) x) (sym t.ends) turned-fits)
 
     pub mid-made : s < length mid.streams
     mid-made = rw (ap (λ (x : State). length x.streams) t.state, length-set old.streams s t.after.stream) h.made
@@ -102,7 +102,7 @@ module _ (old : State) (tells : Tells) (n s : ℕ) (read : Operation) (h : IsSer
         ∙ keeps.duty ∙ duty
 
     pub told-there : n < length told.writers
-    told-there = rw (ap (λ (x : Tells). length x.writers) t.tells, length-set tells.writers n t.after.tells) there
+    told-there = rw (ap (λ (x : Tells). length x.writers) t.ends, length-set tells.writers n t.after.tells) there
 
   -- its writer stays
   by_done : (done : Bool) (after before : Owner) → after ≡ cond done Gone before → after ≢ Gone → after ≡ before
@@ -116,7 +116,7 @@ module _ (old : State) (tells : Tells) (n s : ℕ) (read : Operation) (h : IsSer
       let same = by_done k.stream.done t.after.stream.writer.owner (stream_at old s).writer.owner k.stream.writer
       (λ e. g (ap (λ (x : Stream). x.writer.owner) here ∙ e)) in
       subst (λ (x : State). Does old x tells told (Ok replies.Done) (λ w. producer_turn w s n read)) (sym t.state)
-      (subst (λ (x : Tells). Does old (turned_in old n s t.after) tells x (Ok replies.Done) (λ w. producer_turn w s n read)) (sym t.tells)
+      (subst (λ (x : Tells). Does old (turned_in old n s t.after) tells x (Ok replies.Done) (λ w. producer_turn w s n read)) (sym t.ends)
       (turn_stays old tells n s read serving t.after t.turns same))
 
   -- its writer is gone, and was closed
@@ -127,13 +127,13 @@ module _ (old : State) (tells : Tells) (n s : ℕ) (read : Operation) (h : IsSer
       kept = rw (length-set old.producers n t.after.producer) kept;
       owner = h.owner;
       gone = sym (ap (λ (x : Stream). x.writer.owner) (mid-stream mid told (Ok tt) t)) ∙ g;
-      closes = subst (λ (x : Tells). ClosesWriter (told_by x n) w) t.tells c;
+      closes = subst (λ (x : Tells). ClosesWriter (told_by x n) w) t.ends c;
     }
 
     pub produced-left : Does old (ended_in mid n) tells (with_told told n w) (Ok replies.Done) (λ v. producer_turn v s n read)
     produced-left =
         subst (λ (x : State). Does old (ended_in x n) tells (with_told told n w) (Ok replies.Done) (λ v. producer_turn v s n read)) (sym t.state)
-        (subst (λ (x : Tells). Does old (ended_in (turned_in old n s t.after) n) tells (with_told x n w) (Ok replies.Done) (λ v. producer_turn v s n read)) (sym t.tells)
+        (subst (λ (x : Tells). Does old (ended_in (turned_in old n s t.after) n) tells (with_told x n w) (Ok replies.Done) (λ v. producer_turn v s n read)) (sym t.ends)
         (turn_left old tells n s read serving t.after w t.turns left))
 
     pub left-fits : Fits (ended_in mid n) (with_told told n w)
@@ -155,5 +155,5 @@ module _ (old : State) (tells : Tells) (n s : ℕ) (read : Operation) (h : IsSer
       let same : t.after.producer ≡ producer_at old n = holding_producer (told_by tells n).holds e (scene_in old tells n s) t.after read t.turns in
       let producers : mid.producers ≡ old.producers =
       ap (λ (x : State). x.producers) t.state ∙ ap (set old.producers n) same ∙ set-get_or old.producers n no_producer in
-      subst (λ (x : Tells). Does old (record mid { trapped = true }) tells x (stop_of e n) (λ w. producer_turn w s n read)) (sym t.tells)
+      subst (λ (x : Tells). Does old (record mid { trapped = true }) tells x (stop_of e n) (λ w. producer_turn w s n read)) (sym t.ends)
       (turn_stops old tells n s read serving e t.after (record mid { trapped = true }) t.turns producers)

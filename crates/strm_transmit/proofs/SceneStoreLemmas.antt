@@ -6,7 +6,8 @@ use Rattle.std.proofs.lemmas.List.{length-map, length-set, get_or_default}
 use Rattle.std.proofs.lemmas.List.Sums.{sum_by-set}
 use Rattle.strm_handles.specs.Counters.{Counter}
 use Rattle.strm_machine.specs.State.{no_stream, no_producer, stream_at, producer_at, is_live, is_host}
-use Rattle.strm_machine.specs.Soundness.{IsSound, sizes_of, type_of}
+use Rattle.strm_machine.specs.Soundness.{IsSound, sizes_of, handles_of, type_of}
+use Rattle.strm_machine.proofs.TurnLemmas.{sets_of}
 use Rattle.strm_machine.specs.declared.streams.Owner.{Owner}
 use Rattle.strm_machine.specs.declared.streams.Owner.TheVariants.{Host, Gone}
 use Rattle.strm_machine.specs.declared.streams.Duty.TheVariants.{Serves}
@@ -98,16 +99,18 @@ module _ (old new : Inside) (s n : ℕ) (tells : WriterTells) (after : Scene) (l
   pub IsStore-scene : IsStore new
   IsStore-scene =
       let guests = seen old.guests.items in
-      let same = rw h.guests k.guests.sizes in
+      let same : sizes_of (seen new.guests.items) ≡ sizes_of (seen old.guests.items) = rw h.guests k.guests.sizes in
+      let handles : handles_of (seen new.guests.items) ≡ handles_of (seen old.guests.items) = rw h.guests k.guests.handles in
+      let sets : sets_of (seen new.guests.items) ≡ sets_of (seen old.guests.items) = rw h.guests k.guests.sets in
       let count = same_count guests (seen new.guests.items) same in
       record {
         sound = sound;
         limit = rw (h.counter, h.limits) i.limit;
-        live = ap (λ (c : Counter). c.live) h.counter ∙ i.live ∙ sym (same_handles guests (seen new.guests.items) (rw h.guests k.guests.handles));
+        live = ap (λ (c : Counter). c.live) h.counter ∙ i.live ∙ sym (same_handles guests (seen new.guests.items) handles);
         within = rw h.counter i.within;
         streams = h.counted;
         served = served;
-        sets = h.live_sets ∙ i.sets ∙ sym (same_sets guests (seen new.guests.items) (rw h.guests k.guests.sets));
+        sets = h.live_sets ∙ i.sets ∙ sym (same_sets guests (seen new.guests.items) sets);
         bytes = h.bytes ∙ i.bytes ∙ sym (same_bytes guests (seen new.guests.items) same);
         few_guests = omega (arith, count, i.few_guests, length-map old.guests.items guest_of, length-map new.guests.items guest_of);
         few_streams = rw (h.streams, length-set old.streams.items s after.stream) i.few_streams;

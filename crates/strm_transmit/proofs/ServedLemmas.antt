@@ -91,7 +91,7 @@ AreServed-none = record {
 
 -- ## Host writers that begin, go on and end
 
-same_stream : (a b : ℕ) (d : Duty) → d ≡ Serves a → d ≡ Serves b → a ≡ b
+pub same_stream : (a b : ℕ) (d : Duty) → d ≡ Serves a → d ≡ Serves b → a ≡ b
 same_stream a b d e f = cc
 
 not_unused : (d : Duty) (s : ℕ) → d ≡ Unused → d ≢ Serves s

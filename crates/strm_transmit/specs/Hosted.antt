@@ -43,8 +43,8 @@ lone state = record { state = state; writers = []; readers = [] }
 
 -- store and host ends are as they were
 pub record Stays (old new : State) (tells told : Tells) : Type 0 where
-  pub state : new ≡ old
-  pub tells : told ≡ tells
+  pub same : new ≡ old
+  pub ends : told ≡ tells
 
 -- what want of memory leaves: where a host end may be polled, a trapped store; anywhere else nothing
 -- has changed
@@ -69,7 +69,7 @@ IsStop _ = Unit {0}
 -- a call of an act that touches no host end: the answer and the state are the machine's without them
 pub record MeetsAlone (old new : State) (tells told : Tells) (result : Result Reply StoreError) (act : Act) : Type 0 where
   pub meets : Meets old new result (reaction old act)
-  pub tells : told ≡ tells
+  pub ends : told ≡ tells
 
 -- a call is a step of the machine among host ends, which stay those that the store needs
 pub record MeetsHosted (old new : State) (tells told : Tells) (result : Result Reply StoreError) (act : Act) : Type 0 where

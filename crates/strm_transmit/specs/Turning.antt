@@ -29,7 +29,7 @@ pub record TurnsStream (old new : State) (tells told : Tells) (n s : ℕ) (read 
     streams = slice_set old.streams s after.stream;
     producers = slice_set old.producers n after.producer;
   }
-  pub tells : told ≡ with_told tells n after.tells
+  pub ends : told ≡ with_told tells n after.tells
 
 -- a host writer that has the write end of a stream, and the open read on it, if there are both
 abbrev pub due_in : Owner → Option Operation → Option (ℕ × Operation)

@@ -1,0 +1,58 @@
+use Rattle.std.proofs.Common.{rules, ◌≡◌, ◌≢◌, ◌<◌, ◌≤◌, true, false, length, sum, Ok, IfOk, IfErr, ℕ, ◌+◌, ◌-◌, ◌*◌, ◌/◌, ◌%◌, Bool, nat_eq, nat_lt, List, [], ◌∷◌, ◌++◌, slice_index_or, slice_set, bit_and, bit_or, w8, w32, w64, Bor, MutBor}
+use Rattle.strm_buffers.specs.AllTells.{tells_of}
+use Rattle.strm_buffers.specs.Tells.{told_by, with_told}
+use Rattle.strm_machine.specs.State.{producer_at, stream_at}
+use Rattle.strm_machine.specs.Sides.{with_operation}
+use Rattle.strm_machine.specs.Reactions.{with_stream_at}
+use Rattle.strm_machine.specs.Soundness.{sizes_of, IsPlaced}
+use Rattle.strm_machine.specs.declared.acts.Act.TheVariants.{Drive}
+use Rattle.strm_machine.specs.declared.replies.Reply.TheVariants as replies
+use Rattle.strm_machine.specs.declared.streams.Owner.TheVariants.{Host}
+use Rattle.strm_machine.specs.declared.streams.Side.TheVariants.{Reading}
+use Rattle.strm_turns.specs.Guests.{seen}
+use Rattle.strm_producing.specs.Turning.{scene, Turns}
+use Rattle.strm_world.specs.Settling.{answered as answers_read}
+use Rattle.strm_world.specs.Producing.{producer_turn}
+use Rattle.strm_world.specs.Driving.{drive_turn, driven, round_of}
+use Rattle.strm_world.specs.Steps.{reads_from}
+use Rattle.strm_world.specs.Does.{Fits, Does}
+use Rattle.strm_transmit.specs.Meets.{replied}
+use Rattle.strm_transmit.specs.Hosted.{answered, IsStop, MeetsHosted}
+use Rattle.strm_transmit.specs.Turning.{TurnsStream, stops_by, due_in, NextServed}
+use Rattle.strm_transmit.proofs.store.Store.drive_all.Goals as goal
+
+-- src/store/driving.rt:271:9
+pub loop-stream-init : goal.loop-stream-init
+loop-stream-init g c = ?
+
+-- src/store/driving.rt:272:19
+pub drive_stream-requires-clause-there : goal.drive_stream-requires-clause-there
+drive_stream-requires-clause-there g c = ?
+
+-- src/store/driving.rt:272:19
+pub drive_stream-requires-clause-fits : goal.drive_stream-requires-clause-fits
+drive_stream-requires-clause-fits g c = ?
+
+-- src/store/driving.rt:273:34
+pub overflow_add-next : goal.overflow_add-next
+overflow_add-next g c = ?
+
+-- src/store/driving.rt:271:9
+pub loop-stream-smaller : goal.loop-stream-smaller
+loop-stream-smaller g c = ?
+
+-- src/store/driving.rt:271:9
+pub loop-stream-preserved : goal.loop-stream-preserved
+loop-stream-preserved g c = ?
+
+-- src/store/driving.rt:274:31
+pub returns-in-Err-clause-does : goal.returns-in-Err-clause-does
+returns-in-Err-clause-does g c = ?
+
+-- src/store/driving.rt:261:5
+pub returns-clause-does : goal.returns-clause-does
+returns-clause-does g c = ?
+
+-- src/store/driving.rt:261:5
+pub returns-clause-fits : goal.returns-clause-fits
+returns-clause-fits g c = ?
