@@ -22,11 +22,11 @@ use Rattle.strm_transmit.specs.Turning.{due_in}
 
 -- ## One stream
 
-number_due : ℕ → Option (ℕ × Operation) → ℕ
+abbrev number_due : ℕ → Option (ℕ × Operation) → ℕ
 number_due n None = n
 number_due n (Some due) = due.0
 
-read_due : Operation → Option (ℕ × Operation) → Operation
+abbrev read_due : Operation → Option (ℕ × Operation) → Operation
 read_due operation None = operation
 read_due operation (Some due) = due.1
 

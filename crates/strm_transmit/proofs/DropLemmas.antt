@@ -157,3 +157,11 @@ drops-loose old mid tells s found r a l e = record {
   performs = λ logs. performs-close (world_of old tells logs) s;
   writer = subst (λ (m : State). WriterAfter Reading (stream_at old s) (stream_at m s)) (sym e) (writer_after Reading old.streams s l);
 }
+
+-- where no host end is touched, none has the write end then
+pub drops-end-alone : (old mid : State) (tells : Tells) (side : Side) (end : NamedEnd) (s : ℕ) → Drops old mid tells (OnEnd side end Drop) s side → s ≡ stream_named (named old end) → touches (lone old) (OnEnd side end Drop) ≡ false → is_host (stream_at mid s).writer.owner ≡ false
+drops-end-alone old mid tells Writing end s d e u = d.writer
+drops-end-alone old mid tells Reading end s d e u = ap is_host d.writer ∙ ap (λ k. is_host (stream_at old k).writer.owner) e ∙ u
+
+pub drops-loose-alone : (old mid : State) (tells : Tells) (s : ℕ) → Drops old mid tells (OnLoose s Close) s Reading → touches (lone old) (OnLoose s Close) ≡ false → is_host (stream_at mid s).writer.owner ≡ false
+drops-loose-alone old mid tells s d u = ap is_host d.writer ∙ u

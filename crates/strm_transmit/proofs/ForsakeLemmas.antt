@@ -70,3 +70,31 @@ module _ (old : State) (tells : Tells) (s n : ℕ) (w : WriterTells) (served : A
         duties = λ m k. at_set old.producers n (record (producer_at old n) { duty = Ended }) no_producer m (λ p. p.duty ≡ Serves k → (producer_at old m).duty ≡ Serves k) kept (λ _ e. absurd (ended_no Ended k refl e)) (λ _ e. e);
         types = λ k. set-types old.streams s (with_owner Writing (stream_at old s) Gone) (record { kind = refl; payload = refl }) k l;
       }) fits
+
+-- the same by the steps in which a store does it: the stream without its write end, what is kept of the
+-- writer, and the box
+pub record IsForsaken (old mid new : State) (tells told : Tells) (s n : ℕ) : Type 0 where
+  pub served : AreServed old.producers old.streams
+  pub made : s < length old.streams
+  pub owner : (stream_at old s).writer.owner ≡ Host n
+  pub fits : Fits old tells
+  pub gone : mid ≡ with_stream_at old s (with_owner Writing (stream_at old s) Gone)
+  pub retired : new ≡ record mid { producers = set mid.producers n (record (producer_at mid n) { duty = Ended }) }
+  pub closes : ClosesWriter (told_by tells n) (told_by told n)
+  pub others : told ≡ with_told tells n (told_by told n)
+
+module _ (old mid new : State) (tells told : Tells) (s n : ℕ) (h : IsForsaken old mid new tells told s n) where
+  state_is : new ≡ ended old tells s n (told_by told n) h.served h.made h.owner h.fits h.closes
+  state_is = h.retired ∙ ap (λ (m : State). record m { producers = set m.producers n (record (producer_at m n) { duty = Ended }) }) h.gone
+
+  pub forsakes-does : Does old new tells told (Ok replies.Done) (λ v. done (forsaken_in v s))
+  forsakes-does =
+      subst (λ (x : State). Does old x tells told (Ok replies.Done) (λ v. done (forsaken_in v s))) (sym state_is)
+      (subst (λ (x : Tells). Does old (ended old tells s n (told_by told n) h.served h.made h.owner h.fits h.closes) tells x (Ok replies.Done) (λ v. done (forsaken_in v s))) (sym h.others)
+      (forsaken-does old tells s n (told_by told n) h.served h.made h.owner h.fits h.closes))
+
+  pub forsakes-fits : Fits new told
+  forsakes-fits =
+      subst (λ (x : State). Fits x told) (sym state_is)
+      (subst (λ (x : Tells). Fits (ended old tells s n (told_by told n) h.served h.made h.owner h.fits h.closes) x) (sym h.others)
+      (forsaken-fits old tells s n (told_by told n) h.served h.made h.owner h.fits h.closes))

@@ -1,12 +1,10 @@
-use Rattle.std.proofs.Common.{sym, subst, ap, ◌∙◌}
-use Rattle.strm_machine.specs.Moves.{with_owner}
-use Rattle.strm_machine.specs.State.{State}
+use Rattle.std.proofs.Common.{rules, sym, ap, ◌∙◌}
 use Rattle.strm_machine.specs.declared.acts.EndAct.TheVariants.{Drop}
 use Rattle.strm_machine.proofs.ReactionLemmas.{refusal-on_end}
 use Rattle.strm_machine.proofs.RefusalLemmas.{drop_fits}
 use Rattle.strm_transmit.proofs.StepLemmas.{is_admitted, meets_not_admitted}
 use Rattle.strm_transmit.proofs.HostStepLemmas.{hosted_not_admitted}
-use Rattle.strm_transmit.proofs.DropLemmas.{drops-end, dropped-fits, drops-hosted}
+use Rattle.strm_transmit.proofs.DropLemmas.{drops-end, drops-end-alone, dropped-fits, drops-hosted, refused-end}
 use Rattle.strm_transmit.proofs.store.Store.drop_side.Goals as goal
 
 pub release-requires-clause-fits : goal.release-requires-clause-fits
@@ -16,3 +14,22 @@ release-requires-clause-fits g c =
 
 pub release-requires-clause-stream : goal.release-requires-clause-stream
 release-requires-clause-stream g c = (is_admitted _ _ _ _ _ c.drop_found.ensures.exact c.in-Ok.ensures.exact).same
+
+pub forsake-requires-clause-fits : goal.forsake-requires-clause-fits
+forsake-requires-clause-fits g c =
+    dropped-fits _ _ _ _ _ _
+    (drops-end c.args.self.now c.release.new.self _ c.args.side c.args.end.now c.in-Ok.stream _ (record { sound = c.sound.ensures; served = c.served.ensures; fits = c.requires.fits })
+    (is_admitted _ _ _ _ _ c.drop_found.ensures.exact c.in-Ok.ensures.exact) (search rules) c.release.ensures)
+
+pub returns-in-Err-clause-meets : goal.returns-in-Err-clause-meets
+returns-in-Err-clause-meets g c =
+    hosted_not_admitted c.args.self.now _ _ _ _ _ _ (λ logs. refused-end _ c.args.side c.args.end.now Drop) c.drop_found.ensures.exact c.in-Err.ensures.exact c.requires.fits
+    (λ u. meets_not_admitted _ _ _ _ _ c.drop_found.ensures.exact c.in-Err.ensures.exact)
+
+pub returns-in-Ok-clause-meets : goal.returns-in-Ok-clause-meets
+returns-in-Ok-clause-meets g c =
+    let found = is_admitted _ _ _ _ _ c.drop_found.ensures.exact c.in-Ok.ensures.exact in
+    let drops = drops-end c.args.self.now c.release.new.self _ c.args.side c.args.end.now c.in-Ok.stream _ (record { sound = c.sound.ensures; served = c.served.ensures; fits = c.requires.fits }) found (search rules) c.release.ensures in
+    drops-hosted _ _ _ _ _ _ drops _ _ c.forsake.ensures.does c.forsake.ensures.fits
+    (λ u. c.forsake.ensures.alone (drops-end-alone _ _ _ c.args.side c.args.end.now c.in-Ok.stream drops found.same u))
+    (λ u. c.forsake.ensures.untold (drops-end-alone _ _ _ c.args.side c.args.end.now c.in-Ok.stream drops found.same u))

@@ -1,29 +1,32 @@
-use Rattle.std.proofs.Common.{rules, ◌≡◌, ◌≢◌, ◌<◌, ◌↔◌, ◌++◌, ◌∷◌, [], false, length, slice_set, Ok, Err, IsTrue, OnOk, OnErr, IfOk, ℕ, ◌+◌, ◌-◌, ◌*◌, ◌≤◌, ◌/◌, ◌%◌, Bool, true, nat_eq, nat_lt, List, slice_index_or, bit_and, bit_or, w8, w32, w64, Bor, MutBor}
-use Rattle.strm_buffers.specs.AllTells.{tells_of}
-use Rattle.strm_buffers.specs.Tells.{told_by, with_told, fed}
-use Rattle.strm_machine.specs.State.{host_limit, stream_limit, idle_end, producer_at, no_producer, stream_at, is_host}
-use Rattle.strm_machine.specs.declared.acts.Act.TheVariants.{OnHost}
-use Rattle.strm_machine.specs.declared.acts.HostAct.TheVariants as host_acts
-use Rattle.strm_machine.specs.declared.replies.Reply.TheVariants as replies
-use Rattle.strm_machine.specs.declared.streams.Duty.TheVariants.{Unused, Serves, Ended}
-use Rattle.strm_machine.specs.declared.streams.Owner.TheVariants.{Host, Loose, Gone}
-use Rattle.strm_machine.specs.declared.streams.Side.TheVariants.{Writing}
-use Rattle.strm_world.specs.Outcomes.{done}
-use Rattle.strm_world.specs.HostRefusals.{is_unknown_host, refusal_in}
-use Rattle.strm_world.specs.Does.{Logs, world_of, Fits, Does}
-use Rattle.strm_transmit.specs.Inside.{AreServed}
-use Rattle.strm_transmit.specs.Meets.{replied, or_found}
-use Rattle.strm_transmit.specs.Hosted.{FitsAt, forsaken_in, MeetsHosted}
+use Rattle.std.proofs.Common.{rules}
+use Rattle.strm_transmit.proofs.ForsakeLemmas.{forsakes-does, forsakes-fits}
 use Rattle.strm_transmit.proofs.store.Store.forsake.Goals as goal
 
--- src/store/hosting.rt:237:13
 pub close_writer-requires : goal.close_writer-requires
-close_writer-requires g c = ?
+close_writer-requires g c = (c.requires.fits c.in-Host.number c.args.stream (c.served.ensures.serves c.in-Host.number c.args.stream (search rules))).there
 
--- src/store/hosting.rt:222:5
 pub returns-in-Host-clause-does : goal.returns-in-Host-clause-does
-returns-in-Host-clause-does g c = ?
+returns-in-Host-clause-does g c =
+    forsakes-does _ _ _ _ _ _ _ (record {
+      served = c.served.ensures;
+      made = c.requires.there;
+      owner = search rules;
+      fits = c.requires.fits;
+      gone = c.own.ensures;
+      retired = c.retire.ensures;
+      closes = c.close_writer.ensures.closes;
+      others = c.close_writer.ensures.others;
+    })
 
--- src/store/hosting.rt:222:5
 pub returns-in-Host-clause-fits : goal.returns-in-Host-clause-fits
-returns-in-Host-clause-fits g c = ?
+returns-in-Host-clause-fits g c =
+    forsakes-fits _ _ _ _ _ _ _ (record {
+      served = c.served.ensures;
+      made = c.requires.there;
+      owner = search rules;
+      fits = c.requires.fits;
+      gone = c.own.ensures;
+      retired = c.retire.ensures;
+      closes = c.close_writer.ensures.closes;
+      others = c.close_writer.ensures.others;
+    })

@@ -1,33 +1,16 @@
-use Rattle.std.proofs.Common.{rules, ◌≡◌, ◌≢◌, ◌<◌, ◌↔◌, ◌++◌, ◌∷◌, [], false, length, slice_set, Ok, Err, IsTrue, OnOk, OnErr, IfOk, ℕ, ◌+◌, ◌-◌, ◌*◌, ◌≤◌, ◌/◌, ◌%◌, Bool, true, nat_eq, nat_lt, List, slice_index_or, bit_and, bit_or, w8, w32, w64, Bor, MutBor}
-use Rattle.strm_buffers.specs.AllTells.{tells_of}
-use Rattle.strm_buffers.specs.Tells.{told_by, with_told, fed}
-use Rattle.strm_machine.specs.State.{host_limit, stream_limit, idle_end, producer_at, no_producer, stream_at, is_host}
-use Rattle.strm_machine.specs.declared.acts.Act.TheVariants.{OnHost}
-use Rattle.strm_machine.specs.declared.acts.HostAct.TheVariants as host_acts
-use Rattle.strm_machine.specs.declared.replies.Reply.TheVariants as replies
-use Rattle.strm_machine.specs.declared.streams.Duty.TheVariants.{Unused, Serves, Ended}
-use Rattle.strm_machine.specs.declared.streams.Owner.TheVariants.{Host, Loose, Gone}
-use Rattle.strm_machine.specs.declared.streams.Side.TheVariants.{Writing}
-use Rattle.strm_world.specs.Outcomes.{done}
-use Rattle.strm_world.specs.HostRefusals.{is_unknown_host, refusal_in}
-use Rattle.strm_world.specs.Does.{Logs, world_of, Fits, Does}
-use Rattle.strm_transmit.specs.Inside.{AreServed}
-use Rattle.strm_transmit.specs.Meets.{replied, or_found}
-use Rattle.strm_transmit.specs.Hosted.{FitsAt, forsaken_in, MeetsHosted}
+use Rattle.std.proofs.Common.{rules, ap, sym, ◌∙◌}
+use Rattle.strm_transmit.specs.Meets.{or_found}
+use Rattle.strm_transmit.proofs.HostingLemmas.{host_refusal-new}
 use Rattle.strm_transmit.proofs.store.Store.host_fits.Goals as goal
 
--- src/store/hosting.rt:118:13
 pub returns-then-is_unknown_host : goal.returns-then-is_unknown_host
-returns-then-is_unknown_host g c = ?
+returns-then-is_unknown_host g c = λ logs. rw (host_refusal-new c.args.self.now _ c.args.writer logs) (search rules)
 
--- src/store/hosting.rt:121:13
 pub returns-then-ne : goal.returns-then-ne
-returns-then-ne g c = ?
+returns-then-ne g c = λ logs. rw (host_refusal-new c.args.self.now _ c.args.writer logs) (search rules)
 
--- src/store/hosting.rt:124:13
 pub returns-then-are_streams_full : goal.returns-then-are_streams_full
-returns-then-are_streams_full g c = ?
+returns-then-are_streams_full g c = λ logs. rw (host_refusal-new c.args.self.now _ c.args.writer logs) (search rules)
 
--- src/store/hosting.rt:113:5
 pub returns : goal.returns
-returns g c = ?
+returns g c = λ logs. rw (host_refusal-new c.args.self.now _ c.args.writer logs) (search rules)

@@ -1,26 +1,31 @@
-use Rattle.std.proofs.Common.{rules, ◌≡◌, ◌≢◌, ◌<◌, ◌≤◌, true, false, length, sum, Ok, IfOk, IfErr, ℕ, ◌+◌, ◌-◌, ◌*◌, ◌/◌, ◌%◌, Bool, nat_eq, nat_lt, List, [], ◌∷◌, ◌++◌, slice_index_or, slice_set, bit_and, bit_or, w8, w32, w64, Bor, MutBor}
-use Rattle.strm_buffers.specs.AllTells.{tells_of}
-use Rattle.strm_buffers.specs.Tells.{told_by, with_told}
-use Rattle.strm_machine.specs.State.{producer_at, stream_at}
+use Rattle.std.proofs.Common.{refl, ap, ◌∙◌, sym, set}
 use Rattle.strm_machine.specs.Sides.{with_operation}
-use Rattle.strm_machine.specs.Reactions.{with_stream_at}
-use Rattle.strm_machine.specs.Soundness.{sizes_of, IsPlaced}
-use Rattle.strm_machine.specs.declared.acts.Act.TheVariants.{Drive}
-use Rattle.strm_machine.specs.declared.replies.Reply.TheVariants as replies
-use Rattle.strm_machine.specs.declared.streams.Owner.TheVariants.{Host}
+use Rattle.strm_machine.specs.State.{stream_at}
+use Rattle.strm_machine.specs.Soundness.{sizes_of}
 use Rattle.strm_machine.specs.declared.streams.Side.TheVariants.{Reading}
+use Rattle.strm_machine.specs.declared.streams.Stream.{Stream}
+use Rattle.strm_machine.proofs.SideLemmas.{with_operation-keeps}
 use Rattle.strm_turns.specs.Guests.{seen}
-use Rattle.strm_producing.specs.Turning.{scene, Turns}
-use Rattle.strm_world.specs.Settling.{answered as answers_read}
-use Rattle.strm_world.specs.Producing.{producer_turn}
-use Rattle.strm_world.specs.Driving.{drive_turn, driven, round_of}
-use Rattle.strm_world.specs.Steps.{reads_from}
-use Rattle.strm_world.specs.Does.{Fits, Does}
-use Rattle.strm_transmit.specs.Meets.{replied}
-use Rattle.strm_transmit.specs.Hosted.{answered, IsStop, MeetsHosted}
-use Rattle.strm_transmit.specs.Turning.{TurnsStream, stops_by, due_in, NextServed}
+use Rattle.strm_transmit.specs.Inside.{state_of}
+use Rattle.strm_transmit.proofs.StoreLemmas.{stream_at-there}
+use Rattle.strm_transmit.proofs.EndingLemmas.{IsStore-set}
 use Rattle.strm_transmit.proofs.store.Store.open_read.Goals as goal
 
--- src/store/driving.rt:96:5
 pub invariant_of-self : goal.invariant_of-self
-invariant_of-self c = ?
+invariant_of-self c =
+    let there = rw (← c.self.view_is) at c.requires.there in
+    let placed = rw (← c.self.view_is) at c.requires.placed in
+    let here = stream_at-there c.self.inside c.args.stream c.index_mut.result.now there c.index_mut.ensures.value in
+    let stream = stream_at (state_of c.self.inside) c.args.stream in
+    IsStore-set c.self.inside _ c.args.stream (with_operation Reading stream c.args.read) there
+    (λ h. with_operation-keeps Reading (sizes_of (seen c.self.inside.guests.items)) stream c.args.read h placed)
+    (record {
+      same = record { tag = refl; limits = refl; producers = refl; contexts = refl; trapped = refl };
+      counter = refl;
+      guests = refl;
+      live_streams = refl;
+      live_sets = refl;
+      bytes = refl;
+      streams = ap (set c.self.inside.streams.items c.args.stream) (c.set_operation.ensures ∙ ap (λ (s : Stream). with_operation Reading s c.args.read) (sym here));
+    })
+    c.self.invariant
