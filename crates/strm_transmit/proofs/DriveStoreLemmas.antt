@@ -41,7 +41,7 @@ none_due false n operation e = refl
 driven_due : (world : World) (s n : ℕ) (read : Operation) (stream : Stream) (owner : Owner) (o : Option Operation) → stream.reader.operation ≡ o → due_in owner o ≡ Some (n, read) → driven_by world s stream owner ≡ producer_turn world s n read
 driven_due world s n read stream (Host m) (Some operation) e d =
     let k = some_due operation.is_open m n operation read d in
-    rw (e, k.0, k.1.0, k.1.1) refl
+    rw (e, k.0, k.1, k.2) refl
 driven_due world s n read stream (Host m) None e d = cc
 driven_due world s n read stream (Held g h) o e d = cc
 driven_due world s n read stream Loose o e d = cc
@@ -72,7 +72,7 @@ pub record IsDue (stream : Stream) (n : ℕ) (read : Operation) : Type 0 where
 
 due_by : (owner : Owner) (o : Option Operation) (n : ℕ) (read : Operation) → due_in owner o ≡ Some (n, read) → (owner ≡ Host n) × (o ≡ Some read)
 due_by (Host m) (Some operation) n read d =
-    let k = some_due operation.is_open m n operation read d in (ap Host k.1.0, ap Some k.1.1)
+    let k = some_due operation.is_open m n operation read d in (ap Host k.1, ap Some k.2)
 due_by (Host m) None n read d = cc
 due_by (Held g h) o n read d = cc
 due_by Loose o n read d = cc

@@ -1,7 +1,7 @@
 -- A call that drops an end: what the machine does without host ends, and then the host writer on the
 -- other side goes.
 use Rattle.std.proofs.Common.{◌≡◌, ℕ, ◌<◌, Bool, true, false, cond, List, length, get_or, set, None, Result, Ok, Err, refl, sym, ap, subst, ◌∙◌}
-use Rattle.std.proofs.lemmas.List.{get_or-set_same}
+use Rattle.std.proofs.lemmas.List.{length-set, get_or-set_same}
 use Rattle.strm_buffers.specs.Tells.{Tells}
 use Rattle.strm_machine.specs.State.{State, no_stream, stream_at, is_host}
 use Rattle.strm_codes.specs.declared.refusals.Refusal.{Refusal}
@@ -165,3 +165,7 @@ drops-end-alone old mid tells Reading end s d e u = ap is_host d.writer ∙ ap (
 
 pub drops-loose-alone : (old mid : State) (tells : Tells) (s : ℕ) → Drops old mid tells (OnLoose s Close) s Reading → touches (lone old) (OnLoose s Close) ≡ false → is_host (stream_at mid s).writer.owner ≡ false
 drops-loose-alone old mid tells s d u = ap is_host d.writer ∙ u
+
+-- a stream that is another one now was made
+pub still_made : (old mid : State) (s : ℕ) (stream : Stream) → mid ≡ with_stream_at old s stream → s < length old.streams → s < length mid.streams
+still_made old mid s stream e l = subst (λ (x : State). s < length x.streams) (sym e) (subst (λ k. s < k) (sym (length-set old.streams s stream)) l)
