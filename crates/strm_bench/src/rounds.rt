@@ -1,6 +1,7 @@
 //! Rounds on a store: a write of 8 items waits, a read takes them, and the write is told.
 
 use std::alloc::Global;
+use strm_buffers::hosts::Hosts;
 use strm_codes::codes::{ReturnCode, TransmitIndex};
 use strm_codes::payloads::Payload;
 use strm_machine::limits::Limits;
@@ -35,11 +36,15 @@ pub fn run(alloc: Global, items: Payload, rounds: u32) -> Result<Told, StoreErro
     let writer = store.add_guest(SIZE)?;
     let reader = store.add_guest(SIZE)?;
     let pair = store.new_between(writer, reader, TransmitIndex::Stream(items))?;
+    let mut hosts = Hosts {
+        writers: Vec::new(alloc),
+        readers: Vec::new(alloc),
+    };
     let mut words = 0u64;
     for round in 0..rounds {
         let address = round % PLACES * 8;
-        let written = store.stream_write(writer, items, pair.write, address, COUNT)?;
-        let read = store.stream_read(reader, items, pair.read, address, COUNT)?;
+        let written = store.stream_write(&mut hosts, writer, items, pair.write, address, COUNT)?;
+        let read = store.stream_read(&mut hosts, reader, items, pair.read, address, COUNT)?;
         let told = store
             .take_event(writer, pair.write)?
             .unwrap_or(ReturnCode::Blocked);

@@ -1,2 +1,4 @@
 pub mod Inside
 pub mod Meets
+pub mod Hosted
+pub mod Turning

@@ -1,31 +1,52 @@
-//! One step, done on a store.
+//! One step, done on a store and its host ends.
 //!
-//! Meaning: `react` of `Reactions.antt` of `strm_machine`. Ours.
+//! Meaning: `step_of` of `Steps.antt` of `strm_world`. Ours.
 
-ghost use Rattle.std.specs.Prelude.{◌≡◌, ◌≢◌, ◌≤◌, false, Err, IfOk, IsTrue};
+ghost use Rattle.std.specs.Prelude.{◌≡◌, ◌≢◌, ◌≤◌, false, Err, IfOk, IfErr, IsTrue};
 ghost use Rattle.strm_codes.specs.declared.refusals.Refusal.{Refusal};
-ghost use Rattle.strm_machine.specs.Reactions.{react, reaction};
+ghost use Rattle.strm_buffers.specs.AllTells.{tells_of};
+ghost use Rattle.strm_machine.specs.Acts.{act_of};
+ghost use Rattle.strm_machine.specs.Reactions.{reaction};
 ghost use Rattle.strm_machine.specs.declared.acts.Act.TheVariants as acts;
 ghost use Rattle.strm_machine.specs.declared.acts.MemoryAct.TheVariants as memory_acts;
 ghost use Rattle.strm_machine.specs.declared.acts.SetAct.TheVariants as set_acts;
 ghost use Rattle.strm_machine.specs.declared.replies.Reply.TheVariants as replies;
+ghost use Rattle.strm_machine.specs.declared.acts.EndAct.TheVariants as end_acts;
+ghost use Rattle.strm_machine.specs.declared.acts.LooseAct.TheVariants as loose_acts;
+ghost use Rattle.strm_world.specs.Steps.{step_of, may_poll, touches};
+ghost use Rattle.strm_world.specs.Does.{Fits, Does};
 ghost use Rattle.strm_transmit.specs.Meets.{Meets, replied, refused_too, is_settled, act_takes_memory, takes_memory};
+ghost use Rattle.strm_transmit.specs.Hosted.{answered, lone, Leaves, MeetsAlone, MeetsHosted};
 
 use crate::errors::StoreError;
 use crate::store::Store;
-use strm_machine::acts::{Act, ContextAct, EndAct, LooseAct, Making, MemoryAct, NamedEnd, SetAct};
+use strm_buffers::hosts::Hosts;
+use strm_codes::codes::TransmitIndex;
+use strm_machine::acts::{
+    Act, ContextAct, EndAct, HostAct, LooseAct, Making, MemoryAct, NamedEnd, SetAct,
+};
 use strm_machine::replies::Reply;
 use strm_machine::steps::Step;
 use strm_machine::streams::Side;
 
-/// Does a step. A refusal is a reply; what comes as an error stops a run.
-pub fn apply(store: &mut Store, step: &Step) -> Result<Reply, StoreError>
-    ensures meets { Meets store.old store.new result (react store.old step.now) }
+/// Does a step. A refusal is a reply; what comes as an error stops a run. The host ends are those that
+/// the store needs (`Store::fits`).
+pub fn apply(store: &mut Store, hosts: &mut Hosts, step: &Step) -> Result<Reply, StoreError>
+    requires fits { Fits store.old (tells_of writer_tells reader_tells hosts.old) }
+    ensures does { Does store.old store.new (tells_of writer_tells reader_tells hosts.old)
+        (tells_of writer_tells reader_tells hosts.new) (answered result) (λ world. step_of world step.now) }
+    ensures fits { Fits store.new (tells_of writer_tells reader_tells hosts.new) }
+    ensures alone { touches (lone store.old) (act_of step.now) ≡ false
+        → MeetsAlone store.old store.new (tells_of writer_tells reader_tells hosts.old)
+        (tells_of writer_tells reader_tells hosts.new) result (act_of step.now) }
+    ensures err { IfErr result (Leaves (act_of step.now) store.old store.new
+        (tells_of writer_tells reader_tells hosts.old) (tells_of writer_tells reader_tells hosts.new)) }
     ensures settled { IfOk result (λ reply. IsTrue (is_settled reply)) }
     ensures refused { (refusal : Refusal) → result ≢ Err (StoreError.Refused refusal) }
-    ensures takes_no_memory { takes_memory step.now ≡ false → result ≢ Err StoreError.OutOfMemory }
+    ensures takes_no_memory { takes_memory step.now ≡ false → touches (lone store.old) (act_of step.now) ≡ false
+        → result ≢ Err StoreError.OutOfMemory }
 {
-    reply(perform(store, Act::of(step)))
+    reply(perform(store, hosts, Act::of(step)))
 }
 
 // A refusal is a reply.
@@ -48,16 +69,23 @@ fn done(_nothing: ()) -> Reply
 
 // The one call that an act names.
 #[inline(always)]
-fn perform(store: &mut Store, act: Act) -> Result<Reply, StoreError>
-    ensures meets { Meets store.old store.new result (reaction store.old act) }
+fn perform(store: &mut Store, hosts: &mut Hosts, act: Act) -> Result<Reply, StoreError>
+    requires fits { Fits store.old (tells_of writer_tells reader_tells hosts.old) }
+    ensures meets { MeetsHosted store.old store.new (tells_of writer_tells reader_tells hosts.old)
+        (tells_of writer_tells reader_tells hosts.new) result act }
     ensures settled { IfOk result (λ reply. IsTrue (is_settled reply)) }
-    ensures takes_no_memory { act_takes_memory act ≡ false → result ≢ Err StoreError.OutOfMemory }
+    ensures takes_no_memory { act_takes_memory act ≡ false → touches (lone store.old) act ≡ false
+        → result ≢ Err StoreError.OutOfMemory }
 {
+    store.sound();
+    store.served();
     match act {
         Act::Make { making } => make(store, making),
-        Act::OnEnd { side, end, act } => on_end(store, side, &end, act),
-        Act::OnLoose { reader, act } => on_loose(store, reader, act),
-        Act::Event { guest, handle } => store.take_event(guest, handle).map(Reply::Event),
+        Act::OnEnd { side, end, act } => on_end(store, hosts, side, &end, act),
+        Act::OnLoose { reader, act } => on_loose(store, hosts, reader, act),
+        Act::OnHost { host, act } => on_host(store, hosts, host, act),
+        Act::Drive => store.drive_once(hosts).map(done),
+        Act::Event { guest, handle } => event(store, guest, handle),
         Act::OnSet { guest, set, act } => on_set(store, guest, set, act),
         Act::OnContext { guest, handle, act } => on_context(store, guest, handle, act),
         Act::OnMemory { guest, act } => on_memory(store, guest, act),
@@ -87,38 +115,123 @@ fn make(store: &mut Store, making: Making) -> Result<Reply, StoreError>
     }
 }
 
+// The operation of an end is cancelled.
+fn cancel(store: &mut Store, side: Side, end: &NamedEnd) -> Result<Reply, StoreError>
+    ensures meets { Meets store.old store.new result
+        (reaction store.old (acts.OnEnd side end.now end_acts.Cancel)) }
+    ensures settled { IfOk result (λ reply. IsTrue (is_settled reply)) }
+    ensures takes_no_memory { result ≢ Err StoreError.OutOfMemory }
+{
+    store.cancel_side(side, end).map(Reply::Code)
+}
+
+// An end goes to a guest.
+fn transfer(store: &mut Store, side: Side, end: &NamedEnd, to: u32) -> Result<Reply, StoreError>
+    ensures meets { Meets store.old store.new result
+        (reaction store.old (acts.OnEnd side end.now (end_acts.Move to))) }
+    ensures settled { IfOk result (λ reply. IsTrue (is_settled reply)) }
+{
+    store.move_side(side, end, to).map(Reply::Number)
+}
+
+// An end leaves its guest.
+fn lift(store: &mut Store, side: Side, end: &NamedEnd) -> Result<Reply, StoreError>
+    ensures meets { Meets store.old store.new result
+        (reaction store.old (acts.OnEnd side end.now end_acts.Lift)) }
+    ensures settled { IfOk result (λ reply. IsTrue (is_settled reply)) }
+    ensures takes_no_memory { result ≢ Err StoreError.OutOfMemory }
+{
+    store.lift_side(side, end).map(Reply::Number)
+}
+
 // What is done to the end that is named.
 #[inline(always)]
-fn on_end(store: &mut Store, side: Side, end: &NamedEnd, act: EndAct) -> Result<Reply, StoreError>
-    ensures meets { Meets store.old store.new result
-        (reaction store.old (acts.OnEnd side end.now act)) }
+fn on_end(
+    store: &mut Store,
+    hosts: &mut Hosts,
+    side: Side,
+    end: &NamedEnd,
+    act: EndAct,
+) -> Result<Reply, StoreError>
+    requires fits { Fits store.old (tells_of writer_tells reader_tells hosts.old) }
+    ensures meets { MeetsHosted store.old store.new (tells_of writer_tells reader_tells hosts.old)
+        (tells_of writer_tells reader_tells hosts.new) result (acts.OnEnd side end.now act) }
     ensures settled { IfOk result (λ reply. IsTrue (is_settled reply)) }
-    ensures takes_no_memory { act_takes_memory (acts.OnEnd side end.now act) ≡ false
+    ensures takes_no_memory { act_takes_memory (acts.OnEnd side end.now act) ≡ false → touches (lone store.old) (acts.OnEnd side end.now act) ≡ false
         → result ≢ Err StoreError.OutOfMemory }
 {
+    store.sound();
+    store.served();
     match act {
         EndAct::Operate { address, count } => {
-            store.operate(side, end, address, count).map(Reply::Code)
+            store
+                .operate(hosts, side, end, address, count)
+                .map(Reply::Code)
         }
-        EndAct::Drop => store.drop_side(side, end).map(done),
-        EndAct::Cancel => store.cancel_side(side, end).map(Reply::Code),
-        EndAct::Move { to } => store.move_side(side, end, to).map(Reply::Number),
-        EndAct::Lift => store.lift_side(side, end).map(Reply::Number),
+        EndAct::Drop => store.drop_side(hosts, side, end).map(done),
+        EndAct::Cancel => cancel(store, side, end),
+        EndAct::Move { to } => transfer(store, side, end, to),
+        EndAct::Lift => lift(store, side, end),
     }
 }
 
-// What is done to the loose read end of a stream.
-fn on_loose(store: &mut Store, reader: u32, act: LooseAct) -> Result<Reply, StoreError>
+// A loose read end comes into a guest.
+fn lower(store: &mut Store, reader: u32, guest: u32, ty: TransmitIndex) -> Result<Reply, StoreError>
     ensures meets { Meets store.old store.new result
-        (reaction store.old (acts.OnLoose reader act)) }
+        (reaction store.old (acts.OnLoose reader (loose_acts.Lower guest ty))) }
     ensures settled { IfOk result (λ reply. IsTrue (is_settled reply)) }
-    ensures takes_no_memory { act_takes_memory (acts.OnLoose reader act) ≡ false
+{
+    store.lower(reader, guest, ty).map(Reply::Number)
+}
+
+// What is done to the loose read end of a stream.
+fn on_loose(
+    store: &mut Store,
+    hosts: &mut Hosts,
+    reader: u32,
+    act: LooseAct,
+) -> Result<Reply, StoreError>
+    requires fits { Fits store.old (tells_of writer_tells reader_tells hosts.old) }
+    ensures meets { MeetsHosted store.old store.new (tells_of writer_tells reader_tells hosts.old)
+        (tells_of writer_tells reader_tells hosts.new) result (acts.OnLoose reader act) }
+    ensures settled { IfOk result (λ reply. IsTrue (is_settled reply)) }
+    ensures takes_no_memory { act_takes_memory (acts.OnLoose reader act) ≡ false → touches (lone store.old) (acts.OnLoose reader act) ≡ false
         → result ≢ Err StoreError.OutOfMemory }
 {
+    store.sound();
+    store.served();
     match act {
-        LooseAct::Lower { guest, ty } => store.lower(reader, guest, ty).map(Reply::Number),
-        LooseAct::Close => store.close(reader).map(done),
+        LooseAct::Lower { guest, ty } => lower(store, reader, guest, ty),
+        LooseAct::Close => store.close(hosts, reader).map(done),
     }
+}
+
+// What is done to a host writer.
+fn on_host(
+    store: &mut Store,
+    hosts: &mut Hosts,
+    host: u32,
+    act: HostAct,
+) -> Result<Reply, StoreError>
+    requires fits { Fits store.old (tells_of writer_tells reader_tells hosts.old) }
+    ensures meets { MeetsHosted store.old store.new (tells_of writer_tells reader_tells hosts.old)
+        (tells_of writer_tells reader_tells hosts.new) result (acts.OnHost host act) }
+    ensures settled { IfOk result (λ reply. IsTrue (is_settled reply)) }
+{
+    match act {
+        HostAct::New => store.host_new(hosts, host).map(Reply::Number),
+        HostAct::Feed { bytes } => store.feed(hosts, host, &bytes).map(done),
+    }
+}
+
+// What an end is to be told.
+fn event(store: &mut Store, guest: u32, handle: u32) -> Result<Reply, StoreError>
+    ensures meets { Meets store.old store.new result
+        (reaction store.old (acts.Event guest handle)) }
+    ensures settled { IfOk result (λ reply. IsTrue (is_settled reply)) }
+    ensures takes_no_memory { result ≢ Err StoreError.OutOfMemory }
+{
+    store.take_event(guest, handle).map(Reply::Event)
 }
 
 // The least member of a waitable set that is ready is told its report.

@@ -8,6 +8,8 @@ mod cancels;
 #[cfg(test)]
 mod contexts;
 #[cfg(test)]
+mod hosts;
+#[cfg(test)]
 mod making;
 #[cfg(test)]
 mod meetings;

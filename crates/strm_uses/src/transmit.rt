@@ -5,6 +5,7 @@ ghost use Rattle.strm_codes.specs.declared.codes.ReturnCode.TheVariants.{Complet
 ghost use Rattle.strm_machine.specs.State.{memory_in, stream_at};
 
 use std::alloc::Global;
+use strm_buffers::hosts::Hosts;
 use strm_codes::codes::{ReturnCode, TransmitIndex};
 use strm_codes::payloads::Payload;
 use strm_codes::scalars::Scalar;
@@ -37,13 +38,17 @@ pub fn pass_three(alloc: Global, bytes: &Chunk) -> Result<Passed, StoreError>
     ensures moved { IfOk result (λ passed. (stream_at passed.store 0).received ≡ 3) }
 {
     let mut store = Store::new(alloc, 0, LIMITS);
+    let mut hosts = Hosts {
+        writers: Vec::new(alloc),
+        readers: Vec::new(alloc),
+    };
     let writer = store.add_guest(16)?;
     let reader = store.add_guest(16)?;
     let pair = store.new_between(writer, reader, TransmitIndex::Stream(BYTES))?;
     bytes.sound();
     store.poke(writer, 0, bytes)?;
-    store.stream_write(writer, BYTES, pair.write, 0, 3)?;
-    let read = store.stream_read(reader, BYTES, pair.read, 0, 3)?;
+    store.stream_write(&mut hosts, writer, BYTES, pair.write, 0, 3)?;
+    let read = store.stream_read(&mut hosts, reader, BYTES, pair.read, 0, 3)?;
     let told = store.take_event(writer, pair.write)?;
     Ok(Passed { store, read, told })
 }

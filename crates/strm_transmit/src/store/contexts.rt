@@ -255,7 +255,8 @@ impl Store {
     }
 
     // What a handle names is there.
-    fn sound(&self)
+    #[inline(always)]
+    pub(crate) fn sound(&self)
         ensures { IsSound self.now }
     {
         let _ = &self.contexts;

@@ -7,6 +7,8 @@
 
 ghost use Rattle.std.specs.Prelude.{◌≡◌, ◌≢◌, ◌<◌, length, Err, None, IfOk, IfErr};
 ghost use Rattle.strm_codes.specs.declared.codes.TransmitIndex.TheVariants as index;
+ghost use Rattle.strm_buffers.specs.AllTells.{tells_of};
+ghost use Rattle.strm_machine.specs.Acts.{act_of};
 ghost use Rattle.strm_machine.specs.Tests.{named, end_named, stream_named, side_named};
 ghost use Rattle.strm_machine.specs.Refusals.{refusal, first_of, slot_reasons};
 ghost use Rattle.strm_machine.specs.Reactions.{goes, tells, cancels, react, reaction};
@@ -15,11 +17,14 @@ ghost use Rattle.strm_machine.specs.declared.acts.EndAct.TheVariants.{Drop, Canc
 ghost use Rattle.strm_machine.specs.declared.replies.Reply.TheVariants as replies;
 ghost use Rattle.strm_machine.specs.declared.steps.Step.TheVariants as steps;
 ghost use Rattle.strm_machine.proofs.NameLemmas.{IsEndError};
+ghost use Rattle.strm_world.specs.Does.{Fits};
 ghost use Rattle.strm_transmit.specs.Meets.{Meets, replied, or_found};
+ghost use Rattle.strm_transmit.specs.Hosted.{MeetsHosted};
 
 use crate::errors::StoreError;
 use crate::store::Store;
 use crate::store::refusals::side_of;
+use strm_buffers::hosts::Hosts;
 use strm_codes::codes::{ReturnCode, TransmitIndex};
 use strm_codes::payloads::Payload;
 use strm_codes::refusals::Refusal;
@@ -112,14 +117,24 @@ impl Store {
 
     /// Drops the end that a handle names, which is gone then; a stream whose both ends are gone is
     /// removed at once.
-    pub(crate) fn drop_side(&mut self, side: Side, end: &NamedEnd) -> Result<(), StoreError>
-        ensures meets { Meets self.old self.new (replied (λ _. replies.Done) result)
-            (reaction self.old (OnEnd side end.now Drop)) }
+    pub(crate) fn drop_side(
+        &mut self,
+        hosts: &mut Hosts,
+        side: Side,
+        end: &NamedEnd,
+    ) -> Result<(), StoreError>
+        requires fits { Fits self.old (tells_of writer_tells reader_tells hosts.old) }
+        ensures meets { MeetsHosted self.old self.new (tells_of writer_tells reader_tells hosts.old)
+            (tells_of writer_tells reader_tells hosts.new) (replied (λ _. replies.Done) result)
+            (OnEnd side end.now Drop) }
         ensures takes_no_memory { result ≢ Err StoreError.OutOfMemory }
     {
+        self.sound();
+        self.served();
         match self.admit(self.drop_found(side, end)) {
             Ok(stream) => {
                 self.release(side, end, stream, Owner::Gone);
+                self.forsake(hosts, stream);
                 Ok(())
             }
             Err(error) => Err(error),
@@ -129,66 +144,78 @@ impl Store {
     /// Drops the read end of a stream.
     pub fn stream_drop_readable(
         &mut self,
+        hosts: &mut Hosts,
         guest: u32,
         payload: Payload,
         handle: u32,
     ) -> Result<(), StoreError>
-        ensures meets { Meets self.old self.new (replied (λ _. replies.Done) result)
-            (react self.old (steps.DropRead guest (index.Stream payload) handle)) }
+        requires fits { Fits self.old (tells_of writer_tells reader_tells hosts.old) }
+        ensures meets { MeetsHosted self.old self.new (tells_of writer_tells reader_tells hosts.old)
+            (tells_of writer_tells reader_tells hosts.new) (replied (λ _. replies.Done) result)
+            (act_of (steps.DropRead guest (index.Stream payload) handle)) }
         ensures takes_no_memory { result ≢ Err StoreError.OutOfMemory }
     {
         let ty = TransmitIndex::Stream(payload);
         let end = NamedEnd { guest, ty, handle };
-        self.drop_side(Side::Reading, &end)
+        self.drop_side(hosts, Side::Reading, &end)
     }
 
     /// Drops the write end of a stream.
     pub fn stream_drop_writable(
         &mut self,
+        hosts: &mut Hosts,
         guest: u32,
         payload: Payload,
         handle: u32,
     ) -> Result<(), StoreError>
-        ensures meets { Meets self.old self.new (replied (λ _. replies.Done) result)
-            (react self.old (steps.DropWrite guest (index.Stream payload) handle)) }
+        requires fits { Fits self.old (tells_of writer_tells reader_tells hosts.old) }
+        ensures meets { MeetsHosted self.old self.new (tells_of writer_tells reader_tells hosts.old)
+            (tells_of writer_tells reader_tells hosts.new) (replied (λ _. replies.Done) result)
+            (act_of (steps.DropWrite guest (index.Stream payload) handle)) }
         ensures takes_no_memory { result ≢ Err StoreError.OutOfMemory }
     {
         let ty = TransmitIndex::Stream(payload);
         let end = NamedEnd { guest, ty, handle };
-        self.drop_side(Side::Writing, &end)
+        self.drop_side(hosts, Side::Writing, &end)
     }
 
     /// Drops the read end of a future.
     pub fn future_drop_readable(
         &mut self,
+        hosts: &mut Hosts,
         guest: u32,
         payload: Payload,
         handle: u32,
     ) -> Result<(), StoreError>
-        ensures meets { Meets self.old self.new (replied (λ _. replies.Done) result)
-            (react self.old (steps.DropRead guest (index.Future payload) handle)) }
+        requires fits { Fits self.old (tells_of writer_tells reader_tells hosts.old) }
+        ensures meets { MeetsHosted self.old self.new (tells_of writer_tells reader_tells hosts.old)
+            (tells_of writer_tells reader_tells hosts.new) (replied (λ _. replies.Done) result)
+            (act_of (steps.DropRead guest (index.Future payload) handle)) }
         ensures takes_no_memory { result ≢ Err StoreError.OutOfMemory }
     {
         let ty = TransmitIndex::Future(payload);
         let end = NamedEnd { guest, ty, handle };
-        self.drop_side(Side::Reading, &end)
+        self.drop_side(hosts, Side::Reading, &end)
     }
 
     /// Drops the write end of a future, which is refused before its value passed or it was told
     /// that nobody reads it.
     pub fn future_drop_writable(
         &mut self,
+        hosts: &mut Hosts,
         guest: u32,
         payload: Payload,
         handle: u32,
     ) -> Result<(), StoreError>
-        ensures meets { Meets self.old self.new (replied (λ _. replies.Done) result)
-            (react self.old (steps.DropWrite guest (index.Future payload) handle)) }
+        requires fits { Fits self.old (tells_of writer_tells reader_tells hosts.old) }
+        ensures meets { MeetsHosted self.old self.new (tells_of writer_tells reader_tells hosts.old)
+            (tells_of writer_tells reader_tells hosts.new) (replied (λ _. replies.Done) result)
+            (act_of (steps.DropWrite guest (index.Future payload) handle)) }
         ensures takes_no_memory { result ≢ Err StoreError.OutOfMemory }
     {
         let ty = TransmitIndex::Future(payload);
         let end = NamedEnd { guest, ty, handle };
-        self.drop_side(Side::Writing, &end)
+        self.drop_side(hosts, Side::Writing, &end)
     }
 
     // The stream whose end a handle of a guest names, where that end has an operation.

@@ -4,30 +4,38 @@
 //! `canon stream.{read,write}` and `canon future.{read,write}`; wasmtime, `guest_read` and
 //! `guest_write`.
 
-ghost use Rattle.std.specs.Prelude.{◌≡◌, ◌≢◌, ◌<◌, ◌↔◌, length, true, false, Err, IfOk, OnOk, IsTrue, IsErr};
+ghost use Rattle.std.specs.Prelude.{◌≡◌, ◌≢◌, ◌<◌, ◌↔◌, length, true, false, Err, IfOk, OnOk, IfSome, IfNone, IsTrue, IsErr};
 ghost use Rattle.strm_codes.specs.declared.codes.TransmitIndex.TheVariants as index;
 ghost use Rattle.strm_memory.specs.Items.{is_number_or_none};
-ghost use Rattle.strm_machine.specs.State.{stream_at};
+ghost use Rattle.strm_buffers.specs.AllTells.{tells_of};
+ghost use Rattle.strm_machine.specs.Acts.{act_of};
+ghost use Rattle.strm_machine.specs.State.{stream_at, is_host};
 ghost use Rattle.strm_machine.specs.Meetings.{begun};
 ghost use Rattle.strm_machine.specs.Sides.{opposite, end_of};
 ghost use Rattle.strm_machine.specs.Tests.{is_too_big, items_asked, named, stream_named, is_open_of};
 ghost use Rattle.strm_machine.specs.Refusals.{first_of, region_reasons, refusal};
-ghost use Rattle.strm_machine.specs.Reactions.{react, reaction, on_stream};
+ghost use Rattle.strm_machine.specs.Reactions.{on_stream};
 ghost use Rattle.strm_machine.specs.Soundness.{sizes_of, IsPlaced};
 ghost use Rattle.strm_machine.specs.declared.acts.Act.TheVariants.{OnEnd};
 ghost use Rattle.strm_machine.specs.declared.acts.EndAct.TheVariants.{Operate};
 ghost use Rattle.strm_machine.specs.declared.replies.Reply.TheVariants as replies;
 ghost use Rattle.strm_machine.specs.declared.steps.Step.TheVariants as steps;
+ghost use Rattle.strm_machine.specs.declared.streams.Owner.TheVariants.{Host};
+ghost use Rattle.strm_machine.specs.declared.streams.Side.TheVariants.{Writing, Reading};
+ghost use Rattle.strm_world.specs.Steps.{touches};
+ghost use Rattle.strm_world.specs.Does.{Fits};
 ghost use Rattle.strm_transmit.specs.Meets.{Meets, replied, or_found};
+ghost use Rattle.strm_transmit.specs.Hosted.{lone, MeetsHosted};
 
 use crate::errors::StoreError;
 use crate::store::Store;
+use strm_buffers::hosts::Hosts;
 use strm_codes::codes::{ReturnCode, TransmitIndex};
 use strm_codes::counts::{ItemCount, StreamOpTooBig};
 use strm_codes::payloads::Payload;
 use strm_codes::refusals::Refusal;
 use strm_machine::acts::{EndAct, NamedEnd};
-use strm_machine::streams::{Operation, Side};
+use strm_machine::streams::{Operation, Owner, Side};
 use strm_memory::memories::RegionError;
 use strm_turns::guests::memory;
 use strm_turns::turns::{begin, take_turn};
@@ -97,6 +105,20 @@ impl Store {
         }
     }
 
+    // The host writer on the other side of an end, if there is one.
+    #[inline(always)]
+    fn writer_across(&self, side: Side, stream: u32) -> Option<u32>
+        requires { stream < length self.now.streams }
+        ensures some { IfSome result (λ number. (side ≡ Reading) × ((stream_at self.now stream).writer.owner ≡ Host number)) }
+        ensures none { IfNone result (is_host (end_of (opposite side) (stream_at self.now stream)).owner ≡ false) }
+    {
+        self.served();
+        match (side, self.stream(stream).writer.owner) {
+            (Side::Reading, Owner::Host { number }) => Some(number),
+            _ => None,
+        }
+    }
+
     // A read or write on a stream, done.
     #[inline(always)]
     fn take(&mut self, side: Side, stream: u32, mine: Operation) -> Result<ReturnCode, StoreError>
@@ -123,17 +145,30 @@ impl Store {
     #[inline(always)]
     pub(crate) fn operate(
         &mut self,
+        hosts: &mut Hosts,
         side: Side,
         end: &NamedEnd,
         address: u32,
         count: u32,
     ) -> Result<ReturnCode, StoreError>
-        ensures meets { Meets self.old self.new (replied replies.Code result)
-            (reaction self.old (OnEnd side end.now (Operate address count))) }
-        ensures takes_no_memory { result ≢ Err StoreError.OutOfMemory }
+        requires fits { Fits self.old (tells_of writer_tells reader_tells hosts.old) }
+        ensures meets { MeetsHosted self.old self.new (tells_of writer_tells reader_tells hosts.old)
+            (tells_of writer_tells reader_tells hosts.new) (replied replies.Code result)
+            (OnEnd side end.now (Operate address count)) }
+        ensures writes { side ≡ Writing → result ≢ Err StoreError.OutOfMemory }
+        ensures takes_no_memory { touches (lone self.old) (OnEnd side end.now (Operate address count)) ≡ false
+            → result ≢ Err StoreError.OutOfMemory }
     {
+        self.sound();
+        self.served();
         match self.admit(self.operation_found(side, end, address, count)) {
-            Ok(found) => self.take(side, found.0, begin(end.guest, address, found.1)),
+            Ok(found) => {
+                let mine = begin(end.guest, address, found.1);
+                match self.writer_across(side, found.0) {
+                    Some(number) => self.read_from(hosts, found.0, number, mine),
+                    None => self.take(side, found.0, mine),
+                }
+            }
             Err(error) => Err(error),
         }
     }
@@ -141,70 +176,84 @@ impl Store {
     /// Reads items from a stream: `count` items go to `address` on in the guest's memory.
     pub fn stream_read(
         &mut self,
+        hosts: &mut Hosts,
         guest: u32,
         payload: Payload,
         handle: u32,
         address: u32,
         count: u32,
     ) -> Result<ReturnCode, StoreError>
-        ensures meets { Meets self.old self.new (replied replies.Code result)
-            (react self.old (steps.Read guest (index.Stream payload) handle address count)) }
-        ensures takes_no_memory { result ≢ Err StoreError.OutOfMemory }
+        requires fits { Fits self.old (tells_of writer_tells reader_tells hosts.old) }
+        ensures meets { MeetsHosted self.old self.new (tells_of writer_tells reader_tells hosts.old)
+            (tells_of writer_tells reader_tells hosts.new) (replied replies.Code result)
+            (act_of (steps.Read guest (index.Stream payload) handle address count)) }
+        ensures takes_no_memory { touches (lone self.old) (act_of (steps.Read guest (index.Stream payload) handle address count)) ≡ false
+            → result ≢ Err StoreError.OutOfMemory }
     {
         let ty = TransmitIndex::Stream(payload);
         let end = NamedEnd { guest, ty, handle };
-        self.operate(Side::Reading, &end, address, count)
+        self.operate(hosts, Side::Reading, &end, address, count)
     }
 
     /// Writes items to a stream: `count` items from `address` on in the guest's memory.
     pub fn stream_write(
         &mut self,
+        hosts: &mut Hosts,
         guest: u32,
         payload: Payload,
         handle: u32,
         address: u32,
         count: u32,
     ) -> Result<ReturnCode, StoreError>
-        ensures meets { Meets self.old self.new (replied replies.Code result)
-            (react self.old (steps.Write guest (index.Stream payload) handle address count)) }
+        requires fits { Fits self.old (tells_of writer_tells reader_tells hosts.old) }
+        ensures meets { MeetsHosted self.old self.new (tells_of writer_tells reader_tells hosts.old)
+            (tells_of writer_tells reader_tells hosts.new) (replied replies.Code result)
+            (act_of (steps.Write guest (index.Stream payload) handle address count)) }
         ensures takes_no_memory { result ≢ Err StoreError.OutOfMemory }
     {
         let ty = TransmitIndex::Stream(payload);
         let end = NamedEnd { guest, ty, handle };
-        self.operate(Side::Writing, &end, address, count)
+        self.operate(hosts, Side::Writing, &end, address, count)
     }
 
     /// Reads a future's value, to `address` in the guest's memory.
     pub fn future_read(
         &mut self,
+        hosts: &mut Hosts,
         guest: u32,
         payload: Payload,
         handle: u32,
         address: u32,
     ) -> Result<ReturnCode, StoreError>
-        ensures meets { Meets self.old self.new (replied replies.Code result)
-            (react self.old (steps.Read guest (index.Future payload) handle address 1)) }
-        ensures takes_no_memory { result ≢ Err StoreError.OutOfMemory }
+        requires fits { Fits self.old (tells_of writer_tells reader_tells hosts.old) }
+        ensures meets { MeetsHosted self.old self.new (tells_of writer_tells reader_tells hosts.old)
+            (tells_of writer_tells reader_tells hosts.new) (replied replies.Code result)
+            (act_of (steps.Read guest (index.Future payload) handle address 1)) }
+        ensures takes_no_memory { touches (lone self.old) (act_of (steps.Read guest (index.Future payload) handle address 1)) ≡ false
+            → result ≢ Err StoreError.OutOfMemory }
     {
         let ty = TransmitIndex::Future(payload);
         let end = NamedEnd { guest, ty, handle };
-        self.operate(Side::Reading, &end, address, 1)
+        self.operate(hosts, Side::Reading, &end, address, 1)
     }
 
     /// Writes a future's value, from `address` in the guest's memory.
     pub fn future_write(
         &mut self,
+        hosts: &mut Hosts,
         guest: u32,
         payload: Payload,
         handle: u32,
         address: u32,
     ) -> Result<ReturnCode, StoreError>
-        ensures meets { Meets self.old self.new (replied replies.Code result)
-            (react self.old (steps.Write guest (index.Future payload) handle address 1)) }
+        requires fits { Fits self.old (tells_of writer_tells reader_tells hosts.old) }
+        ensures meets { MeetsHosted self.old self.new (tells_of writer_tells reader_tells hosts.old)
+            (tells_of writer_tells reader_tells hosts.new) (replied replies.Code result)
+            (act_of (steps.Write guest (index.Future payload) handle address 1)) }
         ensures takes_no_memory { result ≢ Err StoreError.OutOfMemory }
     {
         let ty = TransmitIndex::Future(payload);
         let end = NamedEnd { guest, ty, handle };
-        self.operate(Side::Writing, &end, address, 1)
+        self.operate(hosts, Side::Writing, &end, address, 1)
     }
 }

@@ -1,20 +1,36 @@
-use Rattle.std.proofs.Common.{sym, ap, ◌∙◌, refl}
-use Rattle.strm_machine.specs.Endings.{dropped}
-use Rattle.strm_machine.specs.Reactions.{goes, closes, performs}
-use Rattle.strm_machine.specs.declared.replies.Reply.TheVariants as replies
-use Rattle.strm_transmit.proofs.StepLemmas.{is_admitted, reacts, meets_not_admitted}
+use Rattle.std.proofs.Common.{rules}
+use Rattle.strm_machine.specs.declared.acts.LooseAct.TheVariants.{Close}
+use Rattle.strm_transmit.proofs.StepLemmas.{is_admitted, meets_not_admitted}
+use Rattle.strm_transmit.proofs.HostStepLemmas.{hosted_not_admitted}
+use Rattle.strm_transmit.proofs.DropLemmas.{drops-loose, drops-loose-alone, dropped-fits, drops-hosted, refused-loose, still_made}
 use Rattle.strm_transmit.proofs.MoveLemmas.{close_made}
 use Rattle.strm_transmit.proofs.store.Store.close.Goals as goal
 
-pub own-requires : goal.own-requires
-own-requires c = close_made c.args.self.now c.args.reader (is_admitted _ _ _ _ _ c.close_fits.ensures c.in-Ok.ensures.exact).none
+pub own-requires-clause-there : goal.own-requires-clause-there
+own-requires-clause-there g c = close_made c.args.self.now c.args.reader (is_admitted _ _ _ _ _ c.close_fits.ensures c.in-Ok.ensures.exact).none
+
+pub forsake-requires-clause-fits : goal.forsake-requires-clause-fits
+forsake-requires-clause-fits g c =
+    let found = is_admitted _ _ _ _ _ c.close_fits.ensures c.in-Ok.ensures.exact in
+    dropped-fits _ _ _ _ _ _
+    (drops-loose c.args.self.now c.own.new.self _ c.args.reader _ (record { sound = c.sound.ensures; served = c.served.ensures; fits = c.requires.fits })
+    found (close_made c.args.self.now c.args.reader found.none) c.own.ensures)
 
 pub returns-in-Ok-clause-meets : goal.returns-in-Ok-clause-meets
-unfolding dropped performs
-returns-in-Ok-clause-meets c =
-    reacts _ _ _ _ _ (λ _. closes c.args.self.now c.args.reader)
-    (is_admitted _ _ _ _ _ c.close_fits.ensures c.in-Ok.ensures.exact) refl
-    ∙ ap (goes replies.Done) (sym c.own.ensures)
+returns-in-Ok-clause-meets g c =
+    let found = is_admitted _ _ _ _ _ c.close_fits.ensures c.in-Ok.ensures.exact in
+    let drops = drops-loose c.args.self.now c.own.new.self _ c.args.reader _ (record { sound = c.sound.ensures; served = c.served.ensures; fits = c.requires.fits })
+    found (close_made c.args.self.now c.args.reader found.none) c.own.ensures in
+    drops-hosted _ _ _ _ _ _ drops _ _ c.forsake.ensures.does c.forsake.ensures.fits
+    (λ u. c.forsake.ensures.alone (drops-loose-alone _ _ _ c.args.reader drops u))
+    (λ u. c.forsake.ensures.untold (drops-loose-alone _ _ _ c.args.reader drops u))
 
 pub returns-in-Err-clause-meets : goal.returns-in-Err-clause-meets
-returns-in-Err-clause-meets c = meets_not_admitted _ _ _ _ _ c.close_fits.ensures c.in-Err.ensures.exact
+returns-in-Err-clause-meets g c =
+    hosted_not_admitted c.args.self.now _ _ _ _ _ _ (λ logs. refused-loose _ c.args.reader Close) c.close_fits.ensures c.in-Err.ensures.exact c.requires.fits
+    (λ u. meets_not_admitted _ _ _ _ _ c.close_fits.ensures c.in-Err.ensures.exact)
+
+pub forsake-requires-clause-there : goal.forsake-requires-clause-there
+forsake-requires-clause-there g c =
+    still_made c.args.self.now c.own.new.self c.args.reader _ c.own.ensures
+    (close_made c.args.self.now c.args.reader (is_admitted _ _ _ _ _ c.close_fits.ensures c.in-Ok.ensures.exact).none)

@@ -1,28 +1,35 @@
-use Rattle.std.proofs.Common.{sym, ap, ◌∙◌}
-use Rattle.strm_machine.specs.Endings.{dropped}
-use Rattle.strm_machine.specs.Reactions.{goes, drops}
+use Rattle.std.proofs.Common.{rules, sym, ap, ◌∙◌}
 use Rattle.strm_machine.specs.declared.acts.EndAct.TheVariants.{Drop}
-use Rattle.strm_machine.specs.declared.replies.Reply.TheVariants as replies
-use Rattle.strm_machine.proofs.ReactionLemmas.{refusal-on_end, performs-on_end}
+use Rattle.strm_machine.proofs.ReactionLemmas.{refusal-on_end}
 use Rattle.strm_machine.proofs.RefusalLemmas.{drop_fits}
-use Rattle.strm_transmit.proofs.StepLemmas.{is_admitted, reacts, meets_not_admitted}
+use Rattle.strm_transmit.proofs.StepLemmas.{is_admitted, meets_not_admitted}
+use Rattle.strm_transmit.proofs.HostStepLemmas.{hosted_not_admitted}
+use Rattle.strm_transmit.proofs.DropLemmas.{drops-end, drops-end-alone, dropped-fits, drops-hosted, refused-end}
 use Rattle.strm_transmit.proofs.store.Store.drop_side.Goals as goal
 
 pub release-requires-clause-fits : goal.release-requires-clause-fits
-release-requires-clause-fits c =
+release-requires-clause-fits g c =
     drop_fits c.args.self.now c.args.side c.args.end.now
     (sym (refusal-on_end c.args.self.now c.args.side c.args.end.now Drop) ∙ (is_admitted _ _ _ _ _ c.drop_found.ensures.exact c.in-Ok.ensures.exact).none)
 
 pub release-requires-clause-stream : goal.release-requires-clause-stream
-release-requires-clause-stream c = (is_admitted _ _ _ _ _ c.drop_found.ensures.exact c.in-Ok.ensures.exact).same
+release-requires-clause-stream g c = (is_admitted _ _ _ _ _ c.drop_found.ensures.exact c.in-Ok.ensures.exact).same
 
-pub returns-in-Ok-clause-meets : goal.returns-in-Ok-clause-meets
-unfolding dropped
-returns-in-Ok-clause-meets c =
-    reacts _ _ _ _ _ (λ s. drops c.args.self.now s c.args.side c.args.end.now)
-    (is_admitted _ _ _ _ _ c.drop_found.ensures.exact c.in-Ok.ensures.exact)
-    (performs-on_end c.args.self.now c.args.side c.args.end.now Drop)
-    ∙ ap (goes replies.Done) (sym c.release.ensures)
+pub forsake-requires-clause-fits : goal.forsake-requires-clause-fits
+forsake-requires-clause-fits g c =
+    dropped-fits _ _ _ _ _ _
+    (drops-end c.args.self.now c.release.new.self _ c.args.side c.args.end.now c.in-Ok.stream _ (record { sound = c.sound.ensures; served = c.served.ensures; fits = c.requires.fits })
+    (is_admitted _ _ _ _ _ c.drop_found.ensures.exact c.in-Ok.ensures.exact) (search rules) c.release.ensures)
 
 pub returns-in-Err-clause-meets : goal.returns-in-Err-clause-meets
-returns-in-Err-clause-meets c = meets_not_admitted _ _ _ _ _ c.drop_found.ensures.exact c.in-Err.ensures.exact
+returns-in-Err-clause-meets g c =
+    hosted_not_admitted c.args.self.now _ _ _ _ _ _ (λ logs. refused-end _ c.args.side c.args.end.now Drop) c.drop_found.ensures.exact c.in-Err.ensures.exact c.requires.fits
+    (λ u. meets_not_admitted _ _ _ _ _ c.drop_found.ensures.exact c.in-Err.ensures.exact)
+
+pub returns-in-Ok-clause-meets : goal.returns-in-Ok-clause-meets
+returns-in-Ok-clause-meets g c =
+    let found = is_admitted _ _ _ _ _ c.drop_found.ensures.exact c.in-Ok.ensures.exact in
+    let drops = drops-end c.args.self.now c.release.new.self _ c.args.side c.args.end.now c.in-Ok.stream _ (record { sound = c.sound.ensures; served = c.served.ensures; fits = c.requires.fits }) found (search rules) c.release.ensures in
+    drops-hosted _ _ _ _ _ _ drops _ _ c.forsake.ensures.does c.forsake.ensures.fits
+    (λ u. c.forsake.ensures.alone (drops-end-alone _ _ _ c.args.side c.args.end.now c.in-Ok.stream drops found.same u))
+    (λ u. c.forsake.ensures.untold (drops-end-alone _ _ _ c.args.side c.args.end.now c.in-Ok.stream drops found.same u))

@@ -1,0 +1,188 @@
+-- A turn of a host writer in a store: what the machine does, whether the writer stays, is gone, or stops
+-- the call; and the host ends that the store needs then.
+use Rattle.std.proofs.Common.{◌≡◌, ◌≢◌, ℕ, ◌<◌, Bool, true, false, cond, List, [], ◌∷◌, length, get_or, set, Option, Result, Ok, Err, Some, None, refl, sym, ap, subst, ◌∙◌}
+use Rattle.std.proofs.lemmas.List.{length-set, get_or-set_same, set-get_or}
+use Rattle.strm_buffers.specs.Listing.{Item}
+use Rattle.strm_buffers.specs.Tells.{WriterTells, Tells, told_by, with_told, ClosesWriter}
+use Rattle.strm_machine.specs.State.{State, no_producer, no_stream, producer_at, stream_at}
+use Rattle.strm_machine.specs.Soundness.{sizes_of, IsPlaced, StreamIsPlaced}
+use Rattle.strm_codes.specs.declared.codes.ReturnCode.{ReturnCode}
+use Rattle.strm_codes.specs.declared.codes.ReturnCode.TheVariants.{Blocked}
+use Rattle.strm_machine.specs.Endings.{report_on, told_end, delivered}
+use Rattle.strm_machine.specs.Reactions.{Reaction, goes, tells as tells_end}
+use Rattle.strm_machine.specs.declared.replies.Reply.TheVariants as replies
+use Rattle.strm_machine.specs.declared.streams.Side.TheVariants.{Reading}
+use Rattle.strm_world.specs.Settling.{answered}
+use Rattle.strm_world.proofs.SettleLemmas.{Does-delivered, Does-blocked}
+use Rattle.strm_machine.specs.declared.streams.Duty.TheVariants.{Serves, Ended}
+use Rattle.strm_machine.specs.declared.streams.Operation.{Operation}
+use Rattle.strm_machine.specs.declared.streams.Owner.{Owner}
+use Rattle.strm_machine.specs.declared.streams.Owner.TheVariants.{Host, Gone}
+use Rattle.strm_machine.specs.declared.streams.Producer.{Producer}
+use Rattle.strm_machine.specs.declared.streams.Stream.{Stream}
+use Rattle.strm_world.specs.World.{World}
+use Rattle.strm_world.specs.Producing.{producer_turn}
+use Rattle.strm_world.specs.Does.{Fits, Does}
+use Rattle.strm_world.proofs.CloseLemmas.{ended_in}
+use Rattle.strm_world.proofs.PollLemmas.{IsServing}
+use Rattle.strm_world.proofs.SettleLemmas.{IsLeft}
+use Rattle.strm_world.proofs.TurnLemmas.{turned_but}
+use Rattle.strm_producing.specs.Turning.{Scene, Polled, TurnsEmpty, TurnsHolding, Turns}
+use Rattle.strm_producing.specs.declared.turns.TurnError.{TurnError}
+use Rattle.strm_producing.specs.declared.turns.TurnError.TheVariants.{Failed, OutOfMemory, Broke}
+use Rattle.strm_producing.proofs.StepLemmas.{scene_in, told_in, turned_in, stop_of, turn_stays, turn_left, turn_stops}
+use Rattle.strm_transmit.specs.Inside.{AreServed}
+use Rattle.strm_transmit.specs.Turning.{TurnsStream}
+use Rattle.strm_transmit.proofs.ServedLemmas.{at_set, serving_kept, ended_no}
+use Rattle.strm_transmit.proofs.FitsLemmas.{SameType, Retells, Fits-told, set-types}
+use Rattle.strm_transmit.proofs.SceneLemmas.{SceneKeeps, turn_keeps}
+
+-- ## A turn that stops keeps what is kept of the writer
+
+polled_producer : (e : TurnError) (old after : Scene) (read : Operation) → Polled (Err e) old after read → after.producer ≡ old.producer
+polled_producer Failed old after read t = ap (λ (x : Scene). x.producer) t.1.stopped.after
+polled_producer Broke old after read t = ap (λ (x : Scene). x.producer) t.1.stopped.after
+polled_producer OutOfMemory old after read t = ap (λ (x : Scene). x.producer) t.1.stopped.after
+
+empty_producer : (over : Bool) (e : TurnError) (old after : Scene) (read : Operation) → TurnsEmpty over (Err e) old after read → after.producer ≡ old.producer
+empty_producer true e old after read t = cc (t.0)
+empty_producer false e old after read t = polled_producer e old after read t
+
+holding_producer : (held : List Item) (e : TurnError) (old after : Scene) (read : Operation) → TurnsHolding held (Err e) old after read → after.producer ≡ old.producer
+holding_producer (item ∷ items) e old after read t = cc (t.0)
+holding_producer [] e old after read t = empty_producer old.producer.over e old after read t
+
+-- ## In a store
+
+-- a read for which a host writer has its turn
+pub record IsServed (old : State) (tells : Tells) (n s : ℕ) (read : Operation) : Type 0 where
+  pub served : AreServed old.producers old.streams
+  pub made : s < length old.streams
+  pub owner : (stream_at old s).writer.owner ≡ Host n
+  pub fits : Fits old tells
+  pub read_placed : IsPlaced (sizes_of old.guests) (stream_at old s).payload read
+  pub placed : StreamIsPlaced (sizes_of old.guests) (stream_at old s)
+
+module _ (old : State) (tells : Tells) (n s : ℕ) (read : Operation) (h : IsServed old tells n s read) where
+  pub duty : (producer_at old n).duty ≡ Serves s
+  duty = h.served.serves n s h.owner
+
+  kept : n < length old.producers
+  kept = serving_kept old.producers n s duty
+
+  pub there : n < length tells.writers
+  there = (h.fits n s duty).there
+
+  serving : IsServing old tells n s
+  serving = record { there = there; kept = kept; duty = duty }
+
+  module _ (mid : State) (told : Tells) (result : Result (Unit {0}) TurnError) (t : TurnsStream old mid tells told n s read result) where
+    keeps : SceneKeeps (scene_in old tells n s) t.after
+    keeps = turn_keeps (scene_in old tells n s) read h.read_placed h.placed result t.after t.turns
+
+    turned-fits : Fits (turned_in old n s t.after) (told_in tells n t.after)
+    turned-fits =
+        Fits-told old (turned_in old n s t.after) tells n t.after.tells
+        (record {
+          there = there;
+          kind = keeps.kind;
+          payload = keeps.payload;
+          duties = λ m k. at_set old.producers n t.after.producer no_producer m (λ q. q.duty ≡ Serves k → (producer_at old m).duty ≡ Serves k) kept
+              (λ e f. rw e (sym keeps.duty ∙ f)) (λ _ f. f);
+          types = λ k. set-types old.streams s t.after.stream (record { kind = keeps.stream.kind; payload = keeps.stream.payload }) k h.made;
+        }) h.fits
+
+    pub mid-fits : Fits mid told
+    mid-fits = subst (λ (x : State). Fits x told) (sym t.state) (subst (λ (x : Tells). Fits (turned_in old n s t.after) x) (sym t.ends) turned-fits)
+
+    pub mid-made : s < length mid.streams
+    mid-made = rw (ap (λ (x : State). length x.streams) t.state, length-set old.streams s t.after.stream) h.made
+
+    -- the stream then
+    pub mid-stream : stream_at mid s ≡ t.after.stream
+    mid-stream = ap (λ (x : State). stream_at x s) t.state ∙ get_or-set_same old.streams s t.after.stream no_stream h.made
+
+    pub mid-duty : (producer_at mid n).duty ≡ Serves s
+    mid-duty =
+        ap (λ (x : State). (producer_at x n).duty) t.state
+        ∙ ap (λ (p : Producer). p.duty) (get_or-set_same old.producers n t.after.producer no_producer kept)
+        ∙ keeps.duty ∙ duty
+
+    pub told-there : n < length told.writers
+    told-there = rw (ap (λ (x : Tells). length x.writers) t.ends, length-set tells.writers n t.after.tells) there
+
+  -- its writer stays
+  by_done : (done : Bool) (after before : Owner) → after ≡ cond done Gone before → after ≢ Gone → after ≡ before
+  by_done true after before e g = absurd (g e)
+  by_done false after before e g = e
+
+  pub produced-stays : (mid : State) (told : Tells) (t : TurnsStream old mid tells told n s read (Ok tt)) → (stream_at mid s).writer.owner ≢ Gone → Does old mid tells told (Ok replies.Done) (λ w. producer_turn w s n read)
+  produced-stays mid told t g =
+      let k = keeps mid told (Ok tt) t in
+      let here = mid-stream mid told (Ok tt) t in
+      let same = by_done k.stream.done t.after.stream.writer.owner (stream_at old s).writer.owner k.stream.writer
+      (λ e. g (ap (λ (x : Stream). x.writer.owner) here ∙ e)) in
+      subst (λ (x : State). Does old x tells told (Ok replies.Done) (λ w. producer_turn w s n read)) (sym t.state)
+      (subst (λ (x : Tells). Does old (turned_in old n s t.after) tells x (Ok replies.Done) (λ w. producer_turn w s n read)) (sym t.ends)
+      (turn_stays old tells n s read serving t.after t.turns same))
+
+  -- its writer is gone, and was closed
+  module _ (mid : State) (told : Tells) (t : TurnsStream old mid tells told n s read (Ok tt)) (g : (stream_at mid s).writer.owner ≡ Gone) (w : WriterTells) (c : ClosesWriter (told_by told n) w) where
+    left : IsLeft (turned_but old n t.after.guests t.after.producer) (told_in tells n t.after) s n t.after.stream w
+    left = record {
+      there = rw (length-set tells.writers n t.after.tells) there;
+      kept = rw (length-set old.producers n t.after.producer) kept;
+      owner = h.owner;
+      gone = sym (ap (λ (x : Stream). x.writer.owner) (mid-stream mid told (Ok tt) t)) ∙ g;
+      closes = subst (λ (x : Tells). ClosesWriter (told_by x n) w) t.ends c;
+    }
+
+    pub produced-left : Does old (ended_in mid n) tells (with_told told n w) (Ok replies.Done) (λ v. producer_turn v s n read)
+    produced-left =
+        subst (λ (x : State). Does old (ended_in x n) tells (with_told told n w) (Ok replies.Done) (λ v. producer_turn v s n read)) (sym t.state)
+        (subst (λ (x : Tells). Does old (ended_in (turned_in old n s t.after) n) tells (with_told x n w) (Ok replies.Done) (λ v. producer_turn v s n read)) (sym t.ends)
+        (turn_left old tells n s read serving t.after w t.turns left))
+
+    pub left-fits : Fits (ended_in mid n) (with_told told n w)
+    left-fits =
+        let mid_kept = serving_kept mid.producers n s (mid-duty mid told (Ok tt) t) in
+        Fits-told mid (ended_in mid n) told n w
+        (record {
+          there = told-there mid told (Ok tt) t;
+          kind = ap (λ (x : WriterTells). x.kind) c.same;
+          payload = ap (λ (x : WriterTells). x.payload) c.same;
+          duties = λ m k. at_set mid.producers n (record (producer_at mid n) { duty = Ended }) no_producer m (λ q. q.duty ≡ Serves k → (producer_at mid m).duty ≡ Serves k) mid_kept
+              (λ _ e. absurd (ended_no Ended k refl e)) (λ _ e. e);
+          types = λ k. record { kind = refl; payload = refl };
+        }) (mid-fits mid told (Ok tt) t)
+
+  -- it stops, and the store is trapped
+  pub produced-stops : (mid : State) (told : Tells) (e : TurnError) (t : TurnsStream old mid tells told n s read (Err e)) → Does old (record mid { trapped = true }) tells told (stop_of e n) (λ w. producer_turn w s n read)
+  produced-stops mid told e t =
+      let same : t.after.producer ≡ producer_at old n = holding_producer (told_by tells n).holds e (scene_in old tells n s) t.after read t.turns in
+      let producers : mid.producers ≡ old.producers =
+      ap (λ (x : State). x.producers) t.state ∙ ap (set old.producers n) same ∙ set-get_or old.producers n no_producer in
+      subst (λ (x : Tells). Does old (record mid { trapped = true }) tells x (stop_of e n) (λ w. producer_turn w s n read)) (sym t.ends)
+      (turn_stops old tells n s read serving e t.after (record mid { trapped = true }) t.turns producers)
+
+-- ## What a read is answered
+
+event_is : (a b : Option ReturnCode) → replies.Event a ≡ replies.Event b → a ≡ b
+event_is a b e = cc
+
+pub answers-some : (old new : State) (s : ℕ) (code : ReturnCode) → tells_end old s Reading ≡ goes (replies.Event (Some code)) new → (tells : Tells) → Does old new tells tells (Ok (replies.Code code)) (λ w. answered w s Reading)
+answers-some old new s code e tells =
+    subst (λ (x : State). Does old x tells tells (Ok (replies.Code code)) (λ w. answered w s Reading)) (ap (λ (r : Reaction). r.state) e)
+    (Does-delivered old tells s code (event_is (report_on Reading (stream_at old s)) (Some code) (ap (λ (r : Reaction). r.reply) e)))
+
+untold : (stream : Stream) → report_on Reading stream ≡ None → delivered Reading stream ≡ stream
+unfolding delivered
+untold stream e = ap (λ code. record stream { reader = told_end code stream.reader }) e
+
+pub answers-none : (old new : State) (s : ℕ) → tells_end old s Reading ≡ goes (replies.Event None) new → (tells : Tells) → Does old new tells tells (Ok (replies.Code Blocked)) (λ w. answered w s Reading)
+answers-none old new s e tells =
+    let none = event_is (report_on Reading (stream_at old s)) None (ap (λ (r : Reaction). r.reply) e) in
+    let same : old ≡ new =
+    ap (λ xs. record old { streams = xs }) (sym (set-get_or old.streams s no_stream) ∙ ap (set old.streams s) (sym (untold (stream_at old s) none)))
+    ∙ ap (λ (r : Reaction). r.state) e in
+    subst (λ (x : State). Does old x tells tells (Ok (replies.Code Blocked)) (λ w. answered w s Reading)) same (Does-blocked old tells s none)

@@ -1,0 +1,142 @@
+-- What the turn of a host writer keeps: types, owners but that the writer may be gone, handles, and where
+-- operations lie.
+use Rattle.std.proofs.Common.{◌≡◌, ℕ, suc, zero, ◌+◌, ◌-◌, ◌*◌, ◌<◌, ◌≤◌, ◌==◌, Bool, true, false, cond, List, [], ◌∷◌, length, take, drop, length-take, length-append, length-drop, Option, Some, None, Result, Ok, Err, refl, sym, ap, subst, ◌∙◌, arith}
+use Rattle.strm_codes.specs.Layout.{scalars_of, item_size}
+use Rattle.strm_codes.specs.declared.payloads.Payload.{Payload}
+use Rattle.strm_codes.specs.declared.scalars.Scalar.{Scalar}
+use Rattle.strm_codes.specs.declared.codes.StreamResult.{StreamResult}
+use Rattle.strm_codes.specs.declared.codes.StreamResult.TheVariants as results
+use Rattle.strm_memory.specs.Items.{stored_at}
+use Rattle.strm_memory.specs.Region.{is_out_of_bounds}
+use Rattle.strm_memory.proofs.RegionLemmas.{length-stored}
+use Rattle.strm_buffers.specs.Listing.{Item}
+use Rattle.strm_buffers.specs.Said.{WriterSaid}
+use Rattle.strm_buffers.specs.Tells.{WriterTells}
+use Rattle.strm_machine.specs.State.{Guest, memory_in}
+use Rattle.strm_machine.specs.Sides.{with_operation}
+use Rattle.strm_machine.specs.Turns.{with_received}
+use Rattle.strm_machine.specs.Soundness.{sizes_of, IsPlaced, StreamIsPlaced}
+use Rattle.strm_machine.specs.declared.streams.Operation.{Operation}
+use Rattle.strm_machine.specs.declared.streams.Owner.TheVariants.{Gone}
+use Rattle.strm_machine.specs.declared.streams.Producer.{Producer}
+use Rattle.strm_machine.specs.declared.streams.Side.TheVariants.{Writing, Reading}
+use Rattle.strm_machine.specs.declared.streams.Stream.{Stream}
+use Rattle.strm_machine.proofs.BoundLemmas.{within, not_out-front}
+use Rattle.strm_machine.proofs.SideLemmas.{IsPlaced-advanced}
+use Rattle.strm_machine.proofs.TurnLemmas.{GuestsKeep, with_memory-keeps, size_in}
+use Rattle.strm_world.specs.Settling.{went, settled, let_go, moved_on}
+use Rattle.strm_world.specs.Producing.{lowered}
+use Rattle.strm_producing.specs.Turning.{Scene, received, Polled, TurnsEmpty, TurnsHolding, Turns}
+use Rattle.strm_producing.specs.declared.turns.TurnError.{TurnError}
+use Rattle.strm_producing.specs.declared.turns.TurnError.TheVariants.{Failed, OutOfMemory, Broke}
+
+-- ## Memories
+
+length-lowered : (ss : List Scalar) (memory : List ℕ) (to n : ℕ) (xs : List Item) → length xs ≤ n → is_out_of_bounds (length memory) ss to n ≡ false → length (stored_at ss memory to xs) ≡ length memory
+length-lowered ss memory to n xs l h =
+    let front = not_out-front (length memory) ss to n (length xs) l h in
+    let room : item_size ss * length xs ≤ length memory - to = fits (length memory) (item_size ss) to (length xs) (λ p q. within (length memory) ss to (length xs) front p q) in
+    let same = length-stored ss (drop to memory) xs (omega (arith, room, length-drop to memory)) in
+    rw (length-append, same) (omega (arith, length-take to memory, length-drop to memory))
+  where
+    fits : (size w to n : ℕ) → (0 < n → 0 < w → to + w * n ≤ size) → w * n ≤ size - to
+    fits size zero to n k = omega arith
+    fits size (suc w) to zero k = omega arith
+    fits size (suc w) to (suc n) k = omega (arith, k (omega arith) (omega arith))
+
+pub lowered-keeps : (guests : List Guest) (payload : Payload) (read : Operation) (items : List Item) → IsPlaced (sizes_of guests) payload read → length items ≤ read.left → GuestsKeep guests (lowered guests payload read items)
+lowered-keeps guests payload read items p l =
+    let inside = p.inside in
+    with_memory-keeps guests read.guest _
+    (length-lowered (scalars_of payload) (memory_in guests read.guest) read.address read.left items l (rw (size_in guests read.guest) at inside))
+
+-- ## The stream
+
+went-placed : (sizes : List ℕ) (payload : Payload) (read : Operation) (n : ℕ) → n ≤ read.left → IsPlaced sizes payload read → IsPlaced sizes payload (went payload read n)
+went-placed sizes payload read n l p =
+    let q = IsPlaced-advanced sizes payload read n l p in
+    record { there = q.there; inside = q.inside; counted = q.counted }
+
+settled-placed : (sizes : List ℕ) (payload : Payload) (operation : Operation) (result : Option StreamResult) → IsPlaced sizes payload operation → IsPlaced sizes payload (settled result operation)
+settled-placed sizes payload operation None p = p
+settled-placed sizes payload operation (Some result) p = record { there = p.there; inside = p.inside; counted = p.counted }
+
+-- a stream whose writer may be gone
+pub record StreamMoves (sizes : List ℕ) (old new : Stream) : Type 0 where
+  pub done : Bool
+  pub writer : new.writer.owner ≡ cond done Gone old.writer.owner
+  pub reader : new.reader.owner ≡ old.reader.owner
+  pub kind : new.kind ≡ old.kind
+  pub payload : new.payload ≡ old.payload
+  pub placed : StreamIsPlaced sizes new
+
+module _ (sizes : List ℕ) (stream : Stream) (n : ℕ) (operation : Operation) (h : StreamIsPlaced sizes stream) (p : IsPlaced sizes stream.payload operation) where
+  moved_by : (b : Bool) (result : Option StreamResult) → StreamMoves sizes stream (let_go Writing result (with_operation Reading (cond b stream (with_received stream n)) operation))
+  moved_by true None = record { done = false; writer = refl; reader = refl; kind = refl; payload = refl; placed = record { writer = h.writer; reader = p } }
+  moved_by false None = record { done = false; writer = refl; reader = refl; kind = refl; payload = refl; placed = record { writer = h.writer; reader = p } }
+  moved_by true (Some results.Dropped) = record { done = true; writer = refl; reader = refl; kind = refl; payload = refl; placed = record { writer = h.writer; reader = p } }
+  moved_by false (Some results.Dropped) = record { done = true; writer = refl; reader = refl; kind = refl; payload = refl; placed = record { writer = h.writer; reader = p } }
+  moved_by true (Some _) = record { done = false; writer = refl; reader = refl; kind = refl; payload = refl; placed = record { writer = h.writer; reader = p } }
+  moved_by false (Some _) = record { done = false; writer = refl; reader = refl; kind = refl; payload = refl; placed = record { writer = h.writer; reader = p } }
+
+pub moved_on-moves : (sizes : List ℕ) (stream : Stream) (read : Operation) (n : ℕ) (result : Option StreamResult) → StreamIsPlaced sizes stream → IsPlaced sizes stream.payload read → n ≤ read.left → StreamMoves sizes stream (moved_on Reading stream read n result)
+unfolding moved_on
+moved_on-moves sizes stream read n result h p l =
+    moved_by sizes stream n (settled result (went stream.payload read n)) h
+    (settled-placed sizes stream.payload (went stream.payload read n) result (went-placed sizes stream.payload read n l p)) (n == 0) result
+
+stays-moves : (sizes : List ℕ) (stream : Stream) → StreamIsPlaced sizes stream → StreamMoves sizes stream stream
+stays-moves sizes stream h = record { done = false; writer = refl; reader = refl; kind = refl; payload = refl; placed = h }
+
+-- ## The scene of a turn
+
+pub record SceneKeeps (old after : Scene) : Type 0 where
+  pub guests : GuestsKeep old.guests after.guests
+  pub stream : StreamMoves (sizes_of old.guests) old.stream after.stream
+  pub duty : after.producer.duty ≡ old.producer.duty
+  pub kind : after.tells.kind ≡ old.tells.kind
+  pub payload : after.tells.payload ≡ old.tells.payload
+
+module _ (old : Scene) (read : Operation) (p : IsPlaced (sizes_of old.guests) old.stream.payload read) (h : StreamIsPlaced (sizes_of old.guests) old.stream) where
+  received_keeps : (items : List Item) (result : Option StreamResult) (producer : Producer) (tells : WriterTells) → length items ≤ read.left → producer.duty ≡ old.producer.duty → tells.kind ≡ old.tells.kind → tells.payload ≡ old.tells.payload → SceneKeeps old (record (received old read items result) { producer = producer; tells = tells })
+  received_keeps items result producer tells l d k q = record {
+    guests = lowered-keeps old.guests old.stream.payload read items p l;
+    stream = moved_on-moves (sizes_of old.guests) old.stream read (length items) result h p l;
+    duty = d;
+    kind = k;
+    payload = q;
+  }
+
+  stopped_keeps : (items : List Item) (tells : WriterTells) → length items ≤ read.left → tells.kind ≡ old.tells.kind → tells.payload ≡ old.tells.payload → SceneKeeps old (record old { guests = lowered old.guests old.stream.payload read items; tells = tells })
+  stopped_keeps items tells l k q = record {
+    guests = lowered-keeps old.guests old.stream.payload read items p l;
+    stream = stays-moves (sizes_of old.guests) old.stream h;
+    duty = refl;
+    kind = k;
+    payload = q;
+  }
+
+  few : (xs : List Item) → length (take read.left xs) ≤ read.left
+  few xs = omega (arith, length-take read.left xs)
+
+  polled_keeps : (result : Result (Unit {0}) TurnError) (after : Scene) → Polled result old after read → SceneKeeps old after
+  polled_keeps (Ok v) after t =
+      subst (SceneKeeps old) (sym t.1.after) (received_keeps _ _ _ after.tells (few t.0.items) refl t.1.polled.polls.kind t.1.polled.polls.payload)
+  polled_keeps (Err Failed) after t =
+      subst (SceneKeeps old) (sym t.1.stopped.after) (stopped_keeps _ after.tells t.1.stopped.few t.1.polled.polls.kind t.1.polled.polls.payload)
+  polled_keeps (Err Broke) after t =
+      subst (SceneKeeps old) (sym t.1.stopped.after) (stopped_keeps _ after.tells t.1.stopped.few t.1.polled.polls.kind t.1.polled.polls.payload)
+  polled_keeps (Err OutOfMemory) after t =
+      subst (SceneKeeps old) (sym t.1.stopped.after) (stopped_keeps _ after.tells t.1.stopped.few t.1.tells.kind t.1.tells.payload)
+
+  empty_keeps : (over : Bool) (result : Result (Unit {0}) TurnError) (after : Scene) → TurnsEmpty over result old after read → SceneKeeps old after
+  empty_keeps true result after t = subst (SceneKeeps old) (sym t.1) (received_keeps [] (Some results.Dropped) old.producer old.tells (omega arith) refl refl refl)
+  empty_keeps false result after t = polled_keeps result after t
+
+  holding_keeps : (held : List Item) (result : Result (Unit {0}) TurnError) (after : Scene) → TurnsHolding held result old after read → SceneKeeps old after
+  holding_keeps (item ∷ items) result after t = subst (SceneKeeps old) (sym t.1) (received_keeps _ (Some results.Completed) old.producer _ (few old.tells.holds) refl refl refl)
+  holding_keeps [] result after t = empty_keeps old.producer.over result after t
+
+  -- whatever came of it
+  pub turn_keeps : (result : Result (Unit {0}) TurnError) (after : Scene) → Turns result old after read → SceneKeeps old after
+  turn_keeps result after t = holding_keeps old.tells.holds result after t

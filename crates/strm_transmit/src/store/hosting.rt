@@ -1,0 +1,246 @@
+//! Host writers: the streams that they write, bytes from outside for them, and their close.
+//!
+//! Meaning: `Attaching.antt` and `HostRefusals.antt` of `strm_world`. Source: wasmtime,
+//! `StreamReader::new`, `FutureReader::new`, and the drops of ends; `feed` is ours.
+
+ghost use Rattle.std.specs.Prelude.{◌≡◌, ◌≢◌, ◌<◌, ◌↔◌, ◌++◌, ◌∷◌, [], false, length, slice_set, Ok, Err, IsTrue, OnOk, OnErr, IfOk};
+ghost use Rattle.strm_buffers.specs.AllTells.{tells_of};
+ghost use Rattle.strm_buffers.specs.Tells.{told_by, with_told, fed};
+ghost use Rattle.strm_machine.specs.State.{host_limit, stream_limit, idle_end, producer_at, no_producer, stream_at, is_host};
+ghost use Rattle.strm_machine.specs.declared.acts.Act.TheVariants.{OnHost};
+ghost use Rattle.strm_machine.specs.declared.acts.HostAct.TheVariants as host_acts;
+ghost use Rattle.strm_machine.specs.declared.replies.Reply.TheVariants as replies;
+ghost use Rattle.strm_machine.specs.declared.streams.Duty.TheVariants.{Unused, Serves, Ended};
+ghost use Rattle.strm_machine.specs.declared.streams.Owner.TheVariants.{Host, Loose, Gone};
+ghost use Rattle.strm_machine.specs.declared.streams.Side.TheVariants.{Writing};
+ghost use Rattle.strm_world.specs.Outcomes.{done};
+ghost use Rattle.strm_world.specs.HostRefusals.{is_unknown_host, refusal_in};
+ghost use Rattle.strm_world.specs.Does.{Logs, world_of, Fits, Does};
+ghost use Rattle.strm_transmit.specs.Inside.{AreServed};
+ghost use Rattle.strm_transmit.specs.Meets.{replied, or_found};
+ghost use Rattle.strm_transmit.specs.Hosted.{FitsAt, forsaken_in, MeetsHosted};
+
+use crate::errors::StoreError;
+use crate::store::Store;
+use crate::store::making::place;
+use crate::store::moves::same_kind;
+use strm_buffers::hosts::Hosts;
+use strm_codes::codes::TransmitKind;
+use strm_codes::payloads::Payload;
+use strm_codes::refusals::Refusal;
+use strm_machine::chunks::Chunk;
+use strm_machine::streams::{Duty, End, Owner, Producer, Side, Stream};
+
+/// Host writers are numbered from 0 to 63.
+pub(crate) const MOST_HOSTS: usize = 64;
+
+fn idle_end(owner: Owner) -> End
+    ensures { result ≡ idle_end owner }
+{
+    End {
+        owner,
+        told: false,
+        operation: None,
+    }
+}
+
+// A stream that a host writer writes, its read end loose.
+fn hosted_stream(kind: TransmitKind, payload: Payload, number: u32) -> Stream
+    ensures { result ≡ record {
+      kind = kind;
+      payload = payload;
+      passed = false;
+      writer = idle_end (Host number);
+      reader = idle_end Loose;
+      received = 0;
+    } }
+{
+    Stream {
+        kind,
+        payload,
+        passed: false,
+        writer: idle_end(Owner::Host { number }),
+        reader: idle_end(Owner::Loose),
+        received: 0,
+    }
+}
+
+// Whether a number is none of the host writers.
+fn is_unknown_host(hosts: &Hosts, host: u32) -> bool
+    ensures { result ≡ is_unknown_host (length (tells_of writer_tells reader_tells hosts.now).writers) host }
+{
+    host as usize >= hosts.count_writers() || host as usize >= MOST_HOSTS
+}
+
+impl Store {
+    // What holds of host writers and streams. It does nothing.
+    #[inline(always)]
+    pub(crate) fn served(&self)
+        ensures { AreServed self.now.producers self.now.streams }
+    {
+        let _ = &self.producers;
+    }
+
+    // Whether a host writer is there, with its stream's kind and payload, if it has one.
+    fn fits_writer(&self, hosts: &Hosts, number: usize) -> bool
+        requires { number < host_limit }
+        ensures { IsTrue result ↔ FitsAt self.now (tells_of writer_tells reader_tells hosts.now) number }
+    {
+        match self.producers[number].duty {
+            Duty::Serves { stream } => {
+                let stream = self.stream(stream);
+                number < hosts.count_writers()
+                    && same_kind(hosts.writer_kind(number), stream.kind)
+                    && hosts.writer_payload(number) == stream.payload
+            }
+            _ => true,
+        }
+    }
+
+    /// Whether each host end in use is in the list, with its stream's kind and payload.
+    pub fn fits(&self, hosts: &Hosts) -> bool
+        ensures { IsTrue result ↔ Fits self.now (tells_of writer_tells reader_tells hosts.now) }
+    {
+        for number in 0..MOST_HOSTS {
+            if !self.fits_writer(hosts, number) {
+                return false;
+            }
+        }
+        true
+    }
+
+    // Whether a host writer may get a stream.
+    fn host_fits(&self, hosts: &Hosts, writer: u32) -> Result<(), Refusal>
+        ensures { (logs : Logs) → result ≡ or_found (refusal_in
+            (world_of self.now (tells_of writer_tells reader_tells hosts.now) logs) (OnHost writer host_acts.New)) tt }
+    {
+        if is_unknown_host(hosts, writer) {
+            return Err(Refusal::UnknownHost);
+        }
+        if self.producers[writer as usize].duty != Duty::Unused {
+            return Err(Refusal::HostUsed);
+        }
+        if self.are_streams_full() {
+            return Err(Refusal::Full);
+        }
+        Ok(())
+    }
+
+    // A stream more, of a host writer. After want of memory nothing has changed.
+    fn host(&mut self, number: u32, kind: TransmitKind, payload: Payload) -> Result<u32, StoreError>
+        requires there { number < host_limit }
+        requires unused { (producer_at self.old number).duty ≡ Unused }
+        requires few { length self.old.streams < stream_limit }
+        ensures number { IfOk result (λ stream. stream ≡ length self.old.streams) }
+        ensures ok { OnOk result (self.new ≡ record self.old {
+          streams = self.old.streams ++ record {
+            kind = kind;
+            payload = payload;
+            passed = false;
+            writer = idle_end (Host number);
+            reader = idle_end Loose;
+            received = 0;
+          } ∷ [];
+          producers = slice_set self.old.producers number
+              (record no_producer { duty = Serves (length self.old.streams) });
+        }) }
+        ensures no_memory { OnErr result (result ≡ Err StoreError.OutOfMemory) }
+        ensures err { OnErr result (self.new ≡ self.old) }
+    {
+        let stream = self.streams.len() as u32;
+        match self.streams.reserve(1) {
+            Ok(()) => {}
+            Err(_) => return Err(StoreError::OutOfMemory),
+        }
+        let hosted = hosted_stream(kind, payload, number);
+        place(&mut self.streams, &hosted);
+        self.live_streams += 1;
+        self.producers[number as usize] = Producer {
+            duty: Duty::Serves { stream },
+            over: false,
+        };
+        Ok(stream)
+    }
+
+    /// A stream or future that a host writer writes, of its kind and payload: the read end is loose,
+    /// and the answer is the stream's number. Refused, in this order, are a number of no host writer,
+    /// one that was used, and a stream past the limit on places.
+    pub fn host_new(&mut self, hosts: &Hosts, writer: u32) -> Result<u32, StoreError>
+        requires fits { Fits self.old (tells_of writer_tells reader_tells hosts.now) }
+        ensures meets { MeetsHosted self.old self.new (tells_of writer_tells reader_tells hosts.now)
+            (tells_of writer_tells reader_tells hosts.now) (replied replies.Number result)
+            (OnHost writer host_acts.New) }
+    {
+        match self.admit(self.host_fits(hosts, writer)) {
+            Ok(()) => {
+                let number = writer as usize;
+                self.host(
+                    writer,
+                    hosts.writer_kind(number),
+                    hosts.writer_payload(number),
+                )
+            }
+            Err(error) => Err(error),
+        }
+    }
+
+    // Whether there is a host writer of this number.
+    fn feed_fits(&self, hosts: &Hosts, host: u32, bytes: &Chunk) -> Result<(), Refusal>
+        ensures { (logs : Logs) → result ≡ or_found (refusal_in
+            (world_of self.now (tells_of writer_tells reader_tells hosts.now) logs)
+            (OnHost host (host_acts.Feed bytes.now))) tt }
+    {
+        if is_unknown_host(hosts, host) {
+            return Err(Refusal::UnknownHost);
+        }
+        Ok(())
+    }
+
+    /// Passes on bytes from outside to a host writer.
+    pub(crate) fn feed(&self, hosts: &mut Hosts, host: u32, bytes: &Chunk) -> Result<(), StoreError>
+        requires fits { Fits self.now (tells_of writer_tells reader_tells hosts.old) }
+        ensures meets { MeetsHosted self.now self.now (tells_of writer_tells reader_tells hosts.old)
+            (tells_of writer_tells reader_tells hosts.new) (replied (λ _. replies.Done) result)
+            (OnHost host (host_acts.Feed bytes.now)) }
+    {
+        match self.admit(self.feed_fits(hosts, host, bytes)) {
+            Ok(()) => match hosts.feed(host as usize, bytes.as_slice()) {
+                Ok(()) => Ok(()),
+                Err(_) => Err(StoreError::OutOfMemory),
+            },
+            Err(error) => Err(error),
+        }
+    }
+
+    // A host writer whose stream has no write end any more is done.
+    pub(crate) fn retire(&mut self, stream: u32, number: u32)
+        requires serves { (producer_at self.old number).duty ≡ Serves stream }
+        requires gone { (stream_at self.old stream).writer.owner ≡ Gone }
+        ensures { self.new ≡ record self.old {
+          producers = slice_set self.old.producers number
+              (record (producer_at self.old number) { duty = Ended });
+        } }
+    {
+        self.producers[number as usize].duty = Duty::Ended;
+    }
+
+    // A stream lost its read end: a host writer on the other side goes too, and is closed.
+    pub(crate) fn forsake(&mut self, hosts: &mut Hosts, stream: u32)
+        requires there { stream < length self.old.streams }
+        requires fits { Fits self.old (tells_of writer_tells reader_tells hosts.old) }
+        ensures does { Does self.old self.new (tells_of writer_tells reader_tells hosts.old)
+            (tells_of writer_tells reader_tells hosts.new) (Ok replies.Done)
+            (λ world. done (forsaken_in world stream)) }
+        ensures fits { Fits self.new (tells_of writer_tells reader_tells hosts.new) }
+        ensures alone { is_host (stream_at self.old stream).writer.owner ≡ false → self.new ≡ self.old }
+        ensures untold { is_host (stream_at self.old stream).writer.owner ≡ false →
+            tells_of writer_tells reader_tells hosts.new ≡ tells_of writer_tells reader_tells hosts.old }
+    {
+        self.served();
+        if let Owner::Host { number } = self.stream(stream).writer.owner {
+            self.own(stream, Side::Writing, Owner::Gone);
+            self.retire(stream, number);
+            hosts.close_writer(number as usize);
+        }
+    }
+}
