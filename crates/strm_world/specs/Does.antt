@@ -21,7 +21,9 @@ use Rattle.strm_machine.specs.declared.steps.Step.{Step}
 use Rattle.strm_machine.specs.declared.replies.Reply.{Reply}
 use Rattle.strm_world.specs.Ends.{Writer, Reader}
 use Rattle.strm_world.specs.World.{World}
-use Rattle.strm_world.specs.Outcomes.{Stop, HostFailed, Outcome, Goes, Stops}
+use Rattle.strm_machine.specs.declared.stops.Stop.{Stop}
+use Rattle.strm_machine.specs.declared.stops.Stop.TheVariants.{HostFailed}
+use Rattle.strm_world.specs.Outcomes.{Outcome, Goes, Stops}
 use Rattle.strm_world.specs.HostPlays.{play, Ends, Halts}
 
 -- WHAT HOST ENDS SAY

@@ -4,7 +4,8 @@ use Rattle.strm_machine.specs.declared.steps.Step.{Step}
 use Rattle.strm_machine.specs.declared.replies.Reply.{Reply}
 use Rattle.strm_world.specs.Ends.{Writer, Reader}
 use Rattle.strm_world.specs.World.{World}
-use Rattle.strm_world.specs.Outcomes.{Stop, Outcome, Goes, Stops, Stuck}
+use Rattle.strm_machine.specs.declared.stops.Stop.{Stop}
+use Rattle.strm_world.specs.Outcomes.{Outcome, Goes, Stops, Stuck}
 use Rattle.strm_world.specs.Steps.{step_of}
 
 -- a whole run: all replies and the last world; or the replies before a step that stopped, its cause,

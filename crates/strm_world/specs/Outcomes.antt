@@ -1,22 +1,12 @@
 -- What comes of a step: it goes on, it stops with a cause, or it finds no record that it is owed. Ours.
 use Rattle.std.specs.Prelude.{ℕ, List}
 use Rattle.strm_machine.specs.Reactions.{Reaction}
-use Rattle.strm_machine.specs.declared.streams.HostEnd.{HostEnd}
+use Rattle.strm_machine.specs.declared.stops.Stop.{Stop}
+use Rattle.strm_machine.specs.declared.stops.Stop.TheVariants.{BadItem, StoreTrapped}
 use Rattle.strm_machine.specs.declared.replies.Reply.{Reply}
 use Rattle.strm_machine.specs.declared.replies.Reply.TheVariants as replies
 use Rattle.strm_world.specs.Ends.{Writer, Reader}
 use Rattle.strm_world.specs.World.{World}
-
--- why a step stops; the store is trapped from then on
-pub data Stop : Type 0 where
-  -- a host end failed
-  HostFailed : HostEnd → Stop
-  -- a host end broke its rules
-  HostBroke : HostEnd → Stop
-  -- an item of this stream is none
-  BadItem : ℕ → Stop
-  -- an earlier step trapped the store
-  StoreTrapped : Stop
 
 -- a reply and the world after it; or a cause, and what the host ends tell then; or nothing, where a
 -- record is missing or is of another poll

@@ -10,7 +10,8 @@ use Rattle.strm_buffers.specs.HostRules.{breaks_as_writer}
 use Rattle.strm_machine.specs.declared.streams.HostEnd.TheVariants as ends
 use Rattle.strm_world.specs.Ends.{polled_writer}
 use Rattle.strm_world.specs.World.{World, stream_in, writer_at, with_writer}
-use Rattle.strm_world.specs.Outcomes.{Outcome, Stuck, HostFailed, HostBroke, stops}
+use Rattle.strm_machine.specs.declared.stops.Stop.TheVariants.{HostFailed, HostBroke}
+use Rattle.strm_world.specs.Outcomes.{Outcome, Stuck, stops}
 
 -- what is done after a poll, with the record that was used
 abbrev pub AfterWriter : Type 0

@@ -24,7 +24,8 @@ use Rattle.strm_machine.specs.declared.steps.Step.{Step}
 use Rattle.strm_machine.specs.declared.replies.Reply.TheVariants as replies
 use Rattle.strm_world.specs.Ends.{fed_writer}
 use Rattle.strm_world.specs.World.{World, stream_in, writer_at, with_writer, with_stream_in}
-use Rattle.strm_world.specs.Outcomes.{Outcome, Goes, StoreTrapped, stops, then_on, done, reacted}
+use Rattle.strm_machine.specs.declared.stops.Stop.TheVariants.{StoreTrapped}
+use Rattle.strm_world.specs.Outcomes.{Outcome, Goes, stops, then_on, done, reacted}
 use Rattle.strm_world.specs.Settling.{answered}
 use Rattle.strm_world.specs.Producing.{producer_turn}
 use Rattle.strm_world.specs.Driving.{driven, round_of}
