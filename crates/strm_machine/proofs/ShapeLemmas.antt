@@ -6,8 +6,8 @@ use Rattle.std.proofs.lemmas.Bool.{not-false, cases_lt}
 use Rattle.std.proofs.lemmas.List.{get_or_past}
 use Rattle.std.specs.Prelude.{not, [], ◌∷◌}
 use Rattle.strm_machine.specs.Words.{kind_of, payload_of, TransmitIndex, State, no_stream, stream_at, end_of, report_on, told_end, named, end_named, stream_named, first_of, IsSound, NamedEnd, Operate, Poke, Act, Make, OnEnd, OnMemory, Reply, Gone, Side, Reading, Stream, Owner, Held, Loose, is_held, is_loose, without_handle, next_in, OnLoose}
-use Rattle.strm_machine.specs.Endings.{delivered, dropped, code_of_cancel, cancelled}
-use Rattle.strm_machine.specs.Tests.{side_named, is_busy}
+use Rattle.strm_machine.specs.Endings.{delivered, dropped, waits_for_host, code_of_cancel, cancelled_end, cancelled}
+use Rattle.strm_machine.specs.Tests.{side_named, is_busy, is_cancel_under_way}
 use Rattle.strm_machine.specs.Refusals.{where_, region_reasons, handle_reasons, own_reasons, on_end_reasons, refusal}
 use Rattle.strm_machine.specs.Reactions.{tells, drops, cancels, transfers, lifts, on_end, on_loose, makes, on_memory, performs, reaction}
 use Rattle.strm_machine.specs.declared.acts.Making.{Making}
@@ -100,10 +100,10 @@ cancel-shape state side end h e =
     let s = stream_named (named state end) in
     let stream = stream_at state s in
     let code = code_of_cancel side stream in
-    let fits = named_fits state side end (where_ (not (is_busy side stream)) refusals.NoPending ∷ []) e in
+    let fits = named_fits state side end (where_ (not (is_busy side stream)) refusals.NoPending ∷ where_ (is_cancel_under_way side stream) refusals.CancelUnderWay ∷ []) e in
     let busy = not_refused (not (is_busy side stream)) _ _ fits.1 in
     let found = named-found state side end Cancel h fits.0 in
-    BySetting (replies.Code code) (record { stream = s; side = side; end = told_end (Some code) (end_of side stream) }) refl
+    BySetting (replies.Code code) (record { stream = s; side = side; end = cancelled_end (waits_for_host side stream) code (end_of side stream) }) refl
     (record { made = found.made; named = found.named (replies.Code code); becomes = cancelled-becomes side stream (not-false (is_busy side stream) busy.0); untaken = λ report. refl })
 
 pub on_end-shape : (state : State) (side : Side) (end : NamedEnd) (act : EndAct) → IsSound state → refusal state (OnEnd side end act) ≡ None → Shape state (OnEnd side end act) (on_end state side end act)
@@ -125,9 +125,8 @@ loose_there state s e =
     ]
 
 loose_unheld : (owner : Owner) → is_loose owner ≡ true → is_held owner ≡ false
-loose_unheld Gone e = refl
-loose_unheld Loose e = refl
 loose_unheld (Held g handle) e = cc
+loose_unheld _ e = refl
 
 type_of-by : (stream : Stream) (ty : TransmitIndex) → stream.kind ≡ kind_of ty → stream.payload ≡ payload_of ty → type_of stream ≡ ty
 type_of-by stream ty e f = ap (λ k. type_with k stream.payload) e ∙ ap (type_with (kind_of ty)) f ∙ type_with-of ty
@@ -184,6 +183,8 @@ performs-shape state h =
     (λ making. make-shape state making h)
     (λ side end act. on_end-shape state side end act h)
     (loose-shape state)
+    (λ host act e. ByRest replies.Done refl refl)
+    (λ e. ByRest replies.Done refl refl)
     (λ g handle. event-shape state g handle h)
     (λ g set act. set-shape state g set act h)
     (λ g handle act. context-shape state g handle act h)
