@@ -1,14 +1,12 @@
 -- How code over a store and its host ends meets the machine, whatever records are yet to come. Ours.
-use Rattle.std.specs.Prelude.{◌≡◌, ℕ, ◌<◌, ◌≤◌, Bool, List, [], ◌∷◌, ◌++◌, length, drop, map, slice_index_or, All, Option, Some, None, Result, Ok, Err, true, false}
+use Rattle.std.specs.Prelude.{◌≡◌, ℕ, ◌<◌, ◌≤◌, Bool, List, [], ◌∷◌, ◌++◌, length, drop, map, slice_index_or, All, Option, Some, None, Result, Ok, Err}
 use Rattle.strm_codes.specs.Layout.{scalars_of}
-use Rattle.strm_codes.specs.declared.codes.TransmitKind.TheVariants.{Stream as AStream}
 use Rattle.strm_codes.specs.declared.payloads.Payload.{Payload}
-use Rattle.strm_codes.specs.declared.payloads.Payload.TheVariants.{Nothing}
 use Rattle.strm_memory.specs.Items.{AreItems}
 use Rattle.strm_buffers.specs.declared.answers.ReaderSaid.{ReaderSaid}
 use Rattle.strm_buffers.specs.Listing.{Item}
 use Rattle.strm_buffers.specs.Said.{WriterSaid}
-use Rattle.strm_buffers.specs.Tells.{WriterTells, ReaderTells, Tells}
+use Rattle.strm_buffers.specs.Tells.{WriterTells, ReaderTells, Tells, no_reader_tells, told_by}
 use Rattle.strm_machine.specs.State.{State, empty, producer_at, stream_at}
 use Rattle.strm_machine.specs.declared.limits.Limits.{Limits}
 use Rattle.strm_machine.specs.declared.streams.Duty.{Duty}
@@ -116,34 +114,6 @@ world_of state tells logs = record {
   writers = writers_from state.producers tells.writers logs.writers;
   readers = readers_from tells.readers logs.readers;
 }
-
--- what stands past the last host writer
-abbrev pub no_tells : WriterTells
-no_tells = record {
-  kind = AStream;
-  payload = Nothing;
-  said = [];
-  holds = [];
-  faults = 0;
-  closed = false;
-  heard = None;
-}
-
--- and past the last reader end
-abbrev pub no_reader_tells : ReaderTells
-no_reader_tells = record {
-  kind = AStream;
-  payload = Nothing;
-  said = [];
-  holds = None;
-  faults = 0;
-  closed = false;
-  heard = None;
-}
-
--- what host writer n tells
-abbrev pub told_by : Tells → ℕ → WriterTells
-told_by tells n = slice_index_or tells.writers n no_tells
 
 -- a host writer in use is there, with its stream's kind and payload
 pub record FitsWriter (stream : Stream) (tells : Tells) (n : ℕ) : Type 0 where
