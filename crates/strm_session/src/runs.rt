@@ -16,6 +16,7 @@ ghost use Rattle.strm_laws.specs.Conservation.{moments, last};
 ghost use Rattle.strm_laws.specs.Laws.{HasBytes, AreSteps};
 ghost use Rattle.strm_machine.specs.Untouched.{StaysAside, LieThere};
 ghost use Rattle.strm_world.specs.Does.{RunsTo};
+ghost use Rattle.strm_buffers.specs.AllTells.{tells_of};
 ghost use Rattle.strm_session.specs.Runs.{start, start_among, AreOfGuests, counts_of, next_step, HasLaws, IsKept, StopsAmong, AsksBad, AsksItems, StopsAt, StopsBy, StopsIn};
 
 use std::alloc::Global;
@@ -80,20 +81,20 @@ pub struct RunStop {
 /// Runs the steps on a new store, which polls and feeds these host ends and closes those that go.
 pub fn run(alloc: Global, steps: &[Step], hosts: &mut Hosts) -> Result<Transcript, RunStop>
     requires few { length steps.now ≤ 4294967295 }
-    requires writers { length hosts.old.writers ≤ 64 }
-    requires readers { length hosts.old.readers ≤ 64 }
+    requires writers { length (tells_of writer_tells reader_tells hosts.old).writers ≤ 64 }
+    requires readers { length (tells_of writer_tells reader_tells hosts.old).readers ≤ 64 }
 
     // It is the machine's play on the records that are added to the host ends, exactly those: none is
     // left, and none is wanting.
-    ensures ok { IfOk result (λ t. RunsTo (start_among hosts.old hosts.new) steps.now t.replies t.store hosts.new) }
+    ensures ok { IfOk result (λ t. RunsTo (start_among (tells_of writer_tells reader_tells hosts.old) (tells_of writer_tells reader_tells hosts.new)) steps.now t.replies t.store (tells_of writer_tells reader_tells hosts.new)) }
     ensures received { IfOk result (λ t. t.moved ≡ counts_of t.store) }
-    ensures stop { IfErr result (λ stop. StopsAmong hosts.old hosts.new steps.now stop.replies stop.cause) }
+    ensures stop { IfErr result (λ stop. StopsAmong (tells_of writer_tells reader_tells hosts.old) (tells_of writer_tells reader_tells hosts.new) steps.now stop.replies stop.cause) }
     ensures at { IfErr result (λ stop. stop.at ≡ next_step stop.replies) }
 
     // Of guests alone it is the machine's without host ends, which stay as they were.
     ensures alone { AreOfGuests steps.now → IfOk result (λ t. play [] start steps.now ≡ Ends t.replies t.store) }
     ensures stop_alone { AreOfGuests steps.now → IfErr result (λ stop. StopsBy steps.now stop.replies stop.cause) }
-    ensures hosts { AreOfGuests steps.now → hosts.new ≡ hosts.old }
+    ensures hosts { AreOfGuests steps.now → (tells_of writer_tells reader_tells hosts.new) ≡ (tells_of writer_tells reader_tells hosts.old) }
 
     // After each step of guests alone: on each stream, what was received is, in order, the first k items
     // of each accepted write, k the count reported, each as it lay in the writer's memory just before it
@@ -195,13 +196,13 @@ fn play_steps(
 ) -> Result<(), RunCause>
     requires begins { store.old ≡ start }
     requires none { replies.old ≡ [] }
-    ensures ok { OnOk result (RunsTo (start_among hosts.old hosts.new) steps.now replies.new store.new hosts.new) }
-    ensures stop { IfErr result (StopsAmong hosts.old hosts.new steps.now replies.new) }
+    ensures ok { OnOk result (RunsTo (start_among (tells_of writer_tells reader_tells hosts.old) (tells_of writer_tells reader_tells hosts.new)) steps.now replies.new store.new (tells_of writer_tells reader_tells hosts.new)) }
+    ensures stop { IfErr result (StopsAmong (tells_of writer_tells reader_tells hosts.old) (tells_of writer_tells reader_tells hosts.new) steps.now replies.new) }
     ensures alone { AreOfGuests steps.now → OnOk result (play [] start steps.now ≡ Ends replies.new store.new) }
     ensures stop_alone { AreOfGuests steps.now → IfErr result (λ cause. (state : State)
         × (play [] start (take (length replies.new) steps.now) ≡ Ends replies.new state)
         × StopsAt steps.now replies.new state cause) }
-    ensures hosts { AreOfGuests steps.now → hosts.new ≡ hosts.old }
+    ensures hosts { AreOfGuests steps.now → (tells_of writer_tells reader_tells hosts.new) ≡ (tells_of writer_tells reader_tells hosts.old) }
     ensures all { OnOk result (length replies.new ≡ length steps.now) }
     ensures count { length replies.new ≤ length steps.now }
     ensures bytes { All HasBytes (take (length replies.new) steps.now) }

@@ -7,6 +7,7 @@ ghost use Rattle.std.specs.Io.KnownBytes.{Appends, Consumes};
 ghost use Rattle.strm_machine.specs.declared.steps.Step.{Step};
 ghost use Rattle.strm_machine.specs.State.{State};
 ghost use Rattle.strm_machine.specs.declared.replies.Reply.{Reply};
+ghost use Rattle.strm_buffers.specs.AllTells.{tells_of};
 ghost use Rattle.strm_session.specs.Runs.{AreOfGuests, AsksBad, AsksItems};
 ghost use Rattle.strm_ports.specs.Faults.{Rose, TakesPart};
 ghost use Rattle.strm_lines.specs.Lines.{lines_of, Spells, IsFirstBad, IsTooLong};
@@ -62,16 +63,16 @@ pub fn serve<S: Source, K: Sink>(
     sink: &mut K,
     hosts: &mut Hosts,
 ) -> u8
-    requires writers { length hosts.old.writers ≤ 64 }
-    requires readers { length hosts.old.readers ≤ 64 }
+    requires writers { length (tells_of writer_tells reader_tells hosts.old).writers ≤ 64 }
+    requires readers { length (tells_of writer_tells reader_tells hosts.old).readers ≤ 64 }
     ensures known { IsStatus result }
     ensures told { result ≢ WRITE_FAULT → result ≢ OUT_OF_MEMORY → (text : List ℕ)
         × IsAnswer (map string_bytes words.now.items) (S.left source.old) (S.left source.new)
-        hosts.old hosts.new (S.faults source.old) (S.faults source.new) result text
+        (tells_of writer_tells reader_tells hosts.old) (tells_of writer_tells reader_tells hosts.new) (S.faults source.old) (S.faults source.new) result text
         × Appends (K.taken sink.old) (K.taken sink.new) text }
     ensures part { result ≡ WRITE_FAULT → (status : ℕ) × (text : List ℕ)
         × IsAnswer (map string_bytes words.now.items) (S.left source.old) (S.left source.new)
-        hosts.old hosts.new (S.faults source.old) (S.faults source.new) status text
+        (tells_of writer_tells reader_tells hosts.old) (tells_of writer_tells reader_tells hosts.new) (S.faults source.old) (S.faults source.new) status text
         × TakesPart (K.taken sink.old) (K.taken sink.new) text }
     ensures write_fault { result ≡ WRITE_FAULT → Rose (K.faults sink.old) (K.faults sink.new) }
     ensures nothing { result ≡ OUT_OF_MEMORY → sink.new ≡ sink.old }
@@ -122,11 +123,11 @@ fn answer_words<S: Source>(
     source: &mut S,
     hosts: &mut Hosts,
 ) -> Result<Answer, OutOfMemory>
-    requires writers { length hosts.old.writers ≤ 64 }
-    requires readers { length hosts.old.readers ≤ 64 }
+    requires writers { length (tells_of writer_tells reader_tells hosts.old).writers ≤ 64 }
+    requires readers { length (tells_of writer_tells reader_tells hosts.old).readers ≤ 64 }
     ensures told { IfOk result (λ a.
         IsAnswer (map string_bytes words.now.items) (S.left source.old) (S.left source.new)
-        hosts.old hosts.new (S.faults source.old) (S.faults source.new) a.status a.text) }
+        (tells_of writer_tells reader_tells hosts.old) (tells_of writer_tells reader_tells hosts.new) (S.faults source.old) (S.faults source.new) a.status a.text) }
     ensures read { (front : List ℕ) × Consumes (S.left source.old) (S.left source.new) front
         × (length front ≤ MAX_BYTES + 1) }
     ensures unread { ¬ IsRun (map string_bytes words.now.items) → source.new ≡ source.old }
@@ -161,10 +162,10 @@ fn fixed(alloc: Global, status: u8, text: &[u8]) -> Result<Answer, OutOfMemory>
 
 // What is to be written for an input that was read.
 fn answer_input(alloc: Global, input: &[u8], hosts: &mut Hosts) -> Result<Answer, OutOfMemory>
-    requires writers { length hosts.old.writers ≤ 64 }
-    requires readers { length hosts.old.readers ≤ 64 }
+    requires writers { length (tells_of writer_tells reader_tells hosts.old).writers ≤ 64 }
+    requires readers { length (tells_of writer_tells reader_tells hosts.old).readers ≤ 64 }
     ensures { (before after : ℕ) → IfOk result (λ a.
-        IsAnswer (codes "run" ∷ []) (Some input.now) (Some []) hosts.old hosts.new before after a.status a.text) }
+        IsAnswer (codes "run" ∷ []) (Some input.now) (Some []) (tells_of writer_tells reader_tells hosts.old) (tells_of writer_tells reader_tells hosts.new) before after a.status a.text) }
 {
     match parse(alloc, input) {
         Ok(steps) => answer_steps(alloc, steps.as_slice(), hosts),
@@ -183,13 +184,13 @@ fn answer_input(alloc: Global, input: &[u8], hosts: &mut Hosts) -> Result<Answer
 // What is to be written for a list of steps.
 fn answer_steps(alloc: Global, steps: &[Step], hosts: &mut Hosts) -> Result<Answer, OutOfMemory>
     requires few { length steps.now ≤ 4294967295 }
-    requires writers { length hosts.old.writers ≤ 64 }
-    requires readers { length hosts.old.readers ≤ 64 }
+    requires writers { length (tells_of writer_tells reader_tells hosts.old).writers ≤ 64 }
+    requires readers { length (tells_of writer_tells reader_tells hosts.old).readers ≤ 64 }
     ensures known { IfOk result (λ a. (a.status ≡ DONE) ⊎ IsStop a.status) }
     ensures done { (input : List ℕ) → Spells (lines_of input) steps.now →
-        IfOk result (λ a. a.status ≡ DONE → IsTranscript hosts.old hosts.new input a.text) }
+        IfOk result (λ a. a.status ≡ DONE → IsTranscript (tells_of writer_tells reader_tells hosts.old) (tells_of writer_tells reader_tells hosts.new) input a.text) }
     ensures stopped { (input : List ℕ) → Spells (lines_of input) steps.now →
-        IfOk result (λ a. IsStop a.status → IsStopped hosts.old hosts.new a.status input a.text) }
+        IfOk result (λ a. IsStop a.status → IsStopped (tells_of writer_tells reader_tells hosts.old) (tells_of writer_tells reader_tells hosts.new) a.status input a.text) }
 {
     match run(alloc, steps, hosts) {
         Ok(transcript) => {
