@@ -198,7 +198,7 @@ owns_reacts state act reply x h o =
 -- ## A stream more
 
 -- each number has the stream that it had, or had none and has the new one
-made_at : (streams : List Stream) (x : Stream) (s : ℕ) → (get_or (streams ++ x ∷ []) s no_stream ≡ get_or streams s no_stream) ⊎ ((get_or streams s no_stream ≡ no_stream) × (get_or (streams ++ x ∷ []) s no_stream ≡ x))
+pub made_at : (streams : List Stream) (x : Stream) (s : ℕ) → (get_or (streams ++ x ∷ []) s no_stream ≡ get_or streams s no_stream) ⊎ ((get_or streams s no_stream ≡ no_stream) × (get_or (streams ++ x ∷ []) s no_stream ≡ x))
 made_at [] x zero = inr (refl, refl)
 made_at [] x (suc s) = inl refl
 made_at (y ∷ ys) x zero = inl refl

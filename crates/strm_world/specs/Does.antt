@@ -152,10 +152,9 @@ Caused result old new = Unit {0}
 abbrev pub SaidFits : Payload → WriterSaid → Type 0
 SaidFits payload said = AreItems (scalars_of payload) said.items
 
--- the items of a writer's records and those that it holds are
-pub record IsSupplied (tells : WriterTells) : Type 0 where
-  pub holds : AreItems (scalars_of tells.payload) tells.holds
-  pub said : All (SaidFits tells.payload) tells.said
+-- the items of all records of a writer are
+abbrev pub IsSupplied : WriterTells → Type 0
+IsSupplied tells = All (SaidFits tells.payload) tells.said
 
 -- the same of all host writers
 abbrev pub AreSupplied : Tells → Type 0
