@@ -32,6 +32,7 @@ pub record KeepsRest (old new : Inside) : Type 0 where
   pub limits : new.limits ≡ old.limits
   pub trapped : new.is_trapped ≡ old.is_trapped
   pub streams : new.streams ≡ old.streams
+  pub producers : new.producers ≡ old.producers
   pub live_streams : new.live_streams ≡ old.live_streams
   pub live_sets : new.live_sets ≡ old.live_sets
   pub bytes : new.bytes ≡ old.bytes
@@ -49,7 +50,7 @@ pub record IsCounted (new : Inside) : Type 0 where
 
 module _ (old new : Inside) (g : ℕ) (handles : Handles) (contexts : Contexts) (k : KeepsRest old new) (h : SetsContexts old new g handles contexts) where
   pub state_of-contexts : state_of new ≡ record (state_of old) { guests = with_handles (seen old.guests.items) g handles; contexts = contexts }
-  state_of-contexts = rw (k.tag, k.limits, k.trapped, k.streams, h.guests, h.others) refl
+  state_of-contexts = rw (k.tag, k.limits, k.trapped, k.streams, k.producers, h.guests, h.others) refl
 
   pub IsStore-contexts : IsCounted new → IsSound (record (state_of old) { guests = with_handles (seen old.guests.items) g handles; contexts = contexts }) → IsStore old → IsStore new
   IsStore-contexts c sound i =
@@ -61,6 +62,7 @@ module _ (old new : Inside) (g : ℕ) (handles : Handles) (contexts : Contexts) 
         live = c.live;
         within = c.within;
         streams = rw (k.live_streams, k.streams) i.streams;
+        served = rw (k.producers, k.streams) i.served;
         sets = k.live_sets ∙ i.sets ∙ sym (ap sets_among h.guests ∙ sets-with_table (seen old.guests.items) g handles (sets_in (seen old.guests.items) g) refl);
         bytes = k.bytes ∙ i.bytes ∙ sym (same_bytes (seen old.guests.items) (seen new.guests.items) sizes);
         few_guests = omega (arith, count, i.few_guests, length-map old.guests.items guest_of, length-map new.guests.items guest_of);
@@ -104,7 +106,7 @@ pub record Gives {A E : Type 0} (r : Result A E) (old new : Inside) (g number : 
 
 module _ (old new : Inside) (g number : ℕ) (contexts : Contexts) (k : KeepsRest old new) where
   same_state : seen new.guests.items ≡ seen old.guests.items → new.contexts ≡ old.contexts → state_of new ≡ state_of old
-  same_state e f = rw (k.tag, k.limits, k.trapped, k.streams, e, f) refl
+  same_state e f = rw (k.tag, k.limits, k.trapped, k.streams, k.producers, e, f) refl
 
   same_store : seen new.guests.items ≡ seen old.guests.items → new.contexts ≡ old.contexts → new.counter ≡ old.counter → IsStore old → IsStore new
   same_store e f c i =
@@ -115,6 +117,7 @@ module _ (old new : Inside) (g number : ℕ) (contexts : Contexts) (k : KeepsRes
         live = ap (λ (q : Counter). q.live) c ∙ i.live ∙ sym (ap live_in e);
         within = rw c i.within;
         streams = rw (k.live_streams, k.streams) i.streams;
+        served = rw (k.producers, k.streams) i.served;
         sets = k.live_sets ∙ i.sets ∙ sym (ap sets_among e);
         bytes = k.bytes ∙ i.bytes ∙ sym (same_bytes (seen old.guests.items) (seen new.guests.items) (ap sizes_of e));
         few_guests = omega (arith, count, i.few_guests, length-map old.guests.items guest_of, length-map new.guests.items guest_of);
@@ -130,7 +133,7 @@ module _ (old new : Inside) (g number : ℕ) (contexts : Contexts) (k : KeepsRes
 -- the message of an error context was put into a guest's memory
 pub texts-put : (old new : Inside) (g handle address number : ℕ) → PutsBytes old new g address (message_named (state_of old) g handle) → number ≡ length (message_named (state_of old) g handle) → texts (state_of old) g handle address ≡ goes (replies.Number number) (state_of new)
 texts-put old new g handle address number h e =
-    rw (h.same.tag, h.same.limits, h.same.contexts, h.same.trapped, h.streams, h.guests, e) refl
+    rw (h.same.tag, h.same.limits, h.same.producers, h.same.contexts, h.same.trapped, h.streams, h.guests, e) refl
 
 -- a handle that may be dropped names an error context
 pub dropped_names : (state : State) (g handle : ℕ) → IsSound state → refusal state (OnContext g handle Drop) ≡ None → NamesContext state g handle

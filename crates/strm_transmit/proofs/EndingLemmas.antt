@@ -62,6 +62,7 @@ IsStore-set old new s stream l keeps h i =
     (record {
       tag = h.same.tag;
       limits = h.same.limits;
+      producers = h.same.producers;
       contexts = h.same.contexts;
       counter = h.counter;
       live_streams = h.live_streams;

@@ -1,4 +1,6 @@
 pub mod StepLemmas
+pub mod ServedLemmas
+pub mod FitsLemmas
 pub mod StoreLemmas
 pub mod OperationLemmas
 pub mod EndingLemmas

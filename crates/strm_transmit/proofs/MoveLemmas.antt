@@ -6,7 +6,7 @@ use Rattle.std.proofs.lemmas.List.{get_or_past}
 use Rattle.strm_codes.specs.declared.codes.TransmitIndex.{TransmitIndex}
 use Rattle.strm_handles.specs.Counters.{Counter, counted, uncounted}
 use Rattle.strm_sets.specs.Sets.{left}
-use Rattle.strm_machine.specs.State.{Guest, State, sets_in, no_stream, stream_at, is_loose, is_live, sets_in_use}
+use Rattle.strm_machine.specs.State.{Guest, State, sets_in, no_stream, stream_at, is_loose, is_host, is_live, sets_in_use}
 use Rattle.strm_machine.specs.Sides.{end_of}
 use Rattle.strm_machine.specs.Moves.{without_handle, next_in, with_owner}
 use Rattle.strm_machine.specs.Tests.{named, end_named, stream_named}
@@ -22,14 +22,17 @@ use Rattle.strm_machine.specs.declared.replies.Reply.TheVariants as replies
 use Rattle.strm_machine.specs.declared.streams.Owner.{Owner}
 use Rattle.strm_machine.specs.declared.streams.Owner.TheVariants.{Held}
 use Rattle.strm_machine.specs.declared.streams.Side.{Side}
-use Rattle.strm_machine.specs.declared.streams.Side.TheVariants.{Reading}
-use Rattle.strm_machine.proofs.ReactionLemmas.{reaction-performs}
-use Rattle.strm_machine.proofs.RefusalLemmas.{lower_fits, close_fits}
+use Rattle.strm_machine.specs.declared.streams.Side.TheVariants.{Writing, Reading}
+use Rattle.strm_machine.specs.declared.streams.Stream.{Stream}
+use Rattle.strm_machine.proofs.ReactionLemmas.{reaction-performs, refusal-on_end}
+use Rattle.strm_machine.proofs.RefusalLemmas.{move_fits, lower_fits, close_fits}
 use Rattle.strm_machine.proofs.SoundLemmas.{IsSound-set, IsSound-freed, sizes_of-with_table, sizes_of-with_handles}
 use Rattle.strm_machine.proofs.SoundStepLemmas.{reaction-sound}
 use Rattle.strm_turns.specs.Guests.{seen, live_in, sets_among, without_handle_in, with_end_in}
-use Rattle.strm_transmit.specs.Inside.{state_of, IsStore}
+use Rattle.strm_transmit.specs.Inside.{state_of, AreServed, IsStore}
 use Rattle.strm_transmit.specs.declared.store.Store.TheInside.{Inside}
+use Rattle.strm_transmit.proofs.ServedLemmas.{no_host, ComesNoHost, AreServed-set}
+use Rattle.strm_transmit.proofs.EndingLemmas.{named_made}
 use Rattle.strm_transmit.proofs.StoreLemmas.{SameBut, IsStore-stream, sets-with_table}
 
 -- an end of stream s has another owner
@@ -51,7 +54,12 @@ pub record FreesHandle (old new : Inside) (g handle : ℕ) : Type 0 where
   pub live : live_in (seen new.guests.items) + 1 ≡ live_in (seen old.guests.items)
   pub guests : seen new.guests.items ≡ without_handle_in (seen old.guests.items) g handle
 
-module _ (old new : Inside) (s : ℕ) (side : Side) (owner : Owner) (l : s < length old.streams.items) (o : SetsOwner old new s side owner) (i : IsStore old) where
+-- an owner that is no host end
+owned-comes : (side : Side) (stream : Stream) (owner : Owner) → is_host owner ≡ false → ComesNoHost stream (with_owner side stream owner)
+owned-comes Writing stream owner u = record { writer = λ n e. absurd (no_host owner n u e); reader = λ r. r }
+owned-comes Reading stream owner u = record { writer = λ n e. e; reader = λ r. u }
+
+module _ (old new : Inside) (s : ℕ) (side : Side) (owner : Owner) (l : s < length old.streams.items) (u : is_host owner ≡ false) (o : SetsOwner old new s side owner) (i : IsStore old) where
   -- the stream alone
   owned : IsSound (record (state_of old) { streams = new.streams.items })
   owned = rw o.streams (IsSound-set (state_of old) s side (record (end_of side (stream_at (state_of old) s)) { owner = owner }) l (inl refl) i.sound)
@@ -64,6 +72,10 @@ module _ (old new : Inside) (s : ℕ) (side : Side) (owner : Owner) (l : s < len
     sets = rw e h.sets;
     contexts = rw (e, o.same.contexts) h.contexts;
   }
+
+  -- no host end came to the stream
+  served : AreServed new.producers new.streams.items
+  served = rw (o.same.producers, o.streams) (AreServed-set old.producers old.streams.items i.served s _ l (owned-comes side (stream_at (state_of old) s) owner u))
 
   -- as many sets as there were
   as_many : sets_among (seen new.guests.items) ≡ sets_among (seen old.guests.items) → new.live_sets ≡ sets_in_use (state_of new)
@@ -81,6 +93,7 @@ module _ (old new : Inside) (s : ℕ) (side : Side) (owner : Owner) (l : s < len
         counted = o.counted;
         sets = as_many (ap (λ (g : _). sets_among (seen g.items)) h.guests);
         streams = o.streams;
+        served = served;
       })
       (sound_of (seen old.guests.items) (ap (λ (g : _). seen g.items) h.guests) owned) i
 
@@ -96,6 +109,7 @@ module _ (old new : Inside) (s : ℕ) (side : Side) (owner : Owner) (l : s < len
         counted = o.counted;
         sets = as_many (ap sets_among h.guests ∙ sets-with_table (seen old.guests.items) g _ _ refl);
         streams = o.streams;
+        served = served;
       })
       (sound_of _ h.guests (IsSound-freed (record (state_of old) { streams = new.streams.items }) g handle ok owned)) i
     where
@@ -131,10 +145,14 @@ lowers-sound : (state : State) (reader g : ℕ) (ty : TransmitIndex) → state.t
 unfolding performs
 lowers-sound state reader g ty t e h = performs-sound state (OnLoose reader (Lower g ty)) t e h
 
+-- its stream was made
+moved_made : (state : State) (side : Side) (end : NamedEnd) (to s : ℕ) → refusal state (OnEnd side end (Move to)) ≡ None → s ≡ stream_named (named state end) → IsSound state → s < length state.streams
+moved_made state side end to s e same h = named_made state side end s h (move_fits state side end to (sym (refusal-on_end state side end (Move to)) ∙ e)).leaves same
+
 -- the end of a stream went to a guest, under this handle
 module _ (old new : Inside) (s : ℕ) (side : Side) (end : NamedEnd) (to number : ℕ) (o : SetsOwner old new s side (Held to number)) (m : MovesHandle old new side end to s) (n : number ≡ next_in (without_handle (state_of old) end.guest end.handle) to) where
   pub transfers-is : transfers (state_of old) s side end to ≡ goes (replies.Number number) (state_of new)
-  transfers-is = rw (o.same.tag, o.same.limits, o.same.contexts, o.same.trapped, m.guests, o.streams, n) refl
+  transfers-is = rw (o.same.tag, o.same.limits, o.same.producers, o.same.contexts, o.same.trapped, m.guests, o.streams, n) refl
 
   pub IsStore-moved : old.is_trapped ≡ false → refusal (state_of old) (OnEnd side end (Move to)) ≡ None → s ≡ stream_named (named (state_of old) end) → IsStore old → IsStore new
   IsStore-moved t e same i =
@@ -149,6 +167,7 @@ module _ (old new : Inside) (s : ℕ) (side : Side) (end : NamedEnd) (to number 
         counted = o.counted;
         sets = o.live_sets ∙ i.sets ∙ sym (ap sets_among m.guests ∙ sets-with_table (without_handle_in (seen old.guests.items) end.guest end.handle) to _ (sets_in (without_handle_in (seen old.guests.items) end.guest end.handle) to) refl ∙ sets-with_table (seen old.guests.items) end.guest _ (left (sets_in (seen old.guests.items) end.guest) end.handle) refl);
         streams = o.streams;
+        served = rw (o.same.producers, o.streams) (AreServed-set old.producers old.streams.items i.served s _ (moved_made (state_of old) side end to s e same i.sound) (owned-comes side (stream_at (state_of old) s) (Held to number) refl));
       })
       (subst (λ (r : Reaction). IsSound r.state) transfers-is sound) i
 
@@ -168,7 +187,7 @@ lower_made state reader g ty e = loose_made state reader (lower_fits state reade
 -- a loose end came into a guest, under this handle
 module _ (old new : Inside) (s g : ℕ) (ty : TransmitIndex) (number : ℕ) (o : SetsOwner old new s Reading (Held g number)) (m : GivesHandle old new Reading ty g s) (n : number ≡ next_in (state_of old) g) where
   pub lowers-is : lowers (state_of old) s g ty ≡ goes (replies.Number number) (state_of new)
-  lowers-is = rw (o.same.tag, o.same.limits, o.same.contexts, o.same.trapped, m.guests, o.streams, n) refl
+  lowers-is = rw (o.same.tag, o.same.limits, o.same.producers, o.same.contexts, o.same.trapped, m.guests, o.streams, n) refl
 
   pub IsStore-lowered : old.is_trapped ≡ false → refusal (state_of old) (OnLoose s (Lower g ty)) ≡ None → IsStore old → IsStore new
   IsStore-lowered t e i =
@@ -184,5 +203,6 @@ module _ (old new : Inside) (s g : ℕ) (ty : TransmitIndex) (number : ℕ) (o :
         counted = o.counted;
         sets = o.live_sets ∙ i.sets ∙ sym (ap sets_among m.guests ∙ sets-with_table (seen old.guests.items) g _ (sets_in (seen old.guests.items) g) refl);
         streams = o.streams;
+        served = rw (o.same.producers, o.streams) (AreServed-set old.producers old.streams.items i.served s _ (lower_made (state_of old) s g ty e) (owned-comes Reading (stream_at (state_of old) s) (Held g number) refl));
       })
       (subst (λ (r : Reaction). IsSound r.state) lowers-is sound) i

@@ -49,6 +49,7 @@ IsStore-tables old new k h sound i =
       live = h.live;
       within = h.within;
       streams = rw (k.live_streams, k.streams) i.streams;
+      served = rw (k.same.producers, k.streams) i.served;
       sets = h.sets;
       bytes = k.bytes ∙ i.bytes ∙ sym (same_bytes (seen old.guests.items) (seen new.guests.items) h.sizes);
       few_guests = omega (arith, count, i.few_guests, length-map old.guests.items guest_of, length-map new.guests.items guest_of);
@@ -57,7 +58,7 @@ IsStore-tables old new k h sound i =
 
 -- the state, where streams stay and guests are these
 state_with : (old new : Inside) → KeepsStreams old new → (guests : List Guest) → seen new.guests.items ≡ guests → state_of new ≡ record (state_of old) { guests = guests }
-state_with old new k guests e = rw (k.same.tag, k.same.limits, k.same.contexts, k.same.trapped, k.streams, e) refl
+state_with old new k guests e = rw (k.same.tag, k.same.limits, k.same.producers, k.same.contexts, k.same.trapped, k.streams, e) refl
 
 -- ## A set more
 

@@ -30,14 +30,16 @@ use Rattle.strm_codes.specs.declared.codes.TransmitIndex.{TransmitIndex}
 use Rattle.strm_machine.specs.Making.{with_read_end, with_ends, made_stream, made_pair, with_stream}
 use Rattle.strm_machine.specs.declared.replies.Pair.{Pair}
 use Rattle.strm_turns.specs.Guests.{guest_of, seen, live_in, sets_among}
-use Rattle.strm_transmit.specs.Inside.{state_of, IsStore}
+use Rattle.strm_transmit.specs.Inside.{state_of, AreServed, IsStore}
 use Rattle.strm_turns.specs.declared.guests.Guest as ours
 use Rattle.strm_transmit.specs.declared.store.Store.TheInside.{Inside}
+use Rattle.strm_transmit.proofs.ServedLemmas.{AreServed-set, AreServed-push, same_owners}
 
 -- fields that a call leaves as they were
 pub record SameBut (old new : Inside) : Type 0 where
   pub tag : new.tag ≡ old.tag
   pub limits : new.limits ≡ old.limits
+  pub producers : new.producers ≡ old.producers
   pub contexts : new.contexts ≡ old.contexts
   pub trapped : new.is_trapped ≡ old.is_trapped
 
@@ -62,7 +64,7 @@ pub record AddsGuest (old new : Inside) (g : ours.Guest) (size : ℕ) : Type 0 w
 
 state_of-guest : (old new : Inside) (g : ours.Guest) (size : ℕ) → AddsGuest old new g size → state_of new ≡ record (state_of old) { guests = seen old.guests.items ++ guest_of g ∷ [] }
 state_of-guest old new g size h =
-    rw (h.same.tag, h.same.limits, h.same.contexts, h.same.trapped, h.streams, h.guests, seen-push old.guests.items g) refl
+    rw (h.same.tag, h.same.limits, h.same.producers, h.same.contexts, h.same.trapped, h.streams, h.guests, seen-push old.guests.items g) refl
 
 -- how many sets are there
 abbrev pub how_many : Sets → ℕ
@@ -90,6 +92,7 @@ IsStore-guest old new g size h e s =
       live = ap (λ (c : Counter). c.live) h.counter ∙ s.live ∙ live;
       within = rw h.counter s.within;
       streams = rw (h.live_streams, h.streams) s.streams;
+      served = rw (h.same.producers, h.streams) s.served;
       sets = h.live_sets ∙ s.sets ∙ sets;
       bytes = omega (arith, h.bytes, s.bytes, bytes, many);
       few_guests = rw h.guests (omega (arith, fits.count, length-map old.guests.items guest_of, length-append old.guests.items (g ∷ [])));
@@ -145,14 +148,14 @@ pub record PutsBytes (old new : Inside) (g address : ℕ) (bytes : List ℕ) : T
 pub performs-poke : (old new : Inside) (g address : ℕ) (bytes : List ℕ) → PutsBytes old new g address bytes → performs (state_of old) (OnMemory g (Poke address bytes)) ≡ goes replies.Done (state_of new)
 unfolding performs
 performs-poke old new g address bytes h =
-    rw (h.same.tag, h.same.limits, h.same.contexts, h.same.trapped, h.streams, h.guests) refl
+    rw (h.same.tag, h.same.limits, h.same.producers, h.same.contexts, h.same.trapped, h.streams, h.guests) refl
 
 pub IsStore-put : (old new : Inside) (g address : ℕ) (bytes : List ℕ) → PutsBytes old new g address bytes → BytesFit (state_of old) g address (length bytes) → IsStore old → IsStore new
 IsStore-put old new g address bytes h fits s =
     let size = length-poked (memory_in (seen old.guests.items) g) address bytes fits.inside in
     let keeps = with_memory-keeps (seen old.guests.items) g (put_at (memory_in (seen old.guests.items) g) address bytes) size in
     let kept : GuestsKeep (seen old.guests.items) (seen new.guests.items) = rw h.guests keeps in
-    let state : state_of new ≡ record (state_of old) { guests = seen new.guests.items } = rw (h.same.tag, h.same.limits, h.same.contexts, h.same.trapped, h.streams) refl in
+    let state : state_of new ≡ record (state_of old) { guests = seen new.guests.items } = rw (h.same.tag, h.same.limits, h.same.producers, h.same.contexts, h.same.trapped, h.streams) refl in
     let count = same_count (seen old.guests.items) (seen new.guests.items) kept.sizes in
     record {
       sound = rw state (IsSound-guests (state_of old) (seen new.guests.items) kept s.sound);
@@ -160,6 +163,7 @@ IsStore-put old new g address bytes h fits s =
       live = ap (λ (c : Counter). c.live) h.counter ∙ s.live ∙ sym (same_handles (seen old.guests.items) (seen new.guests.items) kept.handles);
       within = rw h.counter s.within;
       streams = rw (h.live_streams, h.streams) s.streams;
+      served = rw (h.same.producers, h.streams) s.served;
       sets = h.live_sets ∙ s.sets ∙ sym (same_sets (seen old.guests.items) (seen new.guests.items) kept.sets);
       bytes = h.count ∙ s.bytes ∙ sym (same_bytes (seen old.guests.items) (seen new.guests.items) kept.sizes);
       few_guests = omega (arith, count, s.few_guests, length-map old.guests.items guest_of, length-map new.guests.items guest_of);
@@ -174,6 +178,7 @@ IsStore-poke old new g address bytes h e s =
 pub record TakesTurn (old new : Inside) (s : ℕ) (t : Turn) : Type 0 where
   pub tag : new.tag ≡ old.tag
   pub limits : new.limits ≡ old.limits
+  pub producers : new.producers ≡ old.producers
   pub contexts : new.contexts ≡ old.contexts
   pub counter : new.counter ≡ old.counter
   pub live_streams : new.live_streams ≡ old.live_streams
@@ -201,6 +206,7 @@ pub record SetsStream (old new : Inside) (s : ℕ) (stream : Stream) : Type 0 wh
   pub counted : new.live_streams ≡ count_by is_live new.streams.items
   pub sets : new.live_sets ≡ sets_in_use (state_of new)
   pub streams : new.streams.items ≡ set old.streams.items s stream
+  pub served : AreServed new.producers new.streams.items
 
 -- a call that sets one stream keeps the store's invariant where the state stays sound
 pub IsStore-stream : (old new : Inside) (s : ℕ) (stream : Stream) → SetsStream old new s stream → IsSound (state_of new) → IsStore old → IsStore new
@@ -212,6 +218,7 @@ IsStore-stream old new s stream h sound i =
       live = h.live;
       within = h.within;
       streams = h.counted;
+      served = h.served;
       sets = h.sets;
       bytes = h.bytes ∙ i.bytes ∙ sym (same_bytes (seen old.guests.items) (seen new.guests.items) h.sizes);
       few_guests = omega (arith, count, i.few_guests, length-map old.guests.items guest_of, length-map new.guests.items guest_of);
@@ -236,6 +243,7 @@ IsStore-turn old new s t l keeps h i =
       counted = rw h.streams (as_many _ _ _ _ _ there (ap live_by owners) (h.live_streams ∙ i.streams));
       sets = h.live_sets ∙ i.sets ∙ sym (same_sets (seen old.guests.items) (seen new.guests.items) (rw h.guests keeps.guests.sets));
       streams = h.streams;
+      served = rw (h.producers, h.streams) (AreServed-set old.producers old.streams.items i.served s t.stream l (same_owners (stream_at (state_of old) s) t.stream keeps.stream.writer keeps.stream.reader));
     })
     (record {
       named = rw (h.guests, h.streams) sound.named;
@@ -269,7 +277,7 @@ pub record MakesStream (old new : Inside) (writer reader : ℕ) (ty : TransmitIn
 
 state_of-made : (old new : Inside) (writer reader : ℕ) (ty : TransmitIndex) → MakesStream old new writer reader ty → state_of new ≡ with_stream (state_of old) writer reader ty
 unfolding with_stream
-state_of-made old new writer reader ty h = rw (h.same.tag, h.same.limits, h.same.contexts, h.same.trapped, h.guests, h.streams) refl
+state_of-made old new writer reader ty h = rw (h.same.tag, h.same.limits, h.same.producers, h.same.contexts, h.same.trapped, h.guests, h.streams) refl
 
 pub performs-made : (old new : Inside) (writer reader : ℕ) (ty : TransmitIndex) (pair : Pair) → MakesStream old new writer reader ty → pair ≡ made_pair (state_of old) writer reader ty → performs (state_of old) (Make (Between writer reader ty)) ≡ goes (replies.Pair pair) (state_of new)
 unfolding performs
@@ -300,6 +308,7 @@ IsStore-made old new writer reader ty h e s =
       live = omega (arith, ap (λ (c : Counter). c.live) h.counter, s.live, h.live);
       within = rw h.counter (omega (arith, fits.handles, s.limit, s.live));
       streams = omega (arith, h.live_streams, s.streams, live);
+      served = rw (h.same.producers, h.streams) (AreServed-push old.producers old.streams.items s.served stream refl refl);
       sets = h.live_sets ∙ s.sets ∙ sym (ap sets_among h.guests ∙ sets-made (seen old.guests.items) writer reader ty (length old.streams.items));
       bytes = h.bytes ∙ s.bytes ∙ sym bytes;
       few_guests = omega (arith, count, s.few_guests, length-map old.guests.items guest_of, length-map new.guests.items guest_of);

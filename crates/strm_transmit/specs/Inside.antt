@@ -1,7 +1,11 @@
 -- The store's fields as the machine's state, and what they keep: counters that agree with it. Ours.
-use Rattle.std.specs.Prelude.{◌≡◌, ◌≤◌, length, count_by}
-use Rattle.strm_machine.specs.State.{State, is_live, handles_in_use, sets_in_use, bytes_in_use}
+use Rattle.std.specs.Prelude.{◌≡◌, ℕ, ◌<◌, ◌≤◌, false, List, length, count_by, slice_index_or}
+use Rattle.strm_machine.specs.State.{State, is_live, is_host, host_limit, no_stream, no_producer, handles_in_use, sets_in_use, bytes_in_use}
 use Rattle.strm_machine.specs.Soundness.{IsSound}
+use Rattle.strm_machine.specs.declared.streams.Duty.TheVariants.{Serves}
+use Rattle.strm_machine.specs.declared.streams.Owner.TheVariants.{Host}
+use Rattle.strm_machine.specs.declared.streams.Producer.{Producer}
+use Rattle.strm_machine.specs.declared.streams.Stream.{Stream}
 use Rattle.strm_turns.specs.Guests.{seen}
 use Rattle.strm_transmit.specs.declared.store.Store.TheInside.{Inside}
 
@@ -12,9 +16,19 @@ state_of s = record {
   limits = s.limits;
   guests = seen s.guests.items;
   streams = s.streams.items;
+  producers = s.producers;
   contexts = s.contexts;
   trapped = s.is_trapped;
 }
+
+-- the end of a host writer is of the one stream that it serves, a stream that is served was made, and
+-- no host end has a read end
+pub record AreServed (producers : List Producer) (streams : List Stream) : Type 0 where
+  pub all : length producers ≡ host_limit
+  pub serves : (n s : ℕ) → (slice_index_or streams s no_stream).writer.owner ≡ Host n →
+      (slice_index_or producers n no_producer).duty ≡ Serves s
+  pub made : (n s : ℕ) → (slice_index_or producers n no_producer).duty ≡ Serves s → s < length streams
+  pub unpiped : (s : ℕ) → is_host (slice_index_or streams s no_stream).reader.owner ≡ false
 
 -- handles name streams and sets, and operations lie in memory; what is counted is what is there
 pub record IsStore (s : Inside) : Type 0 where
@@ -23,6 +37,7 @@ pub record IsStore (s : Inside) : Type 0 where
   pub live : s.counter.live ≡ handles_in_use (state_of s)
   pub within : s.counter.live ≤ s.counter.limit
   pub streams : s.live_streams ≡ count_by is_live s.streams.items
+  pub served : AreServed s.producers s.streams.items
   pub sets : s.live_sets ≡ sets_in_use (state_of s)
   pub bytes : s.bytes ≡ bytes_in_use (state_of s)
   pub few_guests : length s.guests.items ≤ 1048576

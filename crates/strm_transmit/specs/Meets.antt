@@ -6,7 +6,7 @@ use Rattle.strm_machine.specs.Acts.{act_of}
 use Rattle.strm_machine.specs.State.{State}
 use Rattle.strm_machine.specs.Reactions.{Reaction, goes}
 use Rattle.strm_machine.specs.declared.acts.Act.{Act}
-use Rattle.strm_machine.specs.declared.acts.Act.TheVariants.{Make, OnEnd, OnLoose, OnSet, OnContext}
+use Rattle.strm_machine.specs.declared.acts.Act.TheVariants.{Make, OnEnd, OnLoose, OnHost, OnSet, OnContext}
 use Rattle.strm_machine.specs.declared.acts.ContextAct.TheVariants as context_acts
 use Rattle.strm_machine.specs.declared.acts.EndAct.TheVariants.{Move}
 use Rattle.strm_machine.specs.declared.acts.LooseAct.TheVariants.{Lower}
@@ -15,7 +15,7 @@ use Rattle.strm_machine.specs.declared.steps.Step.{Step}
 use Rattle.strm_machine.specs.declared.replies.Reply.{Reply}
 use Rattle.strm_machine.specs.declared.replies.Reply.TheVariants as replies
 use Rattle.strm_transmit.specs.declared.errors.StoreError.{StoreError}
-use Rattle.strm_transmit.specs.declared.errors.StoreError.TheVariants.{Refused, BadItem, StoreTrapped, OutOfMemory}
+use Rattle.strm_transmit.specs.declared.errors.StoreError.TheVariants.{Refused, HostFailed, HostBroke, BadItem, StoreTrapped, OutOfMemory}
 
 -- a reply of a step that is done
 abbrev pub is_done : Reply → Bool
@@ -26,10 +26,12 @@ is_done _ = true
 
 -- the store's answer and the state after it are the machine's. A refusal, a store that was trapped
 -- and want of memory leave the state as it was; want of memory comes only where the machine does the
--- step, so never in place of a refusal
+-- step, so never in place of a refusal. No host end is polled, so none fails or breaks its rules
 abbrev pub Meets : State → State → Result Reply StoreError → Reaction → Type 0
 Meets old new (Ok reply) reaction = reaction ≡ goes reply new
 Meets old new (Err (Refused refusal)) reaction = (reaction ≡ goes (replies.Refused refusal) new) × (new ≡ old)
+Meets old new (Err (HostFailed end)) reaction = ⊥
+Meets old new (Err (HostBroke end)) reaction = ⊥
 Meets old new (Err (BadItem stream)) reaction = (reaction ≡ goes (replies.BadItem stream) new) × (new.trapped ≡ true)
 Meets old new (Err StoreTrapped) reaction = (reaction ≡ goes replies.StoreTrapped new) × (new ≡ old)
 Meets old new (Err OutOfMemory) reaction = (is_done reaction.reply ≡ true) × (new ≡ old)
@@ -56,16 +58,20 @@ or_found (Some refusal) value = Err refusal
 -- an answer in which a refusal is a reply too
 abbrev pub refused_too : Result Reply StoreError → Result Reply StoreError
 refused_too (Err (Refused refusal)) = Ok (replies.Refused refusal)
+refused_too (Err (HostFailed end)) = Err (HostFailed end)
+refused_too (Err (HostBroke end)) = Err (HostBroke end)
 refused_too (Err (BadItem stream)) = Err (BadItem stream)
 refused_too (Err StoreTrapped) = Err StoreTrapped
 refused_too (Err OutOfMemory) = Err OutOfMemory
 refused_too (Ok reply) = Ok reply
 
--- an act that takes memory: it makes something, gives a guest a handle, or a set a member
+-- an act that takes memory: it makes something, gives a guest a handle or a set a member, or calls a
+-- host writer
 abbrev pub act_takes_memory : Act → Bool
 act_takes_memory (Make making) = true
 act_takes_memory (OnEnd side end (Move to)) = true
 act_takes_memory (OnLoose reader (Lower guest ty)) = true
+act_takes_memory (OnHost host act) = true
 act_takes_memory (OnSet guest set (Join handle)) = true
 act_takes_memory (OnContext guest handle (context_acts.Move to)) = true
 act_takes_memory _ = false

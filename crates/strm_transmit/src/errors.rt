@@ -8,18 +8,24 @@ ghost use Rattle.strm_transmit.specs.declared.errors.StoreError.TheVariants.{Ref
 use std::alloc::AllocError;
 use strm_codes::counts::OutOfMemory;
 use strm_codes::refusals::Refusal;
+use strm_machine::streams::HostEnd;
 
 /// Why a call did not answer.
 #[derive(Clone, Copy, Debug, PartialEq, Eq)]
 pub enum StoreError {
     /// What was asked may not be done now. Nothing has changed.
     Refused(Refusal),
+    /// This host end failed. The store is trapped from now on.
+    HostFailed { end: HostEnd },
+    /// This host end broke its rules. The store is trapped from now on.
+    HostBroke { end: HostEnd },
     /// An item of this stream is no Unicode scalar value. Nothing was moved, and the store is
     /// trapped from now on.
     BadItem { stream: u32 },
     /// An earlier call trapped the store. Nothing has changed.
     StoreTrapped,
-    /// An allocation was refused. Nothing has changed.
+    /// An allocation was refused. In a drive round, and in a read that a host writer is to fill, the
+    /// store is trapped from now on; anywhere else nothing has changed.
     OutOfMemory,
 }
 

@@ -13,19 +13,20 @@ ghost use Rattle.strm_transmit.specs.Meets.{Meets, replied, refused_too, is_sett
 
 use crate::errors::StoreError;
 use crate::store::Store;
-use strm_machine::acts::{Act, ContextAct, EndAct, LooseAct, Making, MemoryAct, NamedEnd, SetAct};
+use strm_buffers::hosts::Hosts;
+use strm_machine::acts::{Act, ContextAct, EndAct, HostAct, LooseAct, Making, MemoryAct, NamedEnd, SetAct};
 use strm_machine::replies::Reply;
 use strm_machine::steps::Step;
 use strm_machine::streams::Side;
 
 /// Does a step. A refusal is a reply; what comes as an error stops a run.
-pub fn apply(store: &mut Store, step: &Step) -> Result<Reply, StoreError>
+pub fn apply(store: &mut Store, hosts: &mut Hosts, step: &Step) -> Result<Reply, StoreError>
     ensures meets { Meets store.old store.new result (react store.old step.now) }
     ensures settled { IfOk result (λ reply. IsTrue (is_settled reply)) }
     ensures refused { (refusal : Refusal) → result ≢ Err (StoreError.Refused refusal) }
     ensures takes_no_memory { takes_memory step.now ≡ false → result ≢ Err StoreError.OutOfMemory }
 {
-    reply(perform(store, Act::of(step)))
+    reply(perform(store, hosts, Act::of(step)))
 }
 
 // A refusal is a reply.
@@ -48,15 +49,17 @@ fn done(_nothing: ()) -> Reply
 
 // The one call that an act names.
 #[inline(always)]
-fn perform(store: &mut Store, act: Act) -> Result<Reply, StoreError>
+fn perform(store: &mut Store, hosts: &mut Hosts, act: Act) -> Result<Reply, StoreError>
     ensures meets { Meets store.old store.new result (reaction store.old act) }
     ensures settled { IfOk result (λ reply. IsTrue (is_settled reply)) }
     ensures takes_no_memory { act_takes_memory act ≡ false → result ≢ Err StoreError.OutOfMemory }
 {
     match act {
         Act::Make { making } => make(store, making),
-        Act::OnEnd { side, end, act } => on_end(store, side, &end, act),
-        Act::OnLoose { reader, act } => on_loose(store, reader, act),
+        Act::OnEnd { side, end, act } => on_end(store, hosts, side, &end, act),
+        Act::OnLoose { reader, act } => on_loose(store, hosts, reader, act),
+        Act::OnHost { host, act } => on_host(store, hosts, host, act),
+        Act::Drive => store.drive_once(hosts).map(done),
         Act::Event { guest, handle } => store.take_event(guest, handle).map(Reply::Event),
         Act::OnSet { guest, set, act } => on_set(store, guest, set, act),
         Act::OnContext { guest, handle, act } => on_context(store, guest, handle, act),
@@ -89,7 +92,7 @@ fn make(store: &mut Store, making: Making) -> Result<Reply, StoreError>
 
 // What is done to the end that is named.
 #[inline(always)]
-fn on_end(store: &mut Store, side: Side, end: &NamedEnd, act: EndAct) -> Result<Reply, StoreError>
+fn on_end(store: &mut Store, hosts: &mut Hosts, side: Side, end: &NamedEnd, act: EndAct) -> Result<Reply, StoreError>
     ensures meets { Meets store.old store.new result
         (reaction store.old (acts.OnEnd side end.now act)) }
     ensures settled { IfOk result (λ reply. IsTrue (is_settled reply)) }
@@ -98,9 +101,9 @@ fn on_end(store: &mut Store, side: Side, end: &NamedEnd, act: EndAct) -> Result<
 {
     match act {
         EndAct::Operate { address, count } => {
-            store.operate(side, end, address, count).map(Reply::Code)
+            store.operate(hosts, side, end, address, count).map(Reply::Code)
         }
-        EndAct::Drop => store.drop_side(side, end).map(done),
+        EndAct::Drop => store.drop_side(hosts, side, end).map(done),
         EndAct::Cancel => store.cancel_side(side, end).map(Reply::Code),
         EndAct::Move { to } => store.move_side(side, end, to).map(Reply::Number),
         EndAct::Lift => store.lift_side(side, end).map(Reply::Number),
@@ -108,7 +111,7 @@ fn on_end(store: &mut Store, side: Side, end: &NamedEnd, act: EndAct) -> Result<
 }
 
 // What is done to the loose read end of a stream.
-fn on_loose(store: &mut Store, reader: u32, act: LooseAct) -> Result<Reply, StoreError>
+fn on_loose(store: &mut Store, hosts: &mut Hosts, reader: u32, act: LooseAct) -> Result<Reply, StoreError>
     ensures meets { Meets store.old store.new result
         (reaction store.old (acts.OnLoose reader act)) }
     ensures settled { IfOk result (λ reply. IsTrue (is_settled reply)) }
@@ -117,7 +120,15 @@ fn on_loose(store: &mut Store, reader: u32, act: LooseAct) -> Result<Reply, Stor
 {
     match act {
         LooseAct::Lower { guest, ty } => store.lower(reader, guest, ty).map(Reply::Number),
-        LooseAct::Close => store.close(reader).map(done),
+        LooseAct::Close => store.close(hosts, reader).map(done),
+    }
+}
+
+// What is done to a host writer.
+fn on_host(store: &mut Store, hosts: &mut Hosts, host: u32, act: HostAct) -> Result<Reply, StoreError> {
+    match act {
+        HostAct::New => store.host_new(hosts, host).map(Reply::Number),
+        HostAct::Feed { bytes } => store.feed(hosts, host, &bytes).map(done),
     }
 }
 

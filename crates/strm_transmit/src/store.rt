@@ -8,7 +8,9 @@ ghost use Rattle.strm_codes.specs.Types.{kind_of, payload_of};
 ghost use Rattle.strm_machine.specs.State.{empty, is_live, stream_at, memory_in};
 
 mod contexts;
+mod driving;
 mod endings;
+mod hosting;
 mod making;
 mod memories;
 mod moves;
@@ -24,11 +26,17 @@ use strm_codes::refusals::Refusal;
 use strm_contexts::contexts::ErrorContexts;
 use strm_handles::counters::HandleCounter;
 use strm_machine::limits::Limits;
-use strm_machine::streams::Stream;
+use strm_machine::streams::{Duty, Producer, Stream};
 use strm_turns::guests::Guest;
 use strm_turns::owners::is_live;
 
-/// Guests and the streams between them.
+/// A host writer that was never used.
+const NO_PRODUCER: Producer = Producer {
+    duty: Duty::Unused,
+    over: false,
+};
+
+/// Guests, the streams between them, and what is kept of host writers.
 #[derive(Drop)]
 pub struct Store {
     tag: u64,
@@ -36,6 +44,8 @@ pub struct Store {
     counter: HandleCounter,
     guests: Vec<Guest>,
     streams: Vec<Stream>,
+    // What is kept of each host writer, by its number.
+    producers: [Producer; 64],
     contexts: ErrorContexts,
     // Streams of which an end is there.
     live_streams: u32,
@@ -77,6 +87,7 @@ impl Store {
             counter: HandleCounter::new(limits.handles),
             guests: Vec::new(alloc),
             streams: Vec::new(alloc),
+            producers: [NO_PRODUCER; 64],
             contexts: ErrorContexts::new(alloc),
             live_streams: 0,
             live_sets: 0,
@@ -151,7 +162,7 @@ impl Store {
 
     // A stream.
     #[inline(always)]
-    fn stream(&self, stream: u32) -> &Stream
+    pub(crate) fn stream(&self, stream: u32) -> &Stream
         requires { stream < length self.now.streams }
         ensures { result.now ≡ stream_at self.now stream }
     {

@@ -1,13 +1,16 @@
 //! Calls of a store as rows: what is called, and what is told.
 
 use std::alloc::Global;
+use strm_buffers::hosts::Hosts;
 use strm_codes::codes::{ReturnCode, TransmitIndex};
 use strm_codes::payloads::Payload;
 use strm_codes::refusals::Refusal;
 use strm_machine::chunks::Chunk;
 use strm_machine::limits::Limits;
 use strm_machine::replies::Reply;
+use strm_machine::steps::Step;
 use strm_transmit::errors::StoreError;
+use strm_transmit::steps::apply;
 use strm_transmit::store::Store;
 
 pub(crate) type Answer = Result<Reply, StoreError>;
@@ -80,19 +83,30 @@ fn told_by(answer: Answer) -> Told {
         Ok(Reply::Code(code) | Reply::Event(Some(code))) => code_told(code),
         Ok(Reply::Event(None)) => Told::Nothing,
         Ok(_) | Err(StoreError::OutOfMemory) => Told::Other,
+        Err(StoreError::HostFailed { .. } | StoreError::HostBroke { .. }) => Told::Other,
         Err(StoreError::Refused(refusal)) => Told::Refused(refusal),
         Err(StoreError::BadItem { stream }) => Told::BadItem(stream),
         Err(StoreError::StoreTrapped) => Told::StoreTrapped,
     }
 }
 
-fn on_stream(store: &mut Store, guest: u32, payload: Payload, handle: u32, act: Act) -> Answer {
+fn on_stream(
+    store: &mut Store,
+    hosts: &mut Hosts,
+    guest: u32,
+    payload: Payload,
+    handle: u32,
+    act: Act,
+) -> Answer {
+    if !store.fits(hosts) {
+        return Err(StoreError::OutOfMemory);
+    }
     match act {
         Act::Write(address, count) => store
-            .stream_write(guest, payload, handle, address, count)
+            .stream_write(hosts, guest, payload, handle, address, count)
             .map(Reply::Code),
         Act::Read(address, count) => store
-            .stream_read(guest, payload, handle, address, count)
+            .stream_read(hosts, guest, payload, handle, address, count)
             .map(Reply::Code),
         Act::CancelWrite => store
             .stream_cancel_write(guest, payload, handle)
@@ -100,18 +114,28 @@ fn on_stream(store: &mut Store, guest: u32, payload: Payload, handle: u32, act: 
         Act::CancelRead => store
             .stream_cancel_read(guest, payload, handle)
             .map(Reply::Code),
-        Act::DropWrite => store.stream_drop_writable(guest, payload, handle).map(done),
-        Act::DropRead => store.stream_drop_readable(guest, payload, handle).map(done),
+        Act::DropWrite => store.stream_drop_writable(hosts, guest, payload, handle).map(done),
+        Act::DropRead => store.stream_drop_readable(hosts, guest, payload, handle).map(done),
     }
 }
 
-fn on_future(store: &mut Store, guest: u32, payload: Payload, handle: u32, act: Act) -> Answer {
+fn on_future(
+    store: &mut Store,
+    hosts: &mut Hosts,
+    guest: u32,
+    payload: Payload,
+    handle: u32,
+    act: Act,
+) -> Answer {
+    if !store.fits(hosts) {
+        return Err(StoreError::OutOfMemory);
+    }
     match act {
         Act::Write(address, _) => store
-            .future_write(guest, payload, handle, address)
+            .future_write(hosts, guest, payload, handle, address)
             .map(Reply::Code),
         Act::Read(address, _) => store
-            .future_read(guest, payload, handle, address)
+            .future_read(hosts, guest, payload, handle, address)
             .map(Reply::Code),
         Act::CancelWrite => store
             .future_cancel_write(guest, payload, handle)
@@ -119,8 +143,8 @@ fn on_future(store: &mut Store, guest: u32, payload: Payload, handle: u32, act: 
         Act::CancelRead => store
             .future_cancel_read(guest, payload, handle)
             .map(Reply::Code),
-        Act::DropWrite => store.future_drop_writable(guest, payload, handle).map(done),
-        Act::DropRead => store.future_drop_readable(guest, payload, handle).map(done),
+        Act::DropWrite => store.future_drop_writable(hosts, guest, payload, handle).map(done),
+        Act::DropRead => store.future_drop_readable(hosts, guest, payload, handle).map(done),
     }
 }
 
@@ -171,7 +195,7 @@ fn has_type(store: &Store, stream: u32, ty: TransmitIndex) -> Answer {
     }
 }
 
-fn answer(store: &mut Store, call: &Call) -> Answer {
+fn answer(store: &mut Store, hosts: &mut Hosts, call: &Call) -> Answer {
     match call {
         Call::AddGuest(size) => store.add_guest(*size).map(Reply::Number),
         Call::New(guest, ty) => made(store, *guest, *ty),
@@ -179,10 +203,10 @@ fn answer(store: &mut Store, call: &Call) -> Answer {
             store.new_between(*writer, *reader, *ty).map(Reply::Pair)
         }
         Call::OnEnd(guest, TransmitIndex::Stream(payload), handle, act) => {
-            on_stream(store, *guest, *payload, *handle, *act)
+            on_stream(store, hosts, *guest, *payload, *handle, *act)
         }
         Call::OnEnd(guest, TransmitIndex::Future(payload), handle, act) => {
-            on_future(store, *guest, *payload, *handle, *act)
+            on_future(store, hosts, *guest, *payload, *handle, *act)
         }
         Call::TakeEvent(guest, handle) => store.take_event(*guest, *handle).map(Reply::Event),
         Call::Poke(guest, address, bytes) => poked(store, *guest, *address, bytes),
@@ -193,12 +217,28 @@ fn answer(store: &mut Store, call: &Call) -> Answer {
     }
 }
 
+/// A list of no host ends.
+pub(crate) fn no_hosts(alloc: Global) -> Hosts {
+    Hosts {
+        writers: Vec::new(alloc),
+        readers: Vec::new(alloc),
+    }
+}
+
+/// A step, where the host ends are those that the store needs.
+pub(crate) fn apply_fitting(store: &mut Store, hosts: &mut Hosts, step: &Step) -> Answer {
+    if !store.fits(hosts) {
+        return Err(StoreError::OutOfMemory);
+    }
+    apply(store, hosts, step)
+}
+
 // The first row that is not told so, from 1.
-pub(crate) fn first_wrong(store: &mut Store, rows: &[(Call, Told)]) -> usize {
+pub(crate) fn first_wrong(store: &mut Store, hosts: &mut Hosts, rows: &[(Call, Told)]) -> usize {
     let mut at = 0usize;
     for (call, expected) in rows {
         at = at.wrapping_add(1);
-        if told_by(answer(store, call)) != *expected {
+        if told_by(answer(store, hosts, call)) != *expected {
             return at;
         }
     }
@@ -208,5 +248,5 @@ pub(crate) fn first_wrong(store: &mut Store, rows: &[(Call, Told)]) -> usize {
 // The same of a new store.
 pub(crate) fn first_wrong_of_new(alloc: Global, limits: Limits, rows: &[(Call, Told)]) -> usize {
     let mut store = Store::new(alloc, 0, limits);
-    first_wrong(&mut store, rows)
+    first_wrong(&mut store, &mut no_hosts(alloc), rows)
 }

@@ -3,13 +3,14 @@
 
 use std::alloc::Global;
 use std::test::Fail;
+use crate::calls::{apply_fitting, no_hosts};
+use strm_buffers::hosts::Hosts;
 use strm_codes::refusals::Refusal;
 use strm_machine::chunks::Chunk;
 use strm_machine::limits::Limits;
 use strm_machine::replies::Reply;
 use strm_machine::steps::Step;
 use strm_transmit::errors::StoreError;
-use strm_transmit::steps::apply;
 use strm_transmit::store::Store;
 
 const LIMITS: Limits = Limits {
@@ -94,11 +95,11 @@ fn with_text(alloc: Global) -> Result<Store, StoreError> {
 }
 
 // The first row that is not answered so, from 1.
-fn first_wrong(store: &mut Store, rows: &[(Step, Reply)]) -> usize {
+fn first_wrong(store: &mut Store, hosts: &mut Hosts, rows: &[(Step, Reply)]) -> usize {
     let mut at = 0usize;
     for (step, reply) in rows {
         at = at.wrapping_add(1);
-        if apply(store, step) != Ok(*reply) {
+        if apply_fitting(store, hosts, step) != Ok(*reply) {
             return at;
         }
     }
@@ -122,10 +123,10 @@ const GONE: [(Step, Reply); 2] = [
 #[test]
 fn a_message_is_told(rt: HostRuntime) -> Result<(), Fail> {
     let mut store = with_text(rt.alloc()).ok().ok_or("guests")?;
-    assert_eq!(rt; first_wrong(&mut store, &TOLD), 0);
+    assert_eq!(rt; first_wrong(&mut store, &mut no_hosts(rt.alloc()), &TOLD), 0);
     let told = Chunk::new(b"\0\0oop").unwrap();
     assert_eq!(rt; store.dump(1, 0, 5), Ok(told));
-    assert_eq!(rt; first_wrong(&mut store, &GONE), 0);
+    assert_eq!(rt; first_wrong(&mut store, &mut no_hosts(rt.alloc()), &GONE), 0);
     Ok(())
 }
 
@@ -141,7 +142,7 @@ fn no_messages(rt: HostRuntime) -> Result<(), Fail> {
     let mut store = with_text(rt.alloc()).ok().ok_or("guests")?;
     let bytes = Chunk::new(&[0xff]).unwrap();
     assert_eq!(rt; store.poke(0, 0, &bytes), Ok(()));
-    assert_eq!(rt; first_wrong(&mut store, &NO_MESSAGE), 0);
+    assert_eq!(rt; first_wrong(&mut store, &mut no_hosts(rt.alloc()), &NO_MESSAGE), 0);
     Ok(())
 }
 
@@ -163,7 +164,7 @@ const LIMITED: [(Step, Reply); 10] = [
 #[test]
 fn limits(rt: HostRuntime) -> Result<(), Fail> {
     let mut store = with_text(rt.alloc()).ok().ok_or("guests")?;
-    assert_eq!(rt; first_wrong(&mut store, &LIMITED), 0);
+    assert_eq!(rt; first_wrong(&mut store, &mut no_hosts(rt.alloc()), &LIMITED), 0);
     Ok(())
 }
 

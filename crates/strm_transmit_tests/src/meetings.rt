@@ -1,6 +1,6 @@
 //! Reads and writes by example, and ends that are dropped.
 
-use crate::calls::{Act, Call, Told, first_wrong, first_wrong_of_new};
+use crate::calls::{Act, Call, Told, first_wrong, first_wrong_of_new, no_hosts};
 use strm_codes::codes::TransmitIndex;
 use strm_codes::payloads::Payload;
 use strm_codes::refusals::Refusal;
@@ -57,7 +57,7 @@ const A_READ_WAITS: [(Call, Told); 12] = [
 #[test]
 fn a_read_waits(rt: HostRuntime) {
     let mut store = Store::new(rt.alloc(), 7, LIMITS);
-    assert_eq!(rt; first_wrong(&mut store, &A_READ_WAITS), 0);
+    assert_eq!(rt; first_wrong(&mut store, &mut no_hosts(rt.alloc()), &A_READ_WAITS), 0);
     assert_eq!(rt; store.tag(), 7);
     assert!(rt; !store.trapped());
     assert!(rt; store.memory(2).is_none());
@@ -125,7 +125,7 @@ const FUTURES_AND_BAD_ITEMS: [(Call, Told); 13] = [
 #[test]
 fn futures_and_bad_items(rt: HostRuntime) {
     let mut store = Store::new(rt.alloc(), 0, LIMITS);
-    assert_eq!(rt; first_wrong(&mut store, &FUTURES_AND_BAD_ITEMS), 0);
+    assert_eq!(rt; first_wrong(&mut store, &mut no_hosts(rt.alloc()), &FUTURES_AND_BAD_ITEMS), 0);
     assert!(rt; store.trapped());
 }
 

@@ -1,5 +1,6 @@
 //! Ends that move by example: lifts, lowers, closes and transfers, by steps and by calls.
 
+use crate::calls::{apply_fitting, no_hosts};
 use std::alloc::Global;
 use std::test::Fail;
 use strm_codes::codes::{ReturnCode, TransmitIndex};
@@ -12,7 +13,6 @@ use strm_machine::limits::Limits;
 use strm_machine::replies::Reply;
 use strm_machine::steps::Step;
 use strm_transmit::errors::StoreError;
-use strm_transmit::steps::apply;
 use strm_transmit::store::Store;
 
 const BYTES: Payload = Payload::One(Scalar::U8);
@@ -81,10 +81,12 @@ const EVENT: Step = Step::Event {
 #[test]
 fn a_write_goes_on_after_a_move(rt: HostRuntime) -> Result<(), Fail> {
     let mut store = with_stream(rt.alloc()).ok().ok_or("a stream")?;
+    let mut hosts = no_hosts(rt.alloc());
     let bytes = Chunk::new(&[10, 11, 12]).unwrap();
     assert_eq!(rt; store.poke(0, 0, &bytes), Ok(()));
     let blocked = Ok(ReturnCode::Blocked);
-    assert_eq!(rt; store.stream_write(0, BYTES, 1, 0, 3), blocked);
+    assert!(rt; store.fits(&hosts));
+    assert_eq!(rt; store.stream_write(&mut hosts, 0, BYTES, 1, 0, 3), blocked);
     let steps = [
         (read(0, 1), Reply::Code(completed(1))),
         (LIFT, Reply::Number(0)),
@@ -97,9 +99,10 @@ fn a_write_goes_on_after_a_move(rt: HostRuntime) -> Result<(), Fail> {
         (EVENT, Reply::Event(Some(GONE))),
     ];
     for (step, reply) in steps {
-        assert_eq!(rt; apply(&mut store, &step), Ok(reply));
+        assert_eq!(rt; apply_fitting(&mut store, &mut hosts, &step), Ok(reply));
     }
-    assert_eq!(rt; store.stream_drop_writable(0, BYTES, 1), Ok(()));
+    assert!(rt; store.fits(&hosts));
+    assert_eq!(rt; store.stream_drop_writable(&mut hosts, 0, BYTES, 1), Ok(()));
     assert_eq!(rt; store.transmit_index(0), None);
     let moved = Chunk::new(&[10, 0, 0, 0, 11, 12]).unwrap();
     assert_eq!(rt; store.dump(1, 0, 6), Ok(moved));
@@ -111,11 +114,15 @@ fn a_write_goes_on_after_a_move(rt: HostRuntime) -> Result<(), Fail> {
 #[test]
 fn an_end_that_was_told_stays(rt: HostRuntime) -> Result<(), Fail> {
     let mut store = with_stream(rt.alloc()).ok().ok_or("a stream")?;
-    assert_eq!(rt; store.stream_drop_writable(0, BYTES, 1), Ok(()));
+    let mut hosts = no_hosts(rt.alloc());
+    assert!(rt; store.fits(&hosts));
+    assert_eq!(rt; store.stream_drop_writable(&mut hosts, 0, BYTES, 1), Ok(()));
     let mut moving = with_stream(rt.alloc()).ok().ok_or("a stream")?;
-    assert_eq!(rt; moving.stream_drop_writable(0, BYTES, 1), Ok(()));
+    assert!(rt; moving.fits(&hosts));
+    assert_eq!(rt; moving.stream_drop_writable(&mut hosts, 0, BYTES, 1), Ok(()));
     assert_eq!(rt; moving.stream_transfer(1, BYTES, 1, 0), Ok(1));
-    assert_eq!(rt; moving.stream_read(0, BYTES, 1, 0, 1), Ok(GONE));
+    assert!(rt; moving.fits(&hosts));
+    assert_eq!(rt; moving.stream_read(&mut hosts, 0, BYTES, 1, 0, 1), Ok(GONE));
     assert_eq!(rt; store.take_event(1, 1), Ok(Some(GONE)));
     assert_eq!(rt; store.stream_transfer(1, BYTES, 1, 0), SPENT);
     assert_eq!(rt; store.lift(1, BYTE_STREAM, 1), SPENT);
@@ -126,15 +133,18 @@ fn an_end_that_was_told_stays(rt: HostRuntime) -> Result<(), Fail> {
 #[test]
 fn a_future_that_passed_stays(rt: HostRuntime) -> Result<(), Fail> {
     let mut store = Store::new(rt.alloc(), 0, LIMITS);
+    let mut hosts = no_hosts(rt.alloc());
     assert_eq!(rt; store.add_guest(16), Ok(0));
     assert_eq!(rt; store.add_guest(16), Ok(1));
     assert!(rt; store.future_new(0, WORDS).is_ok());
     assert_eq!(rt; store.future_transfer(0, WORDS, 1, 1), Ok(1));
     let blocked = Ok(ReturnCode::Blocked);
-    assert_eq!(rt; store.future_read(1, WORDS, 1, 0), blocked);
+    assert!(rt; store.fits(&hosts));
+    assert_eq!(rt; store.future_read(&mut hosts, 1, WORDS, 1, 0), blocked);
     let busy = Err(StoreError::Refused(Refusal::Busy));
     assert_eq!(rt; store.future_transfer(1, WORDS, 1, 0), busy);
-    assert_eq!(rt; store.future_write(0, WORDS, 2, 0), Ok(completed(0)));
+    assert!(rt; store.fits(&hosts));
+    assert_eq!(rt; store.future_write(&mut hosts, 0, WORDS, 2, 0), Ok(completed(0)));
     let told = Ok(Some(completed(0)));
     assert_eq!(rt; store.take_event(1, 1), told);
     assert_eq!(rt; store.future_transfer(1, WORDS, 1, 0), SPENT);
@@ -146,10 +156,12 @@ fn a_future_that_passed_stays(rt: HostRuntime) -> Result<(), Fail> {
 #[test]
 fn a_move_to_the_same_guest(rt: HostRuntime) -> Result<(), Fail> {
     let mut store = Store::new(rt.alloc(), 0, LIMITS);
+    let mut hosts = no_hosts(rt.alloc());
     assert_eq!(rt; store.add_guest(16), Ok(0));
     assert!(rt; store.stream_new(0, BYTES).is_ok());
     assert!(rt; store.stream_new(0, BYTES).is_ok());
-    assert_eq!(rt; store.stream_drop_readable(0, BYTES, 3), Ok(()));
+    assert!(rt; store.fits(&hosts));
+    assert_eq!(rt; store.stream_drop_readable(&mut hosts, 0, BYTES, 3), Ok(()));
     assert_eq!(rt; store.stream_transfer(0, BYTES, 1, 0), Ok(1));
     let unknown = Err(StoreError::Refused(Refusal::UnknownGuest));
     assert_eq!(rt; store.stream_transfer(0, BYTES, 9, 7), unknown);
@@ -166,6 +178,7 @@ fn handles_at_their_limit(rt: HostRuntime) -> Result<(), Fail> {
         places: 100,
     };
     let mut store = Store::new(rt.alloc(), 0, limits);
+    let mut hosts = no_hosts(rt.alloc());
     assert_eq!(rt; store.add_guest(16), Ok(0));
     assert_eq!(rt; store.add_guest(16), Ok(1));
     assert!(rt; store.stream_new(0, BYTES).is_ok());
@@ -174,14 +187,17 @@ fn handles_at_their_limit(rt: HostRuntime) -> Result<(), Fail> {
     let full = Err(StoreError::Refused(Refusal::HandleLimit));
     assert_eq!(rt; store.lower(0, 1, BYTE_STREAM), full);
     assert_eq!(rt; store.stream_transfer(0, BYTES, 1, 1), Ok(1));
-    assert_eq!(rt; store.stream_drop_readable(1, BYTES, 1), Ok(()));
+    assert!(rt; store.fits(&hosts));
+    assert_eq!(rt; store.stream_drop_readable(&mut hosts, 1, BYTES, 1), Ok(()));
     let kind = Err(StoreError::Refused(Refusal::WrongKind));
     assert_eq!(rt; store.lower(0, 1, TransmitIndex::Future(BYTES)), kind);
     let ty = Err(StoreError::Refused(Refusal::WrongType));
     assert_eq!(rt; store.lower(0, 1, TransmitIndex::Stream(WORDS)), ty);
     assert_eq!(rt; store.lower(0, 1, BYTE_STREAM), Ok(1));
     let unknown = Err(StoreError::Refused(Refusal::UnknownReader));
-    assert_eq!(rt; store.close(0), unknown);
-    assert_eq!(rt; store.close(7), unknown);
+    assert!(rt; store.fits(&hosts));
+    assert_eq!(rt; store.close(&mut hosts, 0), unknown);
+    assert!(rt; store.fits(&hosts));
+    assert_eq!(rt; store.close(&mut hosts, 7), unknown);
     Ok(())
 }

@@ -1,5 +1,6 @@
 //! Waitable sets by example: members in order, what a member may not do, and limits.
 
+use crate::calls::{apply_fitting, no_hosts};
 use std::alloc::Global;
 use std::test::Fail;
 use strm_codes::codes::{ReturnCode, TransmitIndex};
@@ -11,7 +12,6 @@ use strm_machine::limits::Limits;
 use strm_machine::replies::{Member, Pair, Reply};
 use strm_machine::steps::Step;
 use strm_transmit::errors::StoreError;
-use strm_transmit::steps::apply;
 use strm_transmit::store::Store;
 
 const BYTES: Payload = Payload::One(Scalar::U8);
@@ -36,10 +36,11 @@ fn completed(count: u32) -> ReturnCode {
 // The first row that is not told so, from 1.
 fn first_wrong(alloc: Global, limits: Limits, rows: &[(Step, Reply)]) -> usize {
     let mut store = Store::new(alloc, 0, limits);
+    let mut hosts = no_hosts(alloc);
     let mut at = 0usize;
     for (step, reply) in rows {
         at = at.wrapping_add(1);
-        if apply(&mut store, step) != Ok(*reply) {
+        if apply_fitting(&mut store, &mut hosts, step) != Ok(*reply) {
             return at;
         }
     }
@@ -232,6 +233,7 @@ fn numbers_of_sets(rt: HostRuntime) {
 #[test]
 fn calls_of_sets(rt: HostRuntime) -> Result<(), Fail> {
     let mut store = Store::new(rt.alloc(), 0, LIMITS);
+    let mut hosts = no_hosts(rt.alloc());
     assert_eq!(rt; store.add_guest(16), Ok(0));
     assert!(rt; store.stream_new(0, BYTES).is_ok());
     assert_eq!(rt; store.set_new(0), Ok(3));
@@ -240,7 +242,8 @@ fn calls_of_sets(rt: HostRuntime) -> Result<(), Fail> {
     assert_eq!(rt; store.set_join(0, 4, 2), Ok(()));
     assert_eq!(rt; store.set_drop(0, 3), Ok(()));
     assert_eq!(rt; store.set_poll(0, 4), Ok(None));
-    assert_eq!(rt; store.stream_drop_readable(0, BYTES, 1), Ok(()));
+    assert!(rt; store.fits(&hosts));
+    assert_eq!(rt; store.stream_drop_readable(&mut hosts, 0, BYTES, 1), Ok(()));
     let gone = Member {
         handle: 2,
         code: GONE,
@@ -249,7 +252,8 @@ fn calls_of_sets(rt: HostRuntime) -> Result<(), Fail> {
     assert_eq!(rt; store.set_poll(0, 4), Ok(None));
     let members = Err(StoreError::Refused(Refusal::SetNotEmpty));
     assert_eq!(rt; store.set_drop(0, 4), members);
-    assert_eq!(rt; store.stream_drop_writable(0, BYTES, 2), Ok(()));
+    assert!(rt; store.fits(&hosts));
+    assert_eq!(rt; store.stream_drop_writable(&mut hosts, 0, BYTES, 2), Ok(()));
     assert_eq!(rt; store.set_drop(0, 4), Ok(()));
     Ok(())
 }

@@ -1,5 +1,6 @@
 //! Steps by example: a refusal is a reply; a bad item and a trapped store stop a run, and are none.
 
+use crate::calls::{apply_fitting, no_hosts};
 use std::alloc::Global;
 use std::test::Fail;
 use strm_codes::codes::{ReturnCode, TransmitIndex};
@@ -11,7 +12,6 @@ use strm_machine::limits::Limits;
 use strm_machine::replies::{Pair, Reply};
 use strm_machine::steps::Step;
 use strm_transmit::errors::StoreError;
-use strm_transmit::steps::apply;
 use strm_transmit::store::Store;
 
 const BYTES: TransmitIndex = TransmitIndex::Stream(Payload::One(Scalar::U8));
@@ -69,10 +69,11 @@ fn made(read: u32, write: u32, stream: u32) -> Result<Reply, StoreError> {
 // The first step that is not answered so, from 1.
 fn first_wrong(alloc: Global, rows: &[(Step, Result<Reply, StoreError>)]) -> usize {
     let mut store = Store::new(alloc, 0, LIMITS);
+    let mut hosts = no_hosts(alloc);
     let mut at = 0usize;
     for (step, expected) in rows {
         at = at.wrapping_add(1);
-        if apply(&mut store, step) != *expected {
+        if apply_fitting(&mut store, &mut hosts, step) != *expected {
             return at;
         }
     }

@@ -20,6 +20,7 @@ ghost use Rattle.strm_transmit.specs.Meets.{Meets, replied, or_found};
 use crate::errors::StoreError;
 use crate::store::Store;
 use crate::store::refusals::side_of;
+use strm_buffers::hosts::Hosts;
 use strm_codes::codes::{ReturnCode, TransmitIndex};
 use strm_codes::payloads::Payload;
 use strm_codes::refusals::Refusal;
@@ -112,7 +113,7 @@ impl Store {
 
     /// Drops the end that a handle names, which is gone then; a stream whose both ends are gone is
     /// removed at once.
-    pub(crate) fn drop_side(&mut self, side: Side, end: &NamedEnd) -> Result<(), StoreError>
+    pub(crate) fn drop_side(&mut self, hosts: &mut Hosts, side: Side, end: &NamedEnd) -> Result<(), StoreError>
         ensures meets { Meets self.old self.new (replied (λ _. replies.Done) result)
             (reaction self.old (OnEnd side end.now Drop)) }
         ensures takes_no_memory { result ≢ Err StoreError.OutOfMemory }
@@ -120,6 +121,7 @@ impl Store {
         match self.admit(self.drop_found(side, end)) {
             Ok(stream) => {
                 self.release(side, end, stream, Owner::Gone);
+                self.forsake(hosts, stream);
                 Ok(())
             }
             Err(error) => Err(error),
@@ -129,6 +131,7 @@ impl Store {
     /// Drops the read end of a stream.
     pub fn stream_drop_readable(
         &mut self,
+        hosts: &mut Hosts,
         guest: u32,
         payload: Payload,
         handle: u32,
@@ -139,12 +142,13 @@ impl Store {
     {
         let ty = TransmitIndex::Stream(payload);
         let end = NamedEnd { guest, ty, handle };
-        self.drop_side(Side::Reading, &end)
+        self.drop_side(hosts, Side::Reading, &end)
     }
 
     /// Drops the write end of a stream.
     pub fn stream_drop_writable(
         &mut self,
+        hosts: &mut Hosts,
         guest: u32,
         payload: Payload,
         handle: u32,
@@ -155,12 +159,13 @@ impl Store {
     {
         let ty = TransmitIndex::Stream(payload);
         let end = NamedEnd { guest, ty, handle };
-        self.drop_side(Side::Writing, &end)
+        self.drop_side(hosts, Side::Writing, &end)
     }
 
     /// Drops the read end of a future.
     pub fn future_drop_readable(
         &mut self,
+        hosts: &mut Hosts,
         guest: u32,
         payload: Payload,
         handle: u32,
@@ -171,13 +176,14 @@ impl Store {
     {
         let ty = TransmitIndex::Future(payload);
         let end = NamedEnd { guest, ty, handle };
-        self.drop_side(Side::Reading, &end)
+        self.drop_side(hosts, Side::Reading, &end)
     }
 
     /// Drops the write end of a future, which is refused before its value passed or it was told
     /// that nobody reads it.
     pub fn future_drop_writable(
         &mut self,
+        hosts: &mut Hosts,
         guest: u32,
         payload: Payload,
         handle: u32,
@@ -188,7 +194,7 @@ impl Store {
     {
         let ty = TransmitIndex::Future(payload);
         let end = NamedEnd { guest, ty, handle };
-        self.drop_side(Side::Writing, &end)
+        self.drop_side(hosts, Side::Writing, &end)
     }
 
     // The stream whose end a handle of a guest names, where that end has an operation.

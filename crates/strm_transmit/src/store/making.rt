@@ -75,7 +75,7 @@ fn pass_limit(limit: u32, streams: u32, sets: u32, contexts: usize, needed: u32)
 }
 
 // One item more, in room that is there.
-fn place<T: Copy>(items: &mut Vec<T>, item: &T)
+pub(crate) fn place<T: Copy>(items: &mut Vec<T>, item: &T)
     requires { vec_len items.old < vec_capacity items.old }
     ensures { items.new.items ≡ items.old.items ++ item.now ∷ [] }
 {
@@ -130,7 +130,7 @@ impl Store {
     }
 
     // Whether a stream more would pass the limit on places, or have no number.
-    fn are_streams_full(&self) -> bool
+    pub(crate) fn are_streams_full(&self) -> bool
         ensures { result ≡ are_places_full self.now 3 || are_streams_full self.now }
     {
         self.are_places_full(3) || self.streams.len() >= MOST_STREAMS

@@ -6,7 +6,7 @@
 
 ghost use Rattle.std.specs.Prelude.{◌≡◌, ◌≢◌, ◌<◌, false, length, Err, None};
 ghost use Rattle.strm_codes.specs.declared.codes.TransmitIndex.TheVariants as index;
-ghost use Rattle.strm_machine.specs.State.{stream_at};
+ghost use Rattle.strm_machine.specs.State.{stream_at, is_host};
 ghost use Rattle.strm_machine.specs.Tests.{named, stream_named, same_kind, is_unknown_reader};
 ghost use Rattle.strm_machine.specs.Moves.{without_handle, next_in, with_owner};
 ghost use Rattle.strm_machine.specs.Refusals.{refusal, first_of, last_reasons};
@@ -21,6 +21,7 @@ ghost use Rattle.strm_transmit.specs.Meets.{Meets, replied, or_found};
 
 use crate::errors::StoreError;
 use crate::store::Store;
+use strm_buffers::hosts::Hosts;
 use strm_codes::codes::{TransmitIndex, TransmitKind};
 use strm_codes::payloads::Payload;
 use strm_codes::refusals::Refusal;
@@ -32,7 +33,7 @@ use strm_turns::owners::set_owner;
 use strm_turns::sets::is_in_set;
 
 // Whether two kinds are the same.
-fn same_kind(one: TransmitKind, other: TransmitKind) -> bool
+pub(crate) fn same_kind(one: TransmitKind, other: TransmitKind) -> bool
     ensures { result ≡ same_kind one other }
 {
     match (one, other) {
@@ -45,7 +46,8 @@ fn same_kind(one: TransmitKind, other: TransmitKind) -> bool
 impl Store {
     // An end of a stream has another owner.
     fn own(&mut self, stream: u32, side: Side, owner: Owner)
-        requires { stream < length self.old.streams }
+        requires there { stream < length self.old.streams }
+        requires owner { is_host owner ≡ false }
         ensures { self.new ≡ with_stream_at self.old stream
             (with_owner side (stream_at self.old stream) owner) }
     {
@@ -57,6 +59,7 @@ impl Store {
     pub(crate) fn release(&mut self, side: Side, end: &NamedEnd, stream: u32, owner: Owner)
         requires fits { LeaveFits self.old side end.now }
         requires stream { stream ≡ stream_named (named self.old end.now) }
+        requires owner { is_host owner ≡ false }
         ensures { self.new ≡ with_stream_at (without_handle self.old end.now.guest end.now.handle)
             stream (with_owner side (stream_at self.old stream) owner) }
     {
@@ -323,7 +326,7 @@ impl Store {
 
     /// Drops the loose read end of a stream or future, by the stream's number; a stream whose both
     /// ends are gone is removed at once. Refused is a stream without a loose read end.
-    pub fn close(&mut self, reader: u32) -> Result<(), StoreError>
+    pub fn close(&mut self, hosts: &mut Hosts, reader: u32) -> Result<(), StoreError>
         ensures meets { Meets self.old self.new (replied (λ _. replies.Done) result)
             (react self.old (steps.Close reader)) }
         ensures takes_no_memory { result ≢ Err StoreError.OutOfMemory }
@@ -331,6 +334,7 @@ impl Store {
         match self.admit(self.close_fits(reader)) {
             Ok(()) => {
                 self.own(reader, Side::Reading, Owner::Gone);
+                self.forsake(hosts, reader);
                 Ok(())
             }
             Err(error) => Err(error),

@@ -22,12 +22,13 @@ ghost use Rattle.strm_transmit.specs.Meets.{Meets, replied, or_found};
 
 use crate::errors::StoreError;
 use crate::store::Store;
+use strm_buffers::hosts::Hosts;
 use strm_codes::codes::{ReturnCode, TransmitIndex};
 use strm_codes::counts::{ItemCount, StreamOpTooBig};
 use strm_codes::payloads::Payload;
 use strm_codes::refusals::Refusal;
 use strm_machine::acts::{EndAct, NamedEnd};
-use strm_machine::streams::{Operation, Side};
+use strm_machine::streams::{Operation, Owner, Side};
 use strm_memory::memories::RegionError;
 use strm_turns::guests::memory;
 use strm_turns::turns::{begin, take_turn};
@@ -97,6 +98,15 @@ impl Store {
         }
     }
 
+    // The host writer on the other side of an end, if there is one.
+    #[inline(always)]
+    fn writer_across(&self, side: Side, stream: u32) -> Option<u32> {
+        match (side, self.stream(stream).writer.owner) {
+            (Side::Reading, Owner::Host { number }) => Some(number),
+            _ => None,
+        }
+    }
+
     // A read or write on a stream, done.
     #[inline(always)]
     fn take(&mut self, side: Side, stream: u32, mine: Operation) -> Result<ReturnCode, StoreError>
@@ -123,6 +133,7 @@ impl Store {
     #[inline(always)]
     pub(crate) fn operate(
         &mut self,
+        hosts: &mut Hosts,
         side: Side,
         end: &NamedEnd,
         address: u32,
@@ -133,7 +144,13 @@ impl Store {
         ensures takes_no_memory { result ≢ Err StoreError.OutOfMemory }
     {
         match self.admit(self.operation_found(side, end, address, count)) {
-            Ok(found) => self.take(side, found.0, begin(end.guest, address, found.1)),
+            Ok(found) => {
+                let mine = begin(end.guest, address, found.1);
+                match self.writer_across(side, found.0) {
+                    Some(number) => self.read_from(hosts, found.0, number, mine),
+                    None => self.take(side, found.0, mine),
+                }
+            }
             Err(error) => Err(error),
         }
     }
@@ -141,6 +158,7 @@ impl Store {
     /// Reads items from a stream: `count` items go to `address` on in the guest's memory.
     pub fn stream_read(
         &mut self,
+        hosts: &mut Hosts,
         guest: u32,
         payload: Payload,
         handle: u32,
@@ -153,12 +171,13 @@ impl Store {
     {
         let ty = TransmitIndex::Stream(payload);
         let end = NamedEnd { guest, ty, handle };
-        self.operate(Side::Reading, &end, address, count)
+        self.operate(hosts, Side::Reading, &end, address, count)
     }
 
     /// Writes items to a stream: `count` items from `address` on in the guest's memory.
     pub fn stream_write(
         &mut self,
+        hosts: &mut Hosts,
         guest: u32,
         payload: Payload,
         handle: u32,
@@ -171,12 +190,13 @@ impl Store {
     {
         let ty = TransmitIndex::Stream(payload);
         let end = NamedEnd { guest, ty, handle };
-        self.operate(Side::Writing, &end, address, count)
+        self.operate(hosts, Side::Writing, &end, address, count)
     }
 
     /// Reads a future's value, to `address` in the guest's memory.
     pub fn future_read(
         &mut self,
+        hosts: &mut Hosts,
         guest: u32,
         payload: Payload,
         handle: u32,
@@ -188,12 +208,13 @@ impl Store {
     {
         let ty = TransmitIndex::Future(payload);
         let end = NamedEnd { guest, ty, handle };
-        self.operate(Side::Reading, &end, address, 1)
+        self.operate(hosts, Side::Reading, &end, address, 1)
     }
 
     /// Writes a future's value, from `address` in the guest's memory.
     pub fn future_write(
         &mut self,
+        hosts: &mut Hosts,
         guest: u32,
         payload: Payload,
         handle: u32,
@@ -205,6 +226,6 @@ impl Store {
     {
         let ty = TransmitIndex::Future(payload);
         let end = NamedEnd { guest, ty, handle };
-        self.operate(Side::Writing, &end, address, 1)
+        self.operate(hosts, Side::Writing, &end, address, 1)
     }
 }

@@ -7,7 +7,7 @@ ghost use Rattle.std.specs.Prelude.{◌≡◌, ◌<◌, ◌++◌, length, IfOk, 
 ghost use Rattle.strm_codes.specs.Types.{payload_of};
 ghost use Rattle.strm_memory.specs.Items.{is_number_or_none};
 ghost use Rattle.strm_machine.specs.State.{stream_at};
-ghost use Rattle.strm_machine.specs.Tests.{named, stream_named, side_named, side_of, has_ended, owes_value, is_spent, is_within_one_guest};
+ghost use Rattle.strm_machine.specs.Tests.{named, stream_named, side_named, side_of, has_ended, owes_value, is_cancel_under_way, is_spent, is_within_one_guest};
 ghost use Rattle.strm_machine.specs.Refusals.{first_of, ended_refusal, handle_reasons, end_reasons_of, own_reasons_of, own_reasons};
 ghost use Rattle.strm_machine.proofs.NameLemmas.{IsNameError};
 ghost use Rattle.strm_transmit.specs.Meets.{or_found};
@@ -105,6 +105,16 @@ fn end_refusal(side: Side, end: &NamedEnd, stream: &Stream, named_side: Side) ->
     None
 }
 
+// Whether the operation of an end is being cancelled already.
+fn is_cancel_under_way(side: Side, stream: &Stream) -> bool
+    ensures { result ≡ is_cancel_under_way side stream.now }
+{
+    match &end_of(stream, side).operation {
+        Some(operation) => operation.asked,
+        None => false,
+    }
+}
+
 // Whether a future's write end still owes its value.
 fn owes_value(side: Side, kind: TransmitKind, stream: &Stream) -> bool
     ensures { result ≡ owes_value side kind stream.now }
@@ -137,6 +147,7 @@ fn own_refusal(
         EndAct::Operate { .. } => end_refusal(side, end, stream, named_side),
         _ if !same_side(side, named_side) => Some(Refusal::WrongEnd),
         EndAct::Cancel if !is_busy(side, stream) => Some(Refusal::NoPending),
+        EndAct::Cancel if is_cancel_under_way(side, stream) => Some(Refusal::CancelUnderWay),
         EndAct::Cancel => None,
         _ if is_busy(side, stream) => Some(Refusal::Busy),
         EndAct::Drop if owes_value(side, end.ty.kind(), stream) => Some(

@@ -27,7 +27,7 @@ pub invariant_of-self : goal.invariant_of-self
 invariant_of-self c =
     IsStore-lowered c.self.inside _ c.args.reader c.args.guest c.args.ty c.in-Ok.handle
     (record {
-      same = record { tag = refl; limits = refl; contexts = refl; trapped = refl };
+      same = record { tag = refl; limits = refl; producers = refl; contexts = refl; trapped = refl };
       bytes = refl;
       live_sets = refl;
       counted = c.set_owner.ensures.counted;

@@ -51,7 +51,7 @@ invariant_of-self-in-Ok-insert_ends c =
     (c.in-Ok-insert_ends.ensures.numbers ∙ ap (numbers_of old c.args.writer c.args.reader c.args.ty) number)
     (rw (c.made_stream-joined.ensures, c.idle_end.ensures, c.idle_end-in-Ok-insert_ends.ensures) refl) in
     let made : MakesStream c.self.inside (record c.self.inside { counter = c.insert_ends.new.counter; guests = c.insert_ends.new.guests; streams = c.place.new.items; live_streams = c.self.inside.live_streams + 1 }) c.args.writer c.args.reader c.args.ty = record {
-      same = record { tag = refl; limits = refl; contexts = refl; trapped = refl };
+      same = record { tag = refl; limits = refl; producers = refl; contexts = refl; trapped = refl };
       counter = c.in-Ok-insert_ends.ensures.counter;
       live = c.in-Ok-insert_ends.ensures.live;
       live_streams = refl;
@@ -70,7 +70,7 @@ returns-in-Ok-insert_ends c =
     (c.in-Ok-insert_ends.ensures.numbers ∙ ap (numbers_of old c.args.writer c.args.reader c.args.ty) number)
     (rw (c.made_stream-joined.ensures, c.idle_end.ensures, c.idle_end-in-Ok-insert_ends.ensures) refl) in
     let made : MakesStream c.self.inside (record c.self.inside { counter = c.insert_ends.new.counter; guests = c.insert_ends.new.guests; streams = c.place.new.items; live_streams = c.self.inside.live_streams + 1 }) c.args.writer c.args.reader c.args.ty = record {
-      same = record { tag = refl; limits = refl; contexts = refl; trapped = refl };
+      same = record { tag = refl; limits = refl; producers = refl; contexts = refl; trapped = refl };
       counter = c.in-Ok-insert_ends.ensures.counter;
       live = c.in-Ok-insert_ends.ensures.live;
       live_streams = refl;

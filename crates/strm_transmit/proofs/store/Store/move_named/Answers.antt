@@ -44,7 +44,7 @@ pub invariant_of-self : goal.invariant_of-self
 invariant_of-self c =
     IsStore-moved c.self.inside _ c.args.stream c.args.side c.args.end.now c.args.to c.in-Ok.handle
     (record {
-      same = record { tag = refl; limits = refl; contexts = refl; trapped = refl };
+      same = record { tag = refl; limits = refl; producers = refl; contexts = refl; trapped = refl };
       bytes = refl;
       live_sets = refl;
       counted = c.set_owner.ensures.counted;

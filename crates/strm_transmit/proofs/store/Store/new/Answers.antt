@@ -3,6 +3,7 @@ use Rattle.std.proofs.lemmas.List.Elements.{All-nil}
 use Rattle.strm_machine.specs.Soundness.{AreNamed, StreamIsPlaced}
 use Rattle.strm_machine.proofs.WaitableSetLemmas.{HoldSets-none}
 use Rattle.strm_machine.proofs.ErrorContextLemmas.{HoldsContexts-none}
+use Rattle.strm_transmit.proofs.ServedLemmas.{AreServed-none}
 use Rattle.strm_transmit.proofs.store.Store.new.Goals as goal
 
 pub invariant_of-result : goal.invariant_of-result
@@ -12,6 +13,7 @@ invariant_of-result c = record {
   live = rw (c.new.ensures, c.new-2.ensures.items) refl;
   within = rw c.new.ensures (omega arith);
   streams = rw c.new-3.ensures.items refl;
+  served = rw c.new-3.ensures.items AreServed-none;
   sets = rw c.new-2.ensures.items refl;
   bytes = rw c.new-2.ensures.items refl;
   few_guests = rw c.new-2.ensures.items (omega arith);

@@ -17,9 +17,9 @@ pub invariant_of-self : goal.invariant_of-self
 invariant_of-self c =
     IsStore-released c.self.inside _ c.args.stream c.args.side c.args.owner
     (named_made (state_of c.self.inside) c.args.side c.args.end.now c.args.stream c.self.invariant.sound
-    (rw (← c.self.view_is) at c.requires.fits) (rw (← c.self.view_is) at c.requires.stream))
+    (rw (← c.self.view_is) at c.requires.fits) (rw (← c.self.view_is) at c.requires.stream)) c.requires.owner
     (record {
-      same = record { tag = refl; limits = refl; contexts = refl; trapped = refl };
+      same = record { tag = refl; limits = refl; producers = refl; contexts = refl; trapped = refl };
       bytes = refl;
       live_sets = refl;
       counted = c.set_owner.ensures.counted;

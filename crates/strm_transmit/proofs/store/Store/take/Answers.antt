@@ -16,6 +16,7 @@ invariant_of-self c =
     (record {
       tag = refl;
       limits = refl;
+      producers = refl;
       contexts = refl;
       counter = refl;
       live_streams = refl;
@@ -35,6 +36,7 @@ invariant_of-self-in-Err c =
     (record {
       tag = refl;
       limits = refl;
+      producers = refl;
       contexts = refl;
       counter = refl;
       live_streams = refl;

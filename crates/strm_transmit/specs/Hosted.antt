@@ -1,0 +1,60 @@
+-- How a call of the store with host ends is a step of the machine among them. Ours.
+use Rattle.std.specs.Prelude.{◌≡◌, Bool, true, false, [], Result, Ok, Err, IfErr, Some, None}
+use Rattle.strm_buffers.specs.Tells.{Tells}
+use Rattle.strm_machine.specs.State.{State}
+use Rattle.strm_machine.specs.Reactions.{reaction}
+use Rattle.strm_machine.specs.declared.acts.Act.{Act}
+use Rattle.strm_machine.specs.declared.replies.Reply.{Reply}
+use Rattle.strm_machine.specs.declared.replies.Reply.TheVariants as replies
+use Rattle.strm_machine.specs.declared.stops.Stop.TheVariants as stops
+use Rattle.strm_world.specs.World.{World}
+use Rattle.strm_world.specs.Steps.{outcome, may_poll, touches}
+use Rattle.strm_world.specs.Does.{Answered, Fits, Does}
+use Rattle.strm_transmit.specs.Meets.{Meets}
+use Rattle.strm_transmit.specs.declared.errors.StoreError.{StoreError}
+use Rattle.strm_transmit.specs.declared.errors.StoreError.TheVariants.{Refused, HostFailed, HostBroke, BadItem, StoreTrapped, OutOfMemory}
+
+-- an answer, a refusal among them, or the cause of a stop; none for want of memory
+abbrev pub answered : Result Reply StoreError → Answered
+answered (Ok reply) = Ok reply
+answered (Err (Refused refusal)) = Ok (replies.Refused refusal)
+answered (Err (HostFailed end)) = Err (Some (stops.HostFailed end))
+answered (Err (HostBroke end)) = Err (Some (stops.HostBroke end))
+answered (Err (BadItem stream)) = Err (Some (stops.BadItem stream))
+answered (Err StoreTrapped) = Err (Some stops.StoreTrapped)
+answered (Err OutOfMemory) = Err None
+
+-- a state among no host ends: whether an act touches one is a fact of the state
+abbrev pub lone : State → World
+lone state = record { state = state; writers = []; readers = [] }
+
+-- store and host ends are as they were
+pub record Stays (old new : State) (tells told : Tells) : Type 0 where
+  pub state : new ≡ old
+  pub tells : told ≡ tells
+
+-- what want of memory leaves: where a host end may be polled, a trapped store; anywhere else nothing
+-- has changed
+abbrev pub Wanting : Bool → State → State → Tells → Tells → Type 0
+Wanting true old new tells told = new.trapped ≡ true
+Wanting false old new tells told = Stays old new tells told
+
+-- what an error leaves: a refusal and a store that was trapped change nothing, and a stop traps the
+-- store
+abbrev pub Leaves : Act → State → State → Tells → Tells → StoreError → Type 0
+Leaves act old new tells told (Refused refusal) = Stays old new tells told
+Leaves act old new tells told StoreTrapped = Stays old new tells told
+Leaves act old new tells told OutOfMemory = Wanting (may_poll (lone old) act) old new tells told
+Leaves act old new tells told _ = new.trapped ≡ true
+
+-- a call of an act that touches no host end: the answer and the state are the machine's without them
+pub record MeetsAlone (old new : State) (tells told : Tells) (result : Result Reply StoreError) (act : Act) : Type 0 where
+  pub meets : Meets old new result (reaction old act)
+  pub tells : told ≡ tells
+
+-- a call is a step of the machine among host ends, which stay those that the store needs
+pub record MeetsHosted (old new : State) (tells told : Tells) (result : Result Reply StoreError) (act : Act) : Type 0 where
+  pub does : Does old new tells told (answered result) (λ world. outcome world act)
+  pub fits : Fits new told
+  pub alone : touches (lone old) act ≡ false → MeetsAlone old new tells told result act
+  pub err : IfErr result (Leaves act old new tells told)
