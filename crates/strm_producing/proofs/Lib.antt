@@ -1,0 +1,3 @@
+pub mod RegionFacts
+pub mod PollFacts
+pub mod TurnFacts
