@@ -183,17 +183,20 @@ pub fn transcript_text(
     Ok(out)
 }
 
-// Adds a host end, and a line feed.
+// Adds a host end.
 fn push_host_end(out: &mut TextBytes, end: HostEnd) -> Result<(), OutOfMemory>
-    ensures { OnOk result (out.new ≡ out.old ++ ended (host_end_text end)) }
+    ensures { OnOk result (out.new ≡ out.old ++ host_end_text end) }
 {
-    let (side, number) = match end {
-        HostEnd::Writer(number) => (b"writer ", number),
-        HostEnd::Reader(number) => (b"reader ", number),
-    };
-    out.push_slice(side)?;
-    push_number(out, number)?;
-    out.push(b'\n')
+    match end {
+        HostEnd::Writer(number) => {
+            out.push_slice(b"writer ")?;
+            push_number(out, number)
+        }
+        HostEnd::Reader(number) => {
+            out.push_slice(b"reader ")?;
+            push_number(out, number)
+        }
+    }
 }
 
 // Adds why a run stopped, and a line feed.
@@ -203,11 +206,13 @@ fn push_stop(out: &mut TextBytes, stop: Stop) -> Result<(), OutOfMemory>
     match stop {
         Stop::HostFailed { end } => {
             out.push_slice(b"host-failed ")?;
-            push_host_end(out, end)
+            push_host_end(out, end)?;
+            out.push(b'\n')
         }
         Stop::HostBroke { end } => {
             out.push_slice(b"host-broke ")?;
-            push_host_end(out, end)
+            push_host_end(out, end)?;
+            out.push(b'\n')
         }
         Stop::BadItem { stream } => {
             out.push_slice(b"bad-item stream ")?;
@@ -219,11 +224,7 @@ fn push_stop(out: &mut TextBytes, stop: Stop) -> Result<(), OutOfMemory>
 }
 
 /// The text of a run that stopped, from the replies before and from why it did.
-pub fn stopped_text(
-    alloc: Global,
-    replies: &[Reply],
-    stop: Stop,
-) -> Result<TextBytes, OutOfMemory>
+pub fn stopped_text(alloc: Global, replies: &[Reply], stop: Stop) -> Result<TextBytes, OutOfMemory>
     ensures ok { IfOk result (λ text. text ≡ stopped_text replies.now stop) }
 {
     let mut out = TextBytes::new(alloc);
