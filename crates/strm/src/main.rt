@@ -1,34 +1,40 @@
 //! The program: runs the lines of its input, and writes their replies.
 #![tactic(auto)]
 
-ghost use Rattle.std.specs.Prelude.{◌≡◌, ◌≢◌, ℕ, List, Option, map, string_bytes};
+ghost use Rattle.std.specs.Prelude.{◌≡◌, ◌≢◌, ◌≤◌, ℕ, List, Option, length, map, string_bytes};
 ghost use Rattle.std.specs.Process.{exit_status};
+ghost use Rattle.strm_buffers.specs.AllTells.{tells_of};
 ghost use Rattle.strm_session.specs.Serving.{IsAnswer, IsStatus};
 
 use std::alloc::Global;
 use std::io::{Read, Write};
 use std::process::ExitCode;
 use std::{env, io};
+use strm_buffers::hosts::Hosts;
 use strm_session::serving::{OUT_OF_MEMORY, WRITE_FAULT, serve};
 use strm_session::standard::{StdinSource, StdoutSink};
 
-// Serves a reader and a writer. The program's status is that of `serve`, and with it goes a text
-// whose cause is known, from what the reader had left.
+// Serves a reader and a writer, among these host ends. The program's status is that of `serve`, and
+// with it goes a text whose cause is known, from what the reader had left.
 fn served<R: Read + Drop, W: Write + Drop>(
     alloc: Global,
     words: &Vec<String>,
     input: R,
     output: W,
+    hosts: &mut Hosts,
 ) -> ExitCode
+    requires writers { length (tells_of writer_tells reader_tells hosts.old).writers ≤ 64 }
+    requires readers { length (tells_of writer_tells reader_tells hosts.old).readers ≤ 64 }
     ensures known { IsStatus (exit_status result) }
     ensures told { exit_status result ≢ WRITE_FAULT → exit_status result ≢ OUT_OF_MEMORY →
         (rest : Option (List ℕ)) × (faults : ℕ) × (text : List ℕ)
-        × IsAnswer (map string_bytes words.now.items) (R.remaining input) rest 0 faults
-        (exit_status result) text }
+        × IsAnswer (map string_bytes words.now.items) (R.remaining input) rest
+        (tells_of writer_tells reader_tells hosts.old) (tells_of writer_tells reader_tells hosts.new)
+        0 faults (exit_status result) text }
 {
     let mut source = StdinSource::new(input);
     let mut sink = StdoutSink::new(output);
-    let status = serve(alloc, words, &mut source, &mut sink);
+    let status = serve(alloc, words, &mut source, &mut sink, hosts);
     ExitCode::from(status)
 }
 
@@ -49,5 +55,9 @@ fn main(rt: HostRuntime) -> io::Result<ExitCode> {
         // A word that is no UTF-8 is not `run`.
         Err(_) => {}
     }
-    Ok(served(alloc, &words, rt.stdin(), rt.stdout()))
+    let mut hosts = Hosts {
+        writers: Vec::new(alloc),
+        readers: Vec::new(alloc),
+    };
+    Ok(served(alloc, &words, rt.stdin(), rt.stdout(), &mut hosts))
 }

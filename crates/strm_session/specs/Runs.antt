@@ -1,6 +1,6 @@
 -- Runs of the program: where they begin and stop, what was received, and what holds. What is said of a
 -- state alone is said of runs of guests alone. Ours.
-use Rattle.std.specs.Prelude.{◌≡◌, ℕ, ◌+◌, ◌≤◌, ◌<◌, min, Bool, true, false, List, [], ◌++◌, length, map, take, slice_get, All, Option, Some, None}
+use Rattle.std.specs.Prelude.{◌≡◌, ℕ, ◌+◌, ◌≤◌, ◌<◌, min, Bool, true, false, List, [], ◌∷◌, ◌++◌, length, map, take, slice_get, All, Option, Some, None}
 use Rattle.strm_codes.specs.declared.codes.TransmitKind.TheVariants.{Future}
 use Rattle.strm_machine.specs.State.{State, empty, stream_at}
 use Rattle.strm_machine.specs.Reactions.{react}
@@ -17,7 +17,7 @@ use Rattle.strm_laws.specs.Laws.{Conserves, waiting, Stands, AreCounted, Handles
 use Rattle.strm_machine.specs.Untouched.{StaysAside, LieThere}
 use Rattle.strm_machine.specs.Acts.{act_of}
 use Rattle.strm_machine.specs.declared.acts.Act.{Act}
-use Rattle.strm_machine.specs.declared.acts.Act.TheVariants.{OnHost}
+use Rattle.strm_machine.specs.declared.acts.Act.TheVariants.{OnHost, Drive}
 use Rattle.strm_machine.specs.declared.stops.Stop.{Stop}
 use Rattle.strm_machine.specs.declared.stops.Stop.TheVariants as stops
 use Rattle.strm_buffers.specs.Tells.{Tells}
@@ -37,12 +37,13 @@ start = empty 0 (record { handles = 1000000; places = 1000000 })
 abbrev pub start_among : Tells → Tells → World
 start_among old new = world_of start old (saids new)
 
--- what a step does names no host end
+-- what a step does is done among guests: it names no host end, and is no drive round
 abbrev pub is_of_guests : Act → Bool
 is_of_guests (OnHost n act) = false
+is_of_guests Drive = false
 is_of_guests _ = true
 
--- steps of guests alone: none names a host end
+-- steps of guests alone: host ends have no part in any
 abbrev pub AreOfGuests : List Step → Type 0
 AreOfGuests steps = All (λ step. is_of_guests (act_of step) ≡ true) steps
 
@@ -123,6 +124,15 @@ pub record AsksBad (steps : List Step) (told : List Reply) (state : State) (s : 
 -- each item that a run of these steps asks for is an item
 abbrev pub AsksItems : List Step → Type 0
 AsksItems steps = (told : List Reply) (state : State) (s : ℕ) → ¬ AsksBad steps told state s
+
+-- why a step of guests alone stops a run: it asks for a bad item; or memory was wanted, where the
+-- machine goes on from it
+abbrev pub StopsStep : List Reply → State → Step → RunCause → Type 0
+StopsStep told state step (causes.BadItem s) = (react state step).reply ≡ replies.BadItem s
+StopsStep told state step causes.OutOfMemory =
+    (reply : Reply) × (next : State) × (play told state (step ∷ []) ≡ Ends (told ++ reply ∷ []) next)
+StopsStep told state step (causes.HostFailed end) = ⊥
+StopsStep told state step (causes.HostBroke end) = ⊥
 
 -- a run stops at a bad item: the machine halts at the step that asks for it, and there all stays as
 -- it was, but that the store is trapped

@@ -2,22 +2,24 @@
 //!
 //! Source: ours.
 
-ghost use Rattle.std.specs.Prelude.{◌≡◌, ◌≢◌, ◌≤◌, ◌∷◌, ◌++◌, ◌+◌, [], List, ℕ, true, false, length, take, All, IfOk, IfErr, IsErr, OnOk, OnErr, Err};
+ghost use Rattle.std.specs.Prelude.{◌≡◌, ◌≢◌, ◌≤◌, ◌∷◌, ◌++◌, ◌+◌, [], List, ℕ, true, false, length, take, All, IfOk, IfErr, IsErr, OnOk, OnErr, Ok, Err};
 ghost use Rattle.strm_codes.specs.declared.refusals.Refusal.{Refusal};
 ghost use Rattle.strm_machine.specs.State.{State, stream_at};
 ghost use Rattle.strm_machine.specs.Reactions.{react};
 ghost use Rattle.strm_machine.specs.Plays.{play, Ends};
 ghost use Rattle.strm_machine.specs.declared.streams.Side.{Side};
 ghost use Rattle.strm_machine.specs.declared.steps.Step.{Step};
-ghost use Rattle.strm_machine.specs.declared.replies.Reply.TheVariants.{BadItem as IsBadItem};
 ghost use Rattle.strm_machine.specs.declared.replies.Reply.{Reply};
 ghost use Rattle.strm_machine.specs.Moments.{moment_of};
 ghost use Rattle.strm_laws.specs.Conservation.{moments, last};
 ghost use Rattle.strm_laws.specs.Laws.{HasBytes, AreSteps};
 ghost use Rattle.strm_machine.specs.Untouched.{StaysAside, LieThere};
-ghost use Rattle.strm_world.specs.Does.{RunsTo};
+ghost use Rattle.strm_machine.specs.Acts.{act_of};
+ghost use Rattle.strm_world.specs.Steps.{step_of, touches};
+ghost use Rattle.strm_world.specs.Does.{Fits, Does, RunsTo};
+ghost use Rattle.strm_transmit.specs.Hosted.{answered, lone};
 ghost use Rattle.strm_buffers.specs.AllTells.{tells_of};
-ghost use Rattle.strm_session.specs.Runs.{start, start_among, AreOfGuests, counts_of, next_step, HasLaws, IsKept, StopsAmong, AsksBad, AsksItems, StopsAt, StopsBy, StopsIn};
+ghost use Rattle.strm_session.specs.Runs.{start, start_among, AreOfGuests, counts_of, next_step, HasLaws, IsKept, stop_of, StopsAmong, AsksBad, AsksItems, StopsAt, StopsStep, StopsBy, StopsIn};
 
 use std::alloc::Global;
 use strm_buffers::hosts::Hosts;
@@ -233,18 +235,25 @@ fn step_once(
     replies: &mut Replies,
     step: &Step,
 ) -> Result<(), RunCause>
-    requires { store.old.trapped ≡ false }
-    ensures ok { (more : List Step) → OnOk result
-        (play replies.old store.old (step.now ∷ more) ≡ play replies.new store.new more) }
-    ensures bad_item { (stream : ℕ) → result ≡ Err (RunCause.BadItem stream) →
-        (react store.old step.now).reply ≡ IsBadItem stream }
-
-    // Memory is wanted only where the machine goes on.
-    ensures memory { result ≡ Err RunCause.OutOfMemory → (reply : Reply) × (state : State)
-        × (play replies.old store.old (step.now ∷ []) ≡ Ends (replies.old ++ reply ∷ []) state) }
+    requires running { store.old.trapped ≡ false }
+    requires fits { Fits store.old (tells_of writer_tells reader_tells hosts.old) }
+    ensures ok { OnOk result ((reply : Reply) × (replies.new ≡ replies.old ++ reply ∷ [])
+        × Does store.old store.new (tells_of writer_tells reader_tells hosts.old) (tells_of writer_tells reader_tells hosts.new) (Ok reply) (λ world. step_of world step.now)) }
+    ensures stop { IfErr result (λ cause. Does store.old store.new (tells_of writer_tells reader_tells hosts.old)
+        (tells_of writer_tells reader_tells hosts.new) (Err (stop_of cause)) (λ world. step_of world step.now)) }
+    ensures fits { Fits store.new (tells_of writer_tells reader_tells hosts.new) }
     ensures goes_on { OnOk result (store.new.trapped ≡ false) }
-    ensures one { OnOk result (length replies.new ≡ length replies.old + 1) }
     ensures err { OnErr result (replies.new ≡ replies.old) }
+
+    // Where it touches no host end, it is the machine's without them.
+    ensures alone { touches (lone store.old) (act_of step.now) ≡ false → (more : List Step) → OnOk result
+        (play replies.old store.old (step.now ∷ more) ≡ play replies.new store.new more) }
+    ensures state { touches (lone store.old) (act_of step.now) ≡ false →
+        OnOk result (store.new ≡ (react store.old step.now).state) }
+    ensures stop_alone { touches (lone store.old) (act_of step.now) ≡ false →
+        IfErr result (StopsStep replies.old store.old step.now) }
+    ensures hosts { touches (lone store.old) (act_of step.now) ≡ false →
+        (tells_of writer_tells reader_tells hosts.new) ≡ (tells_of writer_tells reader_tells hosts.old) }
 {
     let answer = apply(store, hosts, step);
     match &answer {
@@ -257,9 +266,7 @@ fn step_once(
 fn cause_of(error: StoreError) -> RunCause
     requires refused { (refusal : Refusal) → error ≢ StoreError.Refused refusal }
     requires trapped { error ≢ StoreError.StoreTrapped }
-    ensures bad_item { (stream : ℕ) → result ≡ RunCause.BadItem stream →
-        error ≡ StoreError.BadItem stream }
-    ensures memory { result ≡ RunCause.OutOfMemory → error ≡ StoreError.OutOfMemory }
+    ensures { answered (Err error) ≡ Err (stop_of result) }
 {
     match error {
         StoreError::HostFailed { end } => RunCause::HostFailed { end },

@@ -2,6 +2,7 @@
 
 use std::alloc::Global;
 use std::test::Fail;
+use strm_buffers::hosts::Hosts;
 use strm_codes::codes::{ReturnCode, TransmitIndex};
 use strm_codes::counts::ItemCount;
 use strm_codes::payloads::Payload;
@@ -123,7 +124,7 @@ const BAD_COMMANDS: [&str; 16] = [
     "dump 0 0 65",
     "new 0",
     "new 0 stream:u8 1",
-    "drive",
+    "drive 1",
 ];
 
 // The first of these lines that is read, from 1, each between two that are good.
@@ -151,18 +152,18 @@ fn bad_lines(rt: HostRuntime) -> Result<(), Fail> {
 #[test]
 fn limits_of_lines(rt: HostRuntime) -> Result<(), Fail> {
     assert_eq!(rt; bad_line(rt.alloc(), b"\n")?, 1);
-    let many = lines_of_drive(rt.alloc(), 262_144)?;
+    let many = lines_of_driven(rt.alloc(), 262_144)?;
     assert_eq!(rt; bad_line(rt.alloc(), &many)?, 1);
-    let more = lines_of_drive(rt.alloc(), 262_145)?;
+    let more = lines_of_driven(rt.alloc(), 262_145)?;
     assert_eq!(rt; parse(rt.alloc(), &more).err(), Some(ParseError::TooLong));
     Ok(())
 }
 
 // So many bad lines.
-fn lines_of_drive(alloc: Global, count: usize) -> Result<Vec<u8>, Fail> {
+fn lines_of_driven(alloc: Global, count: usize) -> Result<Vec<u8>, Fail> {
     let mut bytes = Vec::new(alloc);
     for _ in 0..count {
-        bytes.extend_from_slice(b"drive\n")?;
+        bytes.extend_from_slice(b"driven\n")?;
     }
     Ok(bytes)
 }
@@ -290,12 +291,31 @@ fn a_sink_in_pieces(rt: HostRuntime) -> Result<(), Fail> {
     Ok(())
 }
 
+// No host ends.
+pub(crate) fn no_hosts(alloc: Global) -> Hosts {
+    Hosts {
+        writers: Vec::new(alloc),
+        readers: Vec::new(alloc),
+    }
+}
+
 // The status and the text for words and an input, where the calls of these numbers fail.
 pub(crate) fn served(
     alloc: Global,
     words: &[&str],
     input: &[u8],
     failing: (u32, u32),
+) -> Result<(u8, Vec<u8>), Fail> {
+    served_among(alloc, words, input, failing, &mut no_hosts(alloc))
+}
+
+// The same among host ends.
+pub(crate) fn served_among(
+    alloc: Global,
+    words: &[&str],
+    input: &[u8],
+    failing: (u32, u32),
+    hosts: &mut Hosts,
 ) -> Result<(u8, Vec<u8>), Fail> {
     let mut list = Vec::new(alloc);
     for word in words {
@@ -304,7 +324,7 @@ pub(crate) fn served(
     let bytes = input.to_vec(alloc)?;
     let mut source = BytesSource::new(bytes, 64, vec![in alloc; failing.0]?);
     let mut sink = BytesSink::new(alloc, 64, vec![in alloc; failing.1]?);
-    let status = serve(alloc, &list, &mut source, &mut sink);
+    let status = serve(alloc, &list, &mut source, &mut sink, hosts);
     Ok((status, sink.taken().to_vec(alloc)?))
 }
 
