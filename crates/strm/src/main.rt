@@ -6,11 +6,18 @@ ghost use Rattle.std.specs.Process.{exit_status};
 ghost use Rattle.strm_buffers.specs.AllTells.{tells_of};
 ghost use Rattle.strm_session.specs.Serving.{IsAnswer, IsStatus};
 
-use std::alloc::Global;
+use std::alloc::{AllocError, Global};
 use std::io::{Read, Write};
 use std::process::ExitCode;
 use std::{env, io};
 use strm_buffers::hosts::Hosts;
+use strm_buffers::writers::HostWriter;
+use strm_codes::codes::TransmitKind;
+use strm_codes::payloads::Payload;
+use strm_codes::scalars::Scalar;
+use strm_ends::queue_writer::QueueWriter;
+use strm_host::empty::Empty;
+use strm_host::erased::Erased;
 use strm_session::serving::{OUT_OF_MEMORY, WRITE_FAULT, serve};
 use strm_session::standard::{StdinSource, StdoutSink};
 
@@ -38,6 +45,41 @@ fn served<R: Read + Drop, W: Write + Drop>(
     ExitCode::from(status)
 }
 
+const BYTE: Payload = Payload::One(Scalar::U8);
+
+const WORD: Payload = Payload::One(Scalar::U32);
+
+const CHAR: Payload = Payload::One(Scalar::Char);
+
+// Serves among the program's eight host writers.
+fn served_among_ends<R: Read + Drop, W: Write + Drop>(
+    alloc: Global,
+    words: &Vec<String>,
+    input: R,
+    output: W,
+) -> Result<ExitCode, AllocError> {
+    let (stream, future) = (TransmitKind::Stream, TransmitKind::Future);
+    let items = [1u8, 2, 3, 4, 5];
+    let none: Empty<u8> = Empty::new();
+    let mut writers: Vec<Box<dyn HostWriter>> = Vec::new(alloc);
+    writers.push(Box::new(alloc, QueueWriter::new(alloc, stream, BYTE))?)?;
+    writers.push(Box::new(alloc, QueueWriter::new(alloc, stream, WORD))?)?;
+    let nothing = QueueWriter::new(alloc, stream, Payload::Nothing);
+    writers.push(Box::new(alloc, nothing)?)?;
+    writers.push(Box::new(alloc, QueueWriter::new(alloc, stream, CHAR))?)?;
+    writers.push(Box::new(alloc, QueueWriter::new(alloc, future, WORD))?)?;
+    let five = Erased::stream(alloc, items.to_vec(alloc)?);
+    writers.push(Box::new(alloc, five)?)?;
+    let five = Erased::stream(alloc, items.to_vec(alloc)?);
+    writers.push(Box::new(alloc, five)?)?;
+    writers.push(Box::new(alloc, Erased::stream(alloc, none))?)?;
+    let mut hosts = Hosts {
+        writers,
+        readers: Vec::new(alloc),
+    };
+    Ok(served(alloc, words, input, output, &mut hosts))
+}
+
 fn main(rt: HostRuntime) -> io::Result<ExitCode> {
     let alloc = rt.alloc();
     let mut words: Vec<String> = Vec::new(alloc);
@@ -55,9 +97,8 @@ fn main(rt: HostRuntime) -> io::Result<ExitCode> {
         // A word that is no UTF-8 is not `run`.
         Err(_) => {}
     }
-    let mut hosts = Hosts {
-        writers: Vec::new(alloc),
-        readers: Vec::new(alloc),
-    };
-    Ok(served(alloc, &words, rt.stdin(), rt.stdout(), &mut hosts))
+    match served_among_ends(alloc, &words, rt.stdin(), rt.stdout()) {
+        Ok(code) => Ok(code),
+        Err(_) => Ok(ExitCode::from(OUT_OF_MEMORY)),
+    }
 }

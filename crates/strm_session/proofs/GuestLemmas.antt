@@ -2,12 +2,16 @@
 use Rattle.std.proofs.Common.{◌≡◌, ℕ, ◌<◌, true, false, List, [], ◌∷◌, ◌++◌, length, set, get_or, Option, Some, None, refl, ap, ◌∙◌, inl, inr, arith}
 use Rattle.std.proofs.lemmas.Bool.{cases_eq}
 use Rattle.std.proofs.lemmas.List.{get_or-set_same, get_or-set_other, get_or_past}
-use Rattle.strm_machine.specs.Words.{ReturnCode, TransmitIndex, State, no_stream, stream_at, end_of, with_end, Turn, named, stream_named, Reaction, written_back, Side, Writing, Reading, Stream, Owner, IsSound}
+use Rattle.strm_machine.specs.Words.{ReturnCode, TransmitIndex, State, no_stream, stream_at, end_of, with_end, Turn, named, stream_named, Reaction, written_back, IsSound}
 use Rattle.strm_machine.specs.State.{is_host}
 use Rattle.strm_machine.specs.Sides.{opposite}
 use Rattle.strm_machine.specs.Making.{made_stream, made_pair, with_stream}
 use Rattle.strm_machine.specs.Moves.{with_owner}
 use Rattle.strm_machine.specs.Reactions.{reaction}
+use Rattle.strm_machine.specs.declared.streams.Side.{Side}
+use Rattle.strm_machine.specs.declared.streams.Side.TheVariants.{Writing, Reading}
+use Rattle.strm_machine.specs.declared.streams.Stream.{Stream}
+use Rattle.strm_machine.specs.declared.streams.Owner.{Owner}
 use Rattle.strm_machine.specs.declared.acts.Act.{Act}
 use Rattle.strm_machine.specs.declared.acts.Act.TheVariants.{OnEnd, OnLoose, OnHost, Drive}
 use Rattle.strm_machine.specs.declared.acts.EndAct.TheVariants.{Operate, Drop}

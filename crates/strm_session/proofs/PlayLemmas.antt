@@ -96,7 +96,7 @@ pub record IsAt (steps : List Step) (k : ℕ) (step : Step) : Type 0 where
   pub inside : k < length steps
   pub is : get_or steps k step ≡ step
 
-take-at : (steps : List Step) (k : ℕ) (step : Step) → IsAt steps k step → take (k + 1) steps ≡ take k steps ++ step ∷ []
+pub take-at : (steps : List Step) (k : ℕ) (step : Step) → IsAt steps k step → take (k + 1) steps ≡ take k steps ++ step ∷ []
 take-at steps k step h = take_more steps k step h.inside ∙ ap (λ s. take k steps ++ s ∷ []) h.is
 
 -- the replies so far are those to the steps before

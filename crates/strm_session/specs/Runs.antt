@@ -96,8 +96,8 @@ stop_of causes.OutOfMemory = None
 -- the machine halts behind these replies by this stop, and the host ends tell what they then do; nothing
 -- is said for want of memory
 abbrev pub HaltsBy : World → List Step → List Reply → Tells → Option Stop → Type 0
-HaltsBy start steps told new None = Unit {0}
-HaltsBy start steps told new (Some stop) = (state : State) × StopsWith start steps told stop new state
+HaltsBy world steps told new None = Unit {0}
+HaltsBy world steps told new (Some stop) = (state : State) × StopsWith world steps told stop new state
 
 -- a host end that failed has raised its count of faults
 abbrev pub Raised : Tells → Tells → RunCause → Type 0

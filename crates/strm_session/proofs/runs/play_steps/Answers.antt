@@ -1,4 +1,4 @@
-use Rattle.std.proofs.Common.{rules, subst, ◌≡◌, length, take, sym, ap, ◌∙◌, refl, arith}
+use Rattle.std.proofs.Common.{rules, subst, ◌≡◌, [], length, take, sym, ap, ◌∙◌, refl, arith}
 use Rattle.std.specs.Prelude.{All}
 use Rattle.std.proofs.lemmas.List.{take_all, take_more, append-nil}
 use Rattle.std.proofs.lemmas.List.Elements.{All-push}
