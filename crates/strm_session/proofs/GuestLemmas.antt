@@ -1,5 +1,5 @@
 -- Where no host end has an end of a stream, steps of guests touch none, and leave it so.
-use Rattle.std.proofs.Common.{◌≡◌, ℕ, ◌<◌, true, false, List, [], ◌∷◌, ◌++◌, length, set, get_or, Option, Some, None, refl, ap, ◌∙◌, inl, inr, arith}
+use Rattle.std.proofs.Common.{◌≡◌, ℕ, ◌<◌, true, false, List, [], ◌∷◌, ◌++◌, length, set, get_or, Option, Some, None, refl, sym, ap, ◌∙◌, subst, inl, inr, arith}
 use Rattle.std.proofs.lemmas.Bool.{cases_eq}
 use Rattle.std.proofs.lemmas.List.{get_or-set_same, get_or-set_other, get_or_past}
 use Rattle.strm_machine.specs.Words.{ReturnCode, TransmitIndex, State, no_stream, stream_at, end_of, with_end, Turn, named, stream_named, Reaction, written_back, IsSound}
@@ -33,11 +33,14 @@ AreUnhosted streams = (s : ℕ) (side : Side) → is_host (owner_in streams s si
 abbrev IsUnhosted : Stream → Type 0
 IsUnhosted stream = (side : Side) → is_host (end_of side stream).owner ≡ false
 
+abbrev OnUnhosted : Side → Stream → Type 0
+OnUnhosted side stream = is_host (end_of side stream).owner ≡ false
+
 set-unhosted : (streams : List Stream) (s : ℕ) (x : Stream) → s < length streams → IsUnhosted x → AreUnhosted streams → AreUnhosted (set streams s x)
 set-unhosted streams s x l here u k side =
     elim (cases_eq k s) [
-      | inl e ↦ rw (e, get_or-set_same streams s x no_stream l) (here side)
-      | inr ne ↦ rw (get_or-set_other streams s k x no_stream ne) (u k side)
+      | inl e ↦ subst (λ n. is_host (owner_in (set streams s x) n side) ≡ false) (sym e) (subst (OnUnhosted side) (sym (get_or-set_same streams s x no_stream l)) (here side))
+      | inr ne ↦ subst (OnUnhosted side) (sym (get_or-set_other streams s k x no_stream ne)) (u k side)
     ]
 
 owners-unhosted : (old new : Stream) → OwnersStay old new → IsUnhosted old → IsUnhosted new
@@ -59,8 +62,8 @@ unfolding with_stream
 pair-unhosted state writer reader ty u k side =
     let pair = made_pair state writer reader ty in
     elim (made_at state.streams (made_stream ty writer pair.write reader pair.read) k) [
-      | inl e ↦ rw e (u k side)
-      | inr e ↦ rw e.1 (made-unhosted ty writer pair.write reader pair.read side)
+      | inl e ↦ subst (OnUnhosted side) (sym e) (u k side)
+      | inr e ↦ subst (OnUnhosted side) (sym e.1) (made-unhosted ty writer pair.write reader pair.read side)
     ]
 
 written-unhosted : (state : State) (s : ℕ) (t : Turn) (code : Option ReturnCode) → s < length state.streams → IsUnhosted t.stream → AreUnhosted state.streams → AreUnhosted (written_back state s t code).state.streams

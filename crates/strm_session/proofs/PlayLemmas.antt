@@ -96,6 +96,9 @@ pub record IsAt (steps : List Step) (k : ℕ) (step : Step) : Type 0 where
   pub inside : k < length steps
   pub is : get_or steps k step ≡ step
 
+pub is_at : (steps : List Step) (k : ℕ) (step : Step) → k < length steps → step ≡ get_or steps k step → IsAt steps k step
+is_at steps k step inside is = record { inside = inside; is = sym is }
+
 pub take-at : (steps : List Step) (k : ℕ) (step : Step) → IsAt steps k step → take (k + 1) steps ≡ take k steps ++ step ∷ []
 take-at steps k step h = take_more steps k step h.inside ∙ ap (λ s. take k steps ++ s ∷ []) h.is
 

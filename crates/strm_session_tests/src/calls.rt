@@ -1,5 +1,8 @@
 //! What no clause says: lines and texts of the formats' own examples, and that memory is found.
 
+ghost use Rattle.std.specs.Prelude.{◌≤◌, length};
+ghost use Rattle.strm_buffers.specs.AllTells.{tells_of};
+
 use std::alloc::Global;
 use std::test::Fail;
 use strm_buffers::hosts::Hosts;
@@ -291,14 +294,6 @@ fn a_sink_in_pieces(rt: HostRuntime) -> Result<(), Fail> {
     Ok(())
 }
 
-// No host ends.
-pub(crate) fn no_hosts(alloc: Global) -> Hosts {
-    Hosts {
-        writers: Vec::new(alloc),
-        readers: Vec::new(alloc),
-    }
-}
-
 // The status and the text for words and an input, where the calls of these numbers fail.
 pub(crate) fn served(
     alloc: Global,
@@ -306,7 +301,11 @@ pub(crate) fn served(
     input: &[u8],
     failing: (u32, u32),
 ) -> Result<(u8, Vec<u8>), Fail> {
-    served_among(alloc, words, input, failing, &mut no_hosts(alloc))
+    let mut hosts = Hosts {
+        writers: Vec::new(alloc),
+        readers: Vec::new(alloc),
+    };
+    served_among(alloc, words, input, failing, &mut hosts)
 }
 
 // The same among host ends.
@@ -316,7 +315,10 @@ pub(crate) fn served_among(
     input: &[u8],
     failing: (u32, u32),
     hosts: &mut Hosts,
-) -> Result<(u8, Vec<u8>), Fail> {
+) -> Result<(u8, Vec<u8>), Fail>
+    requires writers { length (tells_of writer_tells reader_tells hosts.old).writers ≤ 64 }
+    requires readers { length (tells_of writer_tells reader_tells hosts.old).readers ≤ 64 }
+{
     let mut list = Vec::new(alloc);
     for word in words {
         list.push(String::from_str(alloc, word)?)?;

@@ -1,5 +1,7 @@
 //! Runs among host writers by example: those of the program, and writers of a script.
 
+ghost use Rattle.std.specs.Prelude.{◌≡◌};
+
 use crate::calls::served_among;
 use std::alloc::Global;
 use std::test::Fail;
@@ -146,7 +148,9 @@ fn host_writers_of_the_program(rt: HostRuntime) -> Result<(), Fail> {
 const LINES: &str = "host 0\nguest 16\nlower 0 0 stream:u8\nread 0 stream:u8 1 0 2\n";
 
 // The status and the text of these lines where one host writer produces these items and answers so.
-fn scripted(alloc: Global, items: Items, answer: Answer) -> Result<(u8, Vec<u8>), Fail> {
+fn scripted(alloc: Global, items: Items, answer: Answer) -> Result<(u8, Vec<u8>), Fail>
+    requires { items.payload ≡ BYTE }
+{
     let mut turns = Vec::new(alloc);
     turns.push(WriterTurn { items, answer })?;
     let writer = ScriptedWriter::new(alloc, TransmitKind::Stream, BYTE, turns);

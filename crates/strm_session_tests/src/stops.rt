@@ -1,8 +1,9 @@
 //! Stops by example: the step at which a bad item stops a run, its stream, and the text of the stop.
 
-use crate::calls::{no_hosts, served};
+use crate::calls::served;
 use std::alloc::Global;
 use std::test::Fail;
+use strm_buffers::hosts::Hosts;
 use strm_codes::codes::TransmitIndex;
 use strm_codes::payloads::{Payload, Shape};
 use strm_codes::scalars::Scalar;
@@ -24,7 +25,11 @@ fn printed(alloc: Global, steps: &[Step]) -> Result<(Vec<u8>, Option<(u32, RunCa
     if steps.len() > 16 {
         return Err(Fail::from("too many steps"));
     }
-    match run(alloc, steps, &mut no_hosts(alloc)) {
+    let mut hosts = Hosts {
+        writers: Vec::new(alloc),
+        readers: Vec::new(alloc),
+    };
+    match run(alloc, steps, &mut hosts) {
         Ok(transcript) => {
             let text = text(alloc, &transcript)?;
             Ok((text.as_slice().to_vec(alloc)?, None))

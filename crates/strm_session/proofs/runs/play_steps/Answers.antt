@@ -1,11 +1,11 @@
-use Rattle.std.proofs.Common.{rules, subst, ◌≡◌, [], length, take, sym, ap, ◌∙◌, refl, arith}
+use Rattle.std.proofs.Common.{rules, subst, ◌≡◌, ◌+◌, [], length, take, sym, ap, ◌∙◌, refl, arith}
 use Rattle.std.specs.Prelude.{All}
-use Rattle.std.proofs.lemmas.List.{take_all, take_more, append-nil}
-use Rattle.std.proofs.lemmas.List.Elements.{All-push}
+use Rattle.std.proofs.lemmas.List.{take_all, take_more, append-nil, length_push}
+use Rattle.std.proofs.lemmas.List.Elements.{All-nil, All-push}
 use Rattle.strm_laws.specs.Laws.{HasBytes}
 use Rattle.strm_machine.specs.Plays.{play}
 use Rattle.strm_session.specs.Runs.{start}
-use Rattle.strm_session.proofs.PlayLemmas.{stops, stopped_before}
+use Rattle.strm_session.proofs.PlayLemmas.{is_at, stops, stopped_before}
 use Rattle.strm_session.proofs.AmongLemmas.{led_none, led_more, runs_to, stops_among}
 use Rattle.strm_session.proofs.AloneLemmas.{start-fits, alone_none, alone_more, alone_before, untouched_at}
 use Rattle.strm_session.proofs.runs.play_steps.Goals as goal
@@ -15,7 +15,7 @@ returns-in-Err-clause-stop g c =
     let i = c.loop-step.invariant in
     rw c.in-Err.ensures.err
     (stops_among _ _ _ c.args.steps.now c.loop-step.step-index _ c.loop-step.replies c.loop-step.store c.step_once.new.store
-    (record { inside = c.loop-step-test.true; is = sym c.step-item.is }) i.led c.in-Err.cause i.count c.in-Err.ensures.stop)
+    (is_at c.args.steps.now c.loop-step.step-index _ c.loop-step-test.true c.step-item.is) i.led c.in-Err.cause i.count c.in-Err.ensures.stop)
 
 pub returns-in-Err-clause-stop_alone : goal.returns-in-Err-clause-stop_alone
 returns-in-Err-clause-stop_alone g c = λ all.
@@ -23,7 +23,7 @@ returns-in-Err-clause-stop_alone g c = λ all.
     let state = c.loop-step.store in
     let k = c.loop-step.step-index in
     let i = c.loop-step.invariant in
-    let at = record { inside = c.loop-step-test.true; is = sym c.step-item.is } in
+    let at = is_at c.args.steps.now c.loop-step.step-index c.step-item.result c.loop-step-test.true c.step-item.is in
     let l = alone_before _ _ c.args.steps.now k told state i.alone all in
     rw c.in-Err.ensures.err (
       state,
@@ -35,7 +35,7 @@ returns-in-Err-clause-stop_alone g c = λ all.
 pub returns-in-Err-clause-hosts : goal.returns-in-Err-clause-hosts
 returns-in-Err-clause-hosts g c = λ all.
     let k = c.loop-step.step-index in
-    let at = record { inside = c.loop-step-test.true; is = sym c.step-item.is } in
+    let at = is_at c.args.steps.now c.loop-step.step-index c.step-item.result c.loop-step-test.true c.step-item.is in
     let l = alone_before _ _ c.args.steps.now k c.loop-step.replies c.loop-step.store c.loop-step.invariant.alone all in
     c.step_once.ensures.hosts (untouched_at c.args.steps.now k _ c.loop-step.store at l.unhosted all) ∙ l.same
 
@@ -58,9 +58,19 @@ pub returns-clause-hosts : goal.returns-clause-hosts
 returns-clause-hosts g c = λ all.
     (alone_before _ _ c.args.steps.now c.loop-step.step-index c.loop-step.replies c.loop-step.store c.loop-step.invariant.alone all).same
 
+pub loop-step-init : goal.loop-step-init
+loop-step-init g c = rw (c.requires.begins, c.requires.none) (record {
+  led = led_none _ c.args.steps.now;
+  alone = λ _. alone_none _ c.args.steps.now;
+  fits = start-fits _;
+  running = refl;
+  count = refl;
+  bytes = All-nil HasBytes;
+})
+
 pub loop-step-preserved : goal.loop-step-preserved
 loop-step-preserved g c =
-    let at = record { inside = c.loop-step-test.true; is = sym c.step-item.is } in
+    let at = is_at c.args.steps.now c.loop-step.step-index c.step-item.result c.loop-step-test.true c.step-item.is in
     let k = c.loop-step.step-index in
     let step = c.step-item.result in
     let i = c.loop-step.invariant in
@@ -70,7 +80,7 @@ loop-step-preserved g c =
           (λ untouched. record { goes_on = c.in_default.ensures.alone untouched; state_is = c.in_default.ensures.state untouched; same = c.step_once.ensures.hosts untouched });
       fits = search rules;
       running = search rules;
-      count = search rules;
+      count = ap length c.in_default.ensures.ok.1 ∙ length_push c.loop-step.replies c.in_default.ensures.ok.0 ∙ ap (λ n. n + 1) i.count;
       bytes = subst (All HasBytes) (sym (take_more c.args.steps.now k _ c.loop-step-test.true))
           (All-push HasBytes (take k c.args.steps.now) _ i.bytes (subst HasBytes c.step-item.is c.sound.ensures));
     }

@@ -1,4 +1,5 @@
-use Rattle.std.proofs.Common.{refl}
+use Rattle.std.proofs.Common.{refl, ap, ◌∙◌}
+use Rattle.strm_lines.specs.Text.{stopped_text}
 use Rattle.strm_session.proofs.serving.answer_steps.Goals.{in-HostFailed, in-HostBroke, in-BadItem}
 use Rattle.strm_session.proofs.serving.answer_steps.Goals as goal
 
@@ -16,5 +17,5 @@ returns-in_ok-text-in-Err-clause-stopped g c = λ input s q. record {
     ];
   stop = c.in-Err.ensures.stop;
   alone = c.in-Err.ensures.stop_alone;
-  text_is = c.in_ok-text-in-Err.ensures.ok;
+  text_is = c.in_ok-text-in-Err.ensures.ok ∙ ap (λ told. stopped_text told c.match-stop.status.1) c.as_slice.ensures;
 }
