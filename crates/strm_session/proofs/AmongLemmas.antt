@@ -74,10 +74,11 @@ module _ (old now new : Tells) (steps : List Step) (k : ℕ) (step : Step) (told
       let logs = saids new in
       let rest = drop (suc k) steps in
       let e = extends_self new in
-      let cut : steps ≡ take k steps ++ step ∷ rest = split_at steps k step at.inside ∙ ap (λ s. take k steps ++ s ∷ rest) at.is in
-      (next,
-      ap (play [] (start_among old new)) cut ∙ (l.led logs (d.begins logs e)).goes_on (step ∷ rest)
-      ∙ ap (λ (o : Outcome). after_step told o (λ told' world'. play told' world' rest)) (d.gives logs e))
+      let cut : steps ≡ take k steps ++ step ∷ rest = split_at steps k step at.inside ∙ ap (λ s. take k steps ++ s ∷ rest) at.is in (
+        next,
+        ap (play [] (start_among old new)) cut ∙ (l.led logs (d.begins logs e)).goes_on (step ∷ rest)
+            ∙ ap (λ (o : Outcome). after_step told o (λ told' world'. play told' world' rest)) (d.gives logs e),
+      )
 
   raised_by : (cause : RunCause) → Caused (Err (stop_of cause)) now new → Raised old new cause
   raised_by (causes.HostFailed end) c = let f : faults_of old end ≤ faults_of now end = l.faults end in omega (arith, c, f)

@@ -36,12 +36,20 @@ fn served(alloc: Global, input: &str) -> Result<(u8, Vec<u8>), Fail> {
     };
     hosts.writers.push(Box::new(alloc, queue(stream, BYTE))?)?;
     hosts.writers.push(Box::new(alloc, queue(stream, WORD))?)?;
-    hosts.writers.push(Box::new(alloc, queue(stream, Payload::Nothing))?)?;
+    hosts
+        .writers
+        .push(Box::new(alloc, queue(stream, Payload::Nothing))?)?;
     hosts.writers.push(Box::new(alloc, queue(stream, CHAR))?)?;
     hosts.writers.push(Box::new(alloc, queue(future, WORD))?)?;
-    hosts.writers.push(Box::new(alloc, Erased::stream(alloc, five))?)?;
-    hosts.writers.push(Box::new(alloc, Erased::stream(alloc, same))?)?;
-    hosts.writers.push(Box::new(alloc, Erased::stream(alloc, none))?)?;
+    hosts
+        .writers
+        .push(Box::new(alloc, Erased::stream(alloc, five))?)?;
+    hosts
+        .writers
+        .push(Box::new(alloc, Erased::stream(alloc, same))?)?;
+    hosts
+        .writers
+        .push(Box::new(alloc, Erased::stream(alloc, none))?)?;
     served_among(alloc, &["run"], input.as_bytes(), (9999, 9999), &mut hosts)
 }
 

@@ -226,9 +226,7 @@ fn arrived(alloc: Global, steps: &[Step]) -> Result<(TextBytes, bool), Fail> {
         writers: Vec::new(alloc),
         readers: Vec::new(alloc),
     };
-    let done = run(alloc, steps, &mut hosts)
-        .ok()
-        .ok_or("the run stops")?;
+    let done = run(alloc, steps, &mut hosts).ok().ok_or("the run stops")?;
     let written = done.store.memory(0).ok_or("a writer")?;
     let read = done.store.memory(1).ok_or("a reader")?;
     let is_read = written.len() == 65_536 && read.starts_with(written);

@@ -11,10 +11,10 @@ returns-in_ok-text-in-Err-clause-stopped g c = λ input s q. record {
   cause = c.in-Err.stop.cause;
   why = c.match-stop.status.1;
   status_is = elim c.match-stop.branch [
-      | in-HostFailed w ↦ rw (w.in-HostFailed.is, w.status-is) (refl, refl)
-      | in-HostBroke w ↦ rw (w.in-HostBroke.is, w.status-is) (refl, refl)
-      | in-BadItem w ↦ rw (w.in-BadItem.is, w.status-is) (refl, refl)
-    ];
+    | in-HostFailed w ↦ rw (w.in-HostFailed.is, w.status-is) (refl, refl)
+    | in-HostBroke w ↦ rw (w.in-HostBroke.is, w.status-is) (refl, refl)
+    | in-BadItem w ↦ rw (w.in-BadItem.is, w.status-is) (refl, refl)
+  ];
   stop = c.in-Err.ensures.stop;
   alone = c.in-Err.ensures.stop_alone;
   text_is = c.in_ok-text-in-Err.ensures.ok ∙ ap (λ told. stopped_text told c.match-stop.status.1) c.as_slice.ensures;
