@@ -1,3 +1,4 @@
-pub mod RegionFacts
-pub mod PollFacts
-pub mod TurnFacts
+pub mod RegionLemmas
+pub mod PollLemmas
+pub mod TurnLemmas
+pub mod StepLemmas

@@ -6,7 +6,7 @@
 //! guest afterwards.
 #![tactic(auto)]
 
-pub mod polls;
-pub mod regions;
-pub mod settling;
+mod polls;
+mod regions;
+mod settling;
 pub mod turns;

@@ -163,22 +163,22 @@ pub fn producer_turn(
     stream: &mut Stream,
     producer: &mut Producer,
     writer: &mut Box<dyn HostWriter>,
-    read: Operation,
+    read: &Operation,
 ) -> Result<(), TurnError>
-    requires placed { IsPlaced (sizes_of (seen guests.old.items)) stream.old.payload read }
+    requires placed { IsPlaced (sizes_of (seen guests.old.items)) stream.old.payload read.now }
     requires sizes { sum (sizes_of (seen guests.old.items)) ≤ 268435456 }
     requires payload { (writer_tells writer.old).payload ≡ stream.old.payload }
     ensures { Turns result
         (scene (seen guests.old.items) stream.old producer.old (writer_tells writer.old))
-        (scene (seen guests.new.items) stream.new producer.new (writer_tells writer.new)) read }
+        (scene (seen guests.new.items) stream.new producer.new (writer_tells writer.new)) read.now }
 {
     if held_by(writer) > 0 {
-        hand_over(alloc, guests, stream, writer, read);
+        hand_over(alloc, guests, stream, writer, *read);
         return Ok(());
     }
     if producer.over {
-        end_read(stream, read);
+        end_read(stream, *read);
         return Ok(());
     }
-    poll_once(alloc, guests, stream, producer, writer, read)
+    poll_once(alloc, guests, stream, producer, writer, *read)
 }

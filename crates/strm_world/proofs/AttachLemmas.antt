@@ -1,5 +1,5 @@
 -- A host writer that gets a stream, and one that bytes are passed on to.
-use Rattle.std.proofs.Common.{◌≡◌, ℕ, zero, suc, ◌<◌, List, [], ◌∷◌, ◌++◌, length, drop, Ok, refl, sym, ap, subst, ◌∙◌, arith}
+use Rattle.std.proofs.Common.{◌≡◌, ℕ, zero, suc, ◌<◌, List, [], ◌∷◌, ◌++◌, length, drop, Ok, refl, sym, ap, ◌∙◌, arith}
 use Rattle.std.specs.Prelude.{slice_set, slice_index_or}
 use Rattle.strm_buffers.specs.Said.{WriterSaid}
 use Rattle.strm_buffers.specs.Tells.{WriterTells, Tells, no_tells, told_by, with_told, fed}
@@ -10,14 +10,14 @@ use Rattle.strm_machine.specs.declared.streams.Duty.TheVariants.{Unused, Serves}
 use Rattle.strm_machine.specs.declared.streams.Producer.{Producer}
 use Rattle.strm_machine.specs.declared.streams.Stream.{Stream}
 use Rattle.strm_machine.specs.declared.replies.Reply.TheVariants as replies
-use Rattle.strm_world.specs.Ends.{Writer, fed_writer}
-use Rattle.strm_world.specs.World.{World, writer_at, with_writer}
-use Rattle.strm_world.specs.Outcomes.{Outcome, Goes, done}
+use Rattle.strm_world.specs.Ends.{fed_writer}
+use Rattle.strm_world.specs.World.{writer_at, with_writer}
+use Rattle.strm_world.specs.Outcomes.{Goes, done}
 use Rattle.strm_world.specs.Attaching.{hosted_stream, hosts_new}
 use Rattle.strm_world.specs.Steps.{on_host}
-use Rattle.strm_world.specs.Does.{Logs, first_duty, first_log, writer_of, writers_from, readers_from, world_of, Does}
+use Rattle.strm_world.specs.Does.{Logs, first_log, writer_of, writers_from, world_of, Does}
 use Rattle.strm_world.proofs.WorldLemmas.{writer_in-from, writers_from-set}
-use Rattle.strm_world.proofs.GrowLemmas.{Grows, grows-same, Does-told}
+use Rattle.strm_world.proofs.GrowLemmas.{grows-same, Does-told}
 use Rattle.strm_world.proofs.DoesLemmas.{Does-untold}
 
 -- an unused writer that serves is the same to the machine

@@ -10,14 +10,13 @@ use Rattle.strm_machine.specs.declared.streams.Duty.{Duty}
 use Rattle.strm_machine.specs.declared.streams.Duty.TheVariants.{Ended}
 use Rattle.strm_machine.specs.declared.streams.Producer.{Producer}
 use Rattle.strm_world.specs.Ends.{closed_writer}
-use Rattle.strm_world.specs.World.{World, writer_at, with_producer, without_writer}
+use Rattle.strm_world.specs.World.{World, writer_at, without_writer}
 use Rattle.strm_world.specs.Does.{Logs, first_duty, first_log, writer_of, writers_from, world_of}
-use Rattle.strm_world.proofs.WorldLemmas.{drop_one, writer_in-from, writer_made}
+use Rattle.strm_world.proofs.WorldLemmas.{Saids, log_of, drop_one, writer_in-from, writer_made}
 
 -- a writer with another duty that tells something else
-pub writers_from-both : (ps : List Producer) (ws : List WriterTells) (logs : List (List WriterSaid)) (n : ℕ) (p : Producer) (w : WriterTells)
-    → n < length ps → n < length ws
-    → writers_from (slice_set ps n p) (slice_set ws n w) logs ≡ slice_set (writers_from ps ws logs) n (writer_of p.duty w (first_log (drop n logs)))
+pub writers_from-both : (ps : List Producer) (ws : List WriterTells) (logs : Saids) (n : ℕ) (p : Producer) (w : WriterTells)
+    → n < length ps → n < length ws → writers_from (slice_set ps n p) (slice_set ws n w) logs ≡ slice_set (writers_from ps ws logs) n (writer_of p.duty w (log_of logs n))
 writers_from-both [] ws logs n p w k l = absurd (omega (arith, k))
 writers_from-both (q ∷ ps) [] logs n p w k l = absurd (omega (arith, l))
 writers_from-both (q ∷ ps) (x ∷ ws) logs zero p w k l = refl

@@ -1,6 +1,8 @@
 -- What one piece of code did and what the next one did make up what both do.
 use Rattle.std.proofs.Common.{◌≡◌, ℕ, ◌≤◌, Ok, Err, Option, Some, None, refl, sym, subst, arith}
 use Rattle.strm_buffers.specs.Tells.{Tells}
+use Rattle.std.proofs.lemmas.Bool.Decides.{nat_tests}
+use Rattle.strm_buffers.specs.Tells.{Rose}
 use Rattle.strm_machine.specs.State.{State}
 use Rattle.strm_machine.specs.declared.stops.Stop.{Stop}
 use Rattle.strm_machine.specs.declared.stops.Stop.TheVariants.{HostFailed}
@@ -10,11 +12,15 @@ use Rattle.strm_world.specs.World.{World}
 use Rattle.strm_world.specs.Outcomes.{Outcome, Stops, then_on}
 use Rattle.strm_world.specs.Does.{Logs, world_of, Answered, Gives, faults_of, Caused, Does}
 
+-- a count that rose has risen since it was less
+rose_more : (a b c : ℕ) → a ≤ b → Rose b c → Rose a c
+rose_more a b c h r = grind (arith, nat_tests)
+
 -- a cause in the second part is one of the whole
 caused_from : (x y z : Tells) (result : Answered) → ((end : HostEnd) → faults_of x end ≤ faults_of y end) → Caused result y z → Caused result x z
 caused_from x y z (Ok reply) h c = tt
 caused_from x y z (Err None) h c = tt
-caused_from x y z (Err (Some (HostFailed end))) h c = let k : faults_of x end ≤ faults_of y end = h end in omega (arith, c, k)
+caused_from x y z (Err (Some (HostFailed end))) h c = rose_more (faults_of x end) (faults_of y end) (faults_of z end) (h end) c
 caused_from x y z (Err (Some _)) h c = tt
 
 at_most : (a b c : ℕ) → a ≤ b → b ≤ c → a ≤ c

@@ -2,9 +2,10 @@
 use Rattle.std.proofs.Common.{◌≡◌, ℕ, zero, suc, ◌<◌, ◌≤◌, List, [], ◌∷◌, ◌++◌, length, drop, refl, sym, ap, subst, ◌∙◌, append-nil, arith}
 use Rattle.std.specs.Prelude.{slice_set, slice_index_or, map, All}
 use Rattle.std.proofs.lemmas.List.Elements.{All-append, All-set}
+use Rattle.std.proofs.lemmas.Bool.Decides.{nat_tests}
 use Rattle.strm_buffers.specs.Listing.{Item}
 use Rattle.strm_buffers.specs.Said.{WriterSaid}
-use Rattle.strm_buffers.specs.Tells.{WriterTells, Tells, no_tells, told_by, with_told, PollsWriter, KeepsWriter, ClosesWriter, Rises, given, fed}
+use Rattle.strm_buffers.specs.Tells.{WriterTells, Tells, no_tells, told_by, with_told, PollsWriter, KeepsWriter, ClosesWriter, Rises, Rose}
 use Rattle.strm_buffers.specs.declared.answers.Answer.{Answer}
 use Rattle.strm_buffers.specs.declared.answers.Answer.TheVariants.{Failed}
 use Rattle.strm_machine.specs.State.{State}
@@ -13,7 +14,7 @@ use Rattle.strm_machine.specs.declared.streams.HostEnd.TheVariants as ends
 use Rattle.strm_world.specs.World.{World}
 use Rattle.strm_world.specs.Outcomes.{Outcome}
 use Rattle.strm_world.specs.Does.{Logs, Begins, AllBegin, first_log, Extends, world_of, Answered, Gives, faults_of, Caused, SaidFits, IsSupplied, AreSupplied, Does}
-use Rattle.strm_world.proofs.WorldLemmas.{drop_one, begins-before}
+use Rattle.strm_world.proofs.WorldLemmas.{begins-before}
 
 -- a writer that told more: records more of its items, and no fault less
 pub record Grows (old new : WriterTells) : Type 0 where
@@ -44,8 +45,11 @@ grows-same old new e f g = record {
   faults = g;
 }
 
+rose_at_most : (a b : ℕ) → Rose a b → a ≤ b
+rose_at_most a b r = grind (arith, nat_tests)
+
 rises_at_most : (answer : Answer) (a b : ℕ) → Rises answer a b → a ≤ b
-rises_at_most Failed a b r = omega (arith, r)
+rises_at_most Failed a b r = rose_at_most a b r
 rises_at_most _ a b r = r
 
 pub grows-polled : (old new : WriterTells) (said : WriterSaid) (marked : List Item) → PollsWriter old new said marked → Grows old new
@@ -129,8 +133,12 @@ follows-then a b c f g = record {
   faults = λ end. at_most (faults_of a end) (faults_of b end) (faults_of c end) (f.faults end) (g.faults end);
 }
 
+-- a part of a step
+abbrev pub Part : Type 0
+Part = World → Outcome
+
 -- a call that does what the machine does on whatever is yet to come
-pub Does-follows : (old new : State) (tells told : Tells) (result : Answered) (machine : World → Outcome) → Follows tells told
+pub Does-follows : (old new : State) (tells told : Tells) (result : Answered) (machine : Part) → Follows tells told
     → ((logs : Logs) → Extends told logs → Gives result (world_of new told logs) (machine (world_of old tells logs))) → Caused result tells told → Does old new tells told result machine
 Does-follows old new tells told result machine f gives cause = record {
   begins = f.begins;
@@ -140,7 +148,7 @@ Does-follows old new tells told result machine f gives cause = record {
   cause = cause;
 }
 
-module _ (old new : State) (tells : Tells) (n : ℕ) (w : WriterTells) (result : Answered) (machine : World → Outcome) (there : n < length tells.writers) where
+module _ (old new : State) (tells : Tells) (n : ℕ) (w : WriterTells) (result : Answered) (machine : Part) (there : n < length tells.writers) where
   -- what the machine does, on whatever is yet to come
   abbrev pub AllGive : Type 0
   AllGive = (logs : Logs) → Extends (with_told tells n w) logs → Gives result (world_of new (with_told tells n w) logs) (machine (world_of old tells logs))

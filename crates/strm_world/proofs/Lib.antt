@@ -11,3 +11,6 @@ pub mod TurnLemmas
 pub mod BackLemmas
 pub mod AttachLemmas
 pub mod ReadLemmas
+pub mod FitsLemmas
+pub mod DropLemmas
+pub mod AloneLemmas

@@ -1,9 +1,15 @@
 -- What comes of a step, by what is known of the state and of the act.
-use Rattle.std.proofs.Common.{◌≡◌, ℕ, true, false, cond, Option, Some, None, Ok, Err, refl, sym, ap, ◌∙◌}
+use Rattle.std.proofs.Common.{◌≡◌, ℕ, true, false, cond, Some, None, Ok, Err, refl, ap, ◌∙◌}
 use Rattle.strm_codes.specs.declared.refusals.Refusal.{Refusal}
 use Rattle.strm_buffers.specs.Tells.{Tells}
 use Rattle.strm_machine.specs.State.{State}
+use Rattle.strm_machine.specs.Refusals.{refusal}
 use Rattle.strm_machine.specs.declared.acts.Act.{Act}
+use Rattle.strm_machine.specs.declared.acts.Act.TheVariants.{OnEnd, OnLoose, Drive}
+use Rattle.strm_machine.specs.declared.acts.EndAct.{EndAct}
+use Rattle.strm_machine.specs.declared.acts.LooseAct.{LooseAct}
+use Rattle.strm_machine.specs.declared.acts.NamedEnd.{NamedEnd}
+use Rattle.strm_machine.specs.declared.streams.Side.{Side}
 use Rattle.strm_machine.specs.declared.stops.Stop.TheVariants.{StoreTrapped}
 use Rattle.strm_machine.specs.declared.replies.Reply.TheVariants as replies
 use Rattle.strm_world.specs.World.{World}
@@ -47,3 +53,17 @@ Does-performed a c x z result act t e d =
 -- want of memory that changed nothing
 pub Does-wanting : (state : State) (tells : Tells) (machine : World → Outcome) → Does state state tells tells (Err None) machine
 Does-wanting state tells machine = Does-untold state state tells (Err None) machine (λ logs. tt) tt
+
+-- WHAT REFUSES A STEP THAT NAMES NO HOST END: its own reasons
+
+pub refusal_in-on_end : (world : World) (side : Side) (end : NamedEnd) (act : EndAct) → refusal_in world (OnEnd side end act) ≡ refusal world.state (OnEnd side end act)
+unfolding refusal_in refusal
+refusal_in-on_end world side end act = refl
+
+pub refusal_in-on_loose : (world : World) (reader : ℕ) (act : LooseAct) → refusal_in world (OnLoose reader act) ≡ refusal world.state (OnLoose reader act)
+unfolding refusal_in refusal
+refusal_in-on_loose world reader act = refl
+
+pub refusal_in-drive : (world : World) → refusal_in world Drive ≡ None
+unfolding refusal_in
+refusal_in-drive world = refl

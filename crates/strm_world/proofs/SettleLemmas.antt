@@ -1,5 +1,5 @@
 -- A stream that is written back among its host ends: its writer stays, or goes with its box closed.
-use Rattle.std.proofs.Common.{◌≡◌, ℕ, ◌<◌, ◌==◌, Bool, true, false, cond, length, Option, Some, None, Ok, refl, sym, ap, ◌∙◌}
+use Rattle.std.proofs.Common.{◌≡◌, ℕ, ◌<◌, ◌==◌, Bool, true, false, cond, length, Option, Some, None, Ok, refl, ap, ◌∙◌}
 use Rattle.strm_codes.specs.declared.codes.ReturnCode.{ReturnCode}
 use Rattle.strm_codes.specs.declared.codes.ReturnCode.TheVariants.{Blocked}
 use Rattle.strm_codes.specs.declared.codes.StreamResult.{StreamResult}
@@ -15,10 +15,10 @@ use Rattle.strm_machine.specs.declared.streams.Side.TheVariants.{Reading}
 use Rattle.strm_machine.specs.declared.streams.Operation.{Operation}
 use Rattle.strm_machine.specs.declared.streams.Stream.{Stream}
 use Rattle.strm_machine.specs.declared.replies.Reply.TheVariants as replies
-use Rattle.strm_world.specs.World.{World, leaves_writer, with_stream_in, stream_in}
-use Rattle.strm_world.specs.Outcomes.{Outcome, Goes}
-use Rattle.strm_world.specs.Settling.{moved_on, with_some_received, answered_with, answered}
-use Rattle.strm_world.specs.Does.{Logs, world_of, Answered, Does}
+use Rattle.strm_world.specs.World.{World, leaves_writer, with_stream_in}
+use Rattle.strm_world.specs.Outcomes.{Goes}
+use Rattle.strm_world.specs.Settling.{moved_on, answered_with, answered}
+use Rattle.strm_world.specs.Does.{Logs, world_of, Does}
 use Rattle.strm_world.proofs.CloseLemmas.{ended_in, without_writer-box}
 use Rattle.strm_world.proofs.DoesLemmas.{Does-untold}
 

@@ -1,15 +1,14 @@
 -- The producer turn, by what was done to the guests, the stream, what is kept of the writer, and its box.
-use Rattle.std.proofs.Common.{◌≡◌, ℕ, ◌<◌, ◌==◌, ◌||◌, ◌&&◌, Bool, true, false, cond, List, [], ◌∷◌, length, take, drop, Option, Some, None, Ok, Err, refl, sym, ap, subst, ◌∙◌, arith}
+use Rattle.std.proofs.Common.{◌≡◌, ℕ, ◌<◌, ◌==◌, ◌||◌, ◌&&◌, Bool, true, false, cond, List, [], ◌∷◌, length, take, drop, Option, Some, None, Err, refl, sym, ap, subst, ◌∙◌}
 use Rattle.std.specs.Prelude.{slice_set}
 use Rattle.std.proofs.lemmas.Bool.{eq-eqb}
 use Rattle.strm_codes.specs.declared.codes.StreamResult.{StreamResult}
 use Rattle.strm_codes.specs.declared.codes.StreamResult.TheVariants as results
-use Rattle.strm_buffers.specs.declared.answers.Answer.{Answer}
 use Rattle.strm_buffers.specs.declared.answers.Answer.TheVariants.{Failed}
 use Rattle.strm_buffers.specs.HostRules.{breaks_as_writer}
 use Rattle.strm_buffers.specs.Listing.{Item}
 use Rattle.strm_buffers.specs.Said.{WriterSaid}
-use Rattle.strm_buffers.specs.Tells.{WriterTells, Tells, no_tells, told_by, with_told, PollsWriter, KeepsWriter, Rises, given}
+use Rattle.strm_buffers.specs.Tells.{WriterTells, Tells, no_tells, told_by, with_told, PollsWriter, KeepsWriter, Rises, Rose, given}
 use Rattle.strm_machine.specs.State.{State, Guest, no_producer, producer_at, stream_at}
 use Rattle.strm_machine.specs.declared.stops.Stop.{Stop}
 use Rattle.strm_machine.specs.declared.stops.Stop.TheVariants.{HostFailed, HostBroke}
@@ -18,16 +17,14 @@ use Rattle.strm_machine.specs.declared.streams.Operation.{Operation}
 use Rattle.strm_machine.specs.declared.streams.Producer.{Producer}
 use Rattle.strm_machine.specs.declared.streams.Side.TheVariants.{Reading}
 use Rattle.strm_machine.specs.declared.streams.Stream.{Stream}
-use Rattle.strm_machine.specs.declared.replies.Reply.TheVariants as replies
-use Rattle.strm_world.specs.World.{World, writer_at, with_stream_in}
-use Rattle.strm_world.specs.Outcomes.{Outcome, Goes, Stops, done, stops}
+use Rattle.strm_world.specs.World.{World, with_stream_in}
+use Rattle.strm_world.specs.Outcomes.{Outcome, Stops, done, stops}
 use Rattle.strm_world.specs.Polls.{AfterWriter, is_failed, same_flag, same_room, is_writer_poll, writer_judged}
 use Rattle.strm_world.specs.Settling.{moved_on}
 use Rattle.strm_world.specs.Producing.{lowered, receives, is_last, with_over, produced_result, hands_over, is_produced, produces, producer_turn}
-use Rattle.strm_world.specs.Does.{Logs, Extends, first_log, writer_of, writers_from, readers_from, world_of, Answered, Gives, Caused, Does}
+use Rattle.strm_world.specs.Does.{Logs, Extends, writers_from, readers_from, world_of, Does}
 use Rattle.strm_world.proofs.WorldLemmas.{writers_from-duty, set-same}
-use Rattle.strm_world.proofs.GrowLemmas.{Grows, Does-told, grows-polled, grows-kept, grows-same, begins-told, told_by-told}
-use Rattle.strm_world.proofs.DoesLemmas.{Does-untold}
+use Rattle.strm_world.proofs.GrowLemmas.{Does-told, grows-polled, grows-kept, begins-told, told_by-told}
 use Rattle.strm_world.proofs.PollLemmas.{IsServing, IsRecorded, writer_at-serving, with_writer-serving, polls_writer-box}
 
 -- the state after a turn, but for its stream
@@ -51,14 +48,14 @@ WritesBack old but tells told s stream machine =
     (logs : Logs) → Extends told logs → machine (world_of old tells logs) ≡ done (with_stream_in (world_of but told logs) s stream)
 
 -- nothing but the duty of what is kept is to be seen
-pub world_of-kept : (state : State) (tells : Tells) (logs : Logs) (n : ℕ) (guests : List Guest) (producer : Producer) → (producer_at state n).duty ≡ producer.duty
-    → world_of (turned_but state n guests producer) tells logs ≡ record (world_of state tells logs) { state = turned_but state n guests producer }
+pub world_of-kept : (state : State) (tells : Tells) (logs : Logs) (n : ℕ) (guests : List Guest) (p : Producer) → (producer_at state n).duty ≡ p.duty
+    → world_of (turned_but state n guests p) tells logs ≡ record (world_of state tells logs) { state = turned_but state n guests p }
 world_of-kept state tells logs n guests producer e =
     ap (λ ws. record (world_of state tells logs) { state = turned_but state n guests producer; writers = ws })
     (writers_from-duty state.producers tells.writers logs.writers n producer no_producer e)
 
 -- a writer that is told to be what it is
-told-same : (tells : Tells) (n : ℕ) → with_told tells n (told_by tells n) ≡ tells
+pub told-same : (tells : Tells) (n : ℕ) → with_told tells n (told_by tells n) ≡ tells
 told-same tells n = ap (λ ws. record tells { writers = ws }) (set-same tells.writers n no_tells)
 
 kept-same : (state : State) (n : ℕ) (guests : List Guest) → turned_but state n guests (producer_at state n) ≡ record state { guests = guests }
@@ -70,15 +67,25 @@ module _ (old : State) (tells : Tells) (n s : ℕ) (read : Operation) (i : IsSer
   unfolding producer_turn
   by_holds logs = ap (λ w. produces (world_of old tells logs) s n read w.holds) (writer_at-serving old tells logs n s i)
 
+  -- a turn in which the read gets these items and is settled so, if it is, with this kept of the writer
+  abbrev pub Turns : Producer → List Item → Option StreamResult → Tells → Type 0
+  Turns producer items result told =
+      WritesBack old (turned_but old n (lowered_in old s read items) producer) tells told s (moved_in old s read items result) (λ w. producer_turn w s n read)
+
   -- HELD ITEMS
 
-  hands_over-box : (logs : Logs) → hands_over (world_of old tells logs) s n read ≡ with_stream_in (world_of (record old { guests = lowered_in old s read (take read.left (told_by tells n).holds) }) (with_told tells n (given (told_by tells n) (Some read.left))) logs) s (moved_in old s read (take read.left (told_by tells n).holds) (Some results.Completed))
+  abbrev given_items : List Item
+  given_items = take read.left (told_by tells n).holds
+
+  abbrev after_giving : Tells
+  after_giving = with_told tells n (given (told_by tells n) (Some read.left))
+
+  hands_over-box : (logs : Logs) → hands_over (world_of old tells logs) s n read ≡ with_stream_in (world_of (record old { guests = lowered_in old s read given_items }) after_giving logs) s (moved_in old s read given_items (Some results.Completed))
   hands_over-box logs =
       ap (λ w. receives (record (world_of old tells logs) { writers = slice_set (world_of old tells logs).writers n (record w { holds = drop read.left w.holds }) }) s read (take read.left w.holds) (Some results.Completed)) (writer_at-serving old tells logs n s i)
       ∙ ap (λ v. receives v s read (take read.left (told_by tells n).holds) (Some results.Completed)) (with_writer-serving old tells logs n s i (given (told_by tells n) (Some read.left)))
 
-  pub turn-hands_over : (item : Item) (items : List Item) → (told_by tells n).holds ≡ item ∷ items
-      → WritesBack old (turned_but old n (lowered_in old s read (take read.left (told_by tells n).holds)) (producer_at old n)) tells (with_told tells n (given (told_by tells n) (Some read.left))) s (moved_in old s read (take read.left (told_by tells n).holds) (Some results.Completed)) (λ w. producer_turn w s n read)
+  pub turn-hands_over : (item : Item) (items : List Item) → (told_by tells n).holds ≡ item ∷ items → Turns (producer_at old n) given_items (Some results.Completed) after_giving
   turn-hands_over item items e logs x =
       by_holds logs
       ∙ ap (produces (world_of old tells logs) s n read) e
@@ -87,8 +94,7 @@ module _ (old : State) (tells : Tells) (n s : ℕ) (read : Operation) (i : IsSer
 
   -- A WRITER THAT IS OVER
 
-  pub turn-ended : (told_by tells n).holds ≡ [] → (producer_at old n).over ≡ true
-      → WritesBack old (turned_but old n (lowered_in old s read []) (producer_at old n)) tells tells s (moved_in old s read [] (Some results.Dropped)) (λ w. producer_turn w s n read)
+  pub turn-ended : (told_by tells n).holds ≡ [] → (producer_at old n).over ≡ true → Turns (producer_at old n) [] (Some results.Dropped) tells
   turn-ended e over logs x =
       by_holds logs
       ∙ ap (produces (world_of old tells logs) s n read) e
@@ -151,7 +157,7 @@ module _ (old : State) (tells : Tells) (n s : ℕ) (read : Operation) (i : IsSer
   kept_after = record (producer_at old n) { over = (producer_at old n).over || is_last said.answer }
 
   pub turn-produced : is_failed said.answer ≡ false → breaks_as_writer (stream_at old s).kind said ≡ false
-      → WritesBack old (turned_but old n (lowered_in old s read (take read.left said.items)) kept_after) tells (with_told tells n w) s (moved_in old s read (take read.left said.items) (produced_result said.answer (drop read.left said.items))) (λ v. producer_turn v s n read)
+      → Turns old tells n s read i kept_after (take read.left said.items) (produced_result said.answer (drop read.left said.items)) (with_told tells n w)
   turn-produced f b logs e =
       judged logs e
       ∙ ap (λ x. cond x (stops (HostFailed (ends.Writer n)) (world_of old (with_told tells n w) logs)) (cond (breaks_as_writer (stream_at old s).kind said) (stops (HostBroke (ends.Writer n)) (world_of old (with_told tells n w) logs)) (next (world_of old (with_told tells n w) logs) said))) f
@@ -167,9 +173,9 @@ module _ (old : State) (tells : Tells) (n s : ℕ) (read : Operation) (i : IsSer
   stops-by new logs stop e =
       ap (λ ps. Stops stop (writers_from ps (with_told tells n w).writers logs.writers) (readers_from tells.readers logs.readers)) (sym e)
 
-  faults_rise : said.answer ≡ Failed → (told_by tells n).faults < (told_by (with_told tells n w) n).faults
+  faults_rise : said.answer ≡ Failed → Rose (told_by tells n).faults (told_by (with_told tells n w) n).faults
   faults_rise f =
-      subst (λ (v : WriterTells). (told_by tells n).faults < v.faults) (sym (told_by-told tells.writers n w no_tells i.there))
+      subst (λ (v : WriterTells). Rose (told_by tells n).faults v.faults) (sym (told_by-told tells.writers n w no_tells i.there))
       (subst (λ a. Rises a (told_by tells n).faults w.faults) f p.polls.faults)
 
   pub turn-failed : (new : State) → said.answer ≡ Failed → new.producers ≡ old.producers

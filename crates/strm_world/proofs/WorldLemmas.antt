@@ -12,6 +12,14 @@ use Rattle.strm_machine.specs.declared.streams.Producer.{Producer}
 use Rattle.strm_world.specs.Ends.{Writer, writer_in, polled_writer}
 use Rattle.strm_world.specs.Does.{Begins, first_duty, first_log, writer_of, writers_from}
 
+-- the records of all writers
+abbrev pub Saids : Type 0
+Saids = List (List WriterSaid)
+
+-- the log of the n-th writer
+abbrev pub log_of : Saids → ℕ → List WriterSaid
+log_of logs n = first_log (drop n logs)
+
 -- what the n-th writer is to the machine
 abbrev pub writer_from : List Producer → List (List WriterSaid) → ℕ → WriterTells → Writer
 writer_from producers logs n told = writer_of (first_duty (drop n producers)) told (first_log (drop n logs))

@@ -11,7 +11,7 @@ use Rattle.strm_machine.specs.declared.streams.Stream.{Stream}
 use Rattle.strm_machine.specs.declared.replies.Reply.TheVariants as replies
 use Rattle.strm_world.specs.Ends.{Writer}
 use Rattle.strm_world.specs.World.{World, stream_in, writer_at, with_producer, with_stream_in}
-use Rattle.strm_world.specs.Outcomes.{Outcome, Goes, Stops, Stuck}
+use Rattle.strm_world.specs.Outcomes.{Outcome, Goes}
 
 -- a stream of host writer n, its read end loose
 abbrev pub hosted_stream : Writer → ℕ → Stream

@@ -1,12 +1,12 @@
 -- How code over a store and its host ends meets the machine, whatever records are yet to come. Ours.
-use Rattle.std.specs.Prelude.{◌≡◌, ℕ, ◌<◌, ◌≤◌, Bool, List, [], ◌∷◌, ◌++◌, length, drop, map, slice_index_or, All, Option, Some, None, Result, Ok, Err}
+use Rattle.std.specs.Prelude.{◌≡◌, ℕ, ◌<◌, ◌≤◌, List, [], ◌∷◌, ◌++◌, length, drop, map, slice_index_or, All, Option, Some, None, Result, Ok, Err}
 use Rattle.strm_codes.specs.Layout.{scalars_of}
 use Rattle.strm_codes.specs.declared.payloads.Payload.{Payload}
 use Rattle.strm_memory.specs.Items.{AreItems}
 use Rattle.strm_buffers.specs.declared.answers.ReaderSaid.{ReaderSaid}
 use Rattle.strm_buffers.specs.Listing.{Item}
 use Rattle.strm_buffers.specs.Said.{WriterSaid}
-use Rattle.strm_buffers.specs.Tells.{WriterTells, ReaderTells, Tells, no_reader_tells, told_by}
+use Rattle.strm_buffers.specs.Tells.{WriterTells, ReaderTells, Tells, Rose, no_reader_tells, told_by}
 use Rattle.strm_machine.specs.State.{State, empty, producer_at, stream_at}
 use Rattle.strm_machine.specs.declared.limits.Limits.{Limits}
 use Rattle.strm_machine.specs.declared.streams.Duty.{Duty}
@@ -143,9 +143,9 @@ abbrev pub faults_of : Tells → HostEnd → ℕ
 faults_of tells (ends.Writer n) = (told_by tells n).faults
 faults_of tells (ends.Reader n) = (slice_index_or tells.readers n no_reader_tells).faults
 
--- HostFailed comes only where that end's count of faults rose
+-- HostFailed comes only where that end's count of faults rose, or stands at its counter's end
 abbrev pub Caused : Answered → Tells → Tells → Type 0
-Caused (Err (Some (HostFailed end))) old new = faults_of old end < faults_of new end
+Caused (Err (Some (HostFailed end))) old new = Rose (faults_of old end) (faults_of new end)
 Caused result old new = Unit {0}
 
 -- the items of a writer's record are items of its payload

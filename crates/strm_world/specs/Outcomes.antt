@@ -1,5 +1,5 @@
 -- What comes of a step: it goes on, it stops with a cause, or it finds no record that it is owed. Ours.
-use Rattle.std.specs.Prelude.{ℕ, List}
+use Rattle.std.specs.Prelude.{List}
 use Rattle.strm_machine.specs.Reactions.{Reaction}
 use Rattle.strm_machine.specs.declared.stops.Stop.{Stop}
 use Rattle.strm_machine.specs.declared.stops.Stop.TheVariants.{BadItem, StoreTrapped}

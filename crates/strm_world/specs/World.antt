@@ -1,6 +1,6 @@
 -- The machine's state with what its host ends tell.
 -- wasmtime, futures_and_streams.rs, `TransmitState` with `WriteState::HostReady`.
-use Rattle.std.specs.Prelude.{ℕ, List, [], slice_set}
+use Rattle.std.specs.Prelude.{ℕ, List, slice_set}
 use Rattle.strm_machine.specs.State.{State, Guest, producer_at, stream_at}
 use Rattle.strm_machine.specs.declared.streams.Duty.TheVariants.{Ended}
 use Rattle.strm_machine.specs.declared.streams.Owner.{Owner}

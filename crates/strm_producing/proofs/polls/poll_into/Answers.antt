@@ -1,9 +1,8 @@
 use Rattle.std.proofs.Common.{true, ap, subst, ◌∙◌}
-use Rattle.strm_buffers.specs.Tells.{PollsWriter, writer_record}
 use Rattle.strm_buffers.specs.Windows.{Lent, HasRoom}
 use Rattle.strm_turns.specs.Guests.{seen}
-use Rattle.strm_producing.proofs.RegionFacts.{Returns, unpolled, marked_lowers}
-use Rattle.strm_producing.proofs.PollFacts.{of_answer, polls_into}
+use Rattle.strm_producing.proofs.RegionLemmas.{Returns, unpolled, marked_lowers}
+use Rattle.strm_producing.proofs.PollLemmas.{polls_read}
 use Rattle.strm_producing.proofs.polls.poll_into.Goals as goal
 
 pub returns-in-Err-clause-lowers : goal.returns-in-Err-clause-lowers
@@ -22,8 +21,8 @@ returns-in-Some-clause-ok g c =
       room = subst (λ n. HasRoom filled.place n 0) c.return_region-marked.ensures.marked c.return_region-marked.ensures.room;
       back = c.return_region-marked.ensures.guests;
     } in
-    polls_into _ _ _ _ _ _ _ h _ _ c.in-Some.answer c.return_region-marked.result c.return_region-marked.ensures.marked
-    (of_answer _ c.poll_writer-turn.result c.answer_of.result c.in-Some.answer (record { answered = c.answer_of.ensures.answered; no_memory = c.answer_of.ensures.no_memory }) c.in-Some.is c.poll_writer-turn.ensures.polls)
+    polls_read _ _ _ _ _ _ _ h _ _ c.poll_writer-turn.result c.answer_of.result c.in-Some.answer c.return_region-marked.result
+    (record { answered = c.answer_of.ensures.answered; no_memory = c.answer_of.ensures.no_memory }) c.in-Some.is c.return_region-marked.ensures.marked c.poll_writer-turn.ensures.polls
 
 pub returns-in-None-clause-lowers : goal.returns-in-None-clause-lowers
 returns-in-None-clause-lowers g c =

@@ -2,9 +2,9 @@ use Rattle.std.proofs.Common.{false, ap, subst, ◌∙◌, arith}
 use Rattle.strm_buffers.specs.Tells.{given}
 use Rattle.strm_buffers.specs.Windows.{Lent, HasRoom, room_of}
 use Rattle.strm_turns.specs.Guests.{seen}
-use Rattle.strm_producing.proofs.RegionFacts.{marked_lowered}
-use Rattle.strm_producing.proofs.PollFacts.{given_items, given_few}
-use Rattle.strm_producing.proofs.TurnFacts.{room_behind, handed}
+use Rattle.strm_producing.proofs.RegionLemmas.{marked_lowered}
+use Rattle.strm_producing.proofs.PollLemmas.{given_items, given_few}
+use Rattle.strm_producing.proofs.TurnLemmas.{room_behind, handed}
 use Rattle.strm_producing.proofs.turns.hand_over.Goals as goal
 
 pub move_on-requires-clause-room : goal.move_on-requires-clause-room

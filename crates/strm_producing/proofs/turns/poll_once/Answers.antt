@@ -1,7 +1,7 @@
-use Rattle.std.proofs.Common.{◌∙◌, sym, subst, arith}
+use Rattle.std.proofs.Common.{◌∙◌, refl, sym, arith}
 use Rattle.strm_turns.specs.Guests.{seen}
-use Rattle.strm_producing.proofs.PollFacts.{received_few}
-use Rattle.strm_producing.proofs.TurnFacts.{room_behind, judged_stops, judged_passes}
+use Rattle.strm_producing.proofs.PollLemmas.{received_few}
+use Rattle.strm_producing.proofs.TurnLemmas.{room_behind, judged_stops, judged_passes}
 use Rattle.strm_producing.proofs.turns.poll_once.Goals as goal
 
 pub returns-in-Err-judge : goal.returns-in-Err-judge
@@ -15,4 +15,8 @@ move_on-requires-clause-room g c =
     (omega (arith, c.count_of-count.ensures, received_few _ _ _ _ _ c.args.read c.in-Ok.polled.0 c.in-Ok.polled.1 c.in-Ok.ensures.ok))
 
 pub returns : goal.returns
-returns g c = ?
+returns g c =
+    let settled = c.move_on.ensures ∙ rw (c.count_of-count.ensures, c.produced_result.ensures _ (sym c.held_by-held.ensures.exact)) refl in
+    judged_passes (seen c.args.guests.now.items) (seen c.poll_into.new.guests.items) c.args.stream.now c.args.producer.now _ _ c.args.read
+    c.in-Ok.polled.0 c.in-Ok.polled.1 c.held_by-held.result c.in-Ok.ensures.ok c.held_by-held.ensures.exact c.move_on.new.stream c.note_last.new.producer
+    (sym c.judge.ensures ∙ c.in-Ok-judge.is) settled c.note_last.ensures
