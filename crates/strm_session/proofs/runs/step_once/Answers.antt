@@ -44,7 +44,7 @@ returns-in-Ok-clause-stop_alone g c = λ untouched.
     c.keep.ensures.memory
 
 pub returns-in-Ok-clause-hosts : goal.returns-in-Ok-clause-hosts
-returns-in-Ok-clause-hosts g c = λ untouched. (c.apply-answer.ensures.alone untouched).same
+returns-in-Ok-clause-hosts g c = λ untouched. (c.apply-answer.ensures.alone untouched).ends
 
 pub returns-in-Err-clause-stop : goal.returns-in-Err-clause-stop
 returns-in-Err-clause-stop g c =
@@ -55,4 +55,4 @@ returns-in-Err-clause-stop_alone g c = λ untouched.
     meets_stops c.args.replies.now c.args.store.now c.apply-answer.new.store c.args.step.now c.in-Err.error c.cause_of.result c.cause_of.ensures (rw c.in-Err.is at (c.apply-answer.ensures.alone untouched).meets)
 
 pub returns-in-Err-clause-hosts : goal.returns-in-Err-clause-hosts
-returns-in-Err-clause-hosts g c = λ untouched. (c.apply-answer.ensures.alone untouched).same
+returns-in-Err-clause-hosts g c = λ untouched. (c.apply-answer.ensures.alone untouched).ends
