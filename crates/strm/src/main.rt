@@ -1,35 +1,83 @@
 //! The program: runs the lines of its input, and writes their replies.
 #![tactic(auto)]
 
-ghost use Rattle.std.specs.Prelude.{◌≡◌, ◌≢◌, ℕ, List, Option, map, string_bytes};
+ghost use Rattle.std.specs.Prelude.{◌≡◌, ◌≢◌, ◌≤◌, ℕ, List, Option, length, map, string_bytes};
 ghost use Rattle.std.specs.Process.{exit_status};
+ghost use Rattle.strm_buffers.specs.AllTells.{tells_of};
 ghost use Rattle.strm_session.specs.Serving.{IsAnswer, IsStatus};
 
-use std::alloc::Global;
+use std::alloc::{AllocError, Global};
 use std::io::{Read, Write};
 use std::process::ExitCode;
 use std::{env, io};
+use strm_buffers::hosts::Hosts;
+use strm_buffers::writers::HostWriter;
+use strm_codes::codes::TransmitKind;
+use strm_codes::payloads::Payload;
+use strm_codes::scalars::Scalar;
+use strm_ends::queue_writer::QueueWriter;
+use strm_host::empty::Empty;
+use strm_host::erased::Erased;
 use strm_session::serving::{OUT_OF_MEMORY, WRITE_FAULT, serve};
 use strm_session::standard::{StdinSource, StdoutSink};
 
-// Serves a reader and a writer. The program's status is that of `serve`, and with it goes a text
-// whose cause is known, from what the reader had left.
+// Serves a reader and a writer, among these host ends. The program's status is that of `serve`, and
+// with it goes a text whose cause is known, from what the reader had left.
 fn served<R: Read + Drop, W: Write + Drop>(
     alloc: Global,
     words: &Vec<String>,
     input: R,
     output: W,
+    hosts: &mut Hosts,
 ) -> ExitCode
+    requires writers { length (tells_of writer_tells reader_tells hosts.old).writers ≤ 64 }
+    requires readers { length (tells_of writer_tells reader_tells hosts.old).readers ≤ 64 }
     ensures known { IsStatus (exit_status result) }
     ensures told { exit_status result ≢ WRITE_FAULT → exit_status result ≢ OUT_OF_MEMORY →
         (rest : Option (List ℕ)) × (faults : ℕ) × (text : List ℕ)
-        × IsAnswer (map string_bytes words.now.items) (R.remaining input) rest 0 faults
-        (exit_status result) text }
+        × IsAnswer (map string_bytes words.now.items) (R.remaining input) rest
+        (tells_of writer_tells reader_tells hosts.old) (tells_of writer_tells reader_tells hosts.new)
+        0 faults (exit_status result) text }
 {
     let mut source = StdinSource::new(input);
     let mut sink = StdoutSink::new(output);
-    let status = serve(alloc, words, &mut source, &mut sink);
+    let status = serve(alloc, words, &mut source, &mut sink, hosts);
     ExitCode::from(status)
+}
+
+const BYTE: Payload = Payload::One(Scalar::U8);
+
+const WORD: Payload = Payload::One(Scalar::U32);
+
+const CHAR: Payload = Payload::One(Scalar::Char);
+
+// Serves among the program's eight host writers.
+fn served_among_ends<R: Read + Drop, W: Write + Drop>(
+    alloc: Global,
+    words: &Vec<String>,
+    input: R,
+    output: W,
+) -> Result<ExitCode, AllocError> {
+    let (stream, future) = (TransmitKind::Stream, TransmitKind::Future);
+    let items = [1u8, 2, 3, 4, 5];
+    let none: Empty<u8> = Empty::new();
+    let mut writers: Vec<Box<dyn HostWriter>> = Vec::new(alloc);
+    writers.push(Box::new(alloc, QueueWriter::new(alloc, stream, BYTE))?)?;
+    writers.push(Box::new(alloc, QueueWriter::new(alloc, stream, WORD))?)?;
+    let nothing = QueueWriter::new(alloc, stream, Payload::Nothing);
+    writers.push(Box::new(alloc, nothing)?)?;
+    writers.push(Box::new(alloc, QueueWriter::new(alloc, stream, CHAR))?)?;
+    writers.push(Box::new(alloc, QueueWriter::new(alloc, future, WORD))?)?;
+    let five = Erased::stream(alloc, items.to_vec(alloc)?);
+    writers.push(Box::new(alloc, five)?)?;
+    let five = Erased::stream(alloc, items.to_vec(alloc)?);
+    writers.push(Box::new(alloc, five)?)?;
+    writers.push(Box::new(alloc, Erased::stream(alloc, none))?)?;
+    let mut hosts = Hosts {
+        writers,
+        readers: Vec::new(alloc),
+    };
+    Ok(served(alloc, words, input, output, &mut hosts))
 }
 
 fn main(rt: HostRuntime) -> io::Result<ExitCode> {
@@ -49,5 +97,8 @@ fn main(rt: HostRuntime) -> io::Result<ExitCode> {
         // A word that is no UTF-8 is not `run`.
         Err(_) => {}
     }
-    Ok(served(alloc, &words, rt.stdin(), rt.stdout()))
+    match served_among_ends(alloc, &words, rt.stdin(), rt.stdout()) {
+        Ok(code) => Ok(code),
+        Err(_) => Ok(ExitCode::from(OUT_OF_MEMORY)),
+    }
 }

@@ -1,4 +1,9 @@
 pub mod PlayLemmas
+pub mod RunningLemmas
+pub mod GuestLemmas
+pub mod AloneLemmas
+pub mod AmongLemmas
+pub mod StepLemmas
 pub mod StopLemmas
 pub mod ServingLemmas
 pub mod LawLemmas

@@ -12,7 +12,7 @@ use Rattle.strm_machine.proofs.AskedLemmas.{react-by, reply-bad, bad-traps, bad-
 use Rattle.std.proofs.lemmas.Option.{slice_get-get_or}
 use Rattle.std.specs.Prelude.{slice_get}
 use Rattle.strm_transmit.specs.Meets.{is_done, is_settled}
-use Rattle.strm_session.specs.Runs.{start, StopsAt}
+use Rattle.strm_session.specs.Runs.{start, StopsAt, StopsStep}
 use Rattle.strm_session.specs.declared.runs.RunCause.{RunCause}
 use Rattle.strm_session.specs.declared.runs.RunCause.TheVariants as causes
 
@@ -96,7 +96,10 @@ pub record IsAt (steps : List Step) (k : ℕ) (step : Step) : Type 0 where
   pub inside : k < length steps
   pub is : get_or steps k step ≡ step
 
-take-at : (steps : List Step) (k : ℕ) (step : Step) → IsAt steps k step → take (k + 1) steps ≡ take k steps ++ step ∷ []
+pub is_at : (steps : List Step) (k : ℕ) (step : Step) → k < length steps → step ≡ get_or steps k step → IsAt steps k step
+is_at steps k step inside is = record { inside = inside; is = sym is }
+
+pub take-at : (steps : List Step) (k : ℕ) (step : Step) → IsAt steps k step → take (k + 1) steps ≡ take k steps ++ step ∷ []
 take-at steps k step h = take_more steps k step h.inside ∙ ap (λ s. take k steps ++ s ∷ []) h.is
 
 -- the replies so far are those to the steps before
@@ -104,15 +107,9 @@ pub stopped_before : (steps : List Step) (k : ℕ) (told : List Reply) (state : 
 stopped_before steps k told state n led =
     ap (λ m. play [] start (take m steps)) n ∙ ap (play [] start) (sym (append-nil (take k steps))) ∙ led []
 
--- why a step stops a run: the machine answers a bad item, or goes on from it
-pub record Stops (told : List Reply) (state : State) (step : Step) (cause : RunCause) : Type 0 where
-  pub bad : (stream : ℕ) → cause ≡ causes.BadItem stream → (react state step).reply ≡ replies.BadItem stream
-  pub memory : cause ≡ causes.OutOfMemory → StepGoesOn told state step
-
 -- where the step of number k stops a run
-pub stops : (steps : List Step) (k : ℕ) (step : Step) (told : List Reply) (state : State) (cause : RunCause) → IsAt steps k step → length told ≡ k → HaveLed steps k told state → state.trapped ≡ false → Stops told state step cause → StopsAt steps told state cause
-stops steps k step told state (causes.BadItem stream) h n led t stop =
-    let answered = stop.bad stream refl in
+pub stops : (steps : List Step) (k : ℕ) (step : Step) (told : List Reply) (state : State) (cause : RunCause) → IsAt steps k step → length told ≡ k → HaveLed steps k told state → state.trapped ≡ false → StopsStep told state step cause → StopsAt steps told state cause
+stops steps k step told state (causes.BadItem stream) h n led t answered =
     let bad = reply-bad state step stream t answered in
     let cut : steps ≡ take k steps ++ step ∷ drop (suc k) steps = split_at steps k step h.inside ∙ ap (λ s. take k steps ++ s ∷ drop (suc k) steps) h.is in
     record {
@@ -120,10 +117,11 @@ stops steps k step told state (causes.BadItem stream) h n led t stop =
       halts = ap (play [] start) cut ∙ led (step ∷ drop (suc k) steps) ∙ play-halts told state (record state { trapped = true }) step (drop (suc k) steps) stream (bad-traps state step stream t bad);
       stays = bad-keeps state step stream answered;
     }
-stops steps k step told state causes.OutOfMemory h n led t stop =
-    let w = stop.memory refl in
+stops steps k step told state causes.OutOfMemory h n led t w =
     let cut : take (length told + 1) steps ≡ take k steps ++ step ∷ [] = ap (λ m. take (m + 1) steps) n ∙ take-at steps k step h in
     (w.0 ∷ [], w.1, ap (play [] start) cut ∙ led (step ∷ []) ∙ w.2)
+stops steps k step told state (causes.HostFailed end) h n led t stop = absurd stop
+stops steps k step told state (causes.HostBroke end) h n led t stop = absurd stop
 
 -- one step more
 pub played_more : (steps : List Step) (k : ℕ) (step : Step) (told told' : List Reply) (state state' : State) → IsAt steps k step → HaveLed steps k told state → ((more : List Step) → play told state (step ∷ more) ≡ play told' state' more) → HaveLed steps (k + 1) told' state'

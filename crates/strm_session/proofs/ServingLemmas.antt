@@ -6,12 +6,16 @@ use Rattle.std.specs.Prelude.{codes}
 use Rattle.strm_machine.specs.declared.steps.Step.{Step}
 use Rattle.strm_ports.specs.Faults.{Rose}
 use Rattle.strm_lines.specs.Lines.{lines_of, Spells, IsFirstBad, IsTooLong}
-use Rattle.strm_session.specs.Serving.{IsRun, IsAnswer}
+use Rattle.strm_session.specs.Serving.{IsRun, IsStop, IsStatusOf, IsAnswer}
 use Rattle.std.specs.Io.KnownBytes.{IsAtEnd}
 use Rattle.strm_lines.proofs.LineLemmas.{one_spelling, spelled_not_bad}
 use Rattle.strm_machine.specs.State.{State}
 use Rattle.strm_machine.specs.declared.replies.Reply.{Reply}
-use Rattle.strm_session.specs.Runs.{AsksBad, AsksItems}
+use Rattle.strm_buffers.specs.Tells.{Tells}
+use Rattle.strm_machine.specs.declared.stops.Stop.{Stop}
+use Rattle.strm_session.specs.Runs.{AreOfGuests, AsksBad, AsksItems, StopsBy}
+use Rattle.strm_session.specs.declared.runs.RunCause.{RunCause}
+use Rattle.strm_session.specs.declared.runs.RunCause.TheVariants as causes
 use Rattle.strm_session.proofs.StopLemmas.{ends-asks}
 
 -- of one word, which it is
@@ -25,16 +29,30 @@ one_word f (y ∷ z ∷ more) x word l e = absurd (omega (arith, l))
 
 -- the statuses of a text
 abbrev Known : ℕ → Type 0
-Known status = (status ≤ 4) ⊎ (status ≡ 8)
+Known status = (status ≤ 4) ⊎ IsStop status
 
-zero_of : (status : ℕ) → Known status → status ≢ 1 → status ≢ 2 → status ≢ 3 → status ≢ 4 → status ≢ 8 → status ≡ 0
+zero_of : (status : ℕ) → Known status → status ≢ 1 → status ≢ 2 → status ≢ 3 → status ≢ 4 → (IsStop status → ⊥) → status ≡ 0
 zero_of status k a b c d e = ⊎_elim (λ l. omega (arith, l, a, b, c, d)) (λ q. absurd (e q)) k
 
-two_of : (status : ℕ) → Known status → status ≢ 0 → status ≢ 1 → status ≢ 3 → status ≢ 4 → status ≢ 8 → status ≡ 2
+two_of : (status : ℕ) → Known status → status ≢ 0 → status ≢ 1 → status ≢ 3 → status ≢ 4 → (IsStop status → ⊥) → status ≡ 2
 two_of status k a b c d e = ⊎_elim (λ l. omega (arith, l, a, b, c, d)) (λ q. absurd (e q)) k
 
-eight_of : (status : ℕ) → Known status → status ≢ 0 → status ≢ 1 → status ≢ 2 → status ≢ 3 → status ≢ 4 → status ≡ 8
-eight_of status k z a b c d = ⊎_elim (λ l. absurd (omega (arith, l, z, a, b, c, d))) (λ q. q) k
+eight_of : (status : ℕ) → Known status → status ≢ 0 → status ≢ 1 → status ≢ 2 → status ≢ 3 → status ≢ 4 → (IsStop status → status ≡ 8) → status ≡ 8
+eight_of status k z a b c d e = ⊎_elim (λ l. absurd (omega (arith, l, z, a, b, c, d))) e k
+
+-- of guests alone, a run that stops does so for a bad item
+status_of_cause : (status : ℕ) (cause : RunCause) (why : Stop) (steps : List Step) (replies : List Reply) → IsStatusOf status cause why → StopsBy steps replies cause → status ≡ 8
+status_of_cause status (causes.HostFailed end) why steps replies s b = absurd b.at
+status_of_cause status (causes.HostBroke end) why steps replies s b = absurd b.at
+status_of_cause status (causes.BadItem stream) why steps replies s b = s.0
+status_of_cause status causes.OutOfMemory why steps replies s b = absurd s
+
+-- and a bad item is asked for then
+asks_of_cause : (status : ℕ) (cause : RunCause) (why : Stop) (steps : List Step) (replies : List Reply) → IsStatusOf status cause why → StopsBy steps replies cause → AsksItems steps → ⊥
+asks_of_cause status (causes.HostFailed end) why steps replies s b items = absurd b.at
+asks_of_cause status (causes.HostBroke end) why steps replies s b items = absurd b.at
+asks_of_cause status (causes.BadItem stream) why steps replies s b items = items replies b.state stream b.at.asks
+asks_of_cause status causes.OutOfMemory why steps replies s b items = absurd s
 
 three_of : (status : ℕ) → status ≢ 1 → status ≢ 4 → (status ≢ 3 → ⊥) → status ≡ 3
 three_of status a d n = ⊎_elim (λ e. e) (λ e. absurd (n e)) (cases_eq status 3)
@@ -42,9 +60,9 @@ three_of status a d n = ⊎_elim (λ e. e) (λ e. absurd (n e)) (cases_eq status
 one_of : (status : ℕ) → (status ≢ 1 → ⊥) → status ≡ 1
 one_of status n = ⊎_elim (λ e. e) (λ e. absurd (n e)) (cases_eq status 1)
 
-module _ {words : List (List ℕ)} {rest : Option (List ℕ)} {before after status : ℕ} {text : List ℕ} where
+module _ {words : List (List ℕ)} {rest : Option (List ℕ)} {old new : Tells} {before after status : ℕ} {text : List ℕ} where
   -- what is told of an input that was read is told of its source, which is at its end then
-  pub told_of_source : (left : Option (List ℕ)) (input : List ℕ) → IsRun words → IfSome left (λ bytes. input ≡ bytes) → IsAtEnd rest → IsAnswer (codes "run" ∷ []) (Some input) (Some []) before after status text → IsAnswer words left rest before after status text
+  pub told_of_source : (left : Option (List ℕ)) (input : List ℕ) → IsRun words → IfSome left (λ bytes. input ≡ bytes) → IsAtEnd rest → IsAnswer (codes "run" ∷ []) (Some input) (Some []) old new before after status text → IsAnswer words left rest old new before after status text
   told_of_source None input r e end h = record {
     known = h.known;
     runs = λ _. r;
@@ -54,12 +72,13 @@ module _ {words : List (List ℕ)} {rest : Option (List ℕ)} {before after stat
     too_long = λ s. (tt, (h.too_long s).1);
     read_fault = h.read_fault;
     stopped = λ _. tt;
+    unrun = h.unrun;
     within = λ _ _ _. tt;
     whole = λ _ _ _. end;
     whole_lines = λ _ _ _ _. end;
   }
   told_of_source (Some bytes) input r e end h =
-      let k = subst (λ b. IsAnswer (codes "run" ∷ []) (Some b) (Some []) before after status text) e h in
+      let k = subst (λ b. IsAnswer (codes "run" ∷ []) (Some b) (Some []) old new before after status text) e h in
       record {
         known = k.known;
         runs = λ _. r;
@@ -69,12 +88,13 @@ module _ {words : List (List ℕ)} {rest : Option (List ℕ)} {before after stat
         too_long = k.too_long;
         read_fault = k.read_fault;
         stopped = k.stopped;
+        unrun = k.unrun;
         within = k.within;
         whole = λ _ _ _. end;
         whole_lines = λ _ _ _ _. end;
       }
 
-  module _ (input : List ℕ) (h : IsAnswer words (Some input) rest before after status text) (r : IsRun words) (calm : Rose before after → ⊥) where
+  module _ (input : List ℕ) (h : IsAnswer words (Some input) rest old new before after status text) (r : IsRun words) (calm : Rose before after → ⊥) where
     not_usage : status ≢ 1
     not_usage q = (h.usage q).0 r
 
@@ -86,24 +106,29 @@ module _ {words : List (List ℕ)} {rest : Option (List ℕ)} {before after stat
         no_bad_line : status ≢ 2
         no_bad_line q = let bad = h.bad_line q in spelled_not_bad (lines_of input) steps bad.0 s bad.1
 
-        -- where nothing is amiss the run is done
-        done_of : AsksItems steps → status ≡ 0
-        done_of items =
-            zero_of status h.known not_usage no_bad_line (λ q. long (h.too_long q).0) not_fault
-            (λ q.
-            let stopped = h.stopped q in
-            let same = one_spelling (lines_of input) stopped.steps steps stopped.spelled s in
-            subst AsksItems (sym same) items stopped.replies stopped.stop.state stopped.stream stopped.stop.at.asks)
+        module _ (alone : AreOfGuests steps) where
+          -- where nothing is amiss the run is done
+          done_of : AsksItems steps → status ≡ 0
+          done_of items =
+              zero_of status h.known not_usage no_bad_line (λ q. long (h.too_long q).0) not_fault
+              (λ q.
+              let stopped = h.stopped q in
+              let same = one_spelling (lines_of input) stopped.steps steps stopped.spelled s in
+              asks_of_cause status stopped.cause stopped.why stopped.steps stopped.replies stopped.status_is (stopped.alone (subst AreOfGuests (sym same) alone)) (subst AsksItems (sym same) items))
 
-        -- and where a bad item is asked for it stops
-        bad_item_of : (told : List Reply) (state : State) (stream : ℕ) → AsksBad steps told state stream → status ≡ 8
-        bad_item_of told state stream a =
-            eight_of status h.known
-            (λ q.
-            let done = h.done q in
-            let same = one_spelling (lines_of input) done.steps steps done.spelled s in
-            subst AsksItems same (ends-asks done.steps done.replies done.state done.played) told state stream a)
-            not_usage no_bad_line (λ q. long (h.too_long q).0) not_fault
+          -- and where a bad item is asked for it stops
+          bad_item_of : (told : List Reply) (state : State) (stream : ℕ) → AsksBad steps told state stream → status ≡ 8
+          bad_item_of told state stream a =
+              eight_of status h.known
+              (λ q.
+              let done = h.done q in
+              let same = one_spelling (lines_of input) done.steps steps done.spelled s in
+              subst AsksItems same (ends-asks done.steps done.replies done.state (done.alone (subst AreOfGuests (sym same) alone))) told state stream a)
+              not_usage no_bad_line (λ q. long (h.too_long q).0) not_fault
+              (λ q.
+              let stopped = h.stopped q in
+              let same = one_spelling (lines_of input) stopped.steps steps stopped.spelled s in
+              status_of_cause status stopped.cause stopped.why stopped.steps stopped.replies stopped.status_is (stopped.alone (subst AreOfGuests (sym same) alone)))
 
       -- a bad line is told
       bad_line_of : (line : ℕ) → IsFirstBad (lines_of input) line → status ≡ 2
@@ -117,15 +142,15 @@ module _ {words : List (List ℕ)} {rest : Option (List ℕ)} {before after stat
     too_long_of : IsTooLong input → status ≡ 3
     too_long_of long = three_of status not_usage not_fault (λ q. h.within not_usage q not_fault long)
 
-  module _ (left : Option (List ℕ)) (input : List ℕ) (h : IsAnswer words left rest before after status text) where
+  module _ (left : Option (List ℕ)) (input : List ℕ) (h : IsAnswer words left rest old new before after status text) where
     -- of a source that has this input left, where nothing fails
-    told_input : left ≡ Some input → IsAnswer words (Some input) rest before after status text
-    told_input e = subst (λ l. IsAnswer words l rest before after status text) e h
+    told_input : left ≡ Some input → IsAnswer words (Some input) rest old new before after status text
+    told_input e = subst (λ l. IsAnswer words l rest old new before after status text) e h
 
-    pub told_done : IsRun words → left ≡ Some input → (Rose before after → ⊥) → (IsTooLong input → ⊥) → (steps : List Step) → Spells (lines_of input) steps → AsksItems steps → status ≡ 0
+    pub told_done : IsRun words → left ≡ Some input → (Rose before after → ⊥) → (IsTooLong input → ⊥) → (steps : List Step) → Spells (lines_of input) steps → AreOfGuests steps → AsksItems steps → status ≡ 0
     told_done r e calm = done_of input (told_input e) r calm
 
-    pub told_bad_item : IsRun words → left ≡ Some input → (Rose before after → ⊥) → (IsTooLong input → ⊥) → (steps : List Step) → Spells (lines_of input) steps → (told : List Reply) (state : State) (stream : ℕ) → AsksBad steps told state stream → status ≡ 8
+    pub told_bad_item : IsRun words → left ≡ Some input → (Rose before after → ⊥) → (IsTooLong input → ⊥) → (steps : List Step) → Spells (lines_of input) steps → AreOfGuests steps → (told : List Reply) (state : State) (stream : ℕ) → AsksBad steps told state stream → status ≡ 8
     told_bad_item r e calm = bad_item_of input (told_input e) r calm
 
     pub told_bad_line : IsRun words → left ≡ Some input → (Rose before after → ⊥) → (IsTooLong input → ⊥) → (line : ℕ) → IsFirstBad (lines_of input) line → status ≡ 2
@@ -135,5 +160,5 @@ module _ {words : List (List ℕ)} {rest : Option (List ℕ)} {before after stat
     told_too_long r e calm = too_long_of input (told_input e) r calm
 
   -- other words are told how to call the program
-  pub told_usage : (left : Option (List ℕ)) → IsAnswer words left rest before after status text → (IsRun words → ⊥) → status ≡ 1
+  pub told_usage : (left : Option (List ℕ)) → IsAnswer words left rest old new before after status text → (IsRun words → ⊥) → status ≡ 1
   told_usage left h r = one_of status (λ q. r (h.runs q))

@@ -50,6 +50,8 @@ pub stops-in : (steps : List Step) (replies : List Reply) (cause : RunCause) (to
 stops-in steps replies (causes.BadItem stream) told state s a b =
     let e = sym b.at.halts ∙ asks-halts steps told state s a in
     (cc, cc)
+stops-in steps replies (causes.HostFailed end) told state s a b = absurd b.at
+stops-in steps replies (causes.HostBroke end) told state s a b = absurd b.at
 stops-in steps replies causes.OutOfMemory told state s a b =
     ⊎_elim (λ l. l)
     (λ l.
@@ -61,6 +63,8 @@ stops-in steps replies causes.OutOfMemory told state s a b =
 -- and where none is asked for, memory was wanted
 pub stops-items : (steps : List Step) (replies : List Reply) (cause : RunCause) → AsksItems steps → StopsBy steps replies cause → cause ≡ causes.OutOfMemory
 stops-items steps replies (causes.BadItem stream) items b = absurd (items replies b.state stream b.at.asks)
+stops-items steps replies (causes.HostFailed end) items b = absurd b.at
+stops-items steps replies (causes.HostBroke end) items b = absurd b.at
 stops-items steps replies causes.OutOfMemory items b = refl
 
 -- of what a run answers

@@ -1,5 +1,6 @@
--- Runs of the program: where they begin and stop, what was received, and what holds. Ours.
-use Rattle.std.specs.Prelude.{◌≡◌, ℕ, ◌+◌, ◌≤◌, ◌<◌, min, true, false, List, [], ◌++◌, length, map, take, slice_get, All, Some}
+-- Runs of the program: where they begin and stop, what was received, and what holds. What is said of a
+-- state alone is said of runs of guests alone. Ours.
+use Rattle.std.specs.Prelude.{◌≡◌, ℕ, ◌+◌, ◌≤◌, ◌<◌, min, Bool, true, false, List, [], ◌∷◌, ◌++◌, length, map, take, slice_get, All, Option, Some, None}
 use Rattle.strm_codes.specs.declared.codes.TransmitKind.TheVariants.{Future}
 use Rattle.strm_machine.specs.State.{State, empty, stream_at}
 use Rattle.strm_machine.specs.Reactions.{react}
@@ -14,12 +15,37 @@ use Rattle.strm_machine.specs.declared.replies.Reply.TheVariants as replies
 use Rattle.strm_laws.specs.Conservation.{moments, last, replies_of, calls, got}
 use Rattle.strm_laws.specs.Laws.{Conserves, waiting, Stands, AreCounted, HandlesHold, HandlesAreSingle, MembersAreLive, ContextsCount}
 use Rattle.strm_machine.specs.Untouched.{StaysAside, LieThere}
+use Rattle.strm_machine.specs.Acts.{act_of}
+use Rattle.strm_machine.specs.declared.acts.Act.{Act}
+use Rattle.strm_machine.specs.declared.acts.Act.TheVariants.{OnHost, Drive}
+use Rattle.strm_machine.specs.declared.stops.Stop.{Stop}
+use Rattle.strm_machine.specs.declared.stops.Stop.TheVariants as stops
+use Rattle.strm_buffers.specs.Tells.{Tells}
+use Rattle.strm_world.specs.World.{World}
+use Rattle.strm_world.specs.HostPlays.{play as play_among}
+use Rattle.strm_world.specs.HostPlays as world_plays
+use Rattle.strm_world.specs.Does.{saids, world_of, faults_of, StopsWith}
 use Rattle.strm_session.specs.declared.runs.RunCause.{RunCause}
 use Rattle.strm_session.specs.declared.runs.RunCause.TheVariants as causes
 
 -- a run begins with a store without guests, named 0, under these limits
 abbrev pub start : State
 start = empty 0 (record { handles = 1000000; places = 1000000 })
+
+-- the same among host ends that tell this, and will tell that in the end: what they add to their records
+-- meanwhile is what is to come
+abbrev pub start_among : Tells → Tells → World
+start_among old new = world_of start old (saids new)
+
+-- what a step does is done among guests: it names no host end, and is no drive round
+abbrev pub is_of_guests : Act → Bool
+is_of_guests (OnHost n act) = false
+is_of_guests Drive = false
+is_of_guests _ = true
+
+-- steps of guests alone: host ends have no part in any
+abbrev pub AreOfGuests : List Step → Type 0
+AreOfGuests steps = All (λ step. is_of_guests (act_of step) ≡ true) steps
 
 -- what was received on each stream, in items
 abbrev pub counts_of : State → List ℕ
@@ -58,6 +84,35 @@ pub record IsKept (steps : List Step) (replies : List Reply) (end : State) : Typ
   pub aside : All StaysAside (moments start steps)
   pub put : All LieThere (moments start steps)
 
+-- AMONG HOST ENDS
+
+-- why the machine stops where a run does; none for want of memory
+abbrev pub stop_of : RunCause → Option Stop
+stop_of (causes.HostFailed end) = Some (stops.HostFailed end)
+stop_of (causes.HostBroke end) = Some (stops.HostBroke end)
+stop_of (causes.BadItem s) = Some (stops.BadItem s)
+stop_of causes.OutOfMemory = None
+
+-- the machine halts behind these replies by this stop, and the host ends tell what they then do; nothing
+-- is said for want of memory
+abbrev pub HaltsBy : World → List Step → List Reply → Tells → Option Stop → Type 0
+HaltsBy world steps told new None = Unit {0}
+HaltsBy world steps told new (Some stop) = (state : State) × StopsWith world steps told stop new state
+
+-- a host end that failed has raised its count of faults
+abbrev pub Raised : Tells → Tells → RunCause → Type 0
+Raised old new (causes.HostFailed end) = faults_of old end < faults_of new end
+Raised old new _ = Unit {0}
+
+-- a run stops behind these replies, which are the machine's to the steps before, and by this cause
+pub record StopsAmong (old new : Tells) (steps : List Step) (told : List Reply) (cause : RunCause) : Type 0 where
+  pub world : World
+  pub before : play_among [] (start_among old new) (take (length told) steps) ≡ world_plays.Ends told world
+  pub halts : HaltsBy (start_among old new) steps told new (stop_of cause)
+  pub raised : Raised old new cause
+
+-- OF GUESTS ALONE
+
 -- the step behind these replies, in the state that the steps before it lead to, asks for items on
 -- stream s of which one is none
 pub record AsksBad (steps : List Step) (told : List Reply) (state : State) (s : ℕ) : Type 0 where
@@ -69,6 +124,15 @@ pub record AsksBad (steps : List Step) (told : List Reply) (state : State) (s : 
 -- each item that a run of these steps asks for is an item
 abbrev pub AsksItems : List Step → Type 0
 AsksItems steps = (told : List Reply) (state : State) (s : ℕ) → ¬ AsksBad steps told state s
+
+-- why a step of guests alone stops a run: it asks for a bad item; or memory was wanted, where the
+-- machine goes on from it
+abbrev pub StopsStep : List Reply → State → Step → RunCause → Type 0
+StopsStep told state step (causes.BadItem s) = (react state step).reply ≡ replies.BadItem s
+StopsStep told state step causes.OutOfMemory =
+    (reply : Reply) × (next : State) × (play told state (step ∷ []) ≡ Ends (told ++ reply ∷ []) next)
+StopsStep told state step (causes.HostFailed end) = ⊥
+StopsStep told state step (causes.HostBroke end) = ⊥
 
 -- a run stops at a bad item: the machine halts at the step that asks for it, and there all stays as
 -- it was, but that the store is trapped
@@ -88,6 +152,8 @@ GoesOn steps told =
 abbrev pub StopsAt : List Step → List Reply → State → RunCause → Type 0
 StopsAt steps told state (causes.BadItem s) = StopsBad steps told state s
 StopsAt steps told state causes.OutOfMemory = GoesOn steps told
+StopsAt steps told state (causes.HostFailed end) = ⊥
+StopsAt steps told state (causes.HostBroke end) = ⊥
 
 -- a run stops behind these replies: they are the machine's to the steps before, which keep the laws
 pub record StopsBy (steps : List Step) (told : List Reply) (cause : RunCause) : Type 0 where
@@ -100,3 +166,5 @@ pub record StopsBy (steps : List Step) (told : List Reply) (cause : RunCause) : 
 abbrev pub StopsIn : List Reply → ℕ → List Reply → RunCause → Type 0
 StopsIn told s replies (causes.BadItem stream) = (replies ≡ told) × (stream ≡ s)
 StopsIn told s replies causes.OutOfMemory = length replies < length told
+StopsIn told s replies (causes.HostFailed end) = ⊥
+StopsIn told s replies (causes.HostBroke end) = ⊥

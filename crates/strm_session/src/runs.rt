@@ -1,23 +1,28 @@
-//! The run of a list of steps on a new store.
+//! The run of a list of steps on a new store, among host ends.
 //!
 //! Source: ours.
 
-ghost use Rattle.std.specs.Prelude.{◌≡◌, ◌≢◌, ◌≤◌, ◌∷◌, ◌++◌, ◌+◌, [], List, ℕ, true, false, length, take, All, IfOk, IfErr, IsErr, OnOk, OnErr, Err};
+ghost use Rattle.std.specs.Prelude.{◌≡◌, ◌≢◌, ◌≤◌, ◌∷◌, ◌++◌, ◌+◌, [], List, ℕ, true, false, length, take, All, IfOk, IfErr, IsErr, OnOk, OnErr, Ok, Err};
 ghost use Rattle.strm_codes.specs.declared.refusals.Refusal.{Refusal};
 ghost use Rattle.strm_machine.specs.State.{State, stream_at};
 ghost use Rattle.strm_machine.specs.Reactions.{react};
 ghost use Rattle.strm_machine.specs.Plays.{play, Ends};
 ghost use Rattle.strm_machine.specs.declared.streams.Side.{Side};
 ghost use Rattle.strm_machine.specs.declared.steps.Step.{Step};
-ghost use Rattle.strm_machine.specs.declared.replies.Reply.TheVariants.{BadItem as IsBadItem};
 ghost use Rattle.strm_machine.specs.declared.replies.Reply.{Reply};
 ghost use Rattle.strm_machine.specs.Moments.{moment_of};
 ghost use Rattle.strm_laws.specs.Conservation.{moments, last};
 ghost use Rattle.strm_laws.specs.Laws.{HasBytes, AreSteps};
 ghost use Rattle.strm_machine.specs.Untouched.{StaysAside, LieThere};
-ghost use Rattle.strm_session.specs.Runs.{start, counts_of, next_step, HasLaws, IsKept, AsksBad, AsksItems, StopsAt, StopsBy, StopsIn};
+ghost use Rattle.strm_machine.specs.Acts.{act_of};
+ghost use Rattle.strm_world.specs.Steps.{step_of, touches};
+ghost use Rattle.strm_world.specs.Does.{Fits, Does, RunsTo};
+ghost use Rattle.strm_transmit.specs.Hosted.{answered, lone};
+ghost use Rattle.strm_buffers.specs.AllTells.{tells_of};
+ghost use Rattle.strm_session.specs.Runs.{start, start_among, AreOfGuests, counts_of, next_step, HasLaws, IsKept, stop_of, StopsAmong, AsksBad, AsksItems, StopsAt, StopsStep, StopsBy, StopsIn};
 
 use std::alloc::Global;
+use strm_buffers::hosts::Hosts;
 use strm_codes::counts::OutOfMemory;
 use strm_laws::laws::{
     bytes_are_put, conservation, contexts_count_their_handles, futures_pass_one,
@@ -28,6 +33,7 @@ use strm_lines::lists::{Counts, Replies};
 use strm_machine::limits::Limits;
 use strm_machine::replies::Reply;
 use strm_machine::steps::Step;
+use strm_machine::streams::HostEnd;
 use strm_transmit::errors::StoreError;
 use strm_transmit::steps::apply;
 use strm_transmit::store::Store;
@@ -52,6 +58,10 @@ pub struct Transcript {
 /// Why a run stopped.
 #[derive(Clone, Copy, Debug, PartialEq, Eq)]
 pub enum RunCause {
+    /// A host end failed.
+    HostFailed { end: HostEnd },
+    /// A host end broke its rules.
+    HostBroke { end: HostEnd },
     /// An item of this stream is no Unicode scalar value.
     BadItem { stream: u32 },
     /// An allocation was refused.
@@ -70,23 +80,33 @@ pub struct RunStop {
     pub replies: Replies,
 }
 
-/// Runs the steps on a new store.
-pub fn run(alloc: Global, steps: &[Step]) -> Result<Transcript, RunStop>
+/// Runs the steps on a new store, which polls and feeds these host ends and closes those that go.
+pub fn run(alloc: Global, steps: &[Step], hosts: &mut Hosts) -> Result<Transcript, RunStop>
     requires few { length steps.now ≤ 4294967295 }
-    ensures ok { IfOk result (λ t. play [] start steps.now ≡ Ends t.replies t.store) }
+    requires writers { length (tells_of writer_tells reader_tells hosts.old).writers ≤ 64 }
+    requires readers { length (tells_of writer_tells reader_tells hosts.old).readers ≤ 64 }
+
+    // It is the machine's play on the records that are added to the host ends, exactly those: none is
+    // left, and none is wanting.
+    ensures ok { IfOk result (λ t. RunsTo (start_among (tells_of writer_tells reader_tells hosts.old) (tells_of writer_tells reader_tells hosts.new)) steps.now t.replies t.store (tells_of writer_tells reader_tells hosts.new)) }
     ensures received { IfOk result (λ t. t.moved ≡ counts_of t.store) }
-    ensures stop { IfErr result (λ stop. StopsBy steps.now stop.replies stop.cause) }
+    ensures stop { IfErr result (λ stop. StopsAmong (tells_of writer_tells reader_tells hosts.old) (tells_of writer_tells reader_tells hosts.new) steps.now stop.replies stop.cause) }
     ensures at { IfErr result (λ stop. stop.at ≡ next_step stop.replies) }
 
-    // After each step: on each stream, what was received is, in order, the first k items of each
-    // accepted write, k the count reported, each as it lay in the writer's memory just before it
+    // Of guests alone it is the machine's without host ends, which stay as they were.
+    ensures alone { AreOfGuests steps.now → IfOk result (λ t. play [] start steps.now ≡ Ends t.replies t.store) }
+    ensures stop_alone { AreOfGuests steps.now → IfErr result (λ stop. StopsBy steps.now stop.replies stop.cause) }
+    ensures hosts { AreOfGuests steps.now → (tells_of writer_tells reader_tells hosts.new) ≡ (tells_of writer_tells reader_tells hosts.old) }
+
+    // After each step of guests alone: on each stream, what was received is, in order, the first k items
+    // of each accepted write, k the count reported, each as it lay in the writer's memory just before it
     // was copied; the reads report as many; and the other laws of every run.
-    ensures kept { IfOk result (λ t. IsKept steps.now t.replies t.store) }
+    ensures kept { AreOfGuests steps.now → IfOk result (λ t. IsKept steps.now t.replies t.store) }
 
     // A bad item stops it at the step that asks for it, and nothing else but want of memory does.
-    ensures bad_item { (told : List Reply) (state : State) (s : ℕ) → AsksBad steps.now told state s →
-        IsErr result × IfErr result (λ stop. StopsIn told s stop.replies stop.cause) }
-    ensures items { AsksItems steps.now →
+    ensures bad_item { AreOfGuests steps.now → (told : List Reply) (state : State) (s : ℕ) →
+        AsksBad steps.now told state s → IsErr result × IfErr result (λ stop. StopsIn told s stop.replies stop.cause) }
+    ensures items { AreOfGuests steps.now → AsksItems steps.now →
         IfErr result (λ stop. stop.cause ≡ RunCause.OutOfMemory) }
 {
     laws_hold();
@@ -94,7 +114,7 @@ pub fn run(alloc: Global, steps: &[Step]) -> Result<Transcript, RunStop>
     let mut replies = Replies::new(alloc);
     // Where there is no room for all, each reply asks for its own.
     let _room = replies.reserve(steps.len());
-    match play_steps(&mut store, &mut replies, steps) {
+    match play_steps(&mut store, hosts, &mut replies, steps) {
         Ok(()) => finished(alloc, store, replies),
         Err(cause) => Err(stopped(cause, replies)),
     }
@@ -170,20 +190,28 @@ fn counts(alloc: Global, store: &Store) -> Result<Counts, OutOfMemory>
 }
 
 // Does the steps in order, and keeps their replies.
-fn play_steps(store: &mut Store, replies: &mut Replies, steps: &[Step]) -> Result<(), RunCause>
+fn play_steps(
+    store: &mut Store,
+    hosts: &mut Hosts,
+    replies: &mut Replies,
+    steps: &[Step],
+) -> Result<(), RunCause>
     requires begins { store.old ≡ start }
     requires none { replies.old ≡ [] }
-    ensures ok { OnOk result (play [] start steps.now ≡ Ends replies.new store.new) }
-    ensures stop { IfErr result (λ cause. (state : State)
+    ensures ok { OnOk result (RunsTo (start_among (tells_of writer_tells reader_tells hosts.old) (tells_of writer_tells reader_tells hosts.new)) steps.now replies.new store.new (tells_of writer_tells reader_tells hosts.new)) }
+    ensures stop { IfErr result (StopsAmong (tells_of writer_tells reader_tells hosts.old) (tells_of writer_tells reader_tells hosts.new) steps.now replies.new) }
+    ensures alone { AreOfGuests steps.now → OnOk result (play [] start steps.now ≡ Ends replies.new store.new) }
+    ensures stop_alone { AreOfGuests steps.now → IfErr result (λ cause. (state : State)
         × (play [] start (take (length replies.new) steps.now) ≡ Ends replies.new state)
         × StopsAt steps.now replies.new state cause) }
+    ensures hosts { AreOfGuests steps.now → (tells_of writer_tells reader_tells hosts.new) ≡ (tells_of writer_tells reader_tells hosts.old) }
     ensures all { OnOk result (length replies.new ≡ length steps.now) }
     ensures count { length replies.new ≤ length steps.now }
     ensures bytes { All HasBytes (take (length replies.new) steps.now) }
 {
     for step in steps {
         sound(step);
-        if let Err(cause) = step_once(store, replies, step) {
+        if let Err(cause) = step_once(store, hosts, replies, step) {
             return Err(cause);
         }
     }
@@ -194,27 +222,40 @@ fn play_steps(store: &mut Store, replies: &mut Replies, steps: &[Step]) -> Resul
 fn sound(step: &Step)
     ensures { HasBytes step.now }
 {
-    if let Step::Poke { bytes, .. } = step {
-        bytes.sound();
+    match step {
+        Step::Poke { bytes, .. } | Step::Feed { bytes, .. } => bytes.sound(),
+        _ => {}
     }
 }
 
 // Does one step, and keeps its reply.
-fn step_once(store: &mut Store, replies: &mut Replies, step: &Step) -> Result<(), RunCause>
-    requires { store.old.trapped ≡ false }
-    ensures ok { (more : List Step) → OnOk result
-        (play replies.old store.old (step.now ∷ more) ≡ play replies.new store.new more) }
-    ensures bad_item { (stream : ℕ) → result ≡ Err (RunCause.BadItem stream) →
-        (react store.old step.now).reply ≡ IsBadItem stream }
-
-    // Memory is wanted only where the machine goes on.
-    ensures memory { result ≡ Err RunCause.OutOfMemory → (reply : Reply) × (state : State)
-        × (play replies.old store.old (step.now ∷ []) ≡ Ends (replies.old ++ reply ∷ []) state) }
+fn step_once(
+    store: &mut Store,
+    hosts: &mut Hosts,
+    replies: &mut Replies,
+    step: &Step,
+) -> Result<(), RunCause>
+    requires running { store.old.trapped ≡ false }
+    requires fits { Fits store.old (tells_of writer_tells reader_tells hosts.old) }
+    ensures ok { OnOk result ((reply : Reply) × (replies.new ≡ replies.old ++ reply ∷ [])
+        × Does store.old store.new (tells_of writer_tells reader_tells hosts.old) (tells_of writer_tells reader_tells hosts.new) (Ok reply) (λ world. step_of world step.now)) }
+    ensures stop { IfErr result (λ cause. Does store.old store.new (tells_of writer_tells reader_tells hosts.old)
+        (tells_of writer_tells reader_tells hosts.new) (Err (stop_of cause)) (λ world. step_of world step.now)) }
+    ensures fits { Fits store.new (tells_of writer_tells reader_tells hosts.new) }
     ensures goes_on { OnOk result (store.new.trapped ≡ false) }
-    ensures one { OnOk result (length replies.new ≡ length replies.old + 1) }
     ensures err { OnErr result (replies.new ≡ replies.old) }
+
+    // Where it touches no host end, it is the machine's without them.
+    ensures alone { touches (lone store.old) (act_of step.now) ≡ false → (more : List Step) → OnOk result
+        (play replies.old store.old (step.now ∷ more) ≡ play replies.new store.new more) }
+    ensures state { touches (lone store.old) (act_of step.now) ≡ false →
+        OnOk result (store.new ≡ (react store.old step.now).state) }
+    ensures stop_alone { touches (lone store.old) (act_of step.now) ≡ false →
+        IfErr result (StopsStep replies.old store.old step.now) }
+    ensures hosts { touches (lone store.old) (act_of step.now) ≡ false →
+        (tells_of writer_tells reader_tells hosts.new) ≡ (tells_of writer_tells reader_tells hosts.old) }
 {
-    let answer = apply(store, step);
+    let answer = apply(store, hosts, step);
     match &answer {
         Ok(reply) => keep(replies, reply),
         Err(error) => Err(cause_of(*error)),
@@ -225,11 +266,11 @@ fn step_once(store: &mut Store, replies: &mut Replies, step: &Step) -> Result<()
 fn cause_of(error: StoreError) -> RunCause
     requires refused { (refusal : Refusal) → error ≢ StoreError.Refused refusal }
     requires trapped { error ≢ StoreError.StoreTrapped }
-    ensures bad_item { (stream : ℕ) → result ≡ RunCause.BadItem stream →
-        error ≡ StoreError.BadItem stream }
-    ensures memory { result ≡ RunCause.OutOfMemory → error ≡ StoreError.OutOfMemory }
+    ensures { answered (Err error) ≡ Err (stop_of result) }
 {
     match error {
+        StoreError::HostFailed { end } => RunCause::HostFailed { end },
+        StoreError::HostBroke { end } => RunCause::HostBroke { end },
         StoreError::BadItem { stream } => RunCause::BadItem { stream },
         StoreError::OutOfMemory => RunCause::OutOfMemory,
         StoreError::Refused(_) => unreachable!(),

@@ -7,19 +7,21 @@ ghost use Rattle.std.specs.Io.KnownBytes.{Appends, Consumes};
 ghost use Rattle.strm_machine.specs.declared.steps.Step.{Step};
 ghost use Rattle.strm_machine.specs.State.{State};
 ghost use Rattle.strm_machine.specs.declared.replies.Reply.{Reply};
-ghost use Rattle.strm_session.specs.Runs.{AsksBad, AsksItems};
+ghost use Rattle.strm_buffers.specs.AllTells.{tells_of};
+ghost use Rattle.strm_session.specs.Runs.{AreOfGuests, AsksBad, AsksItems};
 ghost use Rattle.strm_ports.specs.Faults.{Rose, TakesPart};
 ghost use Rattle.strm_lines.specs.Lines.{lines_of, Spells, IsFirstBad, IsTooLong};
-ghost use Rattle.strm_session.specs.Serving.{IsRun, IsAnswer, IsStatus, IsFaultless, IsTranscript, IsStopped};
+ghost use Rattle.strm_session.specs.Serving.{IsRun, IsStop, IsAnswer, IsStatus, IsFaultless, IsTranscript, IsStopped};
 
 use crate::runs::{RunCause, run};
 use crate::texts::{bad_line_text, read_fault_text, stopped_text, text, too_long_text, usage_text};
 use std::alloc::Global;
+use strm_buffers::hosts::Hosts;
 use strm_codes::counts::OutOfMemory;
 use strm_lines::lists::TextBytes;
 use strm_lines::parsing::{MAX_BYTES, ParseError, parse};
-use strm_machine::replies::Reply;
 use strm_machine::steps::Step;
+use strm_machine::stops::Stop;
 use strm_ports::ports::{Sink, Source};
 use strm_ports::whole::{InputError, read_all, write_whole};
 
@@ -36,6 +38,10 @@ pub const READ_FAULT: u8 = 4;
 
 pub const WRITE_FAULT: u8 = 5;
 
+pub const HOST_FAILED: u8 = 6;
+
+pub const HOST_BROKE: u8 = 7;
+
 pub const BAD_ITEM: u8 = 8;
 
 pub const OUT_OF_MEMORY: u8 = 9;
@@ -48,22 +54,25 @@ struct Answer {
 }
 
 /// Does what the words behind the program's name say, and answers the status of the program. The
-/// one word `run` reads the source to its end, runs its lines, and writes the text of the run.
-/// All that is written is made before the first write.
+/// one word `run` reads the source to its end, runs its lines among these host ends, and writes the text
+/// of the run. All that is written is made before the first write.
 pub fn serve<S: Source, K: Sink>(
     alloc: Global,
     words: &Vec<String>,
     source: &mut S,
     sink: &mut K,
+    hosts: &mut Hosts,
 ) -> u8
+    requires writers { length (tells_of writer_tells reader_tells hosts.old).writers ≤ 64 }
+    requires readers { length (tells_of writer_tells reader_tells hosts.old).readers ≤ 64 }
     ensures known { IsStatus result }
     ensures told { result ≢ WRITE_FAULT → result ≢ OUT_OF_MEMORY → (text : List ℕ)
         × IsAnswer (map string_bytes words.now.items) (S.left source.old) (S.left source.new)
-        (S.faults source.old) (S.faults source.new) result text
+        (tells_of writer_tells reader_tells hosts.old) (tells_of writer_tells reader_tells hosts.new) (S.faults source.old) (S.faults source.new) result text
         × Appends (K.taken sink.old) (K.taken sink.new) text }
     ensures part { result ≡ WRITE_FAULT → (status : ℕ) × (text : List ℕ)
         × IsAnswer (map string_bytes words.now.items) (S.left source.old) (S.left source.new)
-        (S.faults source.old) (S.faults source.new) status text
+        (tells_of writer_tells reader_tells hosts.old) (tells_of writer_tells reader_tells hosts.new) (S.faults source.old) (S.faults source.new) status text
         × TakesPart (K.taken sink.old) (K.taken sink.new) text }
     ensures write_fault { result ≡ WRITE_FAULT → Rose (K.faults sink.old) (K.faults sink.new) }
     ensures nothing { result ≡ OUT_OF_MEMORY → sink.new ≡ sink.old }
@@ -77,12 +86,12 @@ pub fn serve<S: Source, K: Sink>(
     ensures complete { (input : List ℕ) (steps : List Step) →
         IsFaultless (map string_bytes words.now.items) (S.left source.old) input
         (S.faults source.old) (S.faults source.new) (K.faults sink.old) (K.faults sink.new) →
-        Spells (lines_of input) steps → ¬ IsTooLong input → AsksItems steps →
+        Spells (lines_of input) steps → ¬ IsTooLong input → AreOfGuests steps → AsksItems steps →
         (result ≡ DONE) ⊎ (result ≡ OUT_OF_MEMORY) }
     ensures bad_item { (input : List ℕ) (steps : List Step) →
         IsFaultless (map string_bytes words.now.items) (S.left source.old) input
         (S.faults source.old) (S.faults source.new) (K.faults sink.old) (K.faults sink.new) →
-        Spells (lines_of input) steps → ¬ IsTooLong input →
+        Spells (lines_of input) steps → ¬ IsTooLong input → AreOfGuests steps →
         (told : List Reply) (state : State) (s : ℕ) → AsksBad steps told state s →
         (result ≡ BAD_ITEM) ⊎ (result ≡ OUT_OF_MEMORY) }
     ensures bad_line { (input : List ℕ) (line : ℕ) →
@@ -98,7 +107,7 @@ pub fn serve<S: Source, K: Sink>(
         ¬ Rose (K.faults sink.old) (K.faults sink.new) →
         (result ≡ USAGE) ⊎ (result ≡ OUT_OF_MEMORY) }
 {
-    match answer_words(alloc, words, source) {
+    match answer_words(alloc, words, source, hosts) {
         Ok(answer) => match write_whole(sink, answer.text.as_slice()) {
             Ok(()) => answer.status,
             Err(_) => WRITE_FAULT,
@@ -112,10 +121,13 @@ fn answer_words<S: Source>(
     alloc: Global,
     words: &Vec<String>,
     source: &mut S,
+    hosts: &mut Hosts,
 ) -> Result<Answer, OutOfMemory>
+    requires writers { length (tells_of writer_tells reader_tells hosts.old).writers ≤ 64 }
+    requires readers { length (tells_of writer_tells reader_tells hosts.old).readers ≤ 64 }
     ensures told { IfOk result (λ a.
         IsAnswer (map string_bytes words.now.items) (S.left source.old) (S.left source.new)
-        (S.faults source.old) (S.faults source.new) a.status a.text) }
+        (tells_of writer_tells reader_tells hosts.old) (tells_of writer_tells reader_tells hosts.new) (S.faults source.old) (S.faults source.new) a.status a.text) }
     ensures read { (front : List ℕ) × Consumes (S.left source.old) (S.left source.new) front
         × (length front ≤ MAX_BYTES + 1) }
     ensures unread { ¬ IsRun (map string_bytes words.now.items) → source.new ≡ source.old }
@@ -124,7 +136,7 @@ fn answer_words<S: Source>(
         return fixed(alloc, USAGE, usage_text());
     }
     match read_all(alloc, source) {
-        Ok(input) => answer_input(alloc, input.as_slice()),
+        Ok(input) => answer_input(alloc, input.as_slice(), hosts),
         Err(InputError::TooLong) => fixed(alloc, TOO_LONG, too_long_text()),
         Err(InputError::Fault) => fixed(alloc, READ_FAULT, read_fault_text()),
         Err(InputError::OutOfMemory) => Err(OutOfMemory),
@@ -149,12 +161,14 @@ fn fixed(alloc: Global, status: u8, text: &[u8]) -> Result<Answer, OutOfMemory>
 }
 
 // What is to be written for an input that was read.
-fn answer_input(alloc: Global, input: &[u8]) -> Result<Answer, OutOfMemory>
+fn answer_input(alloc: Global, input: &[u8], hosts: &mut Hosts) -> Result<Answer, OutOfMemory>
+    requires writers { length (tells_of writer_tells reader_tells hosts.old).writers ≤ 64 }
+    requires readers { length (tells_of writer_tells reader_tells hosts.old).readers ≤ 64 }
     ensures { (before after : ℕ) → IfOk result (λ a.
-        IsAnswer (codes "run" ∷ []) (Some input.now) (Some []) before after a.status a.text) }
+        IsAnswer (codes "run" ∷ []) (Some input.now) (Some []) (tells_of writer_tells reader_tells hosts.old) (tells_of writer_tells reader_tells hosts.new) before after a.status a.text) }
 {
     match parse(alloc, input) {
-        Ok(steps) => answer_steps(alloc, steps.as_slice()),
+        Ok(steps) => answer_steps(alloc, steps.as_slice(), hosts),
         Err(ParseError::TooLong) => fixed(alloc, TOO_LONG, too_long_text()),
         Err(ParseError::BadLine { line }) => {
             let text = bad_line_text(alloc, line)?;
@@ -168,29 +182,30 @@ fn answer_input(alloc: Global, input: &[u8]) -> Result<Answer, OutOfMemory>
 }
 
 // What is to be written for a list of steps.
-fn answer_steps(alloc: Global, steps: &[Step]) -> Result<Answer, OutOfMemory>
+fn answer_steps(alloc: Global, steps: &[Step], hosts: &mut Hosts) -> Result<Answer, OutOfMemory>
     requires few { length steps.now ≤ 4294967295 }
-    ensures known { IfOk result (λ a. (a.status ≡ DONE) ⊎ (a.status ≡ BAD_ITEM)) }
+    requires writers { length (tells_of writer_tells reader_tells hosts.old).writers ≤ 64 }
+    requires readers { length (tells_of writer_tells reader_tells hosts.old).readers ≤ 64 }
+    ensures known { IfOk result (λ a. (a.status ≡ DONE) ⊎ IsStop a.status) }
     ensures done { (input : List ℕ) → Spells (lines_of input) steps.now →
-        IfOk result (λ a. a.status ≡ DONE → IsTranscript input a.text) }
+        IfOk result (λ a. a.status ≡ DONE → IsTranscript (tells_of writer_tells reader_tells hosts.old) (tells_of writer_tells reader_tells hosts.new) input a.text) }
     ensures stopped { (input : List ℕ) → Spells (lines_of input) steps.now →
-        IfOk result (λ a. a.status ≡ BAD_ITEM → IsStopped input a.text) }
+        IfOk result (λ a. IsStop a.status → IsStopped (tells_of writer_tells reader_tells hosts.old) (tells_of writer_tells reader_tells hosts.new) a.status input a.text) }
 {
-    match run(alloc, steps) {
+    match run(alloc, steps, hosts) {
         Ok(transcript) => {
             let text = text(alloc, &transcript)?;
             Ok(Answer { status: DONE, text })
         }
-        Err(stop) => match stop.cause {
-            RunCause::BadItem { stream } => {
-                let reply = Reply::BadItem { stream };
-                let text = stopped_text(alloc, stop.replies.as_slice(), &reply)?;
-                Ok(Answer {
-                    status: BAD_ITEM,
-                    text,
-                })
-            }
-            RunCause::OutOfMemory => Err(OutOfMemory),
-        },
+        Err(stop) => {
+            let (status, why) = match stop.cause {
+                RunCause::HostFailed { end } => (HOST_FAILED, Stop::HostFailed { end }),
+                RunCause::HostBroke { end } => (HOST_BROKE, Stop::HostBroke { end }),
+                RunCause::BadItem { stream } => (BAD_ITEM, Stop::BadItem { stream }),
+                RunCause::OutOfMemory => return Err(OutOfMemory),
+            };
+            let text = stopped_text(alloc, stop.replies.as_slice(), why)?;
+            Ok(Answer { status, text })
+        }
     }
 }

@@ -1,7 +1,11 @@
 //! What no clause says: lines and texts of the formats' own examples, and that memory is found.
 
+ghost use Rattle.std.specs.Prelude.{◌≤◌, length};
+ghost use Rattle.strm_buffers.specs.AllTells.{tells_of};
+
 use std::alloc::Global;
 use std::test::Fail;
+use strm_buffers::hosts::Hosts;
 use strm_codes::codes::{ReturnCode, TransmitIndex};
 use strm_codes::counts::ItemCount;
 use strm_codes::payloads::Payload;
@@ -123,7 +127,7 @@ const BAD_COMMANDS: [&str; 16] = [
     "dump 0 0 65",
     "new 0",
     "new 0 stream:u8 1",
-    "drive",
+    "drive 1",
 ];
 
 // The first of these lines that is read, from 1, each between two that are good.
@@ -151,18 +155,18 @@ fn bad_lines(rt: HostRuntime) -> Result<(), Fail> {
 #[test]
 fn limits_of_lines(rt: HostRuntime) -> Result<(), Fail> {
     assert_eq!(rt; bad_line(rt.alloc(), b"\n")?, 1);
-    let many = lines_of_drive(rt.alloc(), 262_144)?;
+    let many = lines_of_driven(rt.alloc(), 262_144)?;
     assert_eq!(rt; bad_line(rt.alloc(), &many)?, 1);
-    let more = lines_of_drive(rt.alloc(), 262_145)?;
+    let more = lines_of_driven(rt.alloc(), 262_145)?;
     assert_eq!(rt; parse(rt.alloc(), &more).err(), Some(ParseError::TooLong));
     Ok(())
 }
 
 // So many bad lines.
-fn lines_of_drive(alloc: Global, count: usize) -> Result<Vec<u8>, Fail> {
+fn lines_of_driven(alloc: Global, count: usize) -> Result<Vec<u8>, Fail> {
     let mut bytes = Vec::new(alloc);
     for _ in 0..count {
-        bytes.extend_from_slice(b"drive\n")?;
+        bytes.extend_from_slice(b"driven\n")?;
     }
     Ok(bytes)
 }
@@ -297,6 +301,24 @@ pub(crate) fn served(
     input: &[u8],
     failing: (u32, u32),
 ) -> Result<(u8, Vec<u8>), Fail> {
+    let mut hosts = Hosts {
+        writers: Vec::new(alloc),
+        readers: Vec::new(alloc),
+    };
+    served_among(alloc, words, input, failing, &mut hosts)
+}
+
+// The same among host ends.
+pub(crate) fn served_among(
+    alloc: Global,
+    words: &[&str],
+    input: &[u8],
+    failing: (u32, u32),
+    hosts: &mut Hosts,
+) -> Result<(u8, Vec<u8>), Fail>
+    requires writers { length (tells_of writer_tells reader_tells hosts.old).writers ≤ 64 }
+    requires readers { length (tells_of writer_tells reader_tells hosts.old).readers ≤ 64 }
+{
     let mut list = Vec::new(alloc);
     for word in words {
         list.push(String::from_str(alloc, word)?)?;
@@ -304,7 +326,7 @@ pub(crate) fn served(
     let bytes = input.to_vec(alloc)?;
     let mut source = BytesSource::new(bytes, 64, vec![in alloc; failing.0]?);
     let mut sink = BytesSink::new(alloc, 64, vec![in alloc; failing.1]?);
-    let status = serve(alloc, &list, &mut source, &mut sink);
+    let status = serve(alloc, &list, &mut source, &mut sink, hosts);
     Ok((status, sink.taken().to_vec(alloc)?))
 }
 

@@ -12,6 +12,8 @@ mod contexts;
 #[cfg(test)]
 mod futures;
 #[cfg(test)]
+mod host_writers;
+#[cfg(test)]
 mod meetings;
 #[cfg(test)]
 mod moves;

@@ -3,6 +3,7 @@
 use crate::calls::served;
 use std::alloc::Global;
 use std::test::Fail;
+use strm_buffers::hosts::Hosts;
 use strm_codes::codes::TransmitIndex;
 use strm_codes::payloads::Payload;
 use strm_codes::scalars::Scalar;
@@ -221,7 +222,11 @@ fn arrived(alloc: Global, steps: &[Step]) -> Result<(TextBytes, bool), Fail> {
     if steps.len() != 1139 {
         return Err(Fail::from("other steps"));
     }
-    let done = run(alloc, steps).ok().ok_or("the run stops")?;
+    let mut hosts = Hosts {
+        writers: Vec::new(alloc),
+        readers: Vec::new(alloc),
+    };
+    let done = run(alloc, steps, &mut hosts).ok().ok_or("the run stops")?;
     let written = done.store.memory(0).ok_or("a writer")?;
     let read = done.store.memory(1).ok_or("a reader")?;
     let is_read = written.len() == 65_536 && read.starts_with(written);

@@ -3,12 +3,13 @@
 use crate::calls::served;
 use std::alloc::Global;
 use std::test::Fail;
+use strm_buffers::hosts::Hosts;
 use strm_codes::codes::TransmitIndex;
 use strm_codes::payloads::{Payload, Shape};
 use strm_codes::scalars::Scalar;
 use strm_machine::chunks::Chunk;
-use strm_machine::replies::Reply;
 use strm_machine::steps::Step;
+use strm_machine::stops::Stop;
 use strm_session::runs::{RunCause, run};
 use strm_session::texts::{stopped_text, text};
 
@@ -24,7 +25,11 @@ fn printed(alloc: Global, steps: &[Step]) -> Result<(Vec<u8>, Option<(u32, RunCa
     if steps.len() > 16 {
         return Err(Fail::from("too many steps"));
     }
-    match run(alloc, steps) {
+    let mut hosts = Hosts {
+        writers: Vec::new(alloc),
+        readers: Vec::new(alloc),
+    };
+    match run(alloc, steps, &mut hosts) {
         Ok(transcript) => {
             let text = text(alloc, &transcript)?;
             Ok((text.as_slice().to_vec(alloc)?, None))
@@ -33,8 +38,8 @@ fn printed(alloc: Global, steps: &[Step]) -> Result<(Vec<u8>, Option<(u32, RunCa
             let RunCause::BadItem { stream } = stop.cause else {
                 return Err(Fail::from("memory was wanted"));
             };
-            let answer = Reply::BadItem { stream };
-            let text = stopped_text(alloc, stop.replies.as_slice(), &answer)?;
+            let why = Stop::BadItem { stream };
+            let text = stopped_text(alloc, stop.replies.as_slice(), why)?;
             Ok((text.as_slice().to_vec(alloc)?, Some((stop.at, stop.cause))))
         }
     }

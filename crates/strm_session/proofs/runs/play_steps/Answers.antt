@@ -1,48 +1,90 @@
-use Rattle.std.proofs.Common.{rules, subst, ◌≡◌, [], Err, length, take, sym, ap, ◌∙◌, arith}
+use Rattle.std.proofs.Common.{rules, subst, ◌≡◌, ◌+◌, [], length, take, sym, ap, ◌∙◌, refl, arith}
 use Rattle.std.specs.Prelude.{All}
-use Rattle.std.proofs.lemmas.List.{take_all, take_more, append-nil}
-use Rattle.std.proofs.lemmas.List.Elements.{All-push}
+use Rattle.std.proofs.lemmas.List.{take_all, take_more, append-nil, length_push}
+use Rattle.std.proofs.lemmas.List.Elements.{All-nil, All-push}
 use Rattle.strm_laws.specs.Laws.{HasBytes}
 use Rattle.strm_machine.specs.Plays.{play}
 use Rattle.strm_session.specs.Runs.{start}
-use Rattle.strm_session.proofs.PlayLemmas.{stops, stopped_before, played_more}
+use Rattle.strm_session.proofs.PlayLemmas.{is_at, stops, stopped_before}
+use Rattle.strm_session.proofs.AmongLemmas.{led_none, led_more, runs_to, stops_among}
+use Rattle.strm_session.proofs.AloneLemmas.{start-fits, alone_none, alone_more, alone_before, untouched_at}
 use Rattle.strm_session.proofs.runs.play_steps.Goals as goal
 
 pub returns-in-Err-clause-stop : goal.returns-in-Err-clause-stop
-returns-in-Err-clause-stop c =
+returns-in-Err-clause-stop g c =
+    let i = c.loop-step.invariant in
+    rw c.in-Err.ensures.err
+    (stops_among _ _ _ c.args.steps.now c.loop-step.step-index _ c.loop-step.replies c.loop-step.store c.step_once.new.store
+    (is_at c.args.steps.now c.loop-step.step-index _ c.loop-step-test.true c.step-item.is) i.led c.in-Err.cause i.count c.in-Err.ensures.stop)
+
+pub returns-in-Err-clause-stop_alone : goal.returns-in-Err-clause-stop_alone
+returns-in-Err-clause-stop_alone g c = λ all.
     let told = c.loop-step.replies in
     let state = c.loop-step.store in
     let k = c.loop-step.step-index in
     let i = c.loop-step.invariant in
+    let at = is_at c.args.steps.now c.loop-step.step-index c.step-item.result c.loop-step-test.true c.step-item.is in
+    let l = alone_before _ _ c.args.steps.now k told state i.alone all in
     rw c.in-Err.ensures.err (
       state,
-      stopped_before c.args.steps.now k told state i.count i.so_far,
-      stops c.args.steps.now k _ told state c.in-Err.cause
-          (record { inside = c.loop-step-test.true; is = sym c.step-item.is }) i.count i.so_far i.running (record {
-            bad = λ stream e. c.in-Err.ensures.bad_item stream (ap Err e);
-            memory = λ e. c.in-Err.ensures.memory (ap Err e);
-          }),
+      stopped_before c.args.steps.now k told state i.count l.so_far,
+      stops c.args.steps.now k _ told state c.in-Err.cause at i.count l.so_far i.running
+          (c.in-Err.ensures.stop_alone (untouched_at c.args.steps.now k _ state at l.unhosted all)),
     )
 
+pub returns-in-Err-clause-hosts : goal.returns-in-Err-clause-hosts
+returns-in-Err-clause-hosts g c = λ all.
+    let k = c.loop-step.step-index in
+    let at = is_at c.args.steps.now c.loop-step.step-index c.step-item.result c.loop-step-test.true c.step-item.is in
+    let l = alone_before _ _ c.args.steps.now k c.loop-step.replies c.loop-step.store c.loop-step.invariant.alone all in
+    c.step_once.ensures.hosts (untouched_at c.args.steps.now k _ c.loop-step.store at l.unhosted all) ∙ l.same
+
 pub returns-in-Err-clause-bytes : goal.returns-in-Err-clause-bytes
-returns-in-Err-clause-bytes c =
+returns-in-Err-clause-bytes g c =
     let count : c.loop-step.step-index ≡ length c.step_once.new.replies = sym (ap length c.in-Err.ensures.err ∙ c.loop-step.invariant.count) in
     subst (λ n. All HasBytes (take n c.args.steps.now)) count c.loop-step.invariant.bytes
 
 pub returns-clause-ok : goal.returns-clause-ok
-returns-clause-ok c =
+returns-clause-ok g c =
+    runs_to _ _ c.args.steps.now c.loop-step.step-index c.loop-step.replies c.loop-step.store (omega (arith, c.loop-step-test.false)) c.loop-step.invariant.led
+
+pub returns-clause-alone : goal.returns-clause-alone
+returns-clause-alone g c = λ all.
+    let l = alone_before _ _ c.args.steps.now c.loop-step.step-index c.loop-step.replies c.loop-step.store c.loop-step.invariant.alone all in
     ap (play [] start) (sym (append-nil (take c.loop-step.step-index c.args.steps.now) ∙ take_all c.loop-step.step-index c.args.steps.now (omega (arith, c.loop-step-test.false))))
-    ∙ c.loop-step.invariant.so_far []
+    ∙ l.so_far []
+
+pub returns-clause-hosts : goal.returns-clause-hosts
+returns-clause-hosts g c = λ all.
+    (alone_before _ _ c.args.steps.now c.loop-step.step-index c.loop-step.replies c.loop-step.store c.loop-step.invariant.alone all).same
+
+pub loop-step-init : goal.loop-step-init
+loop-step-init g c = rw (c.requires.begins, c.requires.none) (record {
+  led = led_none _ c.args.steps.now;
+  alone = λ _. alone_none _ c.args.steps.now;
+  fits = start-fits _;
+  running = refl;
+  count = refl;
+  bytes = All-nil HasBytes;
+})
 
 pub loop-step-preserved : goal.loop-step-preserved
-loop-step-preserved c = record {
-  so_far = played_more c.args.steps.now c.loop-step.step-index c.step-item.result c.loop-step.replies c.step_once.new.replies c.loop-step.store c.step_once.new.store (record { inside = c.loop-step-test.true; is = sym c.step-item.is }) c.loop-step.invariant.so_far c.in_default.ensures.ok;
-  running = search rules;
-  count = search rules;
-  bytes = subst (All HasBytes) (sym (take_more c.args.steps.now c.loop-step.step-index _ c.loop-step-test.true))
-      (All-push HasBytes (take c.loop-step.step-index c.args.steps.now) _ c.loop-step.invariant.bytes (subst HasBytes c.step-item.is c.sound.ensures));
-}
+loop-step-preserved g c =
+    let at = is_at c.args.steps.now c.loop-step.step-index c.step-item.result c.loop-step-test.true c.step-item.is in
+    let k = c.loop-step.step-index in
+    let step = c.step-item.result in
+    let i = c.loop-step.invariant in
+    record {
+      led = rw c.in_default.ensures.ok.1 (led_more _ _ _ c.args.steps.now k step c.loop-step.replies c.in_default.ensures.ok.0 c.loop-step.store c.step_once.new.store at i.led c.in_default.ensures.ok.2);
+      alone = alone_more _ _ _ c.args.steps.now k step c.loop-step.replies c.step_once.new.replies c.loop-step.store c.step_once.new.store at i.alone
+          (λ untouched. record { goes_on = c.in_default.ensures.alone untouched; state_is = c.in_default.ensures.state untouched; same = c.step_once.ensures.hosts untouched });
+      fits = search rules;
+      running = search rules;
+      count = ap length c.in_default.ensures.ok.1 ∙ length_push c.loop-step.replies c.in_default.ensures.ok.0 ∙ ap (λ n. n + 1) i.count;
+      bytes = subst (All HasBytes) (sym (take_more c.args.steps.now k _ c.loop-step-test.true))
+          (All-push HasBytes (take k c.args.steps.now) _ i.bytes (subst HasBytes c.step-item.is c.sound.ensures));
+    }
 
 pub returns-clause-bytes : goal.returns-clause-bytes
-returns-clause-bytes c =
+returns-clause-bytes g c =
     subst (λ n. All HasBytes (take n c.args.steps.now)) (sym c.loop-step.invariant.count) c.loop-step.invariant.bytes

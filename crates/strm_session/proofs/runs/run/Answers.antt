@@ -1,18 +1,28 @@
 use Rattle.std.proofs.Common.{◌≡◌, ◌+◌, [], Err, length, take, sym, subst, ap, ◌∙◌, arith}
-use Rattle.std.specs.Prelude.{All}
+use Rattle.std.specs.Prelude.{All, IfOk, IfErr}
 use Rattle.std.proofs.lemmas.List.{take_all, append-nil}
 use Rattle.std.proofs.lemmas.Result.{IfErr-weaker, IfOk-weaker}
 use Rattle.strm_laws.specs.Laws.{HasBytes}
 use Rattle.strm_machine.specs.Plays.{play, Ends}
-use Rattle.strm_session.specs.Runs.{start}
+use Rattle.strm_session.specs.Runs.{start, AreOfGuests}
+use Rattle.strm_session.proofs.AmongLemmas.{stops_behind}
 use Rattle.strm_session.proofs.LawLemmas.{run_kept, front_kept}
 use Rattle.strm_session.proofs.StopLemmas.{answers-in, answers-items}
 use Rattle.strm_session.proofs.runs.run.Goals as goal
 
 pub returns-in-Err-clause-stop : goal.returns-in-Err-clause-stop
-returns-in-Err-clause-stop c =
+returns-in-Err-clause-stop g c = rw c.stopped.ensures c.in-Err.ensures.stop
+
+pub returns-in-Ok-clause-stop : goal.returns-in-Ok-clause-stop
+returns-in-Ok-clause-stop g c =
+    IfErr-weaker c.finished.result _ _
+    (λ stop e. rw e (stops_behind _ _ c.args.steps.now c.play_steps.new.replies c.play_steps.new.store c.in-Ok.ensures.all c.in-Ok.ensures.ok))
+    c.finished.ensures.stop
+
+pub returns-in-Err-clause-stop_alone : goal.returns-in-Err-clause-stop_alone
+returns-in-Err-clause-stop_alone g c = λ alone.
     let told = c.play_steps.new.replies in
-    let stop = c.in-Err.ensures.stop in
+    let stop = c.in-Err.ensures.stop_alone alone in
     rw c.stopped.ensures (record {
       state = stop.0;
       before = stop.1;
@@ -20,43 +30,51 @@ returns-in-Err-clause-stop c =
       at = stop.2;
     })
 
-pub returns-in-Ok-clause-stop : goal.returns-in-Ok-clause-stop
-returns-in-Ok-clause-stop c =
+pub returns-in-Ok-clause-stop_alone : goal.returns-in-Ok-clause-stop_alone
+returns-in-Ok-clause-stop_alone g c = λ alone.
     let told = c.play_steps.new.replies in
     let state = c.play_steps.new.store in
     let steps = c.args.steps.now in
+    let played = c.in-Ok.ensures.alone alone in
     let all : take (length told) steps ≡ steps = take_all (length told) steps (omega (arith, c.in-Ok.ensures.all)) in
     let more : take (length told + 1) steps ≡ steps = take_all (length told + 1) steps (omega (arith, c.in-Ok.ensures.all)) in
-    let before : play [] start (take (length told) steps) ≡ Ends told state = ap (play [] start) all ∙ c.in-Ok.ensures.ok in
+    let before : play [] start (take (length told) steps) ≡ Ends told state = ap (play [] start) all ∙ played in
     IfErr-weaker c.finished.result _ _
     (λ stop e. rw e (record {
       state = state;
       before = before;
       kept = front_kept c.laws_hold.ensures.laws c.laws_hold.ensures.aside c.laws_hold.ensures.put steps (length told) told state c.requires.few c.in-Ok.ensures.bytes before;
-      at = ([], state, ap (play [] start) more ∙ c.in-Ok.ensures.ok ∙ ap (λ t. Ends t state) (sym (append-nil told)));
+      at = ([], state, ap (play [] start) more ∙ played ∙ ap (λ t. Ends t state) (sym (append-nil told)));
     }))
     c.finished.ensures.stop
 
+pub returns-in-Ok-clause-ok : goal.returns-in-Ok-clause-ok
+returns-in-Ok-clause-ok g c =
+    IfOk-weaker c.finished.result _ _ (λ t e. rw (e.0, e.1) c.in-Ok.ensures.ok) c.finished.ensures.ok
+
+pub returns-in-Ok-clause-alone : goal.returns-in-Ok-clause-alone
+returns-in-Ok-clause-alone g c = λ alone.
+    IfOk-weaker c.finished.result _ _ (λ t e. rw (e.0, e.1) (c.in-Ok.ensures.alone alone)) c.finished.ensures.ok
+
 pub returns-in-Ok-clause-kept : goal.returns-in-Ok-clause-kept
-returns-in-Ok-clause-kept c =
+returns-in-Ok-clause-kept g c = λ alone.
     let all = take_all (length c.play_steps.new.replies) c.args.steps.now (omega (arith, c.in-Ok.ensures.all)) in
     let bytes = subst (All HasBytes) all c.in-Ok.ensures.bytes in
-    let kept = run_kept c.laws_hold.ensures.laws c.laws_hold.ensures.aside c.laws_hold.ensures.put c.args.steps.now c.play_steps.new.replies c.play_steps.new.store c.requires.few bytes c.in-Ok.ensures.ok in
+    let kept = run_kept c.laws_hold.ensures.laws c.laws_hold.ensures.aside c.laws_hold.ensures.put c.args.steps.now c.play_steps.new.replies c.play_steps.new.store c.requires.few bytes (c.in-Ok.ensures.alone alone) in
     IfOk-weaker c.finished.result _ _ (λ t e. rw (e.0, e.1) kept) c.finished.ensures.ok
 
 pub returns-in-Err-clause-bad_item : goal.returns-in-Err-clause-bad_item
-returns-in-Err-clause-bad_item c =
-    answers-in c.args.steps.now (Err c.stopped.result) tt (returns-in-Err-clause-stop c)
+returns-in-Err-clause-bad_item g c = λ alone.
+    answers-in c.args.steps.now (Err c.stopped.result) tt (returns-in-Err-clause-stop_alone g c alone)
 
 pub returns-in-Err-clause-items : goal.returns-in-Err-clause-items
-returns-in-Err-clause-items c =
-    answers-items c.args.steps.now (Err c.stopped.result) (returns-in-Err-clause-stop c)
+returns-in-Err-clause-items g c = λ alone.
+    answers-items c.args.steps.now (Err c.stopped.result) (returns-in-Err-clause-stop_alone g c alone)
 
 pub returns-in-Ok-clause-bad_item : goal.returns-in-Ok-clause-bad_item
-returns-in-Ok-clause-bad_item c =
-    let ok = IfOk-weaker c.finished.result _ (λ t. play [] start c.args.steps.now ≡ Ends t.replies t.store) (λ t e. rw (e.0, e.1) c.in-Ok.ensures.ok) c.finished.ensures.ok in
-    answers-in c.args.steps.now c.finished.result ok (returns-in-Ok-clause-stop c)
+returns-in-Ok-clause-bad_item g c = λ alone.
+    answers-in c.args.steps.now c.finished.result (returns-in-Ok-clause-alone g c alone) (returns-in-Ok-clause-stop_alone g c alone)
 
 pub returns-in-Ok-clause-items : goal.returns-in-Ok-clause-items
-returns-in-Ok-clause-items c =
-    answers-items c.args.steps.now c.finished.result (returns-in-Ok-clause-stop c)
+returns-in-Ok-clause-items g c = λ alone.
+    answers-items c.args.steps.now c.finished.result (returns-in-Ok-clause-stop_alone g c alone)

@@ -1,37 +1,58 @@
-use Rattle.std.proofs.Common.{◌≡◌, Result, Err, refl, ap}
+use Rattle.std.proofs.Common.{◌≡◌, Result, Ok, Err, refl, sym, ap, ◌∙◌, subst}
+use Rattle.std.proofs.lemmas.Result.{on_ok_weaker, IfErr-weaker}
 use Rattle.strm_machine.specs.Reactions.{Reaction}
-use Rattle.std.proofs.lemmas.Result.{on_ok_weaker}
-use Rattle.strm_machine.specs.declared.replies.Reply.TheVariants as replies
-use Rattle.strm_session.specs.declared.runs.RunCause.TheVariants as causes
-use Rattle.strm_session.proofs.PlayLemmas.{RunsOn-to, goes_on_to, goes_on_done}
+use Rattle.strm_machine.specs.Plays.{play}
+use Rattle.strm_world.specs.Steps.{step_of}
+use Rattle.strm_session.specs.Runs.{stop_of}
+use Rattle.strm_session.proofs.PlayLemmas.{play-goes, goes_on_to}
+use Rattle.strm_session.proofs.StepLemmas.{does_runs, never_trapped, does_wanting, does_answering, meets_stops}
 use Rattle.strm_session.proofs.runs.step_once.Goals as goal
 
-same_Err : {T E : Type 0} (x y : E) → ◌≡◌ {A = Result T E} (Err x) (Err y) → x ≡ y
-same_Err x y e = cc
-
 pub cause_of-requires-clause-trapped : goal.cause_of-requires-clause-trapped
-cause_of-requires-clause-trapped c = λ e.
-    let meets = rw (c.in-Err.is, e) at c.apply-answer.ensures.meets in
-    (RunsOn-to c.args.store.now c.apply-answer.new.store c.args.step.now replies.StoreTrapped c.requires meets.0).trapped refl
+cause_of-requires-clause-trapped g c = λ e.
+    never_trapped c.args.store.now c.apply-answer.new.store _ _ c.args.step.now c.requires.running (rw (c.in-Err.is, e) at c.apply-answer.ensures.does)
 
-pub returns-in-Ok-clause-memory : goal.returns-in-Ok-clause-memory
-returns-in-Ok-clause-memory c = λ _.
-    goes_on_to c.args.replies.now c.args.store.now c.apply-answer.new.store c.args.step.now c.in-Ok.reply
-    (rw c.in-Ok.is at c.apply-answer.ensures.settled) (rw c.in-Ok.is at c.apply-answer.ensures.meets)
+pub returns-in-Ok-clause-ok : goal.returns-in-Ok-clause-ok
+returns-in-Ok-clause-ok g c =
+    on_ok_weaker c.keep.result (λ e. (c.in-Ok.reply, e, rw c.in-Ok.is at c.apply-answer.ensures.does)) c.keep.ensures.ok
+
+pub returns-in-Ok-clause-stop : goal.returns-in-Ok-clause-stop
+returns-in-Ok-clause-stop g c =
+    IfErr-weaker c.keep.result _ _ (λ cause e. rw e (does_wanting c.args.store.now c.apply-answer.new.store _ _ c.in-Ok.reply (λ w. step_of w c.args.step.now) (rw c.in-Ok.is at c.apply-answer.ensures.does))) c.keep.ensures.memory
 
 pub returns-in-Ok-clause-goes_on : goal.returns-in-Ok-clause-goes_on
-returns-in-Ok-clause-goes_on c =
-    let runs = RunsOn-to c.args.store.now c.apply-answer.new.store c.args.step.now c.in-Ok.reply c.requires (rw c.in-Ok.is at c.apply-answer.ensures.meets) in
-    on_ok_weaker c.keep.result (λ e. runs.goes_on (rw c.in-Ok.is at c.apply-answer.ensures.settled)) c.keep.ensures.ok
+returns-in-Ok-clause-goes_on g c =
+    on_ok_weaker c.keep.result (λ e. does_runs c.args.store.now c.apply-answer.new.store _ _ c.in-Ok.reply c.args.step.now c.requires.running (rw c.in-Ok.is at c.apply-answer.ensures.does)) c.keep.ensures.ok
 
-pub returns-in-Err-clause-memory : goal.returns-in-Err-clause-memory
-returns-in-Err-clause-memory c = λ e.
-    let error = c.cause_of.ensures.memory (same_Err _ causes.OutOfMemory e) in
-    let meets = rw (c.in-Err.is, error) at c.apply-answer.ensures.meets in
-    goes_on_done c.args.replies.now c.args.store.now c.args.step.now meets.0
+pub returns-in-Ok-clause-alone : goal.returns-in-Ok-clause-alone
+returns-in-Ok-clause-alone g c = λ untouched more.
+    on_ok_weaker c.keep.result
+    (λ e.
+    play-goes c.args.replies.now c.args.store.now c.apply-answer.new.store c.args.step.now more c.in-Ok.reply
+    (rw c.in-Ok.is at c.apply-answer.ensures.settled) (rw c.in-Ok.is at (c.apply-answer.ensures.alone untouched).meets)
+    ∙ ap (λ told. play told c.apply-answer.new.store more) (sym e))
+    c.keep.ensures.ok
 
-pub returns-in-Err-clause-bad_item : goal.returns-in-Err-clause-bad_item
-returns-in-Err-clause-bad_item c = λ stream e.
-    let error = c.cause_of.ensures.bad_item stream (same_Err _ (causes.BadItem stream) e) in
-    let meets = rw (c.in-Err.is, error) at c.apply-answer.ensures.meets in
-    ap (λ (r : Reaction). r.reply) meets.0
+pub returns-in-Ok-clause-state : goal.returns-in-Ok-clause-state
+returns-in-Ok-clause-state g c = λ untouched.
+    on_ok_weaker c.keep.result (λ e. sym (ap (λ (r : Reaction). r.state) (rw c.in-Ok.is at (c.apply-answer.ensures.alone untouched).meets))) c.keep.ensures.ok
+
+pub returns-in-Ok-clause-stop_alone : goal.returns-in-Ok-clause-stop_alone
+returns-in-Ok-clause-stop_alone g c = λ untouched.
+    IfErr-weaker c.keep.result _ _
+    (λ cause e. rw e (goes_on_to c.args.replies.now c.args.store.now c.apply-answer.new.store c.args.step.now c.in-Ok.reply (rw c.in-Ok.is at c.apply-answer.ensures.settled) (rw c.in-Ok.is at (c.apply-answer.ensures.alone untouched).meets)))
+    c.keep.ensures.memory
+
+pub returns-in-Ok-clause-hosts : goal.returns-in-Ok-clause-hosts
+returns-in-Ok-clause-hosts g c = λ untouched. (c.apply-answer.ensures.alone untouched).ends
+
+pub returns-in-Err-clause-stop : goal.returns-in-Err-clause-stop
+returns-in-Err-clause-stop g c =
+    does_answering _ (Err (stop_of c.cause_of.result)) c.cause_of.ensures (rw c.in-Err.is at c.apply-answer.ensures.does)
+
+pub returns-in-Err-clause-stop_alone : goal.returns-in-Err-clause-stop_alone
+returns-in-Err-clause-stop_alone g c = λ untouched.
+    meets_stops c.args.replies.now c.args.store.now c.apply-answer.new.store c.args.step.now c.in-Err.error c.cause_of.result c.cause_of.ensures (rw c.in-Err.is at (c.apply-answer.ensures.alone untouched).meets)
+
+pub returns-in-Err-clause-hosts : goal.returns-in-Err-clause-hosts
+returns-in-Err-clause-hosts g c = λ untouched. (c.apply-answer.ensures.alone untouched).ends

@@ -9,12 +9,12 @@ pub returns-in-Ok-clause-nothing : goal.returns-in-Ok-clause-nothing
 returns-in-Ok-clause-nothing g c = search rules
 
 pub returns-in-Ok-write_whole-clause-complete : goal.returns-in-Ok-write_whole-clause-complete
-returns-in-Ok-write_whole-clause-complete g c = λ input steps f s long items.
-    inl (told_done (g.S.Source.left c.args.source.now) input c.in-Ok.ensures.told f.run f.input_is f.source long steps s items)
+returns-in-Ok-write_whole-clause-complete g c = λ input steps f s long alone items.
+    inl (told_done (g.S.Source.left c.args.source.now) input c.in-Ok.ensures.told f.run f.input_is f.source long steps s alone items)
 
 pub returns-in-Ok-write_whole-clause-bad_item : goal.returns-in-Ok-write_whole-clause-bad_item
-returns-in-Ok-write_whole-clause-bad_item g c = λ input steps f s long told state stream a.
-    inl (told_bad_item (g.S.Source.left c.args.source.now) input c.in-Ok.ensures.told f.run f.input_is f.source long steps s told state stream a)
+returns-in-Ok-write_whole-clause-bad_item g c = λ input steps f s long alone told state stream a.
+    inl (told_bad_item (g.S.Source.left c.args.source.now) input c.in-Ok.ensures.told f.run f.input_is f.source long steps s alone told state stream a)
 
 pub returns-in-Ok-write_whole-clause-bad_line : goal.returns-in-Ok-write_whole-clause-bad_line
 returns-in-Ok-write_whole-clause-bad_line g c = λ input line f bad long.

@@ -1,0 +1,171 @@
+-- Among host ends a store that is not trapped answers for itself, and is not trapped where it goes on.
+use Rattle.std.proofs.Common.{◌≡◌, ◌≢◌, ℕ, Bool, true, false, cond, List, [], ◌∷◌, take, drop, Option, Some, None, refl, sym, ◌∙◌}
+use Rattle.std.proofs.lemmas.Bool.{cond_both}
+use Rattle.strm_codes.specs.declared.codes.ReturnCode.{ReturnCode}
+use Rattle.strm_codes.specs.declared.codes.TransmitKind.{TransmitKind}
+use Rattle.strm_codes.specs.declared.refusals.Refusal.{Refusal}
+use Rattle.strm_buffers.specs.Listing.{Item}
+use Rattle.strm_buffers.specs.Said.{WriterSaid}
+use Rattle.strm_buffers.specs.HostRules.{breaks_as_writer}
+use Rattle.strm_machine.specs.State.{producer_at, is_host}
+use Rattle.strm_machine.specs.Acts.{act_of}
+use Rattle.strm_machine.specs.Plays.{is_settled}
+use Rattle.strm_machine.specs.Reactions.{reaction}
+use Rattle.strm_machine.specs.Sides.{opposite, end_of}
+use Rattle.strm_machine.specs.declared.acts.Act.{Act}
+use Rattle.strm_machine.specs.declared.acts.Act.TheVariants.{OnEnd, OnLoose, OnHost, Drive}
+use Rattle.strm_machine.specs.declared.acts.EndAct.TheVariants.{Operate, Drop}
+use Rattle.strm_machine.specs.declared.acts.HostAct.TheVariants.{New, Feed}
+use Rattle.strm_machine.specs.declared.acts.LooseAct.TheVariants.{Close}
+use Rattle.strm_machine.specs.declared.acts.NamedEnd.{NamedEnd}
+use Rattle.strm_machine.specs.declared.replies.Reply.{Reply}
+use Rattle.strm_machine.specs.declared.replies.Reply.TheVariants as replies
+use Rattle.strm_machine.specs.declared.stops.Stop.TheVariants.{HostFailed, HostBroke, BadItem, StoreTrapped}
+use Rattle.strm_machine.specs.declared.streams.HostEnd.{HostEnd}
+use Rattle.strm_machine.specs.declared.streams.HostEnd.TheVariants as ends
+use Rattle.strm_codes.specs.declared.codes.StreamResult.TheVariants as results
+use Rattle.strm_machine.specs.declared.streams.Operation.{Operation}
+use Rattle.strm_machine.specs.declared.streams.Owner.{Owner}
+use Rattle.strm_machine.specs.declared.streams.Owner.TheVariants.{Host, Gone}
+use Rattle.strm_machine.specs.declared.streams.Side.{Side}
+use Rattle.strm_machine.specs.declared.streams.Side.TheVariants.{Reading}
+use Rattle.strm_machine.specs.declared.streams.Stream.{Stream}
+use Rattle.strm_world.specs.World.{World, stream_in, writer_at, with_writer, leaves_writer, with_stream_in}
+use Rattle.strm_world.specs.Ends.{polled_writer}
+use Rattle.strm_world.specs.Outcomes.{Outcome, Goes, Stops, Stuck, stops, done, then_on, of_reply}
+use Rattle.strm_world.specs.Polls.{AfterWriter, is_failed, is_writer_poll, writer_judged, writer_says}
+use Rattle.strm_world.specs.Producing.{receives, with_over, produced_result, is_produced, produces, producer_turn}
+use Rattle.strm_world.specs.Settling.{answered_with, answered}
+use Rattle.strm_world.specs.Driving.{if_open, driven_by, drive_turn, driven}
+use Rattle.strm_world.specs.Attaching.{hosts_new, forsakes}
+use Rattle.strm_world.specs.HostRefusals.{refusal_in}
+use Rattle.strm_world.specs.Steps.{reacts, operates_by, drops_in, on_host, performs_in, unless_refused_in, outcome, step_of}
+use Rattle.strm_machine.specs.declared.steps.Step.{Step}
+use Rattle.strm_session.proofs.PlayLemmas.{RunsOn, reaction-runs}
+
+-- a world whose store is not trapped
+abbrev pub IsRunning : World → Type 0
+IsRunning world = world.state.trapped ≡ false
+
+-- what comes of a step of such a world
+abbrev pub Running : Outcome → Type 0
+Running (Goes reply world) = IsRunning world
+Running (Stops stop writers readers) = stop ≢ StoreTrapped
+Running Stuck = Unit {0}
+
+leaves-same : (a b : Owner) (world : World) → IsRunning world → IsRunning (leaves_writer a b world)
+leaves-same (Host n) Gone world t = t
+leaves-same _ _ world t = t
+
+with_stream-runs : (world : World) (s : ℕ) (stream : Stream) → IsRunning world → IsRunning (with_stream_in world s stream)
+unfolding with_stream_in
+with_stream-runs world s stream t = leaves-same (stream_in world s).writer.owner stream.writer.owner _ t
+
+then-runs : (o : Outcome) (next : World → Outcome) → Running o → ((w : World) → IsRunning w → Running (next w)) → Running (then_on o next)
+then-runs (Goes reply world) next r h = h world r
+then-runs (Stops stop writers readers) next r h = r
+then-runs Stuck next r h = tt
+
+failed_untrapped : (end : HostEnd) → HostFailed end ≢ StoreTrapped
+failed_untrapped end = λ e. cc
+
+broke_untrapped : (end : HostEnd) → HostBroke end ≢ StoreTrapped
+broke_untrapped end = λ e. cc
+
+bad_untrapped : (stream : ℕ) → BadItem stream ≢ StoreTrapped
+bad_untrapped stream = λ e. cc
+
+judged-runs : (world : World) (kind : TransmitKind) (n : ℕ) (said : WriterSaid) (next : AfterWriter) → IsRunning world → ((w : World) (x : WriterSaid) → IsRunning w → Running (next w x)) → Running (writer_judged world kind n said next)
+judged-runs world kind n said next t h =
+    let broke = stops (HostBroke (ends.Writer n)) world in
+    cond_both (is_failed said.answer) (stops (HostFailed (ends.Writer n)) world) (cond (breaks_as_writer kind said) broke (next world said)) Running
+    (λ f. failed_untrapped (ends.Writer n))
+    (λ f. cond_both (breaks_as_writer kind said) broke (next world said) Running (λ b. broke_untrapped (ends.Writer n)) (λ b. h world said t))
+
+says-runs : (world : World) (s n : ℕ) (room : Option ℕ) (finish : Bool) (said : List WriterSaid) (next : AfterWriter) → IsRunning world → ((w : World) (x : WriterSaid) → IsRunning w → Running (next w x)) → Running (writer_says world s n room finish said next)
+says-runs world s n room finish [] next t h = tt
+says-runs world s n room finish (said ∷ more) next t h =
+    let after = with_writer world n (polled_writer (writer_at world n) room said more) in
+    cond_both (is_writer_poll room finish said) (writer_judged after (stream_in world s).kind n said next) Stuck Running
+    (λ p. judged-runs after (stream_in world s).kind n said next t h) (λ p. tt)
+
+produced-runs : (world : World) (s n : ℕ) (read : Operation) → IsRunning world → Running (is_produced world s n read)
+produced-runs world s n read t =
+    says-runs world s n (Some read.left) read.asked (writer_at world n).coming
+    (λ after said. done (receives (with_over after n said.answer) s read (take read.left said.items) (produced_result said.answer (drop read.left said.items))))
+    t (λ w x r. with_stream-runs _ s _ r)
+
+produces-runs : (world : World) (s n : ℕ) (read : Operation) (items : List Item) → IsRunning world → Running (produces world s n read items)
+produces-runs world s n read (item ∷ items) t = with_stream-runs _ s _ t
+produces-runs world s n read [] t =
+    cond_both (producer_at world.state n).over (done (receives world s read [] (Some results.Dropped))) (is_produced world s n read) Running
+    (λ o. with_stream-runs _ s _ t) (λ o. produced-runs world s n read t)
+
+turn-runs : (world : World) (s n : ℕ) (read : Operation) → IsRunning world → Running (producer_turn world s n read)
+unfolding producer_turn
+turn-runs world s n read t = produces-runs world s n read _ t
+
+answered-runs : (world : World) (s : ℕ) (side : Side) (code : Option ReturnCode) → IsRunning world → Running (answered_with world s side code)
+answered-runs world s side (Some code) t = with_stream-runs world s _ t
+answered-runs world s side None t = t
+
+open-runs : (world : World) (operation : Option Operation) (turn : Operation → Outcome) → IsRunning world → ((o : Operation) → Running (turn o)) → Running (if_open world operation turn)
+open-runs world None turn t h = t
+open-runs world (Some operation) turn t h = cond_both operation.is_open (turn operation) (done world) Running (λ o. h operation) (λ o. t)
+
+driven_by-runs : (world : World) (s : ℕ) (stream : Stream) (owner : Owner) → IsRunning world → Running (driven_by world s stream owner)
+driven_by-runs world s stream (Host n) t = open-runs world stream.reader.operation _ t (λ o. turn-runs world s n o t)
+driven_by-runs world s stream _ t = t
+
+drive_turn-runs : (world : World) (s : ℕ) → IsRunning world → Running (drive_turn world s)
+unfolding drive_turn
+drive_turn-runs world s t = driven_by-runs world s (stream_in world s) (stream_in world s).writer.owner t
+
+driven-runs : (world : World) (streams : List ℕ) → IsRunning world → Running (driven world streams)
+driven-runs world [] t = t
+driven-runs world (s ∷ more) t = then-runs (drive_turn world s) _ (drive_turn-runs world s t) (λ w r. driven-runs w more r)
+
+reply-runs : (reply : Reply) (world : World) → (is_settled reply ≡ true → IsRunning world) → (reply ≡ replies.StoreTrapped → ⊥) → Running (of_reply reply world)
+reply-runs (replies.BadItem stream) world goes trapped = bad_untrapped stream
+reply-runs replies.StoreTrapped world goes trapped = absurd (trapped refl)
+reply-runs _ world goes trapped = goes refl
+
+reacts-runs : (world : World) (act : Act) → RunsOn (reaction world.state act) → Running (reacts world act)
+reacts-runs world act r = reply-runs (reaction world.state act).reply _ r.goes_on r.trapped
+
+forsakes-runs : (o : Outcome) (s : ℕ) (side : Side) → Running o → Running (forsakes o s side)
+forsakes-runs (Goes reply world) s side r = with_stream-runs world s _ r
+forsakes-runs (Stops stop writers readers) s side r = r
+forsakes-runs Stuck s side r = tt
+
+operates-runs : (world : World) (side : Side) (end : NamedEnd) (address count : ℕ) (owner : Owner) → IsRunning world → RunsOn (reaction world.state (OnEnd side end (Operate address count))) → Running (operates_by world side end address count owner)
+operates-runs world Reading end address count (Host n) t r =
+    then-runs _ _ (turn-runs _ _ n _ (with_stream-runs world _ _ t)) (λ w k. answered-runs w _ Reading _ k)
+operates-runs world side end address count _ t r = reacts-runs world (OnEnd side end (Operate address count)) r
+
+drops-runs : (world : World) (s : ℕ) (side : Side) (act : Act) → RunsOn (reaction world.state act) → Running (drops_in world s side act)
+drops-runs world s side act r =
+    cond_both (is_host (end_of (opposite side) (stream_in world s)).owner) (forsakes (reacts world act) s side) (reacts world act) Running
+    (λ h. forsakes-runs (reacts world act) s side (reacts-runs world act r)) (λ h. reacts-runs world act r)
+
+performs-runs : (world : World) (act : Act) → IsRunning world → RunsOn (reaction world.state act) → Running (performs_in world act)
+unfolding performs_in hosts_new
+performs-runs world (OnEnd side end (Operate address count)) t r = operates-runs world side end address count _ t r
+performs-runs world (OnEnd side end Drop) t r = drops-runs world _ side (OnEnd side end Drop) r
+performs-runs world (OnLoose reader Close) t r = drops-runs world reader Reading (OnLoose reader Close) r
+performs-runs world (OnHost n New) t r = t
+performs-runs world (OnHost n (Feed bytes)) t r = t
+performs-runs world Drive t r = driven-runs world _ t
+performs-runs world act t r = reacts-runs world act r
+
+unless-runs : (world : World) (act : Act) (o : Option Refusal) → IsRunning world → RunsOn (reaction world.state act) → Running (unless_refused_in world act o)
+unless-runs world act (Some refusal) t r = t
+unless-runs world act None t r = performs-runs world act t r
+
+pub step-runs : (world : World) (step : Step) → IsRunning world → Running (step_of world step)
+unfolding outcome
+step-runs world step t =
+    let act = act_of step in
+    cond_both world.state.trapped (stops StoreTrapped world) (unless_refused_in world act (refusal_in world act)) Running
+    (λ e. absurd (let wrong : true ≡ false = sym e ∙ t in cc))
+    (λ e. unless-runs world act (refusal_in world act) t (reaction-runs world.state step t))
