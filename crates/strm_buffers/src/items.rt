@@ -50,8 +50,8 @@ impl Items {
         }
     }
 
-    // The items that these bytes are.
-    pub(crate) fn of_bytes(payload: Payload, bytes: Vec<u8>, len: usize) -> Items
+    /// So many items, which these bytes are. Takes no memory.
+    pub fn of_bytes(payload: Payload, bytes: Vec<u8>, len: usize) -> Items
         requires { AreKept payload bytes.items 0 len }
         ensures { result ≡ kept_items payload bytes.items 0 len }
     {

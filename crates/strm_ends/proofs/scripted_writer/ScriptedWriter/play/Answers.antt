@@ -1,8 +1,8 @@
 use Rattle.std.proofs.Common.{◌≡◌}
 use Rattle.std.proofs.lemmas.List.Elements.{All-drop}
 use Rattle.strm_buffers.proofs.EndLemmas.{Fills-same}
-use Rattle.strm_buffers_tests.specs.declared.scripted_writer.WriterTurn.{WriterTurn}
-use Rattle.strm_buffers_tests.proofs.scripted_writer.ScriptedWriter.play.Goals as goal
+use Rattle.strm_ends.specs.declared.scripted_writer.WriterTurn.{WriterTurn}
+use Rattle.strm_ends.proofs.scripted_writer.ScriptedWriter.play.Goals as goal
 
 pub returns-in-Err-clause-fills : goal.returns-in-Err-clause-fills
 returns-in-Err-clause-fills c = Fills-same c.args.window.now

@@ -36,7 +36,7 @@ pub struct ScriptedWriter {
 }
 
 impl ScriptedWriter {
-    ghost use Rattle.strm_buffers_tests.specs.Scripts.{scripted_tells, unpolled_writer};
+    ghost use Rattle.strm_ends.specs.Scripts.{scripted_tells, unpolled_writer};
 
     /// A writer of these turns. Takes no memory.
     pub fn new(
@@ -67,7 +67,7 @@ impl HostWriter for ScriptedWriter {
     ghost use Rattle.std.specs.Prelude.{[], ◌++◌, drop, true};
     ghost use Rattle.strm_buffers.specs.Said.{IfAnswered, IfNoMemory};
     ghost use Rattle.strm_buffers.specs.Tells.{PollsWriter, KeepsWriter, Fills, writer_record};
-    ghost use Rattle.strm_buffers_tests.specs.Scripts.{scripted_tells, next_items, next_answer};
+    ghost use Rattle.strm_ends.specs.Scripts.{scripted_tells, next_items, next_answer};
 
     ghost writer_tells = { scripted_tells };
 
@@ -151,7 +151,7 @@ impl ScriptedWriter {
     ghost use Rattle.strm_buffers.specs.Windows.{room_of};
     ghost use Rattle.strm_buffers.specs.Said.{in_room, past_room};
     ghost use Rattle.strm_buffers.specs.Tells.{Fills, writer_record};
-    ghost use Rattle.strm_buffers_tests.specs.Scripts.{next_items, next_answer};
+    ghost use Rattle.strm_ends.specs.Scripts.{next_items, next_answer};
 
     // Sees that there is a turn to do: after the last, one without items.
     fn find_turn(&mut self) -> Result<(), OutOfMemory>

@@ -5,9 +5,9 @@ use Rattle.strm_buffers.specs.Windows.{room_of}
 use Rattle.strm_buffers.specs.Tells.{PollsWriter, writer_record}
 use Rattle.strm_buffers.specs.declared.answers.Answer.{Answer}
 use Rattle.strm_buffers.proofs.EndLemmas.{Fills-same, IfAnswered-turn_of}
-use Rattle.strm_buffers_tests.specs.Scripts.{scripted_tells, next_items}
-use Rattle.strm_buffers_tests.proofs.ScriptLemmas.{Turns, turns_poll, room_parts}
-use Rattle.strm_buffers_tests.proofs.scripted_writer.ScriptedWriterHostWriter.poll.Goals as goal
+use Rattle.strm_ends.specs.Scripts.{scripted_tells, next_items}
+use Rattle.strm_ends.proofs.ScriptLemmas.{Turns, turns_poll, room_parts}
+use Rattle.strm_ends.proofs.scripted_writer.ScriptedWriterHostWriter.poll.Goals as goal
 
 pub returns-in-Err-clause-fills : goal.returns-in-Err-clause-fills
 returns-in-Err-clause-fills c = Fills-same c.args.window.now

@@ -9,8 +9,8 @@ use Rattle.strm_buffers.specs.Said.{WriterSaid, in_room, past_room}
 use Rattle.strm_buffers.specs.Tells.{PollsWriter, Rises, writer_record}
 use Rattle.strm_buffers.specs.declared.answers.Answer.{Answer}
 use Rattle.strm_buffers.specs.declared.answers.Answer.TheVariants.{Pending, Completed, Cancelled, Dropped, Failed}
-use Rattle.strm_buffers_tests.specs.Scripts.{faults_of, faults_in, scripted_tells}
-use Rattle.strm_buffers_tests.specs.declared.scripted_writer.ScriptedWriter.{ScriptedWriter}
+use Rattle.strm_ends.specs.Scripts.{faults_of, faults_in, scripted_tells}
+use Rattle.strm_ends.specs.declared.scripted_writer.ScriptedWriter.{ScriptedWriter}
 
 -- what there is room for and what there is not are all
 pub room_parts : (room : Option ℕ) (xs : List Item) → in_room room xs ++ past_room room xs ≡ xs

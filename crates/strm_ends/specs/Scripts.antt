@@ -7,8 +7,8 @@ use Rattle.strm_buffers.specs.declared.answers.Answer.TheVariants.{Pending, Fail
 use Rattle.strm_buffers.specs.Listing.{Item}
 use Rattle.strm_buffers.specs.Said.{WriterSaid}
 use Rattle.strm_buffers.specs.Tells.{WriterTells}
-use Rattle.strm_buffers_tests.specs.declared.scripted_writer.WriterTurn.{WriterTurn}
-use Rattle.strm_buffers_tests.specs.declared.scripted_writer.ScriptedWriter.{ScriptedWriter}
+use Rattle.strm_ends.specs.declared.scripted_writer.WriterTurn.{WriterTurn}
+use Rattle.strm_ends.specs.declared.scripted_writer.ScriptedWriter.{ScriptedWriter}
 
 -- what the next turn produces: nothing after the last
 abbrev pub next_items : List WriterTurn → List Item
