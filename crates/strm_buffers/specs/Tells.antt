@@ -1,5 +1,5 @@
 -- What a host end tells of itself, and what each call does to it. Ours.
-use Rattle.std.specs.Prelude.{◌≡◌, ℕ, ◌<◌, ◌≤◌, Bool, true, List, [], ◌∷◌, ◌++◌, length, take, drop, Option}
+use Rattle.std.specs.Prelude.{◌≡◌, ℕ, ◌+◌, ◌-◌, ◌^◌, ◌≤◌, min, Bool, true, List, [], ◌∷◌, ◌++◌, length, take, drop, Option}
 use Rattle.std.specs.Option.{option_map}
 use Rattle.strm_codes.specs.declared.codes.TransmitKind.{TransmitKind}
 use Rattle.strm_codes.specs.declared.payloads.Payload.{Payload}
@@ -44,9 +44,17 @@ pub record ReaderTells : Type 0 where
 
 -- THE CALLS OF A HOST WRITER
 
+-- one more, in a counter of 64 bits that stands still at its end
+abbrev pub one_more : ℕ → ℕ
+one_more n = min (n + 1) (2 ^ 64 - 1)
+
+-- a count of faults rose, or stands at its counter's end
+abbrev pub Rose : ℕ → ℕ → Type 0
+Rose old new = one_more old ≤ new
+
 -- Failed comes only where the count of faults rose, which never falls
 abbrev pub Rises : Answer → ℕ → ℕ → Type 0
-Rises Failed old new = old < new
+Rises Failed old new = Rose old new
 Rises answer old new = old ≤ new
 
 -- a poll that adds this record: what it had room for is marked, the rest is held

@@ -1,0 +1,4 @@
+pub mod ErasedLemmas
+pub mod DirectLemmas
+pub mod FutureLemmas
+pub mod ListLemmas

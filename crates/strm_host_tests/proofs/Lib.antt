@@ -1,0 +1,2 @@
+pub mod CountdownLemmas
+pub mod GreetingLemmas

@@ -1,0 +1,15 @@
+use Rattle.std.proofs.Common.{arith}
+use Rattle.strm_host_tests.proofs.GreetingLemmas.{greets_fills, few_greeted, never_failed}
+use Rattle.strm_host_tests.proofs.greeting.GreetingStreamProducer.TheImpl.Goals as goal
+
+pub poll_produce-tells : goal.poll_produce-tells
+poll_produce-tells x x' c =
+    let old = c.args.destination.produced.now.window in
+    let new = c.new.destination.0.now.window in
+    record {
+      fills = greets_fills old new c.ensures.greets;
+      few = omega (arith, few_greeted old new c.ensures.greets c.requires.nothing_marked, c.ensures.few);
+      failed = never_failed c.result c.ensures.turn;
+      faults = omega arith;
+      plan = tt;
+    }
