@@ -68,7 +68,7 @@ mod tests {
     #[test]
     fn a_boxed_slice_gives_all(rt: HostRuntime) -> Result<(), Fail> {
         let alloc = rt.alloc();
-        let items = [(7u8, true), (8, false)].to_vec(alloc)?.into_boxed_slice();
+        let items = [7u16, 8].to_vec(alloc)?.into_boxed_slice();
         let mut writer: Box<dyn HostWriter> = Box::new(alloc, Erased::stream(alloc, items))?;
         let (turn, items) = polled(alloc, &mut writer, false)?;
         assert_eq!(rt; turn, Turn::Ready(StreamResult::Dropped));
