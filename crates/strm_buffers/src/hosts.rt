@@ -1,11 +1,65 @@
 //! The host ends of a store. Ours.
 
+ghost use Rattle.std.specs.Prelude.{◌≡◌, ◌<◌, length, OnOk, OnErr};
+ghost use Rattle.strm_buffers.specs.AllTells.{boxes_tell};
+ghost use Rattle.strm_buffers.specs.Tells.{told_by, with_told, ClosesWriter, fed};
+
+use crate::boxes;
 use crate::readers::HostReader;
 use crate::writers::HostWriter;
+use strm_codes::codes::TransmitKind;
+use strm_codes::counts::OutOfMemory;
+use strm_codes::payloads::Payload;
 
 /// Host writers and host reader ends, each named by its place.
 #[derive(Drop)]
 pub struct Hosts {
     pub writers: Vec<Box<dyn HostWriter>>,
     pub readers: Vec<Box<dyn HostReader>>,
+}
+
+/// The calls of the host writer at a place.
+#[tactic(auto, using(crate::proofs::BoxLemmas::boxes))]
+impl Hosts {
+    /// How many host writers there are.
+    pub fn count_writers(&self) -> usize
+        ensures { result ≡ length (boxes_tell writer_tells reader_tells self.now).writers }
+    {
+        self.writers.len()
+    }
+
+    /// `HostWriter::kind`.
+    pub fn writer_kind(&self, n: usize) -> TransmitKind
+        requires { n < length (boxes_tell writer_tells reader_tells self.now).writers }
+        ensures { result ≡ (told_by (boxes_tell writer_tells reader_tells self.now) n).kind }
+    {
+        boxes::writer_kind(&self.writers[n])
+    }
+
+    /// `HostWriter::payload`.
+    pub fn writer_payload(&self, n: usize) -> Payload
+        requires { n < length (boxes_tell writer_tells reader_tells self.now).writers }
+        ensures { result ≡ (told_by (boxes_tell writer_tells reader_tells self.now) n).payload }
+    {
+        boxes::writer_payload(&self.writers[n])
+    }
+
+    /// `HostWriter::feed`.
+    #[tactic(auto, using(crate::proofs::BoxLemmas::same_boxes))]
+    pub fn feed(&mut self, n: usize, bytes: &[u8]) -> Result<(), OutOfMemory>
+        requires { n < length (boxes_tell writer_tells reader_tells self.old).writers }
+        ensures ok { OnOk result ((boxes_tell writer_tells reader_tells self.new) ≡ with_told (boxes_tell writer_tells reader_tells self.old) n (fed (told_by (boxes_tell writer_tells reader_tells self.old) n) bytes.now)) }
+        ensures err { OnErr result ((boxes_tell writer_tells reader_tells self.new) ≡ (boxes_tell writer_tells reader_tells self.old)) }
+    {
+        boxes::feed(&mut self.writers[n], bytes)
+    }
+
+    /// `HostWriter::close`.
+    pub fn close_writer(&mut self, n: usize)
+        requires { n < length (boxes_tell writer_tells reader_tells self.old).writers }
+        ensures closes { ClosesWriter (told_by (boxes_tell writer_tells reader_tells self.old) n) (told_by (boxes_tell writer_tells reader_tells self.new) n) }
+        ensures others { (boxes_tell writer_tells reader_tells self.new) ≡ with_told (boxes_tell writer_tells reader_tells self.old) n (told_by (boxes_tell writer_tells reader_tells self.new) n) }
+    {
+        boxes::close_writer(&mut self.writers[n])
+    }
 }
