@@ -14,6 +14,7 @@ mod tests {
     use std::test::Fail;
     use strm_buffers::answers::{Answer, StreamResult, Turn};
     use strm_buffers::boxes::{close_writer, feed, grant, held_by, poll_reader, poll_writer};
+    use strm_buffers::hosts::Hosts;
     use strm_buffers::items::Items;
     use strm_buffers::offers::Offer;
     use strm_buffers::readers::HostReader;
@@ -91,6 +92,28 @@ mod tests {
         close_writer(&mut writer);
         assert_eq!(rt; held_by(&writer), 0);
         assert_eq!(rt; writer.records(), 1);
+        Ok(())
+    }
+
+    #[test]
+    fn host_writers_are_named_by_their_place(rt: HostRuntime) -> Result<(), Fail> {
+        let alloc = rt.alloc();
+        let silent = SilentWriter::new(alloc, TransmitKind::Future, BYTES);
+        let silent: Box<dyn HostWriter> = Box::new(alloc, silent)?;
+        let queue = QueueWriter::new(alloc, TransmitKind::Stream, BYTES);
+        let queue: Box<dyn HostWriter> = Box::new(alloc, queue)?;
+        let mut hosts = Hosts {
+            writers: Vec::new(alloc),
+            readers: Vec::new(alloc),
+        };
+        hosts.writers.push(silent)?;
+        hosts.writers.push(queue)?;
+        assert_eq!(rt; hosts.count_writers(), 2);
+        assert_eq!(rt; hosts.writer_kind(0), TransmitKind::Future);
+        assert_eq!(rt; hosts.writer_payload(1), BYTES);
+        hosts.feed(1, [7u8, 8].as_slice())?;
+        hosts.close_writer(0);
+        assert_eq!(rt; hosts.count_writers(), 2);
         Ok(())
     }
 

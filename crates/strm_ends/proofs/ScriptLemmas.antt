@@ -1,5 +1,6 @@
 -- A scripted writer meets what a poll owes.
 use Rattle.std.proofs.Common.{◌≡◌, ℕ, ◌+◌, Bool, List, [], ◌∷◌, ◌++◌, Option, Some, None, refl, arith, append-nil}
+use Rattle.std.proofs.lemmas.Bool.Decides.{nat_tests}
 use Rattle.std.proofs.lemmas.List.{take-append-drop}
 use Rattle.strm_codes.specs.Layout.{scalars_of}
 use Rattle.strm_memory.specs.Items.{AreItems}
@@ -26,7 +27,7 @@ more_faults Pending n = omega arith
 more_faults Completed n = omega arith
 more_faults Cancelled n = omega arith
 more_faults Dropped n = omega arith
-more_faults Failed n = omega arith
+more_faults Failed n = grind (arith, nat_tests)
 
 -- the record of a poll
 abbrev pub said_of : Lent → Bool → List Item → Answer → WriterSaid

@@ -1,6 +1,7 @@
 use Rattle.std.proofs.Common.{◌≡◌, ◌+◌, zero, suc, ℕ, List, [], ◌∷◌, drop, Some, refl, ◌∙◌, arith}
 use Rattle.std.specs.Prelude.{slice_get}
-use Rattle.strm_buffers.proofs.PollingLemmas.{marks_none, mark_next}
+use Rattle.strm_buffers.proofs.EndLemmas.{Fills-same}
+use Rattle.strm_buffers.proofs.PollingLemmas.{mark_next}
 use Rattle.strm_ends.proofs.feeds.Feeds.put.Goals as goal
 
 -- the item behind others
@@ -10,9 +11,9 @@ get-behind [] (suc at) k = refl
 get-behind (x ∷ xs) (suc at) k = let more : suc at + k ≡ suc (at + k) = omega arith in rw more (get-behind xs at k)
 
 pub loop-index-init : goal.loop-index-init
-loop-index-init c = marks_none c.args.window.now (drop c.args.start c.args.self.now.items) c.requires.nothing_marked
+loop-index-init c = record { fills = Fills-same c.args.window.now; marked = c.requires.nothing_marked }
 
 pub loop-index-preserved : goal.loop-index-preserved
 loop-index-preserved c =
-    mark_next c.args.window.now c.loop-index.window c.put.new.self (drop c.args.start c.args.self.now.items) c.get-item.result c.loop-index.index c.args.count c.requires.nothing_marked c.requires.room c.sound.ensures c.loop-index-test.true c.loop-index.invariant
+    mark_next c.args.window.now c.loop-index.window c.put.new.self (drop c.args.start c.args.self.now.items) c.get-item.result c.loop-index.index c.args.count c.sound.ensures c.requires.room c.loop-index-test.true c.loop-index.invariant
     (get-behind c.args.self.now.items c.args.start c.loop-index.index ∙ c.get-item.ensures.exact) c.in-Ok.ensures.ok
