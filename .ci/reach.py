@@ -11,7 +11,7 @@ import os
 import re
 
 # Ghost members that say nothing to a caller: the representation, and proofs.
-UNSAID = re.compile(r"invariant|inverse|coded|laws|total|\w+_ok|matches_\w+|respects_\w+")
+UNSAID = re.compile(r"invariant|inverse|coded|laws|apart|total|\w+_ok|matches_\w+|respects_\w+")
 
 Definition = collections.namedtuple("Definition", "home path name line is_public is_told count text")
 NAME = r"[^\s(){}\[\],;:.λ\"◌]+"
@@ -230,6 +230,7 @@ class Source:
         for item in self.items:
             item["is_public"] |= item["is_marked"] and item["name"] in self.offered
         self.types = {item["name"] for item in self.items if item["is_public"]}
+        self.own = {item["name"] for item in self.items if item["kind"] in ("struct", "enum", "trait")}
         for item in self.items:
             self.take(item)
 
@@ -265,7 +266,7 @@ class Source:
             self.clauses += [(text, scope) for text in item["clauses"]]
         elif kind in ("struct", "enum", "trait") and item["is_public"]:
             self.take_members(item, True)
-        elif kind == "impl" and item["owner"] in self.types:
+        elif kind == "impl" and (item["owner"] in self.types or item["trait"] in self.types and item["owner"] not in self.own):
             self.take_members(item, item["trait"] is not None)
 
     def take_members(self, item, are_public):

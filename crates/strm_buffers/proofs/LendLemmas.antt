@@ -90,10 +90,10 @@ kept_with bytes kept address marked len room = kept_after room kept (slice_range
 abbrev window_over : (bytes kept : List ℕ) (address marked : ℕ) → Option ℕ → Bool → List ℕ → Lent
 window_over bytes kept address marked room prepared w = with_unmarked (window_kept (One U8) bytes kept address room marked prepared) w
 
-module _ (bytes kept there new w : List ℕ) (space more address r marked : ℕ) (prepared : Bool) where
-  lend_memory : IsWindow (One U8) bytes kept space address (Some r) marked prepared → there ≡ bytes_at bytes (address + marked) (r - marked) → space ≤ more
+module _ (bytes kept there new w : List ℕ) (space more address r marked : ℕ) (prepared : Bool) (win : IsWindow (One U8) bytes kept space address (Some r) marked prepared) where
+  lend_memory : there ≡ bytes_at bytes (address + marked) (r - marked) → space ≤ more
       → new ≡ over_from bytes w (address + marked) → Kept (One U8) new (kept_after (Some r) kept there) more address (Some r) marked prepared (window_over bytes kept address marked (Some r) prepared w)
-  lend_memory win t h e =
+  lend_memory t h e =
       let left = r - marked in
       let at = address + marked in
       let kept' : List ℕ = kept_after (Some r) kept there in
@@ -171,24 +171,24 @@ module _ (bytes kept there new w : List ℕ) (space more address marked : ℕ) (
 pub there_is : (bytes : List ℕ) (address r marked : ℕ) → marked ≤ r → slice_range bytes (address + marked) (address + r) ≡ bytes_at bytes (address + marked) (r - marked)
 there_is bytes address r marked h = let e : address + r - (address + marked) ≡ r - marked = omega (arith, h) in ap (λ j. take j (drop (address + marked) bytes)) e
 
-module _ (bytes kept new w : List ℕ) (space more address marked len : ℕ) where
-  lend_room : (room : Option ℕ) (prepared : Bool) → IsWindow (One U8) bytes kept space address room marked prepared → space ≤ more
-      → new ≡ over_from bytes w (address + marked) → Kept (One U8) new (kept_with bytes kept address marked len room) more address room marked prepared (window_over bytes kept address marked room prepared w)
-  lend_room None prepared win h e = lend_between bytes kept (slice_range bytes (address + marked) len) new w space more address marked prepared win h e
-  lend_room (Some r) prepared win h e = lend_memory bytes kept (slice_range bytes (address + marked) (address + r)) new w space more address r marked prepared win (there_is bytes address r marked win.inside.0) h e
+module _ (bytes kept new w : List ℕ) (space more address marked len : ℕ) (h : space ≤ more) (e : new ≡ over_from bytes w (address + marked)) where
+  lend_room : (room : Option ℕ) (prepared : Bool) → IsWindow (One U8) bytes kept space address room marked prepared
+      → Kept (One U8) new (kept_with bytes kept address marked len room) more address room marked prepared (window_over bytes kept address marked room prepared w)
+  lend_room None prepared win = lend_between bytes kept (slice_range bytes (address + marked) len) new w space more address marked prepared win h e
+  lend_room (Some r) prepared win = lend_memory bytes kept (slice_range bytes (address + marked) (address + r)) new w space more address r marked prepared win (there_is bytes address r marked win.inside.0) h e
 
-module _ (payload : Payload) (bytes kept kept' w : List ℕ) (len space more address marked : ℕ) (room : Option ℕ) (prepared : Bool) where
+module _ (payload : Payload) (bytes kept kept' w : List ℕ) (len space more address marked : ℕ) (room : Option ℕ) (prepared : Bool) (v : Lent) (win : IsWindow payload bytes kept space address room marked prepared) (e : window_kept payload bytes kept address room marked prepared ≡ v) where
   -- the same of a window, whichever its room, and of the vector that was lent
-  pub lend_on : (v : Lent) → IsWindow payload bytes kept space address room marked prepared → window_kept payload bytes kept address room marked prepared ≡ v → v.payload ≡ One U8 → space ≤ more → len ≡ length bytes
+  pub lend_on : v.payload ≡ One U8 → space ≤ more → len ≡ length bytes
       → kept' ≡ kept_with bytes kept address marked len room
       → Kept payload (put_together bytes w (address + marked) len) kept' more address room marked prepared (with_unmarked v w)
-  lend_on v win e u h n k =
+  lend_on u h n k =
       let p : payload ≡ One U8 = ap (λ (x : Lent). x.payload) e ∙ u in
       let one : item_size (scalars_of payload) * marked ≡ marked = ap (λ (q : Payload). item_size (scalars_of q) * marked) p ∙ omega arith in
       let new : List ℕ = put_together bytes w (address + marked) len in
       let is : new ≡ over_from bytes w (address + marked) = written_is bytes w (address + marked) len n (omega (arith, one, win.lie.within)) in
       let l = subst (λ (q : Payload). IsWindow q bytes kept space address room marked prepared → Kept q new (kept_with bytes kept address marked len room) more address room marked prepared (with_unmarked (window_kept q bytes kept address room marked prepared) w)) (sym p)
-      (λ w'. lend_room bytes kept new w space more address marked len room prepared w' h is) win in
+      (λ w'. lend_room bytes kept new w space more address marked len h is room prepared w') win in
       subst (λ (l : List ℕ). Kept payload new l more address room marked prepared (with_unmarked v w)) (sym k)
       (record { is_window = l.is_window; is = l.is ∙ ap (λ (x : Lent). with_unmarked x w) e })
 

@@ -8,3 +8,4 @@ pub mod OfferLemmas
 pub mod EndLemmas
 pub mod PollingLemmas
 pub mod SoundLemmas
+pub mod BoxLemmas

@@ -1,6 +1,6 @@
 -- Items marked one after another, and an offer's taken one after another.
-use Rattle.std.proofs.Common.{◌≡◌, ℕ, ◌+◌, ◌*◌, ◌<◌, ◌≤◌, List, [], ◌∷◌, ◌++◌, length, take, drop, Bool, true, false, Option, Some, None, refl, sym, ap, ◌∙◌, arith, append_assoc, length-drop}
-use Rattle.std.proofs.lemmas.List.{length-take-le, take_more, take-append-drop}
+use Rattle.std.proofs.Common.{◌≡◌, ℕ, ◌+◌, ◌*◌, ◌<◌, ◌≤◌, List, [], ◌∷◌, ◌++◌, length, take, drop, Bool, true, false, Option, Some, None, refl, sym, ap, subst, ◌∙◌, arith, append_assoc, length-drop}
+use Rattle.std.proofs.lemmas.List.{length-take, length-take-le, take_more, take-append-drop, take-take, take_at, drop_at, drop-append-le}
 use Rattle.std.proofs.Math.Nat.{mul-le-mul_left}
 use Rattle.std.proofs.Math.Seq.{take-append-add, drop-append-add}
 use Rattle.std.proofs.lemmas.Option.{get_or_from_slice_get, slice_get_within}
@@ -78,34 +78,78 @@ pub room_fewer : (place : Place) (n k : ℕ) → HasRoom place 0 n → k ≤ n �
 room_fewer (Memory memory address room) n k h l = omega (arith, h, l)
 room_fewer Between n k h l = omega (arith, h, l)
 
--- the first so many items are marked, where none were
+-- what stands in front of a list is not longer
+front_less : {A : Type 0} (xs ys : List A) → take (length xs) ys ≡ xs → length xs ≤ length ys
+front_less xs ys e = omega (arith, ap length e, length-take (length xs) ys)
+
+-- behind so many, and behind more
+drop_parts : {A : Type 0} (n : ℕ) (xs ys : List A) → n ≤ length xs → take (length xs) ys ≡ xs → drop n ys ≡ drop n xs ++ drop (length xs) ys
+drop_parts n xs ys h e =
+    let parts : xs ++ drop (length xs) ys ≡ ys = ap (λ l. l ++ drop (length xs) ys) (sym e) ∙ take-append-drop (length xs) ys in
+    ap (drop n) (sym parts) ∙ drop-append-le n xs (drop (length xs) ys) h
+
+take_parts : {A : Type 0} (n : ℕ) (xs ys : List A) → n ≤ length xs → take (length xs) ys ≡ xs → take n ys ≡ take n xs
+take_parts n xs ys h e = sym (take-take n (length xs) ys h) ∙ ap (take n) e
+
+module _ (payload : Payload) where
+  -- a place with items, and with more behind them
+  stored_in-then : (place next : Place) (prepared : Bool) (n k : ℕ) (xs ys : List Item) → next ≡ stored_in (scalars_of payload) place n xs → IsSoundPlace payload place prepared → HasRoom next k 0 → k ≡ n + length xs → stored_in (scalars_of payload) next k ys ≡ stored_in (scalars_of payload) place n (xs ++ ys)
+  stored_in-then Between next prepared n k xs ys e s h j = ap (λ p. stored_in (scalars_of payload) p k ys) e
+  stored_in-then (Memory memory address room) next prepared n k xs ys e s h j =
+      let r = subst (λ p. HasRoom p k 0) e h in
+      ap (λ p. stored_in (scalars_of payload) p k ys) e ∙ ap (λ i. stored_in (scalars_of payload) (stored_in (scalars_of payload) (Memory memory address room) n xs) i ys) j
+      ∙ stored_in-behind payload (Memory memory address room) prepared n xs ys s (omega (arith, r, j))
+
+-- a window that is filled further
+pub Fills-then : (w v u : Lent) → IsSoundPlace w.payload w.place w.prepared → HasRoom v.place (length v.marked) 0 → Fills w v → Fills v u → Fills w u
+Fills-then w v u s h f g =
+    let n = length w.marked in
+    let k = length v.marked in
+    let least : n ≤ k = front_less w.marked v.marked f.marked in
+    let behind : drop n u.marked ≡ drop n v.marked ++ drop k u.marked = drop_parts n v.marked u.marked least g.marked in
+    let count : k ≡ n + length (drop n v.marked) = omega (arith, length-drop n v.marked, least) in
+    record {
+      payload = g.payload ∙ f.payload;
+      place = g.place ∙ ap (λ p. stored_in (scalars_of p) v.place k (drop k u.marked)) f.payload
+          ∙ stored_in-then w.payload w.place v.place w.prepared n k (drop n v.marked) (drop k u.marked) f.place s h count
+          ∙ ap (stored_in (scalars_of w.payload) w.place n) (sym behind);
+      marked = take_parts n v.marked u.marked least g.marked ∙ f.marked;
+      prepared = g.prepared ∙ f.prepared;
+    }
+
+-- a window into which items are put
+pub Fills-put : (w : Lent) (xs : List Item) → Fills w (with_items w xs)
+Fills-put w xs =
+    let there : drop (length w.marked) (w.marked ++ xs) ≡ xs = drop_at w.marked xs (length w.marked) refl in
+    record {
+      payload = refl;
+      place = ap (stored_in (scalars_of w.payload) w.place (length w.marked)) (sym there);
+      marked = take_at w.marked xs (length w.marked) refl;
+      prepared = refl;
+    }
+
+-- the first so many items are marked
 pub record MarksFirst (w v : Lent) (xs : List Item) (n : ℕ) : Type 0 where
   pub fills : Fills w v
   pub marked : v.marked ≡ take n xs
 
--- none of them
-pub marks_none : (w : Lent) (xs : List Item) → w.marked ≡ [] → MarksFirst w w xs 0
+-- those that were before
+pub marks_none : (w : Lent) (xs : List Item) → w.marked ≡ take (length w.marked) xs → MarksFirst w w xs (length w.marked)
 marks_none w xs m = record { fills = Fills-same w; marked = m }
 
+-- a filled place has as much room in all
+room_then : (ss : List Scalar) (place next : Place) (n k count : ℕ) (xs : List Item) → next ≡ stored_in ss place n xs → HasRoom place 0 count → k ≤ count → HasRoom next k 0
+room_then ss Between next n k count xs e h l = subst (λ p. HasRoom p k 0) (sym e) (omega (arith, h, l))
+room_then ss (Memory memory address room) next n k count xs e h l = subst (λ p. HasRoom p k 0) (sym e) (omega (arith, h, l))
+
 -- one more of them
-pub mark_next : (w v u : Lent) (xs : List Item) (x : Item) (i count : ℕ) → w.marked ≡ [] → HasRoom w.place 0 count → IsSoundPlace w.payload w.place w.prepared → i < count → MarksFirst w v xs i → slice_get xs i ≡ Some x → u ≡ with_items v (x ∷ []) → MarksFirst w u xs (i + 1)
-mark_next w v u xs x i count m h s l f g p =
-    let ss = scalars_of w.payload in
-    let size : length (take i xs) ≡ i = length-take-le i xs (omega (arith, slice_get_within xs i x g)) in
-    let room : HasRoom w.place 0 (length (take i xs)) = rw size (room_fewer w.place count i h (omega (arith, l))) in
-    let none : 0 + length (take i xs) ≡ length (take i xs) = omega arith in
-    let before : v.place ≡ stored_in ss w.place 0 (take i xs) = f.fills.place ∙ rw (m, f.marked) refl in
-    let marked : u.marked ≡ take (i + 1) xs = ap (λ (y : Lent). y.marked) p ∙ ap (λ ys. ys ++ x ∷ []) f.marked ∙ take_next xs i x g in
-    let place : u.place ≡ stored_in ss w.place 0 (take (i + 1) xs) =
-    ap (λ (y : Lent). y.place) p ∙ rw (f.fills.payload, before, f.marked, ← none) (stored_in-behind w.payload w.place w.prepared 0 (take i xs) (x ∷ []) s room) ∙ ap (stored_in ss w.place 0) (take_next xs i x g) in
+pub mark_next : (w v u : Lent) (xs : List Item) (x : Item) (i count : ℕ) → IsSoundPlace w.payload w.place w.prepared → HasRoom w.place 0 count → i < count → MarksFirst w v xs i → slice_get xs i ≡ Some x → u ≡ with_items v (x ∷ []) → MarksFirst w u xs (i + 1)
+mark_next w v u xs x i count s h l f g p =
+    let size : length v.marked ≤ count = omega (arith, ap length f.marked, length-take i xs, l) in
+    let room = room_then (scalars_of w.payload) w.place v.place (length w.marked) (length v.marked) count (drop (length w.marked) v.marked) f.fills.place h size in
     record {
-      fills = record {
-        payload = ap (λ (y : Lent). y.payload) p ∙ f.fills.payload;
-        place = place ∙ rw (m, marked) refl;
-        marked = rw m refl;
-        prepared = ap (λ (y : Lent). y.prepared) p ∙ f.fills.prepared;
-      };
-      marked = marked;
+      fills = Fills-then w v u s room f.fills (subst (Fills v) (sym p) (Fills-put v (x ∷ [])));
+      marked = ap (λ (y : Lent). y.marked) p ∙ ap (λ ys. ys ++ x ∷ []) f.marked ∙ take_next xs i x g;
     }
 
 -- no items are good

@@ -1,9 +1,11 @@
 -- What holds of every window that is kept.
-use Rattle.std.proofs.Common.{◌≡◌, ℕ, ◌+◌, ◌-◌, ◌*◌, ◌≤◌, Bool, List, length, Option, Some, None, subst, arith, length-drop}
+use Rattle.std.proofs.Common.{◌≡◌, ℕ, ◌+◌, ◌-◌, ◌*◌, ◌<◌, ◌≤◌, Bool, List, length, take, drop, Option, Some, None, ap, subst, ◌∙◌, arith, length-drop}
+use Rattle.std.proofs.lemmas.List.{take-take, length-take-le}
 use Rattle.strm_codes.specs.Layout.{scalars_of, item_size}
 use Rattle.strm_codes.specs.declared.payloads.Payload.{Payload}
 use Rattle.strm_buffers.specs.Windows.{Lent, last_of, place_kept, window_kept, IsRoom, IsWindow, IsSoundPlace}
-use Rattle.strm_buffers.proofs.ListingLemmas.{cut}
+use Rattle.strm_buffers.proofs.ListingLemmas.{cut, length-items_in, lie_same}
+use Rattle.strm_buffers.proofs.MarkLemmas.{Cut}
 use Rattle.strm_buffers.proofs.PutLemmas.{length-put_at}
 
 module _ (payload : Payload) (bytes kept : List ℕ) (space address marked : ℕ) where
@@ -21,3 +23,19 @@ module _ (payload : Payload) (bytes kept : List ℕ) (space address marked : ℕ
           let most : length (last_of n kept) ≤ n = omega (arith, length-drop (length kept - n) kept) in
           let size = length-put_at bytes (last_of n kept) (address + w * marked) (omega (arith, most, parts, i.1)) in
           (omega (arith, size, i.1), i.2)
+
+  -- a copy of the marked items, kept from its first byte on
+  pub marked_again : (new : List ℕ) (end : ℕ) (room : Option ℕ) (prepared : Bool) (v : Lent) → IsWindow payload bytes kept space address room marked prepared → window_kept payload bytes kept address room marked prepared ≡ v → length v.marked < 4294967295 → end ≡ address + item_size (scalars_of payload) * marked → new ≡ take (end - address) (drop address bytes) → Cut payload new marked v
+  marked_again new end room prepared v w e few at is =
+      let ss = scalars_of payload in
+      let all = ap (λ (x : Lent). length x.marked) e in
+      let count = length-items_in ss bytes address marked w.lie in
+      let n = item_size ss * marked in
+      let part : new ≡ take n (drop address bytes) = is ∙ ap (λ j. take j (drop address bytes)) (omega (arith, at)) in
+      let same : take n new ≡ take n (drop address bytes) = ap (take n) part ∙ take-take n n (drop address bytes) (omega arith) in
+      let size : length new ≡ n = ap length part ∙ length-take-le n (drop address bytes) (omega (arith, length-drop address bytes, w.lie.within)) in
+      let l = lie_same ss bytes new address 0 marked w.lie same (omega (arith, size)) in
+      record {
+        kept = record { all = omega (arith, size); lie = l.lie; few = omega (arith, all, count, few) };
+        items = l.is ∙ ap (λ (x : Lent). x.marked) e;
+      }

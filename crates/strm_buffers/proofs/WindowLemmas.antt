@@ -48,15 +48,20 @@ placed_byte m kept at left x k h f i =
     ∙ put_at-kept m kept (b.byte ∷ []) at left (inr k) h i
     ∙ sym (e (put_at m at (last_of left kept)) (omega (arith, all, h, i)))
 
-pub placed : (payload : Payload) (m kept : List ℕ) (at left : ℕ) (x : Item) → KeepsRest payload kept left → 1 ≤ left → FitsItem (scalars_of payload) x → at + item_size (scalars_of payload) * left ≤ length m
-    → put_at (stored_at (scalars_of payload) m at (x ∷ [])) (at + item_size (scalars_of payload)) (last_of (item_size (scalars_of payload) * (left - 1)) kept) ≡ stored_at (scalars_of payload) (put_at m at (last_of (item_size (scalars_of payload) * left) kept)) at (x ∷ [])
+-- an item stored, and then what is kept put back behind it, is all put back and then the item stored
+abbrev IsPlaced : Payload → (m kept : List ℕ) (at left : ℕ) → Item → Type 0
+IsPlaced payload m kept at left x =
+    let ss = scalars_of payload in let w = item_size ss in
+    put_at (stored_at ss m at (x ∷ [])) (at + w) (last_of (w * (left - 1)) kept) ≡ stored_at ss (put_at m at (last_of (w * left) kept)) at (x ∷ [])
+
+pub placed : (payload : Payload) (m kept : List ℕ) (at left : ℕ) (x : Item) → KeepsRest payload kept left → 1 ≤ left → FitsItem (scalars_of payload) x → at + item_size (scalars_of payload) * left ≤ length m → IsPlaced payload m kept at left x
 placed payload m kept at left x (inl e) h f i =
     let ss = scalars_of payload in let w = item_size ss in
     let none : (n : ℕ) → last_of n kept ≡ [] = λ n. ap (last_of n) e ∙ last_nil n in
     ap (put_at (stored_at ss m at (x ∷ [])) (at + w)) (none (w * (left - 1))) ∙ put_at-nil (stored_at ss m at (x ∷ [])) (at + w)
     ∙ sym (ap (λ l. stored_at ss l at (x ∷ [])) (ap (put_at m at) (none (w * left)) ∙ put_at-nil m at))
 placed payload m kept at left x (inr (u, k)) h f i =
-    subst (λ (p : Payload). FitsItem (scalars_of p) x → at + item_size (scalars_of p) * left ≤ length m → put_at (stored_at (scalars_of p) m at (x ∷ [])) (at + item_size (scalars_of p)) (last_of (item_size (scalars_of p) * (left - 1)) kept) ≡ stored_at (scalars_of p) (put_at m at (last_of (item_size (scalars_of p) * left) kept)) at (x ∷ [])) (sym u)
+    subst (λ (p : Payload). FitsItem (scalars_of p) x → at + item_size (scalars_of p) * left ≤ length m → IsPlaced p m kept at left x) (sym u)
     (λ g j. let a : 1 * (left - 1) ≡ left - 1 = omega arith in let b : 1 * left ≡ left = omega arith in
     ap (λ n. put_at (stored_at (U8 ∷ []) m at (x ∷ [])) (at + 1) (last_of n kept)) a ∙ placed_byte m kept at left x k h g (omega (arith, b, j)) ∙ ap (λ n. stored_at (U8 ∷ []) (put_at m at (last_of n kept)) at (x ∷ [])) (sym b)) f i
 
@@ -79,8 +84,12 @@ none_between ss bytes kept address marked None e = refl
 none_between ss bytes kept address marked (Some r) e = cc
 
 module _ (payload : Payload) (bytes kept : List ℕ) (space address marked : ℕ) (prepared : Bool) where
+  -- where the next item goes
+  abbrev next_place : ℕ
+  next_place = address + item_size (scalars_of payload) * marked
+
   -- an item by its number is inside the memory
-  pub put_inside : (r at : ℕ) → IsWindow payload bytes kept space address (Some r) marked prepared → marked + 1 ≤ r → at ≡ address + item_size (scalars_of payload) * marked → at + item_size (scalars_of payload) ≤ length bytes
+  pub put_inside : (r at : ℕ) → IsWindow payload bytes kept space address (Some r) marked prepared → marked + 1 ≤ r → at ≡ next_place → at + item_size (scalars_of payload) ≤ length bytes
   put_inside r at w h e = omega (arith, e, item_fits marked r (item_size (scalars_of payload)) (omega (arith, h)), w.inside.1)
 
   -- one item more is marked, of a window of this room
@@ -91,7 +100,7 @@ module _ (payload : Payload) (bytes kept : List ℕ) (space address marked : ℕ
   abbrev longer : ℕ → List ℕ
   longer at = take at bytes ++ replicate (item_size (scalars_of payload)) 0
 
-  pub put_memory : (r at : ℕ) (new : List ℕ) (x : Item) → IsWindow payload bytes kept space address (Some r) marked prepared → FitsItem (scalars_of payload) x → marked + 1 ≤ r → at ≡ address + item_size (scalars_of payload) * marked
+  pub put_memory : (r at : ℕ) (new : List ℕ) (x : Item) → IsWindow payload bytes kept space address (Some r) marked prepared → FitsItem (scalars_of payload) x → marked + 1 ≤ r → at ≡ next_place
       → new ≡ stored_at (scalars_of payload) bytes at (x ∷ []) → MarksOne (Some r) new x
   put_memory r given new x win f h e s =
       let ss = scalars_of payload in
@@ -126,7 +135,7 @@ module _ (payload : Payload) (bytes kept : List ℕ) (space address marked : ℕ
         is = cc (items, place, behind);
       }
 
-  pub put_between : (at : ℕ) (new : List ℕ) (x : Item) → IsWindow payload bytes kept space address None marked prepared → FitsItem (scalars_of payload) x → marked + 1 < 4294967295 → at ≡ address + item_size (scalars_of payload) * marked
+  pub put_between : (at : ℕ) (new : List ℕ) (x : Item) → IsWindow payload bytes kept space address None marked prepared → FitsItem (scalars_of payload) x → marked + 1 < 4294967295 → at ≡ next_place
       → new ≡ stored_at (scalars_of payload) (longer at) at (x ∷ []) → MarksOne None new x
   put_between at new x w f h e s =
       let ss = scalars_of payload in
@@ -151,7 +160,7 @@ module _ (payload : Payload) (bytes kept : List ℕ) (space address marked : ℕ
   room_kept (Some r) i = omega (arith, i.0)
 
   -- one item more of a window, whichever its room
-  module _ (room : Option ℕ) (v : Lent) (w : IsWindow payload bytes kept space address room marked prepared) (e : window_kept payload bytes kept address room marked prepared ≡ v) (h : HasRoom v.place (length v.marked) 1) (at : ℕ) (n : at ≡ address + item_size (scalars_of payload) * marked) where
+  module _ (room : Option ℕ) (v : Lent) (w : IsWindow payload bytes kept space address room marked prepared) (e : window_kept payload bytes kept address room marked prepared ≡ v) (h : HasRoom v.place (length v.marked) 1) (at : ℕ) (n : at ≡ next_place) where
     pub put_some : (r : ℕ) (new : List ℕ) (x : Item) → room ≡ Some r → FitsItem (scalars_of v.payload) x
         → new ≡ stored_at (scalars_of payload) bytes at (x ∷ []) → Kept payload new kept space address room (marked + 1) prepared (with_items v (x ∷ []))
     put_some r new x o f s =

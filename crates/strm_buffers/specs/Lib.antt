@@ -9,3 +9,4 @@ pub mod HostRules
 pub mod Tells
 pub mod Polling
 pub mod Untyped
+pub mod AllTells

@@ -1,8 +1,10 @@
 -- What a host end tells of itself, and what each call does to it. Ours.
-use Rattle.std.specs.Prelude.{◌≡◌, ℕ, ◌<◌, ◌≤◌, Bool, true, List, [], ◌∷◌, ◌++◌, length, take, drop, Option}
+use Rattle.std.specs.Prelude.{◌≡◌, ℕ, ◌+◌, ◌-◌, ◌^◌, ◌≤◌, nat_lt, if◌then◌else◌, Bool, true, false, List, [], ◌∷◌, ◌++◌, length, take, drop, slice_index_or, slice_set, Option, None}
 use Rattle.std.specs.Option.{option_map}
 use Rattle.strm_codes.specs.declared.codes.TransmitKind.{TransmitKind}
+use Rattle.strm_codes.specs.declared.codes.TransmitKind.TheVariants.{Stream}
 use Rattle.strm_codes.specs.declared.payloads.Payload.{Payload}
+use Rattle.strm_codes.specs.declared.payloads.Payload.TheVariants.{Nothing}
 use Rattle.strm_codes.specs.declared.scalars.Scalar.{Scalar}
 use Rattle.strm_codes.specs.Layout.{scalars_of}
 use Rattle.strm_memory.specs.Items.{AreItems}
@@ -42,11 +44,56 @@ pub record ReaderTells : Type 0 where
   pub closed : Bool
   pub heard : Heard ℕ
 
+-- what all host ends tell, by their numbers
+pub record Tells : Type 0 where
+  pub writers : List WriterTells
+  pub readers : List ReaderTells
+
+-- what stands past the last host writer
+abbrev pub no_tells : WriterTells
+no_tells = record {
+  kind = Stream;
+  payload = Nothing;
+  said = [];
+  holds = [];
+  faults = 0;
+  closed = false;
+  heard = None;
+}
+
+-- and past the last reader end
+abbrev pub no_reader_tells : ReaderTells
+no_reader_tells = record {
+  kind = Stream;
+  payload = Nothing;
+  said = [];
+  holds = None;
+  faults = 0;
+  closed = false;
+  heard = None;
+}
+
+-- what host writer n tells
+abbrev pub told_by : Tells → ℕ → WriterTells
+told_by tells n = slice_index_or tells.writers n no_tells
+
+-- host writer n tells something else, and no other end does
+abbrev pub with_told : Tells → ℕ → WriterTells → Tells
+with_told tells n told = record tells { writers = slice_set tells.writers n told }
+
 -- THE CALLS OF A HOST WRITER
+
+-- one more, in a counter of 64 bits that stands still at its end
+abbrev pub one_more : ℕ → ℕ
+one_more n = if nat_lt n (2 ^ 64 - 1) then n + 1 else n
+
+-- a count of faults rose, or stands at its counter's end
+abbrev pub Rose : ℕ → ℕ → Type 0
+Rose old new = one_more old ≤ new
 
 -- Failed comes only where the count of faults rose, which never falls
 abbrev pub Rises : Answer → ℕ → ℕ → Type 0
-Rises Failed old new = old < new
+Rises Failed old new = Rose old new
 Rises answer old new = old ≤ new
 
 -- a poll that adds this record: what it had room for is marked, the rest is held

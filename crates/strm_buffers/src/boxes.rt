@@ -3,7 +3,7 @@
 //! A caller that keeps boxes in a list hands one of them here, `&mut writers[n]`, and keeps what it
 //! knows of the others. Ours.
 
-ghost use Rattle.std.specs.Prelude.{◌≡◌, [], true, false, length, OnOk, OnErr};
+ghost use Rattle.std.specs.Prelude.{◌≡◌, ◌<◌, [], true, false, length, OnOk, OnErr};
 ghost use Rattle.strm_codes.specs.Layout.{scalars_of};
 ghost use Rattle.strm_buffers.specs.Windows.{Between, room_of};
 ghost use Rattle.strm_buffers.specs.Said.{in_room, IfAnswered, IfNoMemory};
@@ -48,7 +48,8 @@ pub fn poll_writer(writer: &mut Box<dyn HostWriter>, window: &mut Window, finish
 
 /// `HostWriter::held`.
 pub fn held_by(writer: &Box<dyn HostWriter>) -> usize
-    ensures { result ≡ length (writer_tells writer.now).holds }
+    ensures exact { result ≡ length (writer_tells writer.now).holds }
+    ensures most { result < 4294967295 }
 {
     writer.held()
 }

@@ -25,6 +25,10 @@ pub trait WriteBuffer<T> {
         requires { FitsInMemory T.row }
         ensures { result.now ≡ items self.now };
 
+    /// How many items are left. Unlike `remaining` it asks nothing of their size.
+    fn len(&self) -> usize
+        ensures { result ≡ length (items self.now) };
+
     /// Takes so many items off the front.
     fn skip(&mut self, count: usize)
         requires { count ≤ length (items self.old) }
@@ -84,6 +88,13 @@ impl<T: Drop> WriteBuffer<T> for Option<T> {
 
     fn remaining(&self) -> &[T] {
         self.as_slice()
+    }
+
+    fn len(&self) -> usize {
+        match self {
+            Some(_) => 1,
+            None => 0,
+        }
     }
 
     fn skip(&mut self, count: usize) {

@@ -14,7 +14,7 @@ use std::marker::Model;
 use strm_codes::counts::OutOfMemory;
 use strm_codes::payloads::Payload;
 use strm_codes::values::Value;
-use strm_memory::items::{lift_item_at, lower_item_at};
+use strm_memory::items::{lift_item_into, lower_item_at};
 
 /// Fewer than 4,294,967,295 values of one payload.
 #[derive(Drop)]
@@ -50,8 +50,8 @@ impl Items {
         }
     }
 
-    // The items that these bytes are.
-    pub(crate) fn of_bytes(payload: Payload, bytes: Vec<u8>, len: usize) -> Items
+    /// So many items, which these bytes are. Takes no memory.
+    pub fn of_bytes(payload: Payload, bytes: Vec<u8>, len: usize) -> Items
         requires { AreKept payload bytes.items 0 len }
         ensures { result ≡ kept_items payload bytes.items 0 len }
     {
@@ -101,10 +101,21 @@ impl Items {
         ensures exact { slice_get self.now.items index ≡ Some result }
         ensures fits { FitsItem (scalars_of self.now.payload) result }
     {
+        let mut item = Value::empty();
+        self.get_into(index, &mut item);
+        item
+    }
+
+    // The same, put into an empty item.
+    pub(crate) fn get_into(&self, index: usize, item: &mut Value)
+        requires inside { index < length self.now.items }
+        requires empty { item.old ≡ [] }
+        ensures exact { slice_get self.now.items index ≡ Some item.new }
+        ensures fits { FitsItem (scalars_of self.now.payload) item.new }
+    {
         let size = self.payload.size() as usize;
-        match lift_item_at(&self.bytes, self.start + size * index, self.payload) {
-            Some(item) => item,
-            None => unreachable!(),
+        if !lift_item_into(&self.bytes, self.start + size * index, &self.payload, item) {
+            unreachable!();
         }
     }
 

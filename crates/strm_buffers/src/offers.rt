@@ -3,7 +3,8 @@
 //! Source: wasmtime, `futures_and_streams.rs`, `Source` and `DirectSource`. Ours: the offer owns the
 //! items while the poll lasts, and gives them back unchanged.
 
-ghost use Rattle.std.specs.Prelude.{◌≡◌, ◌+◌, ◌*◌, ◌-◌, ◌≤◌, length, false, IsSomeAnd, OnSome, None, IfSome};
+ghost use Rattle.std.specs.Prelude.{◌≡◌, ◌+◌, ◌*◌, ◌-◌, ◌≤◌, [], length, false, IsSomeAnd, OnSome, None, IsTrue};
+ghost use Rattle.std.specs.Bool.{then_some};
 ghost use Rattle.strm_codes.specs.Layout.{scalars_of, item_size};
 ghost use Rattle.strm_codes.specs.Items.{FitsItem};
 ghost use Rattle.strm_codes.specs.declared.payloads.Payload.TheVariants.{One};
@@ -16,7 +17,7 @@ use crate::sources::Source;
 use std::marker::Model;
 use strm_codes::payloads::Payload;
 use strm_codes::values::Value;
-use strm_memory::items::lift_item_at;
+use strm_memory::items::lift_item_into;
 use strm_memory::memories::GuestMemory;
 
 /// Items to be taken from their front.
@@ -190,16 +191,13 @@ impl Offer {
             item_behind (scalars_of self.old.payload) self.old.source self.old.taken }
         ensures after { self.new ≡ after_next self.old result }
     {
-        let next = behind(&self.source, self.payload, self.taken);
-        match next {
-            Some(item) => {
-                self.taken += 1;
-                Some(item)
-            }
-            None => {
-                self.bad = self.bad || self.taken < lent(&self.source);
-                None
-            }
+        let mut item = Value::empty();
+        if behind_into(&self.source, &self.payload, self.taken, &mut item) {
+            self.taken += 1;
+            Some(item)
+        } else {
+            self.bad = self.bad || self.taken < lent(&self.source);
+            None
         }
     }
 }
@@ -215,11 +213,13 @@ fn lent(source: &Source) -> u32
     }
 }
 
-// The item behind so many.
-fn behind(source: &Source, payload: Payload, taken: u32) -> Option<Value>
-    requires { IsSource payload source.now }
-    ensures exact { result ≡ item_behind (scalars_of payload) source.now taken }
-    ensures there { IfSome result (λ _. taken + 1 ≤ items_lent source.now) }
+// Puts the item behind so many into an empty one: whether there is one.
+fn behind_into(source: &Source, payload: &Payload, taken: u32, item: &mut Value) -> bool
+    requires source { IsSource payload.now source.now }
+    requires empty { item.old ≡ [] }
+    ensures exact { then_some result item.new ≡
+        item_behind (scalars_of payload.now) source.now taken }
+    ensures there { IsTrue result → taken + 1 ≤ items_lent source.now }
 {
     match source {
         Source::Region {
@@ -228,16 +228,17 @@ fn behind(source: &Source, payload: Payload, taken: u32) -> Option<Value>
             count,
         } => {
             if taken >= *count {
-                return None;
+                return false;
             }
             let at = *address as usize + payload.size() as usize * taken as usize;
-            lift_item_at(memory.bytes(), at, payload)
+            lift_item_into(memory.bytes(), at, payload, item)
         }
         Source::Listed { items } => {
             if taken as usize >= items.len() {
-                return None;
+                return false;
             }
-            Some(items.get(taken as usize))
+            items.get_into(taken as usize, item);
+            true
         }
     }
 }

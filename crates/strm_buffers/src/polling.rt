@@ -29,9 +29,8 @@ pub fn mark_in_room(alloc: Global, window: &mut Window, items: &Items) -> Result
     ensures out_of_memory { OnErr result (window.old.place ≡ Between) }
     ensures fills { Fills window.old window.new }
 {
-    let count = count_in_room(window, items);
-    match mark_first(window, items, count) {
-        Ok(()) => Ok(count),
+    match mark_rest(window, items) {
+        Ok(count) => Ok(count),
         // Only between host ends, where a new window is the same with none marked.
         Err(error) => {
             let payload = window.payload();
@@ -41,32 +40,56 @@ pub fn mark_in_room(alloc: Global, window: &mut Window, items: &Items) -> Result
     }
 }
 
-// How many of these items there is room for, where none is marked.
+/// Marks the first of these items, as many as there is room for, where some of them are marked
+/// already: the number of all of them. `OutOfMemory` comes only between host ends.
+pub fn mark_rest(window: &mut Window, items: &Items) -> Result<usize, OutOfMemory>
+    requires payload { items.now.payload ≡ window.old.payload }
+    requires begun { window.old.marked ≡ take (length window.old.marked) items.now.items }
+    ensures marked { OnOk result (window.new.marked ≡
+        in_room (room_of window.old.place) items.now.items) }
+    ensures count { IfOk result (λ count. count ≤ length items.now.items) }
+    ensures behind { IfOk result (λ count. drop count items.now.items ≡
+        past_room (room_of window.old.place) items.now.items) }
+    ensures out_of_memory { OnErr result (window.old.place ≡ Between) }
+    ensures fills { Fills window.old window.new }
+{
+    let count = count_in_room(window, items);
+    match mark_first(window, items, count) {
+        Ok(()) => Ok(count),
+        Err(error) => Err(error),
+    }
+}
+
+// How many of these items there is room for, where the first are marked.
 fn count_in_room(window: &Window, items: &Items) -> usize
+    requires { window.now.marked ≡ take (length window.now.marked) items.now.items }
+    ensures least { length window.now.marked ≤ result }
     ensures most { result ≤ length items.now.items }
     ensures room { HasRoom window.now.place 0 result }
     ensures first { take result items.now.items ≡ in_room (room_of window.now.place) items.now.items }
     ensures behind { drop result items.now.items ≡ past_room (room_of window.now.place) items.now.items }
 {
     window.sound();
+    let _ = window.marked();
     match window.room() {
         Some(room) => items.len().min(room as usize),
         None => items.len(),
     }
 }
 
-// Marks so many of the first of these items.
+// Marks so many of the first of these items, where fewer of them are marked.
 fn mark_first(window: &mut Window, items: &Items, count: usize) -> Result<(), OutOfMemory>
     requires payload { items.now.payload ≡ window.old.payload }
     requires there { count ≤ length items.now.items }
-    requires nothing_marked { window.old.marked ≡ [] }
+    requires begun { window.old.marked ≡ take (length window.old.marked) items.now.items }
+    requires least { length window.old.marked ≤ count }
     requires room { HasRoom window.old.place 0 count }
     ensures ok { OnOk result (window.new.marked ≡ take count items.now.items) }
     ensures fills { Fills window.old window.new }
     ensures out_of_memory { OnErr result (window.old.place ≡ Between) }
 {
     window.sound();
-    for index in 0..count {
+    for index in window.marked() as usize..count {
         let item = items.get(index);
         match window.put(&item) {
             Ok(()) => {}

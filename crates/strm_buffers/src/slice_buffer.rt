@@ -63,6 +63,10 @@ impl WriteBuffer<u8> for SliceBuffer {
         &self.buffer[self.offset..self.limit]
     }
 
+    fn len(&self) -> usize {
+        self.limit - self.offset
+    }
+
     fn skip(&mut self, count: usize) {
         self.offset += count;
     }

@@ -70,6 +70,10 @@ impl<T: Copy> WriteBuffer<T> for VecBuffer<T> {
         self.as_slice()
     }
 
+    fn len(&self) -> usize {
+        self.buffer.len() - self.first
+    }
+
     fn skip(&mut self, count: usize) {
         self.first += count;
     }

@@ -4,7 +4,7 @@
 //! window owns the bytes while the poll lasts, and gives them back as they were but for the marked
 //! items.
 
-ghost use Rattle.std.specs.Prelude.{◌≡◌, ◌≢◌, ◌+◌, ◌*◌, ◌≤◌, ◌∷◌, [], length, true, OnOk, OnErr};
+ghost use Rattle.std.specs.Prelude.{◌≡◌, ◌≢◌, ◌+◌, ◌*◌, ◌<◌, ◌≤◌, ◌∷◌, [], length, true, IfOk, OnOk, OnErr};
 ghost use Rattle.strm_codes.specs.Layout.{scalars_of, item_size};
 ghost use Rattle.strm_codes.specs.Items.{FitsItem};
 ghost use Rattle.strm_codes.specs.declared.payloads.Payload.TheVariants.{One};
@@ -130,6 +130,20 @@ impl Window {
         ensures room { HasRoom self.now.place result 0 }
     {
         self.marked
+    }
+
+    /// A copy of the marked items. After `OutOfMemory` nothing was kept.
+    pub fn marked_items(&self) -> Result<Items, OutOfMemory>
+        requires { length self.now.marked < 4294967295 }
+        ensures payload { IfOk result (λ items. items.payload ≡ self.now.payload) }
+        ensures items { IfOk result (λ items. items.items ≡ self.now.marked) }
+    {
+        let end = item_place(self.address, self.payload, self.marked);
+        let mut bytes = Vec::new(*self.bytes.allocator());
+        match bytes.extend_from_slice(&self.bytes[self.address..end]) {
+            Ok(()) => Ok(Items::of_bytes(self.payload, bytes, self.marked as usize)),
+            Err(_) => Err(OutOfMemory),
+        }
     }
 
     /// Marks one item more; between host ends the unmarked bytes are given up. After `OutOfMemory`,

@@ -1,18 +1,19 @@
 //! Host ends by example, in boxes and not.
 
-ghost use Rattle.std.specs.Prelude.{◌≡◌, [], IfOk};
+ghost use Rattle.std.specs.Prelude.{◌≡◌, IfOk};
+ghost use Rattle.strm_codes.specs.declared.codes.TransmitKind.TheVariants.{Stream};
 ghost use Rattle.strm_codes.specs.declared.payloads.Payload.TheVariants.{One};
 ghost use Rattle.strm_codes.specs.declared.scalars.Scalar.TheVariants.{U8};
+ghost use Rattle.strm_ends.specs.Scripts.{scripted_tells, unpolled_writer};
 
 #[cfg(test)]
 mod tests {
     use crate::credit_reader::CreditReader;
-    use crate::scripted_writer::{ScriptedWriter, WriterTurn};
     use crate::silent::SilentWriter;
     use std::alloc::Global;
     use std::test::Fail;
     use strm_buffers::answers::{Answer, StreamResult, Turn};
-    use strm_buffers::boxes::{close_writer, grant, held_by, poll_reader, poll_writer};
+    use strm_buffers::boxes::{close_writer, feed, grant, held_by, poll_reader, poll_writer};
     use strm_buffers::items::Items;
     use strm_buffers::offers::Offer;
     use strm_buffers::readers::HostReader;
@@ -21,6 +22,8 @@ mod tests {
     use strm_codes::codes::TransmitKind;
     use strm_codes::payloads::Payload;
     use strm_codes::scalars::Scalar;
+    use strm_ends::queue_writer::QueueWriter;
+    use strm_ends::scripted_writer::{ScriptedWriter, WriterTurn};
     use strm_memory::memories::GuestMemory;
     use strm_memory::payloaded::Payloaded;
 
@@ -28,9 +31,7 @@ mod tests {
 
     // A writer of one turn of three bytes.
     fn of_three_bytes(alloc: Global) -> Result<ScriptedWriter, Fail>
-        ensures payload { IfOk result (λ writer. writer.payload ≡ One U8) }
-        ensures held { IfOk result (λ writer. writer.held.items ≡ []) }
-        ensures said { IfOk result (λ writer. writer.said.items ≡ []) }
+        ensures { IfOk result (λ writer. scripted_tells writer ≡ unpolled_writer Stream (One U8)) }
     {
         let mut items = Items::new(alloc, BYTES);
         items.push(&7u8.lower())?;
@@ -58,6 +59,24 @@ mod tests {
         assert_eq!(rt; memory.bytes(), [0, 7, 8, 0].as_slice());
         assert_eq!(rt; writer.held(), 1);
         assert_eq!(rt; writer.records(), 1);
+        Ok(())
+    }
+
+    #[test]
+    fn boxed_writers_are_polled(rt: HostRuntime) -> Result<(), Fail> {
+        let alloc = rt.alloc();
+        let mut window = Window::unbounded(alloc, BYTES);
+        let mut scripted: Box<dyn HostWriter> = Box::new(alloc, of_three_bytes(alloc)?)?;
+        let turn = poll_writer(&mut scripted, &mut window, false);
+        assert_eq!(rt; turn, Turn::Ready(StreamResult::Completed));
+        assert_eq!(rt; window.into_items().len(), 3);
+        let mut window = Window::unbounded(alloc, BYTES);
+        let queue = QueueWriter::new(alloc, TransmitKind::Stream, BYTES);
+        let mut queue: Box<dyn HostWriter> = Box::new(alloc, queue)?;
+        feed(&mut queue, [7u8, 8].as_slice())?;
+        let turn = poll_writer(&mut queue, &mut window, false);
+        assert_eq!(rt; turn, Turn::Ready(StreamResult::Completed));
+        assert_eq!(rt; window.into_items().len(), 2);
         Ok(())
     }
 

@@ -2,7 +2,7 @@
 //!
 //! Ours: one type for the items of every payload.
 
-ghost use Rattle.std.specs.Prelude.{◌≡◌, ◌<◌, ◌≤◌, ◌↔◌, All, length, IsSome, IfSome, IsTrue, slice_get, Some};
+ghost use Rattle.std.specs.Prelude.{◌≡◌, ◌<◌, ◌≤◌, ◌↔◌, [], ◌∷◌, ◌++◌, All, length, IsSome, IfSome, IsTrue, slice_get, Some};
 ghost use Rattle.strm_codes.specs.Items.{FitsItem, IsNumber};
 ghost use Rattle.strm_codes.specs.Layout.{scalars_of};
 
@@ -53,6 +53,26 @@ impl Value {
             numbers: array,
             len: len as u8,
         })
+    }
+
+    /// The item of no numbers, to be grown by `push`.
+    pub fn empty() -> Value
+        ensures { result ≡ [] }
+    {
+        Value {
+            numbers: [0; 8],
+            len: 0,
+        }
+    }
+
+    /// Adds a number behind the others.
+    pub fn push(&mut self, number: i128)
+        requires few { length self.old < 8 }
+        requires range { IsNumber number }
+        ensures { self.new ≡ self.old ++ number ∷ [] }
+    {
+        self.numbers[self.len as usize] = number;
+        self.len += 1;
     }
 
     /// How many numbers there are.

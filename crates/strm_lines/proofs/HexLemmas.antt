@@ -93,7 +93,7 @@ pairs_complete (b ∷ bytes) h =
     let whole : 16 * (b / 16) + b % 16 ≡ b = omega arith in
     rw (nibble_complete (b / 16) high, nibble_complete (b % 16) low, pairs_complete bytes (All-tail (λ b. b < 2 ^ 8) b bytes h), whole) refl
 
-length-hex_pairs : (bytes : List ℕ) → length (hex_pairs bytes) ≡ 2 * length bytes
+pub length-hex_pairs : (bytes : List ℕ) → length (hex_pairs bytes) ≡ 2 * length bytes
 length-hex_pairs [] = refl
 length-hex_pairs (b ∷ bytes) = omega (arith, length-hex_pairs bytes)
 

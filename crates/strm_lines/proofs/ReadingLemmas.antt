@@ -1,17 +1,18 @@
 -- A reading undoes a writing, word by word.
 use Rattle.std.proofs.lemmas.List.{take_at, drop_at, take-append-drop}
-use Rattle.std.proofs.Common.{◌≡◌, length, take, drop, ℕ, ◌<◌, ◌^◌, List, ◌∷◌, ◌++◌, Option, Some, true, leb, ◌&&◌, refl, sym, ap, ◌∙◌, arith}
+use Rattle.std.proofs.Common.{◌≡◌, length, take, drop, ℕ, ◌*◌, ◌<◌, ◌^◌, Bool, false, cond, codes, List, [], ◌∷◌, ◌++◌, Option, Some, true, leb, ◌&&◌, refl, sym, ap, ◌∙◌, arith}
 use Rattle.std.specs.Fmt.{decimal}
 use Rattle.std.specs.Str.{bytes_eq}
 use Rattle.std.proofs.lemmas.Bool.{leb-true, le-leb}
 use Rattle.std.proofs.lemmas.Option.{option_and_then_some, same_Some, cond_some}
 use Rattle.std.proofs.lemmas.Slice.Eq.{bytes_eq-Decides}
+use Rattle.std.proofs.lemmas.List.Elements.{All-nil}
 use Rattle.strm_lines.specs.Words.{hex_pairs}
-use Rattle.strm_lines.specs.Grammar.{IsU32, IsBetween, IsLineBytes}
-use Rattle.strm_lines.specs.Reading.{cut_at, behind, leading, followed_by, followed_by_its, number, number_within, hex}
+use Rattle.strm_lines.specs.Grammar.{IsU32, IsBetween, IsLineBytes, fed_word, AreFed}
+use Rattle.strm_lines.specs.Reading.{cut_at, behind, leading, followed_by, followed_by_its, number, number_within, hex, fed}
 use Rattle.strm_lines.proofs.CutLemmas.{IsWithout, cut_sound, cut_complete}
 use Rattle.strm_lines.proofs.NumberLemmas.{number_sound, number_complete, IsWithout-decimal}
-use Rattle.strm_lines.proofs.HexLemmas.{hex_sound, hex_complete}
+use Rattle.strm_lines.proofs.HexLemmas.{hex_sound, hex_complete, length-hex_pairs}
 use Rattle.strm_lines.proofs.ChoiceLemmas.{chosen, both_true}
 
 -- what is read is fit and is written so, and what is fit and written is read
@@ -31,6 +32,40 @@ IsWord-number = record { spaceless = IsWithout-decimal }
 
 pub IsReading-hex : IsReading hex hex_pairs IsLineBytes
 IsReading-hex = record { sound = hex_sound; complete = hex_complete }
+
+-- what is fed
+
+fed_sound : (word bytes : List ℕ) → fed word ≡ Some bytes → (fed_word bytes ≡ word) × AreFed bytes
+unfolding fed
+fed_sound word bytes e = by_end (bytes_eq word (codes "end")) refl e
+  where
+    by_bytes : (xs : List ℕ) → (hex_pairs xs ≡ word) × IsLineBytes xs → (fed_word xs ≡ word) × AreFed xs
+    by_bytes [] h = absurd (omega (arith, h.1.some))
+    by_bytes (b ∷ xs) h = (h.0, record { most = h.1.most; each = h.1.each })
+
+    by_end : (b : Bool) → bytes_eq word (codes "end") ≡ b → cond b (Some []) (hex word) ≡ Some bytes → (fed_word bytes ≡ word) × AreFed bytes
+    by_end true f e =
+        let same : [] ≡ bytes = same_Some [] bytes e in
+        rw (← same) (sym ((bytes_eq-Decides word (codes "end")).0 f), record { most = omega arith; each = All-nil (λ b. b < 2 ^ 8) })
+    by_end false f e = by_bytes bytes (hex_sound word bytes e)
+
+-- bytes are an even number of digits, and are not taken for the end
+not_end : (word : List ℕ) (n : ℕ) → length word ≡ 2 * n → bytes_eq word (codes "end") ≡ false
+not_end word n e = by (bytes_eq word (codes "end")) refl
+  where
+    by : (b : Bool) → bytes_eq word (codes "end") ≡ b → b ≡ false
+    by false f = refl
+    by true f = let three : length word ≡ 3 = ap length ((bytes_eq-Decides word (codes "end")).0 f) in absurd (omega (arith, e, three))
+
+fed_complete : (bytes : List ℕ) → AreFed bytes → fed (fed_word bytes) ≡ Some bytes
+unfolding fed
+fed_complete [] h = refl
+fed_complete (b ∷ bytes) h =
+    rw (not_end (hex_pairs (b ∷ bytes)) (length (b ∷ bytes)) (length-hex_pairs (b ∷ bytes)))
+    (hex_complete (b ∷ bytes) (record { some = omega arith; most = h.most; each = h.each }))
+
+pub IsReading-fed : IsReading fed fed_word AreFed
+IsReading-fed = record { sound = fed_sound; complete = fed_complete }
 
 within_sound : (low high : ℕ) (word : List ℕ) (x : ℕ) → number_within low high word ≡ Some x → (decimal x ≡ word) × IsBetween low high x
 unfolding number_within

@@ -2,16 +2,16 @@
 use Rattle.std.proofs.Common.{◌≡◌, [], ◌∙◌, ℕ, List, ◌∷◌, ◌++◌, codes, Option, Some, None, refl, ap, arith}
 use Rattle.std.specs.Fmt.{decimal}
 use Rattle.std.specs.Option.{option_map, option_map_or}
-use Rattle.std.proofs.lemmas.Option.{none-some}
+use Rattle.std.proofs.lemmas.Option.{none-some, same_Some}
 use Rattle.strm_codes.specs.declared.codes.TransmitIndex.{TransmitIndex}
 use Rattle.strm_codes.specs.declared.codes.TransmitIndex.TheVariants.{Stream, Future}
 use Rattle.strm_machine.specs.declared.steps.Step.{Step}
-use Rattle.strm_machine.specs.declared.steps.Step.TheVariants.{Guest, New, Between, Write, Read, DropWrite, DropRead, CancelWrite, CancelRead, Move, Lift, Lower, Close, Event, SetNew, SetJoin, SetPoll, SetDrop, ErrNew, ErrText, ErrMove, ErrDrop, Poke, Dump}
+use Rattle.strm_machine.specs.declared.steps.Step.TheVariants.{Guest, New, Between, Write, Read, DropWrite, DropRead, CancelWrite, CancelRead, Move, Lift, Lower, Close, HostNew, Feed, Drive, Event, SetNew, SetJoin, SetPoll, SetDrop, ErrNew, ErrText, ErrMove, ErrDrop, Poke, Dump}
 use Rattle.strm_lines.specs.Words.{hex_pairs, type_word}
-use Rattle.strm_lines.specs.Grammar.{words, operands, spelling, HasLine, IsU32, IsBetween, IsLineBytes, IsType, IsCount}
-use Rattle.strm_lines.specs.Reading.{Command, command, behind, read_by, often, seldom, moving, gathering, explaining, followed_by, number, number_within, hex, type_read, place_of, operands_of, named_end_of, guest_of, new_of, pair_of, write_of, read_of, drop_write_of, drop_read_of, cancel_write_of, cancel_read_of, move_of, lift_of, lower_of, close_of, set_new_of, set_join_of, set_poll_of, set_drop_of, err_new_of, err_text_of, err_move_of, err_drop_of, event_of, poke_of, dump_of, step_of}
+use Rattle.strm_lines.specs.Grammar.{words, operands, fed_word, spelling, HasLine, IsU32, IsBetween, IsLineBytes, AreFed, IsType, IsCount}
+use Rattle.strm_lines.specs.Reading.{Command, command, behind, read_by, often, seldom, moving, hosting, gathering, explaining, followed_by, number, number_within, hex, fed, type_read, place_of, operands_of, named_end_of, guest_of, new_of, pair_of, write_of, read_of, drop_write_of, drop_read_of, cancel_write_of, cancel_read_of, move_of, lift_of, lower_of, close_of, host_of, feed_of, drive_of, set_new_of, set_join_of, set_poll_of, set_drop_of, err_new_of, err_text_of, err_move_of, err_drop_of, event_of, poke_of, dump_of, step_of}
 use Rattle.strm_lines.proofs.CutLemmas.{option_map_some}
-use Rattle.strm_lines.proofs.ReadingLemmas.{IsReading, IsReading-number, IsWord-number, IsReading-within, IsReading-hex, IsReading-followed_by, IsReading-followed_by_its, behind_sound}
+use Rattle.strm_lines.proofs.ReadingLemmas.{IsReading, IsReading-number, IsWord-number, IsReading-within, IsReading-hex, IsReading-fed, IsReading-followed_by, IsReading-followed_by_its, behind_sound}
 use Rattle.strm_lines.proofs.TypeLemmas.{IsReading-type, IsWord-type}
 
 -- the arguments of each command
@@ -80,6 +80,9 @@ IsReading-three = IsReading-followed_by IsReading-number IsWord-number (IsReadin
 
 IsReading-poke : IsReading (followed_by number (followed_by number hex)) (λ v. decimal v.0 ++ 32 ∷ (decimal v.1.0 ++ 32 ∷ hex_pairs v.1.1)) (λ v. IsU32 v.0 × (IsU32 v.1.0 × IsLineBytes v.1.1))
 IsReading-poke = IsReading-followed_by IsReading-number IsWord-number (IsReading-followed_by IsReading-number IsWord-number IsReading-hex)
+
+IsReading-feed : IsReading (followed_by number fed) (λ v. decimal v.0 ++ 32 ∷ fed_word v.1) (λ v. IsU32 v.0 × AreFed v.1)
+IsReading-feed = IsReading-followed_by IsReading-number IsWord-number IsReading-fed
 
 IsReading-dump : IsReading (followed_by number (followed_by number (number_within 1 64))) (λ v. decimal v.0 ++ 32 ∷ (decimal v.1.0 ++ 32 ∷ decimal v.1.1)) (λ v. IsU32 v.0 × (IsU32 v.1.0 × IsBetween 1 64 v.1.1))
 IsReading-dump = IsReading-followed_by IsReading-number IsWord-number (IsReading-followed_by IsReading-number IsWord-number (IsReading-within 1 64 (omega arith)))
@@ -150,6 +153,19 @@ close_sound : IsSound (command (codes "close ") close_of)
 unfolding close_of
 close_sound = made_sound (codes "close ") IsReading-number (record { spelled = λ v. refl; fits = λ v f. f })
 
+host_sound : IsSound (command (codes "host ") host_of)
+unfolding host_of
+host_sound = made_sound (codes "host ") IsReading-number (record { spelled = λ v. refl; fits = λ v f. f })
+
+feed_sound : IsSound (command (codes "feed ") feed_of)
+unfolding feed_of
+feed_sound = made_sound (codes "feed ") IsReading-feed (record { spelled = λ v. refl; fits = λ v f. f })
+
+drive_sound : IsSound (command (codes "drive") drive_of)
+unfolding drive_of
+drive_sound [] s e = let same : Drive ≡ s = same_Some Drive s e in rw (← same) (refl, tt)
+drive_sound (c ∷ rest) s e = absurd (none-some s e)
+
 set_new_sound : IsSound (command (codes "set-new ") set_new_of)
 unfolding set_new_of
 set_new_sound = made_sound (codes "set-new ") IsReading-number (record { spelled = λ v. refl; fits = λ v f. f })
@@ -211,17 +227,17 @@ read_by_sound (c ∷ commands) line s h e = by_front (behind c.front line) refl 
     by_front None f others e = others e
     by_front (Some rest) f others e = rw (behind_sound c.front line rest f) (h.0 rest s e)
 
-all_sound : AreSound (often ++ (seldom ++ (moving ++ (gathering ++ explaining))))
-all_sound = (write_sound, (read_sound, (event_sound, (poke_sound, (dump_sound, (guest_sound, (new_sound, (pair_sound, (drop_write_sound, (drop_read_sound, (cancel_write_sound, (cancel_read_sound, (move_sound, (lift_sound, (lower_sound, (close_sound, (set_new_sound, (set_join_sound, (set_poll_sound, (set_drop_sound, (err_new_sound, (err_text_sound, (err_move_sound, (err_drop_sound, tt))))))))))))))))))))))))
+all_sound : AreSound (often ++ (seldom ++ (moving ++ (hosting ++ (gathering ++ explaining)))))
+all_sound = (write_sound, (read_sound, (event_sound, (poke_sound, (dump_sound, (guest_sound, (new_sound, (pair_sound, (drop_write_sound, (drop_read_sound, (cancel_write_sound, (cancel_read_sound, (move_sound, (lift_sound, (lower_sound, (close_sound, (host_sound, (feed_sound, (drive_sound, (set_new_sound, (set_join_sound, (set_poll_sound, (set_drop_sound, (err_new_sound, (err_text_sound, (err_move_sound, (err_drop_sound, tt)))))))))))))))))))))))))))
 
 pub step_sound : (line : List ℕ) (s : Step) → step_of line ≡ Some s → (spelling s ≡ line) × HasLine s
 unfolding step_of
-step_sound line s e = read_by_sound (often ++ (seldom ++ (moving ++ (gathering ++ explaining)))) line s all_sound e
+step_sound line s e = read_by_sound (often ++ (seldom ++ (moving ++ (hosting ++ (gathering ++ explaining))))) line s all_sound e
 
 -- what is spelled is read as the step
 
 pub step_complete : (s : Step) → HasLine s → step_of (spelling s) ≡ Some s
-unfolding step_of behind guest_of new_of pair_of write_of read_of drop_write_of drop_read_of cancel_write_of cancel_read_of move_of lift_of lower_of close_of set_new_of set_join_of set_poll_of set_drop_of err_new_of err_text_of err_move_of err_drop_of event_of poke_of dump_of
+unfolding step_of behind guest_of new_of pair_of write_of read_of drop_write_of drop_read_of cancel_write_of cancel_read_of move_of lift_of lower_of close_of host_of feed_of drive_of set_new_of set_join_of set_poll_of set_drop_of err_new_of err_text_of err_move_of err_drop_of event_of poke_of dump_of
 step_complete (Guest size) h = rw (IsReading-number.complete size h) refl
 step_complete (New guest ty) h = rw (IsReading-new.complete (guest, ty) h) refl
 step_complete (Between writer reader ty) h = rw (IsReading-pair.complete (writer, (reader, ty)) h) refl
@@ -237,6 +253,9 @@ step_complete (Move guest ty handle to) h = rw (IsReading-move.complete (guest, 
 step_complete (Lift guest ty handle) h = rw (IsReading-named_end.complete (guest, (ty, handle)) h) refl
 step_complete (Lower reader guest ty) h = rw (IsReading-pair.complete (reader, (guest, ty)) h) refl
 step_complete (Close reader) h = rw (IsReading-number.complete reader h) refl
+step_complete (HostNew host) h = rw (IsReading-number.complete host h) refl
+step_complete (Feed host bytes) h = rw (IsReading-feed.complete (host, bytes) h) refl
+step_complete Drive h = refl
 step_complete (Event guest handle) h = rw (IsReading-event.complete (guest, handle) h) refl
 step_complete (SetNew guest) h = rw (IsReading-number.complete guest h) refl
 step_complete (SetJoin guest set handle) h = rw (IsReading-three.complete (guest, (set, handle)) h) refl

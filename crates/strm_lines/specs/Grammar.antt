@@ -7,7 +7,7 @@ use Rattle.strm_codes.specs.declared.payloads.Payload.TheVariants.{Tuple}
 use Rattle.strm_codes.specs.declared.codes.TransmitIndex.{TransmitIndex}
 use Rattle.strm_codes.specs.declared.codes.TransmitIndex.TheVariants.{Stream, Future}
 use Rattle.strm_machine.specs.declared.steps.Step.{Step}
-use Rattle.strm_machine.specs.declared.steps.Step.TheVariants.{Guest, New, Between, Write, Read, DropWrite, DropRead, CancelWrite, CancelRead, Move, Lift, Lower, Close, Event, SetNew, SetJoin, SetPoll, SetDrop, ErrNew, ErrText, ErrMove, ErrDrop, Poke, Dump}
+use Rattle.strm_machine.specs.declared.steps.Step.TheVariants.{Guest, New, Between, Write, Read, DropWrite, DropRead, CancelWrite, CancelRead, Move, Lift, Lower, Close, HostNew, Feed, Drive, Event, SetNew, SetJoin, SetPoll, SetDrop, ErrNew, ErrText, ErrMove, ErrDrop, Poke, Dump}
 use Rattle.strm_lines.specs.Words.{hex_pairs, type_word}
 
 -- words in a row, exactly one space between each two
@@ -27,6 +27,11 @@ operands guest ty handle address count =
 -- the words behind the drops, the cancels and `lift`
 abbrev pub named_end : ℕ → TransmitIndex → ℕ → List (List ℕ)
 named_end guest ty handle = decimal guest ∷ type_word ty ∷ decimal handle ∷ []
+
+-- the word for what is fed: its bytes, or that no more will come
+abbrev pub fed_word : List ℕ → List ℕ
+fed_word [] = codes "end"
+fed_word (b ∷ bytes) = hex_pairs (b ∷ bytes)
 
 -- the line of a step, without its line feed; numbers are decimal, without leading zeros
 abbrev pub spelling : Step → List ℕ
@@ -48,6 +53,9 @@ spelling (Lift guest ty handle) = words (codes "lift" ∷ named_end guest ty han
 spelling (Lower reader guest ty) =
     words (codes "lower" ∷ decimal reader ∷ decimal guest ∷ type_word ty ∷ [])
 spelling (Close reader) = words (codes "close" ∷ decimal reader ∷ [])
+spelling (HostNew host) = words (codes "host" ∷ decimal host ∷ [])
+spelling (Feed host bytes) = words (codes "feed" ∷ decimal host ∷ fed_word bytes ∷ [])
+spelling Drive = codes "drive"
 spelling (Event guest handle) = words (codes "event" ∷ decimal guest ∷ decimal handle ∷ [])
 spelling (SetNew guest) = words (codes "set-new" ∷ decimal guest ∷ [])
 spelling (SetJoin guest set handle) =
@@ -77,6 +85,11 @@ IsBetween low high n = (low ≤ n) × (n ≤ high)
 -- the bytes of one line: 1 to 64
 pub record IsLineBytes (bytes : List ℕ) : Type 0 where
   pub some : 0 < length bytes
+  pub most : length bytes ≤ 64
+  pub each : All (λ b. b < 2 ^ 8) bytes
+
+-- what can be fed in one line: none, or the bytes of one line
+pub record AreFed (bytes : List ℕ) : Type 0 where
   pub most : length bytes ≤ 64
   pub each : All (λ b. b < 2 ^ 8) bytes
 
@@ -118,6 +131,9 @@ HasLine (Move guest ty handle to) = IsU32 guest × (IsType ty × (IsU32 handle �
 HasLine (Lift guest ty handle) = IsNamedEnd guest ty handle
 HasLine (Lower reader guest ty) = IsU32 reader × (IsU32 guest × IsType ty)
 HasLine (Close reader) = IsU32 reader
+HasLine (HostNew host) = IsU32 host
+HasLine (Feed host bytes) = IsU32 host × AreFed bytes
+HasLine Drive = Unit {0}
 HasLine (Event guest handle) = IsU32 guest × IsU32 handle
 HasLine (SetNew guest) = IsU32 guest
 HasLine (SetJoin guest set handle) = IsU32 guest × (IsU32 set × IsU32 handle)

@@ -9,7 +9,7 @@ use Rattle.strm_codes.specs.declared.payloads.Payload.TheVariants.{Nothing, One,
 use Rattle.strm_codes.specs.declared.codes.TransmitIndex.{TransmitIndex}
 use Rattle.strm_codes.specs.declared.codes.TransmitIndex.TheVariants.{Stream, Future}
 use Rattle.strm_machine.specs.declared.steps.Step.{Step}
-use Rattle.strm_machine.specs.declared.steps.Step.TheVariants.{Guest, New, Between, Write, Read, DropWrite, DropRead, CancelWrite, CancelRead, Move, Lift, Lower, Close, Event, SetNew, SetJoin, SetPoll, SetDrop, ErrNew, ErrText, ErrMove, ErrDrop, Poke, Dump}
+use Rattle.strm_machine.specs.declared.steps.Step.TheVariants.{Guest, New, Between, Write, Read, DropWrite, DropRead, CancelWrite, CancelRead, Move, Lift, Lower, Close, HostNew, Feed, Drive, Event, SetNew, SetJoin, SetPoll, SetDrop, ErrNew, ErrText, ErrMove, ErrDrop, Poke, Dump}
 use Rattle.strm_lines.specs.Words.{scalar_word}
 
 -- a reading, and then another of what it found
@@ -101,6 +101,10 @@ unfoldable pub hex : List ℕ → Option (List ℕ)
 hex word =
     if (length word == 0) || nat_lt 128 (length word) || not (length word % 2 == 0)
     then None else pairs_from word
+
+-- what is fed: bytes, or that no more will come
+unfoldable pub fed : List ℕ → Option (List ℕ)
+fed word = if bytes_eq word (codes "end") then Some [] else hex word
 
 -- the first of these scalars that has this name
 abbrev pub named_among : List Scalar → List ℕ → Option Scalar
@@ -224,6 +228,19 @@ lower_of rest =
 unfoldable pub close_of : List ℕ → Option Step
 close_of rest = option_map Close (number rest)
 
+-- host N
+unfoldable pub host_of : List ℕ → Option Step
+host_of rest = option_map HostNew (number rest)
+
+-- feed N HEX, feed N end
+unfoldable pub feed_of : List ℕ → Option Step
+feed_of rest = option_map (λ v. Feed v.0 v.1) (followed_by number fed rest)
+
+-- drive, and nothing behind it
+unfoldable pub drive_of : List ℕ → Option Step
+drive_of [] = Some Drive
+drive_of (c ∷ rest) = None
+
 -- set-new G
 unfoldable pub set_new_of : List ℕ → Option Step
 set_new_of rest = option_map SetNew (number rest)
@@ -280,7 +297,7 @@ pub record Command : Type 0 where
   pub front : List ℕ
   pub read : List ℕ → Option Step
 
--- a command by what its lines begin with, its space included
+-- a command by what its lines begin with, the space before its arguments included
 abbrev pub command : List ℕ → (List ℕ → Option Step) → Command
 command front read = record { front = front; read = read }
 
@@ -303,6 +320,11 @@ moving =
     command (codes "move ") move_of ∷ command (codes "lift ") lift_of ∷ command (codes "lower ") lower_of
     ∷ command (codes "close ") close_of ∷ []
 
+-- those of host ends
+abbrev pub hosting : List Command
+hosting =
+    command (codes "host ") host_of ∷ command (codes "feed ") feed_of ∷ command (codes "drive") drive_of ∷ []
+
 -- those of waitable sets
 abbrev pub gathering : List Command
 gathering =
@@ -322,4 +344,4 @@ read_by (c ∷ commands) line = option_map_or c.read (behind c.front line) (read
 
 -- the step that a line spells, where it spells one
 unfoldable pub step_of : List ℕ → Option Step
-step_of line = read_by (often ++ (seldom ++ (moving ++ (gathering ++ explaining)))) line
+step_of line = read_by (often ++ (seldom ++ (moving ++ (hosting ++ (gathering ++ explaining))))) line

@@ -7,6 +7,10 @@ use Rattle.strm_codes.specs.Refusals.{refusal_name}
 use Rattle.strm_machine.specs.declared.replies.Member as members
 use Rattle.strm_machine.specs.declared.replies.Reply.{Reply}
 use Rattle.strm_machine.specs.declared.replies.Reply.TheVariants.{Done, Number, Pair, Code, Event, Member, Bytes, Refused, BadItem, StoreTrapped}
+use Rattle.strm_machine.specs.declared.stops.Stop.{Stop}
+use Rattle.strm_machine.specs.declared.stops.Stop.TheVariants as stops
+use Rattle.strm_machine.specs.declared.streams.HostEnd.{HostEnd}
+use Rattle.strm_machine.specs.declared.streams.HostEnd.TheVariants as ends
 use Rattle.strm_lines.specs.Words.{hex_pair, hex_pairs}
 use Rattle.strm_lines.specs.Grammar.{words}
 
@@ -73,12 +77,24 @@ abbrev pub transcript_text : List Reply → List ℕ → List ℕ
 transcript_text replies moved =
     reply_lines replies ++ stream_lines 0 moved ++ ended (done_text (length replies))
 
+-- a host end, by its side and its number
+abbrev pub host_end_text : HostEnd → List ℕ
+host_end_text (ends.Writer n) = words (codes "writer" ∷ decimal n ∷ [])
+host_end_text (ends.Reader n) = words (codes "reader" ∷ decimal n ∷ [])
+
+-- why a run stopped; none stops for the last reason
+abbrev pub stop_text : Stop → List ℕ
+stop_text (stops.HostFailed end) = words (codes "host-failed" ∷ host_end_text end ∷ [])
+stop_text (stops.HostBroke end) = words (codes "host-broke" ∷ host_end_text end ∷ [])
+stop_text (stops.BadItem stream) = words (codes "bad-item" ∷ codes "stream" ∷ decimal stream ∷ [])
+stop_text stops.StoreTrapped = codes "store-trapped"
+
 -- the text of a run that stopped: the replies before, the number of the step that stopped it, from
--- 1, and what that step answered
-abbrev pub stopped_text : List Reply → Reply → List ℕ
-stopped_text replies answer =
+-- 1, and why it did
+abbrev pub stopped_text : List Reply → Stop → List ℕ
+stopped_text replies stop =
     reply_lines replies
-    ++ ended (words (codes "stopped" ∷ decimal (length replies + 1) ∷ reply_text answer ∷ []))
+    ++ ended (words (codes "stopped" ∷ decimal (length replies + 1) ∷ stop_text stop ∷ []))
 
 -- what is written where the words of the program are none of its own
 abbrev pub usage_text : List ℕ

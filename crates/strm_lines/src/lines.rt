@@ -4,10 +4,10 @@
 
 ghost use Rattle.std.specs.Prelude.{◌≡◌, ◌<◌, ◌++◌, is_some, vec_len, vec_capacity};
 ghost use Rattle.std.specs.Option.{option_map, option_to_list};
-ghost use Rattle.strm_lines.specs.Reading.{place_of, operands_of, named_end_of, guest_of, new_of, pair_of, write_of, read_of, drop_write_of, drop_read_of, cancel_write_of, cancel_read_of, move_of, lift_of, lower_of, close_of, set_new_of, set_join_of, set_poll_of, set_drop_of, err_new_of, err_text_of, err_move_of, err_drop_of, event_of, poke_of, dump_of, seldom, moving, gathering, explaining, read_by, step_of};
+ghost use Rattle.strm_lines.specs.Reading.{place_of, operands_of, named_end_of, guest_of, new_of, pair_of, write_of, read_of, drop_write_of, drop_read_of, cancel_write_of, cancel_read_of, move_of, lift_of, lower_of, close_of, host_of, feed_of, drive_of, set_new_of, set_join_of, set_poll_of, set_drop_of, err_new_of, err_text_of, err_move_of, err_drop_of, event_of, poke_of, dump_of, seldom, moving, hosting, gathering, explaining, read_by, step_of};
 
 use crate::words::{
-    behind, hex, leading_number, leading_type, number, number_within, transmit_type,
+    behind, fed, hex, leading_number, leading_type, number, number_within, transmit_type,
 };
 use strm_codes::codes::TransmitIndex;
 use strm_machine::acts::NamedEnd;
@@ -212,6 +212,34 @@ fn close_line(rest: &[u8]) -> Option<Step>
     Some(Step::Close { reader })
 }
 
+#[tactic(auto, unfolding(crate::specs::Reading::host_of))]
+fn host_line(rest: &[u8]) -> Option<Step>
+    ensures { result ≡ host_of rest.now }
+{
+    let host = number(rest)?;
+    Some(Step::HostNew { host })
+}
+
+#[tactic(auto, unfolding(crate::specs::Reading::feed_of))]
+fn feed_line(rest: &[u8]) -> Option<Step>
+    ensures { result ≡ feed_of rest.now }
+{
+    let (host, rest) = leading_number(rest)?;
+    let bytes = fed(rest)?;
+    Some(Step::Feed { host, bytes })
+}
+
+#[tactic(auto, unfolding(crate::specs::Reading::drive_of))]
+fn drive_line(rest: &[u8]) -> Option<Step>
+    ensures { result ≡ drive_of rest.now }
+{
+    if rest.is_empty() {
+        Some(Step::Drive)
+    } else {
+        None
+    }
+}
+
 #[tactic(auto, unfolding(crate::specs::Reading::set_new_of))]
 fn set_new_line(rest: &[u8]) -> Option<Step>
     ensures { result ≡ set_new_of rest.now }
@@ -390,12 +418,31 @@ fn keep_gathering(steps: &mut Vec<Step>, line: &[u8]) -> bool
     }
 }
 
-// Keeps the step of a line that begins with a command of a read end that changes its owner, or of a
-// waitable set.
+// Keeps the step of a line that begins with a command of a host end, of a waitable set or of an error
+// context.
+fn keep_hosting(steps: &mut Vec<Step>, line: &[u8]) -> bool
+    requires room { vec_len steps.old < vec_capacity steps.old }
+    ensures items { steps.new.items ≡ steps.old.items ++ option_to_list (read_by (hosting ++ (gathering ++ explaining)) line.now) }
+    ensures found { result ≡ is_some (read_by (hosting ++ (gathering ++ explaining)) line.now) }
+    ensures capacity { vec_capacity steps.new ≡ vec_capacity steps.old }
+{
+    if let Some(rest) = behind(line, b"host ") {
+        keep(steps, host_line(rest))
+    } else if let Some(rest) = behind(line, b"feed ") {
+        keep(steps, feed_line(rest))
+    } else if let Some(rest) = behind(line, b"drive") {
+        keep(steps, drive_line(rest))
+    } else {
+        keep_gathering(steps, line)
+    }
+}
+
+// Keeps the step of a line that begins with a command of a read end that changes its owner, of a host
+// end, of a waitable set or of an error context.
 fn keep_moving(steps: &mut Vec<Step>, line: &[u8]) -> bool
     requires room { vec_len steps.old < vec_capacity steps.old }
-    ensures items { steps.new.items ≡ steps.old.items ++ option_to_list (read_by (moving ++ (gathering ++ explaining)) line.now) }
-    ensures found { result ≡ is_some (read_by (moving ++ (gathering ++ explaining)) line.now) }
+    ensures items { steps.new.items ≡ steps.old.items ++ option_to_list (read_by (moving ++ (hosting ++ (gathering ++ explaining))) line.now) }
+    ensures found { result ≡ is_some (read_by (moving ++ (hosting ++ (gathering ++ explaining))) line.now) }
     ensures capacity { vec_capacity steps.new ≡ vec_capacity steps.old }
 {
     if let Some(rest) = behind(line, b"move ") {
@@ -407,15 +454,15 @@ fn keep_moving(steps: &mut Vec<Step>, line: &[u8]) -> bool
     } else if let Some(rest) = behind(line, b"close ") {
         keep(steps, close_line(rest))
     } else {
-        keep_gathering(steps, line)
+        keep_hosting(steps, line)
     }
 }
 
 // Keeps the step of a line that begins with none of the commands that most lines do.
 fn keep_seldom(steps: &mut Vec<Step>, line: &[u8]) -> bool
     requires room { vec_len steps.old < vec_capacity steps.old }
-    ensures items { steps.new.items ≡ steps.old.items ++ option_to_list (read_by (seldom ++ (moving ++ (gathering ++ explaining))) line.now) }
-    ensures found { result ≡ is_some (read_by (seldom ++ (moving ++ (gathering ++ explaining))) line.now) }
+    ensures items { steps.new.items ≡ steps.old.items ++ option_to_list (read_by (seldom ++ (moving ++ (hosting ++ (gathering ++ explaining)))) line.now) }
+    ensures found { result ≡ is_some (read_by (seldom ++ (moving ++ (hosting ++ (gathering ++ explaining)))) line.now) }
     ensures capacity { vec_capacity steps.new ≡ vec_capacity steps.old }
 {
     if let Some(rest) = behind(line, b"guest ") {

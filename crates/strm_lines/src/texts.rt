@@ -4,7 +4,7 @@
 
 ghost use Rattle.std.specs.Prelude.{◌≡◌, ◌++◌, ◌≤◌, ◌<◌, length, codes, decimal, Some, IfOk, OnOk};
 ghost use Rattle.strm_lines.specs.Words.{hex_digit, hex_pairs};
-ghost use Rattle.strm_lines.specs.Text.{ended, hex_word, reply_text, reply_lines, stream_text, stream_lines, done_text, transcript_text, stopped_text, usage_text, bad_line_text, too_long_text, read_fault_text};
+ghost use Rattle.strm_lines.specs.Text.{ended, hex_word, reply_text, reply_lines, stream_text, stream_lines, done_text, transcript_text, host_end_text, stop_text, stopped_text, usage_text, bad_line_text, too_long_text, read_fault_text};
 
 use crate::lists::TextBytes;
 use itoa::{Buffer, Integer};
@@ -12,6 +12,8 @@ use std::alloc::Global;
 use strm_codes::counts::OutOfMemory;
 use strm_codes::refusals::Refusal;
 use strm_machine::replies::{Member, Pair, Reply};
+use strm_machine::stops::Stop;
+use strm_machine::streams::HostEnd;
 
 // The lower-case hexadecimal digits.
 const DIGITS: [u8; 16] = *b"0123456789abcdef";
@@ -181,21 +183,56 @@ pub fn transcript_text(
     Ok(out)
 }
 
-/// The text of a run that stopped, from the replies before and from what the step that stopped it
-/// answered.
-pub fn stopped_text(
-    alloc: Global,
-    replies: &[Reply],
-    answer: &Reply,
-) -> Result<TextBytes, OutOfMemory>
-    ensures ok { IfOk result (λ text. text ≡ stopped_text replies.now answer.now) }
+// Adds a host end.
+fn push_host_end(out: &mut TextBytes, end: HostEnd) -> Result<(), OutOfMemory>
+    ensures { OnOk result (out.new ≡ out.old ++ host_end_text end) }
+{
+    match end {
+        HostEnd::Writer(number) => {
+            out.push_slice(b"writer ")?;
+            push_number(out, number)
+        }
+        HostEnd::Reader(number) => {
+            out.push_slice(b"reader ")?;
+            push_number(out, number)
+        }
+    }
+}
+
+// Adds why a run stopped, and a line feed.
+fn push_stop(out: &mut TextBytes, stop: Stop) -> Result<(), OutOfMemory>
+    ensures { OnOk result (out.new ≡ out.old ++ ended (stop_text stop)) }
+{
+    match stop {
+        Stop::HostFailed { end } => {
+            out.push_slice(b"host-failed ")?;
+            push_host_end(out, end)?;
+            out.push(b'\n')
+        }
+        Stop::HostBroke { end } => {
+            out.push_slice(b"host-broke ")?;
+            push_host_end(out, end)?;
+            out.push(b'\n')
+        }
+        Stop::BadItem { stream } => {
+            out.push_slice(b"bad-item stream ")?;
+            push_number(out, stream)?;
+            out.push(b'\n')
+        }
+        Stop::StoreTrapped => out.push_slice(b"store-trapped\n"),
+    }
+}
+
+/// The text of a run that stopped, from the replies before and from why it did.
+pub fn stopped_text(alloc: Global, replies: &[Reply], stop: Stop) -> Result<TextBytes, OutOfMemory>
+    ensures ok { IfOk result (λ text. text ≡ stopped_text replies.now stop) }
 {
     let mut out = TextBytes::new(alloc);
     push_replies(&mut out, replies)?;
     out.push_slice(b"stopped ")?;
     push_number(&mut out, replies.len() + 1)?;
     out.push(b' ')?;
-    push_reply(&mut out, answer)?;
+    push_stop(&mut out, stop)?;
     Ok(out)
 }
 

@@ -222,6 +222,8 @@ module _ (P : Reaction → Type 0) (state : State) (step : Step) (bad : (s : ℕ
       (λ making does. done _ (makes-goes state making))
       (λ side end act does. end-by side end act does e)
       (λ reader act does. done _ (loose-goes state reader act))
+      (λ host act does. done _ (record { settled = refl; trapped = refl }))
+      (λ does. done _ (record { settled = refl; trapped = refl }))
       (λ g handle does. done _ (record { settled = refl; trapped = refl }))
       (λ g set act does. done _ (set-goes state g set act))
       (λ g handle act does. done _ (context-goes state g handle act))

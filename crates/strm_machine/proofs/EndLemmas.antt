@@ -1,8 +1,10 @@
 -- The two ends of a stream, mine and the opposite one, after a change of mine or of both.
-use Rattle.std.proofs.Common.{◌≡◌, ℕ, ◌≤◌, Bool, true, false, Option, Some, None, refl, sym, subst, ap, ⊎_elim}
-use Rattle.std.specs.Prelude.{◌&&◌, ◌⊎◌}
+use Rattle.std.proofs.Common.{◌≡◌, ℕ, ◌≤◌, Bool, true, false, Option, Some, None, refl, sym, subst, ap}
+use Rattle.std.specs.Option.{option_map}
+use Rattle.std.specs.Prelude.{◌&&◌}
 use Rattle.std.proofs.lemmas.Bool.{and_right}
 use Rattle.strm_machine.specs.Words.{opposite, same_side, end_of, with_end, with_operation, with_received, Side, Writing, Reading, Operation, End, Stream, both_open}
+use Rattle.strm_machine.specs.Endings.{asked_to_finish}
 use Rattle.strm_machine.specs.Sides.{write_of, read_of}
 use Rattle.strm_machine.specs.Soundness.{type_of, is_opened}
 
@@ -93,17 +95,22 @@ stays_same side old new e = record {
 
 -- ## A stream with another end
 
--- what becomes of an operation whose end is set to another: it stays, or ends
-abbrev pub IsLeft : Option Operation → Option Operation → Type 0
-IsLeft o q = (q ≡ o) ⊎ (q ≡ None)
+-- what becomes of an operation whose end is set to another: it stays, ends, or waits for its host end
+pub data IsLeft (o q : Option Operation) : Type 0 where
+  Unchanged : q ≡ o → IsLeft o q
+  Ended : q ≡ None → IsLeft o q
+  Asked : q ≡ option_map asked_to_finish o → IsLeft o q
 
--- what holds of an operation and of none holds of what it becomes
-pub left_by : (P : Option Operation → Type 0) (o q : Option Operation) → IsLeft o q → P o → P None → P q
-left_by P o q left h n = ⊎_elim (λ e. subst P (sym e) h) (λ e. subst P (sym e) n) left
+-- what holds of an operation, of none and of one that waits for its host end holds of what it becomes
+pub left_by : (P : Option Operation → Type 0) (o q : Option Operation) → IsLeft o q → P o → P None → ((x : Operation) → P (Some x) → P (Some (asked_to_finish x))) → P q
+left_by P o q (Unchanged e) h n asked = subst P (sym e) h
+left_by P o q (Ended e) h n asked = subst P (sym e) n
+left_by P None q (Asked e) h n asked = subst P (sym e) n
+left_by P (Some x) q (Asked e) h n asked = subst P (sym e) (asked x h)
 
 pub with_end-apart : (side : Side) (stream : Stream) (e : End) → IsLeft (end_of side stream).operation e.operation → both_open stream ≡ false → both_open (with_end side stream e) ≡ false
-with_end-apart Writing stream e left h = left_by (λ q. is_opened q && is_opened stream.reader.operation ≡ false) stream.writer.operation e.operation left h refl
-with_end-apart Reading stream e left h = left_by (λ q. is_opened stream.writer.operation && is_opened q ≡ false) stream.reader.operation e.operation left h (and_right (is_opened stream.writer.operation) false refl)
+with_end-apart Writing stream e left h = left_by (λ q. is_opened q && is_opened stream.reader.operation ≡ false) stream.writer.operation e.operation left h refl (λ x k. k)
+with_end-apart Reading stream e left h = left_by (λ q. is_opened stream.writer.operation && is_opened q ≡ false) stream.reader.operation e.operation left h (and_right (is_opened stream.writer.operation) false refl) (λ x k. k)
 
 pub with_end-type : (side : Side) (stream : Stream) (e : End) → type_of (with_end side stream e) ≡ type_of stream
 with_end-type Writing stream e = refl

@@ -1,7 +1,7 @@
 -- What an event and a cancel make of the end that they name: facts of one stream and its new end, from which
 -- all laws of such a step follow.
-use Rattle.std.proofs.Common.{◌≡◌, ℕ, Bool, true, false, cond, List, Option, Some, None, refl, sym, subst, inr}
-use Rattle.std.specs.Prelude.{◌&&◌, not, is_some, IsSomeAnd}
+use Rattle.std.proofs.Common.{◌≡◌, ℕ, Bool, true, false, cond, List, Option, Some, None, refl, sym, subst, inl, inr}
+use Rattle.std.specs.Prelude.{◌&&◌, not, ◌⊎◌, is_some, IsSomeAnd}
 use Rattle.std.specs.Option.{option_map}
 use Rattle.std.proofs.lemmas.Bool.{cond_both}
 use Rattle.strm_machine.specs.Words.{Payload, ReturnCode, TransmitKind, AStream, Future, end_of, with_end, report_on, told_end, as_report, count_reported, k_of, OperationIsPlaced, StreamIsPlaced, Side, Operation, End, Stream}
@@ -9,23 +9,23 @@ use Rattle.strm_codes.specs.declared.codes.ReturnCode.TheVariants as codes
 use Rattle.strm_codes.specs.declared.codes.StreamResult.{StreamResult}
 use Rattle.strm_codes.specs.declared.codes.StreamResult.TheVariants.{Completed, Dropped, Cancelled}
 use Rattle.strm_events.specs.Reports.{outcome_code, report_of, left_pending, cancel_answer}
-use Rattle.strm_machine.specs.Endings.{pending_of, is_other_gone, delivered, code_of_cancel, cancelled}
+use Rattle.strm_machine.specs.Endings.{pending_of, is_other_gone, delivered, waits_for_host, asked_to_finish, code_of_cancel, cancelled_end, cancelled}
 use Rattle.strm_machine.specs.Tests.{is_busy}
-use Rattle.strm_machine.proofs.EndLemmas.{IsLeft}
+use Rattle.strm_machine.proofs.EndLemmas.{IsLeft, Ended, Asked}
 use Rattle.strm_machine.proofs.SideLemmas.{StreamKeeps, end_placed, with_end-keeps}
-use Rattle.strm_machine.proofs.SoundLemmas.{left_told}
+use Rattle.strm_machine.proofs.SoundLemmas.{left_told, asked-placed}
 use Rattle.strm_machine.specs.Soundness.{IsUnmoved}
 use Rattle.strm_machine.proofs.TallyLemmas.{AreOne, unmoved_on, Tallies, one_on, count_reported-dropped}
 
 -- ## What is known of an end that becomes another
 
 -- of an operation that ended the report says what it moved, of one that stays there is none, and
--- where there is no operation a report speaks of no item
+-- where there is no operation a report speaks of no item; one that stays may be asked to finish
 abbrev pub IsTold : TransmitKind → Option ReturnCode → Option Operation → Option Operation → Type 0
 IsTold kind report None None = k_of kind 0 report ≡ 0
 IsTold kind report None (Some q) = ⊥
 IsTold kind report (Some o) None = IsSomeAnd report (λ code. count_reported kind code ≡ o.moved)
-IsTold kind report (Some o) (Some q) = (report ≡ None) × (q ≡ o)
+IsTold kind report (Some o) (Some q) = (report ≡ None) × ((q ≡ o) ⊎ (q ≡ asked_to_finish o))
 
 -- the end on a side becomes this one of the same owner, and is told this code, if any
 pub record Becomes (side : Side) (stream : Stream) (e : End) (code : Option ReturnCode) : Type 0 where
@@ -51,12 +51,12 @@ report_told kind None gone told passed one =
 report_told AStream (Some o) gone told passed one =
     cond_both gone _ _ (Tells AStream (Some o))
     (λ e. refl)
-    (λ e. cond_both o.met _ _ (Tells AStream (Some o)) (λ f. outcome_told o o.outcome) (λ f. (refl, refl)))
+    (λ e. cond_both o.met _ _ (Tells AStream (Some o)) (λ f. outcome_told o o.outcome) (λ f. (refl, inl refl)))
 report_told Future (Some o) gone told passed one =
     let h = one refl in
     cond_both o.met _ _ (Tells Future (Some o))
     (λ e. subst (λ (r : StreamResult). Tells Future (Some o) (Some (outcome_code Future r o.moved))) (sym h.completed) (sym (h.done e)))
-    (λ e. cond_both (gone && not passed) _ _ (Tells Future (Some o)) (λ f. sym (h.waiting e)) (λ f. (refl, refl)))
+    (λ e. cond_both (gone && not passed) _ _ (Tells Future (Some o)) (λ f. sym (h.waiting e)) (λ f. (refl, inl refl)))
 
 pub told-becomes : (side : Side) (stream : Stream) → Becomes side stream (told_end (report_on side stream) (end_of side stream)) (report_on side stream)
 told-becomes side stream = record {
@@ -93,12 +93,26 @@ cancel_told stream (Some o) gone told e h one =
     let code = report_of stream.kind (option_map pending_of (Some o)) gone told stream.passed in
     cancelled_told stream.kind o code (unreported stream.kind o gone told stream.passed h) (report_told stream.kind (Some o) gone told stream.passed one)
 
-pub cancelled-becomes : (side : Side) (stream : Stream) → is_busy side stream ≡ true → Becomes side stream (told_end (Some (code_of_cancel side stream)) (end_of side stream)) (Some (code_of_cancel side stream))
-cancelled-becomes side stream e = record {
-  left = inr refl;
-  told = λ tallies. cancel_told stream (end_of side stream).operation (is_other_gone side stream) (end_of side stream).told e (unmoved_on side stream tallies) (λ k. one_on side stream (tallies.one k));
-  owner = refl;
-}
+-- one that waits for its host end has no report yet
+asked_told : (kind : TransmitKind) (o : Option Operation) → is_some o ≡ true → IsTold kind (as_report (Some codes.Blocked)) o (option_map asked_to_finish o)
+asked_told kind None e = cc
+asked_told kind (Some o) e = (refl, inr refl)
+
+module _ (side : Side) (stream : Stream) (busy : is_busy side stream ≡ true) where
+  -- what a cancel answers, by whether it waits for a host end
+  abbrev code_by : Bool → ReturnCode
+  code_by waits = cond waits codes.Blocked (cancel_answer stream.kind (report_on side stream))
+
+  becomes_by : (waits : Bool) → Becomes side stream (cancelled_end waits (code_by waits) (end_of side stream)) (Some (code_by waits))
+  becomes_by true = record { left = Asked refl; told = λ tallies. asked_told stream.kind (end_of side stream).operation busy; owner = refl }
+  becomes_by false = record {
+    left = Ended refl;
+    told = λ tallies. cancel_told stream (end_of side stream).operation (is_other_gone side stream) (end_of side stream).told busy (unmoved_on side stream tallies) (λ k. one_on side stream (tallies.one k));
+    owner = refl;
+  }
+
+  pub cancelled-becomes : Becomes side stream (cancelled_end (waits_for_host side stream) (code_of_cancel side stream) (end_of side stream)) (Some (code_of_cancel side stream))
+  cancelled-becomes = becomes_by (waits_for_host side stream)
 
 -- ## What stays of the stream
 
@@ -117,7 +131,19 @@ pub delivered-keeps : (side : Side) (sizes : List ℕ) (stream : Stream) → Str
 unfolding delivered
 delivered-keeps side sizes stream h = told_end-keeps side sizes stream (report_on side stream) h
 
+-- an end whose operation is asked to finish
+asked_all-placed : (sizes : List ℕ) (payload : Payload) (o : Option Operation) → OperationIsPlaced sizes payload o → OperationIsPlaced sizes payload (option_map asked_to_finish o)
+asked_all-placed sizes payload None p = p
+asked_all-placed sizes payload (Some o) p = asked-placed sizes payload o p
+
 -- an end whose operation was cancelled
+cancelled_end-keeps : (waits : Bool) (side : Side) (sizes : List ℕ) (stream : Stream) (code : ReturnCode) → StreamIsPlaced sizes stream → StreamKeeps sizes stream (with_end side stream (cancelled_end waits code (end_of side stream)))
+cancelled_end-keeps true side sizes stream code h =
+    let o = (end_of side stream).operation in
+    with_end-keeps side sizes stream (cancelled_end true code (end_of side stream)) h refl
+    (asked_all-placed sizes stream.payload o (end_placed side sizes stream h))
+cancelled_end-keeps false side sizes stream code h = told_end-keeps side sizes stream (Some code) h
+
 pub cancelled-keeps : (side : Side) (sizes : List ℕ) (stream : Stream) → StreamIsPlaced sizes stream → StreamKeeps sizes stream (cancelled side stream)
 unfolding cancelled
-cancelled-keeps side sizes stream h = told_end-keeps side sizes stream (Some (code_of_cancel side stream)) h
+cancelled-keeps side sizes stream h = cancelled_end-keeps (waits_for_host side stream) side sizes stream (code_of_cancel side stream) h

@@ -2,7 +2,7 @@
 use Rattle.std.proofs.Common.{◌≡◌, ◌≢◌, ℕ, ◌<◌, true, false, List, [], ◌∷◌, ◌++◌, length, get_or, set, Option, Some, None, refl, sym, ap, ◌∙◌, subst, arith, ⊎_elim, length-set}
 use Rattle.std.proofs.lemmas.Bool.{cases_eq}
 use Rattle.std.proofs.lemmas.List.{get_or-set_same, get_or_push, get_or_past}
-use Rattle.strm_machine.specs.Words.{Guest, ReturnCode, TransmitIndex, Handles, removed, Entry, State, no_stream, Sets, guest_in, sets_in, with_handles, with_table, stream_at, end_of, with_end, Turn, Name, named, stream_named, Reaction, written_back, is_end, Act, Reply, Gone, Side, Writing, Reading, End, Stream, Owner, Held, Loose, with_owner, is_held}
+use Rattle.strm_machine.specs.Words.{Guest, ReturnCode, TransmitIndex, Handles, removed, Entry, State, no_stream, Sets, guest_in, sets_in, with_handles, with_table, stream_at, end_of, with_end, Turn, Name, named, stream_named, Reaction, written_back, is_end, Act, Reply, Gone, Side, Writing, Reading, End, Stream, Owner, Held, Loose, with_owner, is_held, is_loose}
 use Rattle.strm_codes.specs.declared.codes.TransmitIndex.TheVariants as index
 use Rattle.strm_handles.specs.Handles.{handle_limit, entry_at, next_index, inserted, IsTable}
 use Rattle.strm_handles.specs.Lookups.{end_rep_in, end_rep_of}
@@ -157,6 +157,10 @@ IsHeld-beside guests streams more s side rest was unheld h = record {
   agree = Agree-beside (names_in guests) (names_in guests) (owner_in streams) (owner_in more) h.agree s side (λ g handle. refl) rest was unheld;
 }
 
+loose_unheld : (owner : Owner) → is_loose owner ≡ true → is_held owner ≡ false
+loose_unheld (Held g handle) e = cc
+loose_unheld _ e = refl
+
 module _ (streams : List Stream) (s : ℕ) (side : Side) (made : s < length streams) where
   -- the streams with this owner for the end
   abbrev owned : Owner → List Stream
@@ -170,7 +174,8 @@ module _ (streams : List Stream) (s : ℕ) (side : Side) (made : s < length stre
 
   -- a handle is freed, or none is
   freed_held : (guests : List Guest) (o : Option (ℕ × ℕ)) → IsFreed guests s side (owner_in streams s side) o → IsHeld guests streams → IsHeld (guests_freed guests o) (owned Loose)
-  freed_held guests None unheld h = IsHeld-beside guests streams (owned Loose) s side (owned_beside Loose) unheld (ap is_held (owned_here Loose)) h
+  freed_held guests None loose h =
+      IsHeld-beside guests streams (owned Loose) s side (owned_beside Loose) (loose_unheld (owner_in streams s side) loose) (ap is_held (owned_here Loose)) h
   freed_held guests (Some f) frees h =
       IsHeld-removed guests streams (owned Loose) f.0 s side frees.there (owned_beside Loose) h f.1 (left (sets_in guests f.0) f.1) frees.held (ap is_held (owned_here Loose))
 

@@ -23,12 +23,12 @@ use Rattle.strm_machine.proofs.TurnLemmas.{TurnKeeps}
 use Rattle.strm_machine.proofs.Changes.{Scene, scene, Change, ByRest as RestChange, BySettling}
 use Rattle.strm_machine.proofs.ArrivalLemmas.{AreBytes, memory_bytes, AreBytes-with_memory, IsBytes-put_at, IsBytes-zeros}
 use Rattle.strm_machine.proofs.NamedEndLemmas.{IsFound, named_itself}
-use Rattle.strm_machine.proofs.EndLemmas.{each_side, same_side-opposite, IsReplaced, with_end-replaces, with_end-apart}
+use Rattle.strm_machine.proofs.EndLemmas.{each_side, same_side-opposite, IsReplaced, with_end-replaces, with_end-apart, Unchanged}
 use Rattle.strm_machine.proofs.EndingLemmas.{IsTold}
 use Rattle.strm_machine.proofs.TallyLemmas.{Tallies, begins_by, Tallies-with_end}
 use Rattle.strm_machine.proofs.MomentLemmas.{Seen, seen_reacts, Untold, unnamed, untold, nothing_got, seen_counted, end_still, seen_same, quiet_reacts, set_reacts, set_reacts_beside}
 use Rattle.strm_machine.proofs.MoveLemmas.{end_by, IsSound-owned}
-use Rattle.strm_machine.proofs.TurnChangeLemmas.{scene_of, Does, Unturned, DoesBy, turn_does, still}
+use Rattle.strm_machine.proofs.TurnChangeLemmas.{scene_of, Does, Unturned, DoesBy, turn_does, still, asked}
 use Rattle.strm_machine.proofs.Lawful.{IsLawful, HasRoom, as_moment, Reacts}
 use Rattle.strm_machine.proofs.Shapes.{operating, stream_on, begun_on, turn_on, Operates, Setting, set_by, SetsEnd, Owning, guests_freed, guests_given, guests_by, owned_by, Owns, tabled_by, Shape, ByTurn, BySetting, ByOwner, ByTable, ByPair, ByGuest, ByPut, ByRest}
 use Rattle.strm_machine.proofs.ShapeLemmas.{reaction-shape}
@@ -119,7 +119,9 @@ module _ (side : Side) (v : Scene) (takes : v.taken ≡ []) (nothing : v.got ≡
   told_change (Some code) (Some o) None r was is t =
       BySettling o code (record { was = was; is = is; takes = takes; report = r; counts = t; same = count; nothing = nothing })
   told_change report (Some o) (Some q) r was is t =
-      still side v takes (r ∙ t.0) nothing payload count (is ∙ ap Some t.1 ∙ sym was)
+      ⊎_elim
+      (λ e. still side v takes (r ∙ t.0) nothing payload count (is ∙ ap Some e ∙ sym was))
+      (λ e. asked side v takes (r ∙ t.0) nothing payload count o was (is ∙ ap Some e)) t.1
 
 -- the end that is set is told its code, and the opposite one stays
 setting_seen : (state : State) (act : Act) (reply : Reply) (x : Setting) → IsLawful state → SetsEnd state act reply x → Seen x.stream (as_moment state act (goes reply (set_by state x)))
@@ -173,8 +175,8 @@ owning_seen state act reply x h o =
     (end_still s side m (untold s side m o.untold) (record { operation = ap (λ (k : End). k.operation) replaced.here; payload = replaced.payload; kind = replaced.kind; count = replaced.count }))
     (end_still s (opposite side) m (untold s (opposite side) m o.untold) (record { operation = ap (λ (k : End). k.operation) replaced.other; payload = replaced.payload; kind = replaced.kind; count = replaced.count })))
     replaced.count
-    (ap both_open after ∙ with_end-apart side stream e (inl refl) (h.apart s))
-    (subst Tallies (sym after) (Tallies-with_end side stream e (inl refl) (h.tallies s)))
+    (ap both_open after ∙ with_end-apart side stream e (Unchanged refl) (h.apart s))
+    (subst Tallies (sym after) (Tallies-with_end side stream e (Unchanged refl) (h.tallies s)))
 
 AreBytes-freed : (guests : List Guest) (o : Option (ℕ × ℕ)) → AreBytes guests → AreBytes (guests_freed guests o)
 AreBytes-freed guests None h = h
@@ -196,7 +198,7 @@ owns_reacts state act reply x h o =
 -- ## A stream more
 
 -- each number has the stream that it had, or had none and has the new one
-made_at : (streams : List Stream) (x : Stream) (s : ℕ) → (get_or (streams ++ x ∷ []) s no_stream ≡ get_or streams s no_stream) ⊎ ((get_or streams s no_stream ≡ no_stream) × (get_or (streams ++ x ∷ []) s no_stream ≡ x))
+pub made_at : (streams : List Stream) (x : Stream) (s : ℕ) → (get_or (streams ++ x ∷ []) s no_stream ≡ get_or streams s no_stream) ⊎ ((get_or streams s no_stream ≡ no_stream) × (get_or (streams ++ x ∷ []) s no_stream ≡ x))
 made_at [] x zero = inr (refl, refl)
 made_at [] x (suc s) = inl refl
 made_at (y ∷ ys) x zero = inl refl

@@ -33,3 +33,4 @@ pub mod HeldLemmas
 pub mod UntouchedLemmas
 pub mod PutLemmas
 pub mod AskedLemmas
+pub mod HostLemmas

@@ -1,5 +1,5 @@
 -- An end that gets another owner: memories stay, and the state is sound.
-use Rattle.std.proofs.Common.{◌≡◌, true, ℕ, ◌<◌, List, length, get_or, set, Option, Some, None, refl, ap, ◌∙◌, inl, arith, length-set}
+use Rattle.std.proofs.Common.{◌≡◌, true, ℕ, ◌<◌, List, length, get_or, set, Option, Some, None, refl, ap, ◌∙◌, arith, length-set}
 use Rattle.std.proofs.Math.Seq.{map-set_same}
 use Rattle.std.proofs.Math.ListN.{get_or-map}
 use Rattle.std.proofs.lemmas.List.{length-map}
@@ -12,7 +12,7 @@ use Rattle.strm_handles.specs.Lookups.{end_rep_in}
 use Rattle.strm_sets.specs.Sets.{left}
 use Rattle.strm_machine.specs.Making.{end_entry}
 use Rattle.strm_machine.specs.Soundness.{type_of, types_of, EntryIsNamed}
-use Rattle.strm_machine.proofs.EndLemmas.{with_end-type}
+use Rattle.strm_machine.proofs.EndLemmas.{Unchanged, with_end-type}
 use Rattle.strm_machine.proofs.SoundLemmas.{end_entry-ok, IsSound-freed, IsSound-given, IsSound-set}
 use Rattle.strm_machine.proofs.NamedEndLemmas.{is_end-ok}
 use Rattle.strm_machine.proofs.StateLemmas.{memory_in-with_table}
@@ -71,7 +71,7 @@ IsSound-owned state reply x o h =
     let types : types_of streams ≡ types_of state.streams = map-set_same type_of state.streams x.stream (with_end x.side stream (end_by state x)) no_stream (with_end-type x.side stream (end_by state x)) in
     let there : x.stream < length (types_of streams) = omega (arith, o.made, length-map state.streams type_of, ap length types) in
     let typed = ap (λ ts. get_or ts x.stream (index.Stream Nothing)) types ∙ get_or-map type_of state.streams x.stream no_stream ∙ o.typed in
-    let set = IsSound-set state x.stream x.side (end_by state x) o.made (inl refl) h in
+    let set = IsSound-set state x.stream x.side (end_by state x) o.made (Unchanged refl) h in
     let freed = freed-sound (record state { streams = streams }) x.stream x.side (end_of x.side stream).owner x.freed o.freed set in
     given-sound (record state { guests = guests_freed state.guests x.freed; streams = streams }) (end_entry x.side x.ty x.stream) x.owner x.taker
     (end_entry-named (types_of streams) x.side x.ty x.stream there typed) (end_entry-ok x.side x.ty x.stream) o.taken freed

@@ -6,7 +6,7 @@ use Rattle.std.proofs.lemmas.List.{append_assoc}
 use Rattle.strm_codes.specs.declared.refusals.Refusal.{Refusal}
 use Rattle.strm_memory.specs.Bytes.{bytes_at}
 use Rattle.strm_memory.specs.Region.{bytes_out_of_bounds}
-use Rattle.strm_machine.specs.Words.{State, memory_in, put_at, goes, IsSound, Act, Make, OnEnd, OnLoose, OnMemory, Poke}
+use Rattle.strm_machine.specs.Words.{State, memory_in, put_at, goes, IsSound, Act, OnMemory, Poke}
 use Rattle.strm_machine.specs.State.{with_bytes}
 use Rattle.strm_machine.specs.ErrorContexts.{message_named}
 use Rattle.strm_machine.specs.Refusals.{refusal}
@@ -16,7 +16,7 @@ use Rattle.strm_machine.specs.declared.acts.ContextAct.{ContextAct}
 use Rattle.strm_machine.specs.declared.acts.ContextAct.TheVariants as context_acts
 use Rattle.strm_machine.specs.declared.acts.MemoryAct.{MemoryAct}
 use Rattle.strm_machine.specs.declared.acts.MemoryAct.TheVariants.{Dump}
-use Rattle.strm_machine.specs.declared.acts.Act.TheVariants.{Event, OnSet, OnContext}
+use Rattle.strm_machine.specs.declared.acts.Act.TheVariants.{OnContext}
 use Rattle.strm_machine.specs.declared.replies.Reply.TheVariants as replies
 use Rattle.strm_machine.proofs.StateLemmas.{memory_in-with_memory}
 use Rattle.strm_machine.proofs.RefusalLemmas.{BytesFit, poke_fits}
@@ -53,28 +53,14 @@ bytes_there state g address bytes fits =
 
 -- one that isn't done puts none
 refused_there : (state : State) (act : Act) (r : Refusal) → LieThere (as_moment state act (goes (replies.Refused r) state))
-refused_there state (Make making) r = refl
-refused_there state (OnEnd side end act) r = refl
-refused_there state (OnLoose reader act) r = refl
-refused_there state (Event g handle) r = refl
-refused_there state (OnSet g set act) r = refl
 refused_there state (OnContext g handle (context_acts.Text address)) r = refl
-refused_there state (OnContext g handle (context_acts.Move to)) r = refl
-refused_there state (OnContext g handle context_acts.Drop) r = refl
 refused_there state (OnMemory g (Poke address bytes)) r = refl
-refused_there state (OnMemory g (Dump address len)) r = refl
+refused_there state _ r = refl
 
 trapped_there : (state : State) (act : Act) → LieThere (as_moment state act (goes replies.StoreTrapped state))
-trapped_there state (Make making) = refl
-trapped_there state (OnEnd side end act) = refl
-trapped_there state (OnLoose reader act) = refl
-trapped_there state (Event g handle) = refl
-trapped_there state (OnSet g set act) = refl
 trapped_there state (OnContext g handle (context_acts.Text address)) = refl
-trapped_there state (OnContext g handle (context_acts.Move to)) = refl
-trapped_there state (OnContext g handle context_acts.Drop) = refl
 trapped_there state (OnMemory g (Poke address bytes)) = refl
-trapped_there state (OnMemory g (Dump address len)) = refl
+trapped_there state _ = refl
 
 context_there : (state : State) → IsSound state → (g handle : ℕ) (act : ContextAct) → refusal state (OnContext g handle act) ≡ None → LieThere (as_moment state (OnContext g handle act) (on_context state g handle act))
 context_there state h g handle (context_acts.Text address) e =
@@ -95,6 +81,8 @@ reaction-there state act h =
     (λ making e. refl)
     (λ side end act e. refl)
     (λ reader act e. refl)
+    (λ host act e. refl)
+    (λ e. refl)
     (λ g handle e. refl)
     (λ g set act e. refl)
     (context_there state h)

@@ -10,10 +10,11 @@ use Rattle.strm_machine.specs.Reactions.{makes, on_end, on_loose, tells, on_set,
 use Rattle.strm_machine.specs.declared.acts.Making.{Making}
 use Rattle.strm_machine.specs.declared.acts.EndAct.{EndAct}
 use Rattle.strm_machine.specs.declared.acts.LooseAct.{LooseAct}
+use Rattle.strm_machine.specs.declared.acts.HostAct.{HostAct}
 use Rattle.strm_machine.specs.declared.acts.SetAct.{SetAct}
 use Rattle.strm_machine.specs.declared.acts.ContextAct.{ContextAct}
 use Rattle.strm_machine.specs.declared.acts.MemoryAct.{MemoryAct}
-use Rattle.strm_machine.specs.declared.acts.Act.TheVariants.{OnLoose, Event, OnSet, OnContext}
+use Rattle.strm_machine.specs.declared.acts.Act.TheVariants.{OnLoose, OnHost, Drive, Event, OnSet, OnContext}
 use Rattle.strm_machine.specs.declared.acts.MemoryAct.TheVariants.{Dump}
 use Rattle.strm_machine.specs.declared.replies.Reply.TheVariants as replies
 
@@ -86,11 +87,13 @@ lowers_context-performs state number g t e =
     ap (λ b. cond b (goes replies.StoreTrapped state) (shares_unless state number g (first_of (lower_context_reasons state number g)))) t
     ∙ ap (shares_unless state number g) e
 
--- what holds of the seven ways that an act can go holds of each act
+-- what holds of the nine ways that an act can go holds of each act
 module _ (P : Act → Reaction → Type 0) (state : State)
     (made : (making : Making) → P (Make making) (makes state making))
     (ended : (side : Side) (end : NamedEnd) (act : EndAct) → P (OnEnd side end act) (on_end state side end act))
     (loosed : (reader : ℕ) (act : LooseAct) → P (OnLoose reader act) (on_loose state reader act))
+    (hosted : (host : ℕ) (act : HostAct) → P (OnHost host act) (goes replies.Done state))
+    (driven : P Drive (goes replies.Done state))
     (told : (g handle : ℕ) → P (Event g handle) (tells state (stream_named (end_named state g handle)) (side_named (end_named state g handle))))
     (grouped : (g set : ℕ) (act : SetAct) → P (OnSet g set act) (on_set state g set act))
     (shared : (g handle : ℕ) (act : ContextAct) → P (OnContext g handle act) (on_context state g handle act))
@@ -100,6 +103,8 @@ module _ (P : Act → Reaction → Type 0) (state : State)
   performs-by (Make making) = made making
   performs-by (OnEnd side end act) = ended side end act
   performs-by (OnLoose reader act) = loosed reader act
+  performs-by (OnHost host act) = hosted host act
+  performs-by Drive = driven
   performs-by (Event g handle) = told g handle
   performs-by (OnSet g set act) = grouped g set act
   performs-by (OnContext g handle act) = shared g handle act

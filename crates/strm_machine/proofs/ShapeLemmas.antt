@@ -5,9 +5,10 @@ use Rattle.strm_codes.specs.declared.refusals.Refusal.TheVariants as refusals
 use Rattle.std.proofs.lemmas.Bool.{not-false, cases_lt}
 use Rattle.std.proofs.lemmas.List.{get_or_past}
 use Rattle.std.specs.Prelude.{not, [], ◌∷◌}
-use Rattle.strm_machine.specs.Words.{kind_of, payload_of, TransmitIndex, State, no_stream, stream_at, end_of, report_on, told_end, named, end_named, stream_named, first_of, IsSound, NamedEnd, Operate, Poke, Act, Make, OnEnd, OnMemory, Reply, Gone, Side, Reading, Stream, Owner, Held, Loose, is_held, is_loose, without_handle, next_in, OnLoose}
-use Rattle.strm_machine.specs.Endings.{delivered, dropped, code_of_cancel, cancelled}
-use Rattle.strm_machine.specs.Tests.{side_named, is_busy}
+use Rattle.strm_machine.specs.Words.{kind_of, payload_of, TransmitIndex, State, no_stream, stream_at, end_of, report_on, told_end, named, end_named, stream_named, first_of, IsSound, NamedEnd, Operate, Poke, Act, Make, OnEnd, OnMemory, Reply, Gone, Side, Reading, Stream, Owner, Held, Loose, is_loose, without_handle, next_in, OnLoose}
+use Rattle.strm_machine.specs.Endings.{delivered, dropped, waits_for_host, code_of_cancel, cancelled_end, cancelled}
+use Rattle.strm_machine.specs.State.{is_host}
+use Rattle.strm_machine.specs.Tests.{side_named, is_busy, is_cancel_under_way}
 use Rattle.strm_machine.specs.Refusals.{where_, region_reasons, handle_reasons, own_reasons, on_end_reasons, refusal}
 use Rattle.strm_machine.specs.Reactions.{tells, drops, cancels, transfers, lifts, on_end, on_loose, makes, on_memory, performs, reaction}
 use Rattle.strm_machine.specs.declared.acts.Making.{Making}
@@ -63,8 +64,8 @@ module _ (state : State) (side : Side) (end : NamedEnd) (owner : Owner) (taker :
   abbrev owning : Owning
   owning = record { stream = stream_named (named state end); side = side; ty = end.ty; owner = owner; freed = Some (end.guest, end.handle); taker = taker }
 
-  leaves-owns : (act : EndAct) (reply : Reply) → IsSound state → LeaveFits state side end → code_told reply ≡ None → IsTaken (guests_freed state.guests (Some (end.guest, end.handle))) owner taker → Owns state reply owning
-  leaves-owns act reply h fits untold taken =
+  leaves-owns : (act : EndAct) (reply : Reply) → IsSound state → LeaveFits state side end → code_told reply ≡ None → IsTaken (guests_freed state.guests (Some (end.guest, end.handle))) owner taker → is_host owner ≡ false → Owns state reply owning
+  leaves-owns act reply h fits untold taken unhosted =
       let found = named-found state side end act h (record { there = fits.there; found = fits.found; same = fits.same }) in
       record {
         made = found.made;
@@ -72,12 +73,13 @@ module _ (state : State) (side : Side) (end : NamedEnd) (owner : Owner) (taker :
         untold = untold;
         freed = record { there = found.there; held = found.held };
         taken = taken;
+        unhosted = unhosted;
       }
 
 drop-shape : (state : State) (side : Side) (end : NamedEnd) → IsSound state → first_of (on_end_reasons state side end Drop) ≡ None → Shape state (OnEnd side end Drop) (drops state (stream_named (named state end)) side end)
 unfolding dropped
 drop-shape state side end h e =
-    ByOwner replies.Done (owning state side end Gone None) refl (leaves-owns state side end Gone None Drop replies.Done h (drop_fits state side end e) refl refl)
+    ByOwner replies.Done (owning state side end Gone None) refl (leaves-owns state side end Gone None Drop replies.Done h (drop_fits state side end e) refl refl refl)
 
 move-shape : (state : State) (side : Side) (end : NamedEnd) (to : ℕ) → IsSound state → first_of (on_end_reasons state side end (Move to)) ≡ None → Shape state (OnEnd side end (Move to)) (transfers state (stream_named (named state end)) side end to)
 move-shape state side end to h e =
@@ -87,12 +89,12 @@ move-shape state side end to h e =
     let there : to < length freed.guests = omega (arith, fits.to_there, length-freed state.guests (Some (end.guest, end.handle))) in
     ByOwner (replies.Number number) (owning state side end (Held to number) (Some to)) refl
     (leaves-owns state side end (Held to number) (Some to) (Move to) (replies.Number number) h fits.leaves refl
-    (record { there = there; small = fits.number; owns = refl }))
+    (record { there = there; small = fits.number; owns = refl }) refl)
 
 lift-shape : (state : State) (side : Side) (end : NamedEnd) → IsSound state → first_of (on_end_reasons state side end Lift) ≡ None → Shape state (OnEnd side end Lift) (lifts state (stream_named (named state end)) side end)
 lift-shape state side end h e =
     let reply = replies.Number (stream_named (named state end)) in
-    ByOwner reply (owning state side end Loose None) refl (leaves-owns state side end Loose None Lift reply h (lift_fits state side end e) refl refl)
+    ByOwner reply (owning state side end Loose None) refl (leaves-owns state side end Loose None Lift reply h (lift_fits state side end e) refl refl refl)
 
 cancel-shape : (state : State) (side : Side) (end : NamedEnd) → IsSound state → first_of (on_end_reasons state side end Cancel) ≡ None → Shape state (OnEnd side end Cancel) (cancels state (stream_named (named state end)) side)
 unfolding cancelled
@@ -100,10 +102,10 @@ cancel-shape state side end h e =
     let s = stream_named (named state end) in
     let stream = stream_at state s in
     let code = code_of_cancel side stream in
-    let fits = named_fits state side end (where_ (not (is_busy side stream)) refusals.NoPending ∷ []) e in
+    let fits = named_fits state side end (where_ (not (is_busy side stream)) refusals.NoPending ∷ where_ (is_cancel_under_way side stream) refusals.CancelUnderWay ∷ []) e in
     let busy = not_refused (not (is_busy side stream)) _ _ fits.1 in
     let found = named-found state side end Cancel h fits.0 in
-    BySetting (replies.Code code) (record { stream = s; side = side; end = told_end (Some code) (end_of side stream) }) refl
+    BySetting (replies.Code code) (record { stream = s; side = side; end = cancelled_end (waits_for_host side stream) code (end_of side stream) }) refl
     (record { made = found.made; named = found.named (replies.Code code); becomes = cancelled-becomes side stream (not-false (is_busy side stream) busy.0); untaken = λ report. refl })
 
 pub on_end-shape : (state : State) (side : Side) (end : NamedEnd) (act : EndAct) → IsSound state → refusal state (OnEnd side end act) ≡ None → Shape state (OnEnd side end act) (on_end state side end act)
@@ -124,11 +126,6 @@ loose_there state s e =
       | inr l ↦ absurd (let none : is_loose (stream_at state s).reader.owner ≡ false = ap (λ (st : Stream). is_loose st.reader.owner) (get_or_past state.streams s no_stream l) in cc)
     ]
 
-loose_unheld : (owner : Owner) → is_loose owner ≡ true → is_held owner ≡ false
-loose_unheld Gone e = refl
-loose_unheld Loose e = refl
-loose_unheld (Held g handle) e = cc
-
 type_of-by : (stream : Stream) (ty : TransmitIndex) → stream.kind ≡ kind_of ty → stream.payload ≡ payload_of ty → type_of stream ≡ ty
 type_of-by stream ty e f = ap (λ k. type_with k stream.payload) e ∙ ap (type_with (kind_of ty)) f ∙ type_with-of ty
 
@@ -143,14 +140,15 @@ loose-shape state s (Lower g ty) e =
       made = loose_there state s fits.loose;
       typed = type_of-by stream ty fits.kind fits.payload;
       untold = refl;
-      freed = loose_unheld stream.reader.owner fits.loose;
+      freed = fits.loose;
       taken = record { there = fits.there; small = fits.number; owns = refl };
+      unhosted = refl;
     })
 loose-shape state s Close e =
     let loose = close_fits state s e in
     let stream = stream_at state s in
     ByOwner replies.Done (record { stream = s; side = Reading; ty = type_of stream; owner = Gone; freed = None; taker = None }) refl
-    (record { made = loose_there state s loose; typed = refl; untold = refl; freed = loose_unheld stream.reader.owner loose; taken = refl })
+    (record { made = loose_there state s loose; typed = refl; untold = refl; freed = loose; taken = refl; unhosted = refl })
 
 -- ## What else is done
 
@@ -184,6 +182,8 @@ performs-shape state h =
     (λ making. make-shape state making h)
     (λ side end act. on_end-shape state side end act h)
     (loose-shape state)
+    (λ host act e. ByRest replies.Done refl refl)
+    (λ e. ByRest replies.Done refl refl)
     (λ g handle. event-shape state g handle h)
     (λ g set act. set-shape state g set act h)
     (λ g handle act. context-shape state g handle act h)

@@ -1,6 +1,6 @@
 -- What a step does by its shape: the few ways in which steps change a state, and what is known of each.
 use Rattle.std.proofs.Common.{◌≡◌, ℕ, ◌<◌, true, false, List, [], length, set, Option, Some, None}
-use Rattle.strm_machine.specs.Words.{Guest, kind_of, ReturnCode, TransmitIndex, Handles, Entry, removed, Sets, State, guest_in, sets_in, with_handles, with_table, end_named, HoldsSets, stream_at, is_end, end_of, with_end, Turn, named, stream_named, has_ended, Reaction, goes, operates, sizes_of, IsPlaced, StreamIsPlaced, accepted, NamedEnd, Operate, Act, Make, OnEnd, Reply, Side, Operation, End, Stream, Owner, Held, is_held, with_owner}
+use Rattle.strm_machine.specs.Words.{Guest, kind_of, ReturnCode, TransmitIndex, Handles, Entry, removed, Sets, State, guest_in, sets_in, with_handles, with_table, end_named, HoldsSets, stream_at, is_end, end_of, with_end, Turn, named, stream_named, has_ended, Reaction, goes, operates, sizes_of, IsPlaced, StreamIsPlaced, accepted, NamedEnd, Operate, Act, Make, OnEnd, Reply, Side, Operation, End, Stream, Owner, Held, is_held, is_loose, with_owner}
 use Rattle.strm_handles.specs.Handles.{handle_limit, next_index, inserted}
 use Rattle.strm_handles.specs.Lookups.{end_rep_of}
 use Rattle.strm_machine.specs.Meetings.{begun}
@@ -8,7 +8,7 @@ use Rattle.strm_machine.specs.Making.{end_entry}
 use Rattle.strm_sets.specs.Sets.{left}
 use Rattle.strm_memory.specs.Bytes.{IsBytes}
 use Rattle.strm_contexts.specs.Contexts.{Contexts}
-use Rattle.strm_machine.specs.State.{with_bytes}
+use Rattle.strm_machine.specs.State.{is_host, with_bytes}
 use Rattle.strm_machine.specs.Soundness.{type_of, types_of, AreNamed, HoldsContexts}
 use Rattle.strm_machine.specs.Turns.{turn}
 use Rattle.strm_machine.specs.Tests.{items_asked}
@@ -95,9 +95,9 @@ pub record Frees (guests : List Guest) (s : ℕ) (side : Side) (g handle : ℕ) 
   pub there : g < length guests
   pub held : is_end s side (end_rep_of (guest_in guests g).handles handle) ≡ true
 
--- where none is, no guest had the end
+-- where none is, the end was loose
 abbrev pub IsFreed : List Guest → ℕ → Side → Owner → Option (ℕ × ℕ) → Type 0
-IsFreed guests s side owner None = is_held owner ≡ false
+IsFreed guests s side owner None = is_loose owner ≡ true
 IsFreed guests s side owner (Some h) = Frees guests s side h.0 h.1
 
 -- the guest that gets the end, has it under its next handle
@@ -111,13 +111,14 @@ abbrev pub IsTaken : List Guest → Owner → Option ℕ → Type 0
 IsTaken guests owner None = is_held owner ≡ false
 IsTaken guests owner (Some g) = Takes guests owner g
 
--- the stream was made, of this type; nothing is told
+-- the stream was made, of this type; nothing is told, and no host end gets the end
 pub record Owns (state : State) (reply : Reply) (x : Owning) : Type 0 where
   pub made : x.stream < length state.streams
   pub typed : type_of (stream_at state x.stream) ≡ x.ty
   pub untold : code_told reply ≡ None
   pub freed : IsFreed state.guests x.stream x.side (end_of x.side (stream_at state x.stream)).owner x.freed
   pub taken : IsTaken (guests_freed state.guests x.freed) x.owner x.taker
+  pub unhosted : is_host x.owner ≡ false
 
 -- ## A table with its sets, and error contexts
 

@@ -19,13 +19,13 @@ use Rattle.strm_handles.specs.declared.entries.TransmitEnd.{TransmitEnd}
 use Rattle.strm_handles.specs.Ends.{read_end, write_end}
 use Rattle.strm_machine.specs.State.{memory_limit}
 use Rattle.strm_events.specs.Reports.{left_pending}
-use Rattle.strm_machine.specs.Endings.{dropped}
+use Rattle.strm_machine.specs.Endings.{dropped, asked_to_finish}
 use Rattle.strm_machine.specs.Making.{read_entry, write_entry, end_entry, with_read_end, with_ends, writer_index, made_stream, made_pair, with_stream}
 use Rattle.strm_machine.specs.Soundness.{handles_of, type_with, type_of, types_of, is_idle_state, IsNamed, EntryIsNamed, AreNamed, HoldsContexts}
 use Rattle.strm_machine.proofs.TurnLemmas.{GuestsKeep, TurnKeeps}
 use Rattle.strm_machine.proofs.WaitableSetLemmas.{end_some, HoldsSets-freed, HoldsSets-given_end, HoldSets-with, HoldSets-kept, HoldSets-more}
 use Rattle.strm_machine.proofs.ErrorContextLemmas.{end_leads_nowhere, all_handles-same, HoldsContexts-same, HoldsContexts-more, HoldsContexts-given, HoldsContexts-freed}
-use Rattle.strm_machine.proofs.EndLemmas.{IsLeft, left_by, with_end-type}
+use Rattle.strm_machine.proofs.EndLemmas.{IsLeft, Unchanged, Ended, left_by, with_end-type}
 
 -- guests with the handles and memory lengths of those before
 pub IsSound-guests : (state : State) (guests : List Guest) → GuestsKeep state.guests guests → IsSound state → IsSound (record state { guests = guests })
@@ -263,9 +263,13 @@ module _ (state : State) (g : ℕ) (e : Entry) where
 
 -- ## A stream with another end
 
+-- an operation that is asked to finish lies where it lay
+pub asked-placed : (sizes : List ℕ) (payload : Payload) (o : Operation) → IsPlaced sizes payload o → IsPlaced sizes payload (asked_to_finish o)
+asked-placed sizes payload o h = record { there = h.there; inside = h.inside; counted = h.counted }
+
 with_end-placed : (side : Side) (sizes : List ℕ) (stream : Stream) (e : End) → IsLeft (end_of side stream).operation e.operation → StreamIsPlaced sizes stream → StreamIsPlaced sizes (with_end side stream e)
-with_end-placed Writing sizes stream e left h = record { writer = left_by (OperationIsPlaced sizes stream.payload) stream.writer.operation e.operation left h.writer tt; reader = h.reader }
-with_end-placed Reading sizes stream e left h = record { writer = h.writer; reader = left_by (OperationIsPlaced sizes stream.payload) stream.reader.operation e.operation left h.reader tt }
+with_end-placed Writing sizes stream e left h = record { writer = left_by (OperationIsPlaced sizes stream.payload) stream.writer.operation e.operation left h.writer tt (asked-placed sizes stream.payload); reader = h.reader }
+with_end-placed Reading sizes stream e left h = record { writer = h.writer; reader = left_by (OperationIsPlaced sizes stream.payload) stream.reader.operation e.operation left h.reader tt (asked-placed sizes stream.payload) }
 
 -- an end of one stream is another, with its operation or none
 pub IsSound-set : (state : State) (s : ℕ) (side : Side) (e : End) → s < length state.streams → IsLeft (end_of side (stream_at state s)).operation e.operation → IsSound state → IsSound (record state { streams = set state.streams s (with_end side (stream_at state s) e) })
@@ -275,8 +279,8 @@ IsSound-set state s side e l left h =
 
 -- an operation whose end is told
 pub left_told : (code : Option ReturnCode) (o : Option Operation) → IsLeft o (left_pending code o)
-left_told None o = inl refl
-left_told (Some code) o = inr refl
+left_told None o = Unchanged refl
+left_told (Some code) o = Ended refl
 
 module _ (state : State) (s : ℕ) (side : Side) (g handle : ℕ) where
   -- an end was dropped, and its handle freed
@@ -291,4 +295,4 @@ module _ (state : State) (s : ℕ) (side : Side) (g handle : ℕ) where
   IsSound-dropped l ok h =
       let stream = stream_at state s in
       let e = record (end_of side stream) { owner = Gone } in
-      IsSound-freed (record state { streams = set state.streams s (with_end side stream e) }) g handle ok (IsSound-set state s side e l (inl refl) h)
+      IsSound-freed (record state { streams = set state.streams s (with_end side stream e) }) g handle ok (IsSound-set state s side e l (Unchanged refl) h)

@@ -8,6 +8,7 @@ use Rattle.strm_machine.specs.Words.{kind_of, TransmitIndex, TransmitKind, AStre
 use Rattle.strm_codes.specs.declared.codes.ReturnCode.TheVariants as codes
 use Rattle.strm_codes.specs.declared.codes.StreamResult.TheVariants.{Completed}
 use Rattle.strm_codes.specs.declared.codes.TransmitIndex.TheVariants as index
+use Rattle.strm_machine.specs.Endings.{asked_to_finish}
 use Rattle.strm_machine.specs.Meetings.{begun}
 use Rattle.strm_machine.specs.Turns.{is_future}
 use Rattle.strm_machine.specs.Tests.{items_asked}
@@ -134,14 +135,18 @@ count_reported-dropped Future = refl
 
 -- ## A stream with another end
 
+-- one that is asked to finish
+IsOne-asked : (o : Operation) → IsOne o → IsOne (asked_to_finish o)
+IsOne-asked o h = record { total = h.total; done = h.done; waiting = h.waiting; ready = h.ready; completed = h.completed }
+
 pub Tallies-with_end : (side : Side) (stream : Stream) (e : End) → IsLeft (end_of side stream).operation e.operation → Tallies stream → Tallies (with_end side stream e)
 Tallies-with_end Writing stream e left h = record {
-  writing = left_by IsUnmoved stream.writer.operation e.operation left h.writing tt;
+  writing = left_by IsUnmoved stream.writer.operation e.operation left h.writing tt (λ x u. u);
   reading = h.reading;
-  one = λ k. let p = h.one k in record { writing = left_by AreOne stream.writer.operation e.operation left p.writing tt; reading = p.reading; count = p.count };
+  one = λ k. let p = h.one k in record { writing = left_by AreOne stream.writer.operation e.operation left p.writing tt IsOne-asked; reading = p.reading; count = p.count };
 }
 Tallies-with_end Reading stream e left h = record {
   writing = h.writing;
-  reading = left_by IsUnmoved stream.reader.operation e.operation left h.reading tt;
-  one = λ k. let p = h.one k in record { writing = p.writing; reading = left_by AreOne stream.reader.operation e.operation left p.reading tt; count = p.count };
+  reading = left_by IsUnmoved stream.reader.operation e.operation left h.reading tt (λ x u. u);
+  one = λ k. let p = h.one k in record { writing = p.writing; reading = left_by AreOne stream.reader.operation e.operation left p.reading tt IsOne-asked; count = p.count };
 }

@@ -7,6 +7,7 @@ use Rattle.std.proofs.lemmas.List.Elements.{All-nil}
 use Rattle.strm_codes.specs.Codes.{completed_code}
 use Rattle.strm_machine.specs.Words.{Guest, scalars_of, ReturnCode, TransmitKind, AStream, Future, Payload, opposite, same_side, end_of, with_end, with_operation, advanced, carried, Turn, with_received, sizes_of, IsPlaced, OperationIsPlaced, Side, Writing, Reading, Operation, Stream, Call, as_report, count_reported, k_of, items_in, both_open}
 use Rattle.strm_codes.specs.declared.codes.ReturnCode.TheVariants as codes
+use Rattle.strm_machine.specs.Endings.{asked_to_finish}
 use Rattle.strm_machine.specs.State.{is_gone}
 use Rattle.strm_machine.specs.Sides.{write_of, read_of}
 use Rattle.strm_machine.specs.Turns.{answers, waits, moves, completes_alone, rendezvous_by, rendezvous, finds, turn}
@@ -96,27 +97,35 @@ none_brought : (payload : Payload) (guests others : List Guest) (g address h pla
 none_brought payload guests others g address h place a b n e f = none_got payload guests g address a b e ∙ sym (decoded-zero (scalars_of payload) _ n f)
 
 module _ (side : Side) (v : Scene) (taken : v.taken ≡ []) (report : v.report ≡ None) (nothing : v.got ≡ []) (payload : v.after.payload ≡ v.before.payload) (same : v.after.received ≡ v.before.received) where
-  still_at : (o : Option Operation) → (end_of side v.before).operation ≡ o → (end_of side v.after).operation ≡ o → Change side v
-  still_at None was is = ByRest (record { was = was; is = is; takes = taken; counts = ap (k_of v.before.kind 0) report; same = same; nothing = nothing })
-  still_at (Some o) was is =
-      ByGoing o o 0
+  -- an operation that has the items left that it had
+  goes_on : (o p : Operation) → (end_of side v.before).operation ≡ Some o → (end_of side v.after).operation ≡ Some p → p.guest ≡ o.guest → p.address ≡ o.address → p.moved ≡ o.moved → p.left ≡ o.left → Change side v
+  goes_on o p was is guest address moved left =
+      ByGoing o p 0
       (record {
         was = was;
         is = is;
         takes = taken;
         unreported = report;
-        guest = refl;
-        address = omega arith;
-        moved = omega arith;
-        left = omega arith;
+        guest = guest;
+        address = omega (arith, address);
+        moved = omega (arith, moved);
+        left = omega (arith, left);
         payload = payload;
         more = omega (arith, same);
         brings = λ e. nothing ∙ sym (decoded-zero (scalars_of v.before.payload) _ 0 refl);
       })
 
+  still_at : (o : Option Operation) → (end_of side v.before).operation ≡ o → (end_of side v.after).operation ≡ o → Change side v
+  still_at None was is = ByRest (record { was = was; is = is; takes = taken; counts = ap (k_of v.before.kind 0) report; same = same; nothing = nothing })
+  still_at (Some o) was is = goes_on o o was is refl refl refl refl
+
   -- nothing happens at this end
   pub still : (end_of side v.after).operation ≡ (end_of side v.before).operation → Change side v
   still is = still_at (end_of side v.before).operation refl is
+
+  -- its operation is asked to finish
+  pub asked : (o : Operation) → (end_of side v.before).operation ≡ Some o → (end_of side v.after).operation ≡ Some (asked_to_finish o) → Change side v
+  asked o was is = goes_on o (asked_to_finish o) was is refl refl refl refl
 
 -- ## Where it rises
 

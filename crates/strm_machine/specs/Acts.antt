@@ -5,11 +5,12 @@ use Rattle.strm_machine.specs.declared.acts.NamedEnd.{NamedEnd}
 use Rattle.strm_machine.specs.declared.acts.Making.TheVariants.{Guest, Between, Set, Context}
 use Rattle.strm_machine.specs.declared.acts.EndAct.TheVariants.{Operate, Drop, Cancel, Move, Lift}
 use Rattle.strm_machine.specs.declared.acts.LooseAct.TheVariants.{Lower, Close}
+use Rattle.strm_machine.specs.declared.acts.HostAct.TheVariants as host_acts
 use Rattle.strm_machine.specs.declared.acts.SetAct.TheVariants as set_acts
 use Rattle.strm_machine.specs.declared.acts.ContextAct.TheVariants as context_acts
 use Rattle.strm_machine.specs.declared.acts.MemoryAct.TheVariants.{Poke, Dump}
 use Rattle.strm_machine.specs.declared.acts.Act.{Act}
-use Rattle.strm_machine.specs.declared.acts.Act.TheVariants.{Make, OnEnd, OnLoose, Event, OnSet, OnContext, OnMemory}
+use Rattle.strm_machine.specs.declared.acts.Act.TheVariants.{Make, OnEnd, OnLoose, OnHost, Drive, Event, OnSet, OnContext, OnMemory}
 use Rattle.strm_machine.specs.declared.steps.Step.{Step}
 use Rattle.strm_machine.specs.declared.steps.Step.TheVariants as steps
 use Rattle.strm_machine.specs.declared.streams.Side.TheVariants.{Writing, Reading}
@@ -35,6 +36,9 @@ act_of (steps.Move guest ty handle to) = OnEnd Reading (end_named_by guest ty ha
 act_of (steps.Lift guest ty handle) = OnEnd Reading (end_named_by guest ty handle) Lift
 act_of (steps.Lower reader guest ty) = OnLoose reader (Lower guest ty)
 act_of (steps.Close reader) = OnLoose reader Close
+act_of (steps.HostNew host) = OnHost host host_acts.New
+act_of (steps.Feed host bytes) = OnHost host (host_acts.Feed bytes)
+act_of steps.Drive = Drive
 act_of (steps.Event guest handle) = Event guest handle
 act_of (steps.SetNew guest) = Make (Set guest)
 act_of (steps.SetJoin guest set handle) = OnSet guest set (set_acts.Join handle)

@@ -14,6 +14,7 @@ pub mod Reactions
 pub mod Plays
 pub mod Asked
 pub mod Soundness
+pub mod Hosting
 pub mod Moments
 pub mod Untouched
 pub mod Words

@@ -1,4 +1,5 @@
--- One step of the machine. Canonical ABI, the built-ins; the steps that make guests and put or show bytes are ours.
+-- One step of the machine where no host end is there; what host ends do is added in `strm_world`.
+-- Canonical ABI, the built-ins; the steps that make guests and put or show bytes are ours.
 use Rattle.std.specs.Prelude.{ℕ, true, if◌then◌else◌, [], ◌∷◌, ◌++◌, length, min, take, drop, replicate, slice_set, Option, Some, None}
 use Rattle.strm_codes.specs.declared.codes.ReturnCode.{ReturnCode}
 use Rattle.strm_codes.specs.declared.codes.TransmitIndex.{TransmitIndex}
@@ -35,7 +36,7 @@ use Rattle.strm_machine.specs.declared.acts.ContextAct.TheVariants as context_ac
 use Rattle.strm_machine.specs.declared.acts.MemoryAct.{MemoryAct}
 use Rattle.strm_machine.specs.declared.acts.MemoryAct.TheVariants.{Poke, Dump}
 use Rattle.strm_machine.specs.declared.acts.Act.{Act}
-use Rattle.strm_machine.specs.declared.acts.Act.TheVariants.{Make, OnEnd, OnLoose, Event, OnSet, OnContext, OnMemory}
+use Rattle.strm_machine.specs.declared.acts.Act.TheVariants.{Make, OnEnd, OnLoose, OnHost, Drive, Event, OnSet, OnContext, OnMemory}
 use Rattle.strm_machine.specs.declared.steps.Step.{Step}
 use Rattle.strm_machine.specs.declared.replies.Member.{Member}
 use Rattle.strm_machine.specs.declared.replies.Reply.{Reply}
@@ -201,6 +202,8 @@ unfoldable pub performs : State → Act → Reaction
 performs state (Make making) = makes state making
 performs state (OnEnd side end act) = on_end state side end act
 performs state (OnLoose reader act) = on_loose state reader act
+performs state (OnHost host act) = goes replies.Done state
+performs state Drive = goes replies.Done state
 performs state (Event g handle) =
     tells state (stream_named (end_named state g handle)) (side_named (end_named state g handle))
 performs state (OnSet g set act) = on_set state g set act

@@ -1,5 +1,5 @@
 -- Why a step is refused: the first whose condition holds, in the order of the call. Ours: the order.
-use Rattle.std.specs.Prelude.{ℕ, ◌==◌, Bool, not, ◌||◌, if◌then◌else◌, List, [], ◌∷◌, ◌++◌, min, length, Result, Option, Some, None}
+use Rattle.std.specs.Prelude.{ℕ, ◌==◌, Bool, true, not, ◌||◌, if◌then◌else◌, List, [], ◌∷◌, ◌++◌, min, length, Result, Option, Some, None}
 use Rattle.strm_codes.specs.declared.codes.TransmitIndex.{TransmitIndex}
 use Rattle.strm_codes.specs.declared.codes.TransmitKind.{TransmitKind}
 use Rattle.strm_codes.specs.declared.codes.TransmitKind.TheVariants.{Stream as AStream, Future}
@@ -9,7 +9,7 @@ use Rattle.strm_codes.specs.Types.{kind_of}
 use Rattle.strm_handles.specs.Handles.{next_index}
 use Rattle.strm_handles.specs.declared.errors.HandleError.{HandleError}
 use Rattle.strm_machine.specs.State.{State, guest_in, stream_at}
-use Rattle.strm_machine.specs.Tests.{is_unknown_guest, are_guests_full, is_memory_too_big, are_handles_full, are_places_full, are_streams_full, is_no_handle, is_too_big, is_out_of_bounds, is_misaligned, are_bytes_out_of_bounds, Name, named, end_named, is_unknown_handle, is_wrong_kind, is_wrong_type, stream_named, side_named, is_busy, has_ended, owes_value, is_within_one_guest, is_spent, is_unknown_reader, is_of_other_kind, is_of_other_payload}
+use Rattle.strm_machine.specs.Tests.{is_unknown_guest, are_guests_full, is_memory_too_big, are_handles_full, are_places_full, are_streams_full, is_no_handle, is_too_big, is_out_of_bounds, is_misaligned, are_bytes_out_of_bounds, Name, named, end_named, is_unknown_handle, is_wrong_kind, is_wrong_type, stream_named, side_named, is_busy, has_ended, owes_value, is_within_one_guest, is_spent, is_unknown_reader, is_of_other_kind, is_of_other_payload, is_cancel_under_way}
 use Rattle.strm_machine.specs.Sides.{same_side}
 use Rattle.strm_machine.specs.Making.{writer_index}
 use Rattle.strm_machine.specs.Moves.{without_handle, next_in}
@@ -32,7 +32,7 @@ use Rattle.strm_machine.specs.declared.acts.ContextAct.TheVariants as context_ac
 use Rattle.strm_machine.specs.declared.acts.MemoryAct.{MemoryAct}
 use Rattle.strm_machine.specs.declared.acts.MemoryAct.TheVariants.{Poke, Dump}
 use Rattle.strm_machine.specs.declared.acts.Act.{Act}
-use Rattle.strm_machine.specs.declared.acts.Act.TheVariants.{Make, OnEnd, OnLoose, Event, OnSet, OnContext, OnMemory}
+use Rattle.strm_machine.specs.declared.acts.Act.TheVariants.{Make, OnEnd, OnLoose, OnHost, Drive, Event, OnSet, OnContext, OnMemory}
 
 -- a condition, and the refusal that it gives
 pub record Reason : Type 0 where
@@ -95,7 +95,10 @@ drop_reasons_of stream side ty named =
 -- the end that is named in a cancel
 abbrev pub cancel_reasons_of : Stream → Side → Side → List Reason
 cancel_reasons_of stream side named =
-    side_reasons side named (where_ (not (is_busy side stream)) refusals.NoPending ∷ [])
+    side_reasons side named
+    (where_ (not (is_busy side stream)) refusals.NoPending
+    ∷ where_ (is_cancel_under_way side stream) refusals.CancelUnderWay
+    ∷ [])
 
 -- the end that is named in a move or a lift
 abbrev pub move_reasons_of : Stream → Side → Side → List Reason
@@ -258,11 +261,14 @@ abbrev pub memory_reasons : State → ℕ → MemoryAct → List Reason
 memory_reasons state g (Poke address bytes) = bytes_reasons state g address (length bytes)
 memory_reasons state g (Dump address len) = bytes_reasons state g address (min len 64)
 
--- the reasons of what a step does, in their order
+-- the reasons of what a step does, in their order. This is the machine where no host end is there: of
+-- what is done to one, none is known
 abbrev pub reasons : State → Act → List Reason
 reasons state (Make making) = making_reasons state making
 reasons state (OnEnd side end act) = on_end_reasons state side end act
 reasons state (OnLoose reader act) = on_loose_reasons state reader act
+reasons state (OnHost host act) = where_ true refusals.UnknownHost ∷ []
+reasons state Drive = []
 reasons state (Event g handle) =
     where_ (is_unknown_guest state g) refusals.UnknownGuest ∷ slot_reasons (end_named state g handle)
 reasons state (OnSet g set act) =

@@ -1,8 +1,8 @@
 -- The state of the machine: guests, each with a memory, a handle table and waitable sets, the streams
--- between them, and error contexts.
+-- between them, the host writers that it knows, and error contexts.
 -- Component Model, "Stream State", "Waitable State" and `ErrorContext`; wasmtime,
 -- futures_and_streams.rs.
-use Rattle.std.specs.Prelude.{ℕ, ◌+◌, ◌*◌, Bool, false, true, ◌&&◌, not, List, [], length, slice_index_or, slice_set, sum_by, count_by, None}
+use Rattle.std.specs.Prelude.{ℕ, ◌+◌, ◌*◌, Bool, false, true, ◌&&◌, not, List, [], length, replicate, slice_index_or, slice_set, sum_by, count_by, None}
 use Rattle.strm_codes.specs.declared.codes.TransmitKind.TheVariants.{Stream as AStream}
 use Rattle.strm_codes.specs.declared.payloads.Payload.TheVariants.{Nothing}
 use Rattle.strm_handles.specs.Handles.{Handles, no_handles, live_of}
@@ -11,7 +11,9 @@ use Rattle.strm_sets.specs.Sets.{Sets, no_sets}
 use Rattle.strm_contexts.specs.Contexts.{Contexts, no_contexts, len as contexts_there}
 use Rattle.strm_machine.specs.declared.limits.Limits.{Limits}
 use Rattle.strm_machine.specs.declared.streams.Owner.{Owner}
-use Rattle.strm_machine.specs.declared.streams.Owner.TheVariants.{Held, Loose, Gone}
+use Rattle.strm_machine.specs.declared.streams.Owner.TheVariants.{Held, Loose, Host, Gone}
+use Rattle.strm_machine.specs.declared.streams.Duty.TheVariants.{Unused}
+use Rattle.strm_machine.specs.declared.streams.Producer.{Producer}
 use Rattle.strm_machine.specs.declared.streams.End.{End}
 use Rattle.strm_machine.specs.declared.streams.Stream.{Stream}
 
@@ -29,8 +31,19 @@ pub record State : Type 0 where
   pub limits : Limits
   pub guests : List Guest
   pub streams : List Stream
+  -- of each host writer, by its number, what is kept of it. Ours: the crate keeps its producers in
+  -- the streams
+  pub producers : List Producer
   pub contexts : Contexts
   pub trapped : Bool
+
+-- the host writers, at most. Ours
+abbrev pub host_limit : ℕ
+host_limit = 64
+
+-- a host writer that was never used
+abbrev pub no_producer : Producer
+no_producer = record { duty = Unused; over = false }
 
 -- no guest, no stream and no error context, under these limits
 abbrev pub empty : ℕ → Limits → State
@@ -39,6 +52,7 @@ empty tag limits = record {
   limits = limits;
   guests = [];
   streams = [];
+  producers = replicate host_limit no_producer;
   contexts = no_contexts;
   trapped = false;
 }
@@ -91,20 +105,22 @@ with_table guests g handles sets =
 -- the end was dropped
 abbrev pub is_gone : Owner → Bool
 is_gone Gone = true
-is_gone Loose = false
-is_gone (Held guest handle) = false
+is_gone _ = false
 
 -- a guest has the end
 abbrev pub is_held : Owner → Bool
-is_held Gone = false
-is_held Loose = false
 is_held (Held guest handle) = true
+is_held _ = false
 
--- the end was lifted out of a guest, and nobody has it yet
+-- the end is in no guest yet, or was lifted out of one
 abbrev pub is_loose : Owner → Bool
-is_loose Gone = false
 is_loose Loose = true
-is_loose (Held guest handle) = false
+is_loose _ = false
+
+-- a host end has the end
+abbrev pub is_host : Owner → Bool
+is_host (Host number) = true
+is_host _ = false
 
 -- an end that has this owner, was told nothing, and has no operation
 abbrev pub idle_end : Owner → End
@@ -120,6 +136,10 @@ no_stream = record {
   reader = idle_end Gone;
   received = 0;
 }
+
+-- what is kept of the host writer of a number
+abbrev pub producer_at : State → ℕ → Producer
+producer_at state n = slice_index_or state.producers n no_producer
 
 -- the stream of a number
 abbrev pub stream_at : State → ℕ → Stream

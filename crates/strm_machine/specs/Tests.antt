@@ -125,6 +125,15 @@ abbrev pub side_named : Name → Side
 side_named (Ok answer) = side_of answer.1
 side_named (Err error) = Writing
 
+-- an operation whose host end on the other side was asked to finish
+abbrev pub was_asked : Option Operation → Bool
+was_asked None = false
+was_asked (Some operation) = operation.asked
+
+-- the end's operation is being cancelled already
+abbrev pub is_cancel_under_way : Side → Stream → Bool
+is_cancel_under_way side stream = was_asked (end_of side stream).operation
+
 -- the end has an operation
 abbrev pub is_busy : Side → Stream → Bool
 is_busy side stream = is_some (end_of side stream).operation

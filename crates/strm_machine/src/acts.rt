@@ -68,6 +68,15 @@ pub enum LooseAct {
     Close,
 }
 
+/// What is done to a host writer.
+#[derive(Clone, Copy, Debug, PartialEq, Eq)]
+pub enum HostAct {
+    /// It becomes the write end of a stream of its kind and payload, whose read end is loose.
+    New,
+    /// Bytes from outside are passed on to it; none where no more will come.
+    Feed { bytes: Chunk },
+}
+
 /// What is done to a waitable set.
 #[derive(Clone, Copy, Debug, PartialEq, Eq)]
 pub enum SetAct {
@@ -117,6 +126,13 @@ pub enum Act {
         reader: u32,
         act: LooseAct,
     },
+    /// It does something to the host writer of a number.
+    OnHost {
+        host: u32,
+        act: HostAct,
+    },
+    /// It gives each host end that has something to do its turn.
+    Drive,
     /// It asks what the end that a handle names is to be told, whatever its type.
     Event {
         guest: u32,
@@ -226,6 +242,15 @@ impl Act {
                 reader,
                 act: LooseAct::Close,
             },
+            Step::HostNew { host } => Act::OnHost {
+                host,
+                act: HostAct::New,
+            },
+            Step::Feed { host, bytes } => Act::OnHost {
+                host,
+                act: HostAct::Feed { bytes },
+            },
+            Step::Drive => Act::Drive,
             Step::Event { guest, handle } => Act::Event { guest, handle },
             Step::SetNew { guest } => Act::Make {
                 making: Making::Set { guest },

@@ -10,4 +10,5 @@ pub mod chunks;
 pub mod limits;
 pub mod replies;
 pub mod steps;
+pub mod stops;
 pub mod streams;

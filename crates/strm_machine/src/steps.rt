@@ -91,6 +91,19 @@ pub enum Step {
     Close {
         reader: u32,
     },
+    /// A stream or future that a host writer writes, by the writer's number; its read end is loose.
+    /// wasmtime, `StreamReader::new` and `FutureReader::new`.
+    HostNew {
+        host: u32,
+    },
+    /// Bytes from outside for a host writer, by its number; none where no more will come. Ours.
+    Feed {
+        host: u32,
+        bytes: Chunk,
+    },
+    /// One turn of each stream whose host end has something to do, by the streams' numbers. Ours:
+    /// wasmtime's event loop.
+    Drive,
     /// What an end is to be told, whatever its type: an event of `canon waitable-set.poll`.
     Event {
         guest: u32,

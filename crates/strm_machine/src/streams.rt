@@ -30,10 +30,39 @@ pub enum Meeting {
 pub enum Owner {
     /// A guest, under a handle of its table.
     Held { guest: u32, handle: u32 },
-    /// Nobody yet: the end was lifted out of a guest, and not lowered into one since.
+    /// Nobody yet: the read end was lifted out of a guest, or is one of a host writer's stream, and
+    /// was not lowered into a guest since.
     Loose,
+    /// The host end of this number: a host writer has the write end.
+    Host { number: u32 },
     /// Nobody: the end was dropped.
     Gone,
+}
+
+/// What a host end does for a store. It is used once.
+#[derive(Clone, Copy, Debug, PartialEq, Eq)]
+pub enum Duty {
+    /// It was never used.
+    Unused,
+    /// It is an end of this stream.
+    Serves { stream: u32 },
+    /// It was an end of a stream, and is gone.
+    Ended,
+}
+
+/// What a store keeps of a host writer.
+#[derive(Clone, Copy, Debug, PartialEq, Eq)]
+pub struct Producer {
+    pub duty: Duty,
+    /// It answered Dropped: it has no more to come, and is not polled again.
+    pub over: bool,
+}
+
+/// A host end, by its number.
+#[derive(Clone, Copy, Debug, PartialEq, Eq)]
+pub enum HostEnd {
+    Writer(u32),
+    Reader(u32),
 }
 
 /// A guest's read or write that has not ended. The next item lies at `address`, in bytes, or is to

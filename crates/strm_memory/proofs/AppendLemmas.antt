@@ -2,18 +2,17 @@
 --
 -- Items depend on their own bytes alone (`items-same`); an item stored behind others is one more
 -- (`items_at-put`); bytes are items as they are (`items-bytes`), and are stored as they are (`stored-bytes`).
-use Rattle.std.proofs.Common.{◌≡◌, ℕ, zero, suc, ◌+◌, ◌*◌, ◌-◌, ◌%◌, ◌<◌, ◌≤◌, ℤ, pos, List, [], ◌∷◌, ◌++◌, length, take, drop, map, Option, Some, None, inr, refl, sym, ap, subst, ◌∙◌, append_assoc, arith, length-append, length-drop, get_or}
-use Rattle.std.proofs.lemmas.List.{take-take, drop-take, drop-drop, take-append-drop, drop_at}
+use Rattle.std.proofs.Common.{◌≡◌, ℕ, zero, suc, ◌+◌, ◌*◌, ◌%◌, ◌<◌, ◌≤◌, ℤ, pos, List, [], ◌∷◌, ◌++◌, length, take, drop, map, Option, Some, inr, refl, sym, ap, ◌∙◌, arith, get_or}
+use Rattle.std.proofs.lemmas.List.{take-take, drop-take, drop-drop}
 use Rattle.std.specs.Prelude.{option_and_then}
 use Rattle.std.specs.Option.{option_map}
 use Rattle.strm_codes.specs.Layout.{item_size}
 use Rattle.strm_codes.specs.Items.{FitsItem}
 use Rattle.strm_codes.specs.declared.scalars.Scalar.{Scalar}
 use Rattle.strm_codes.specs.declared.scalars.Scalar.TheVariants.{U8}
-use Rattle.strm_memory.specs.Bytes.{bytes_at, put_at}
-use Rattle.strm_memory.specs.Items.{decode_from, encode_from, decode, encode, items, stored, items_at, stored_at, AreItems}
+use Rattle.strm_memory.specs.Items.{decode_from, encode_from, decode, items, stored, items_at, stored_at, AreItems}
 use Rattle.strm_memory.proofs.ItemLemmas.{items-add}
-use Rattle.strm_memory.proofs.RegionLemmas.{decode_from-take, items_at-stored_at, bytes_at-stored_at, length-stored_at}
+use Rattle.strm_memory.proofs.RegionLemmas.{decode_from-take, items_at-stored_at, bytes_at-stored_at}
 
 -- items depend on their own bytes alone
 pub items-same : (ss : List Scalar) (bytes other : List ℕ) (n : ℕ) → take (item_size ss * n) other ≡ take (item_size ss * n) bytes → items ss other n ≡ items ss bytes n

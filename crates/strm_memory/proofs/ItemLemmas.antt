@@ -3,12 +3,12 @@ use Rattle.std.proofs.Common.{◌≡◌, ℕ, zero, suc, ◌+◌, ◌*◌, ◌<�
 use Rattle.std.proofs.lemmas.List.{length-take-le, drop-drop, take-append-drop, drop_more, drop_all}
 use Rattle.std.proofs.Math.Nat.{mul-le-mul_left}
 use Rattle.std.proofs.Math.Seq.{take-append-add, drop-append-add}
-use Rattle.std.specs.Prelude.{is_some, IsSome, IsNone, IsSomeAnd, option_and_then}
+use Rattle.std.specs.Prelude.{is_some, IsSomeAnd, option_and_then}
 use Rattle.std.specs.Option.{option_map}
 use Rattle.strm_codes.specs.Layout.{item_size}
 use Rattle.strm_codes.specs.declared.scalars.Scalar.{Scalar}
 use Rattle.strm_codes.specs.Items.{FitsItem}
-use Rattle.strm_memory.specs.Items.{decode, encode, items, stored, AreItems, IsFirstBad}
+use Rattle.strm_memory.specs.Items.{decode, encode, items, stored, AreItems}
 use Rattle.strm_memory.proofs.FieldLemmas.{is_some-both, from_on, with_front, with_front-more}
 
 pub item_fits : (k n size : ℕ) → k < n → size * k + size ≤ size * n
@@ -61,22 +61,6 @@ items_last ss source (suc k) =
 pub some_more : (ss : List Scalar) (source : List ℕ) (from at k size : ℕ) (x : List ℤ) → size ≡ item_size ss → at ≡ from + size * k → is_some (items ss (drop from source) k) ≡ true → Some x ≡ decode ss (drop at source) → is_some (items ss (drop from source) (k + 1)) ≡ true
 some_more ss source from at k size x e p good d =
     rw (add-one, items_last ss (drop from source) k, good, drop-drop (item_size ss * k) from source, ← e, ← p, ← d) refl
-
-some_from : {A : Type 0} (o : Option A) → is_some o ≡ true → IsSome o
-some_from None e = cc
-some_from (Some x) e = refl
-
-none_from : {A : Type 0} (o : Option A) → None ≡ o → IsNone o
-none_from None e = refl
-none_from (Some x) e = cc
-
--- one item more that is none
-pub first_bad : (ss : List Scalar) (source : List ℕ) (from at k n size : ℕ) → k < n → size ≡ item_size ss → at ≡ from + size * k → is_some (items ss (drop from source) k) ≡ true → None ≡ decode ss (drop at source) → IsFirstBad ss (drop from source) n k
-first_bad ss source from at k n size h e p good d = record {
-  within = h;
-  before = some_from (items ss (drop from source) k) good;
-  bad = rw (drop-drop (item_size ss * k) from source, ← e, ← p) (none_from (decode ss (drop at source)) d);
-}
 
 pub all_lifted : (ss : List Scalar) (source : List ℕ) (n : ℕ) (old new : List (List ℤ)) (o : Option (List (List ℤ))) → with_front new (items ss source (n - n)) ≡ with_front old o → IsSomeAnd o (λ xs. new ≡ old ++ xs)
 unfolding items

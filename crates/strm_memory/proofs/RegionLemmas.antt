@@ -9,11 +9,11 @@ use Rattle.std.proofs.Common.{◌≡◌, ℕ, zero, suc, ◌+◌, ◌*◌, ◌�
 use Rattle.std.proofs.lemmas.List.{take_at, drop_at, length-take-le, drop-drop, drop-take, take-take, take-append-drop}
 use Rattle.std.proofs.lemmas.Option.{option_and_then_some}
 use Rattle.std.proofs.Math.Seq.{drop-append-add}
-use Rattle.std.specs.Prelude.{All, is_some, IsSome, IfSome, IsTrue}
+use Rattle.std.specs.Prelude.{is_some, IsSome, IsTrue}
 use Rattle.strm_codes.specs.Scalars.{size_of}
 use Rattle.strm_codes.specs.Layout.{scalars_of, gap_before, end_offset, item_size}
 use Rattle.strm_codes.proofs.LayoutLemmas.{le-end_offset}
-use Rattle.strm_codes.specs.Items.{FitsItem, IsNumber}
+use Rattle.strm_codes.specs.Items.{FitsItem}
 use Rattle.strm_codes.specs.declared.scalars.Scalar.{Scalar}
 use Rattle.strm_codes.specs.declared.payloads.Payload.{Payload}
 use Rattle.strm_codes.specs.declared.payloads.Payload.TheVariants.{Nothing, One, Tuple}
@@ -22,7 +22,6 @@ use Rattle.strm_memory.specs.Numbers.{lifted, lowered}
 use Rattle.strm_memory.specs.Items.{decode_from, encode_from, decode, encode, items, stored, items_at, stored_at, AreItems, is_number_or_none}
 use Rattle.strm_memory.proofs.ByteLemmas.{length-to_le, le-to_le, le-take-lt, IsBytes-drop}
 use Rattle.strm_memory.proofs.NumberLemmas.{IsLifted, IsLifted-fits, FitsScalar-lifted}
-use Rattle.strm_memory.proofs.FieldLemmas.{IsNumber-FitsItem}
 use Rattle.strm_memory.proofs.CopyLemmas.{option_map_some, items-no_char, number_no_char}
 
 -- ## One item
@@ -99,14 +98,6 @@ FitsItem-decode_from at (s ∷ ss) bytes x h e =
     (λ y p q. option_map_some _ (decode_from (at + gap + size_of s) ss (drop (gap + size_of s) bytes)) x q
     (λ ys u v.
     subst (FitsItem (s ∷ ss)) v (FitsScalar-lifted s (le here) y (le-take-lt (size_of s) (drop gap bytes) (IsBytes-drop bytes gap h)) p, FitsItem-decode_from (at + gap + size_of s) ss (drop (gap + size_of s) bytes) ys (IsBytes-drop bytes (gap + size_of s) h) u)))
-
--- a value made of an item's numbers
-pub made_value : (o : Option (List ℤ)) (ss : List Scalar) (bytes : List ℕ) (xs : List ℤ) → IsBytes bytes → decode ss bytes ≡ Some xs → length xs ≤ 8 → ((length xs ≤ 8) × All IsNumber xs → IsSome o) → IfSome o (λ v. v ≡ xs) → o ≡ decode ss bytes
-made_value o ss bytes xs h e few made v = same o (made (few, IsNumber-FitsItem ss xs (FitsItem-decode_from 0 ss bytes xs h e))) v ∙ sym e
-  where
-    same : (o : Option (List ℤ)) → IsSome o → IfSome o (λ v. v ≡ xs) → o ≡ Some xs
-    same None i v = cc
-    same (Some x) i v = ap Some v
 
 -- ## So many items from the front of the bytes
 

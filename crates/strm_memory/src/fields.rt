@@ -3,7 +3,8 @@
 //! Source: Canonical ABI, "Alignment", "Loading" and "Storing".
 
 ghost use Rattle.std.specs.Prelude.{◌≡◌, ◌+◌, ◌^◌, ◌<◌, ◌≤◌, length, drop, IfSome};
-ghost use Rattle.strm_codes.specs.Scalars.{size_of, IsSignedBelow, FitsScalar};
+ghost use Rattle.strm_codes.specs.Scalars.{size_of, FitsScalar};
+ghost use Rattle.strm_codes.specs.Items.{IsNumber};
 ghost use Rattle.strm_codes.specs.Layout.{gap_before, end_offset};
 ghost use Rattle.strm_memory.specs.Bytes.{le, to_le, put_at, bytes_at};
 ghost use Rattle.strm_memory.specs.Numbers.{lifted, lowered};
@@ -36,7 +37,7 @@ fn next_start(at: usize, scalar: Scalar) -> usize
 pub(crate) fn lift_field(bytes: &[u8], at: usize, scalar: Scalar) -> Option<i128>
     requires { at + size_of scalar ≤ length bytes.now }
     ensures exact { result ≡ lifted scalar (le (bytes_at bytes.now at (size_of scalar))) }
-    ensures small { IfSome result (IsSignedBelow (2 ^ 64)) }
+    ensures range { IfSome result IsNumber }
 {
     match scalar {
         Scalar::Bool => Some(i128::from(load_1(bytes, at).min(1))),

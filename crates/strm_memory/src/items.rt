@@ -3,6 +3,7 @@
 //! Source: Canonical ABI, "Loading" and "Storing", for lists of records.
 
 ghost use Rattle.std.specs.Prelude.{◌≡◌, ℕ, ◌+◌, ◌*◌, ◌<◌, ◌≤◌, [], ◌∷◌, ◌++◌, length, take, drop, Err, IsErrOf, IsSomeAnd, OnOk, OnErr, vec_len, vec_capacity};
+ghost use Rattle.std.specs.Bool.{then_some};
 ghost use Rattle.strm_codes.specs.Items.{FitsItem};
 ghost use Rattle.strm_codes.specs.Layout.{scalars_of, end_offset, item_size};
 ghost use Rattle.strm_memory.specs.Items.{decode, encode, items, items_at, stored, stored_at, AreItems, IsFirstBad};
@@ -75,13 +76,12 @@ pub(crate) fn lift_fields(
     let start = out.len();
     let mut at = from;
     for k in 0..count {
-        match lift_item(fields, bytes, at) {
-            Some(value) => out.push_reserved(value),
-            None => {
-                out.truncate(start);
-                return Err(LiftError::BadItem { index: k });
-            }
+        let mut item = Value::empty();
+        if !lift_fields_into(fields, bytes, at, &mut item) {
+            out.truncate(start);
+            return Err(LiftError::BadItem { index: k });
         }
+        out.push_reserved(item);
         at += size;
     }
     Ok(())
@@ -93,7 +93,22 @@ pub fn lift_item_at(bytes: &[u8], from: usize, payload: Payload) -> Option<Value
     requires { from + item_size (scalars_of payload) ≤ length bytes.now }
     ensures { result ≡ decode (scalars_of payload) (drop from bytes.now) }
 {
-    lift_item(payload.scalars(), bytes, from)
+    let mut item = Value::empty();
+    if lift_item_into(bytes, from, &payload, &mut item) {
+        Some(item)
+    } else {
+        None
+    }
+}
+
+/// The same, put into an empty item: whether there is one, else what it holds then is no item. A
+/// caller that keeps the item moves it once less than an `Option` of it.
+pub fn lift_item_into(bytes: &[u8], from: usize, payload: &Payload, item: &mut Value) -> bool
+    requires holds { from + item_size (scalars_of payload.now) ≤ length bytes.now }
+    requires empty { item.old ≡ [] }
+    ensures { then_some result item.new ≡ decode (scalars_of payload.now) (drop from bytes.now) }
+{
+    lift_fields_into(payload.scalars(), bytes, from, item)
 }
 
 /// Stores one item in the bytes from a place on. Padding stays as it was. Takes no memory.
@@ -105,24 +120,24 @@ pub fn lower_item_at(item: &Value, payload: Payload, bytes: &mut [u8], to: usize
     lower_item(payload.scalars(), item, bytes, to);
 }
 
-// The item that lies there, or none.
-pub(crate) fn lift_item(fields: &[Scalar], bytes: &[u8], from: usize) -> Option<Value>
+// The same from the item's fields. Each number is written once.
+fn lift_fields_into(fields: &[Scalar], bytes: &[u8], from: usize, item: &mut Value) -> bool
     requires few { length fields.now ≤ 8 }
     requires holds { from + end_offset 0 fields.now ≤ length bytes.now }
-    ensures { result ≡ decode fields.now (drop from bytes.now) }
+    requires empty { item.old ≡ [] }
+    ensures { then_some result item.new ≡ decode fields.now (drop from bytes.now) }
 {
-    let mut numbers = [0i128; 8];
     let mut at = 0;
     for k in 0..fields.len() {
         let scalar = fields[k];
         let start = field_start(fields, k, at);
         match lift_field(bytes, from + start, scalar) {
-            Some(number) => numbers[k] = number,
-            None => return None,
+            Some(number) => item.push(number),
+            None => return false,
         }
         at = start + scalar.size() as usize;
     }
-    Value::new(&numbers[..fields.len()])
+    true
 }
 
 /// Stores items from the front of the bytes on, one after the other. Padding stays as it was. Takes

@@ -65,10 +65,14 @@ stops-items steps replies causes.OutOfMemory items b = refl
 
 -- of what a run answers
 module _ (steps : List Step) where
-  pub answers-in : (r : Result Transcript RunStop) → IfOk r (λ t. play [] start steps ≡ Ends t.replies t.store) → IfErr r (λ stop. StopsBy steps stop.replies stop.cause) → (told : List Reply) (state : State) (s : ℕ) → AsksBad steps told state s → IsErr r × IfErr r (λ stop. StopsIn told s stop.replies stop.cause)
+  -- where it stopped, it stopped as a run of these steps does
+  abbrev HasStopped : Result Transcript RunStop → Type 0
+  HasStopped r = IfErr r (λ stop. StopsBy steps stop.replies stop.cause)
+
+  pub answers-in : (r : Result Transcript RunStop) → IfOk r (λ t. play [] start steps ≡ Ends t.replies t.store) → HasStopped r → (told : List Reply) (state : State) (s : ℕ) → AsksBad steps told state s → IsErr r × IfErr r (λ stop. StopsIn told s stop.replies stop.cause)
   answers-in (Ok t) ok stop told state s a = absurd (ends-asks steps t.replies t.store ok told state s a)
   answers-in (Err e) ok stop told state s a = (refl, stops-in steps e.replies e.cause told state s a stop)
 
-  pub answers-items : (r : Result Transcript RunStop) → IfErr r (λ stop. StopsBy steps stop.replies stop.cause) → AsksItems steps → IfErr r (λ stop. stop.cause ≡ causes.OutOfMemory)
+  pub answers-items : (r : Result Transcript RunStop) → HasStopped r → AsksItems steps → IfErr r (λ stop. stop.cause ≡ causes.OutOfMemory)
   answers-items (Ok t) stop items = tt
   answers-items (Err e) stop items = stops-items steps e.replies e.cause items stop

@@ -4,3 +4,4 @@ pub mod EndLemmas
 pub mod OwnerLemmas
 pub mod SetLemmas
 pub mod ContextLemmas
+pub mod EndingLemmas

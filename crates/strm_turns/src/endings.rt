@@ -3,11 +3,14 @@
 //! Meaning: `Endings.antt` of `strm_machine`. Source: Canonical ABI, the events of reads and writes,
 //! and `canon stream.cancel-{read,write}`; wasmtime, `guest_cancel_read` and `guest_cancel_write`.
 
-ghost use Rattle.std.specs.Prelude.{◌≡◌, Some};
+ghost use Rattle.std.specs.Prelude.{◌≡◌, true, Some};
 ghost use Rattle.std.specs.Option.{option_map};
 ghost use Rattle.strm_events.specs.Reports.{report_of, cancel_answer};
-ghost use Rattle.strm_machine.specs.Endings.{pending_of, is_other_gone, report_on, told_end, delivered, code_of_cancel, cancelled};
+ghost use Rattle.strm_codes.specs.declared.codes.ReturnCode.TheVariants.{Blocked};
+ghost use Rattle.strm_machine.specs.Sides.{end_of, with_end};
+ghost use Rattle.strm_machine.specs.Endings.{pending_of, is_other_gone, report_on, told_end, delivered, waits_for_host, code_of_cancel, cancelled_end, cancelled};
 
+use crate::owners::is_host;
 use crate::sides::{end_of, opposite};
 use strm_codes::codes::{ReturnCode, TransmitKind};
 use strm_codes::counts::ItemCount;
@@ -105,11 +108,36 @@ fn cancel_end(end: &mut End, kind: TransmitKind, is_other_gone: bool, passed: bo
     }
 }
 
-/// Cancels the operation of the end on a side.
-#[tactic(auto, unfolding(strm_machine::specs::Endings::cancelled))]
-pub fn cancel_operation(stream: &mut Stream, side: Side) -> ReturnCode
-    ensures code { result ≡ code_of_cancel side stream.old }
-    ensures stream { stream.new ≡ cancelled side stream.old }
+// Whether the end on a side has no report while a host end has the other one, which is to finish first.
+fn waits_for_host(side: Side, stream: &Stream) -> bool
+    ensures { result ≡ waits_for_host side stream.now }
+{
+    is_host(end_of(stream, opposite(side)).owner) && report_on(stream, side).is_none()
+}
+
+// The operation of an end waits from now on for the host end on the other side to finish.
+fn ask_to_finish(end: &mut End)
+    ensures { end.new ≡ cancelled_end true Blocked end.old }
+{
+    if let Some(operation) = &mut end.operation {
+        operation.asked = true;
+    }
+}
+
+// The same of the end on a side.
+fn wait_for_host(stream: &mut Stream, side: Side)
+    ensures { stream.new ≡ with_end side stream.old (cancelled_end true Blocked (end_of side stream.old)) }
+{
+    match side {
+        Side::Writing => ask_to_finish(&mut stream.writer),
+        Side::Reading => ask_to_finish(&mut stream.reader),
+    }
+}
+
+// Cancels the operation of the end on a side at once.
+fn cancel_at_once(stream: &mut Stream, side: Side) -> ReturnCode
+    ensures code { result ≡ cancel_answer stream.old.kind (report_on side stream.old) }
+    ensures stream { stream.new ≡ with_end side stream.old (told_end (Some result) (end_of side stream.old)) }
 {
     let is_other_gone = is_other_gone(side, stream);
     let (kind, passed) = (stream.kind, stream.passed);
@@ -117,4 +145,17 @@ pub fn cancel_operation(stream: &mut Stream, side: Side) -> ReturnCode
         Side::Writing => cancel_end(&mut stream.writer, kind, is_other_gone, passed),
         Side::Reading => cancel_end(&mut stream.reader, kind, is_other_gone, passed),
     }
+}
+
+/// Cancels the operation of the end on a side; where a host end is to finish first, it is asked to,
+/// and the answer is Blocked.
+pub fn cancel_operation(stream: &mut Stream, side: Side) -> ReturnCode
+    ensures code { result ≡ code_of_cancel side stream.old }
+    ensures stream { stream.new ≡ cancelled side stream.old }
+{
+    if waits_for_host(side, stream) {
+        wait_for_host(stream, side);
+        return ReturnCode::Blocked;
+    }
+    cancel_at_once(stream, side)
 }

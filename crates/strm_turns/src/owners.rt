@@ -5,10 +5,18 @@
 //! wasmtime, `host_drop_writer` and `host_drop_reader`. Ours: the count.
 
 ghost use Rattle.std.specs.Prelude.{◌≡◌, ◌^◌, ◌<◌, length, count_by, slice_index_or, slice_set};
-ghost use Rattle.strm_machine.specs.State.{is_live, no_stream};
+ghost use Rattle.strm_machine.specs.State.{is_host, is_live, no_stream};
 ghost use Rattle.strm_machine.specs.Moves.{with_owner};
 
 use strm_machine::streams::{Owner, Side, Stream};
+
+/// Whether a host end has the end.
+#[inline(always)]
+pub fn is_host(owner: Owner) -> bool
+    ensures { result ≡ is_host owner }
+{
+    matches!(owner, Owner::Host { .. })
+}
 
 /// Whether an end is there.
 pub fn is_live(stream: &Stream) -> bool

@@ -13,14 +13,15 @@ apart_less : (address n k other m : ℕ) → k ≤ n → IsApart address n other
 apart_less address n k other m h (inl behind) = inl (omega (arith, h, behind))
 apart_less address n k other m h (inr before) = inr before
 
--- the bytes that lie apart from the room
-pub stays_outside : (payload : Payload) (memory after : List ℕ) (address room count : ℕ) (w v : Lent) → address + item_size (scalars_of payload) * room ≤ length memory → w ≡ record (lent_memory payload memory address room) { prepared = true } → Fills w v → after ≡ memory_of v.place → count ≡ length v.marked → HasRoom v.place count 0
-    → (other n : ℕ) → IsApart address (item_size (scalars_of payload) * room) other n → bytes_at after other n ≡ bytes_at memory other n
-stays_outside payload memory after address room count w v h e f a c r other n apart =
-    let ss = scalars_of payload in
-    let place : v.place ≡ Memory (stored_at ss memory (address + item_size ss * 0) v.marked) address room = f.place ∙ rw e refl in
-    let at : address + item_size ss * 0 ≡ address = omega arith in
-    let few : count + 0 ≤ room = subst (λ (p : Place). HasRoom p count 0) place r in
-    let most : item_size ss * length v.marked ≤ item_size ss * room = mul-le-mul_left (item_size ss) (omega (arith, few, c)) in
-    let is : after ≡ stored_at ss memory address v.marked = a ∙ ap memory_of place ∙ ap (λ k. stored_at ss memory k v.marked) at in
-    rw is (bytes_at-stored_at ss memory address v.marked other n (omega (arith, most, h)) (apart_less address (item_size ss * room) (item_size ss * length v.marked) other n most apart))
+module _ (payload : Payload) (memory after : List ℕ) (address room count : ℕ) (w v : Lent) (h : address + item_size (scalars_of payload) * room ≤ length memory) (e : w ≡ record (lent_memory payload memory address room) { prepared = true }) where
+  -- the bytes that lie apart from the room
+  pub stays_outside : Fills w v → after ≡ memory_of v.place → count ≡ length v.marked → HasRoom v.place count 0
+      → (other n : ℕ) → IsApart address (item_size (scalars_of payload) * room) other n → bytes_at after other n ≡ bytes_at memory other n
+  stays_outside f a c r other n apart =
+      let ss = scalars_of payload in
+      let place : v.place ≡ Memory (stored_at ss memory (address + item_size ss * 0) v.marked) address room = f.place ∙ rw e refl in
+      let at : address + item_size ss * 0 ≡ address = omega arith in
+      let few : count + 0 ≤ room = subst (λ (p : Place). HasRoom p count 0) place r in
+      let most : item_size ss * length v.marked ≤ item_size ss * room = mul-le-mul_left (item_size ss) (omega (arith, few, c)) in
+      let is : after ≡ stored_at ss memory address v.marked = a ∙ ap memory_of place ∙ ap (λ k. stored_at ss memory k v.marked) at in
+      rw is (bytes_at-stored_at ss memory address v.marked other n (omega (arith, most, h)) (apart_less address (item_size ss * room) (item_size ss * length v.marked) other n most apart))

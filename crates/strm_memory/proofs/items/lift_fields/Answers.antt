@@ -1,7 +1,7 @@
 use Rattle.std.proofs.Common.{◌≡◌, ◌-◌, arith, ◌∙◌, refl}
 use Rattle.std.proofs.lemmas.Grind.{common_steps}
 use Rattle.strm_memory.specs.Items.{items}
-use Rattle.strm_memory.proofs.ItemLemmas.{items_step, some_more, first_bad, all_lifted}
+use Rattle.strm_memory.proofs.ItemLemmas.{items_step, some_more, all_lifted}
 use Rattle.strm_memory.proofs.items.lift_fields.Goals as goal
 
 pub loop-k-init : goal.loop-k-init
@@ -17,19 +17,14 @@ loop-k-init c =
       rest = rw (z, c.reserve.ensures.items) refl;
     }
 
-pub returns-in-None-clause-bad_item : goal.returns-in-None-clause-bad_item
-returns-in-None-clause-bad_item c = λ index e.
-    let same : c.loop-k.k ≡ index = cc in
-    rw (← same) (first_bad c.args.fields.now c.args.bytes.now c.args.from c.loop-k.at c.loop-k.k c.args.count c.args.size (omega arith) c.requires.size c.loop-k.invariant.place c.loop-k.invariant.good c.in-None.ensures)
-
 pub loop-k-preserved : goal.loop-k-preserved
 loop-k-preserved c = record {
   place = omega arith;
   room = grind arith;
   more = grind arith;
   front = grind (arith, common_steps);
-  good = some_more c.args.fields.now c.args.bytes.now c.args.from c.loop-k.at c.loop-k.k c.args.size c.in-Some.value c.requires.size c.loop-k.invariant.place c.loop-k.invariant.good c.in-Some.ensures;
-  rest = rw c.push_reserved.ensures.items (items_step c.args.fields.now c.args.bytes.now c.loop-k.at c.loop-k.k c.args.count c.args.size c.loop-k.out.items c.in-Some.value (omega arith) c.requires.size c.in-Some.ensures ∙ c.loop-k.invariant.rest);
+  good = some_more c.args.fields.now c.args.bytes.now c.args.from c.loop-k.at c.loop-k.k c.args.size c.lift_fields_into.new.item c.requires.size c.loop-k.invariant.place c.loop-k.invariant.good c.if-not-lift_fields_into.ensures;
+  rest = rw c.push_reserved.ensures.items (items_step c.args.fields.now c.args.bytes.now c.loop-k.at c.loop-k.k c.args.count c.args.size c.loop-k.out.items c.lift_fields_into.new.item (omega arith) c.requires.size c.if-not-lift_fields_into.ensures ∙ c.loop-k.invariant.rest);
 }
 
 pub returns-clause-ok : goal.returns-clause-ok

@@ -4,10 +4,11 @@ use Rattle.std.specs.Prelude.{codes, decimal}
 use Rattle.strm_resources.specs.Text.{items_text, more_text}
 use Rattle.strm_resources.proofs.prints.write_numbers.Goals as goal
 
--- the text so far, the number's text, and the text of the rest
-joined : (done all keys rest : List ℕ) (number : ℕ) (first : Bool) (text : List ℕ) → keys ≡ number ∷ rest → cond first (items_text (number ∷ rest)) (more_text (number ∷ rest)) ≡ text ++ more_text rest → done ++ cond first (items_text keys) (more_text keys) ≡ all → (done ++ text) ++ more_text rest ≡ all
-joined done all keys rest number first text steps here so_far =
-    append_assoc done text (more_text rest) ∙ ap (λ t. done ++ t) (sym here) ∙ ap (λ ns. done ++ cond first (items_text ns) (more_text ns)) (sym steps) ∙ so_far
+module _ (done all keys rest : List ℕ) (number : ℕ) (first : Bool) (text : List ℕ) where
+  -- the text so far, the number's text, and the text of the rest
+  joined : keys ≡ number ∷ rest → cond first (items_text (number ∷ rest)) (more_text (number ∷ rest)) ≡ text ++ more_text rest → done ++ cond first (items_text keys) (more_text keys) ≡ all → (done ++ text) ++ more_text rest ≡ all
+  joined steps here so_far =
+      append_assoc done text (more_text rest) ∙ ap (λ t. done ++ t) (sym here) ∙ ap (λ ns. done ++ cond first (items_text ns) (more_text ns)) (sym steps) ∙ so_far
 
 pub loop-number-preserved-in_ok-write : goal.loop-number-preserved-in_ok-write
 loop-number-preserved-in_ok-write g c = λ plain.

@@ -1,0 +1,51 @@
+use Rattle.std.proofs.Common.{◌≡◌, ◌+◌, ◌*◌, ◌-◌, ◌≤◌, [], ◌∷◌, ◌++◌, length, take, drop, refl, ap, ◌∙◌, arith, length-drop}
+use Rattle.strm_codes.specs.Layout.{scalars_of, item_size}
+use Rattle.strm_ends.specs.Fed.{IsFed, more_fed, fed_kept}
+use Rattle.strm_ends.specs.declared.feeds.Feed.{Feed}
+use Rattle.strm_ends.proofs.FedLemmas.{FedMore, fed_more, feed_behind}
+use Rattle.strm_ends.proofs.feeds.Feeds.feed.Goals as goal
+
+pub invariant_of-self-2 : goal.invariant_of-self-2
+invariant_of-self-2 c =
+    let s = c.self.inside in
+    let given = c.args.bytes.now in
+    let n = c.count_items-count.result in
+    let k = c.size.result * n in
+    let e : k ≡ item_size (scalars_of s.payload) * n = ap (λ w. w * n) c.size.ensures.exact in
+    let p : FedMore c.args.self.now c.args.records given s.payload (s.bytes.items ++ take k given) (s.len + n) (s.rest.items ++ drop k given) (s.feeds.items ++ feed_behind s.bytes.items s.rest.items c.args.records given k ∷ []) =
+    fed_more s.payload s.bytes.items s.rest.items given s.len n k c.args.records s.feeds.items c.args.self.now c.self.invariant c.self.view_is c.count_items-count.ensures.lie c.count_items-count.ensures.fit e (omega (arith, e, c.count_items-count.ensures.within)) c.count_items-count.ensures.few in
+    let b : c.extend_from_slice.new.self.items ≡ s.bytes.items ++ take k given = c.in-Ok.ensures.items ∙ ap (λ l. s.bytes.items ++ l) c.split_at.ensures.front in
+    let r : c.extend_from_slice-2.new.self.items ≡ s.rest.items ++ drop k given =
+    c.in-Ok-extend_from_slice.ensures.items ∙ ap (λ l. l ++ c.split_at.result.1.now) c.reserve-else-is_err.ensures.items ∙ ap (λ l. s.rest.items ++ l) c.split_at.ensures.back in
+    let at : c.len.result ≡ length s.bytes.items = omega (arith, c.len.ensures, s.bytes.ok.0) in
+    let beside : c.len-2.result ≡ length s.rest.items = omega (arith, c.len-2.ensures, s.rest.ok.0) in
+    let feed : Feed = record { records = c.args.records; start = c.len.result; len = length c.split_at.result.0.now; rest_start = c.len-2.result; rest_len = length c.split_at.result.1.now } in
+    let front : length c.split_at.result.0.now ≡ k = c.split_at.ensures.front_len in
+    let back : length c.split_at.result.1.now ≡ length given - k = ap length c.split_at.ensures.back ∙ length-drop k given in
+    let same : feed ≡ feed_behind s.bytes.items s.rest.items c.args.records given k = rw (at, beside, front, back) refl in
+    let f : c.push_reserved.new.self.items ≡ s.feeds.items ++ feed_behind s.bytes.items s.rest.items c.args.records given k ∷ [] =
+    c.push_reserved.ensures.items ∙ ap (λ l. l ++ feed ∷ []) c.reserve.ensures.items ∙ ap (λ (x : Feed). s.feeds.items ++ x ∷ []) same in
+    rw (b, r, f) p.is_fed
+
+pub returns-clause-ok : goal.returns-clause-ok
+returns-clause-ok c =
+    let s = c.self.inside in
+    let given = c.args.bytes.now in
+    let n = c.count_items-count.result in
+    let k = c.size.result * n in
+    let e : k ≡ item_size (scalars_of s.payload) * n = ap (λ w. w * n) c.size.ensures.exact in
+    let p : FedMore c.args.self.now c.args.records given s.payload (s.bytes.items ++ take k given) (s.len + n) (s.rest.items ++ drop k given) (s.feeds.items ++ feed_behind s.bytes.items s.rest.items c.args.records given k ∷ []) =
+    fed_more s.payload s.bytes.items s.rest.items given s.len n k c.args.records s.feeds.items c.args.self.now c.self.invariant c.self.view_is c.count_items-count.ensures.lie c.count_items-count.ensures.fit e (omega (arith, e, c.count_items-count.ensures.within)) c.count_items-count.ensures.few in
+    let b : c.extend_from_slice.new.self.items ≡ s.bytes.items ++ take k given = c.in-Ok.ensures.items ∙ ap (λ l. s.bytes.items ++ l) c.split_at.ensures.front in
+    let r : c.extend_from_slice-2.new.self.items ≡ s.rest.items ++ drop k given =
+    c.in-Ok-extend_from_slice.ensures.items ∙ ap (λ l. l ++ c.split_at.result.1.now) c.reserve-else-is_err.ensures.items ∙ ap (λ l. s.rest.items ++ l) c.split_at.ensures.back in
+    let at : c.len.result ≡ length s.bytes.items = omega (arith, c.len.ensures, s.bytes.ok.0) in
+    let beside : c.len-2.result ≡ length s.rest.items = omega (arith, c.len-2.ensures, s.rest.ok.0) in
+    let feed : Feed = record { records = c.args.records; start = c.len.result; len = length c.split_at.result.0.now; rest_start = c.len-2.result; rest_len = length c.split_at.result.1.now } in
+    let front : length c.split_at.result.0.now ≡ k = c.split_at.ensures.front_len in
+    let back : length c.split_at.result.1.now ≡ length given - k = ap length c.split_at.ensures.back ∙ length-drop k given in
+    let same : feed ≡ feed_behind s.bytes.items s.rest.items c.args.records given k = rw (at, beside, front, back) refl in
+    let f : c.push_reserved.new.self.items ≡ s.feeds.items ++ feed_behind s.bytes.items s.rest.items c.args.records given k ∷ [] =
+    c.push_reserved.ensures.items ∙ ap (λ l. l ++ feed ∷ []) c.reserve.ensures.items ∙ ap (λ (x : Feed). s.feeds.items ++ x ∷ []) same in
+    let is : fed_kept s.payload c.extend_from_slice.new.self.items (s.len + n) c.extend_from_slice-2.new.self.items c.push_reserved.new.self.items ≡ more_fed c.args.self.now c.args.records given = rw (b, r, f) p.is in
+    is

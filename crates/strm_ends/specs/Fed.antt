@@ -1,0 +1,60 @@
+-- What a host writer keeps of all that it was fed. Ours.
+use Rattle.std.specs.Prelude.{◌≡◌, ℕ, ◌+◌, ◌*◌, ◌≤◌, All, List, [], ◌∷◌, ◌++◌, length, map}
+use Rattle.strm_codes.specs.Layout.{scalars_of, item_size}
+use Rattle.strm_codes.specs.declared.payloads.Payload.{Payload}
+use Rattle.strm_memory.specs.Bytes.{bytes_at}
+use Rattle.strm_buffers.specs.Listing.{Item, LieIn, items_in}
+use Rattle.strm_ends.specs.Queues.{items_fed}
+use Rattle.strm_ends.specs.declared.feeds.Feed.{Feed}
+
+-- all that it was fed: the items, and of each feed how many records there were, and its bytes
+pub record AllFed : Type 0 where
+  pub payload : Payload
+  pub items : List Item
+  pub heard : List (ℕ × List ℕ)
+
+-- nothing yet
+abbrev pub nothing_fed : Payload → AllFed
+nothing_fed payload = record { payload = payload; items = []; heard = [] }
+
+-- one feed more, behind so many records
+abbrev pub more_fed : AllFed → ℕ → List ℕ → AllFed
+more_fed fed records bytes =
+    record fed {
+      items = fed.items ++ items_fed fed.payload bytes;
+      heard = fed.heard ++ (records, bytes) ∷ [];
+    }
+
+-- the bytes of a feed: those of its items, and the others
+abbrev pub bytes_of_feed : List ℕ → List ℕ → Feed → List ℕ
+bytes_of_feed bytes rest feed =
+    bytes_at bytes feed.start feed.len ++ bytes_at rest feed.rest_start feed.rest_len
+
+-- what was heard of a feed
+abbrev pub heard_of : List ℕ → List ℕ → Feed → ℕ × List ℕ
+heard_of bytes rest feed = (feed.records, bytes_of_feed bytes rest feed)
+
+-- and of all of them
+abbrev pub heard_kept : List ℕ → List ℕ → List Feed → List (ℕ × List ℕ)
+heard_kept bytes rest feeds = map (heard_of bytes rest) feeds
+
+-- how it is kept: the bytes of so many items, all other bytes, and where those of each feed lie
+abbrev pub fed_kept : Payload → List ℕ → ℕ → List ℕ → List Feed → AllFed
+fed_kept payload bytes len rest feeds =
+    record {
+      payload = payload;
+      items = items_in (scalars_of payload) bytes 0 len;
+      heard = heard_kept bytes rest feeds;
+    }
+
+-- the bytes of a feed lie there
+abbrev pub LiesThere : List ℕ → List ℕ → Feed → Type 0
+LiesThere bytes rest feed =
+    (feed.start + feed.len ≤ length bytes) × (feed.rest_start + feed.rest_len ≤ length rest)
+
+-- what is kept so is what was fed
+pub record IsFed (payload : Payload) (bytes : List ℕ) (len : ℕ) (rest : List ℕ) (feeds : List Feed) : Type 0 where
+  pub all : length bytes ≡ item_size (scalars_of payload) * len
+  pub lie : LieIn (scalars_of payload) bytes 0 len
+  pub counted : len ≤ length bytes + length rest
+  pub there : All (LiesThere bytes rest) feeds

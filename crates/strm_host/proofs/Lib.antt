@@ -1,0 +1,3 @@
+pub mod ErasedLemmas
+pub mod FutureLemmas
+pub mod ListLemmas

@@ -1,0 +1,13 @@
+use Rattle.std.proofs.Common.{refl, arith}
+use Rattle.strm_buffers.proofs.EndLemmas.{Fills-same}
+use Rattle.strm_host.proofs.empty.EmptyStreamProducer.TheImpl.Goals as goal
+
+pub poll_produce-tells : goal.poll_produce-tells
+poll_produce-tells g x x' c =
+    record {
+      fills = rw c.ensures.nothing (Fills-same c.args.destination.produced.now.window);
+      few = rw (c.ensures.nothing, c.requires.nothing_marked, c.requires.nothing_buffered) (omega arith);
+      failed = rw c.ensures.turn (omega arith);
+      faults = omega arith;
+      plan = rw (c.ensures.turn, c.ensures.nothing, c.requires.nothing_marked, c.requires.nothing_buffered) refl;
+    }

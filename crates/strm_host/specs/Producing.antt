@@ -1,0 +1,28 @@
+-- What a poll of a producer leaves, and what the producer may tell of it before.
+-- wasmtime, `StreamProducer`; what is told is ours.
+use Rattle.std.specs.Prelude.{◌≡◌, ℕ, Bool, List, ◌++◌, map, Option, Some, None}
+use Rattle.strm_codes.specs.declared.codes.StreamResult.{StreamResult}
+use Rattle.strm_buffers.specs.declared.answers.Turn.{Turn}
+use Rattle.strm_buffers.specs.declared.answers.Turn.TheVariants.{NoMemory}
+use Rattle.strm_buffers.specs.Said.{turn_of}
+use Rattle.strm_buffers.specs.declared.answers.Answer.{Answer}
+use Rattle.strm_buffers.specs.Listing.{Item}
+
+-- one poll: all items that it produces, and its answer
+pub record Poll : Type 0 where
+  pub items : List Item
+  pub answer : Answer
+
+-- the next poll of a producer, by how many items there is room for (None: as many as it likes) and
+-- whether it is asked to finish; none where the producer doesn't tell
+abbrev pub Plan : Type 0
+Plan = Option (Option ℕ → Bool → Poll)
+
+-- the poll that marked these items and left those in its buffer
+abbrev pub polled : {T : Type 0} → (T → Item) → List Item → List T → Answer → Poll
+polled item marked buffered answer = record { items = marked ++ map item buffered; answer = answer }
+
+-- the answer that a turn has: none where memory was wanting
+abbrev pub IsAnswer : Turn StreamResult → Option Answer → Type 0
+IsAnswer turn None = turn ≡ NoMemory
+IsAnswer turn (Some answer) = turn ≡ turn_of answer

@@ -1,0 +1,90 @@
+//! Where the value of a future comes from.
+//!
+//! Source: wasmtime, `futures_and_streams.rs`, `FutureProducer`. `faults` and `plan` are ours.
+
+ghost use Rattle.std.specs.Prelude.{◌≡◌, ◌≤◌, [], IfSome};
+ghost use Rattle.strm_host.specs.Futures.{IfFailed, IsPlanned};
+ghost use Rattle.strm_buffers.specs.Tells.{Rose};
+
+use crate::destinations::Destination;
+use crate::producers::StreamProducer;
+use strm_buffers::answers::{HostTurn, StreamResult, Turn};
+use strm_memory::payloaded::Payloaded;
+
+/// A source of one value, which is polled until it gives it.
+pub trait FutureProducer: Drop {
+    ghost use Rattle.std.specs.Prelude.{ℕ, Option, None};
+    ghost use Rattle.strm_host.specs.Futures.{FuturePlan};
+
+    /// The type of the value.
+    type Item: Payloaded;
+
+    // How often it failed; it stands still at 2^64 - 1.
+    ghost faults: { Self → ℕ };
+
+    // What its next poll answers, asked to finish or not, where it tells.
+    ghost plan: { Self → Option (FuturePlan Self.Item) } = { λ _. None };
+
+    /// The value, `Pending` while there is none yet, or none where it was asked to finish and gave up.
+    fn poll_produce(&mut self, finish: bool) -> Turn<Option<Self::Item>>
+        ensures later { faults self.old ≤ faults self.new }
+        ensures failed { IfFailed result (Rose (faults self.old) (faults self.new)) }
+        ensures planned { IsPlanned (plan self.old) finish result };
+}
+
+/// A producer of a future as one of a stream: it gives the value as its one item.
+#[derive(Drop)]
+pub struct Producer<F> {
+    future: F,
+}
+
+impl<F> Producer<F> {
+    /// Takes the producer of a future.
+    pub(crate) fn new(future: F) -> Producer<F>
+        ensures { result.future ≡ future }
+    {
+        Producer { future }
+    }
+}
+
+impl<F: FutureProducer> StreamProducer for Producer<F> {
+    ghost use Rattle.strm_buffers.specs.Buffers.{option_items};
+    ghost use Rattle.strm_buffers.specs.Said.{IfAnswered};
+    ghost use Rattle.strm_buffers.specs.Tells.{Rises};
+    ghost use Rattle.strm_host.specs.Producing.{polled};
+    ghost use Rattle.strm_host.specs.Futures.{stream_plan, poll_of, IsValued};
+
+    type Item = F::Item;
+
+    type Buffer = Option<F::Item>;
+
+    ghost faults = { λ producer. F.faults producer.future };
+
+    ghost plan = { λ producer. stream_plan F.Item.item (F.plan producer.future) };
+
+    fn poll_produce(
+        &mut self,
+        destination: Destination<'_, F::Item, Option<F::Item>>,
+        finish: bool,
+    ) -> HostTurn
+        requires nothing_buffered { option_items destination.produced.now.buffer ≡ [] }
+        ensures window { destination.exit.0.now.window ≡ destination.entry.produced.now.window }
+        ensures valued { IsValued result destination.exit.0.now.buffer }
+        ensures failed { IfAnswered result (λ answer. Rises answer (F.faults self.old.future) (F.faults self.new.future)) }
+        ensures faults { F.faults self.old.future ≤ F.faults self.new.future }
+        ensures plan { IfSome (F.plan self.old.future) (λ next. IfAnswered result (λ answer.
+            poll_of F.Item.item (next finish) ≡ polled F.Item.item [] (option_items destination.exit.0.now.buffer) answer)) }
+    {
+        let Destination { produced, items: _ } = destination;
+        match self.future.poll_produce(finish) {
+            Turn::Pending => Turn::Pending,
+            Turn::Ready(Some(value)) => {
+                produced.buffer = Some(value);
+                Turn::Ready(StreamResult::Completed)
+            }
+            Turn::Ready(None) => Turn::Ready(StreamResult::Cancelled),
+            Turn::Failed => Turn::Failed,
+            Turn::NoMemory => Turn::NoMemory,
+        }
+    }
+}

@@ -1,0 +1,187 @@
+//! One poll of a producer: the window is lent to it, and what it left in its buffer becomes numbers.
+//!
+//! Source: ours.
+
+ghost use Rattle.std.specs.Prelude.{◌≡◌, ◌+◌, ◌<◌, ◌≤◌, ◌++◌, [], true, length, take, drop, map, IfOk, OnOk, IfSome};
+ghost use Rattle.strm_codes.specs.Layout.{scalars_of};
+ghost use Rattle.strm_memory.specs.Items.{AreItems};
+ghost use Rattle.strm_buffers.specs.Windows.{room_of};
+ghost use Rattle.strm_buffers.specs.Said.{in_room, past_room};
+ghost use Rattle.strm_buffers.specs.Tells.{Fills, Rises};
+ghost use Rattle.strm_host.specs.Producing.{IsAnswer};
+
+use crate::destinations::{Destination, Produced};
+use crate::producers::StreamProducer;
+use std::alloc::Global;
+use std::marker::PhantomData;
+use std::mem;
+use strm_buffers::answers::{Answer, HostTurn, StreamResult, Turn};
+use strm_buffers::buffers::WriteBuffer;
+use strm_buffers::items::Items;
+use strm_buffers::polling::mark_rest;
+use strm_buffers::windows::Window;
+use strm_codes::counts::OutOfMemory;
+use strm_memory::payloaded::Payloaded;
+
+// What a poll answered, all items that it produced, and those that there was no room for.
+#[derive(Drop)]
+pub(crate) struct Fetched {
+    pub answer: Answer,
+    pub items: Items,
+    pub held: Items,
+}
+
+// Polls a producer, and marks as many of its items as there is room for.
+pub(crate) fn fetch<P: StreamProducer>(
+    alloc: Global,
+    producer: &mut P,
+    window: &mut Window,
+    finish: bool,
+) -> Result<Fetched, OutOfMemory>
+    requires payload { window.old.payload ≡ P.Item.payload }
+    requires prepared { window.old.prepared ≡ true }
+    requires nothing_marked { window.old.marked ≡ [] }
+    ensures marked { IfOk result (λ f. window.new.marked ≡ in_room (room_of window.old.place) f.items.items) }
+    ensures held { IfOk result (λ f. f.held.items ≡ past_room (room_of window.old.place) f.items.items) }
+    ensures typed { IfOk result (λ f. f.held.payload ≡ P.Item.payload) }
+    ensures fit { IfOk result (λ f. AreItems (scalars_of P.Item.payload) f.items.items) }
+    ensures failed { IfOk result (λ f. Rises f.answer (P.faults producer.old) (P.faults producer.new)) }
+    ensures faults { P.faults producer.old ≤ P.faults producer.new }
+    ensures fills { Fills window.old window.new }
+    ensures plan { IfSome (P.plan producer.old) (λ next. IfOk result (λ f.
+        next (room_of window.old.place) finish ≡ record { items = f.items.items; answer = f.answer })) }
+{
+    window.sound();
+    let (answer, items) = match produce(alloc, producer, window, finish) {
+        Ok(done) => done,
+        Err(error) => return Err(error),
+    };
+    items.sound();
+    let _ = window.marked();
+    let count = match mark_rest(window, &items) {
+        Ok(count) => count,
+        Err(error) => return Err(error),
+    };
+    match rest_of(alloc, &items, count) {
+        Ok(held) => Ok(Fetched {
+            answer,
+            items,
+            held,
+        }),
+        Err(error) => Err(error),
+    }
+}
+
+// A copy of what stands behind so many items.
+fn rest_of(alloc: Global, items: &Items, count: usize) -> Result<Items, OutOfMemory>
+    requires { count ≤ length items.now.items }
+    ensures payload { IfOk result (λ rest. rest.payload ≡ items.now.payload) }
+    ensures items { IfOk result (λ rest. rest.items ≡ drop count items.now.items) }
+{
+    if count == items.len() {
+        return Ok(Items::new(alloc, items.payload()));
+    }
+    match items.copy() {
+        Ok(mut rest) => {
+            rest.skip(count);
+            Ok(rest)
+        }
+        Err(error) => Err(error),
+    }
+}
+
+// What a poll answered, and all items that it produced: the first of them are marked.
+fn produce<P: StreamProducer>(
+    alloc: Global,
+    producer: &mut P,
+    window: &mut Window,
+    finish: bool,
+) -> Result<(Answer, Items), OutOfMemory>
+    requires payload { window.old.payload ≡ P.Item.payload }
+    requires prepared { window.old.prepared ≡ true }
+    requires nothing_marked { window.old.marked ≡ [] }
+    ensures payload { IfOk result (λ done. done.1.payload ≡ P.Item.payload) }
+    ensures begun { IfOk result (λ done. window.new.marked ≡ take (length window.new.marked) done.1.items) }
+    ensures failed { IfOk result (λ done. Rises done.0 (P.faults producer.old) (P.faults producer.new)) }
+    ensures faults { P.faults producer.old ≤ P.faults producer.new }
+    ensures fills { Fills window.old window.new }
+    ensures plan { IfSome (P.plan producer.old) (λ next. IfOk result (λ done.
+        next (room_of window.old.place) finish ≡ record { items = done.1.items; answer = done.0 })) }
+{
+    let lent = mem::replace(window, Window::unbounded(alloc, P::Item::payload()));
+    let mut produced = Produced {
+        window: lent,
+        buffer: P::Buffer::empty(alloc),
+        alloc,
+    };
+    let destination = Destination {
+        produced: &mut produced,
+        items: PhantomData,
+    };
+    let turn = producer.poll_produce(destination, finish);
+    let Produced {
+        window: filled,
+        buffer,
+        alloc: _,
+    } = produced;
+    let items = gather::<P::Item, P::Buffer>(&filled, buffer);
+    *window = filled;
+    match (answer_of(turn), items) {
+        (Some(answer), Ok(items)) => Ok((answer, items)),
+        _ => Err(OutOfMemory),
+    }
+}
+
+// The marked items, and behind them those of a buffer.
+fn gather<T: Payloaded, B: WriteBuffer<T> + Drop>(
+    window: &Window,
+    buffer: B,
+) -> Result<Items, OutOfMemory>
+    requires payload { window.now.payload ≡ T.payload }
+    requires few { length window.now.marked + length (B.items buffer) < 4294967295 }
+    ensures payload { IfOk result (λ items. items.payload ≡ T.payload) }
+    ensures items { IfOk result (λ items. items.items ≡ window.now.marked ++ map T.item (B.items buffer)) }
+{
+    let mut items = match window.marked_items() {
+        Ok(items) => items,
+        Err(error) => return Err(error),
+    };
+    match lower_all::<T, B>(buffer, &mut items) {
+        Ok(()) => Ok(items),
+        Err(error) => Err(error),
+    }
+}
+
+// Puts the items of a buffer behind these, as numbers.
+fn lower_all<T: Payloaded, B: WriteBuffer<T> + Drop>(
+    mut buffer: B,
+    items: &mut Items,
+) -> Result<(), OutOfMemory>
+    requires payload { items.old.payload ≡ T.payload }
+    requires few { length items.old.items + length (B.items buffer) < 4294967295 }
+    ensures payload { items.new.payload ≡ items.old.payload }
+    ensures ok { OnOk result (items.new.items ≡ items.old.items ++ map T.item (B.items buffer)) }
+{
+    for _ in 0..buffer.len() {
+        let item = buffer.take_first();
+        match items.push(&item.lower()) {
+            Ok(()) => {}
+            Err(error) => return Err(error),
+        }
+    }
+    Ok(())
+}
+
+// The answer of a turn; none where memory was wanting.
+fn answer_of(turn: HostTurn) -> Option<Answer>
+    ensures { IsAnswer turn result }
+{
+    match turn {
+        Turn::Pending => Some(Answer::Pending),
+        Turn::Ready(StreamResult::Completed) => Some(Answer::Completed),
+        Turn::Ready(StreamResult::Cancelled) => Some(Answer::Cancelled),
+        Turn::Ready(StreamResult::Dropped) => Some(Answer::Dropped),
+        Turn::Failed => Some(Answer::Failed),
+        Turn::NoMemory => None,
+    }
+}

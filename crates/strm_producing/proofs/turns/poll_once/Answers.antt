@@ -1,0 +1,22 @@
+use Rattle.std.proofs.Common.{◌∙◌, refl, sym, arith}
+use Rattle.strm_turns.specs.Guests.{seen}
+use Rattle.strm_producing.proofs.PollLemmas.{received_few}
+use Rattle.strm_producing.proofs.TurnLemmas.{room_behind, judged_stops, judged_passes}
+use Rattle.strm_producing.proofs.turns.poll_once.Goals as goal
+
+pub returns-in-Err-judge : goal.returns-in-Err-judge
+returns-in-Err-judge g c =
+    judged_stops (seen c.args.guests.now.items) (seen c.poll_into.new.guests.items) c.args.stream.now c.args.producer.now _ _ c.args.read
+    c.in-Ok.polled.0 c.in-Ok.polled.1 c.held_by-held.result c.in-Ok.ensures.ok c.held_by-held.ensures.exact c.in-Err-judge.error (sym c.judge.ensures ∙ c.in-Err-judge.is)
+
+pub move_on-requires-clause-room : goal.move_on-requires-clause-room
+move_on-requires-clause-room g c =
+    room_behind (seen c.args.guests.now.items) c.args.stream.now.payload c.args.read c.count_of-count.result c.requires.placed c.requires.sizes (omega arith)
+    (omega (arith, c.count_of-count.ensures, received_few _ _ _ _ _ c.args.read c.in-Ok.polled.0 c.in-Ok.polled.1 c.in-Ok.ensures.ok))
+
+pub returns : goal.returns
+returns g c =
+    let settled = c.move_on.ensures ∙ rw (c.count_of-count.ensures, c.produced_result.ensures _ (sym c.held_by-held.ensures.exact)) refl in
+    judged_passes (seen c.args.guests.now.items) (seen c.poll_into.new.guests.items) c.args.stream.now c.args.producer.now _ _ c.args.read
+    c.in-Ok.polled.0 c.in-Ok.polled.1 c.held_by-held.result c.in-Ok.ensures.ok c.held_by-held.ensures.exact c.move_on.new.stream c.note_last.new.producer
+    (sym c.judge.ensures ∙ c.in-Ok-judge.is) settled c.note_last.ensures

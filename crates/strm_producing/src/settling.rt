@@ -1,0 +1,110 @@
+//! What a host end's turn does to the stream: items that went over it, and how an operation is settled.
+//!
+//! Meaning: `Settling.antt` of `strm_world`. Source: wasmtime, `futures_and_streams.rs`,
+//! `poll_produce` with what it does to `ReadState`.
+
+ghost use Rattle.std.specs.Prelude.{◌≡◌, ◌+◌, ◌*◌, ◌^◌, ◌<◌, ◌≤◌, List, length, Some};
+ghost use Rattle.strm_codes.specs.Layout.{scalars_of, item_size};
+ghost use Rattle.strm_buffers.specs.Listing.{Item};
+ghost use Rattle.strm_machine.specs.Sides.{opposite};
+ghost use Rattle.strm_world.specs.Producing.{produced_result};
+ghost use Rattle.strm_world.specs.Settling.{result_of, went, settled, with_some_received, let_go, moved_on};
+
+use strm_buffers::answers::Answer;
+use strm_codes::codes::{StreamResult, TransmitKind};
+use strm_codes::counts::ItemCount;
+use strm_codes::payloads::Payload;
+use strm_machine::streams::{Operation, Owner, Side, Stream};
+use strm_turns::sides::{opposite, set_operation};
+
+// How an answer settles an operation.
+fn result_of(answer: Answer) -> Option<StreamResult>
+    ensures { result ≡ result_of answer }
+{
+    match answer {
+        Answer::Completed => Some(StreamResult::Completed),
+        Answer::Cancelled => Some(StreamResult::Cancelled),
+        Answer::Dropped => Some(StreamResult::Dropped),
+        Answer::Pending | Answer::Failed => None,
+    }
+}
+
+/// How an answer settles a read, with so many items held for the next one.
+pub fn produced_result(answer: Answer, held: usize) -> Option<StreamResult>
+    ensures { (items : List Item) → length items ≡ held → result ≡ produced_result answer items }
+{
+    match answer {
+        Answer::Dropped if held > 0 => Some(StreamResult::Completed),
+        _ => result_of(answer),
+    }
+}
+
+// An operation after so many of its items came from a host end, or went to it.
+fn go(payload: Payload, operation: &Operation, count: ItemCount) -> Operation
+    requires left { count ≤ operation.now.left }
+    requires counted { operation.now.moved + operation.now.left < 2 ^ 28 }
+    requires room { operation.now.address + item_size (scalars_of payload) * count < 2 ^ 32 }
+    ensures { result ≡ went payload operation.now count }
+{
+    let mut next = *operation;
+    next.address += payload.size() * count.as_u32();
+    next.left = operation.left.sub(count);
+    next.moved = operation.moved.add(count);
+    next
+}
+
+// An operation that is settled so, if it is.
+fn settle(operation: Operation, outcome: Option<StreamResult>) -> Operation
+    ensures { result ≡ settled outcome operation }
+{
+    let mut next = operation;
+    if let Some(outcome) = outcome {
+        next.is_open = false;
+        next.met = true;
+        next.outcome = outcome;
+    }
+    next
+}
+
+// So many items more were received.
+fn receive(stream: &mut Stream, count: ItemCount)
+    ensures { stream.new ≡ with_some_received stream.old count }
+{
+    if count.as_u32() > 0 {
+        stream.passed = stream.passed || stream.kind == TransmitKind::Future;
+        stream.received = stream.received.saturating_add(u128::from(count.as_u32()));
+    }
+}
+
+// A host end that is done with the stream is gone.
+fn let_go(stream: &mut Stream, side: Side, outcome: Option<StreamResult>)
+    ensures { stream.new ≡ let_go side outcome stream.old }
+{
+    if outcome == Some(StreamResult::Dropped) {
+        match side {
+            Side::Writing => stream.writer.owner = Owner::Gone,
+            Side::Reading => stream.reader.owner = Owner::Gone,
+        }
+    }
+}
+
+/// So many items of the operation on a side came from the host end on the other side, or went to it,
+/// and the operation is settled so, if it is.
+#[tactic(auto, unfolding(strm_world::specs::Settling::moved_on))]
+pub fn move_on(
+    stream: &mut Stream,
+    side: Side,
+    operation: &Operation,
+    count: ItemCount,
+    outcome: Option<StreamResult>,
+)
+    requires left { count ≤ operation.now.left }
+    requires counted { operation.now.moved + operation.now.left < 2 ^ 28 }
+    requires room { operation.now.address + item_size (scalars_of stream.old.payload) * count < 2 ^ 32 }
+    ensures { stream.new ≡ moved_on side stream.old operation.now count outcome }
+{
+    let gone = go(stream.payload, operation, count);
+    receive(stream, count);
+    set_operation(stream, side, settle(gone, outcome));
+    let_go(stream, opposite(side), outcome);
+}

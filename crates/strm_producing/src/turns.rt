@@ -1,0 +1,184 @@
+//! The turn of a host writer for the open read on its stream.
+//!
+//! Meaning: `Producing.antt` of `strm_world`. Source: wasmtime, `futures_and_streams.rs`,
+//! `guest_read` with `WriteState::HostReady`, and what `set_producer` makes of it.
+
+ghost use Rattle.std.specs.Prelude.{◌≡◌, ◌+◌, ◌^◌, ◌<◌, ◌≤◌, ◌||◌, [], sum, Some};
+ghost use Rattle.strm_codes.specs.declared.codes.StreamResult.TheVariants.{Dropped};
+ghost use Rattle.strm_machine.specs.declared.streams.Side.TheVariants.{Reading};
+ghost use Rattle.strm_world.specs.Producing.{is_last};
+ghost use Rattle.strm_world.specs.Settling.{moved_on};
+ghost use Rattle.strm_machine.specs.Soundness.{sizes_of, IsPlaced};
+ghost use Rattle.strm_turns.specs.Guests.{seen};
+ghost use Rattle.strm_producing.specs.Turning.{scene, judged, handed_over, Polled, Turns};
+
+use crate::polls::poll_into;
+use crate::regions::{lend_region, return_region};
+use crate::settling::{move_on, produced_result};
+use std::alloc::Global;
+use strm_buffers::answers::Answer;
+use strm_buffers::boxes::{give, held_by};
+use strm_buffers::writers::HostWriter;
+use strm_codes::codes::{StreamResult, TransmitKind};
+use strm_codes::counts::ItemCount;
+use strm_machine::streams::{Operation, Producer, Side, Stream};
+use strm_turns::guests::Guest;
+
+/// Why a turn stops its step.
+#[derive(Clone, Copy, Debug, PartialEq, Eq)]
+pub enum TurnError {
+    /// The host writer failed.
+    Failed,
+    /// Memory was wanting. No record was added.
+    OutOfMemory,
+    /// The host writer broke its rules.
+    Broke,
+}
+
+// So many items as a count.
+fn count_of(items: u32) -> ItemCount
+    requires { items < 2 ^ 28 }
+    ensures { result ≡ items }
+{
+    match ItemCount::new(items) {
+        Ok(count) => count,
+        Err(_) => unreachable!(),
+    }
+}
+
+// A writer that answered Dropped has no more to come.
+fn note_last(producer: &mut Producer, answer: Answer)
+    ensures { producer.new ≡
+        record producer.old { over = producer.old.over || is_last answer } }
+{
+    producer.over = producer.over || answer == Answer::Dropped;
+}
+
+// Why an answer to a poll for a read, in which so many items were produced, stops the step, if it does.
+fn judge(
+    kind: TransmitKind,
+    answer: Answer,
+    read: &Operation,
+    produced: usize,
+) -> Result<(), TurnError>
+    ensures { result ≡ judged kind answer read.now produced }
+{
+    if answer == Answer::Failed {
+        return Err(TurnError::Failed);
+    }
+    if answer.breaks_as_writer(kind, Some(read.left.as_u32()), read.asked, produced) {
+        return Err(TurnError::Broke);
+    }
+    Ok(())
+}
+
+// Held items are handed over, as many as there is room for. Takes no memory.
+fn hand_over(
+    alloc: Global,
+    guests: &mut Vec<Guest>,
+    stream: &mut Stream,
+    writer: &mut Box<dyn HostWriter>,
+    read: Operation,
+)
+    requires placed { IsPlaced (sizes_of (seen guests.old.items)) stream.old.payload read }
+    requires sizes { sum (sizes_of (seen guests.old.items)) ≤ 268435456 }
+    requires payload { (writer_tells writer.old).payload ≡ stream.old.payload }
+    ensures { (producer : Producer) →
+        scene (seen guests.new.items) stream.new producer (writer_tells writer.new) ≡
+        handed_over (scene (seen guests.old.items) stream.old producer (writer_tells writer.old)) read }
+{
+    let mut window = lend_region(alloc, guests, &stream.payload, &read);
+    match give(writer, &mut window) {
+        Ok(()) => {}
+        Err(_) => unreachable!(),
+    }
+    let marked = return_region(guests, read.guest, window);
+    let count = count_of(marked);
+    move_on(
+        stream,
+        Side::Reading,
+        &read,
+        count,
+        Some(StreamResult::Completed),
+    );
+}
+
+// A writer that has no more to come, and holds nothing, is gone.
+fn end_read(stream: &mut Stream, read: Operation)
+    requires { read.moved + read.left < 2 ^ 28 }
+    ensures { stream.new ≡ moved_on Reading stream.old read 0 (Some Dropped) }
+{
+    move_on(
+        stream,
+        Side::Reading,
+        &read,
+        ItemCount::ZERO,
+        Some(StreamResult::Dropped),
+    );
+}
+
+// One poll, of a writer that holds nothing and has more to come.
+fn poll_once(
+    alloc: Global,
+    guests: &mut Vec<Guest>,
+    stream: &mut Stream,
+    producer: &mut Producer,
+    writer: &mut Box<dyn HostWriter>,
+    read: Operation,
+) -> Result<(), TurnError>
+    requires placed { IsPlaced (sizes_of (seen guests.old.items)) stream.old.payload read }
+    requires sizes { sum (sizes_of (seen guests.old.items)) ≤ 268435456 }
+    requires payload { (writer_tells writer.old).payload ≡ stream.old.payload }
+    requires nothing_held { (writer_tells writer.old).holds ≡ [] }
+    ensures { Polled result
+        (scene (seen guests.old.items) stream.old producer.old (writer_tells writer.old))
+        (scene (seen guests.new.items) stream.new producer.new (writer_tells writer.new)) read }
+{
+    let (answer, marked) = match poll_into(alloc, guests, &stream.payload, writer, &read) {
+        Ok(polled) => polled,
+        Err(_) => return Err(TurnError::OutOfMemory),
+    };
+    let held = held_by(writer);
+    match judge(stream.kind, answer, &read, marked as usize + held) {
+        Ok(()) => {}
+        Err(error) => return Err(error),
+    }
+    note_last(producer, answer);
+    let count = count_of(marked);
+    move_on(
+        stream,
+        Side::Reading,
+        &read,
+        count,
+        produced_result(answer, held),
+    );
+    Ok(())
+}
+
+/// The turn of a stream's host writer for the open read on it: what the writer holds is handed over,
+/// or else it is polled once, unless it has no more to come. Only the poll takes memory.
+pub fn producer_turn(
+    alloc: Global,
+    guests: &mut Vec<Guest>,
+    stream: &mut Stream,
+    producer: &mut Producer,
+    writer: &mut Box<dyn HostWriter>,
+    read: Operation,
+) -> Result<(), TurnError>
+    requires placed { IsPlaced (sizes_of (seen guests.old.items)) stream.old.payload read }
+    requires sizes { sum (sizes_of (seen guests.old.items)) ≤ 268435456 }
+    requires payload { (writer_tells writer.old).payload ≡ stream.old.payload }
+    ensures { Turns result
+        (scene (seen guests.old.items) stream.old producer.old (writer_tells writer.old))
+        (scene (seen guests.new.items) stream.new producer.new (writer_tells writer.new)) read }
+{
+    if held_by(writer) > 0 {
+        hand_over(alloc, guests, stream, writer, read);
+        return Ok(());
+    }
+    if producer.over {
+        end_read(stream, read);
+        return Ok(());
+    }
+    poll_once(alloc, guests, stream, producer, writer, read)
+}

@@ -1,0 +1,75 @@
+-- A host writer that gets a stream, and one that bytes are passed on to.
+use Rattle.std.proofs.Common.{◌≡◌, ℕ, zero, suc, ◌<◌, List, [], ◌∷◌, ◌++◌, length, drop, Ok, refl, sym, ap, subst, ◌∙◌, arith}
+use Rattle.std.specs.Prelude.{slice_set, slice_index_or}
+use Rattle.strm_buffers.specs.Said.{WriterSaid}
+use Rattle.strm_buffers.specs.Tells.{WriterTells, Tells, no_tells, told_by, with_told, fed}
+use Rattle.strm_machine.specs.State.{State, no_producer, producer_at}
+use Rattle.strm_machine.specs.declared.acts.HostAct.TheVariants.{Feed}
+use Rattle.strm_machine.specs.declared.streams.Duty.{Duty}
+use Rattle.strm_machine.specs.declared.streams.Duty.TheVariants.{Unused, Serves}
+use Rattle.strm_machine.specs.declared.streams.Producer.{Producer}
+use Rattle.strm_machine.specs.declared.streams.Stream.{Stream}
+use Rattle.strm_machine.specs.declared.replies.Reply.TheVariants as replies
+use Rattle.strm_world.specs.Ends.{Writer, fed_writer}
+use Rattle.strm_world.specs.World.{World, writer_at, with_writer}
+use Rattle.strm_world.specs.Outcomes.{Outcome, Goes, done}
+use Rattle.strm_world.specs.Attaching.{hosted_stream, hosts_new}
+use Rattle.strm_world.specs.Steps.{on_host}
+use Rattle.strm_world.specs.Does.{Logs, first_duty, first_log, writer_of, writers_from, readers_from, world_of, Does}
+use Rattle.strm_world.proofs.WorldLemmas.{writer_in-from, writers_from-set}
+use Rattle.strm_world.proofs.GrowLemmas.{Grows, grows-same, Does-told}
+use Rattle.strm_world.proofs.DoesLemmas.{Does-untold}
+
+-- an unused writer that serves is the same to the machine
+served_same : (duty : Duty) (s : ℕ) (x : WriterTells) (log : List WriterSaid) → duty ≡ Unused → writer_of (Serves s) x log ≡ writer_of duty x log
+served_same duty s x log e = sym (ap (λ d. writer_of d x log) e)
+
+writers_from-served : (ps : List Producer) (ws : List WriterTells) (logs : List (List WriterSaid)) (n s : ℕ) (p : Producer) → p.duty ≡ Serves s → (slice_index_or ps n no_producer).duty ≡ Unused
+    → writers_from (slice_set ps n p) ws logs ≡ writers_from ps ws logs
+writers_from-served [] ws logs n s p e u = refl
+writers_from-served (q ∷ ps) [] logs n s p e u = refl
+writers_from-served (q ∷ ps) (x ∷ ws) logs zero s p e u =
+    ap (λ w. w ∷ writers_from ps ws (drop 1 logs)) (ap (λ d. writer_of d x (first_log logs)) e ∙ served_same q.duty s x (first_log logs) u)
+writers_from-served (q ∷ ps) (x ∷ ws) logs (suc n) s p e u =
+    ap (λ more. writer_of q.duty x (first_log logs) ∷ more) (writers_from-served ps ws (drop 1 logs) n s p e u)
+
+-- the stream of a host writer that tells this
+abbrev pub hosted_by : WriterTells → ℕ → Stream
+hosted_by tells n = hosted_stream (writer_of Unused tells []) n
+
+-- the state with a stream more, of host writer n
+abbrev pub hosted_in : State → Tells → ℕ → State
+hosted_in state tells n = record state {
+  streams = state.streams ++ hosted_by (told_by tells n) n ∷ [];
+  producers = slice_set state.producers n (record no_producer { duty = Serves (length state.streams) });
+}
+
+hosted-at : (state : State) (tells : Tells) (logs : Logs) (n : ℕ) → n < length tells.writers → hosted_stream (writer_at (world_of state tells logs) n) n ≡ hosted_by (told_by tells n) n
+hosted-at state tells logs n l = ap (λ w. hosted_stream w n) (writer_in-from state.producers tells.writers logs.writers n no_tells l)
+
+-- a writer gets a stream
+pub Does-hosts_new : (state : State) (tells : Tells) (n : ℕ) → n < length tells.writers → (producer_at state n).duty ≡ Unused
+    → Does state (hosted_in state tells n) tells tells (Ok (replies.Number (length state.streams))) (λ w. hosts_new w n)
+unfolding hosts_new
+Does-hosts_new state tells n l u =
+    Does-untold state (hosted_in state tells n) tells (Ok (replies.Number (length state.streams))) (λ w. hosts_new w n)
+    (λ logs. ap (λ stream. Goes (replies.Number (length state.streams)) (record (world_of state tells logs) { state = record (hosted_in state tells n) { streams = state.streams ++ stream ∷ [] } })) (hosted-at state tells logs n l)
+    ∙ ap (λ ws. Goes (replies.Number (length state.streams)) (record (world_of state tells logs) { state = hosted_in state tells n; writers = ws }))
+    (sym (writers_from-served state.producers tells.writers logs.writers n (length state.streams) (record no_producer { duty = Serves (length state.streams) }) refl u)))
+    tt
+
+-- BYTES FROM OUTSIDE
+
+fed-at : (state : State) (tells : Tells) (logs : Logs) (n : ℕ) (bytes : List ℕ) → n < length tells.writers
+    → with_writer (world_of state tells logs) n (fed_writer (writer_at (world_of state tells logs) n) bytes) ≡ world_of state (with_told tells n (fed (told_by tells n) bytes)) logs
+fed-at state tells logs n bytes l =
+    ap (λ w. with_writer (world_of state tells logs) n (fed_writer w bytes)) (writer_in-from state.producers tells.writers logs.writers n no_tells l)
+    ∙ ap (λ ws. record (world_of state tells logs) { writers = ws }) (sym (writers_from-set state.producers tells.writers logs.writers n (fed (told_by tells n) bytes) l))
+
+-- a writer is fed
+pub Does-feed : (state : State) (tells : Tells) (n : ℕ) (bytes : List ℕ) → n < length tells.writers
+    → Does state state tells (with_told tells n (fed (told_by tells n) bytes)) (Ok replies.Done) (λ w. on_host w n (Feed bytes))
+Does-feed state tells n bytes l =
+    Does-told state state tells n (fed (told_by tells n) bytes) (Ok replies.Done) (λ w. on_host w n (Feed bytes)) l
+    (grows-same (told_by tells n) (fed (told_by tells n) bytes) refl refl (omega arith))
+    (λ logs e. ap done (fed-at state tells logs n bytes l)) tt

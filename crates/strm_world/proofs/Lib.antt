@@ -1,0 +1,15 @@
+pub mod WorldLemmas
+pub mod GrowLemmas
+pub mod DoesLemmas
+pub mod ReactedLemmas
+pub mod DriveLemmas
+pub mod PollLemmas
+pub mod CloseLemmas
+pub mod SettleLemmas
+pub mod OutcomeLemmas
+pub mod TurnLemmas
+pub mod BackLemmas
+pub mod AttachLemmas
+pub mod ReadLemmas
+pub mod FitsLemmas
+pub mod DropLemmas

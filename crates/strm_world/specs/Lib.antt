@@ -1,0 +1,12 @@
+pub mod Ends
+pub mod World
+pub mod Outcomes
+pub mod Polls
+pub mod Settling
+pub mod Producing
+pub mod Attaching
+pub mod Driving
+pub mod HostRefusals
+pub mod Steps
+pub mod HostPlays
+pub mod Does

@@ -1,0 +1,61 @@
+-- The machine's state with what its host ends tell.
+-- wasmtime, futures_and_streams.rs, `TransmitState` with `WriteState::HostReady`.
+use Rattle.std.specs.Prelude.{ℕ, List, [], slice_set}
+use Rattle.strm_machine.specs.State.{State, Guest, producer_at, stream_at}
+use Rattle.strm_machine.specs.declared.streams.Duty.TheVariants.{Ended}
+use Rattle.strm_machine.specs.declared.streams.Owner.{Owner}
+use Rattle.strm_machine.specs.declared.streams.Owner.TheVariants.{Host, Gone}
+use Rattle.strm_machine.specs.declared.streams.Producer.{Producer}
+use Rattle.strm_machine.specs.declared.streams.Stream.{Stream}
+use Rattle.strm_world.specs.Ends.{Writer, Reader, writer_in, closed_writer}
+
+-- a state, and the host ends by their numbers
+pub record World : Type 0 where
+  pub state : State
+  pub writers : List Writer
+  pub readers : List Reader
+
+-- LOOKING
+
+-- the stream of a number
+abbrev pub stream_in : World → ℕ → Stream
+stream_in world s = stream_at world.state s
+
+-- the host writer of a number
+abbrev pub writer_at : World → ℕ → Writer
+writer_at world n = writer_in world.writers n
+
+-- WRITING
+
+-- other guests
+abbrev pub with_guests : World → List Guest → World
+with_guests world guests = record world { state = record world.state { guests = guests } }
+
+-- something else is kept of host writer n
+abbrev pub with_producer : World → ℕ → Producer → World
+with_producer world n producer =
+    record world { state = record world.state { producers = slice_set world.state.producers n producer } }
+
+-- host writer n tells something else
+abbrev pub with_writer : World → ℕ → Writer → World
+with_writer world n writer = record world { writers = slice_set world.writers n writer }
+
+-- GOING
+
+-- host writer n is no end of a stream any more, and is closed
+abbrev pub without_writer : World → ℕ → World
+without_writer world n =
+    let ended = with_producer world n (record (producer_at world.state n) { duty = Ended }) in
+    with_writer ended n (closed_writer (writer_at world n))
+
+-- a write end that had the first of these owners has the second: a host writer that is gone is closed
+-- in the same step
+abbrev pub leaves_writer : Owner → Owner → World → World
+leaves_writer (Host n) Gone world = without_writer world n
+leaves_writer _ _ world = world
+
+-- stream s is this one now, and its host writer is closed if it is gone
+unfoldable pub with_stream_in : World → ℕ → Stream → World
+with_stream_in world s stream =
+    let state = record world.state { streams = slice_set world.state.streams s stream } in
+    leaves_writer (stream_in world s).writer.owner stream.writer.owner (record world { state = state })
