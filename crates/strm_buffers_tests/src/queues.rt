@@ -123,9 +123,8 @@ mod tests {
         assert_eq!(rt; poll_four(alloc, &mut writer, true)?.1, 2);
         assert_eq!(rt; writer.held(), 0);
         writer.close();
-        if writer.records() != 1 {
-            return Err(Fail);
-        }
+        let count = writer.records();
+        assert!(rt; count == 1);
         let said = writer.record_at(0)?;
         assert_eq!(rt;
             (said.room, said.finish, said.items.len()),

@@ -117,7 +117,7 @@ impl HostWriter for QueueWriter {
     {
         match self.fed.feed(self.polls.len(), bytes) {
             Ok(()) => {
-                self.is_ended = self.is_ended || bytes.is_empty();
+                self.is_ended |= bytes.is_empty();
                 Ok(())
             }
             Err(error) => Err(error),

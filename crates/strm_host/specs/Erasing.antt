@@ -26,3 +26,8 @@ module _ {P T B : Type 0} {producer : ProducerGhosts P T B} {item : ItemGhosts T
         closed = e.closed;
         heard = None;
       }
+
+-- what it tells before its first poll
+abbrev pub unpolled : TransmitKind → Payload → ℕ → WriterTells
+unpolled kind payload faults =
+    record { kind = kind; payload = payload; said = []; holds = []; faults = faults; closed = false; heard = None }

@@ -1,12 +1,14 @@
 -- What a poll of a producer leaves, and what the producer may tell of it before.
 -- wasmtime, `StreamProducer`; what is told is ours.
-use Rattle.std.specs.Prelude.{◌≡◌, ℕ, Bool, List, ◌++◌, map, Option, Some, None}
+use Rattle.std.specs.Prelude.{◌≡◌, ℕ, Bool, List, ◌++◌, map, length, drop, Option, Some, None}
 use Rattle.strm_codes.specs.declared.codes.StreamResult.{StreamResult}
 use Rattle.strm_buffers.specs.declared.answers.Turn.{Turn}
 use Rattle.strm_buffers.specs.declared.answers.Turn.TheVariants.{NoMemory}
 use Rattle.strm_buffers.specs.Said.{turn_of}
 use Rattle.strm_buffers.specs.declared.answers.Answer.{Answer}
-use Rattle.strm_buffers.specs.Listing.{Item}
+use Rattle.strm_codes.specs.Layout.{scalars_of}
+use Rattle.strm_buffers.specs.Listing.{Item, byte_items}
+use Rattle.strm_buffers.specs.Windows.{Lent, stored_in}
 
 -- one poll: all items that it produces, and its answer
 pub record Poll : Type 0 where
@@ -26,3 +28,12 @@ polled item marked buffered answer = record { items = marked ++ map item buffere
 abbrev pub IsAnswer : Turn StreamResult → Option Answer → Type 0
 IsAnswer turn None = turn ≡ NoMemory
 IsAnswer turn (Some answer) = turn ≡ turn_of answer
+
+-- the window after these bytes were written at the front of its unmarked ones, and marked
+abbrev pub with_written : Lent → List ℕ → Lent
+with_written w bytes =
+    record w {
+      place = stored_in (scalars_of w.payload) w.place (length w.marked) (byte_items bytes);
+      marked = w.marked ++ byte_items bytes;
+      unmarked = drop (length bytes) w.unmarked;
+    }

@@ -2,15 +2,21 @@
 //!
 //! Source: wasmtime, `futures_and_streams.rs`, `Destination`.
 
-ghost use Rattle.std.specs.Prelude.{◌≡◌, ◌+◌, ◌<◌, ◌-◌, [], length};
+ghost use Rattle.std.specs.Prelude.{◌≡◌, ◌+◌, ◌<◌, ◌-◌, [], true, length, IfOk, OnErr};
+ghost use Rattle.std.specs.Borrow.{sem};
+ghost use Rattle.strm_host.specs.Lending.{LendsDestination, LendsDirect};
+ghost use Rattle.strm_codes.specs.declared.payloads.Payload.TheVariants.{One};
+ghost use Rattle.strm_codes.specs.declared.scalars.Scalar.TheVariants.{U8};
 ghost use Rattle.std.specs.Option.{option_map};
-ghost use Rattle.strm_buffers.specs.Windows.{room_of};
+ghost use Rattle.strm_buffers.specs.Windows.{Between, room_of, CanCount, with_direct};
 
+use crate::direct::DirectDestination;
 use std::alloc::Global;
 use std::marker::PhantomData;
 use std::mem;
 use strm_buffers::buffers::WriteBuffer;
 use strm_buffers::windows::Window;
+use strm_codes::counts::OutOfMemory;
 use strm_memory::payloaded::Payloaded;
 
 /// What a poll has produced so far: the items marked in its window, and behind them those of a
@@ -33,9 +39,6 @@ pub struct Destination<'a, T: Payloaded, B: WriteBuffer<T> + Drop> {
 const MOST: usize = 4_294_967_294;
 
 impl<'a, T: Payloaded, B: WriteBuffer<T> + Drop> Destination<'a, T, B> {
-    ghost use Rattle.std.specs.Borrow.{sem};
-    ghost use Rattle.strm_host.specs.Lending.{LendsDestination};
-
     /// The buffer; one without items stands in its place.
     pub fn take_buffer(&mut self) -> B
         ensures same_reference { self.new.produced.ghost_name ≡ self.old.produced.ghost_name }
@@ -85,6 +88,27 @@ impl<'a, T: Payloaded, B: WriteBuffer<T> + Drop> Destination<'a, T, B> {
         Destination {
             produced: &mut *self.produced,
             items: PhantomData,
+        }
+    }
+}
+
+impl<'a, B: WriteBuffer<u8> + Drop> Destination<'a, u8, B> {
+    /// The bytes of the window, to be written where they are read: the rest of a stated room, or else
+    /// so many new ones. After `OutOfMemory`, which comes only between host ends, nothing has changed.
+    pub fn as_direct(self, capacity: usize) -> Result<DirectDestination<'a, B>, OutOfMemory>
+        requires payload { self.produced.now.window.payload ≡ One U8 }
+        requires prepared { self.produced.now.window.prepared ≡ true }
+        requires few { CanCount self.produced.now.window.place (length self.produced.now.window.marked) capacity }
+        ensures* lends { sem 𝓛 (LendsDirect B.row self.entry.produced result) }
+        ensures same_reference { IfOk result (λ direct. direct.produced.ghost_name ≡ self.entry.produced.ghost_name) }
+        ensures window { IfOk result (λ direct. direct.produced.now.window ≡ with_direct self.entry.produced.now.window capacity) }
+        ensures buffer { IfOk result (λ direct. direct.produced.now.buffer ≡ self.entry.produced.now.buffer) }
+        ensures out_of_memory { OnErr result (self.entry.produced.now.window.place ≡ Between) }
+    {
+        let Destination { produced, items: _ } = self;
+        match produced.window.direct(capacity) {
+            Ok(()) => Ok(DirectDestination { produced }),
+            Err(error) => Err(error),
         }
     }
 }

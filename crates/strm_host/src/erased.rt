@@ -36,7 +36,7 @@ pub struct Erased<P: StreamProducer> {
 impl<P: StreamProducer> Erased<P> {
     ghost use Rattle.strm_host.specs.Erasing.{erased_tells, unpolled};
 
-    /// A host writer of a stream, which asks this producer.
+    /// A host writer of a stream, which asks this producer. Takes no memory.
     pub fn stream(alloc: Global, producer: P) -> Erased<P>
         ensures producer { result.producer ≡ producer }
         ensures tells { erased_tells result ≡ unpolled Stream P.Item.payload (P.faults producer) }
@@ -64,7 +64,7 @@ impl<P: StreamProducer> Erased<P> {
 impl<F: FutureProducer> Erased<Producer<F>> {
     ghost use Rattle.strm_host.specs.Erasing.{erased_tells, unpolled};
 
-    /// A host writer of a future, which asks this producer.
+    /// A host writer of a future, which asks this producer. Takes no memory.
     pub fn future(alloc: Global, producer: F) -> Erased<Producer<F>>
         ensures producer { result.producer.future ≡ producer }
         ensures tells { erased_tells result ≡ unpolled Future F.Item.payload (F.faults producer) }

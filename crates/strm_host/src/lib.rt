@@ -3,6 +3,7 @@
 #![tactic(auto)]
 
 pub mod destinations;
+pub mod direct;
 pub mod empty;
 pub mod erased;
 pub mod futures;

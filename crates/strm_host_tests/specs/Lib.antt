@@ -1,1 +1,2 @@
 pub mod Countdowns
+pub mod Greetings

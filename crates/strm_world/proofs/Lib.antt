@@ -13,3 +13,4 @@ pub mod AttachLemmas
 pub mod ReadLemmas
 pub mod FitsLemmas
 pub mod DropLemmas
+pub mod AloneLemmas

@@ -18,6 +18,8 @@ use Rattle.strm_machine.specs.declared.acts.Making.TheVariants.{Guest, Between, 
 use Rattle.strm_machine.specs.declared.acts.EndAct.TheVariants.{Operate, Drop}
 use Rattle.strm_machine.specs.declared.acts.LooseAct.TheVariants.{Lower, Close}
 use Rattle.strm_machine.specs.declared.acts.SetAct.TheVariants.{Poll}
+use Rattle.strm_machine.specs.declared.acts.ContextAct.TheVariants as context_acts
+use Rattle.strm_machine.specs.declared.acts.MemoryAct.TheVariants.{Dump}
 use Rattle.strm_machine.specs.declared.acts.NamedEnd.{NamedEnd}
 use Rattle.strm_machine.specs.declared.streams.Producer.{Producer}
 use Rattle.strm_machine.specs.declared.streams.Side.{Side}
@@ -37,6 +39,43 @@ use Rattle.strm_world.specs.Steps.{reacts, operates_by, drops_in, touches, perfo
 use Rattle.strm_world.specs.Attaching.{forsakes}
 use Rattle.strm_world.specs.Does.{Logs, writers_from, readers_from, world_of, Answered, Gives, Caused, Does}
 use Rattle.strm_world.proofs.DoesLemmas.{Does-untold}
+
+-- WHAT IS KEPT OF HOST WRITERS
+
+written_back-producers : (state : State) (s : ℕ) (t : Turn) (code : Option ReturnCode) → (written_back state s t code).state.producers ≡ state.producers
+written_back-producers state s t (Some code) = refl
+written_back-producers state s t None = refl
+
+operates-producers : (state : State) (s : ℕ) (side : Side) (mine : Operation) → (on_stream state s side mine).state.producers ≡ state.producers
+operates-producers state s side mine =
+    let t = turn side state.guests (stream_at state s) mine in written_back-producers state s t t.code
+
+polls-producers : (state : State) (g : ℕ) (member : Option ℕ) → (polls state g member).state.producers ≡ state.producers
+polls-producers state g (Some handle) = refl
+polls-producers state g None = refl
+
+performs-producers : (state : State) (act : Act) → (performs state act).state.producers ≡ state.producers
+unfolding performs with_stream
+performs-producers state (Make (Guest size)) = refl
+performs-producers state (Make (Between writer reader ty)) = refl
+performs-producers state (Make _) = refl
+performs-producers state (OnEnd side end (Operate address count)) =
+    operates-producers state (stream_named (named state end)) side (begun end.guest address (items_asked end.ty count))
+performs-producers state (OnEnd side end _) = refl
+performs-producers state (OnLoose reader Close) = refl
+performs-producers state (OnLoose reader _) = refl
+performs-producers state (OnSet g set Poll) = polls-producers state g (ready_in state g set)
+performs-producers state (OnSet g set _) = refl
+performs-producers state (OnContext g handle context_acts.Drop) = refl
+performs-producers state (OnContext g handle _) = refl
+performs-producers state (OnMemory g (Dump address len)) = refl
+performs-producers state (OnMemory g _) = refl
+performs-producers state _ = refl
+
+-- they stay where no host end is touched
+pub reaction-producers : (state : State) (act : Act) → (reaction state act).state.producers ≡ state.producers
+reaction-producers state act =
+    reaction-by (λ r. r.state.producers ≡ state.producers) state act (λ t. refl) (λ r e. refl) (λ e. performs-producers state act)
 
 -- STEPS THAT TOUCH NO HOST END
 
