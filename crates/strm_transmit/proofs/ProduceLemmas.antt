@@ -6,14 +6,7 @@ use Rattle.strm_buffers.specs.Listing.{Item}
 use Rattle.strm_buffers.specs.Tells.{WriterTells, Tells, told_by, with_told, ClosesWriter}
 use Rattle.strm_machine.specs.State.{State, no_producer, no_stream, producer_at, stream_at}
 use Rattle.strm_machine.specs.Soundness.{sizes_of, IsPlaced, StreamIsPlaced}
-use Rattle.strm_codes.specs.declared.codes.ReturnCode.{ReturnCode}
-use Rattle.strm_codes.specs.declared.codes.ReturnCode.TheVariants.{Blocked}
-use Rattle.strm_machine.specs.Endings.{report_on, told_end, delivered}
-use Rattle.strm_machine.specs.Reactions.{Reaction, goes, tells as tells_end}
 use Rattle.strm_machine.specs.declared.replies.Reply.TheVariants as replies
-use Rattle.strm_machine.specs.declared.streams.Side.TheVariants.{Reading}
-use Rattle.strm_world.specs.Settling.{answered}
-use Rattle.strm_world.proofs.SettleLemmas.{Does-delivered, Does-blocked}
 use Rattle.strm_machine.specs.declared.streams.Duty.TheVariants.{Serves, Ended}
 use Rattle.strm_machine.specs.declared.streams.Operation.{Operation}
 use Rattle.strm_machine.specs.declared.streams.Owner.{Owner}
@@ -164,25 +157,3 @@ module _ (old : State) (tells : Tells) (n s : ℕ) (read : Operation) (h : IsSer
       ap (λ (x : State). x.producers) t.state ∙ ap (set old.producers n) same ∙ set-get_or old.producers n no_producer in
       subst (λ (x : Tells). Does old (record mid { trapped = true }) tells x (stop_of e n) (λ w. producer_turn w s n read)) (sym t.ends)
       (turn_stops old tells n s read serving e t.after (record mid { trapped = true }) t.turns producers)
-
--- ## What a read is answered
-
-event_is : (a b : Option ReturnCode) → replies.Event a ≡ replies.Event b → a ≡ b
-event_is a b e = cc
-
-pub answers-some : (old new : State) (s : ℕ) (code : ReturnCode) → tells_end old s Reading ≡ goes (replies.Event (Some code)) new → (tells : Tells) → Does old new tells tells (Ok (replies.Code code)) (λ w. answered w s Reading)
-answers-some old new s code e tells =
-    subst (λ (x : State). Does old x tells tells (Ok (replies.Code code)) (λ w. answered w s Reading)) (ap (λ (r : Reaction). r.state) e)
-    (Does-delivered old tells s code (event_is (report_on Reading (stream_at old s)) (Some code) (ap (λ (r : Reaction). r.reply) e)))
-
-untold : (stream : Stream) → report_on Reading stream ≡ None → delivered Reading stream ≡ stream
-unfolding delivered
-untold stream e = ap (λ code. record stream { reader = told_end code stream.reader }) e
-
-pub answers-none : (old new : State) (s : ℕ) → tells_end old s Reading ≡ goes (replies.Event None) new → (tells : Tells) → Does old new tells tells (Ok (replies.Code Blocked)) (λ w. answered w s Reading)
-answers-none old new s e tells =
-    let none = event_is (report_on Reading (stream_at old s)) None (ap (λ (r : Reaction). r.reply) e) in
-    let same : old ≡ new =
-    ap (λ xs. record old { streams = xs }) (sym (set-get_or old.streams s no_stream) ∙ ap (set old.streams s) (sym (untold (stream_at old s) none)))
-    ∙ ap (λ (r : Reaction). r.state) e in
-    subst (λ (x : State). Does old x tells tells (Ok (replies.Code Blocked)) (λ w. answered w s Reading)) same (Does-blocked old tells s none)

@@ -5,7 +5,7 @@
 
 ghost use Rattle.std.specs.Prelude.{◌≡◌, ◌≢◌, ◌<◌, ◌≤◌, true, false, length, sum, Ok, IfOk, IfErr};
 ghost use Rattle.strm_buffers.specs.AllTells.{tells_of};
-ghost use Rattle.strm_buffers.specs.Tells.{told_by, with_told};
+ghost use Rattle.strm_buffers.specs.Tells.{Tells, told_by, with_told};
 ghost use Rattle.strm_machine.specs.State.{producer_at, stream_at};
 ghost use Rattle.strm_machine.specs.Sides.{with_operation};
 ghost use Rattle.strm_machine.specs.Reactions.{with_stream_at};
@@ -184,8 +184,9 @@ impl Store {
     // What a read is answered once the host writer had its turn.
     fn answer(&mut self, stream: u32) -> ReturnCode
         requires { stream < length self.old.streams }
-        ensures { (tells : _) → Does self.old self.new tells tells (Ok (replies.Code result))
+        ensures does { (tells : Tells) → Does self.old self.new tells tells (Ok (replies.Code result))
             (λ world. answers_read world stream Reading) }
+        ensures fits { (tells : Tells) → Fits self.old tells → Fits self.new tells }
     {
         match self.tell(stream, Side::Reading) {
             Some(code) => code,

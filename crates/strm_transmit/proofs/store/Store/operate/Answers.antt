@@ -1,3 +1,4 @@
+use Rattle.std.proofs.Common.{ap, sym, ◌∙◌}
 use Rattle.strm_machine.specs.Meetings.{begun}
 use Rattle.strm_machine.specs.Reactions.{on_stream}
 use Rattle.strm_machine.specs.declared.replies.Reply.TheVariants as replies
@@ -5,15 +6,31 @@ use Rattle.strm_machine.specs.declared.acts.EndAct.TheVariants.{Operate}
 use Rattle.strm_machine.proofs.ReactionLemmas.{performs-on_end}
 use Rattle.strm_transmit.specs.Meets.{replied}
 use Rattle.strm_transmit.proofs.StepLemmas.{is_admitted, reacts, meets_admitted, meets_not_admitted}
+use Rattle.strm_transmit.proofs.HostStepLemmas.{hosted_alone, hosted_not_admitted}
+use Rattle.strm_transmit.proofs.DropLemmas.{refused-end}
+use Rattle.strm_transmit.proofs.OperateLemmas.{hosted_read, operate-alone, settled_code}
 use Rattle.strm_transmit.proofs.store.Store.operate.Goals as goal
 
-pub returns-in-Ok-clause-meets : goal.returns-in-Ok-clause-meets
-returns-in-Ok-clause-meets c =
-    meets_admitted c.args.self.now c.take.new.self _ (replied replies.Code c.take.result) _
-    (reacts _ _ _ _ _ (λ q. on_stream c.args.self.now q.0 c.args.side (begun c.args.end.now.guest c.args.address q.1))
-    (is_admitted _ _ _ _ _ c.operation_found.ensures.exact c.in-Ok.ensures.exact)
+pub returns-in-Some-clause-meets : goal.returns-in-Some-clause-meets
+returns-in-Some-clause-meets g c =
+    let found = is_admitted _ _ _ _ _ c.operation_found.ensures.exact c.in-Ok.ensures.exact in
+    hosted_read c.args.self.now _ _ _ c.args.side c.args.end.now c.args.address c.args.count c.in-Some.number _ _ found.untrapped found.none (ap (λ q. q.0) found.same)
+    (c.begin.ensures ∙ ap (λ q. begun c.args.end.now.guest c.args.address q.1) found.same) c.in-Some.ensures.some.0 c.in-Some.ensures.some.1
+    replies.Code c.read_from.result c.read_from.ensures.does c.read_from.ensures.fits c.read_from.ensures.stop c.read_from.ensures.trapped
+
+pub returns-in-None-clause-meets : goal.returns-in-None-clause-meets
+returns-in-None-clause-meets g c =
+    let found = is_admitted _ _ _ _ _ c.operation_found.ensures.exact c.in-Ok.ensures.exact in
+    hosted_alone c.args.self.now _ _ _ (replied replies.Code c.take.result) c.sound.ensures c.served.ensures.made
+    (operate-alone c.args.self.now c.args.side c.args.end.now c.args.address c.args.count _ (ap (λ q. q.0) found.same) c.in-None.ensures.none)
+    (settled_code c.take.result)
+    (meets_admitted c.args.self.now c.take.new.self _ (replied replies.Code c.take.result) _
+    (reacts _ _ _ _ _ (λ q. on_stream c.args.self.now q.0 c.args.side (begun c.args.end.now.guest c.args.address q.1)) found
     (performs-on_end c.args.self.now c.args.side c.args.end.now (Operate c.args.address c.args.count)))
-    (rw c.begin.ensures at c.take.ensures.meets)
+    (rw c.begin.ensures at c.take.ensures.meets))
+    c.requires.fits
 
 pub returns-in-Err-clause-meets : goal.returns-in-Err-clause-meets
-returns-in-Err-clause-meets c = meets_not_admitted _ _ _ _ _ c.operation_found.ensures.exact c.in-Err.ensures.exact
+returns-in-Err-clause-meets g c =
+    hosted_not_admitted c.args.self.now _ _ _ _ _ _ (λ logs. refused-end _ c.args.side c.args.end.now (Operate c.args.address c.args.count)) c.operation_found.ensures.exact c.in-Err.ensures.exact c.requires.fits
+    (λ u. meets_not_admitted _ _ _ _ _ c.operation_found.ensures.exact c.in-Err.ensures.exact)
