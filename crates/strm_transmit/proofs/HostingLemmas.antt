@@ -1,6 +1,6 @@
 -- A host writer that gets a stream, and one that is fed.
 use Rattle.std.proofs.Common.{◌≡◌, ℕ, ◌+◌, ◌<◌, ◌≤◌, Bool, true, false, cond, List, [], ◌∷◌, ◌++◌, length, get_or, set, Option, Some, None, Result, Ok, Err, refl, sym, ap, subst, ◌∙◌, arith, length-append}
-use Rattle.std.specs.Prelude.{◌||◌, nat_le}
+use Rattle.std.specs.Prelude.{◌||◌, nat_le, All, IfOk, OnOk, OnErr, count_by, sum}
 use Rattle.std.proofs.lemmas.Bool.Decides.{nat_tests}
 use Rattle.std.proofs.Math.Seq.{get_or-append_seam}
 use Rattle.strm_codes.specs.declared.refusals.Refusal.{Refusal}
@@ -24,14 +24,32 @@ use Rattle.strm_world.specs.Does.{Logs, world_of, FitsWriter, Fits, Does}
 use Rattle.strm_world.proofs.DoesLemmas.{Does-as}
 use Rattle.strm_world.proofs.WorldLemmas.{length-writers_from}
 use Rattle.strm_world.proofs.AttachLemmas.{hosted_by, hosted_in, Does-hosts_new, Does-feed}
-use Rattle.strm_transmit.specs.Meets.{as_answer, admitted, or_found}
+use Rattle.strm_transmit.specs.Meets.{as_answer, admitted, replied, or_found}
 use Rattle.strm_transmit.specs.Hosted.{Stays, MeetsHosted}
 use Rattle.strm_transmit.specs.declared.errors.StoreError.{StoreError}
 use Rattle.strm_transmit.specs.declared.errors.StoreError.TheVariants.{StoreTrapped, OutOfMemory}
-use Rattle.strm_transmit.proofs.ServedLemmas.{at_set, at_push}
+use Rattle.strm_transmit.proofs.ServedLemmas.{at_set, at_push, AreServed-hosted}
 use Rattle.strm_transmit.proofs.FitsLemmas.{SameType, Retells, Fits-told}
 use Rattle.strm_transmit.proofs.HostStepLemmas.{RefusedBy, does_admitted, AreMade, all_stays}
 use Rattle.strm_world.proofs.DoesLemmas.{Does-untold}
+use Rattle.std.proofs.lemmas.List.{map-append, get_or_append_left}
+use Rattle.std.proofs.lemmas.List.Elements.{All-push, All-weaker}
+use Rattle.std.proofs.lemmas.List.Sums.{sum_by-append}
+use Rattle.strm_codes.specs.declared.codes.TransmitIndex.{TransmitIndex}
+use Rattle.strm_codes.specs.declared.codes.TransmitIndex.TheVariants as index
+use Rattle.strm_codes.specs.declared.payloads.Payload.TheVariants.{Nothing}
+use Rattle.strm_handles.specs.Handles.{Handles}
+use Rattle.strm_handles.specs.declared.entries.Entry.{Entry}
+use Rattle.strm_handles.specs.declared.entries.Entry.TheVariants as entries
+use Rattle.strm_handles.specs.declared.entries.TransmitEnd.{TransmitEnd}
+use Rattle.strm_machine.specs.State.{is_live, is_host, idle_end}
+use Rattle.strm_machine.specs.Soundness.{sizes_of, handles_of, type_of, types_of, IsNamed, EntryIsNamed, AreNamed, OperationIsPlaced, StreamIsPlaced, IsSound}
+use Rattle.strm_machine.specs.declared.streams.End.{End}
+use Rattle.strm_machine.specs.declared.streams.Owner.TheVariants.{Host, Loose}
+use Rattle.strm_machine.specs.declared.streams.Stream.{Stream}
+use Rattle.strm_turns.specs.Guests.{seen}
+use Rattle.strm_transmit.specs.Inside.{state_of, IsStore}
+use Rattle.strm_transmit.specs.declared.store.Store.TheInside.{Inside}
 
 -- ## Refusals
 
@@ -180,6 +198,14 @@ hosted_wanting old new tells told n act fits same untold =
       err = all_stays old tells;
     }))
 
+-- by what the making of the stream answered
+pub hosted_made : (old new : State) (tells : Tells) (n : ℕ) (result : Result ℕ StoreError) → AreMade old → length old.producers ≡ host_limit → old.trapped ≡ false → RefusedBy old tells (OnHost n New) None → HostFits old tells n → Fits old tells
+    → IfOk result (λ s. s ≡ length old.streams) → OnOk result (new ≡ hosted_in old tells n) → OnErr result (result ≡ Err OutOfMemory) → OnErr result (new ≡ old) → MeetsHosted old new tells tells (replied replies.Number result) (OnHost n New)
+hosted_made old new tells n (Ok s) made all t r h fits number is memory same = hosted_new old new tells n s made all t r h fits number is
+hosted_made old new tells n (Err error) made all t r h fits number is memory same =
+    subst (λ (x : Result ℕ StoreError). MeetsHosted old new tells tells (replied replies.Number x) (OnHost n New)) (sym memory)
+    (hosted_wanting old new tells tells n New fits same refl)
+
 -- ## Bytes from outside
 
 pub hosted_feed : (state : State) (tells told : Tells) (n : ℕ) (bytes : List ℕ) → state.trapped ≡ false → RefusedBy state tells (OnHost n (Feed bytes)) None → n < length tells.writers → Fits state tells → told ≡ with_told tells n (fed (told_by tells n) bytes) → MeetsHosted state state tells told (Ok replies.Done) (OnHost n (Feed bytes))
@@ -193,3 +219,83 @@ hosted_feed state tells told n bytes t r there fits is =
       alone = λ u. cc u;
       err = tt;
     })
+
+-- ## The store with a stream of a host writer more
+
+IsNamed-more : (types : List TransmitIndex) (p ty : TransmitIndex) (end : TransmitEnd) → IsNamed types ty end → IsNamed (types ++ p ∷ []) ty end
+IsNamed-more types p ty end h = record {
+  there = omega (arith, h.there, length-append types (p ∷ []));
+  typed = get_or_append_left types (p ∷ []) (index.Stream Nothing) end.rep h.there ∙ h.typed;
+  idle = h.idle;
+}
+
+EntryIsNamed-more : (types : List TransmitIndex) (p : TransmitIndex) (o : Option Entry) → EntryIsNamed types o → EntryIsNamed (types ++ p ∷ []) o
+EntryIsNamed-more types p None h = tt
+EntryIsNamed-more types p (Some (entries.Stream end)) h = IsNamed-more types p (index.Stream end.ty) end h
+EntryIsNamed-more types p (Some (entries.Future end)) h = IsNamed-more types p (index.Future end.ty) end h
+EntryIsNamed-more types p (Some _) h = tt
+
+AreNamed-more : (types : List TransmitIndex) (p : TransmitIndex) (handles : Handles) → AreNamed types handles → AreNamed (types ++ p ∷ []) handles
+AreNamed-more types p handles h = All-weaker (EntryIsNamed types) (EntryIsNamed (types ++ p ∷ [])) (EntryIsNamed-more types p) handles.entries h
+
+IsSound-hosted : (state : State) (stream : Stream) (ps : List Producer) → StreamIsPlaced (sizes_of state.guests) stream → IsSound state → IsSound (record state { streams = state.streams ++ stream ∷ []; producers = ps })
+IsSound-hosted state stream ps p h = record {
+  named = rw (map-append type_of state.streams (stream ∷ []))
+      (All-weaker (AreNamed (types_of state.streams)) (AreNamed (types_of state.streams ++ type_of stream ∷ [])) (AreNamed-more (types_of state.streams) (type_of stream)) (handles_of state.guests) h.named);
+  placed = All-push (StreamIsPlaced (sizes_of state.guests)) state.streams stream h.placed p;
+  small = h.small;
+  sets = h.sets;
+  contexts = h.contexts;
+}
+
+live_pushed : (streams : List Stream) (stream : Stream) → is_live stream ≡ true → count_by is_live (streams ++ stream ∷ []) ≡ count_by is_live streams + 1
+live_pushed streams stream e =
+    let sum = sum_by-append (λ (x : Stream). cond (is_live x) 1 0) streams (stream ∷ []) in
+    let one : cond (is_live stream) 1 0 ≡ 1 = ap (λ b. cond b 1 0) e in
+    omega (arith, sum, one)
+
+-- a stream more, that host writer n serves, which was unused before
+pub record HostsStream (old new : Inside) (n : ℕ) (stream : Stream) (p : Producer) : Type 0 where
+  pub few : length old.streams.items < stream_limit
+  pub kept : n < host_limit
+  pub unused : (producer_at (state_of old) n).duty ≡ Unused
+  pub serves : p.duty ≡ Serves (length old.streams.items)
+  pub writer : stream.writer ≡ idle_end (Host n)
+  pub reader : stream.reader ≡ idle_end Loose
+  pub tag : new.tag ≡ old.tag
+  pub limits : new.limits ≡ old.limits
+  pub contexts : new.contexts ≡ old.contexts
+  pub trapped : new.is_trapped ≡ old.is_trapped
+  pub counter : new.counter ≡ old.counter
+  pub guests : new.guests ≡ old.guests
+  pub live_streams : new.live_streams ≡ old.live_streams + 1
+  pub live_sets : new.live_sets ≡ old.live_sets
+  pub bytes : new.bytes ≡ old.bytes
+  pub streams : new.streams.items ≡ old.streams.items ++ stream ∷ []
+  pub producers : new.producers ≡ set old.producers n p
+
+state_of-hosted : (old new : Inside) (n : ℕ) (stream : Stream) (p : Producer) → HostsStream old new n stream p → state_of new ≡ record (state_of old) { streams = old.streams.items ++ stream ∷ []; producers = set old.producers n p }
+state_of-hosted old new n stream p h = rw (h.tag, h.limits, h.contexts, h.trapped, h.guests, h.streams, h.producers) refl
+
+pub IsStore-hosted : (old new : Inside) (n : ℕ) (stream : Stream) (p : Producer) → HostsStream old new n stream p → IsStore old → IsStore new
+IsStore-hosted old new n stream p h i =
+    let writer : stream.writer.owner ≡ Host n = ap (λ (x : End). x.owner) h.writer in
+    let reader : is_host stream.reader.owner ≡ false = ap (λ (x : End). is_host x.owner) h.reader in
+    let sizes = sizes_of (seen old.guests.items) in
+    let idle : StreamIsPlaced sizes stream = record {
+      writer = subst (λ (x : End). OperationIsPlaced sizes stream.payload x.operation) (sym h.writer) tt;
+      reader = subst (λ (x : End). OperationIsPlaced sizes stream.payload x.operation) (sym h.reader) tt;
+    } in
+    let live : is_live stream ≡ true = ap (λ (x : End). is_live (record stream { writer = x })) h.writer in
+    record {
+      sound = subst IsSound (sym (state_of-hosted old new n stream p h)) (IsSound-hosted (state_of old) stream (set old.producers n p) idle i.sound);
+      limit = rw (h.counter, h.limits) i.limit;
+      live = rw (h.counter, h.guests) i.live;
+      within = rw h.counter i.within;
+      streams = rw h.streams (omega (arith, h.live_streams, i.streams, live_pushed old.streams.items stream live));
+      served = rw (h.producers, h.streams) (AreServed-hosted old.producers old.streams.items i.served n p stream (omega (arith, i.served.all, h.kept)) h.unused h.serves writer reader);
+      sets = rw (h.live_sets, h.guests) i.sets;
+      bytes = rw (h.bytes, h.guests) i.bytes;
+      few_guests = rw h.guests i.few_guests;
+      few_streams = rw h.streams (omega (arith, h.few, length-append old.streams.items (stream ∷ [])));
+    }

@@ -140,7 +140,7 @@ module _ (old new : State) (tells told : Tells) (side : Side) (end : NamedEnd) (
 -- ## A read or write with no host end across
 
 pub settled_code : (result : Result ReturnCode StoreError) → IfOk (replied replies.Code result) (λ reply. IsTrue (is_settled reply))
-settled_code (Ok code) = tt
+settled_code (Ok code) = refl
 settled_code (Err error) = tt
 
 pub operate-alone : (old : State) (side : Side) (end : NamedEnd) (address count s : ℕ) → s ≡ stream_named (named old end) → is_host (end_of (opposite side) (stream_at old s)).owner ≡ false → touches (lone old) (OnEnd side end (Operate address count)) ≡ false

@@ -1,7 +1,8 @@
 -- What the turn of a host writer does to a store, and which streams a drive round goes through. Ours.
-use Rattle.std.specs.Prelude.{◌≡◌, ℕ, ◌≤◌, if◌then◌else◌, slice_set, Option, Some, None, Result}
+use Rattle.std.specs.Prelude.{◌≡◌, ℕ, ◌≤◌, nat_le, if◌then◌else◌, slice_set, Option, Some, None, Result}
 use Rattle.strm_buffers.specs.Tells.{Tells, told_by, with_told}
 use Rattle.strm_machine.specs.State.{State, producer_at, stream_at}
+use Rattle.strm_machine.specs.declared.streams.Duty.{Duty}
 use Rattle.strm_machine.specs.declared.streams.Duty.TheVariants.{Serves}
 use Rattle.strm_machine.specs.declared.streams.HostEnd.TheVariants as ends
 use Rattle.strm_machine.specs.declared.streams.Operation.{Operation}
@@ -35,6 +36,16 @@ pub record TurnsStream (old new : State) (tells told : Tells) (n s : ℕ) (read 
 abbrev pub due_in : Owner → Option Operation → Option (ℕ × Operation)
 due_in (Host n) (Some operation) = if operation.is_open then Some (n, operation) else None
 due_in _ _ = None
+
+-- the lesser of a number and another, if there is one
+abbrev pub least_of : ℕ → Option ℕ → Option ℕ
+least_of s None = Some s
+least_of s (Some other) = if nat_le other s then Some other else Some s
+
+-- the least of some streams from a number on, and of the one that this duty is for
+abbrev pub next_of : Duty → ℕ → Option ℕ → Option ℕ
+next_of (Serves s) from least = if nat_le from s then least_of s least else least
+next_of _ from least = least
 
 -- the least stream from a number on that a host writer serves
 pub record IsNextServed (state : State) (from s : ℕ) : Type 0 where

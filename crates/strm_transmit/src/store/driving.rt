@@ -23,7 +23,7 @@ ghost use Rattle.strm_world.specs.Steps.{reads_from};
 ghost use Rattle.strm_world.specs.Does.{Fits, Does};
 ghost use Rattle.strm_transmit.specs.Meets.{replied};
 ghost use Rattle.strm_transmit.specs.Hosted.{answered, IsStop, MeetsHosted};
-ghost use Rattle.strm_transmit.specs.Turning.{TurnsStream, stops_by, due_in, NextServed};
+ghost use Rattle.strm_transmit.specs.Turning.{TurnsStream, stops_by, due_in, least_of, next_of, NextServed};
 
 use crate::errors::StoreError;
 use crate::store::Store;
@@ -84,10 +84,22 @@ fn turn_of(
 }
 
 // The lesser of a number and another, if there is one.
-fn least_of(number: u32, other: Option<u32>) -> Option<u32> {
+fn least_of(number: u32, other: Option<u32>) -> Option<u32>
+    ensures { result ≡ least_of number other }
+{
     match other {
         Some(other) if other <= number => Some(other),
         _ => Some(number),
+    }
+}
+
+// The least of some streams from a number on, and of the one that a duty is for.
+fn next_of(duty: Duty, from: u32, least: Option<u32>) -> Option<u32>
+    ensures { result ≡ next_of duty from least }
+{
+    match duty {
+        Duty::Serves { stream } if stream >= from => least_of(stream, least),
+        _ => least,
     }
 }
 
@@ -226,10 +238,7 @@ impl Store {
     {
         let mut least = None;
         for producer in &self.producers {
-            match producer.duty {
-                Duty::Serves { stream } if stream >= from => least = least_of(stream, least),
-                _ => {}
-            }
+            least = next_of(producer.duty, from, least);
         }
         least
     }

@@ -101,6 +101,7 @@ impl Store {
     pub fn fits(&self, hosts: &Hosts) -> bool
         ensures { IsTrue result ↔ Fits self.now (tells_of writer_tells reader_tells hosts.now) }
     {
+        self.served();
         for number in 0..MOST_HOSTS {
             if !self.fits_writer(hosts, number) {
                 return false;

@@ -1,0 +1,108 @@
+-- The next stream that a host writer serves, after one host writer more was looked at; and whether all
+-- host writers that were looked at are those that the store needs.
+use Rattle.std.proofs.Common.{◌≡◌, ℕ, ◌+◌, ◌<◌, ◌≤◌, ◌↔◌, Bool, true, false, cond, List, [], ◌∷◌, ◌++◌, length, Option, Some, None, refl, sym, ap, subst, ◌∙◌, ⊎_elim, arith}
+use Rattle.std.specs.Prelude.{nat_le, IsTrue}
+use Rattle.std.proofs.lemmas.Bool.{cases_lt, true≢false}
+use Rattle.std.proofs.lemmas.Bool.Decides.{nat_tests}
+use Rattle.std.proofs.lemmas.List.{get_or_append_left, get_or_past, get_or_push}
+use Rattle.strm_buffers.specs.Tells.{Tells}
+use Rattle.strm_machine.specs.State.{State, host_limit, no_producer, producer_at}
+use Rattle.strm_machine.specs.declared.streams.Duty.{Duty}
+use Rattle.strm_machine.specs.declared.streams.Duty.TheVariants.{Unused, Serves, Ended}
+use Rattle.strm_machine.specs.declared.streams.Producer.{Producer}
+use Rattle.strm_world.specs.Does.{Fits}
+use Rattle.strm_transmit.specs.Hosted.{FitsAt}
+use Rattle.strm_transmit.specs.Inside.{AreServed}
+use Rattle.strm_transmit.specs.Turning.{least_of, next_of, IsNextServed, NextServed}
+use Rattle.strm_transmit.proofs.ServedLemmas.{at_push, serving_kept, same_stream, ended_no}
+
+-- ## The next stream that is served
+
+unused_no : (d : Duty) (k : ℕ) → d ≡ Unused → d ≡ Serves k → ⊥
+unused_no d k e f = cc
+
+pub next_none : (state : State) (from : ℕ) → NextServed (record state { producers = [] }) from None
+next_none state from = λ n k e l. unused_no (producer_at (record state { producers = [] }) n).duty k (ap (λ (p : Producer). p.duty) (get_or_past [] n no_producer (omega arith))) e
+
+-- a stream is not less than the least one, if there is one
+abbrev IsBehind : Option ℕ → ℕ → Type 0
+IsBehind None k = ⊥
+IsBehind (Some t) k = t ≤ k
+
+module _ (state : State) (ps : List Producer) (p : Producer) (from : ℕ) where
+  abbrev before : State
+  before = record state { producers = ps }
+
+  abbrev more : State
+  more = record state { producers = ps ++ p ∷ [] }
+
+  -- whichever serves a stream is the last, or did so before
+  by_last : (P : Type 0) (n k : ℕ) → (producer_at more n).duty ≡ Serves k → (p.duty ≡ Serves k → P) → ((producer_at before n).duty ≡ Serves k → P) → P
+  by_last P n k e f g = at_push ps p no_producer n (λ q. q.duty ≡ Serves k → P) (λ _. f) (λ _. g) e
+
+  still : (n k : ℕ) → (producer_at before n).duty ≡ Serves k → (producer_at more n).duty ≡ Serves k
+  still n k e = ap (λ (q : Producer). q.duty) (get_or_append_left ps (p ∷ []) no_producer n (serving_kept ps n k e)) ∙ e
+
+  kept_on : (o : Option ℕ) → NextServed before from o → ((k : ℕ) → p.duty ≡ Serves k → from ≤ k → IsBehind o k) → NextServed more from o
+  kept_on None h f = λ n k e l. by_last ⊥ n k e (λ d. f k d l) (λ d. h n k d l)
+  kept_on (Some t) h f = record {
+    behind = h.behind;
+    number = h.number;
+    serves = still h.number t h.serves;
+    least = λ n k e l. by_last (t ≤ k) n k e (λ d. f k d l) (λ d. h.least n k d l);
+  }
+
+  is_last : (s : ℕ) → p.duty ≡ Serves s → from ≤ s → ((n k : ℕ) → (producer_at before n).duty ≡ Serves k → from ≤ k → s ≤ k) → IsNextServed more from s
+  is_last s e l f = record {
+    behind = l;
+    number = length ps;
+    serves = ap (λ (q : Producer). q.duty) (get_or_push ps p no_producer (length ps) refl) ∙ e;
+    least = λ n k d b. by_last (s ≤ k) n k d (λ q. omega (arith, same_stream s k p.duty e q)) (λ q. f n k q b);
+  }
+
+  lesser : (s : ℕ) (o : Option ℕ) → p.duty ≡ Serves s → from ≤ s → NextServed before from o → NextServed more from (least_of s o)
+  lesser s None e l h = is_last s e l (λ n k d b. absurd (h n k d b))
+  lesser s (Some t) e l h = by_test (nat_le t s) refl
+    where
+      by_test : (b : Bool) → nat_le t s ≡ b → NextServed more from (cond b (Some t) (Some s))
+      by_test true q =
+          let few : t ≤ s = grind (arith, nat_tests) in
+          kept_on (Some t) h (λ k d a. omega (arith, few, same_stream s k p.duty e d))
+      by_test false q =
+          let few : s ≤ t = grind (arith, nat_tests) in
+          is_last s e l (λ n k d a. omega (arith, few, h.least n k d a))
+
+  pub next_more : (o : Option ℕ) → NextServed before from o → NextServed more from (next_of p.duty from o)
+  next_more o h = by_duty p.duty refl
+    where
+      by_test : (s : ℕ) (b : Bool) → p.duty ≡ Serves s → nat_le from s ≡ b → NextServed more from (cond b (least_of s o) o)
+      by_test s true e q = lesser s o e (grind (arith, nat_tests)) h
+      by_test s false e q =
+          let few : s < from = grind (arith, nat_tests) in
+          kept_on o h (λ k d a. absurd (past s k few (same_stream s k p.duty e d) a))
+        where
+          past : (a b : ℕ) → a < from → a ≡ b → from ≤ b → ⊥
+          past a b l e f = omega (arith, l, e, f)
+
+      by_duty : (d : Duty) → p.duty ≡ d → NextServed more from (next_of d from o)
+      by_duty Unused e = kept_on o h (λ k d a. absurd (unused_no p.duty k e d))
+      by_duty Ended e = kept_on o h (λ k d a. absurd (ended_no p.duty k e d))
+      by_duty (Serves s) e = by_test s (nat_le from s) e refl
+
+-- ## The host writers that the store needs
+
+abbrev pub FitBelow : State → Tells → ℕ → Type 0
+FitBelow state tells k = (n : ℕ) → n < k → FitsAt state tells n
+
+pub fit_none : (state : State) (tells : Tells) → FitBelow state tells 0
+fit_none state tells = λ n l. absurd (omega (arith, l))
+
+pub fit_more : (state : State) (tells : Tells) (k : ℕ) → FitBelow state tells k → FitsAt state tells k → FitBelow state tells (k + 1)
+fit_more state tells k f h n l =
+    ⊎_elim (f n) (λ g. let same : k ≡ n = omega (arith, l, g) in subst (FitsAt state tells) same h) (cases_lt n k)
+
+pub fits_not : (state : State) (tells : Tells) (n : ℕ) → (IsTrue false ↔ FitsAt state tells n) → (IsTrue false ↔ Fits state tells)
+fits_not state tells n k = (λ e. absurd (true≢false (sym e)), λ fits. k.1 (fits n))
+
+pub fits_all : (state : State) (tells : Tells) (k : ℕ) → AreServed state.producers state.streams → host_limit ≤ k → FitBelow state tells k → (IsTrue true ↔ Fits state tells)
+fits_all state tells k h l f = (λ _. λ n s e. f n (omega (arith, l, h.all, serving_kept state.producers n s e)) s e, λ _. refl)
