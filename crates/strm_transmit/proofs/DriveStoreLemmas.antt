@@ -96,7 +96,7 @@ module _ (old now : State) (tells told : Tells) (h : AreServed now.producers now
       (λ logs. are_alone now told logs next (s - next) h.serves (λ n t e a b. none n t e a (omega (arith, b, sum)))))
 
   -- a stream more
-  pub drive_on : (new : State) (after : Tells) (s : ℕ) (result : Answered) → IsNextServed now next s → EndsDone result → Does now new told after result (λ w. drive_turn w s) → Does old new tells after result (drives_first (s + 1))
+  pub drive_on : (new : State) (after : Tells) (s : ℕ) (result : Answered) → IsNextServed now.producers next s → EndsDone result → Does now new told after result (λ w. drive_turn w s) → Does old new tells after result (drives_first (s + 1))
   drive_on new after s result served e t =
       Does-drives_one old now new tells told after s result e
       (passed s served.behind (λ n k f a b. let far = served.least n k f a in omega (arith, far, b))) t

@@ -1,12 +1,12 @@
 -- The next stream that a host writer serves, after one host writer more was looked at; and whether all
 -- host writers that were looked at are those that the store needs.
-use Rattle.std.proofs.Common.{◌≡◌, ℕ, ◌+◌, ◌<◌, ◌≤◌, ◌↔◌, Bool, true, false, cond, List, [], ◌∷◌, ◌++◌, length, Option, Some, None, refl, sym, ap, subst, ◌∙◌, ⊎_elim, arith}
+use Rattle.std.proofs.Common.{◌≡◌, ℕ, ◌+◌, ◌<◌, ◌≤◌, ◌↔◌, Bool, true, false, cond, List, [], ◌∷◌, ◌++◌, length, get_or, Option, Some, None, refl, sym, ap, subst, ◌∙◌, ⊎_elim, arith}
 use Rattle.std.specs.Prelude.{nat_le, IsTrue}
 use Rattle.std.proofs.lemmas.Bool.{cases_lt, true≢false}
 use Rattle.std.proofs.lemmas.Bool.Decides.{nat_tests}
 use Rattle.std.proofs.lemmas.List.{get_or_append_left, get_or_past, get_or_push}
 use Rattle.strm_buffers.specs.Tells.{Tells}
-use Rattle.strm_machine.specs.State.{State, host_limit, no_producer, producer_at}
+use Rattle.strm_machine.specs.State.{State, host_limit, no_producer}
 use Rattle.strm_machine.specs.declared.streams.Duty.{Duty}
 use Rattle.strm_machine.specs.declared.streams.Duty.TheVariants.{Unused, Serves, Ended}
 use Rattle.strm_machine.specs.declared.streams.Producer.{Producer}
@@ -21,29 +21,26 @@ use Rattle.strm_transmit.proofs.ServedLemmas.{at_push, serving_kept, same_stream
 unused_no : (d : Duty) (k : ℕ) → d ≡ Unused → d ≡ Serves k → ⊥
 unused_no d k e f = cc
 
-pub next_none : (state : State) (from : ℕ) → NextServed (record state { producers = [] }) from None
-next_none state from = λ n k e l. unused_no (producer_at (record state { producers = [] }) n).duty k (ap (λ (p : Producer). p.duty) (get_or_past [] n no_producer (omega arith))) e
+pub next_none : (from : ℕ) → NextServed [] from None
+next_none from = λ n k e l. unused_no (get_or [] n no_producer).duty k (ap (λ (p : Producer). p.duty) (get_or_past [] n no_producer (omega arith))) e
 
 -- a stream is not less than the least one, if there is one
 abbrev IsBehind : Option ℕ → ℕ → Type 0
 IsBehind None k = ⊥
 IsBehind (Some t) k = t ≤ k
 
-module _ (state : State) (ps : List Producer) (p : Producer) (from : ℕ) where
-  abbrev before : State
-  before = record state { producers = ps }
-
-  abbrev more : State
-  more = record state { producers = ps ++ p ∷ [] }
+module _ (ps : List Producer) (p : Producer) (from : ℕ) where
+  abbrev more : List Producer
+  more = ps ++ p ∷ []
 
   -- whichever serves a stream is the last, or did so before
-  by_last : (P : Type 0) (n k : ℕ) → (producer_at more n).duty ≡ Serves k → (p.duty ≡ Serves k → P) → ((producer_at before n).duty ≡ Serves k → P) → P
+  by_last : (P : Type 0) (n k : ℕ) → (get_or more n no_producer).duty ≡ Serves k → (p.duty ≡ Serves k → P) → ((get_or ps n no_producer).duty ≡ Serves k → P) → P
   by_last P n k e f g = at_push ps p no_producer n (λ q. q.duty ≡ Serves k → P) (λ _. f) (λ _. g) e
 
-  still : (n k : ℕ) → (producer_at before n).duty ≡ Serves k → (producer_at more n).duty ≡ Serves k
+  still : (n k : ℕ) → (get_or ps n no_producer).duty ≡ Serves k → (get_or more n no_producer).duty ≡ Serves k
   still n k e = ap (λ (q : Producer). q.duty) (get_or_append_left ps (p ∷ []) no_producer n (serving_kept ps n k e)) ∙ e
 
-  kept_on : (o : Option ℕ) → NextServed before from o → ((k : ℕ) → p.duty ≡ Serves k → from ≤ k → IsBehind o k) → NextServed more from o
+  kept_on : (o : Option ℕ) → NextServed ps from o → ((k : ℕ) → p.duty ≡ Serves k → from ≤ k → IsBehind o k) → NextServed more from o
   kept_on None h f = λ n k e l. by_last ⊥ n k e (λ d. f k d l) (λ d. h n k d l)
   kept_on (Some t) h f = record {
     behind = h.behind;
@@ -52,7 +49,7 @@ module _ (state : State) (ps : List Producer) (p : Producer) (from : ℕ) where
     least = λ n k e l. by_last (t ≤ k) n k e (λ d. f k d l) (λ d. h.least n k d l);
   }
 
-  is_last : (s : ℕ) → p.duty ≡ Serves s → from ≤ s → ((n k : ℕ) → (producer_at before n).duty ≡ Serves k → from ≤ k → s ≤ k) → IsNextServed more from s
+  is_last : (s : ℕ) → p.duty ≡ Serves s → from ≤ s → ((n k : ℕ) → (get_or ps n no_producer).duty ≡ Serves k → from ≤ k → s ≤ k) → IsNextServed more from s
   is_last s e l f = record {
     behind = l;
     number = length ps;
@@ -60,7 +57,7 @@ module _ (state : State) (ps : List Producer) (p : Producer) (from : ℕ) where
     least = λ n k d b. by_last (s ≤ k) n k d (λ q. omega (arith, same_stream s k p.duty e q)) (λ q. f n k q b);
   }
 
-  lesser : (s : ℕ) (o : Option ℕ) → p.duty ≡ Serves s → from ≤ s → NextServed before from o → NextServed more from (least_of s o)
+  lesser : (s : ℕ) (o : Option ℕ) → p.duty ≡ Serves s → from ≤ s → NextServed ps from o → NextServed more from (least_of s o)
   lesser s None e l h = is_last s e l (λ n k d b. absurd (h n k d b))
   lesser s (Some t) e l h = by_test (nat_le t s) refl
     where
@@ -72,7 +69,7 @@ module _ (state : State) (ps : List Producer) (p : Producer) (from : ℕ) where
           let few : s ≤ t = grind (arith, nat_tests) in
           is_last s e l (λ n k d a. omega (arith, few, h.least n k d a))
 
-  pub next_more : (o : Option ℕ) → NextServed before from o → NextServed more from (next_of p.duty from o)
+  pub next_more : (o : Option ℕ) → NextServed ps from o → NextServed more from (next_of p.duty from o)
   next_more o h = by_duty p.duty refl
     where
       by_test : (s : ℕ) (b : Bool) → p.duty ≡ Serves s → nat_le from s ≡ b → NextServed more from (cond b (least_of s o) o)

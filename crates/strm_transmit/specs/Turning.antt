@@ -1,12 +1,13 @@
 -- What the turn of a host writer does to a store, and which streams a drive round goes through. Ours.
-use Rattle.std.specs.Prelude.{◌≡◌, ℕ, ◌≤◌, nat_le, if◌then◌else◌, slice_set, Option, Some, None, Result}
+use Rattle.std.specs.Prelude.{◌≡◌, ℕ, ◌≤◌, nat_le, if◌then◌else◌, List, slice_set, slice_index_or, Option, Some, None, Result}
 use Rattle.strm_buffers.specs.Tells.{Tells, told_by, with_told}
-use Rattle.strm_machine.specs.State.{State, producer_at, stream_at}
+use Rattle.strm_machine.specs.State.{State, no_producer, producer_at, stream_at}
 use Rattle.strm_machine.specs.declared.streams.Duty.{Duty}
 use Rattle.strm_machine.specs.declared.streams.Duty.TheVariants.{Serves}
 use Rattle.strm_machine.specs.declared.streams.HostEnd.TheVariants as ends
 use Rattle.strm_machine.specs.declared.streams.Operation.{Operation}
 use Rattle.strm_machine.specs.declared.streams.Owner.{Owner}
+use Rattle.strm_machine.specs.declared.streams.Producer.{Producer}
 use Rattle.strm_machine.specs.declared.streams.Owner.TheVariants.{Host}
 use Rattle.strm_producing.specs.Turning.{Scene, scene, Turns}
 use Rattle.strm_producing.specs.declared.turns.TurnError.{TurnError}
@@ -47,14 +48,14 @@ abbrev pub next_of : Duty → ℕ → Option ℕ → Option ℕ
 next_of (Serves s) from least = if nat_le from s then least_of s least else least
 next_of _ from least = least
 
--- the least stream from a number on that a host writer serves
-pub record IsNextServed (state : State) (from s : ℕ) : Type 0 where
+-- the least stream from a number on that one of these host writers serves
+pub record IsNextServed (producers : List Producer) (from s : ℕ) : Type 0 where
   pub behind : from ≤ s
   pub number : ℕ
-  pub serves : (producer_at state number).duty ≡ Serves s
-  pub least : (n k : ℕ) → (producer_at state n).duty ≡ Serves k → from ≤ k → s ≤ k
+  pub serves : (slice_index_or producers number no_producer).duty ≡ Serves s
+  pub least : (n k : ℕ) → (slice_index_or producers n no_producer).duty ≡ Serves k → from ≤ k → s ≤ k
 
 -- which it is, if there is one
-abbrev pub NextServed : State → ℕ → Option ℕ → Type 0
-NextServed state from (Some s) = IsNextServed state from s
-NextServed state from None = (n k : ℕ) → (producer_at state n).duty ≡ Serves k → from ≤ k → ⊥
+abbrev pub NextServed : List Producer → ℕ → Option ℕ → Type 0
+NextServed producers from (Some s) = IsNextServed producers from s
+NextServed producers from None = (n k : ℕ) → (slice_index_or producers n no_producer).duty ≡ Serves k → from ≤ k → ⊥

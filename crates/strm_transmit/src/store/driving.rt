@@ -21,6 +21,7 @@ ghost use Rattle.strm_world.specs.Producing.{producer_turn};
 ghost use Rattle.strm_world.specs.Driving.{drive_turn, driven, round_of};
 ghost use Rattle.strm_world.specs.Steps.{reads_from};
 ghost use Rattle.strm_world.specs.Does.{Fits, Does};
+ghost use Rattle.strm_transmit.specs.Inside.{AreServed};
 ghost use Rattle.strm_transmit.specs.Meets.{replied};
 ghost use Rattle.strm_transmit.specs.Hosted.{answered, IsStop, MeetsHosted};
 ghost use Rattle.strm_transmit.specs.Turning.{TurnsStream, stops_by, due_in, least_of, next_of, NextServed};
@@ -234,7 +235,9 @@ impl Store {
 
     // The least stream from a number on that a host writer serves.
     fn next_served(&self, from: u32) -> Option<u32>
-        ensures { NextServed self.now from result }
+        ensures next { NextServed self.now.producers from result }
+        ensures served { AreServed self.now.producers self.now.streams }
+        ensures few { length self.now.streams ≤ 4294967295 }
     {
         let mut least = None;
         for producer in &self.producers {

@@ -1,0 +1,57 @@
+use Rattle.std.proofs.Common.{refl, ◌+◌, ◌∙◌, arith}
+use Rattle.strm_world.proofs.DriveLemmas.{Does-drives_none}
+use Rattle.strm_transmit.proofs.DriveStoreLemmas.{drive_on, drive_end, ends_stop, drive_stop}
+use Rattle.strm_transmit.proofs.store.Store.drive_all.Goals as goal
+
+pub loop-stream-init : goal.loop-stream-init
+loop-stream-init g c = record {
+  does = Does-drives_none c.args.self.now _;
+  fits = c.requires.fits;
+  made = refl;
+  within = omega arith;
+}
+
+pub drive_stream-requires-clause-there : goal.drive_stream-requires-clause-there
+drive_stream-requires-clause-there g c =
+    c.in-Some.ensures.served.made c.in-Some.ensures.next.number c.in-Some.stream c.in-Some.ensures.next.serves
+
+pub drive_stream-requires-clause-fits : goal.drive_stream-requires-clause-fits
+drive_stream-requires-clause-fits g c = c.loop-stream.invariant.fits
+
+pub overflow_add-next : goal.overflow_add-next
+overflow_add-next g c =
+    let made = c.in-Some.ensures.served.made c.in-Some.ensures.next.number c.in-Some.stream c.in-Some.ensures.next.serves in
+    omega (arith, made, c.in-Some.ensures.few)
+
+pub loop-stream-smaller : goal.loop-stream-smaller
+loop-stream-smaller g c =
+    let made = c.in-Some.ensures.served.made c.in-Some.ensures.next.number c.in-Some.stream c.in-Some.ensures.next.serves in
+    omega (arith, made, c.in-Some.ensures.next.behind, c.loop-stream.invariant.made)
+
+pub loop-stream-preserved : goal.loop-stream-preserved
+loop-stream-preserved g c =
+    let i = c.loop-stream.invariant in
+    let next = c.in-Some.ensures.next in
+    let made = c.in-Some.ensures.served.made next.number c.in-Some.stream next.serves in
+    record {
+      does = drive_on c.args.self.now c.loop-stream.self _ _ c.in-Some.ensures.served c.loop-stream.next i.does _ _ c.in-Some.stream _ next refl c.in-Ok.ensures.does;
+      fits = c.in-Ok.ensures.fits;
+      made = c.in-Ok.ensures.there ∙ i.made;
+      within = omega (arith, made, i.made);
+    }
+
+pub returns-in-Err-clause-does : goal.returns-in-Err-clause-does
+returns-in-Err-clause-does g c =
+    let i = c.loop-stream.invariant in
+    let next = c.in-Some.ensures.next in
+    let made = c.in-Some.ensures.served.made next.number c.in-Some.stream next.serves in
+    drive_stop c.args.self.now _ _ _ (c.in-Some.stream + 1) _ c.in-Err.error c.in-Err.ensures.stop (omega (arith, made, i.made))
+    (drive_on c.args.self.now c.loop-stream.self _ _ c.in-Some.ensures.served c.loop-stream.next i.does _ _ c.in-Some.stream _ next (ends_stop c.in-Err.error c.in-Err.ensures.stop) c.in-Err.ensures.does)
+
+pub returns-clause-does : goal.returns-clause-does
+returns-clause-does g c =
+    let i = c.loop-stream.invariant in
+    drive_end c.args.self.now c.loop-stream.self _ _ c.in-None.ensures.served c.loop-stream.next i.does _ i.within c.in-None.ensures.next
+
+pub returns-clause-fits : goal.returns-clause-fits
+returns-clause-fits g c = c.loop-stream.invariant.fits
