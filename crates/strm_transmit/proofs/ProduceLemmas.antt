@@ -5,7 +5,8 @@ use Rattle.std.proofs.lemmas.List.{length-set, get_or-set_same, set-get_or}
 use Rattle.strm_buffers.specs.Listing.{Item}
 use Rattle.strm_buffers.specs.Tells.{WriterTells, Tells, told_by, with_told, ClosesWriter}
 use Rattle.strm_machine.specs.State.{State, no_producer, no_stream, producer_at, stream_at}
-use Rattle.strm_machine.specs.Soundness.{sizes_of, IsPlaced, StreamIsPlaced}
+use Rattle.strm_machine.specs.Soundness.{IsSound, sizes_of, IsPlaced, StreamIsPlaced}
+use Rattle.strm_machine.proofs.SoundLemmas.{placed_at}
 use Rattle.strm_machine.specs.declared.replies.Reply.TheVariants as replies
 use Rattle.strm_machine.specs.declared.streams.Duty.TheVariants.{Serves, Ended}
 use Rattle.strm_machine.specs.declared.streams.Operation.{Operation}
@@ -15,7 +16,7 @@ use Rattle.strm_machine.specs.declared.streams.Producer.{Producer}
 use Rattle.strm_machine.specs.declared.streams.Stream.{Stream}
 use Rattle.strm_world.specs.World.{World}
 use Rattle.strm_world.specs.Producing.{producer_turn}
-use Rattle.strm_world.specs.Does.{Fits, Does}
+use Rattle.strm_world.specs.Does.{Answered, Fits, Does}
 use Rattle.strm_world.proofs.CloseLemmas.{ended_in}
 use Rattle.strm_world.proofs.PollLemmas.{IsServing}
 use Rattle.strm_world.proofs.SettleLemmas.{IsLeft}
@@ -25,7 +26,8 @@ use Rattle.strm_producing.specs.declared.turns.TurnError.{TurnError}
 use Rattle.strm_producing.specs.declared.turns.TurnError.TheVariants.{Failed, OutOfMemory, Broke}
 use Rattle.strm_producing.proofs.StepLemmas.{scene_in, told_in, turned_in, stop_of, turn_stays, turn_left, turn_stops}
 use Rattle.strm_transmit.specs.Inside.{AreServed}
-use Rattle.strm_transmit.specs.Turning.{TurnsStream}
+use Rattle.strm_transmit.specs.Hosted.{answered, IsStop}
+use Rattle.strm_transmit.specs.Turning.{TurnsStream, stops_by}
 use Rattle.strm_transmit.proofs.ServedLemmas.{at_set, serving_kept, ended_no}
 use Rattle.strm_transmit.proofs.FitsLemmas.{SameType, Retells, Fits-told, set-types}
 use Rattle.strm_transmit.proofs.SceneLemmas.{SceneKeeps, turn_keeps}
@@ -45,6 +47,16 @@ holding_producer : (held : List Item) (e : TurnError) (old after : Scene) (read 
 holding_producer (item ∷ items) e old after read t = cc (t.0)
 holding_producer [] e old after read t = empty_producer old.producer.over e old after read t
 
+stop-is : (e : TurnError) (n : ℕ) → stop_of e n ≡ answered (Err (stops_by e n))
+stop-is Failed n = refl
+stop-is Broke n = refl
+stop-is OutOfMemory n = refl
+
+pub stop-stops : (e : TurnError) (n : ℕ) → IsStop (stops_by e n)
+stop-stops Failed n = tt
+stop-stops Broke n = tt
+stop-stops OutOfMemory n = tt
+
 -- ## In a store
 
 -- a read for which a host writer has its turn
@@ -55,6 +67,16 @@ pub record IsServed (old : State) (tells : Tells) (n s : ℕ) (read : Operation)
   pub fits : Fits old tells
   pub read_placed : IsPlaced (sizes_of old.guests) (stream_at old s).payload read
   pub placed : StreamIsPlaced (sizes_of old.guests) (stream_at old s)
+
+pub is_served : (old : State) (tells : Tells) (n s : ℕ) (read : Operation) → IsSound old → AreServed old.producers old.streams → s < length old.streams → (stream_at old s).writer.owner ≡ Host n → Fits old tells → IsPlaced (sizes_of old.guests) (stream_at old s).payload read → IsServed old tells n s read
+is_served old tells n s read sound served made owner fits placed = record {
+  served = served;
+  made = made;
+  owner = owner;
+  fits = fits;
+  read_placed = placed;
+  placed = placed_at old s made sound;
+}
 
 module _ (old : State) (tells : Tells) (n s : ℕ) (read : Operation) (h : IsServed old tells n s read) where
   pub duty : (producer_at old n).duty ≡ Serves s
@@ -157,3 +179,35 @@ module _ (old : State) (tells : Tells) (n s : ℕ) (read : Operation) (h : IsSer
       ap (λ (x : State). x.producers) t.state ∙ ap (set old.producers n) same ∙ set-get_or old.producers n no_producer in
       subst (λ (x : Tells). Does old (record mid { trapped = true }) tells x (stop_of e n) (λ w. producer_turn w s n read)) (sym t.ends)
       (turn_stops old tells n s read serving e t.after (record mid { trapped = true }) t.turns producers)
+
+  -- ## By what the calls say
+
+  pub mid-length : (mid : State) (told : Tells) (result : Result (Unit {0}) TurnError) → TurnsStream old mid tells told n s read result → length mid.streams ≡ length old.streams
+  mid-length mid told result t = ap (λ (x : State). length x.streams) t.state ∙ length-set old.streams s t.after.stream
+
+  module _ (mid new : State) (told : Tells) (e : TurnError) (t : TurnsStream old mid tells told n s read (Err e)) (is : new ≡ record mid { trapped = true }) where
+    pub stops-does : Does old new tells told (answered (Err (stops_by e n))) (λ w. producer_turn w s n read)
+    stops-does =
+        subst (λ (x : State). Does old x tells told (answered (Err (stops_by e n))) (λ w. producer_turn w s n read)) (sym is)
+        (subst (λ (x : Answered). Does old (record mid { trapped = true }) tells told x (λ w. producer_turn w s n read)) (stop-is e n) (produced-stops mid told e t))
+
+    pub stops-fits : Fits new told
+    stops-fits = subst (λ (x : State). Fits x told) (sym is) (mid-fits mid told (Err e) t)
+
+    pub stops-length : length new.streams ≡ length old.streams
+    stops-length = ap (λ (x : State). length x.streams) is ∙ mid-length mid told (Err e) t
+
+  module _ (mid new : State) (told after : Tells) (t : TurnsStream old mid tells told n s read (Ok tt)) (g : (stream_at mid s).writer.owner ≡ Gone) (c : ClosesWriter (told_by told n) (told_by after n))
+      (is : new ≡ ended_in mid n) (others : after ≡ with_told told n (told_by after n)) where
+    pub left-does : Does old new tells after (Ok replies.Done) (λ v. producer_turn v s n read)
+    left-does =
+        subst (λ (x : State). Does old x tells after (Ok replies.Done) (λ v. producer_turn v s n read)) (sym is)
+        (subst (λ (x : Tells). Does old (ended_in mid n) tells x (Ok replies.Done) (λ v. producer_turn v s n read)) (sym others) (produced-left mid told t g (told_by after n) c))
+
+    pub left-fits_as : Fits new after
+    left-fits_as =
+        subst (λ (x : State). Fits x after) (sym is)
+        (subst (λ (x : Tells). Fits (ended_in mid n) x) (sym others) (left-fits mid told t g (told_by after n) c))
+
+    pub left-length : length new.streams ≡ length old.streams
+    left-length = ap (λ (x : State). length x.streams) is ∙ mid-length mid told (Ok tt) t
