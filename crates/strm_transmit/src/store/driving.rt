@@ -80,7 +80,7 @@ fn turn_of(
         stream,
         producer,
         &mut hosts.writers[number],
-        *read,
+        read,
     )
 }
 
