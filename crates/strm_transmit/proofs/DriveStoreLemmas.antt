@@ -1,8 +1,11 @@
 -- A drive round in a store: what is due of a stream, and the round as it passes from one served stream
 -- to the next.
-use Rattle.std.proofs.Common.{◌≡◌, ℕ, ◌+◌, ◌-◌, ◌<◌, ◌≤◌, Bool, true, false, cond, length, Option, Some, None, Ok, Err, refl, sym, ap, subst, ◌∙◌, arith}
+use Rattle.std.proofs.Common.{◌≡◌, ℕ, ◌+◌, ◌-◌, ◌<◌, ◌≤◌, Bool, true, false, cond, length, Option, Some, None, Result, Ok, Err, refl, sym, ap, subst, ◌∙◌, arith}
 use Rattle.strm_buffers.specs.Tells.{Tells}
 use Rattle.strm_machine.specs.State.{State, producer_at, stream_at, is_host}
+use Rattle.std.specs.Prelude.{IfErr}
+use Rattle.strm_machine.specs.declared.acts.Act.TheVariants.{Drive}
+use Rattle.strm_machine.specs.declared.replies.Reply.{Reply}
 use Rattle.strm_machine.specs.declared.replies.Reply.TheVariants as replies
 use Rattle.strm_machine.specs.declared.streams.Duty.TheVariants.{Serves}
 use Rattle.strm_machine.specs.declared.streams.Operation.{Operation}
@@ -11,16 +14,19 @@ use Rattle.strm_machine.specs.declared.streams.Owner.TheVariants.{Held, Loose, H
 use Rattle.strm_world.specs.World.{World, stream_in}
 use Rattle.strm_world.specs.Outcomes.{Outcome, done}
 use Rattle.strm_world.specs.Producing.{producer_turn}
-use Rattle.strm_world.specs.Driving.{drive_turn}
-use Rattle.strm_world.specs.Does.{Logs, world_of, Answered, Does}
-use Rattle.strm_world.proofs.DoesLemmas.{Does-untold}
+use Rattle.strm_world.specs.Driving.{drive_turn, driven, round_of}
+use Rattle.strm_world.specs.Steps.{performs_in, outcome}
+use Rattle.strm_world.specs.Does.{Logs, world_of, Answered, Fits, Does}
+use Rattle.strm_world.proofs.DoesLemmas.{Does-untold, Does-as}
+use Rattle.strm_world.proofs.OutcomeLemmas.{outcome-performs, refusal_in-drive}
 use Rattle.strm_world.proofs.DriveLemmas.{IsDue, drive_turn-alone, drive_turn-due, waits_open, drive_turn-idle, drives_first, EndsDone, Does-drives_alone, Does-drives_one, Does-drives_stop}
 use Rattle.strm_world.proofs.FitsLemmas.{are_alone}
-use Rattle.strm_transmit.specs.Hosted.{answered, IsStop}
+use Rattle.strm_transmit.specs.Meets.{replied}
+use Rattle.strm_transmit.specs.Hosted.{answered, IsStop, MeetsHosted}
 use Rattle.strm_transmit.specs.Inside.{AreServed}
 use Rattle.strm_transmit.specs.Turning.{due_in, IsNextServed}
 use Rattle.strm_transmit.specs.declared.errors.StoreError.{StoreError}
-use Rattle.strm_transmit.proofs.OperateLemmas.{cause_of, stop_is}
+use Rattle.strm_transmit.proofs.OperateLemmas.{leaves_if, cause_of, stop_is}
 
 -- ## One stream
 
@@ -117,3 +123,20 @@ drive_stop old new tells told n total error s l d =
     (subst (λ k. Does old new tells told (Err (cause_of error)) (drives_first k)) sum
     (Does-drives_stop old new tells told n (total - n) (cause_of error)
     (subst (λ (x : Answered). Does old new tells told x (drives_first n)) same d)))
+
+-- the streams that were made are the round
+pub drive_round : (old new : State) (tells told : Tells) (result : Answered) → Does old new tells told result (drives_first (length old.streams)) → Does old new tells told result (λ w. driven w (round_of w))
+drive_round old new tells told result d =
+    Does-as old new tells told result (drives_first (length old.streams)) (λ w. driven w (round_of w)) (λ logs. refl) d
+
+drive-is : (world : World) → world.state.trapped ≡ false → outcome world Drive ≡ driven world (round_of world)
+unfolding performs_in
+drive-is world t = outcome-performs world Drive t (refusal_in-drive world)
+
+pub hosted_drive : {T : Type 0} (old new : State) (tells told : Tells) (f : T → Reply) (result : Result T StoreError) → old.trapped ≡ false → Does old new tells told (answered (replied f result)) (λ w. driven w (round_of w)) → Fits new told → IfErr result IsStop → IfErr result (λ _. new.trapped ≡ true) → MeetsHosted old new tells told (replied f result) Drive
+hosted_drive old new tells told f result t does fits stop trapped = record {
+  does = Does-as old new tells told (answered (replied f result)) (λ w. driven w (round_of w)) (λ w. outcome w Drive) (λ logs. drive-is (world_of old tells logs) t) does;
+  fits = fits;
+  alone = λ u. let no : true ≡ false = u in cc;
+  err = leaves_if old new tells told Drive f result refl stop trapped;
+}

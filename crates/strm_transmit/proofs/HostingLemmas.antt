@@ -53,6 +53,10 @@ use Rattle.strm_transmit.specs.declared.store.Store.TheInside.{Inside}
 
 -- ## Refusals
 
+-- no records
+abbrev pub no_logs : Logs
+no_logs = record { writers = []; readers = [] }
+
 -- what refuses does so whatever records are yet to come
 pub host_refusal-same : (state : State) (tells : Tells) (n : ℕ) (act : HostAct) (logs other : Logs) → refusal_in (world_of state tells logs) (OnHost n act) ≡ refusal_in (world_of state tells other) (OnHost n act)
 unfolding refusal_in

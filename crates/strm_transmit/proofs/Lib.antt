@@ -16,4 +16,4 @@ pub mod HostingLemmas
 pub mod OperateLemmas
 pub mod SetLemmas
 pub mod ContextLemmas
-use Rattle.strm_transmit.proofs.NextLemmas.{next_more}
+pub mod NextLemmas

@@ -172,6 +172,7 @@ impl Store {
             (tells_of writer_tells reader_tells hosts.now) (replied replies.Number result)
             (OnHost writer host_acts.New) }
     {
+        self.served();
         match self.admit(self.host_fits(hosts, writer)) {
             Ok(()) => {
                 let number = writer as usize;

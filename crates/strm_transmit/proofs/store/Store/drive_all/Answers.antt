@@ -1,6 +1,6 @@
 use Rattle.std.proofs.Common.{refl, ◌+◌, ◌∙◌, arith}
 use Rattle.strm_world.proofs.DriveLemmas.{Does-drives_none}
-use Rattle.strm_transmit.proofs.DriveStoreLemmas.{drive_on, drive_end, ends_stop, drive_stop}
+use Rattle.strm_transmit.proofs.DriveStoreLemmas.{drive_on, drive_end, ends_stop, drive_stop, drive_round}
 use Rattle.strm_transmit.proofs.store.Store.drive_all.Goals as goal
 
 pub loop-stream-init : goal.loop-stream-init
@@ -45,13 +45,15 @@ returns-in-Err-clause-does g c =
     let i = c.loop-stream.invariant in
     let next = c.in-Some.ensures.next in
     let made = c.in-Some.ensures.served.made next.number c.in-Some.stream next.serves in
-    drive_stop c.args.self.now _ _ _ (c.in-Some.stream + 1) _ c.in-Err.error c.in-Err.ensures.stop (omega (arith, made, i.made))
-    (drive_on c.args.self.now c.loop-stream.self _ _ c.in-Some.ensures.served c.loop-stream.next i.does _ _ c.in-Some.stream _ next (ends_stop c.in-Err.error c.in-Err.ensures.stop) c.in-Err.ensures.does)
+    drive_round c.args.self.now _ _ _ _
+    (drive_stop c.args.self.now _ _ _ (c.in-Some.stream + 1) _ c.in-Err.error c.in-Err.ensures.stop (omega (arith, made, i.made))
+    (drive_on c.args.self.now c.loop-stream.self _ _ c.in-Some.ensures.served c.loop-stream.next i.does _ _ c.in-Some.stream _ next (ends_stop c.in-Err.error c.in-Err.ensures.stop) c.in-Err.ensures.does))
 
 pub returns-clause-does : goal.returns-clause-does
 returns-clause-does g c =
     let i = c.loop-stream.invariant in
-    drive_end c.args.self.now c.loop-stream.self _ _ c.in-None.ensures.served c.loop-stream.next i.does _ i.within c.in-None.ensures.next
+    drive_round c.args.self.now _ _ _ _
+    (drive_end c.args.self.now c.loop-stream.self _ _ c.in-None.ensures.served c.loop-stream.next i.does _ i.within c.in-None.ensures.next)
 
 pub returns-clause-fits : goal.returns-clause-fits
 returns-clause-fits g c = c.loop-stream.invariant.fits
