@@ -252,10 +252,13 @@ IsSound-hosted state stream ps p h = record {
   contexts = h.contexts;
 }
 
+abbrev live_weight : Stream → ℕ
+live_weight stream = cond (is_live stream) 1 0
+
 live_pushed : (streams : List Stream) (stream : Stream) → is_live stream ≡ true → count_by is_live (streams ++ stream ∷ []) ≡ count_by is_live streams + 1
 live_pushed streams stream e =
-    let sum = sum_by-append (λ (x : Stream). cond (is_live x) 1 0) streams (stream ∷ []) in
-    let one : cond (is_live stream) 1 0 ≡ 1 = ap (λ b. cond b 1 0) e in
+    let sum = sum_by-append live_weight streams (stream ∷ []) in
+    let one : live_weight stream ≡ 1 = ap (λ b. cond {A = ℕ} b 1 0) e in
     omega (arith, sum, one)
 
 -- a stream more, that host writer n serves, which was unused before
