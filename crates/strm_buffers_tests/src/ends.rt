@@ -12,8 +12,10 @@ mod tests {
     use crate::silent::SilentWriter;
     use std::alloc::Global;
     use std::test::Fail;
-    use strm_buffers::answers::{Answer, StreamResult, Turn};
-    use strm_buffers::boxes::{close_writer, feed, grant, held_by, poll_reader, poll_writer};
+    use strm_buffers::answers::{Answer, HostTurn, StreamResult, Turn};
+    use strm_buffers::boxes::{
+        close_writer, feed, give, grant, held_by, poll_reader, poll_writer, writer_payload,
+    };
     use strm_buffers::hosts::Hosts;
     use strm_buffers::items::Items;
     use strm_buffers::offers::Offer;
@@ -64,20 +66,35 @@ mod tests {
     }
 
     #[test]
-    fn boxed_writers_are_polled(rt: HostRuntime) -> Result<(), Fail> {
+    fn a_boxed_script_is_polled(rt: HostRuntime) -> Result<(), Fail> {
         let alloc = rt.alloc();
         let mut window = Window::unbounded(alloc, BYTES);
         let mut scripted: Box<dyn HostWriter> = Box::new(alloc, of_three_bytes(alloc)?)?;
         let turn = poll_writer(&mut scripted, &mut window, false);
         assert_eq!(rt; turn, Turn::Ready(StreamResult::Completed));
         assert_eq!(rt; window.into_items().len(), 3);
-        let mut window = Window::unbounded(alloc, BYTES);
+        Ok(())
+    }
+
+    // A boxed writer gives what it holds, and is polled: its turn, and how many items it produced.
+    fn polled(alloc: Global, writer: &mut Box<dyn HostWriter>) -> Result<(HostTurn, usize), Fail> {
+        let mut held = Window::unbounded(alloc, writer_payload(writer));
+        give(writer, &mut held)?;
+        let mut window = Window::unbounded(alloc, writer_payload(writer));
+        let turn = poll_writer(writer, &mut window, false);
+        let _ = window.marked();
+        Ok((turn, window.into_items().len()))
+    }
+
+    #[test]
+    fn a_boxed_writer_is_fed(rt: HostRuntime) -> Result<(), Fail> {
+        let alloc = rt.alloc();
         let queue = QueueWriter::new(alloc, TransmitKind::Stream, BYTES);
         let mut queue: Box<dyn HostWriter> = Box::new(alloc, queue)?;
         feed(&mut queue, [7u8, 8].as_slice())?;
-        let turn = poll_writer(&mut queue, &mut window, false);
+        let (turn, count) = polled(alloc, &mut queue)?;
         assert_eq!(rt; turn, Turn::Ready(StreamResult::Completed));
-        assert_eq!(rt; window.into_items().len(), 2);
+        assert_eq!(rt; count, 2);
         Ok(())
     }
 

@@ -64,7 +64,7 @@ mod tests {
     use crate::greeting::Greeting;
     use std::test::Fail;
     use strm_buffers::answers::{StreamResult, Turn};
-    use strm_buffers::boxes::{give, held_by, poll_writer};
+    use strm_buffers::boxes::{give, held_by, poll_writer, writer_payload};
     use strm_buffers::windows::Window;
     use strm_buffers::writers::HostWriter;
     use strm_codes::payloads::Payload;
@@ -86,9 +86,11 @@ mod tests {
         assert_eq!(rt; window.into_memory().0.bytes(), [7, 8, 9, 10].as_slice());
         assert_eq!(rt; held_by(&writer), 1);
         assert_eq!(rt; writer.record_at(0)?.items.len(), 5);
-        let mut window = Window::over(GuestMemory::new(alloc, 2)?, BYTES, 0, 2);
-        give(&mut writer, &mut window)?;
-        assert_eq!(rt; window.into_memory().0.bytes(), [11, 0].as_slice());
+        let mut rest = Window::unbounded(alloc, writer_payload(&writer));
+        give(&mut writer, &mut rest)?;
+        let items = rest.into_items();
+        assert_eq!(rt; items.len(), 1);
+        assert_eq!(rt; items.get(0).as_slice(), [11].as_slice());
         assert_eq!(rt; held_by(&writer), 0);
         Ok(())
     }
