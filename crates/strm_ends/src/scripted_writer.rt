@@ -93,6 +93,11 @@ impl HostWriter for ScriptedWriter {
         ensures answer { IfAnswered result (λ answer. answer ≡ next_answer self.old.turns.items) }
         ensures items { IfAnswered result (λ _. window.new.marked ++ self.new.held.items ≡ next_items self.old.turns.items) }
         ensures turns { IfAnswered result (λ _. self.new.turns.items ≡ drop 1 self.old.turns.items) }
+
+        // Without memory its turns are those that they were.
+        ensures same_answer { IfNoMemory result (next_answer self.new.turns.items ≡ next_answer self.old.turns.items) }
+        ensures same_items { IfNoMemory result (next_items self.new.turns.items ≡ next_items self.old.turns.items) }
+        ensures same_behind { IfNoMemory result (drop 1 self.new.turns.items ≡ drop 1 self.old.turns.items) }
     {
         match self.find_turn() {
             Ok(()) => {}
@@ -191,6 +196,7 @@ impl ScriptedWriter {
         ensures fit { OnOk result (AreItems (scalars_of self.old.payload) (next_items self.old.turns.items)) }
         ensures turns { OnOk result (self.new.turns.items ≡ drop 1 self.old.turns.items) }
         ensures err { OnErr result (self.new.said.items ≡ self.old.said.items) }
+        ensures same_turns { OnErr result (self.new.turns.items ≡ self.old.turns.items) }
         ensures kind { self.new.kind ≡ self.old.kind }
         ensures same_payload { self.new.payload ≡ self.old.payload }
         ensures closed { self.new.closed ≡ self.old.closed }
