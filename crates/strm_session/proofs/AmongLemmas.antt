@@ -2,7 +2,8 @@
 use Rattle.std.proofs.Common.{◌≡◌, ℕ, ◌+◌, ◌≤◌, true, List, [], ◌∷◌, ◌++◌, length, take, drop, get_or, suc, Result, Ok, Err, Option, Some, None, refl, sym, ap, ◌∙◌, subst, append_assoc, arith}
 use Rattle.std.proofs.Math.Seq.{split_at, drop-length}
 use Rattle.std.proofs.lemmas.List.{append-nil, take_all}
-use Rattle.strm_buffers.specs.Tells.{Tells}
+use Rattle.std.proofs.lemmas.Bool.Decides.{nat_tests}
+use Rattle.strm_buffers.specs.Tells.{Tells, Rose}
 use Rattle.strm_machine.specs.State.{State}
 use Rattle.strm_machine.specs.declared.steps.Step.{Step}
 use Rattle.strm_machine.specs.declared.replies.Reply.{Reply}
@@ -43,6 +44,10 @@ pub record LedAmong (old : Tells) (steps : List Step) (k : ℕ) (told : List Rep
 pub led_none : (old : Tells) (steps : List Step) → LedAmong old steps 0 [] start old
 led_none old steps = record { led = λ logs e. record { begins = e; goes_on = λ more. refl }; faults = λ end. omega arith }
 
+-- a count that rose has risen since it was less
+rose_since : (a b c : ℕ) → a ≤ b → Rose b c → Rose a c
+rose_since a b c h r = grind (arith, nat_tests)
+
 at_most : (a b c : ℕ) → a ≤ b → b ≤ c → a ≤ c
 at_most a b c h k = omega (arith, h, k)
 
@@ -81,7 +86,7 @@ module _ (old now new : Tells) (steps : List Step) (k : ℕ) (step : Step) (told
       )
 
   raised_by : (cause : RunCause) → Caused (Err (stop_of cause)) now new → Raised old new cause
-  raised_by (causes.HostFailed end) c = let f : faults_of old end ≤ faults_of now end = l.faults end in omega (arith, c, f)
+  raised_by (causes.HostFailed end) c = rose_since (faults_of old end) (faults_of now end) (faults_of new end) (l.faults end) c
   raised_by _ c = tt
 
   -- a step that stops a run stops it so

@@ -20,7 +20,7 @@ use Rattle.strm_machine.specs.declared.acts.Act.{Act}
 use Rattle.strm_machine.specs.declared.acts.Act.TheVariants.{OnHost, Drive}
 use Rattle.strm_machine.specs.declared.stops.Stop.{Stop}
 use Rattle.strm_machine.specs.declared.stops.Stop.TheVariants as stops
-use Rattle.strm_buffers.specs.Tells.{Tells}
+use Rattle.strm_buffers.specs.Tells.{Tells, Rose}
 use Rattle.strm_world.specs.World.{World}
 use Rattle.strm_world.specs.HostPlays.{play as play_among}
 use Rattle.strm_world.specs.HostPlays as world_plays
@@ -99,9 +99,9 @@ abbrev pub HaltsBy : World → List Step → List Reply → Tells → Option Sto
 HaltsBy world steps told new None = Unit {0}
 HaltsBy world steps told new (Some stop) = (state : State) × StopsWith world steps told stop new state
 
--- a host end that failed has raised its count of faults
+-- a host end that failed has raised its count of faults, or that stands at its counter's end
 abbrev pub Raised : Tells → Tells → RunCause → Type 0
-Raised old new (causes.HostFailed end) = faults_of old end < faults_of new end
+Raised old new (causes.HostFailed end) = Rose (faults_of old end) (faults_of new end)
 Raised old new _ = Unit {0}
 
 -- a run stops behind these replies, which are the machine's to the steps before, and by this cause
