@@ -1,0 +1,282 @@
+-- Exactly the host writers that became gone were closed.
+use Rattle.std.proofs.Common.{◌≡◌, ℕ, zero, suc, ◌<◌, ◌||◌, Bool, true, false, cond, List, [], ◌∷◌, ◌++◌, length, get_or, set, Option, Some, None, refl, sym, ap, subst, ◌∙◌, ◌⊎◌, inl, inr, arith}
+use Rattle.std.proofs.lemmas.Bool.{cases_eq, cases_lt, le-leb, or_parts, true≢false}
+use Rattle.std.proofs.lemmas.List.{get_or-set_same, get_or-set_other, get_or_past, length-set, length-replicate}
+use Rattle.std.specs.Prelude.{slice_set, replicate, nat_le}
+use Rattle.strm_codes.specs.declared.refusals.Refusal.{Refusal}
+use Rattle.strm_buffers.specs.declared.answers.Answer.{Answer}
+use Rattle.strm_buffers.specs.Tells.{Tells}
+use Rattle.strm_machine.specs.State.{State, host_limit, no_stream, no_producer, producer_at}
+use Rattle.strm_machine.specs.declared.acts.Act.TheVariants.{OnHost}
+use Rattle.strm_machine.specs.declared.acts.HostAct.TheVariants.{New, Feed}
+use Rattle.strm_machine.specs.declared.limits.Limits.{Limits}
+use Rattle.strm_machine.specs.declared.streams.Duty.{Duty}
+use Rattle.strm_machine.specs.declared.streams.Duty.TheVariants.{Unused, Serves, Ended}
+use Rattle.strm_machine.specs.declared.streams.Owner.{Owner}
+use Rattle.strm_machine.specs.declared.streams.Owner.TheVariants.{Host, Gone}
+use Rattle.strm_machine.specs.declared.streams.Producer.{Producer}
+use Rattle.strm_machine.specs.declared.streams.Stream.{Stream}
+use Rattle.strm_machine.specs.declared.steps.Step.{Step}
+use Rattle.strm_machine.specs.declared.stops.Stop.{Stop}
+use Rattle.strm_machine.specs.declared.replies.Reply.{Reply}
+use Rattle.strm_machine.specs.Reactions.{reaction}
+use Rattle.strm_world.specs.Ends.{Writer, Reader, no_writer, writer_in, polled_writer, given_writer, fed_writer, closed_writer}
+use Rattle.strm_world.specs.Producing.{is_last}
+use Rattle.strm_world.specs.Attaching.{hosted_stream}
+use Rattle.strm_world.specs.HostPlays.{Ends, Halts, play}
+use Rattle.strm_world.specs.World.{World, stream_in, writer_at, with_writer, without_writer, leaves_writer, with_stream_in}
+use Rattle.strm_world.specs.HostRefusals.{is_unknown_host, is_used, refusal_in}
+use Rattle.strm_world.specs.Does.{start}
+use Rattle.strm_world.proofs.ReactedLemmas.{reaction-producers}
+use Rattle.strm_host_laws.specs.HostMoments.{Part, Acts, HostMoment, part_on, host_moments, last_of}
+use Rattle.strm_host_laws.specs.HostLaws.{is_ended, ClosesExactly}
+use Rattle.strm_host_laws.proofs.Chains.{is_part, Chain, moments-chain, StopsAt, play-ends, play-halts}
+use Rattle.strm_host_laws.proofs.Goings.{with_state, Begins, hosted, Rules, Halted, Comes, with_stream_in-same, part-comes, feed-comes}
+use Rattle.strm_host_laws.proofs.Owners.{HostsFrom, HostsFromIn, set-from, reaction-from}
+
+-- WHAT ONE OF A LIST BECOMES
+
+-- a fact that one of a list keeps
+pub set-keeps : {A B : Type 0} (f : A → B) (xs : List A) (n k : ℕ) (x d : A) → f x ≡ f (get_or xs n d) → f (get_or (set xs n x) k d) ≡ f (get_or xs k d)
+set-keeps f [] n k x d e = refl
+set-keeps f (y ∷ ys) zero zero x d e = e
+set-keeps f (y ∷ ys) zero (suc k) x d e = refl
+set-keeps f (y ∷ ys) (suc n) zero x d e = refl
+set-keeps f (y ∷ ys) (suc n) (suc k) x d e = set-keeps f ys n k x d e
+
+-- WHAT HOLDS OF A RUN SO FAR
+
+-- host writers that have a stream are there, and those are closed that were so at first or are gone
+pub record Stands (first : World) (w : World) : Type 0 where
+  pub kept : length w.state.producers ≡ host_limit
+  pub there : (s n : ℕ) → (stream_in w s).writer.owner ≡ Host n → (n < length w.writers) × (n < host_limit)
+  pub closes : ClosesExactly first w.state w.writers
+
+or-true : (b : Bool) → (b || true) ≡ true
+or-true true = refl
+or-true false = refl
+
+-- A NEW STREAM OF A HOST WRITER
+
+-- where nothing refuses it the writer is there and unused
+pub record IsNew (w : World) (n : ℕ) : Type 0 where
+  pub there : n < length w.writers
+  pub known : n < host_limit
+  pub unused : is_used (producer_at w.state n).duty ≡ false
+
+unmet : (b : Bool) (r : Refusal) (behind : Option Refusal) → cond b (Some r) behind ≡ None → (b ≡ false) × (behind ≡ None)
+unmet true r behind e = cc
+unmet false r behind e = (refl, e)
+
+not_over : (count n : ℕ) → nat_le count n ≡ false → n < count
+not_over count n e =
+    elim (cases_lt n count) [
+      | inl l ↦ l
+      | inr l ↦ absurd (true≢false (sym (le-leb count n l) ∙ e))
+    ]
+
+pub is_new : (w : World) (n : ℕ) → refusal_in w (OnHost n New) ≡ None → IsNew w n
+unfolding refusal_in
+is_new w n e =
+    let known = unmet (is_unknown_host (length w.writers) n) _ _ e in
+    let unused = unmet (is_used (producer_at w.state n).duty) _ _ known.1 in
+    let parts = or_parts (nat_le (length w.writers) n) (nat_le host_limit n) known.0 in
+    record { there = not_over (length w.writers) n parts.0; known = not_over host_limit n parts.1; unused = unused.0 }
+
+unused-unended : (duty : Duty) → is_used duty ≡ false → is_ended duty ≡ false
+unused-unended Unused e = refl
+unused-unended (Serves s) e = cc
+unused-unended Ended e = cc
+
+-- whose write end a stream behind others is
+push-hosts : (xs : List Stream) (x : Stream) (s k n : ℕ) → x.writer.owner ≡ Host n → (get_or (xs ++ x ∷ []) s no_stream).writer.owner ≡ Host k
+    → ((get_or xs s no_stream).writer.owner ≡ Host k) ⊎ (k ≡ n)
+push-hosts [] x zero k n e f = let same : Host k ≡ Host n = sym f ∙ e in inr cc
+push-hosts [] x (suc s) k n e f = inl f
+push-hosts (y ∷ ys) x zero k n e f = inl f
+push-hosts (y ∷ ys) x (suc s) k n e f = push-hosts ys x s k n e f
+
+-- what is kept of a writer after an answer
+abbrev with_over_producer : World → ℕ → Answer → Producer
+with_over_producer w n answer =
+    let producer = producer_at w.state n in record producer { over = producer.over || is_last answer }
+
+-- WHAT A CHANGE KEEPS
+
+module _ (first : World) where
+  without-closes : (w : World) (n k : ℕ) → n < length w.writers → n < length w.state.producers → ClosesExactly first w.state w.writers
+      → (writer_in (without_writer w n).writers k).closed ≡ ((writer_at first k).closed || is_ended (producer_at (without_writer w n).state k).duty)
+  without-closes w n k l p h =
+      let writer = closed_writer (writer_at w n) in
+      let producer = record (producer_at w.state n) { duty = Ended } in
+      elim (cases_eq k n) [
+        | inl e ↦
+            let closed : (get_or (set w.writers n writer) k no_writer).closed ≡ true = ap (λ j. (get_or (set w.writers n writer) j no_writer).closed) e ∙ ap (λ (x : Writer). x.closed) (get_or-set_same w.writers n writer no_writer l) in
+            let ended : is_ended (get_or (set w.state.producers n producer) k no_producer).duty ≡ true = ap (λ j. is_ended (get_or (set w.state.producers n producer) j no_producer).duty) e ∙ ap (λ (x : Producer). is_ended x.duty) (get_or-set_same w.state.producers n producer no_producer p) in
+            closed ∙ sym (ap (λ b. (writer_at first k).closed || b) ended ∙ or-true (writer_at first k).closed)
+        | inr ne ↦
+            ap (λ (x : Writer). x.closed) (get_or-set_other w.writers n k writer no_writer ne)
+            ∙ h k
+            ∙ ap (λ (x : Producer). (writer_at first k).closed || is_ended x.duty) (sym (get_or-set_other w.state.producers n k producer no_producer ne))
+      ]
+
+  Stands-without : (w : World) (n : ℕ) → n < length w.writers → n < host_limit → Stands first w → Stands first (without_writer w n)
+  Stands-without w n l p h = record {
+    kept = length-set w.state.producers n (record (producer_at w.state n) { duty = Ended }) ∙ h.kept;
+    there = λ s k e.
+        let r = h.there s k e in
+        let same = length-set w.writers n (closed_writer (writer_at w n)) in
+        (omega (arith, r.0, same), r.1);
+    closes = λ k. without-closes w n k l (omega (arith, p, h.kept)) h.closes;
+  }
+
+  leaves-stands : (old new : Owner) (w : World) → Stands first w → ((n : ℕ) → old ≡ Host n → (n < length w.writers) × (n < host_limit)) → Stands first (leaves_writer old new w)
+  leaves-stands (Host n) Gone w h t = let r = t n refl in Stands-without w n r.0 r.1 h
+  leaves-stands (Host n) _ w h t = h
+  leaves-stands _ new w h t = h
+
+  -- a stream written back that no other host writer writes
+  Stands-stream : (w : World) (s : ℕ) (stream : Stream) → HostsFrom (stream_in w s) stream → Stands first w → Stands first (with_stream_in w s stream)
+  unfolding with_stream_in
+  Stands-stream w s stream f h =
+      let v = with_state w (record w.state { streams = slice_set w.state.streams s stream }) in
+      leaves-stands (stream_in w s).writer.owner stream.writer.owner v
+      (record { kept = h.kept; there = λ k n e. h.there k n (set-from w.state.streams s stream f k n e); closes = h.closes })
+      (λ n e. h.there s n e)
+
+  -- a writer that tells something else, and is closed as it was
+  Stands-writer : (w : World) (n : ℕ) (writer : Writer) → writer.closed ≡ (writer_at w n).closed → Stands first w → Stands first (with_writer w n writer)
+  Stands-writer w n writer e h = record {
+    kept = h.kept;
+    there = λ s k f. let r = h.there s k f in let same = length-set w.writers n writer in (omega (arith, r.0, same), r.1);
+    closes = λ k. set-keeps (λ (x : Writer). x.closed) w.writers n k writer no_writer e ∙ h.closes k;
+  }
+
+  -- something else is kept of a writer, and it is gone as it was
+  Stands-producer : (w : World) (n : ℕ) (producer : Producer) → is_ended producer.duty ≡ is_ended (producer_at w.state n).duty → Stands first w
+      → Stands first (with_state w (record w.state { producers = slice_set w.state.producers n producer }))
+  Stands-producer w n producer e h = record {
+    kept = length-set w.state.producers n producer ∙ h.kept;
+    there = h.there;
+    closes = λ k. h.closes k ∙ ap (λ b. (writer_at first k).closed || b) (sym (set-keeps (λ (x : Producer). is_ended x.duty) w.state.producers n k producer no_producer e));
+  }
+
+  Stands-reacts : (w : World) (state : State) → state.producers ≡ w.state.producers → HostsFromIn w.state.streams state.streams → Stands first w → Stands first (with_state w state)
+  Stands-reacts w state e f h = record {
+    kept = ap length e ∙ h.kept;
+    there = λ s n g. h.there s n (f s n g);
+    closes = λ k. h.closes k ∙ ap (λ ps. (writer_at first k).closed || is_ended (get_or ps k no_producer).duty) (sym e);
+  }
+
+  -- A STREAM OF A HOST WRITER
+
+  new_stands : (w : World) (n : ℕ) → IsNew w n → Stands first w → Stands first (hosted w n)
+  new_stands w n i h =
+      let unended = unused-unended (producer_at w.state n).duty i.unused in
+      let served = Stands-producer w n (record no_producer { duty = Serves (length w.state.streams) }) (sym unended) h in
+      record {
+        kept = served.kept;
+        there = λ s k e. elim (push-hosts w.state.streams (hosted_stream (writer_at w n) n) s k n refl e) [
+          | inl f ↦ served.there s k f
+          | inr f ↦ (subst (λ j. j < length w.writers) (sym f) i.there, subst (λ j. j < host_limit) (sym f) i.known)
+        ];
+        closes = served.closes;
+      }
+
+  -- ALL CHANGES
+
+  abbrev Kept : World → World → Type 0
+  Kept w v = Stands first w → Stands first v
+
+  rules : Rules Kept
+  rules = record {
+    begins = record {
+      stays = λ w h. h;
+      joins = λ a b c f g h. g (f h);
+      opens = λ w s stream e. Stands-stream w s stream (λ n f. sym e ∙ f);
+      polls = λ w n room said more e. Stands-writer w n (polled_writer (writer_at w n) room said more) refl;
+    };
+    reacts = λ w act. Stands-reacts w (reaction w.state act).state (reaction-producers w.state act) (reaction-from w.state act);
+    lowers = λ w guests h. record { kept = h.kept; there = h.there; closes = h.closes };
+    overs = λ w n answer. Stands-producer w n (with_over_producer w n answer) refl;
+    gives = λ w n k. Stands-writer w n (given_writer (writer_at w n) k) refl;
+    leaves = λ w s stream e. Stands-stream w s stream (λ n f. let wrong : Gone ≡ Host n = sym e ∙ f in cc);
+    hosts = λ w n e. new_stands w n (is_new w n e);
+  }
+
+-- WHERE A STEP STOPS
+
+-- host writers are closed as they were
+abbrev SameClosed : World → World → Type 0
+SameClosed w v = (n : ℕ) → (writer_at v n).closed ≡ (writer_at w n).closed
+
+begins : Begins SameClosed
+begins = record {
+  stays = λ w n. refl;
+  joins = λ a b c f g n. g n ∙ f n;
+  opens = λ w s stream e n. ap (λ v. (writer_at v n).closed) (with_stream_in-same w s stream e);
+  polls = λ w n room said more e k. set-keeps (λ (x : Writer). x.closed) w.writers n k (polled_writer (writer_at w n) room said more) no_writer refl;
+}
+
+-- RUNS
+
+module _ (first : World) where
+  part-closes : (w : World) (part : Part) → is_part part ≡ true → Comes (Kept first) SameClosed w (part_on w part)
+  part-closes w (Acts (OnHost n (Feed bytes))) p =
+      feed-comes (Kept first) SameClosed (rules first) begins w n bytes (λ e. Stands-writer first w n (fed_writer (writer_at w n) bytes) refl)
+  part-closes w part p = part-comes (Kept first) SameClosed (rules first) begins w part p refl
+
+  chain-closes : (w : World) (all : List HostMoment) → Chain w all → Stands first w → Stands first (last_of w all)
+  chain-closes w [] c h = h
+  chain-closes w (m ∷ more) c h =
+      let f = c.0 in
+      let after : Stands first m.after = subst (Comes (Kept first) SameClosed m.before) f.goes (part-closes m.before m.part f.part) (subst (Stands first) (sym f.begins) h) in
+      chain-closes m.after more c.1 after
+
+  stop-closes : (w : World) (stop : Stop) (writers : List Writer) (readers : List Reader) → StopsAt w stop writers readers → Stands first w → ClosesExactly first w.state writers
+  stop-closes w stop writers readers s h =
+      elim s.form [
+        | inl p ↦
+            let halted : Halted SameClosed w writers = subst (Comes (Kept first) SameClosed w) s.stopped (part-closes w s.part p) in
+            λ n. ap (λ ws. (writer_in ws n).closed) halted.is ∙ halted.kept n ∙ h.closes n
+        | inr e ↦ λ n. ap (λ ws. (writer_in ws n).closed) e ∙ h.closes n
+      ]
+
+none_ended : (m n : ℕ) → is_ended (get_or (replicate m no_producer) n no_producer).duty ≡ false
+none_ended zero n = refl
+none_ended (suc m) zero = refl
+none_ended (suc m) (suc n) = none_ended m n
+
+or-false : (b : Bool) → (b || false) ≡ b
+or-false true = refl
+or-false false = refl
+
+Stands-start : (tag : ℕ) (limits : Limits) (old new : Tells) → Stands (start tag limits old new) (start tag limits old new)
+Stands-start tag limits old new =
+    let first = start tag limits old new in
+    record {
+      kept = length-replicate {A = Producer} host_limit no_producer;
+      there = λ s n e. absurd (no_host s n e);
+      closes = λ n. sym (ap (λ b. (writer_at first n).closed || b) (none_ended host_limit n) ∙ or-false (writer_at first n).closed);
+    }
+  where
+    no_host : (s n : ℕ) → (get_or [] s no_stream).writer.owner ≡ Host n → ⊥
+    no_host s n e = let f : Gone ≡ Host n = ap (λ (x : Stream). x.writer.owner) (sym (get_or_past [] s no_stream (omega arith))) ∙ e in cc
+
+module _ (tag : ℕ) (limits : Limits) (old new : Tells) (run : List Step) where
+  abbrev at_first : World
+  at_first = start tag limits old new
+
+  run-stands : Stands at_first (last_of at_first (host_moments at_first run))
+  run-stands = chain-closes at_first at_first (host_moments at_first run) (moments-chain at_first run) (Stands-start tag limits old new)
+
+  pub moments-close : ClosesExactly at_first (last_of at_first (host_moments at_first run)).state (last_of at_first (host_moments at_first run)).writers
+  moments-close = run-stands.closes
+
+  pub runs-close : (all : List Reply) (end : World) → play [] at_first run ≡ Ends all end → ClosesExactly at_first end.state end.writers
+  runs-close all end e = subst (λ w. ClosesExactly at_first w.state w.writers) (play-ends all end [] at_first run e) moments-close
+
+  pub stops-close : (all : List Reply) (stop : Stop) (writers : List Writer) (readers : List Reader) → play [] at_first run ≡ Halts all stop writers readers
+      → ClosesExactly at_first (last_of at_first (host_moments at_first run)).state writers
+  stops-close all stop writers readers e =
+      stop-closes at_first (last_of at_first (host_moments at_first run)) stop writers readers (play-halts stop writers readers [] at_first run all e) run-stands

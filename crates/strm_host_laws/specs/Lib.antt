@@ -1,0 +1,2 @@
+pub mod HostMoments
+pub mod HostLaws

@@ -1,0 +1,35 @@
+//! The laws, for whichever steps, of a run from an unused store among whichever host writers.
+//!
+//! Meaning: `HostLaws.antt`, `HostMoments.antt`, and `HostPlays.antt` and `Does.antt` of `strm_world`.
+//! Ours.
+
+ghost use Rattle.std.specs.Prelude.{◌≡◌, ℕ, List, []};
+ghost use Rattle.strm_buffers.specs.Tells.{Tells};
+ghost use Rattle.strm_machine.specs.declared.limits.Limits.{Limits};
+ghost use Rattle.strm_machine.specs.declared.replies.Reply.{Reply};
+ghost use Rattle.strm_machine.specs.declared.steps.Step.{Step};
+ghost use Rattle.strm_machine.specs.declared.stops.Stop.{Stop};
+ghost use Rattle.strm_world.specs.Ends.{Writer, Reader};
+ghost use Rattle.strm_world.specs.World.{World};
+ghost use Rattle.strm_world.specs.HostPlays.{Ends, Halts, play};
+ghost use Rattle.strm_world.specs.Does.{start};
+ghost use Rattle.strm_host_laws.specs.HostMoments.{host_moments, last_of};
+ghost use Rattle.strm_host_laws.specs.HostLaws.{ClosesExactly};
+
+/// Exactly the host writers that became gone were closed: after whichever steps a host writer is closed
+/// where it was closed at first, and where it was an end of a stream and is none any more, and nowhere
+/// else. A step that stops closes none.
+pub fn ends_close_exactly()
+    ensures runs { (tag : ℕ) (limits : Limits) (old new : Tells) (run : List Step) (replies : List Reply)
+        (end : World) → play [] (start tag limits old new) run ≡ Ends replies end →
+        ClosesExactly (start tag limits old new) end.state end.writers }
+    ensures moments { (tag : ℕ) (limits : Limits) (old new : Tells) (run : List Step) →
+        ClosesExactly (start tag limits old new)
+        (last_of (start tag limits old new) (host_moments (start tag limits old new) run)).state
+        (last_of (start tag limits old new) (host_moments (start tag limits old new) run)).writers }
+    ensures stops { (tag : ℕ) (limits : Limits) (old new : Tells) (run : List Step) (replies : List Reply)
+        (stop : Stop) (writers : List Writer) (readers : List Reader) →
+        play [] (start tag limits old new) run ≡ Halts replies stop writers readers →
+        ClosesExactly (start tag limits old new)
+        (last_of (start tag limits old new) (host_moments (start tag limits old new) run)).state writers }
+{}
