@@ -64,11 +64,11 @@ pub record IsNew (w : World) (n : ℕ) : Type 0 where
   pub known : n < host_limit
   pub unused : is_used (producer_at w.state n).duty ≡ false
 
-unmet : (b : Bool) (r : Refusal) (behind : Option Refusal) → cond b (Some r) behind ≡ None → (b ≡ false) × (behind ≡ None)
+pub unmet : (b : Bool) (r : Refusal) (behind : Option Refusal) → cond b (Some r) behind ≡ None → (b ≡ false) × (behind ≡ None)
 unmet true r behind e = cc
 unmet false r behind e = (refl, e)
 
-not_over : (count n : ℕ) → nat_le count n ≡ false → n < count
+pub not_over : (count n : ℕ) → nat_le count n ≡ false → n < count
 not_over count n e =
     elim (cases_lt n count) [
       | inl l ↦ l

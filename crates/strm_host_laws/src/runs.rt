@@ -10,11 +10,17 @@ ghost use Rattle.strm_machine.specs.declared.replies.Reply.{Reply};
 ghost use Rattle.strm_machine.specs.declared.steps.Step.{Step};
 ghost use Rattle.strm_machine.specs.declared.stops.Stop.{Stop};
 ghost use Rattle.strm_world.specs.Ends.{Writer, Reader};
-ghost use Rattle.strm_world.specs.World.{World};
+ghost use Rattle.strm_world.specs.World.{World, writer_at};
 ghost use Rattle.strm_world.specs.HostPlays.{Ends, Halts, play};
 ghost use Rattle.strm_world.specs.Does.{start};
 ghost use Rattle.strm_host_laws.specs.HostMoments.{host_moments, last_of};
-ghost use Rattle.strm_host_laws.specs.HostLaws.{ClosesExactly};
+ghost use Rattle.strm_host_laws.specs.HostLaws.{ClosesExactly, GoesOn};
+
+/// The moments of a run lead to where its play ends, from whichever world.
+pub fn moments_lead_to_the_end()
+    ensures { (first : World) (run : List Step) (replies : List Reply) (end : World) →
+        play [] first run ≡ Ends replies end → last_of first (host_moments first run) ≡ end }
+{}
 
 /// Exactly the host writers that became gone were closed: after whichever steps a host writer is closed
 /// where it was closed at first, and where it was an end of a stream and is none any more, and nowhere
@@ -32,4 +38,13 @@ pub fn ends_close_exactly()
         play [] (start tag limits old new) run ≡ Halts replies stop writers readers →
         ClosesExactly (start tag limits old new)
         (last_of (start tag limits old new) (host_moments (start tag limits old new) run)).state writers }
+{}
+
+/// A host writer uses its records in order, each once, and hears exactly the accepted feeds to it, in
+/// order, each behind as many records as it had used when it came; from whichever world, whatever the
+/// steps.
+pub fn writers_are_fed_exactly()
+    ensures { (first : World) (run : List Step) (n : ℕ) →
+        GoesOn n (host_moments first run) (writer_at first n)
+        (writer_at (last_of first (host_moments first run)) n) }
 {}
