@@ -7,20 +7,20 @@ use Rattle.strm_transmit.proofs.store.Store.feed.Goals as goal
 
 pub feed-requires : goal.feed-requires
 feed-requires g c =
-    let passed = is_passed _ _ _ _ _ (c.feed_fits.ensures no_logs) c.in-Ok.ensures.exact in
-    feed_fits c.args.self.now _ c.args.host c.args.bytes.now no_logs passed.none
+    feed_fits c.args.self.now _ c.args.host c.args.bytes.now no_logs (is_passed c.args.self.now _ _ _ _ (c.feed_fits.ensures no_logs) c.in-Ok.ensures.exact).none
 
-pub returns-in-Ok-feed-clause-meets : goal.returns-in-Ok-feed-clause-meets
-returns-in-Ok-feed-clause-meets g c =
-    let passed = λ logs. is_passed _ _ _ _ _ (c.feed_fits.ensures logs) c.in-Ok.ensures.exact in
-    hosted_feed c.args.self.now _ _ c.args.host c.args.bytes.now (passed no_logs).untrapped (λ logs. (passed logs).none)
-    (feed_fits c.args.self.now _ c.args.host c.args.bytes.now no_logs (passed no_logs).none) c.requires.fits c.in-Ok-feed.ensures.ok
+pub returns-in-Ok-feed : goal.returns-in-Ok-feed
+returns-in-Ok-feed g c =
+    let passed = is_passed c.args.self.now _ _ _ _ (c.feed_fits.ensures no_logs) c.in-Ok.ensures.exact in
+    record { meets = hosted_feed c.args.self.now _ _ c.args.host c.args.bytes.now passed.untrapped
+    (λ logs. (is_passed c.args.self.now _ _ _ _ (c.feed_fits.ensures logs) c.in-Ok.ensures.exact).none)
+    (feed_fits c.args.self.now _ c.args.host c.args.bytes.now no_logs passed.none) c.requires.fits c.in-Ok-feed.ensures.ok }
 
-pub returns-in-Err-feed-clause-meets : goal.returns-in-Err-feed-clause-meets
-returns-in-Err-feed-clause-meets g c =
-    hosted_wanting c.args.self.now c.args.self.now _ _ c.args.host (Feed c.args.bytes.now) c.requires.fits refl c.in-Err-feed.ensures.err
+pub returns-in-Err-feed : goal.returns-in-Err-feed
+returns-in-Err-feed g c =
+    record { meets = hosted_wanting c.args.self.now c.args.self.now _ _ c.args.host (Feed c.args.bytes.now) c.requires.fits refl c.in-Err-feed.ensures.err }
 
-pub returns-in-Err-clause-meets : goal.returns-in-Err-clause-meets
-returns-in-Err-clause-meets g c =
-    hosted_not_admitted c.args.self.now _ (OnHost c.args.host (Feed c.args.bytes.now)) _ _ _ _ (λ logs. host_refusal-same c.args.self.now _ c.args.host (Feed c.args.bytes.now) logs no_logs) (c.feed_fits.ensures no_logs) c.in-Err.ensures.exact c.requires.fits
-    (λ u. let no : true ≡ false = u in cc)
+pub returns-in-Err : goal.returns-in-Err
+returns-in-Err g c =
+    record { meets = hosted_not_admitted c.args.self.now _ (OnHost c.args.host (Feed c.args.bytes.now)) _ _ _ _ (λ logs. host_refusal-same c.args.self.now _ c.args.host (Feed c.args.bytes.now) logs no_logs) (c.feed_fits.ensures no_logs) c.in-Err.ensures.exact c.requires.fits
+    (λ u. let no : true ≡ false = u in cc) }

@@ -5,14 +5,35 @@ use Rattle.strm_transmit.proofs.HostStepLemmas.{hosted_not_admitted}
 use Rattle.strm_transmit.proofs.HostingLemmas.{no_logs, host_refusal-same, host_fits, is_passed, hosted_made}
 use Rattle.strm_transmit.proofs.store.Store.host_new.Goals as goal
 
-pub returns-in-Ok-clause-meets : goal.returns-in-Ok-clause-meets
-returns-in-Ok-clause-meets g c =
-    let passed = λ logs. is_passed _ _ _ _ _ (c.host_fits.ensures logs) c.in-Ok.ensures.exact in
-    hosted_made c.args.self.now c.host.new.self _ c.args.writer c.host.result c.served.ensures.made c.served.ensures.all (passed no_logs).untrapped (λ logs. (passed logs).none)
-    (host_fits c.args.self.now _ c.args.writer no_logs (passed no_logs).none) c.requires.fits
-    c.host.ensures.number (rw (c.writer_kind.ensures, c.writer_payload.ensures) at c.host.ensures.ok) c.host.ensures.no_memory c.host.ensures.err
+pub writer_kind-requires : goal.writer_kind-requires
+writer_kind-requires g c =
+    (host_fits c.args.self.now _ c.args.writer no_logs (is_passed c.args.self.now _ _ _ _ (c.host_fits.ensures no_logs) c.in-Ok.ensures.exact).none).there
 
-pub returns-in-Err-clause-meets : goal.returns-in-Err-clause-meets
-returns-in-Err-clause-meets g c =
-    hosted_not_admitted c.args.self.now _ (OnHost c.args.writer New) _ _ _ _ (λ logs. host_refusal-same c.args.self.now _ c.args.writer New logs no_logs) (c.host_fits.ensures no_logs) c.in-Err.ensures.exact c.requires.fits
-    (λ u. let no : true ≡ false = u in cc)
+pub writer_payload-requires : goal.writer_payload-requires
+writer_payload-requires g c =
+    (host_fits c.args.self.now _ c.args.writer no_logs (is_passed c.args.self.now _ _ _ _ (c.host_fits.ensures no_logs) c.in-Ok.ensures.exact).none).there
+
+pub host-requires-clause-there : goal.host-requires-clause-there
+host-requires-clause-there g c =
+    (host_fits c.args.self.now _ c.args.writer no_logs (is_passed c.args.self.now _ _ _ _ (c.host_fits.ensures no_logs) c.in-Ok.ensures.exact).none).few
+
+pub host-requires-clause-unused : goal.host-requires-clause-unused
+host-requires-clause-unused g c =
+    (host_fits c.args.self.now _ c.args.writer no_logs (is_passed c.args.self.now _ _ _ _ (c.host_fits.ensures no_logs) c.in-Ok.ensures.exact).none).unused
+
+pub host-requires-clause-few : goal.host-requires-clause-few
+host-requires-clause-few g c =
+    (host_fits c.args.self.now _ c.args.writer no_logs (is_passed c.args.self.now _ _ _ _ (c.host_fits.ensures no_logs) c.in-Ok.ensures.exact).none).streams
+
+pub returns-in-Ok : goal.returns-in-Ok
+returns-in-Ok g c =
+    let passed = is_passed c.args.self.now _ _ _ _ (c.host_fits.ensures no_logs) c.in-Ok.ensures.exact in
+    record { meets = hosted_made c.args.self.now c.host.new.self _ c.args.writer c.host.result c.served.ensures.made c.served.ensures.all passed.untrapped
+    (λ logs. (is_passed c.args.self.now _ _ _ _ (c.host_fits.ensures logs) c.in-Ok.ensures.exact).none)
+    (host_fits c.args.self.now _ c.args.writer no_logs passed.none) c.requires.fits
+    c.host.ensures.number (rw (c.writer_kind.ensures, c.writer_payload.ensures) at c.host.ensures.ok) c.host.ensures.no_memory c.host.ensures.err }
+
+pub returns-in-Err : goal.returns-in-Err
+returns-in-Err g c =
+    record { meets = hosted_not_admitted c.args.self.now _ (OnHost c.args.writer New) _ _ _ _ (λ logs. host_refusal-same c.args.self.now _ c.args.writer New logs no_logs) (c.host_fits.ensures no_logs) c.in-Err.ensures.exact c.requires.fits
+    (λ u. let no : true ≡ false = u in cc) }
