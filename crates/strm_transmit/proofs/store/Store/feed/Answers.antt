@@ -14,7 +14,7 @@ returns-in-Ok-feed g c =
     let passed = is_passed c.args.self.now _ _ _ _ (c.feed_fits.ensures no_logs) c.in-Ok.ensures.exact in
     record { meets = hosted_feed c.args.self.now _ _ c.args.host c.args.bytes.now passed.untrapped
     (λ logs. (is_passed c.args.self.now _ _ _ _ (c.feed_fits.ensures logs) c.in-Ok.ensures.exact).none)
-    (feed_fits c.args.self.now _ c.args.host c.args.bytes.now no_logs passed.none) c.requires.fits c.in-Ok-feed.ensures.ok }
+    (feed_fits c.args.self.now _ c.args.host c.args.bytes.now no_logs passed.none) c.requires.fits (rw c.as_slice.ensures.exact at c.in-Ok-feed.ensures.ok) }
 
 pub returns-in-Err-feed : goal.returns-in-Err-feed
 returns-in-Err-feed g c =
