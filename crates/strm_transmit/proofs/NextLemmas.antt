@@ -1,10 +1,10 @@
 -- The next stream that a host writer serves, after one host writer more was looked at; and whether all
 -- host writers that were looked at are those that the store needs.
-use Rattle.std.proofs.Common.{◌≡◌, ℕ, ◌+◌, ◌<◌, ◌≤◌, ◌↔◌, Bool, true, false, cond, List, [], ◌∷◌, ◌++◌, length, get_or, Option, Some, None, refl, sym, ap, subst, ◌∙◌, ⊎_elim, arith}
+use Rattle.std.proofs.Common.{◌≡◌, ℕ, ◌+◌, ◌<◌, ◌≤◌, ◌↔◌, Bool, true, false, cond, List, [], ◌∷◌, ◌++◌, length, get_or, take, Option, Some, None, refl, sym, ap, subst, ◌∙◌, ⊎_elim, arith}
 use Rattle.std.specs.Prelude.{nat_le, IsTrue}
 use Rattle.std.proofs.lemmas.Bool.{cases_lt, true≢false}
 use Rattle.std.proofs.lemmas.Bool.Decides.{nat_tests}
-use Rattle.std.proofs.lemmas.List.{get_or_append_left, get_or_past, get_or_push}
+use Rattle.std.proofs.lemmas.List.{get_or_append_left, get_or_past, get_or_push, take_all, take_more}
 use Rattle.strm_buffers.specs.Tells.{Tells}
 use Rattle.strm_machine.specs.State.{State, host_limit, no_producer}
 use Rattle.strm_machine.specs.declared.streams.Duty.{Duty}
@@ -85,6 +85,17 @@ module _ (ps : List Producer) (p : Producer) (from : ℕ) where
       by_duty Unused e = kept_on o h (λ k d a. absurd (unused_no p.duty k e d))
       by_duty Ended e = kept_on o h (λ k d a. absurd (ended_no p.duty k e d))
       by_duty (Serves s) e = by_test s (nat_le from s) e refl
+
+-- over the first of these host writers, and one more
+pub next_at : (ps qs : List Producer) (from i : ℕ) (o least : Option ℕ) → qs ≡ ps → i < length ps → NextServed (take i ps) from o → least ≡ next_of (get_or qs i no_producer).duty from o → NextServed (take (i + 1) ps) from least
+next_at ps qs from i o least same l h e =
+    let next : least ≡ next_of (get_or ps i no_producer).duty from o = subst (λ rs. least ≡ next_of (get_or rs i no_producer).duty from o) same e in
+    subst (λ rs. NextServed rs from least) (sym (take_more ps i no_producer l))
+    (subst (NextServed (take i ps ++ get_or ps i no_producer ∷ []) from) (sym next) (next_more (take i ps) (get_or ps i no_producer) from o h))
+
+-- and over all
+pub next_of_all : (ps : List Producer) (from i : ℕ) (o : Option ℕ) → length ps ≤ i → NextServed (take i ps) from o → NextServed ps from o
+next_of_all ps from i o l h = subst (λ qs. NextServed qs from o) (take_all i ps l) h
 
 -- ## The host writers that the store needs
 

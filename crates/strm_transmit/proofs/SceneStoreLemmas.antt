@@ -5,7 +5,7 @@ use Rattle.std.specs.Prelude.{count_by}
 use Rattle.std.proofs.lemmas.List.{length-map, length-set, get_or_default}
 use Rattle.std.proofs.lemmas.List.Sums.{sum_by-set}
 use Rattle.strm_handles.specs.Counters.{Counter}
-use Rattle.strm_machine.specs.State.{no_stream, no_producer, stream_at, producer_at, is_live, is_host}
+use Rattle.strm_machine.specs.State.{State, no_stream, no_producer, stream_at, producer_at, is_live, is_host}
 use Rattle.strm_machine.specs.Soundness.{IsSound, sizes_of, handles_of, type_of}
 use Rattle.strm_machine.proofs.TurnLemmas.{sets_of}
 use Rattle.strm_machine.specs.declared.streams.Owner.{Owner}
@@ -13,12 +13,13 @@ use Rattle.strm_machine.specs.declared.streams.Owner.TheVariants.{Host, Gone}
 use Rattle.strm_machine.specs.declared.streams.Duty.TheVariants.{Serves}
 use Rattle.strm_machine.specs.declared.streams.Stream.{Stream}
 use Rattle.strm_machine.proofs.SoundLemmas.{IsSound-guests, IsSound-stream}
-use Rattle.strm_buffers.specs.Tells.{WriterTells}
+use Rattle.strm_buffers.specs.Tells.{WriterTells, Tells}
 use Rattle.strm_turns.specs.Guests.{seen, guest_of}
 use Rattle.strm_producing.specs.Turning.{Scene, scene}
 use Rattle.strm_transmit.specs.Inside.{state_of, AreServed, IsStore}
 use Rattle.strm_transmit.specs.declared.store.Store.TheInside.{Inside}
-use Rattle.strm_transmit.proofs.ServedLemmas.{AreServed-turned, same_stream}
+use Rattle.strm_world.specs.Does.{FitsWriter, Fits}
+use Rattle.strm_transmit.proofs.ServedLemmas.{AreServed-turned, same_stream, serving_kept}
 use Rattle.strm_transmit.proofs.SceneLemmas.{SceneKeeps}
 use Rattle.strm_transmit.proofs.StoreLemmas.{same_handles, same_sets, same_bytes, same_count}
 
@@ -115,3 +116,17 @@ module _ (old new : Inside) (s n : ℕ) (tells : WriterTells) (after : Scene) (l
         few_guests = omega (arith, count, i.few_guests, length-map old.guests.items guest_of, length-map new.guests.items guest_of);
         few_streams = rw (h.streams, length-set old.streams.items s after.stream) i.few_streams;
       }
+
+-- ## The host writer that serves a stream
+
+module _ (inside : Inside) (state : State) (n s : ℕ) (e : state_of inside ≡ state) (i : IsStore inside) (o : (stream_at state s).writer.owner ≡ Host n) where
+  all_served : AreServed state.producers state.streams
+  all_served = subst (λ (x : State). AreServed x.producers x.streams) e i.served
+
+  -- it has one of the 64 places
+  pub number_kept : n < 64
+  number_kept = rw all_served.all at (serving_kept state.producers n s (all_served.serves n s o))
+
+  -- and it is there, with its stream's kind and payload
+  pub serving_fits : (tells : Tells) → Fits state tells → FitsWriter (stream_at state s) tells n
+  serving_fits tells fits = fits n s (all_served.serves n s o)

@@ -15,7 +15,7 @@ ghost use Rattle.strm_machine.specs.declared.streams.Owner.TheVariants.{Host, Lo
 ghost use Rattle.strm_machine.specs.declared.streams.Side.TheVariants.{Writing};
 ghost use Rattle.strm_world.specs.Outcomes.{done};
 ghost use Rattle.strm_world.specs.HostRefusals.{is_unknown_host, refusal_in};
-ghost use Rattle.strm_world.specs.Does.{Logs, world_of, Fits, Does};
+ghost use Rattle.strm_world.specs.Does.{Logs, world_of, FitsWriter, Fits, Does};
 ghost use Rattle.strm_transmit.specs.Inside.{AreServed};
 ghost use Rattle.strm_transmit.specs.Meets.{replied, or_found};
 ghost use Rattle.strm_transmit.specs.Hosted.{FitsAt, forsaken_in, MeetsHosted};
@@ -72,6 +72,18 @@ fn is_unknown_host(hosts: &Hosts, host: u32) -> bool
     host as usize >= hosts.count_writers() || host as usize >= MOST_HOSTS
 }
 
+// Whether a host writer is there, with a stream's kind and payload.
+fn writes(hosts: &Hosts, number: usize, stream: &Stream) -> bool
+    ensures { IsTrue result ↔ FitsWriter stream.now (tells_of writer_tells reader_tells hosts.now) number }
+{
+    if number >= hosts.count_writers() {
+        return false;
+    }
+    let is_of_kind = same_kind(hosts.writer_kind(number), stream.kind);
+    let is_of_payload = hosts.writer_payload(number) == stream.payload;
+    is_of_kind && is_of_payload
+}
+
 impl Store {
     // What holds of host writers and streams. It does nothing.
     #[inline(always)]
@@ -87,12 +99,7 @@ impl Store {
         ensures { IsTrue result ↔ FitsAt self.now (tells_of writer_tells reader_tells hosts.now) number }
     {
         match self.producers[number].duty {
-            Duty::Serves { stream } => {
-                let stream = self.stream(stream);
-                number < hosts.count_writers()
-                    && same_kind(hosts.writer_kind(number), stream.kind)
-                    && hosts.writer_payload(number) == stream.payload
-            }
+            Duty::Serves { stream } => writes(hosts, number, self.stream(stream)),
             _ => true,
         }
     }
