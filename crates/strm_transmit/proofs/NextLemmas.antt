@@ -5,12 +5,19 @@ use Rattle.std.specs.Prelude.{nat_le, IsTrue}
 use Rattle.std.proofs.lemmas.Bool.{cases_lt, true≢false}
 use Rattle.std.proofs.lemmas.Bool.Decides.{nat_tests}
 use Rattle.std.proofs.lemmas.List.{get_or_append_left, get_or_past, get_or_push, take_all, take_more}
-use Rattle.strm_buffers.specs.Tells.{Tells}
+use Rattle.strm_codes.specs.Sameness.{same_payload}
+use Rattle.strm_codes.specs.declared.codes.TransmitKind.{TransmitKind}
+use Rattle.strm_codes.specs.declared.codes.TransmitKind.TheVariants.{Stream as AStream, Future}
+use Rattle.strm_codes.specs.declared.payloads.Payload.{Payload}
+use Rattle.strm_codes.proofs.SamenessLemmas.{Decides-same_payload}
+use Rattle.strm_buffers.specs.Tells.{Tells, told_by}
 use Rattle.strm_machine.specs.State.{State, host_limit, no_producer}
 use Rattle.strm_machine.specs.declared.streams.Duty.{Duty}
 use Rattle.strm_machine.specs.declared.streams.Duty.TheVariants.{Unused, Serves, Ended}
 use Rattle.strm_machine.specs.declared.streams.Producer.{Producer}
-use Rattle.strm_world.specs.Does.{Fits}
+use Rattle.strm_machine.specs.declared.streams.Stream.{Stream}
+use Rattle.strm_machine.specs.Tests.{same_kind}
+use Rattle.strm_world.specs.Does.{FitsWriter, Fits}
 use Rattle.strm_transmit.specs.Hosted.{FitsAt}
 use Rattle.strm_transmit.specs.Inside.{AreServed}
 use Rattle.strm_transmit.specs.Turning.{least_of, next_of, IsNextServed, NextServed}
@@ -98,6 +105,19 @@ pub next_of_all : (ps : List Producer) (from i : ℕ) (o : Option ℕ) → lengt
 next_of_all ps from i o l h = subst (λ qs. NextServed qs from o) (take_all i ps l) h
 
 -- ## The host writers that the store needs
+
+kind_is : (a b : TransmitKind) → same_kind a b ≡ true → a ≡ b
+kind_is AStream AStream e = refl
+kind_is AStream Future e = cc
+kind_is Future AStream e = cc
+kind_is Future Future e = refl
+
+-- one that is there and of the stream's kind fits where its payload does
+pub writes_by : (stream : Stream) (tells : Tells) (n : ℕ) (kind : TransmitKind) (payload : Payload) (is : Bool) → n < length tells.writers → kind ≡ (told_by tells n).kind → payload ≡ (told_by tells n).payload → true ≡ same_kind kind stream.kind → is ≡ same_payload payload stream.payload → (IsTrue is ↔ FitsWriter stream tells n)
+writes_by stream tells n kind payload is l k p s e =
+    let decides = Decides-same_payload payload stream.payload in
+    (λ t. record { there = l; kind = sym k ∙ kind_is kind stream.kind (sym s); payload = sym p ∙ decides.0 (sym e ∙ t) },
+    λ fits. e ∙ decides.1 (p ∙ fits.payload))
 
 abbrev pub FitBelow : State → Tells → ℕ → Type 0
 FitBelow state tells k = (n : ℕ) → n < k → FitsAt state tells n
