@@ -53,7 +53,7 @@ pub returns-clause-does : goal.returns-clause-does
 returns-clause-does g c =
     let i = c.loop-stream.invariant in
     drive_round c.args.self.now _ _ _ _
-    (drive_end c.args.self.now c.loop-stream.self _ _ c.in-None.ensures.served c.loop-stream.next i.does _ i.within c.in-None.ensures.next)
+    (drive_end c.args.self.now c.loop-stream.self _ _ c.in_default.ensures.served c.loop-stream.next i.does _ i.within c.in_default.ensures.next)
 
 pub returns-clause-fits : goal.returns-clause-fits
 returns-clause-fits g c = c.loop-stream.invariant.fits

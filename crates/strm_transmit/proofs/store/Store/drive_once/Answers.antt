@@ -7,12 +7,14 @@ use Rattle.strm_transmit.proofs.HostingLemmas.{is_passed}
 use Rattle.strm_transmit.proofs.DriveStoreLemmas.{hosted_drive}
 use Rattle.strm_transmit.proofs.store.Store.drive_once.Goals as goal
 
-pub returns-in-Ok-clause-meets : goal.returns-in-Ok-clause-meets
-returns-in-Ok-clause-meets g c =
-    hosted_drive c.args.self.now _ _ _ (λ _. replies.Done) c.drive_all.result (is_passed c.args.self.now None tt (Ok tt) tt refl c.in-Ok.ensures.exact).untrapped
-    c.drive_all.ensures.does c.drive_all.ensures.fits c.drive_all.ensures.stop c.drive_all.ensures.trapped
+pub returns-in-Ok : goal.returns-in-Ok
+returns-in-Ok g c = record {
+  meets = hosted_drive c.args.self.now _ _ _ (λ _. replies.Done) c.drive_all.result (is_passed c.args.self.now None tt (Ok tt) tt refl c.in-Ok.ensures.exact).untrapped
+      c.drive_all.ensures.does c.drive_all.ensures.fits c.drive_all.ensures.stop c.drive_all.ensures.trapped;
+}
 
-pub returns-in-Err-clause-meets : goal.returns-in-Err-clause-meets
-returns-in-Err-clause-meets g c =
-    hosted_not_admitted c.args.self.now _ Drive None tt (Ok tt) _ (λ logs. refusal_in-drive _) refl c.in-Err.ensures.exact c.requires.fits
-    (λ u. let no : true ≡ false = u in cc)
+pub returns-in-Err : goal.returns-in-Err
+returns-in-Err g c = record {
+  meets = hosted_not_admitted c.args.self.now _ Drive None tt (Ok tt) _ (λ logs. refusal_in-drive _) refl c.in-Err.ensures.exact c.requires.fits
+      (λ u. let no : true ≡ false = u in cc);
+}
