@@ -4,12 +4,15 @@ use Rattle.strm_transmit.proofs.steps.on_end.Goals as goal
 
 pub returns-in-Cancel-clause-meets : goal.returns-in-Cancel-clause-meets
 returns-in-Cancel-clause-meets g c =
-    hosted_alone c.args.store.now _ _ _ c.cancel.result c.sound.ensures c.served.ensures.made refl c.cancel.ensures.settled c.cancel.ensures.meets c.requires.fits
+    rw c.in-Cancel.is
+    (hosted_alone c.args.store.now _ _ _ c.cancel.result c.sound.ensures c.served.ensures.made refl c.cancel.ensures.settled c.cancel.ensures.meets c.requires.fits)
 
 pub returns-in-Move-clause-meets : goal.returns-in-Move-clause-meets
 returns-in-Move-clause-meets g c =
-    hosted_alone c.args.store.now _ _ _ c.transfer.result c.sound.ensures c.served.ensures.made refl c.transfer.ensures.settled c.transfer.ensures.meets c.requires.fits
+    rw c.in-Move.is
+    (hosted_alone c.args.store.now _ _ _ c.transfer.result c.sound.ensures c.served.ensures.made refl c.transfer.ensures.settled c.transfer.ensures.meets c.requires.fits)
 
 pub returns-in-Lift-clause-meets : goal.returns-in-Lift-clause-meets
 returns-in-Lift-clause-meets g c =
-    hosted_alone c.args.store.now _ _ _ c.lift.result c.sound.ensures c.served.ensures.made refl c.lift.ensures.settled c.lift.ensures.meets c.requires.fits
+    rw c.in-Lift.is
+    (hosted_alone c.args.store.now _ _ _ c.lift.result c.sound.ensures c.served.ensures.made refl c.lift.ensures.settled c.lift.ensures.meets c.requires.fits)
