@@ -1,5 +1,6 @@
 pub mod StepLemmas
 pub mod HostStepLemmas
+pub mod ApplyLemmas
 pub mod ServedLemmas
 pub mod FitsLemmas
 pub mod ForsakeLemmas

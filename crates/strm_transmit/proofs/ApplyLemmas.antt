@@ -1,0 +1,53 @@
+-- A step is the call that its act names, in which a refusal is a reply.
+use Rattle.std.proofs.Common.{◌≡◌, false, Result, Ok, Err, refl}
+use Rattle.std.specs.Prelude.{IfOk, IfErr, IsTrue}
+use Rattle.strm_buffers.specs.Tells.{Tells}
+use Rattle.strm_machine.specs.State.{State}
+use Rattle.strm_machine.specs.Plays.{is_settled}
+use Rattle.strm_machine.specs.Reactions.{Reaction}
+use Rattle.strm_machine.specs.declared.acts.Act.{Act}
+use Rattle.strm_machine.specs.declared.replies.Reply.{Reply}
+use Rattle.strm_transmit.specs.Meets.{Meets, refused_too}
+use Rattle.strm_transmit.specs.Hosted.{answered, Leaves, MeetsAlone}
+use Rattle.strm_transmit.specs.declared.errors.StoreError.{StoreError}
+use Rattle.strm_transmit.specs.declared.errors.StoreError.TheVariants.{Refused, HostFailed, HostBroke, BadItem, StoreTrapped, OutOfMemory}
+
+-- it is the same answer to the machine
+pub refused-answered : (result : Result Reply StoreError) → answered (refused_too result) ≡ answered result
+refused-answered (Ok reply) = refl
+refused-answered (Err (Refused refusal)) = refl
+refused-answered (Err (HostFailed end)) = refl
+refused-answered (Err (HostBroke end)) = refl
+refused-answered (Err (BadItem stream)) = refl
+refused-answered (Err StoreTrapped) = refl
+refused-answered (Err OutOfMemory) = refl
+
+pub refused-meets : (old new : State) (result : Result Reply StoreError) (reaction : Reaction) → Meets old new result reaction → Meets old new (refused_too result) reaction
+refused-meets old new (Ok reply) reaction m = m
+refused-meets old new (Err (Refused refusal)) reaction m = m.0
+refused-meets old new (Err (HostFailed end)) reaction m = m
+refused-meets old new (Err (HostBroke end)) reaction m = m
+refused-meets old new (Err (BadItem stream)) reaction m = m
+refused-meets old new (Err StoreTrapped) reaction m = m
+refused-meets old new (Err OutOfMemory) reaction m = m
+
+pub refused-alone : (old new : State) (tells told : Tells) (result : Result Reply StoreError) (act : Act) → MeetsAlone old new tells told result act → MeetsAlone old new tells told (refused_too result) act
+refused-alone old new tells told result act m = record { meets = refused-meets old new result _ m.meets; ends = m.ends }
+
+pub refused-leaves : (old new : State) (tells told : Tells) (act : Act) (result : Result Reply StoreError) → IfErr result (Leaves act old new tells told) → IfErr (refused_too result) (Leaves act old new tells told)
+refused-leaves old new tells told act (Ok reply) l = l
+refused-leaves old new tells told act (Err (Refused refusal)) l = tt
+refused-leaves old new tells told act (Err (HostFailed end)) l = l
+refused-leaves old new tells told act (Err (HostBroke end)) l = l
+refused-leaves old new tells told act (Err (BadItem stream)) l = l
+refused-leaves old new tells told act (Err StoreTrapped) l = l
+refused-leaves old new tells told act (Err OutOfMemory) l = l
+
+pub refused-settled : (result : Result Reply StoreError) → IfOk result (λ reply. IsTrue (is_settled reply)) → IfOk (refused_too result) (λ reply. IsTrue (is_settled reply))
+refused-settled (Ok reply) s = s
+refused-settled (Err (Refused refusal)) s = refl
+refused-settled (Err (HostFailed end)) s = s
+refused-settled (Err (HostBroke end)) s = s
+refused-settled (Err (BadItem stream)) s = s
+refused-settled (Err StoreTrapped) s = s
+refused-settled (Err OutOfMemory) s = s
