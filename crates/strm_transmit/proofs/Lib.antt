@@ -2,6 +2,7 @@ pub mod StepLemmas
 pub mod HostStepLemmas
 pub mod ServedLemmas
 pub mod FitsLemmas
+pub mod StillLemmas
 pub mod ForsakeLemmas
 pub mod StoreLemmas
 pub mod OperationLemmas
