@@ -8,18 +8,25 @@ mod copies;
 mod draws;
 mod filled;
 mod guests;
+mod hosted;
 mod rounds;
 mod tables;
 mod windows;
 
 use crate::copies::{COUNTS, Copies};
 use crate::filled::{COUNT, Filled};
+use crate::hosted::{FED, LISTED, Reading};
 use crate::windows::ITEMS;
 use std::time::Instant;
 use std::{env, io};
+use strm_buffers::hosts::Hosts;
+use strm_buffers::writers::HostWriter;
+use strm_codes::codes::TransmitKind;
 use strm_codes::counts::ItemCount;
 use strm_codes::payloads::Payload;
 use strm_codes::scalars::Scalar;
+use strm_ends::queue_writer::QueueWriter;
+use strm_host::erased::Erased;
 use strm_memory::memories::GuestMemory;
 use strm_memory::payloaded::Payloaded;
 
@@ -56,7 +63,9 @@ fn main(rt: HostRuntime) -> io::Result<()> {
         time_windows(&rt, room)?;
     }
     time_items(&rt, "u32", 70_000u32)?;
-    time_items(&rt, "(u8,u32)", (7u8, 70_000u32))
+    time_items(&rt, "(u8,u32)", (7u8, 70_000u32))?;
+    time_feeds(&rt, turns / 8)?;
+    time_list(&rt)
 }
 
 // The payload of a word, bytes if it is none: the compiler does not know which.
@@ -200,4 +209,69 @@ fn time_items<T: Payloaded>(rt: &HostRuntime, name: &str, value: T) -> io::Resul
     let taken = start.elapsed(rt)?.as_nanos().saturating_mul(1000) / u128::from(ITEMS);
     println!(rt; "took {count} of {name}")?;
     eprintln!(rt; "put {name}: {put} ps, next: {taken} ps")
+}
+
+// Feeds of 64 bytes to a host writer, each read at once.
+fn time_feeds(rt: &HostRuntime, rounds: u32) -> io::Result<()> {
+    let alloc = rt.alloc();
+    let queue = QueueWriter::new(alloc, TransmitKind::Stream, BYTES);
+    let mut writers: Vec<Box<dyn HostWriter>> = Vec::new(alloc);
+    let Ok(writer) = Box::new(alloc, queue) else {
+        return eprintln!(rt; "no memory");
+    };
+    let Ok(()) = writers.push(writer) else {
+        return eprintln!(rt; "no memory");
+    };
+    let mut hosts = Hosts {
+        writers,
+        readers: Vec::new(alloc),
+    };
+    let mut reading = match Reading::new(alloc, &hosts, FED) {
+        Ok(reading) => reading,
+        Err(error) => return eprintln!(rt; "{error:?}"),
+    };
+    let start = Instant::now(rt)?;
+    match reading.feed_and_read(&mut hosts, rounds) {
+        Ok(()) => {
+            let spent = start.elapsed(rt)?.as_nanos();
+            let (received, sum) = (reading.received(), reading.sum());
+            println!(rt; "fed {received}: {sum}")?;
+            let round = spent / u128::from(rounds).max(1);
+            eprintln!(rt; "a feed and a read of 64 bytes: {round} ns")
+        }
+        Err(error) => eprintln!(rt; "{error:?}"),
+    }
+}
+
+// A list of 64 MiB that a host writer gives, read in pieces of 64 KiB.
+fn time_list(rt: &HostRuntime) -> io::Result<()> {
+    let alloc = rt.alloc();
+    let Ok(list) = hosted::list(alloc, LISTED) else {
+        return eprintln!(rt; "no memory");
+    };
+    let mut writers: Vec<Box<dyn HostWriter>> = Vec::new(alloc);
+    let Ok(writer) = Box::new(alloc, Erased::stream(alloc, list)) else {
+        return eprintln!(rt; "no memory");
+    };
+    let Ok(()) = writers.push(writer) else {
+        return eprintln!(rt; "no memory");
+    };
+    let mut hosts = Hosts {
+        writers,
+        readers: Vec::new(alloc),
+    };
+    let mut reading = match Reading::new(alloc, &hosts, LISTED) {
+        Ok(reading) => reading,
+        Err(error) => return eprintln!(rt; "{error:?}"),
+    };
+    let start = Instant::now(rt)?;
+    match reading.read_list(&mut hosts) {
+        Ok(()) => {
+            let spent = start.elapsed(rt)?.as_nanos();
+            let (received, sum) = (reading.received(), reading.sum());
+            println!(rt; "listed {received}: {sum}")?;
+            eprintln!(rt; "a list of 64 MiB: {spent} ns")
+        }
+        Err(error) => eprintln!(rt; "{error:?}"),
+    }
 }

@@ -117,7 +117,7 @@ meets-does old new tells act result u p s m = by_result result s m
     by_result (Err StoreTrapped) k n = by_reaction (goes replies.StoreTrapped new) n.0
     by_result (Err OutOfMemory) k n = Does-untold old new tells (Err None) (λ w. outcome w act) (λ logs. tt) tt
 
-meets-types : (old new : State) (result : Result Reply StoreError) (r : Reaction) → Meets old new result r → KeepsTypes old r.state → KeepsTypes old new
+pub meets-types : (old new : State) (result : Result Reply StoreError) (r : Reaction) → Meets old new result r → KeepsTypes old r.state → KeepsTypes old new
 meets-types old new (Ok reply) r m k = subst (λ (x : Reaction). KeepsTypes old x.state) m k
 meets-types old new (Err (Refused q)) r m k = subst (λ (x : Reaction). KeepsTypes old x.state) m.0 k
 meets-types old new (Err (HostFailed end)) r m k = absurd m

@@ -3,6 +3,7 @@ pub mod HostStepLemmas
 pub mod ApplyLemmas
 pub mod ServedLemmas
 pub mod FitsLemmas
+pub mod StillLemmas
 pub mod ForsakeLemmas
 pub mod StoreLemmas
 pub mod OperationLemmas

@@ -74,7 +74,7 @@ unused n =
     (λ l. get_or_past (replicate host_limit no_producer) n no_producer (omega (arith, l, length-replicate host_limit no_producer)))
     (cases_lt n host_limit)
 
-none_serves : (n s : ℕ) → (get_or (replicate host_limit no_producer) n no_producer).duty ≢ Serves s
+pub none_serves : (n s : ℕ) → (get_or (replicate host_limit no_producer) n no_producer).duty ≢ Serves s
 none_serves n s e = let same : Unused ≡ Serves s = sym (ap (λ (p : Producer). p.duty) (unused n)) ∙ e in cc
 
 no_streams : (s : ℕ) → get_or [] s no_stream ≡ no_stream

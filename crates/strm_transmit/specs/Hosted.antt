@@ -31,6 +31,10 @@ answered (Err OutOfMemory) = Err None
 abbrev pub FitsAt : State → Tells → ℕ → Type 0
 FitsAt state tells n = (s : ℕ) → (producer_at state n).duty ≡ Serves s → FitsWriter (stream_at state s) tells n
 
+-- whatever host ends fitted a store still fit it
+abbrev pub StillFits : State → State → Type 0
+StillFits old new = (tells : Tells) → Fits old tells → Fits new tells
+
 -- the world after stream s lost its read end: a host writer on the other side goes too
 abbrev pub forsaken_in : World → ℕ → World
 forsaken_in world s =

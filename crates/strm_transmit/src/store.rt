@@ -75,11 +75,16 @@ impl Model for Store {
 }
 
 impl Store {
+    ghost use Rattle.strm_buffers.specs.Tells.{Tells};
+    ghost use Rattle.strm_machine.specs.Soundness.{IsSound};
+    ghost use Rattle.strm_world.specs.Does.{Fits};
+    ghost use Rattle.strm_transmit.specs.Inside.{AreServed};
     ghost use Rattle.strm_transmit.specs.Meets.{admitted};
 
     /// A store without guests. The tag is its name; it takes no memory.
     pub fn new(alloc: Global, tag: u64, limits: Limits) -> Store
-        ensures { result ≡ empty tag limits }
+        ensures exact { result ≡ empty tag limits }
+        ensures fits { (tells : Tells) → Fits result tells }
     {
         Store {
             tag,
@@ -169,10 +174,13 @@ impl Store {
         &self.streams[stream as usize]
     }
 
-    // What was looked for, unless the store is trapped or a refusal was found.
+    // What was looked for, unless the store is trapped or a refusal was found, and what holds of every
+    // store.
     #[inline(always)]
     fn admit<T: Copy>(&self, found: Result<T, Refusal>) -> Result<T, StoreError>
         ensures exact { result ≡ admitted self.now found }
+        ensures sound { IsSound self.now }
+        ensures served { AreServed self.now.producers self.now.streams }
         ensures takes_no_memory { result ≢ Err StoreError.OutOfMemory }
     {
         if self.is_trapped {

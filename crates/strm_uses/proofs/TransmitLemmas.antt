@@ -1,5 +1,5 @@
 -- What the calls of a caller of the store come to, by what the machine does with their steps.
-use Rattle.std.proofs.Common.{◌≡◌, ℕ, ◌+◌, ◌*◌, ◌%◌, ◌<◌, ◌≢◌, List, [], ◌∷◌, take, length, Option, Some, None, refl, sym, ap, ◌∙◌, arith}
+use Rattle.std.proofs.Common.{◌≡◌, ℕ, ◌+◌, ◌*◌, ◌%◌, ◌<◌, ◌≢◌, false, List, [], ◌∷◌, take, length, Option, Some, None, refl, sym, ap, ◌∙◌, arith}
 use Rattle.strm_codes.specs.declared.codes.ReturnCode.{ReturnCode}
 use Rattle.strm_codes.specs.declared.codes.ReturnCode.TheVariants.{Blocked, Completed}
 use Rattle.strm_codes.specs.declared.codes.TransmitIndex.{TransmitIndex}
@@ -8,16 +8,20 @@ use Rattle.strm_codes.specs.declared.payloads.Payload.TheVariants.{One}
 use Rattle.strm_codes.specs.declared.scalars.Scalar.TheVariants.{U8}
 use Rattle.strm_memory.specs.Bytes.{IsBytes}
 use Rattle.strm_memory.specs.Items.{decode_from, encode_from, items, stored}
+use Rattle.strm_machine.specs.Acts.{act_of}
 use Rattle.strm_machine.specs.State.{State, empty, memory_in, stream_at}
 use Rattle.strm_machine.specs.Turns.{turn}
 use Rattle.strm_machine.specs.Endings.{delivered}
 use Rattle.strm_machine.specs.Refusals.{refusal}
 use Rattle.strm_machine.specs.Making.{with_stream}
 use Rattle.strm_machine.specs.Reactions.{Reaction, goes, performs, reaction, react}
+use Rattle.strm_machine.specs.declared.steps.Step.{Step}
 use Rattle.strm_machine.specs.declared.steps.Step.TheVariants as steps
 use Rattle.strm_machine.specs.declared.replies.Pair.{Pair}
 use Rattle.strm_machine.specs.declared.replies.Reply.{Reply}
 use Rattle.strm_machine.specs.declared.replies.Reply.TheVariants as replies
+use Rattle.strm_world.specs.Steps.{touches}
+use Rattle.strm_transmit.specs.Hosted.{lone}
 
 abbrev bytes_type : TransmitIndex
 bytes_type = index.Stream (One U8)
@@ -79,6 +83,15 @@ joined_is : pair_in joined.reply ≡ record { read = 1; write = 1; stream = 0 }
 unfolding reaction refusal performs with_stream
 joined_is = refl
 
+-- neither end of the stream is a host end
+written_alone : (x y z : ℕ) → touches (lone (poked (x ∷ y ∷ z ∷ [])).state) (act_of (steps.Write 0 bytes_type 1 0 3)) ≡ false
+unfolding reaction refusal performs with_stream
+written_alone x y z = refl
+
+read_alone : (x y z : ℕ) → touches (lone (written (x ∷ y ∷ z ∷ [])).state) (act_of (steps.Read 1 bytes_type 1 0 3)) ≡ false
+unfolding reaction refusal performs with_stream turn decode_from encode_from items stored
+read_alone x y z = refl
+
 read_is : (x y z : ℕ) → code_in (read (x ∷ y ∷ z ∷ [])).reply ≡ Completed 3
 unfolding reaction refusal performs with_stream turn decode_from encode_from items stored
 read_is x y z = refl
@@ -104,14 +117,18 @@ memory_is x y z a b c =
     let raw : take 3 (memory_in (told (x ∷ y ∷ z ∷ [])).state.guests 1) ≡ in_byte x ∷ in_byte y ∷ in_byte z ∷ [] = refl in
     raw ∙ ap (λ n. n ∷ in_byte y ∷ in_byte z ∷ []) (byte_is x a) ∙ ap (λ n. x ∷ n ∷ in_byte z ∷ []) (byte_is y b) ∙ ap (λ n. x ∷ y ∷ n ∷ []) (byte_is z c)
 
+-- what is known of a step where it touches no host end
+abbrev pub IfAlone : State → Step → Type 0 → Type 0
+IfAlone state step known = touches (lone state) (act_of step) ≡ false → known
+
 -- the answers of the calls, and the states between them
 pub record Calls (bytes : List ℕ) (writer reader : ℕ) (pair : Pair) (s1 s2 s3 s4 s5 s6 s7 : State) (wrote took : ReturnCode) (event : Option ReturnCode) : Type 0 where
   pub one : react (empty 0 (record { handles = 2; places = 3 })) (steps.Guest 16) ≡ goes (replies.Number writer) s1
   pub two : react s1 (steps.Guest 16) ≡ goes (replies.Number reader) s2
   pub joined : react s2 (steps.Between writer reader (index.Stream (One U8))) ≡ goes (replies.Pair pair) s3
   pub poked : react s3 (steps.Poke writer 0 bytes) ≡ goes replies.Done s4
-  pub written : react s4 (steps.Write writer (index.Stream (One U8)) pair.write 0 3) ≡ goes (replies.Code wrote) s5
-  pub read : react s5 (steps.Read reader (index.Stream (One U8)) pair.read 0 3) ≡ goes (replies.Code took) s6
+  pub written : IfAlone s4 (steps.Write writer (index.Stream (One U8)) pair.write 0 3) (react s4 (steps.Write writer (index.Stream (One U8)) pair.write 0 3) ≡ goes (replies.Code wrote) s5)
+  pub read : IfAlone s5 (steps.Read reader (index.Stream (One U8)) pair.read 0 3) (react s5 (steps.Read reader (index.Stream (One U8)) pair.read 0 3) ≡ goes (replies.Code took) s6)
   pub told : react s6 (steps.Event writer pair.write) ≡ goes (replies.Event event) s7
 
 -- what is known after them
@@ -134,9 +151,9 @@ known_of x y z writer reader pair s1 s2 s3 s4 s5 s6 s7 wrote took event a b c k 
     let e3 : s3 ≡ joined.state = sym (ap (λ r. r.state) f3) in
     let f4 : react joined.state (steps.Poke 0 0 bytes) ≡ goes replies.Done s4 = rw (e3, w) at k.poked in
     let e4 : s4 ≡ (poked bytes).state = sym (ap (λ r. r.state) f4) in
-    let f5 : react (poked bytes).state (steps.Write 0 bytes_type 1 0 3) ≡ goes (replies.Code wrote) s5 = rw (e4, w, p) at k.written in
+    let f5 : react (poked bytes).state (steps.Write 0 bytes_type 1 0 3) ≡ goes (replies.Code wrote) s5 = (rw (e4, w, p) at k.written) (written_alone x y z) in
     let e5 : s5 ≡ (written bytes).state = sym (ap (λ r. r.state) f5) in
-    let f6 : react (written bytes).state (steps.Read 1 bytes_type 1 0 3) ≡ goes (replies.Code took) s6 = rw (e5, r, p) at k.read in
+    let f6 : react (written bytes).state (steps.Read 1 bytes_type 1 0 3) ≡ goes (replies.Code took) s6 = (rw (e5, r, p) at k.read) (read_alone x y z) in
     let e6 : s6 ≡ (read bytes).state = sym (ap (λ r. r.state) f6) in
     let f7 : react (read bytes).state (steps.Event 0 1) ≡ goes (replies.Event event) s7 = rw (e6, w, p) at k.told in
     let e7 : s7 ≡ (told bytes).state = sym (ap (λ r. r.state) f7) in

@@ -20,6 +20,7 @@ ghost use Rattle.strm_machine.specs.declared.steps.Step.TheVariants as steps;
 ghost use Rattle.strm_machine.proofs.ContextStepLemmas.{ShareFits};
 ghost use Rattle.strm_machine.proofs.NameLemmas.{IsEndError};
 ghost use Rattle.strm_transmit.specs.Meets.{Meets, replied, admitted, or_found};
+ghost use Rattle.strm_transmit.specs.Hosted.{StillFits};
 
 use crate::errors::StoreError;
 use crate::store::Store;
@@ -168,6 +169,7 @@ impl Store {
     ) -> Result<u32, StoreError>
         ensures meets { Meets self.old self.new (replied replies.Number result)
             (react self.old (steps.ErrNew guest address len)) }
+        ensures fits { StillFits self.old self.new }
     {
         match self.admit(self.context_fits(guest, address, len)) {
             Ok(()) => self.make_context(guest, address, len),
@@ -226,6 +228,7 @@ impl Store {
     ) -> Result<u32, StoreError>
         ensures meets { Meets self.old self.new (replied replies.Number result)
             (react self.old (steps.ErrText guest handle address)) }
+        ensures fits { StillFits self.old self.new }
         ensures takes_no_memory { result ≢ Err StoreError.OutOfMemory }
     {
         match self.admit(self.text_found(guest, handle, address)) {
@@ -286,6 +289,7 @@ impl Store {
     ) -> Result<u32, StoreError>
         ensures meets { Meets self.old self.new (replied replies.Number result)
             (react self.old (steps.ErrMove guest handle to)) }
+        ensures fits { StillFits self.old self.new }
     {
         self.sound();
         match self.admit(self.transfer_found(guest, handle, to)) {
@@ -318,6 +322,7 @@ impl Store {
     pub fn error_context_drop(&mut self, guest: u32, handle: u32) -> Result<(), StoreError>
         ensures meets { Meets self.old self.new (replied (λ _. replies.Done) result)
             (react self.old (steps.ErrDrop guest handle)) }
+        ensures fits { StillFits self.old self.new }
         ensures takes_no_memory { result ≢ Err StoreError.OutOfMemory }
     {
         match self.admit(self.context_drop_found(guest, handle)) {
@@ -362,6 +367,7 @@ impl Store {
     pub fn error_context_lower(&mut self, rep: u32, guest: u32) -> Result<u32, StoreError>
         ensures meets { Meets self.old self.new (replied replies.Number result)
             (lowers_context self.old rep guest) }
+        ensures fits { StillFits self.old self.new }
     {
         match self.admit(self.lower_context_fits(rep, guest)) {
             Ok(()) => self.share(rep, guest),

@@ -19,7 +19,7 @@ ghost use Rattle.strm_machine.specs.declared.steps.Step.TheVariants as steps;
 ghost use Rattle.strm_machine.proofs.NameLemmas.{IsEndError};
 ghost use Rattle.strm_world.specs.Does.{Fits};
 ghost use Rattle.strm_transmit.specs.Meets.{Meets, replied, or_found};
-ghost use Rattle.strm_transmit.specs.Hosted.{MeetsHosted};
+ghost use Rattle.strm_transmit.specs.Hosted.{StillFits, MeetsHosted};
 
 use crate::errors::StoreError;
 use crate::store::Store;
@@ -94,6 +94,7 @@ impl Store {
     pub fn take_event(&mut self, guest: u32, handle: u32) -> Result<Option<ReturnCode>, StoreError>
         ensures meets { Meets self.old self.new (replied replies.Event result)
             (react self.old (steps.Event guest handle)) }
+        ensures fits { StillFits self.old self.new }
         ensures takes_no_memory { result ≢ Err StoreError.OutOfMemory }
     {
         match self.admit(self.event_found(guest, handle)) {
@@ -248,6 +249,7 @@ impl Store {
     ) -> Result<ReturnCode, StoreError>
         ensures meets { Meets self.old self.new (replied replies.Code result)
             (reaction self.old (OnEnd side end.now Cancel)) }
+        ensures fits { StillFits self.old self.new }
         ensures takes_no_memory { result ≢ Err StoreError.OutOfMemory }
     {
         match self.admit(self.cancel_found(side, end)) {
@@ -265,6 +267,7 @@ impl Store {
     ) -> Result<ReturnCode, StoreError>
         ensures meets { Meets self.old self.new (replied replies.Code result)
             (react self.old (steps.CancelRead guest (index.Stream payload) handle)) }
+        ensures fits { StillFits self.old self.new }
         ensures takes_no_memory { result ≢ Err StoreError.OutOfMemory }
     {
         let ty = TransmitIndex::Stream(payload);
@@ -281,6 +284,7 @@ impl Store {
     ) -> Result<ReturnCode, StoreError>
         ensures meets { Meets self.old self.new (replied replies.Code result)
             (react self.old (steps.CancelWrite guest (index.Stream payload) handle)) }
+        ensures fits { StillFits self.old self.new }
         ensures takes_no_memory { result ≢ Err StoreError.OutOfMemory }
     {
         let ty = TransmitIndex::Stream(payload);
@@ -297,6 +301,7 @@ impl Store {
     ) -> Result<ReturnCode, StoreError>
         ensures meets { Meets self.old self.new (replied replies.Code result)
             (react self.old (steps.CancelRead guest (index.Future payload) handle)) }
+        ensures fits { StillFits self.old self.new }
         ensures takes_no_memory { result ≢ Err StoreError.OutOfMemory }
     {
         let ty = TransmitIndex::Future(payload);
@@ -313,6 +318,7 @@ impl Store {
     ) -> Result<ReturnCode, StoreError>
         ensures meets { Meets self.old self.new (replied replies.Code result)
             (react self.old (steps.CancelWrite guest (index.Future payload) handle)) }
+        ensures fits { StillFits self.old self.new }
         ensures takes_no_memory { result ≢ Err StoreError.OutOfMemory }
     {
         let ty = TransmitIndex::Future(payload);

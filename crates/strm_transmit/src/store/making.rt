@@ -20,6 +20,7 @@ ghost use Rattle.strm_machine.specs.declared.replies.Reply.TheVariants as replie
 ghost use Rattle.strm_machine.specs.declared.steps.Step.TheVariants as steps;
 ghost use Rattle.strm_machine.specs.declared.streams.Owner.TheVariants.{Held};
 ghost use Rattle.strm_transmit.specs.Meets.{Meets, replied, or_found};
+ghost use Rattle.strm_transmit.specs.Hosted.{StillFits};
 
 use crate::errors::StoreError;
 use crate::store::Store;
@@ -208,6 +209,7 @@ impl Store {
     ) -> Result<Pair, StoreError>
         ensures meets { Meets self.old self.new (replied replies.Pair result)
             (react self.old (steps.Between writer reader ty)) }
+        ensures fits { StillFits self.old self.new }
     {
         match self.admit(self.pair_fits(writer, reader)) {
             Ok(()) => self.make(writer, reader, ty),
@@ -220,6 +222,7 @@ impl Store {
     pub fn stream_new(&mut self, guest: u32, payload: Payload) -> Result<Pair, StoreError>
         ensures meets { Meets self.old self.new (replied replies.Pair result)
             (react self.old (steps.New guest (index.Stream payload))) }
+        ensures fits { StillFits self.old self.new }
     {
         self.new_between(guest, guest, TransmitIndex::Stream(payload))
     }
@@ -229,6 +232,7 @@ impl Store {
     pub fn future_new(&mut self, guest: u32, payload: Payload) -> Result<Pair, StoreError>
         ensures meets { Meets self.old self.new (replied replies.Pair result)
             (react self.old (steps.New guest (index.Future payload))) }
+        ensures fits { StillFits self.old self.new }
     {
         self.new_between(guest, guest, TransmitIndex::Future(payload))
     }

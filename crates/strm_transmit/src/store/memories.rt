@@ -11,6 +11,7 @@ ghost use Rattle.strm_machine.specs.declared.acts.MemoryAct.TheVariants.{Poke, D
 ghost use Rattle.strm_machine.specs.declared.replies.Reply.TheVariants as replies;
 ghost use Rattle.strm_machine.specs.declared.steps.Step.TheVariants as steps;
 ghost use Rattle.strm_transmit.specs.Meets.{Meets, replied, or_found};
+ghost use Rattle.strm_transmit.specs.Hosted.{StillFits};
 
 use crate::errors::StoreError;
 use crate::store::Store;
@@ -71,6 +72,7 @@ impl Store {
     pub fn add_guest(&mut self, size: u32) -> Result<u32, StoreError>
         ensures meets { Meets self.old self.new (replied replies.Number result)
             (react self.old (steps.Guest size)) }
+        ensures fits { StillFits self.old self.new }
     {
         match self.admit(self.guest_fits(size)) {
             Ok(()) => self.push_guest(size),
@@ -113,6 +115,7 @@ impl Store {
     pub fn poke(&mut self, guest: u32, address: u32, bytes: &Chunk) -> Result<(), StoreError>
         ensures meets { Meets self.old self.new (replied (λ _. replies.Done) result)
             (react self.old (steps.Poke guest address bytes.now)) }
+        ensures fits { StillFits self.old self.new }
         ensures takes_no_memory { result ≢ Err StoreError.OutOfMemory }
     {
         match self.admit(self.poke_fits(guest, address, bytes)) {

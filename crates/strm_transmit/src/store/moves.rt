@@ -21,7 +21,7 @@ ghost use Rattle.strm_machine.specs.declared.steps.Step.TheVariants as steps;
 ghost use Rattle.strm_machine.proofs.RefusalLemmas.{LeaveFits};
 ghost use Rattle.strm_world.specs.Does.{Fits};
 ghost use Rattle.strm_transmit.specs.Meets.{Meets, replied, or_found};
-ghost use Rattle.strm_transmit.specs.Hosted.{MeetsHosted};
+ghost use Rattle.strm_transmit.specs.Hosted.{StillFits, MeetsHosted};
 
 use crate::errors::StoreError;
 use crate::store::Store;
@@ -164,6 +164,7 @@ impl Store {
     ) -> Result<u32, StoreError>
         ensures meets { Meets self.old self.new (replied replies.Number result)
             (reaction self.old (OnEnd side end.now (Move to))) }
+        ensures fits { StillFits self.old self.new }
     {
         match self.admit(self.move_found(side, end, to)) {
             Ok(stream) => self.move_named(side, end, to, stream),
@@ -184,6 +185,7 @@ impl Store {
     ) -> Result<u32, StoreError>
         ensures meets { Meets self.old self.new (replied replies.Number result)
             (react self.old (steps.Move guest (index.Stream payload) handle to)) }
+        ensures fits { StillFits self.old self.new }
     {
         let ty = TransmitIndex::Stream(payload);
         let end = NamedEnd { guest, ty, handle };
@@ -201,6 +203,7 @@ impl Store {
     ) -> Result<u32, StoreError>
         ensures meets { Meets self.old self.new (replied replies.Number result)
             (react self.old (steps.Move guest (index.Future payload) handle to)) }
+        ensures fits { StillFits self.old self.new }
     {
         let ty = TransmitIndex::Future(payload);
         let end = NamedEnd { guest, ty, handle };
@@ -230,6 +233,7 @@ impl Store {
     pub(crate) fn lift_side(&mut self, side: Side, end: &NamedEnd) -> Result<u32, StoreError>
         ensures meets { Meets self.old self.new (replied replies.Number result)
             (reaction self.old (OnEnd side end.now Lift)) }
+        ensures fits { StillFits self.old self.new }
         ensures takes_no_memory { result ≢ Err StoreError.OutOfMemory }
     {
         match self.admit(self.lift_found(side, end)) {
@@ -246,6 +250,7 @@ impl Store {
     pub fn lift(&mut self, guest: u32, ty: TransmitIndex, handle: u32) -> Result<u32, StoreError>
         ensures meets { Meets self.old self.new (replied replies.Number result)
             (react self.old (steps.Lift guest ty handle)) }
+        ensures fits { StillFits self.old self.new }
         ensures takes_no_memory { result ≢ Err StoreError.OutOfMemory }
     {
         let end = NamedEnd { guest, ty, handle };
@@ -310,6 +315,7 @@ impl Store {
     pub fn lower(&mut self, reader: u32, guest: u32, ty: TransmitIndex) -> Result<u32, StoreError>
         ensures meets { Meets self.old self.new (replied replies.Number result)
             (react self.old (steps.Lower reader guest ty)) }
+        ensures fits { StillFits self.old self.new }
     {
         match self.admit(self.lower_fits(reader, guest, &ty)) {
             Ok(()) => self.lower_loose(reader, guest, ty),

@@ -18,6 +18,7 @@ ghost use Rattle.strm_machine.specs.declared.replies.Reply.TheVariants as replie
 ghost use Rattle.strm_machine.specs.declared.steps.Step.TheVariants as steps;
 ghost use Rattle.strm_machine.proofs.NameLemmas.{IsEndError};
 ghost use Rattle.strm_transmit.specs.Meets.{Meets, replied, or_found};
+ghost use Rattle.strm_transmit.specs.Hosted.{StillFits};
 
 use crate::errors::StoreError;
 use crate::store::Store;
@@ -108,6 +109,7 @@ impl Store {
     pub fn set_new(&mut self, guest: u32) -> Result<u32, StoreError>
         ensures meets { Meets self.old self.new (replied replies.Number result)
             (react self.old (steps.SetNew guest)) }
+        ensures fits { StillFits self.old self.new }
     {
         match self.admit(self.set_fits(guest)) {
             Ok(()) => self.make_set(guest),
@@ -175,6 +177,7 @@ impl Store {
     pub fn set_join(&mut self, guest: u32, set: u32, handle: u32) -> Result<(), StoreError>
         ensures meets { Meets self.old self.new (replied (λ _. replies.Done) result)
             (react self.old (steps.SetJoin guest set handle)) }
+        ensures fits { StillFits self.old self.new }
     {
         match self.admit(self.join_found(guest, set, handle)) {
             Ok(number) => self.join_number(guest, set, handle, number),
@@ -253,6 +256,7 @@ impl Store {
     pub fn set_poll(&mut self, guest: u32, set: u32) -> Result<Option<Member>, StoreError>
         ensures meets { Meets self.old self.new (replied replies.Member result)
             (react self.old (steps.SetPoll guest set)) }
+        ensures fits { StillFits self.old self.new }
         ensures takes_no_memory { result ≢ Err StoreError.OutOfMemory }
     {
         match self.admit(self.poll_found(guest, set)) {
@@ -307,6 +311,7 @@ impl Store {
     pub fn set_drop(&mut self, guest: u32, set: u32) -> Result<(), StoreError>
         ensures meets { Meets self.old self.new (replied (λ _. replies.Done) result)
             (react self.old (steps.SetDrop guest set)) }
+        ensures fits { StillFits self.old self.new }
         ensures takes_no_memory { result ≢ Err StoreError.OutOfMemory }
     {
         match self.admit(self.set_drop_found(guest, set)) {

@@ -8,14 +8,21 @@ all_known c =
     c.add_guest.new.self c.add_guest-2.new.self c.new_between.new.self c.poke.new.self c.stream_write.new.self c.stream_read.new.self c.take_event.new.self
     c.in_ok-stream_write.field-0 c.in_ok-read.read c.in_ok-told.told c.requires c.sound.ensures
     (record {
-      one = rw c.new-store.ensures at c.in_ok-writer.ensures.meets;
+      one = rw c.new-store.ensures.exact at c.in_ok-writer.ensures.meets;
       two = c.in_ok-reader.ensures.meets;
       joined = c.in_ok-pair.ensures.meets;
       poked = c.in_ok-poke.ensures.meets;
-      written = c.in_ok-stream_write.ensures.meets;
-      read = c.in_ok-read.ensures.meets;
+      written = λ u. (c.in_ok-stream_write.ensures.meets.alone u).meets;
+      read = λ u. (c.in_ok-read.ensures.meets.alone u).meets;
       told = c.in_ok-told.ensures.meets;
     })
+
+pub stream_write-requires : goal.stream_write-requires
+stream_write-requires c =
+    c.in_ok-poke.ensures.fits _ (c.in_ok-pair.ensures.fits _ (c.in_ok-reader.ensures.fits _ (c.in_ok-writer.ensures.fits _ (c.new-store.ensures.fits _))))
+
+pub stream_read-requires : goal.stream_read-requires
+stream_read-requires c = c.in_ok-stream_write.ensures.meets.fits
 
 pub returns-clause-memory : goal.returns-clause-memory
 returns-clause-memory c = (all_known c).memory

@@ -3,6 +3,7 @@ use Rattle.strm_machine.specs.Reactions.{cancels}
 use Rattle.strm_machine.specs.declared.acts.EndAct.TheVariants.{Cancel}
 use Rattle.strm_machine.proofs.ReactionLemmas.{performs-on_end}
 use Rattle.strm_transmit.proofs.StepLemmas.{is_admitted, reacts, meets_not_admitted}
+use Rattle.strm_transmit.proofs.StillLemmas.{done_fits}
 use Rattle.strm_transmit.proofs.store.Store.cancel_side.Goals as goal
 
 pub returns-in-Ok-clause-meets : goal.returns-in-Ok-clause-meets
@@ -14,3 +15,6 @@ returns-in-Ok-clause-meets c =
 
 pub returns-in-Err-clause-meets : goal.returns-in-Err-clause-meets
 returns-in-Err-clause-meets c = meets_not_admitted _ _ _ _ _ c.cancel_found.ensures.exact c.in-Err.ensures.exact
+
+pub returns-in-Ok-clause-fits : goal.returns-in-Ok-clause-fits
+returns-in-Ok-clause-fits c = done_fits _ _ _ _ c.in-Ok.ensures.sound c.in-Ok.ensures.served (returns-in-Ok-clause-meets c)

@@ -4,6 +4,7 @@ use Rattle.strm_machine.specs.declared.replies.Reply.TheVariants as replies
 use Rattle.strm_machine.proofs.ContextStepLemmas.{transfer_fits}
 use Rattle.strm_transmit.specs.Meets.{replied}
 use Rattle.strm_transmit.proofs.StepLemmas.{is_admitted, reacts, meets_admitted, meets_not_admitted}
+use Rattle.strm_transmit.proofs.StillLemmas.{still_fits}
 use Rattle.strm_transmit.proofs.store.Store.error_context_transfer.Goals as goal
 
 pub share-requires : goal.share-requires
@@ -11,16 +12,18 @@ share-requires c =
     let admitted = is_admitted _ _ _ _ _ c.transfer_found.ensures c.in-Ok.ensures.exact in
     rw admitted.same (transfer_fits c.args.self.now c.args.guest c.args.handle c.args.to c.sound.ensures admitted.none).share
 
-pub returns-in-Ok : goal.returns-in-Ok
+pub returns-in-Ok-clause-meets : goal.returns-in-Ok-clause-meets
 unfolding performs
-returns-in-Ok c = record {
-  meets = meets_admitted c.args.self.now c.share.new.self _ (replied replies.Number c.share.result) _
-      (reacts _ _ _ _ _ (λ number. shares c.args.self.now number c.args.to)
-      (is_admitted _ _ _ _ _ c.transfer_found.ensures c.in-Ok.ensures.exact) refl)
-      c.share.ensures;
-}
+returns-in-Ok-clause-meets c =
+    meets_admitted c.args.self.now c.share.new.self _ (replied replies.Number c.share.result) _
+    (reacts _ _ _ _ _ (λ number. shares c.args.self.now number c.args.to)
+    (is_admitted _ _ _ _ _ c.transfer_found.ensures c.in-Ok.ensures.exact) refl)
+    c.share.ensures
 
-pub returns-in-Err : goal.returns-in-Err
-returns-in-Err c = record {
-  meets = meets_not_admitted _ _ _ _ _ c.transfer_found.ensures c.in-Err.ensures.exact;
-}
+pub returns-in-Err-clause-meets : goal.returns-in-Err-clause-meets
+returns-in-Err-clause-meets c =
+    meets_not_admitted _ _ _ _ _ c.transfer_found.ensures c.in-Err.ensures.exact
+
+pub returns-in-Ok-clause-fits : goal.returns-in-Ok-clause-fits
+returns-in-Ok-clause-fits c =
+    still_fits _ _ _ (replied replies.Number c.share.result) c.in-Ok.ensures.sound c.in-Ok.ensures.served (returns-in-Ok-clause-meets c)

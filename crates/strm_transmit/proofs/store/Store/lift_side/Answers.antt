@@ -5,6 +5,7 @@ use Rattle.strm_machine.specs.declared.replies.Reply.TheVariants as replies
 use Rattle.strm_machine.proofs.ReactionLemmas.{refusal-on_end, performs-on_end}
 use Rattle.strm_machine.proofs.RefusalLemmas.{lift_fits}
 use Rattle.strm_transmit.proofs.StepLemmas.{is_admitted, reacts, meets_not_admitted}
+use Rattle.strm_transmit.proofs.StillLemmas.{done_fits}
 use Rattle.strm_transmit.proofs.store.Store.lift_side.Goals as goal
 
 pub release-requires-clause-fits : goal.release-requires-clause-fits
@@ -24,3 +25,6 @@ returns-in-Ok-clause-meets c =
 
 pub returns-in-Err-clause-meets : goal.returns-in-Err-clause-meets
 returns-in-Err-clause-meets c = meets_not_admitted _ _ _ _ _ c.lift_found.ensures c.in-Err.ensures.exact
+
+pub returns-in-Ok-clause-fits : goal.returns-in-Ok-clause-fits
+returns-in-Ok-clause-fits c = done_fits _ _ _ _ c.in-Ok.ensures.sound c.in-Ok.ensures.served (returns-in-Ok-clause-meets c)

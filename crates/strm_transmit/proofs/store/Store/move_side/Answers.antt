@@ -4,6 +4,7 @@ use Rattle.strm_machine.specs.declared.replies.Reply.TheVariants as replies
 use Rattle.strm_machine.proofs.ReactionLemmas.{performs-on_end}
 use Rattle.strm_transmit.specs.Meets.{replied}
 use Rattle.strm_transmit.proofs.StepLemmas.{is_admitted, reacts, meets_admitted, meets_not_admitted}
+use Rattle.strm_transmit.proofs.StillLemmas.{still_fits}
 use Rattle.strm_transmit.proofs.store.Store.move_side.Goals as goal
 
 pub move_named-requires-clause-may : goal.move_named-requires-clause-may
@@ -15,16 +16,18 @@ move_named-requires-clause-stream c = (is_admitted _ _ _ _ _ c.move_found.ensure
 pub move_named-requires-clause-untrapped : goal.move_named-requires-clause-untrapped
 move_named-requires-clause-untrapped c = (is_admitted _ _ _ _ _ c.move_found.ensures c.in-Ok.ensures.exact).untrapped
 
-pub returns-in-Ok : goal.returns-in-Ok
-returns-in-Ok c = record {
-  meets = meets_admitted c.args.self.now c.move_named.new.self _ (replied replies.Number c.move_named.result) _
-      (reacts _ _ _ _ _ (λ s. transfers c.args.self.now s c.args.side c.args.end.now c.args.to)
-      (is_admitted _ _ _ _ _ c.move_found.ensures c.in-Ok.ensures.exact)
-      (performs-on_end c.args.self.now c.args.side c.args.end.now (Move c.args.to)))
-      c.move_named.ensures;
-}
+pub returns-in-Ok-clause-meets : goal.returns-in-Ok-clause-meets
+returns-in-Ok-clause-meets c =
+    meets_admitted c.args.self.now c.move_named.new.self _ (replied replies.Number c.move_named.result) _
+    (reacts _ _ _ _ _ (λ s. transfers c.args.self.now s c.args.side c.args.end.now c.args.to)
+    (is_admitted _ _ _ _ _ c.move_found.ensures c.in-Ok.ensures.exact)
+    (performs-on_end c.args.self.now c.args.side c.args.end.now (Move c.args.to)))
+    c.move_named.ensures
 
-pub returns-in-Err : goal.returns-in-Err
-returns-in-Err c = record {
-  meets = meets_not_admitted _ _ _ _ _ c.move_found.ensures c.in-Err.ensures.exact;
-}
+pub returns-in-Err-clause-meets : goal.returns-in-Err-clause-meets
+returns-in-Err-clause-meets c =
+    meets_not_admitted _ _ _ _ _ c.move_found.ensures c.in-Err.ensures.exact
+
+pub returns-in-Ok-clause-fits : goal.returns-in-Ok-clause-fits
+returns-in-Ok-clause-fits c =
+    still_fits _ _ _ (replied replies.Number c.move_named.result) c.in-Ok.ensures.sound c.in-Ok.ensures.served (returns-in-Ok-clause-meets c)

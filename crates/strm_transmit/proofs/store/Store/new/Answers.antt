@@ -3,7 +3,7 @@ use Rattle.std.proofs.lemmas.List.Elements.{All-nil}
 use Rattle.strm_machine.specs.Soundness.{AreNamed, StreamIsPlaced}
 use Rattle.strm_machine.proofs.WaitableSetLemmas.{HoldSets-none}
 use Rattle.strm_machine.proofs.ErrorContextLemmas.{HoldsContexts-none}
-use Rattle.strm_transmit.proofs.ServedLemmas.{AreServed-none}
+use Rattle.strm_transmit.proofs.ServedLemmas.{none_serves, AreServed-none}
 use Rattle.strm_transmit.proofs.store.Store.new.Goals as goal
 
 pub invariant_of-result : goal.invariant_of-result
@@ -19,3 +19,6 @@ invariant_of-result c = record {
   few_guests = rw c.new-2.ensures.items (omega arith);
   few_streams = rw c.new-3.ensures.items (omega arith);
 }
+
+pub returns-clause-fits : goal.returns-clause-fits
+returns-clause-fits c tells n s e = absurd (none_serves n s e)

@@ -3,6 +3,7 @@ use Rattle.strm_machine.specs.Reactions.{performs}
 use Rattle.strm_machine.specs.declared.acts.Act.TheVariants.{OnMemory}
 use Rattle.strm_machine.specs.declared.acts.MemoryAct.TheVariants.{Poke}
 use Rattle.strm_transmit.proofs.StepLemmas.{is_admitted, reacts, meets_not_admitted}
+use Rattle.strm_transmit.proofs.StillLemmas.{done_fits}
 use Rattle.strm_transmit.proofs.store.Store.poke.Goals as goal
 
 pub put_bytes-requires : goal.put_bytes-requires
@@ -16,3 +17,6 @@ returns-in-Ok-clause-meets c =
 
 pub returns-in-Err-clause-meets : goal.returns-in-Err-clause-meets
 returns-in-Err-clause-meets c = meets_not_admitted _ _ _ _ _ c.poke_fits.ensures c.in-Err.ensures.exact
+
+pub returns-in-Ok-clause-fits : goal.returns-in-Ok-clause-fits
+returns-in-Ok-clause-fits c = done_fits _ _ _ _ c.in-Ok.ensures.sound c.in-Ok.ensures.served (returns-in-Ok-clause-meets c)

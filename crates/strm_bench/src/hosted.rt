@@ -1,0 +1,135 @@
+//! Host writers on a store: feeds that a guest reads at once, and a long list that it reads in pieces.
+
+ghost use Rattle.std.specs.Prelude.{IfOk};
+ghost use Rattle.strm_buffers.specs.AllTells.{tells_of};
+ghost use Rattle.strm_buffers.specs.Tells.{Tells};
+ghost use Rattle.strm_world.specs.Does.{Fits};
+
+use std::alloc::{AllocError, Global};
+use strm_buffers::hosts::Hosts;
+use strm_codes::codes::TransmitIndex;
+use strm_codes::payloads::Payload;
+use strm_codes::scalars::Scalar;
+use strm_machine::chunks::Chunk;
+use strm_machine::limits::Limits;
+use strm_machine::steps::Step;
+use strm_transmit::errors::StoreError;
+use strm_transmit::steps::apply;
+use strm_transmit::store::Store;
+
+/// The bytes of a guest's memory that feeds are read into.
+pub const FED: u32 = 1_048_576;
+
+/// The bytes of a list.
+pub const LISTED: u32 = 67_108_864;
+
+/// The bytes of a feed, and of the read behind it.
+const FEED: u32 = 64;
+
+/// The bytes of a read from a list.
+const PIECE: u32 = 65_536;
+
+/// The bytes of a page.
+const PAGE: u32 = 4_096;
+
+const BYTES: Payload = Payload::One(Scalar::U8);
+
+const LIMITS: Limits = Limits {
+    handles: 1,
+    places: 3,
+};
+
+/// A list of so many bytes.
+pub fn list(alloc: Global, len: u32) -> Result<Vec<u8>, AllocError> {
+    vec![in alloc; 7u8; len as usize]
+}
+
+// The bytes of a feed.
+fn fed() -> Chunk {
+    Chunk::new(&[7; 64]).unwrap()
+}
+
+// A store with one guest, to each page of whose memory a byte was written.
+fn touched(alloc: Global, size: u32) -> Result<Store, StoreError>
+    ensures { IfOk result (λ store. (tells : Tells) → Fits store tells) }
+{
+    let mut store = Store::new(alloc, 0, LIMITS);
+    let guest = store.add_guest(size)?;
+    let bytes = fed();
+    let mut address = 0u32;
+    for _ in 0..size / PAGE {
+        store.poke(guest, address, &bytes)?;
+        address = address.wrapping_add(PAGE);
+    }
+    Ok(store)
+}
+
+/// A store with one guest, which reads the stream of the first host writer.
+#[derive(Drop)]
+pub struct Reading {
+    store: Store,
+    stream: u32,
+    handle: u32,
+}
+
+impl Reading {
+    /// The guest has so many bytes.
+    pub fn new(alloc: Global, hosts: &Hosts, size: u32) -> Result<Reading, StoreError>
+        ensures { IfOk result (λ reading. Fits reading.store (tells_of writer_tells reader_tells hosts.now)) }
+    {
+        let mut store = touched(alloc, size)?;
+        let stream = store.host_new(hosts, 0)?;
+        let handle = store.lower(stream, 0, TransmitIndex::Stream(BYTES))?;
+        Ok(Reading {
+            store,
+            stream,
+            handle,
+        })
+    }
+
+    /// Feeds the writer, and reads what it was fed, so many times.
+    #[inline(never)]
+    pub fn feed_and_read(&mut self, hosts: &mut Hosts, rounds: u32) -> Result<(), StoreError>
+        requires { Fits self.old.store (tells_of writer_tells reader_tells hosts.old) }
+    {
+        let step = Step::Feed {
+            host: 0,
+            bytes: fed(),
+        };
+        for round in 0..rounds {
+            apply(&mut self.store, hosts, &step)?;
+            let address = round % (FED / FEED) * FEED;
+            self.store
+                .stream_read(hosts, 0, BYTES, self.handle, address, FEED)?;
+        }
+        Ok(())
+    }
+
+    /// Reads a list, piece behind piece.
+    #[inline(never)]
+    pub fn read_list(&mut self, hosts: &mut Hosts) -> Result<(), StoreError>
+        requires { Fits self.old.store (tells_of writer_tells reader_tells hosts.old) }
+    {
+        for piece in 0..LISTED / PIECE {
+            self.store
+                .stream_read(hosts, 0, BYTES, self.handle, piece * PIECE, PIECE)?;
+        }
+        Ok(())
+    }
+
+    /// How many bytes were read.
+    pub fn received(&self) -> u128 {
+        self.store.moved(self.stream).unwrap_or(0)
+    }
+
+    /// The sum of the guest's memory.
+    pub fn sum(&self) -> u64 {
+        let mut sum = 0u64;
+        if let Some(bytes) = self.store.memory(0) {
+            for byte in bytes {
+                sum = sum.wrapping_add(u64::from(*byte));
+            }
+        }
+        sum
+    }
+}
