@@ -115,9 +115,10 @@ kind_is Future Future e = refl
 -- one that is there and of the stream's kind fits where its payload does
 pub writes_by : (stream : Stream) (tells : Tells) (n : ℕ) (kind : TransmitKind) (payload : Payload) (is : Bool) → n < length tells.writers → kind ≡ (told_by tells n).kind → payload ≡ (told_by tells n).payload → true ≡ same_kind kind stream.kind → is ≡ same_payload payload stream.payload → (IsTrue is ↔ FitsWriter stream tells n)
 writes_by stream tells n kind payload is l k p s e =
-    let decides = Decides-same_payload payload stream.payload in
-    (λ t. record { there = l; kind = sym k ∙ kind_is kind stream.kind (sym s); payload = sym p ∙ decides.0 (sym e ∙ t) },
-    λ fits. e ∙ decides.1 (p ∙ fits.payload))
+    let decides = Decides-same_payload payload stream.payload in (
+      λ t. record { there = l; kind = sym k ∙ kind_is kind stream.kind (sym s); payload = sym p ∙ decides.0 (sym e ∙ t) },
+      λ fits. e ∙ decides.1 (p ∙ fits.payload),
+    )
 
 abbrev pub FitBelow : State → Tells → ℕ → Type 0
 FitBelow state tells k = (n : ℕ) → n < k → FitsAt state tells n

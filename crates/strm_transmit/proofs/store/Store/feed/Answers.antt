@@ -12,9 +12,11 @@ feed-requires g c =
 pub returns-in-Ok-feed : goal.returns-in-Ok-feed
 returns-in-Ok-feed g c =
     let passed = is_passed c.args.self.now _ _ _ _ (c.feed_fits.ensures no_logs) c.in-Ok.ensures.exact in
-    record { meets = hosted_feed c.args.self.now _ _ c.args.host c.args.bytes.now passed.untrapped
-    (λ logs. (is_passed c.args.self.now _ _ _ _ (c.feed_fits.ensures logs) c.in-Ok.ensures.exact).none)
-    (feed_fits c.args.self.now _ c.args.host c.args.bytes.now no_logs passed.none) c.requires.fits (rw c.as_slice.ensures.exact at c.in-Ok-feed.ensures.ok) }
+    record {
+      meets = hosted_feed c.args.self.now _ _ c.args.host c.args.bytes.now passed.untrapped
+          (λ logs. (is_passed c.args.self.now _ _ _ _ (c.feed_fits.ensures logs) c.in-Ok.ensures.exact).none)
+          (feed_fits c.args.self.now _ c.args.host c.args.bytes.now no_logs passed.none) c.requires.fits (rw c.as_slice.ensures.exact at c.in-Ok-feed.ensures.ok);
+    }
 
 pub returns-in-Err-feed : goal.returns-in-Err-feed
 returns-in-Err-feed g c =
@@ -22,5 +24,7 @@ returns-in-Err-feed g c =
 
 pub returns-in-Err : goal.returns-in-Err
 returns-in-Err g c =
-    record { meets = hosted_not_admitted c.args.self.now _ (OnHost c.args.host (Feed c.args.bytes.now)) _ _ _ _ (λ logs. host_refusal-same c.args.self.now _ c.args.host (Feed c.args.bytes.now) logs no_logs) (c.feed_fits.ensures no_logs) c.in-Err.ensures.exact c.requires.fits
-    (λ u. let no : true ≡ false = u in cc) }
+    record {
+      meets = hosted_not_admitted c.args.self.now _ (OnHost c.args.host (Feed c.args.bytes.now)) _ _ _ _ (λ logs. host_refusal-same c.args.self.now _ c.args.host (Feed c.args.bytes.now) logs no_logs) (c.feed_fits.ensures no_logs) c.in-Err.ensures.exact c.requires.fits
+          (λ u. let no : true ≡ false = u in cc);
+    }

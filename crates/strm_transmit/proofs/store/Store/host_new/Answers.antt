@@ -28,12 +28,16 @@ host-requires-clause-few g c =
 pub returns-in-Ok : goal.returns-in-Ok
 returns-in-Ok g c =
     let passed = is_passed c.args.self.now _ _ _ _ (c.host_fits.ensures no_logs) c.in-Ok.ensures.exact in
-    record { meets = hosted_made c.args.self.now c.host.new.self _ c.args.writer c.host.result c.served.ensures.made c.served.ensures.all passed.untrapped
-    (λ logs. (is_passed c.args.self.now _ _ _ _ (c.host_fits.ensures logs) c.in-Ok.ensures.exact).none)
-    (host_fits c.args.self.now _ c.args.writer no_logs passed.none) c.requires.fits
-    c.host.ensures.number (rw (c.writer_kind.ensures, c.writer_payload.ensures) at c.host.ensures.ok) c.host.ensures.no_memory c.host.ensures.err }
+    record {
+      meets = hosted_made c.args.self.now c.host.new.self _ c.args.writer c.host.result c.served.ensures.made c.served.ensures.all passed.untrapped
+          (λ logs. (is_passed c.args.self.now _ _ _ _ (c.host_fits.ensures logs) c.in-Ok.ensures.exact).none)
+          (host_fits c.args.self.now _ c.args.writer no_logs passed.none) c.requires.fits
+          c.host.ensures.number (rw (c.writer_kind.ensures, c.writer_payload.ensures) at c.host.ensures.ok) c.host.ensures.no_memory c.host.ensures.err;
+    }
 
 pub returns-in-Err : goal.returns-in-Err
 returns-in-Err g c =
-    record { meets = hosted_not_admitted c.args.self.now _ (OnHost c.args.writer New) _ _ _ _ (λ logs. host_refusal-same c.args.self.now _ c.args.writer New logs no_logs) (c.host_fits.ensures no_logs) c.in-Err.ensures.exact c.requires.fits
-    (λ u. let no : true ≡ false = u in cc) }
+    record {
+      meets = hosted_not_admitted c.args.self.now _ (OnHost c.args.writer New) _ _ _ _ (λ logs. host_refusal-same c.args.self.now _ c.args.writer New logs no_logs) (c.host_fits.ensures no_logs) c.in-Err.ensures.exact c.requires.fits
+          (λ u. let no : true ≡ false = u in cc);
+    }
