@@ -1,5 +1,5 @@
 -- A step is the call that its act names, in which a refusal is a reply.
-use Rattle.std.proofs.Common.{◌≡◌, false, Result, Ok, Err, refl}
+use Rattle.std.proofs.Common.{◌≡◌, Result, Ok, Err, refl}
 use Rattle.std.specs.Prelude.{IfOk, IfErr, IsTrue}
 use Rattle.strm_buffers.specs.Tells.{Tells}
 use Rattle.strm_machine.specs.State.{State}

@@ -1,4 +1,3 @@
-use Rattle.std.proofs.Common.{rules}
 use Rattle.strm_transmit.proofs.ApplyLemmas.{refused-answered, refused-alone, refused-leaves, refused-settled}
 use Rattle.strm_transmit.proofs.steps.apply.Goals as goal
 

@@ -1,4 +1,3 @@
-use Rattle.std.proofs.Common.{rules}
 use Rattle.strm_machine.specs.declared.acts.LooseAct.TheVariants.{Close}
 use Rattle.strm_transmit.proofs.StepLemmas.{is_admitted, meets_not_admitted}
 use Rattle.strm_transmit.proofs.HostStepLemmas.{hosted_not_admitted}

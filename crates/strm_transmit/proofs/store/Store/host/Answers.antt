@@ -1,6 +1,5 @@
-use Rattle.std.proofs.Common.{◌≡◌, length, ◌∷◌, [], ◌++◌, ap, ◌∙◌, refl, arith}
+use Rattle.std.proofs.Common.{◌≡◌, length, ap, ◌∙◌, refl, arith}
 use Rattle.strm_machine.specs.declared.streams.Duty.TheVariants.{Serves}
-use Rattle.strm_machine.specs.declared.streams.End.{End}
 use Rattle.strm_machine.specs.declared.streams.Stream.{Stream}
 use Rattle.strm_transmit.proofs.HostingLemmas.{IsStore-hosted}
 use Rattle.strm_transmit.proofs.store.Store.host.Goals as goal

@@ -1,5 +1,4 @@
-use Rattle.std.proofs.Common.{rules, ap, sym, ◌∙◌}
-use Rattle.strm_transmit.specs.Meets.{or_found}
+use Rattle.std.proofs.Common.{rules}
 use Rattle.strm_transmit.proofs.HostingLemmas.{host_refusal-new}
 use Rattle.strm_transmit.proofs.store.Store.host_fits.Goals as goal
 
