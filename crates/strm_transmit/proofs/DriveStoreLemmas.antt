@@ -12,7 +12,7 @@ use Rattle.strm_machine.specs.declared.streams.Operation.{Operation}
 use Rattle.strm_machine.specs.declared.streams.Owner.{Owner}
 use Rattle.strm_machine.specs.declared.streams.Owner.TheVariants.{Held, Loose, Host, Gone}
 use Rattle.strm_world.specs.World.{World, stream_in}
-use Rattle.strm_world.specs.Outcomes.{Outcome, done}
+use Rattle.strm_world.specs.Outcomes.{done}
 use Rattle.strm_world.specs.Producing.{producer_turn}
 use Rattle.strm_world.specs.Driving.{drive_turn, driven, round_of}
 use Rattle.strm_world.specs.Steps.{performs_in, outcome}

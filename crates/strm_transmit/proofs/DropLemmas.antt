@@ -1,6 +1,6 @@
 -- A call that drops an end: what the machine does without host ends, and then the host writer on the
 -- other side goes.
-use Rattle.std.proofs.Common.{◌≡◌, ℕ, ◌<◌, Bool, true, false, cond, List, length, get_or, set, None, Result, Ok, Err, refl, sym, ap, subst, ◌∙◌}
+use Rattle.std.proofs.Common.{◌≡◌, ℕ, ◌<◌, Bool, true, false, cond, List, length, get_or, set, None, Result, Ok, refl, sym, ap, subst, ◌∙◌}
 use Rattle.std.proofs.lemmas.List.{length-set, get_or-set_same}
 use Rattle.strm_buffers.specs.Tells.{Tells}
 use Rattle.strm_machine.specs.State.{State, no_stream, stream_at, is_host}
@@ -27,9 +27,9 @@ use Rattle.strm_machine.specs.declared.streams.Stream.{Stream}
 use Rattle.strm_machine.proofs.ReactionLemmas.{performs-on_end}
 use Rattle.strm_world.specs.World.{World, with_stream_in}
 use Rattle.strm_world.specs.HostRefusals.{refusal_in}
-use Rattle.strm_world.specs.Outcomes.{Outcome, Goes, done, then_on, reacted}
+use Rattle.strm_world.specs.Outcomes.{Goes, done, then_on, reacted}
 use Rattle.strm_world.specs.Attaching.{forsaken, forsakes}
-use Rattle.strm_world.specs.Steps.{reacts, drops_in, performs_in, outcome, touches}
+use Rattle.strm_world.specs.Steps.{reacts, drops_in, performs_in, touches}
 use Rattle.strm_world.specs.Does.{Logs, world_of, Fits, Does}
 use Rattle.strm_world.proofs.DoesLemmas.{Does-untold, Does-then, Does-as}
 use Rattle.strm_world.proofs.ReactedLemmas.{world_of-state}

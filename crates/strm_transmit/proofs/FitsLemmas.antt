@@ -1,6 +1,6 @@
 -- The host ends that a store needs stay those that it needed where no host end is touched: a step keeps
 -- the types of the streams that were made, and what is kept of host writers.
-use Rattle.std.proofs.Common.{◌≡◌, ◌≢◌, ℕ, ◌<◌, List, [], ◌∷◌, ◌++◌, length, get_or, set, Option, Some, None, refl, sym, ap, subst, ◌∙◌}
+use Rattle.std.proofs.Common.{◌≡◌, ℕ, ◌<◌, List, [], ◌∷◌, ◌++◌, length, get_or, set, Option, Some, None, refl, sym, ap, ◌∙◌}
 use Rattle.std.proofs.lemmas.List.{length-set, get_or_append_left}
 use Rattle.strm_codes.specs.declared.codes.ReturnCode.{ReturnCode}
 use Rattle.strm_buffers.specs.Tells.{WriterTells, Tells, no_tells, told_by, with_told}
@@ -21,7 +21,7 @@ use Rattle.strm_machine.proofs.SideLemmas.{StreamKeeps}
 use Rattle.strm_machine.proofs.Shapes.{turn_on, Shape, ByTurn, BySetting, ByOwner, ByTable, ByPair, ByGuest, ByPut, ByRest}
 use Rattle.strm_machine.proofs.ShapeLemmas.{reaction-shape}
 use Rattle.strm_machine.proofs.SoundStepLemmas.{operate-keeps}
-use Rattle.strm_world.specs.Does.{FitsWriter, Fits}
+use Rattle.strm_world.specs.Does.{Fits}
 use Rattle.strm_transmit.proofs.ServedLemmas.{at_set}
 
 -- two streams have one type

@@ -1,18 +1,14 @@
 -- A stream that lost its read end: the host writer on the other side is gone and closed, in one step.
-use Rattle.std.proofs.Common.{◌≡◌, ℕ, ◌<◌, Bool, true, false, cond, List, length, set, Ok, Err, refl, sym, ap, subst, ◌∙◌}
+use Rattle.std.proofs.Common.{◌≡◌, ℕ, ◌<◌, false, cond, length, set, Ok, refl, sym, ap, subst, ◌∙◌}
 use Rattle.strm_buffers.specs.Tells.{WriterTells, Tells, told_by, with_told, ClosesWriter}
 use Rattle.strm_machine.specs.State.{State, no_producer, producer_at, stream_at, is_host}
 use Rattle.strm_machine.specs.Moves.{with_owner}
 use Rattle.strm_machine.specs.Reactions.{with_stream_at}
 use Rattle.strm_machine.specs.declared.replies.Reply.TheVariants as replies
-use Rattle.strm_machine.specs.declared.streams.Duty.{Duty}
 use Rattle.strm_machine.specs.declared.streams.Duty.TheVariants.{Serves, Ended}
-use Rattle.strm_machine.specs.declared.streams.Owner.{Owner}
 use Rattle.strm_machine.specs.declared.streams.Owner.TheVariants.{Host, Gone}
-use Rattle.strm_machine.specs.declared.streams.Producer.{Producer}
 use Rattle.strm_machine.specs.declared.streams.Side.TheVariants.{Writing, Reading}
-use Rattle.strm_machine.specs.declared.streams.Stream.{Stream}
-use Rattle.strm_world.specs.World.{World, leaves_writer, with_stream_in}
+use Rattle.strm_world.specs.World.{leaves_writer, with_stream_in}
 use Rattle.strm_world.specs.Outcomes.{Goes, done}
 use Rattle.strm_world.specs.Attaching.{forsaken}
 use Rattle.strm_world.specs.Does.{Logs, world_of, Fits, Does}
@@ -22,7 +18,7 @@ use Rattle.strm_world.proofs.CloseLemmas.{without_writer-box}
 use Rattle.strm_transmit.specs.Inside.{AreServed}
 use Rattle.strm_transmit.specs.Hosted.{forsaken_in}
 use Rattle.strm_transmit.proofs.ServedLemmas.{at_set, serving_kept, ended_no}
-use Rattle.strm_transmit.proofs.FitsLemmas.{SameType, Retells, Fits-told, set-types}
+use Rattle.strm_transmit.proofs.FitsLemmas.{Fits-told, set-types}
 
 -- without a host writer nothing happens
 pub forsaken-alone : (state : State) (tells : Tells) (s : ℕ) → is_host (stream_at state s).writer.owner ≡ false → Does state state tells tells (Ok replies.Done) (λ w. done (forsaken_in w s))

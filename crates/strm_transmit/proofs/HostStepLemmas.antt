@@ -1,31 +1,30 @@
 -- The walk of every call with host ends: one that is not admitted, one that is, and one that touches no
 -- host end and so does what the machine does without them.
-use Rattle.std.proofs.Common.{◌≡◌, ℕ, ◌<◌, Bool, true, false, cond, ◌||◌, List, [], length, Option, Some, None, Result, Ok, Err, refl, sym, ap, subst, ◌∙◌}
+use Rattle.std.proofs.Common.{◌≡◌, ℕ, ◌<◌, Bool, true, false, cond, [], length, Option, Some, None, Result, Ok, Err, refl, ap, subst, ◌∙◌}
 use Rattle.std.specs.Prelude.{IfOk, IfErr, IsTrue}
 use Rattle.strm_codes.specs.declared.refusals.Refusal.{Refusal}
 use Rattle.strm_buffers.specs.Tells.{Tells}
 use Rattle.strm_machine.specs.State.{State, producer_at}
 use Rattle.strm_machine.specs.Plays.{is_settled}
-use Rattle.strm_machine.specs.Refusals.{refusal}
 use Rattle.strm_machine.specs.Soundness.{IsSound}
 use Rattle.strm_machine.specs.Reactions.{Reaction, goes, reaction}
 use Rattle.strm_machine.specs.declared.acts.Act.{Act}
-use Rattle.strm_machine.specs.declared.acts.Act.TheVariants.{Make, OnEnd, OnLoose, OnHost, Drive, Event, OnSet, OnContext, OnMemory}
-use Rattle.strm_machine.specs.declared.acts.EndAct.TheVariants.{Operate, Drop, Cancel, Move, Lift}
-use Rattle.strm_machine.specs.declared.acts.LooseAct.TheVariants.{Lower, Close}
+use Rattle.strm_machine.specs.declared.acts.Act.TheVariants.{OnEnd, OnLoose, OnHost}
+use Rattle.strm_machine.specs.declared.acts.EndAct.TheVariants.{Drop}
+use Rattle.strm_machine.specs.declared.acts.LooseAct.TheVariants.{Close}
 use Rattle.strm_machine.specs.declared.replies.Reply.{Reply}
 use Rattle.strm_machine.specs.declared.replies.Reply.TheVariants as replies
 use Rattle.strm_machine.specs.declared.stops.Stop.TheVariants as stops
 use Rattle.strm_machine.specs.declared.streams.Duty.TheVariants.{Serves}
 use Rattle.strm_world.specs.World.{World}
-use Rattle.strm_world.specs.Outcomes.{Outcome, stops as stops_in}
+use Rattle.strm_world.specs.Outcomes.{stops as stops_in}
 use Rattle.strm_world.specs.HostRefusals.{refusal_in}
 use Rattle.strm_world.specs.Steps.{performs_in, unless_refused_in, outcome, may_poll, touches}
-use Rattle.strm_world.specs.Does.{Logs, world_of, Answered, Gives, Fits, Does}
+use Rattle.strm_world.specs.Does.{Logs, world_of, Answered, Fits, Does}
 use Rattle.strm_world.proofs.DoesLemmas.{Does-untold, Does-as}
 use Rattle.strm_world.proofs.ReactedLemmas.{answer_of, lifted}
 use Rattle.strm_transmit.specs.Meets.{Meets, as_answer, admitted, or_found}
-use Rattle.strm_transmit.specs.Hosted.{answered, lone, Stays, Leaves, MeetsAlone, MeetsHosted}
+use Rattle.strm_transmit.specs.Hosted.{answered, lone, Stays, Leaves, MeetsHosted}
 use Rattle.strm_transmit.specs.declared.errors.StoreError.{StoreError}
 use Rattle.strm_transmit.specs.declared.errors.StoreError.TheVariants.{Refused, HostFailed, HostBroke, BadItem, StoreTrapped, OutOfMemory}
 use Rattle.strm_transmit.proofs.FitsLemmas.{KeepsTypes, Fits-kept, same_streams, reaction-types}

@@ -1,12 +1,11 @@
 -- A host writer that gets a stream, and one that is fed.
-use Rattle.std.proofs.Common.{◌≡◌, ℕ, ◌+◌, ◌<◌, ◌≤◌, Bool, true, false, cond, List, [], ◌∷◌, ◌++◌, length, get_or, set, Option, Some, None, Result, Ok, Err, refl, sym, ap, subst, ◌∙◌, arith, length-append}
-use Rattle.std.specs.Prelude.{◌||◌, nat_le, All, IfOk, OnOk, OnErr, count_by, sum}
+use Rattle.std.proofs.Common.{◌≡◌, ℕ, ◌+◌, ◌<◌, Bool, true, false, cond, List, [], ◌∷◌, ◌++◌, length, set, Option, Some, None, Result, Ok, Err, refl, sym, ap, subst, ◌∙◌, arith, length-append}
+use Rattle.std.specs.Prelude.{◌||◌, IfOk, OnOk, OnErr, count_by}
 use Rattle.std.proofs.lemmas.Bool.Decides.{nat_tests}
-use Rattle.std.proofs.Math.Seq.{get_or-append_seam}
 use Rattle.strm_codes.specs.declared.refusals.Refusal.{Refusal}
 use Rattle.strm_codes.specs.declared.refusals.Refusal.TheVariants as refusals
-use Rattle.strm_buffers.specs.Tells.{WriterTells, Tells, told_by, with_told, fed}
-use Rattle.strm_machine.specs.State.{State, host_limit, stream_limit, no_stream, no_producer, producer_at, stream_at}
+use Rattle.strm_buffers.specs.Tells.{Tells, told_by, with_told, fed}
+use Rattle.strm_machine.specs.State.{State, host_limit, stream_limit, no_stream, no_producer, producer_at}
 use Rattle.strm_machine.specs.Tests.{are_places_full, are_streams_full}
 use Rattle.strm_machine.specs.Refusals.{Reason, where_, first_of}
 use Rattle.strm_machine.specs.declared.acts.Act.TheVariants.{OnHost}
@@ -25,11 +24,11 @@ use Rattle.strm_world.proofs.DoesLemmas.{Does-as}
 use Rattle.strm_world.proofs.WorldLemmas.{length-writers_from}
 use Rattle.strm_world.proofs.AttachLemmas.{hosted_by, hosted_in, Does-hosts_new, Does-feed}
 use Rattle.strm_transmit.specs.Meets.{as_answer, admitted, replied, or_found}
-use Rattle.strm_transmit.specs.Hosted.{Stays, MeetsHosted}
+use Rattle.strm_transmit.specs.Hosted.{MeetsHosted}
 use Rattle.strm_transmit.specs.declared.errors.StoreError.{StoreError}
 use Rattle.strm_transmit.specs.declared.errors.StoreError.TheVariants.{StoreTrapped, OutOfMemory}
 use Rattle.strm_transmit.proofs.ServedLemmas.{at_set, at_push, AreServed-hosted}
-use Rattle.strm_transmit.proofs.FitsLemmas.{SameType, Retells, Fits-told}
+use Rattle.strm_transmit.proofs.FitsLemmas.{Fits-told}
 use Rattle.strm_transmit.proofs.HostStepLemmas.{RefusedBy, does_admitted, AreMade, all_stays}
 use Rattle.strm_world.proofs.DoesLemmas.{Does-untold}
 use Rattle.std.proofs.lemmas.List.{map-append, get_or_append_left}

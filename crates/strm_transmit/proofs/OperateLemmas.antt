@@ -1,7 +1,6 @@
 -- A read or write with host ends: by what is on the other side.
-use Rattle.std.proofs.Common.{◌≡◌, ℕ, Bool, true, false, Option, Some, None, Result, Ok, Err, refl, sym, ap, subst, ◌∙◌}
+use Rattle.std.proofs.Common.{◌≡◌, ℕ, true, false, Option, Some, None, Result, Ok, Err, refl, sym, ap, subst, ◌∙◌}
 use Rattle.std.specs.Prelude.{IfErr}
-use Rattle.strm_codes.specs.declared.refusals.Refusal.{Refusal}
 use Rattle.strm_buffers.specs.Tells.{Tells}
 use Rattle.strm_machine.specs.State.{State, stream_at, is_host}
 use Rattle.strm_machine.specs.Meetings.{begun}
@@ -19,7 +18,7 @@ use Rattle.strm_machine.specs.declared.streams.Side.{Side}
 use Rattle.strm_machine.specs.declared.streams.Side.TheVariants.{Reading}
 use Rattle.strm_machine.specs.declared.streams.Operation.{Operation}
 use Rattle.strm_world.specs.World.{World}
-use Rattle.strm_world.specs.Steps.{operates_by, reads_from, performs_in, outcome, may_poll, touches}
+use Rattle.strm_world.specs.Steps.{operates_by, reads_from, performs_in, may_poll, touches}
 use Rattle.strm_world.specs.Does.{Logs, world_of, Fits, Does}
 use Rattle.strm_world.proofs.DoesLemmas.{Does-as}
 use Rattle.strm_transmit.specs.Meets.{replied}
@@ -29,10 +28,9 @@ use Rattle.strm_transmit.specs.declared.errors.StoreError.TheVariants.{Refused, 
 use Rattle.std.specs.Prelude.{IfOk, IsTrue}
 use Rattle.strm_codes.specs.declared.codes.ReturnCode.{ReturnCode}
 use Rattle.strm_machine.specs.Plays.{is_settled}
-use Rattle.strm_machine.specs.Endings.{report_on, delivered}
-use Rattle.strm_machine.specs.Reactions.{Reaction, goes, tells as tells_end, on_stream, reaction, with_stream_at}
+use Rattle.strm_machine.specs.Endings.{delivered}
+use Rattle.strm_machine.specs.Reactions.{Reaction, goes, tells as tells_end, with_stream_at}
 use Rattle.strm_machine.specs.Sides.{with_operation}
-use Rattle.strm_machine.specs.Soundness.{IsSound}
 use Rattle.strm_machine.specs.declared.replies.Reply.TheVariants as replies
 use Rattle.strm_machine.specs.declared.stops.Stop.{Stop}
 use Rattle.strm_machine.specs.declared.stops.Stop.TheVariants as stops
@@ -41,7 +39,6 @@ use Rattle.strm_world.specs.Settling.{answered as answers_read}
 use Rattle.strm_world.specs.Does.{Answered}
 use Rattle.strm_world.proofs.FitsLemmas.{Fits-stream}
 use Rattle.strm_world.proofs.ReadLemmas.{opened, Does-read, Does-read_stop}
-use Rattle.strm_transmit.proofs.StepLemmas.{IsAdmitted}
 use Rattle.strm_transmit.proofs.DropLemmas.{refused-end}
 use Rattle.strm_transmit.proofs.HostStepLemmas.{does_admitted}
 

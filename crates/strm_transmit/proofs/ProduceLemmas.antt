@@ -1,6 +1,6 @@
 -- A turn of a host writer in a store: what the machine does, whether the writer stays, is gone, or stops
 -- the call; and the host ends that the store needs then.
-use Rattle.std.proofs.Common.{◌≡◌, ◌≢◌, ℕ, ◌<◌, Bool, true, false, cond, List, [], ◌∷◌, length, get_or, set, Option, Result, Ok, Err, Some, None, refl, sym, ap, subst, ◌∙◌}
+use Rattle.std.proofs.Common.{◌≡◌, ◌≢◌, ℕ, ◌<◌, Bool, true, false, cond, List, [], ◌∷◌, length, set, Result, Ok, Err, refl, sym, ap, subst, ◌∙◌}
 use Rattle.std.proofs.lemmas.List.{length-set, get_or-set_same, set-get_or}
 use Rattle.strm_buffers.specs.Listing.{Item}
 use Rattle.strm_buffers.specs.Tells.{WriterTells, Tells, told_by, with_told, ClosesWriter}
@@ -14,14 +14,13 @@ use Rattle.strm_machine.specs.declared.streams.Owner.{Owner}
 use Rattle.strm_machine.specs.declared.streams.Owner.TheVariants.{Host, Gone}
 use Rattle.strm_machine.specs.declared.streams.Producer.{Producer}
 use Rattle.strm_machine.specs.declared.streams.Stream.{Stream}
-use Rattle.strm_world.specs.World.{World}
 use Rattle.strm_world.specs.Producing.{producer_turn}
 use Rattle.strm_world.specs.Does.{Answered, Fits, Does}
 use Rattle.strm_world.proofs.CloseLemmas.{ended_in}
 use Rattle.strm_world.proofs.PollLemmas.{IsServing}
 use Rattle.strm_world.proofs.SettleLemmas.{IsLeft}
 use Rattle.strm_world.proofs.TurnLemmas.{turned_but}
-use Rattle.strm_producing.specs.Turning.{Scene, Polled, TurnsEmpty, TurnsHolding, Turns}
+use Rattle.strm_producing.specs.Turning.{Scene, Polled, TurnsEmpty, TurnsHolding}
 use Rattle.strm_producing.specs.declared.turns.TurnError.{TurnError}
 use Rattle.strm_producing.specs.declared.turns.TurnError.TheVariants.{Failed, OutOfMemory, Broke}
 use Rattle.strm_producing.proofs.StepLemmas.{scene_in, told_in, turned_in, stop_of, turn_stays, turn_left, turn_stops}
@@ -29,7 +28,7 @@ use Rattle.strm_transmit.specs.Inside.{AreServed}
 use Rattle.strm_transmit.specs.Hosted.{answered, IsStop}
 use Rattle.strm_transmit.specs.Turning.{TurnsStream, stops_by}
 use Rattle.strm_transmit.proofs.ServedLemmas.{at_set, serving_kept, ended_no}
-use Rattle.strm_transmit.proofs.FitsLemmas.{SameType, Retells, Fits-told, set-types}
+use Rattle.strm_transmit.proofs.FitsLemmas.{Fits-told, set-types}
 use Rattle.strm_transmit.proofs.SceneLemmas.{SceneKeeps, turn_keeps}
 
 -- ## A turn that stops keeps what is kept of the writer

@@ -1,6 +1,6 @@
 -- What the turn of a host writer keeps: types, owners but that the writer may be gone, handles, and where
 -- operations lie.
-use Rattle.std.proofs.Common.{◌≡◌, ℕ, suc, zero, ◌+◌, ◌-◌, ◌*◌, ◌<◌, ◌≤◌, ◌==◌, Bool, true, false, cond, List, [], ◌∷◌, length, take, drop, length-take, length-append, length-drop, Option, Some, None, Result, Ok, Err, refl, sym, ap, subst, ◌∙◌, arith}
+use Rattle.std.proofs.Common.{◌≡◌, ℕ, suc, zero, ◌+◌, ◌-◌, ◌*◌, ◌<◌, ◌≤◌, ◌==◌, Bool, true, false, cond, List, [], ◌∷◌, length, take, drop, length-take, length-append, length-drop, Option, Some, None, Result, Ok, Err, refl, sym, subst, arith}
 use Rattle.strm_codes.specs.Layout.{scalars_of, item_size}
 use Rattle.strm_codes.specs.declared.payloads.Payload.{Payload}
 use Rattle.strm_codes.specs.declared.scalars.Scalar.{Scalar}
@@ -10,7 +10,6 @@ use Rattle.strm_memory.specs.Items.{stored_at}
 use Rattle.strm_memory.specs.Region.{is_out_of_bounds}
 use Rattle.strm_memory.proofs.RegionLemmas.{length-stored}
 use Rattle.strm_buffers.specs.Listing.{Item}
-use Rattle.strm_buffers.specs.Said.{WriterSaid}
 use Rattle.strm_buffers.specs.Tells.{WriterTells}
 use Rattle.strm_machine.specs.State.{Guest, memory_in}
 use Rattle.strm_machine.specs.Sides.{with_operation}

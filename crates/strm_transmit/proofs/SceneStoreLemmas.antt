@@ -1,11 +1,11 @@
 -- The store after a host writer had its turn.
 use mir.Val.{bool_byte}
-use Rattle.std.proofs.Common.{◌≡◌, ℕ, ◌+◌, ◌-◌, ◌<◌, ◌≤◌, Bool, true, false, cond, List, length, get_or, set, refl, sym, ap, ◌∙◌, subst, arith}
+use Rattle.std.proofs.Common.{◌≡◌, ℕ, ◌+◌, ◌-◌, ◌<◌, Bool, true, false, cond, List, length, get_or, set, refl, sym, ap, ◌∙◌, subst, arith}
 use Rattle.std.specs.Prelude.{count_by}
 use Rattle.std.proofs.lemmas.List.{length-map, length-set, get_or_default}
 use Rattle.std.proofs.lemmas.List.Sums.{sum_by-set}
 use Rattle.strm_handles.specs.Counters.{Counter}
-use Rattle.strm_machine.specs.State.{State, no_stream, no_producer, stream_at, producer_at, is_live, is_host}
+use Rattle.strm_machine.specs.State.{State, no_stream, stream_at, producer_at, is_live, is_host}
 use Rattle.strm_machine.specs.Soundness.{IsSound, sizes_of, handles_of, type_of}
 use Rattle.strm_machine.proofs.TurnLemmas.{sets_of}
 use Rattle.strm_machine.specs.declared.streams.Owner.{Owner}

@@ -1,8 +1,7 @@
-use Rattle.std.proofs.Common.{ap, sym, ◌∙◌, refl, arith}
+use Rattle.std.proofs.Common.{ap, refl, arith}
 use Rattle.std.proofs.lemmas.List.{length-map}
 use Rattle.strm_handles.specs.Lookups.{error_context_rep_in}
 use Rattle.strm_machine.specs.declared.acts.ContextAct.TheVariants.{Drop}
-use Rattle.strm_machine.proofs.ContextStepLemmas.{context_names}
 use Rattle.strm_machine.proofs.SoundStepLemmas.{on_context-sound}
 use Rattle.strm_turns.specs.Guests.{guest_of}
 use Rattle.strm_transmit.specs.Inside.{state_of}

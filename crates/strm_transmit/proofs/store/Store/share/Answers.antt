@@ -1,6 +1,6 @@
 use Rattle.std.proofs.Common.{refl, arith}
 use Rattle.std.proofs.lemmas.List.{length-map}
-use Rattle.strm_machine.proofs.ContextStepLemmas.{ShareFits, with_context_handle-sound}
+use Rattle.strm_machine.proofs.ContextStepLemmas.{with_context_handle-sound}
 use Rattle.strm_turns.specs.Guests.{guest_of}
 use Rattle.strm_transmit.specs.Inside.{state_of}
 use Rattle.strm_transmit.proofs.ContextLemmas.{IsStore-gives, fits_below, count_below}

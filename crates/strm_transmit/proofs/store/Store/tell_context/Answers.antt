@@ -1,4 +1,4 @@
-use Rattle.std.proofs.Common.{ap, sym, ◌∙◌, refl, arith}
+use Rattle.std.proofs.Common.{refl, arith}
 use Rattle.std.proofs.lemmas.List.{length-map}
 use Rattle.strm_machine.proofs.ContextStepLemmas.{text_fits}
 use Rattle.strm_turns.specs.Guests.{guest_of}
