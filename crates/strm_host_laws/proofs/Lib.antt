@@ -3,3 +3,7 @@ pub mod Owners
 pub mod Goings
 pub mod Closed
 pub mod Fed
+pub mod Effects
+pub mod TurnMoves
+pub mod Standing
+pub mod GuestLaws

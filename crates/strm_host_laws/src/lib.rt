@@ -3,7 +3,8 @@
 //!
 //! They stand on the machine with host ends of `strm_world` alone, and on no code that runs: a store
 //! whose calls are its steps has them all. `HostMoments.antt` says what the moments of such a run are,
-//! and `HostLaws.antt` what holds of them.
+//! and `HostLaws.antt` what holds of them; `guests` has the laws of `strm_laws`, said of such runs.
 #![tactic(auto)]
 
+pub mod guests;
 pub mod runs;

@@ -1,0 +1,586 @@
+-- Every state of a run with host writers is sound; handles and ends agree in it, and so do host writers and
+-- streams.
+use Rattle.std.proofs.Common.{◌≡◌, ◌≢◌, ℕ, zero, suc, ◌<◌, Bool, true, false, cond, List, [], ◌∷◌, ◌++◌, length, get_or, set, Option, Some, None, refl, sym, ap, subst, ◌∙◌, ◌⊎◌, inl, inr, arith, length-set, length-append}
+use Rattle.std.proofs.lemmas.Bool.{cases_eq}
+use Rattle.std.proofs.lemmas.List.{get_or-set_same, get_or-set_other, get_or_past, map-append, get_or_append_left}
+use Rattle.std.proofs.lemmas.List.Elements.{All-nil, All-push, All-weaker}
+use Rattle.strm_codes.specs.declared.codes.TransmitIndex.{TransmitIndex}
+use Rattle.strm_codes.specs.declared.codes.TransmitIndex.TheVariants as index
+use Rattle.strm_codes.specs.declared.payloads.Payload.TheVariants.{Nothing}
+use Rattle.strm_handles.specs.Handles.{Handles, no_handles, IsTable}
+use Rattle.strm_handles.specs.Lookups.{end_rep_of}
+use Rattle.strm_handles.specs.declared.entries.Entry.{Entry}
+use Rattle.strm_handles.specs.declared.entries.Entry.TheVariants as entries
+use Rattle.strm_handles.specs.declared.entries.TransmitEnd.{TransmitEnd}
+use Rattle.strm_machine.specs.State.{State, Guest, empty, host_limit, no_stream, no_producer, idle_end, guest_in, stream_at, producer_at, is_host, is_held}
+use Rattle.strm_machine.specs.Hosting.{ServesOne, HostsHold}
+use Rattle.strm_machine.specs.Sides.{end_of, with_end, with_operation}
+use Rattle.strm_machine.specs.Endings.{report_on, told_end, delivered}
+use Rattle.strm_machine.specs.Moments.{is_end}
+use Rattle.strm_machine.specs.Tests.{Name, named, side_named, stream_named, items_asked, has_ended}
+use Rattle.strm_machine.specs.Meetings.{begun}
+use Rattle.strm_machine.specs.Refusals.{region_reasons, handle_reasons, own_reasons, refusal}
+use Rattle.strm_machine.specs.Words.{kind_of}
+use Rattle.strm_machine.specs.Reactions.{with_stream_at, told, reaction}
+use Rattle.strm_machine.specs.Soundness.{IsSound, IsNamed, EntryIsNamed, AreNamed, IsPlaced, OperationIsPlaced, StreamIsPlaced, sizes_of, handles_of, type_of, types_of}
+use Rattle.strm_machine.specs.declared.acts.Act.{Act}
+use Rattle.strm_machine.specs.declared.acts.Act.TheVariants.{OnEnd}
+use Rattle.strm_machine.specs.declared.acts.EndAct.TheVariants.{Operate}
+use Rattle.strm_machine.specs.declared.acts.NamedEnd.{NamedEnd}
+use Rattle.strm_machine.specs.declared.limits.Limits.{Limits}
+use Rattle.strm_machine.specs.declared.steps.Step.{Step}
+use Rattle.strm_machine.specs.declared.replies.Reply.{Reply}
+use Rattle.strm_machine.specs.declared.streams.Duty.{Duty}
+use Rattle.strm_machine.specs.declared.streams.Duty.TheVariants.{Serves, Ended}
+use Rattle.strm_machine.specs.declared.streams.End.{End}
+use Rattle.strm_machine.specs.declared.streams.Owner.{Owner}
+use Rattle.strm_machine.specs.declared.streams.Owner.TheVariants.{Held, Loose, Host, Gone}
+use Rattle.strm_machine.specs.declared.streams.Operation.{Operation}
+use Rattle.strm_machine.specs.declared.streams.Producer.{Producer}
+use Rattle.strm_machine.specs.declared.streams.Side.{Side}
+use Rattle.strm_machine.specs.declared.streams.Side.TheVariants.{Writing, Reading}
+use Rattle.strm_machine.specs.declared.streams.Stream.{Stream}
+use Rattle.strm_machine.proofs.HeldLemmas.{IsHeld, StateIsHeld, names_in, reaction-held}
+use Rattle.strm_machine.proofs.TurnLemmas.{GuestsKeep}
+use Rattle.strm_machine.proofs.EndLemmas.{left_by}
+use Rattle.strm_machine.proofs.HostLemmas.{HostsStay, HostsHold-stays, HostsHold-empty, reaction-hosts, serving_known, serving_made}
+use Rattle.strm_machine.proofs.RefusalLemmas.{none_of_both, region_fits, named_ok, placed_begun}
+use Rattle.strm_machine.proofs.NamedEndLemmas.{IsFound, end_fits, on_end-found, found_payload}
+use Rattle.strm_machine.proofs.ReactionLemmas.{refusal-on_end}
+use Rattle.strm_machine.proofs.WaitableSetLemmas.{HoldSets-none}
+use Rattle.strm_machine.proofs.ErrorContextLemmas.{HoldsContexts-none}
+use Rattle.strm_handles.proofs.HandleLemmas.{IsTable-no_handles}
+use Rattle.strm_machine.proofs.SoundLemmas.{IsSound-guests, IsSound-stream, placed_at, asked-placed, left_told}
+use Rattle.strm_machine.proofs.SoundStepLemmas.{reaction-sound}
+use Rattle.strm_machine.proofs.TableLemmas.{handles-same, owner_in, owner-set_other}
+use Rattle.strm_world.specs.HostRefusals.{is_used}
+use Rattle.strm_buffers.specs.Tells.{Tells}
+use Rattle.strm_world.specs.World.{World}
+use Rattle.strm_world.specs.Does.{start}
+use Rattle.strm_world.specs.Attaching.{forsaken}
+use Rattle.strm_world.specs.Producing.{lowered}
+use Rattle.strm_world.proofs.SettleLemmas.{is_done_with}
+use Rattle.strm_host_laws.specs.HostMoments.{Part, HostMoment, host_moments, last_of}
+use Rattle.strm_host_laws.proofs.Chains.{Follows, Chain, moments-chain}
+use Rattle.strm_host_laws.proofs.Closed.{set-keeps}
+use Rattle.strm_host_laws.proofs.Effects.{Leaves, leaves_ended, turned_stream, turned_by, Turned, opened_by, Driven, Reads, Hosts, forsaken_by, Effect, ByReaction, ByRest, ByHosting, ByDriving, ByReading, ByForsaking, host_made, follows_effect}
+use Rattle.strm_host_laws.proofs.TurnMoves.{Moves, lowered-keeps, moved_on-moves, moves-placed}
+
+-- what every such state keeps
+pub record Holds (state : State) : Type 0 where
+  pub sound : IsSound state
+  pub held : StateIsHeld state
+  pub hosts : HostsHold state
+
+pub Holds-reaction : (state : State) (act : Act) → Holds state → Holds (reaction state act).state
+Holds-reaction state act h = record {
+  sound = reaction-sound state act h.sound;
+  held = reaction-held state act h.sound h.held;
+  hosts = reaction-hosts state act h.sound h.held h.hosts;
+}
+
+IsSound-empty : (tag : ℕ) (limits : Limits) → IsSound (empty tag limits)
+IsSound-empty tag limits = record {
+  named = All-nil (AreNamed []);
+  placed = All-nil (StreamIsPlaced []);
+  small = omega arith;
+  sets = HoldSets-none;
+  contexts = HoldsContexts-none;
+}
+
+-- ## Handles and ends
+
+not_held : (owner : Owner) (g handle : ℕ) → is_held owner ≡ false → owner ≡ Held g handle → ⊥
+not_held owner g handle e f = let wrong : is_held owner ≡ true = ap is_held f in cc
+
+-- an owner that stays, or two that hold nothing
+abbrev pub StaysOrFree : Owner → Owner → Type 0
+StaysOrFree old new = (new ≡ old) ⊎ ((is_held old ≡ false) × (is_held new ≡ false))
+
+module _ (guests others : List Guest) (streams more : List Stream) (e : (g : ℕ) → (guest_in others g).handles ≡ (guest_in guests g).handles)
+    (f : (s : ℕ) (side : Side) → StaysOrFree (owner_in streams s side) (owner_in more s side)) (h : IsHeld guests streams) where
+  either_named : (g handle s : ℕ) (side : Side) (n : Name) → n ≡ names_in guests g handle → is_end s side n ≡ true → owner_in more s side ≡ Held g handle
+  either_named g handle s side n same is =
+      let own : owner_in streams s side ≡ Held g handle = h.agree.named g handle s side (ap (is_end s side) (sym same) ∙ is) in
+      elim (f s side) [
+        | inl stays ↦ stays ∙ own
+        | inr free ↦ absurd (not_held (owner_in streams s side) g handle free.0 own)
+      ]
+
+  either_held : (g handle s : ℕ) (side : Side) (n : Name) → n ≡ names_in guests g handle → owner_in more s side ≡ Held g handle → is_end s side n ≡ true
+  either_held g handle s side n same own =
+      elim (f s side) [
+        | inl stays ↦ ap (is_end s side) same ∙ h.agree.held g handle s side (sym stays ∙ own)
+        | inr free ↦ absurd (not_held (owner_in more s side) g handle free.1 own)
+      ]
+
+  pub IsHeld-either : IsHeld others more
+  IsHeld-either = record {
+    tables = λ g. subst (λ k. IsTable k) (sym (e g)) (h.tables g);
+    agree = record {
+      named = λ g handle s side is. either_named g handle s side (names_in others g handle) (ap (λ k. end_rep_of k handle) (e g)) is;
+      held = λ g handle s side own. either_held g handle s side (names_in others g handle) (ap (λ k. end_rep_of k handle) (e g)) own;
+    };
+  }
+
+-- of one stream that is set
+pub set_either : (streams : List Stream) (s : ℕ) (x : Stream) → s < length streams → ((side : Side) → StaysOrFree (owner_in streams s side) (end_of side x).owner) → (k : ℕ) (side : Side) → StaysOrFree (owner_in streams k side) (owner_in (set streams s x) k side)
+set_either streams s x l h k side =
+    elim (cases_eq k s) [
+      | inl e ↦
+          let here : owner_in (set streams s x) s side ≡ (end_of side x).owner = ap (λ (y : Stream). (end_of side y).owner) (get_or-set_same streams s x no_stream l) in
+          subst (λ i. StaysOrFree (owner_in streams i side) (owner_in (set streams s x) i side)) (sym e) (subst (StaysOrFree (owner_in streams s side)) (sym here) (h side))
+      | inr ne ↦ inl (owner-set_other streams s x k side ne)
+    ]
+
+-- ## Host writers and streams
+
+no_two : (a b : ℕ) → Host a ≡ Host b → a ≡ b
+no_two a b e = cc
+
+one_stream : (a b : ℕ) → Serves a ≡ Serves b → a ≡ b
+one_stream a b e = cc
+
+-- host writer n and its stream s after a change of both: it stays, or ends and is gone
+pub record Changed (state new : State) (s n : ℕ) (done : Bool) (x : Stream) : Type 0 where
+  pub made : s < length state.streams
+  pub owner : (stream_at state s).writer.owner ≡ Host n
+  pub leaves : Leaves done n state.producers new.producers
+  pub streams : new.streams ≡ set state.streams s x
+  pub writer : x.writer ≡ record (stream_at state s).writer { owner = cond done Gone (stream_at state s).writer.owner }
+  pub reader : x.reader.owner ≡ (stream_at state s).reader.owner
+
+module _ (state new : State) (s n : ℕ) (x : Stream) (h : HostsHold state) where
+  duty_was : (stream_at state s).writer.owner ≡ Host n → (producer_at state n).duty ≡ Serves s
+  duty_was o = (h.serve n s).serves o
+
+  known_there : (stream_at state s).writer.owner ≡ Host n → n < length state.producers
+  known_there o = omega (arith, serving_known state n s h (duty_was o), h.all)
+
+  module _ (done : Bool) (c : Changed state new s n done x) where
+    stream_here : stream_at new s ≡ x
+    stream_here = ap (λ xs. get_or xs s no_stream) c.streams ∙ get_or-set_same state.streams s x no_stream c.made
+
+    stream_other : (k : ℕ) → k ≢ s → stream_at new k ≡ stream_at state k
+    stream_other k ne = ap (λ xs. get_or xs k no_stream) c.streams ∙ get_or-set_other state.streams s k x no_stream ne
+
+    duty_now : (producer_at new n).duty ≡ cond done Ended (Serves s)
+    duty_now = c.leaves.here (known_there c.owner) ∙ ap (cond done Ended) (duty_was c.owner)
+
+    other_writer : (m k : ℕ) → k ≢ s → (producer_at state m).duty ≡ Serves k → m ≢ n
+    other_writer m k ne d e = ne (one_stream k s (sym d ∙ ap (λ i. (producer_at state i).duty) e ∙ duty_was c.owner))
+
+    serves_other : (m k : ℕ) → k ≢ s → ServesOne new m k
+    serves_other m k ne =
+        let same = stream_other k ne in
+        let old = h.serve m k in
+        record {
+          serves = λ e.
+              let d = old.serves (ap (λ (y : Stream). y.writer.owner) (sym same) ∙ e) in
+              c.leaves.others m (other_writer m k ne d) ∙ d;
+          owns = λ d. ap (λ (y : Stream). y.writer.owner) same ∙ old.owns (duty_before m k ne d (cases_eq m n));
+          idle = λ e. ap (λ (y : Stream). y.writer.operation) same ∙ old.idle (ap (λ (y : Stream). y.writer.owner) (sym same) ∙ e);
+        }
+      where
+        ended_or : (done : Bool) (k : ℕ) → cond done Ended (Serves s) ≡ Serves k → k ≡ s
+        ended_or true k e = absurd (let wrong : Ended ≡ Serves k = e in cc)
+        ended_or false k e = sym (one_stream s k e)
+
+        duty_before : (m k : ℕ) → k ≢ s → (producer_at new m).duty ≡ Serves k → (m ≡ n) ⊎ (m ≢ n) → (producer_at state m).duty ≡ Serves k
+        duty_before m k ne d (inl e) = absurd (ne (ended_or done k (sym duty_now ∙ ap (λ i. (producer_at new i).duty) (sym e) ∙ d)))
+        duty_before m k ne d (inr off) = sym (c.leaves.others m off) ∙ d
+
+    -- of the stream itself
+    host_is : (done : Bool) (m : ℕ) → cond done Gone (Host n) ≡ Host m → (done ≡ false) × (m ≡ n)
+    host_is true m e = absurd (let wrong : Gone ≡ Host m = e in cc)
+    host_is false m e = (refl, no_two m n (sym e))
+
+    owner_now : (stream_at new s).writer.owner ≡ cond done Gone (Host n)
+    owner_now =
+        ap (λ (y : Stream). y.writer.owner) stream_here
+        ∙ ap (λ (y : End). y.owner) c.writer
+        ∙ ap (cond done Gone) c.owner
+
+    serves_here : (m : ℕ) → ServesOne new m s
+    serves_here m = record {
+      serves = λ e. let is = host_is done m (sym owner_now ∙ e) in ap (λ i. (producer_at new i).duty) is.1 ∙ duty_now ∙ ap (λ b. cond b Ended (Serves s)) is.0;
+      owns = λ d. owner_now ∙ owns_here done refl d (cases_eq m n);
+      idle = λ e. ap (λ (y : Stream). y.writer.operation) stream_here ∙ ap (λ (y : End). y.operation) c.writer ∙ (h.serve n s).idle c.owner;
+    }
+      where
+        owns_here : (b : Bool) → done ≡ b → (producer_at new m).duty ≡ Serves s → (m ≡ n) ⊎ (m ≢ n) → cond b Gone (Host n) ≡ Host m
+        owns_here true b d (inl e) = absurd (let wrong : Ended ≡ Serves s = sym (duty_now ∙ ap (λ i. cond i Ended (Serves s)) b) ∙ ap (λ i. (producer_at new i).duty) (sym e) ∙ d in cc)
+        owns_here false b d (inl e) = ap Host (sym e)
+        owns_here b f d (inr off) =
+            let was : (stream_at state s).writer.owner ≡ Host m = (h.serve m s).owns (sym (c.leaves.others m off) ∙ d) in
+            absurd (off (no_two m n (sym was ∙ c.owner)))
+
+    pub HostsHold-changed : HostsHold new
+    HostsHold-changed = record {
+      all = c.leaves.all ∙ h.all;
+      serve = λ m k. elim (cases_eq k s) [
+        | inl e ↦ subst (λ i. ServesOne new m i) (sym e) (serves_here m)
+        | inr ne ↦ serves_other m k ne
+      ];
+      unpiped = λ k. elim (cases_eq k s) [
+        | inl e ↦
+            let here : is_host (stream_at new s).reader.owner ≡ false = ap (λ (y : Stream). is_host y.reader.owner) stream_here ∙ ap is_host c.reader ∙ h.unpiped s in
+            subst (λ i. is_host (stream_at new i).reader.owner ≡ false) (sym e) here
+        | inr ne ↦ ap (λ (y : Stream). is_host y.reader.owner) (stream_other k ne) ∙ h.unpiped k
+      ];
+    }
+
+-- a stream set to another of the same owners and the same write end, whose producers stay
+pub HostsHold-set : (state : State) (s : ℕ) (x : Stream) → s < length state.streams → x.writer ≡ (stream_at state s).writer → x.reader.owner ≡ (stream_at state s).reader.owner → HostsHold state → HostsHold (with_stream_at state s x)
+HostsHold-set state s x l w r h =
+    HostsHold-stays state (with_stream_at state s x) refl
+    (λ k. elim (cases_eq k s) [
+      | inl e ↦ subst (λ i. HostsStay (stream_at state i) (stream_at (with_stream_at state s x) i)) (sym e)
+          (subst (HostsStay (stream_at state s)) (sym (get_or-set_same state.streams s x no_stream l)) stays)
+      | inr ne ↦ subst (HostsStay (stream_at state k)) (sym (get_or-set_other state.streams s k x no_stream ne)) (same (stream_at state k))
+    ]) h
+  where
+    same : (stream : Stream) → HostsStay stream stream
+    same stream = record { was = λ n e. e; is = λ n e. e; idle = λ e o. o; unpiped = λ e. e }
+
+    stays : HostsStay (stream_at state s) x
+    stays = record {
+      was = λ n e. sym (ap (λ (y : End). y.owner) w) ∙ e;
+      is = λ n e. ap (λ (y : End). y.owner) w ∙ e;
+      idle = λ e o. ap (λ (y : End). y.operation) w ∙ o;
+      unpiped = λ e. ap is_host r ∙ e;
+    }
+
+-- ## The turn of a host writer
+
+type_same : (a b : Stream) → a.payload ≡ b.payload → a.kind ≡ b.kind → type_of a ≡ type_of b
+type_same a b e f = rw (e, f) refl
+
+free_or : (done : Bool) (owner : Owner) (n : ℕ) → owner ≡ Host n → StaysOrFree owner (cond done Gone owner)
+free_or true owner n e = inr (ap is_held e, refl)
+free_or false owner n e = inl refl
+
+module _ (old new : State) (s n : ℕ) (read : Operation) (h : Holds old) (o : (stream_at old s).writer.owner ≡ Host n) (t : Turned old new s n read) where
+  module _ (p : IsPlaced (sizes_of old.guests) (stream_at old s).payload read) where
+    abbrev after : Stream
+    after = turned_stream old s read t.items t.result
+
+    moves : Moves (stream_at old s) after read (length t.items) t.result
+    moves = moved_on-moves (stream_at old s) read (length t.items) t.result
+
+    guests_keep : GuestsKeep old.guests (lowered old.guests (stream_at old s).payload read t.items)
+    guests_keep = lowered-keeps old.guests (stream_at old s).payload read t.items p t.few
+
+    stream_made : s < length old.streams
+    stream_made = host_made old s (ap is_host o)
+
+    turned_sound : IsSound (turned_by old s read t.items t.result t.producers)
+    turned_sound =
+        let placed = moves-placed (sizes_of old.guests) (stream_at old s) after read (length t.items) t.result moves t.few p (placed_at old s stream_made h.sound) in
+        let set = IsSound-stream old s after (type_same after (stream_at old s) moves.payload moves.kind) placed h.sound in
+        let both = IsSound-guests (with_stream_at old s after) (lowered old.guests (stream_at old s).payload read t.items) guests_keep set in
+        record { named = both.named; placed = both.placed; small = both.small; sets = both.sets; contexts = both.contexts }
+
+    owners_free : (side : Side) → StaysOrFree (owner_in old.streams s side) (end_of side after).owner
+    owners_free Writing = subst (StaysOrFree (stream_at old s).writer.owner) (sym (ap (λ (x : End). x.owner) moves.writer)) (free_or (is_done_with t.result) (stream_at old s).writer.owner n o)
+    owners_free Reading = inl (ap (λ (x : End). x.owner) moves.reader)
+
+    turned_held : StateIsHeld (turned_by old s read t.items t.result t.producers)
+    turned_held =
+        let guests = lowered old.guests (stream_at old s).payload read t.items in
+        IsHeld-either old.guests guests old.streams (set old.streams s after)
+        (λ g. handles-same old.guests guests g guests_keep.handles)
+        (set_either old.streams s after stream_made owners_free) h.held
+
+    turned_hosts : HostsHold (turned_by old s read t.items t.result t.producers)
+    turned_hosts =
+        HostsHold-changed old (turned_by old s read t.items t.result t.producers) s n after h.hosts (is_done_with t.result)
+        (record {
+          made = stream_made;
+          owner = o;
+          leaves = t.leaves;
+          streams = refl;
+          writer = moves.writer;
+          reader = ap (λ (x : End). x.owner) moves.reader;
+        })
+
+    pub Holds-turned : Holds new
+    Holds-turned = subst Holds (sym t.is) (record { sound = turned_sound; held = turned_held; hosts = turned_hosts })
+
+turned_made : (old new : State) (s n : ℕ) (read : Operation) → (stream_at old s).writer.owner ≡ Host n → Turned old new s n read → s < length new.streams
+turned_made old new s n read o t =
+    let made = host_made old s (ap is_host o) in
+    let many : length new.streams ≡ length (set old.streams s (turned_stream old s read t.items t.result)) = ap (λ (x : State). length x.streams) t.is in
+    omega (arith, made, many, length-set old.streams s (turned_stream old s read t.items t.result))
+
+-- ## A read end that opens a read, or is told
+
+-- a stream whose read end is another of the same owner
+module _ (state : State) (s : ℕ) (e : End) (h : Holds state) (l : s < length state.streams) (owner : e.owner ≡ (stream_at state s).reader.owner) where
+  abbrev with_reader : Stream
+  with_reader = with_end Reading (stream_at state s) e
+
+  Holds-reader : StreamIsPlaced (sizes_of state.guests) with_reader → Holds (with_stream_at state s with_reader)
+  Holds-reader p = record {
+    sound = IsSound-stream state s with_reader refl p h.sound;
+    held = IsHeld-either state.guests state.guests state.streams (set state.streams s with_reader) (λ g. refl) (set_either state.streams s with_reader l owners) h.held;
+    hosts = HostsHold-set state s with_reader l refl owner h.hosts;
+  }
+    where
+      owners : (side : Side) → StaysOrFree (owner_in state.streams s side) (end_of side with_reader).owner
+      owners Writing = inl refl
+      owners Reading = inl owner
+
+pub Holds-opened : (state : State) (s : ℕ) (read : Operation) → s < length state.streams → IsPlaced (sizes_of state.guests) (stream_at state s).payload read → Holds state → Holds (opened_by state s read)
+Holds-opened state s read l p h =
+    let placed = placed_at state s l h.sound in
+    Holds-reader state s (record (stream_at state s).reader { operation = Some read }) h l refl (record { writer = placed.writer; reader = p })
+
+pub Holds-told : (state : State) (s : ℕ) → s < length state.streams → Holds state → Holds (told state s Reading)
+unfolding delivered
+Holds-told state s l h =
+    let stream = stream_at state s in
+    let placed = placed_at state s l h.sound in
+    let code = report_on Reading stream in
+    Holds-reader state s (told_end code stream.reader) h l refl (record {
+      writer = placed.writer;
+      reader = left_by (OperationIsPlaced (sizes_of state.guests) stream.payload) stream.reader.operation (told_end code stream.reader).operation (left_told code stream.reader.operation)
+          placed.reader tt (λ x q. asked-placed (sizes_of state.guests) stream.payload x q);
+    })
+
+-- ## A stream more
+
+IsNamed-more : (types : List TransmitIndex) (p ty : TransmitIndex) (end : TransmitEnd) → IsNamed types ty end → IsNamed (types ++ p ∷ []) ty end
+IsNamed-more types p ty end h = record {
+  there = omega (arith, h.there, length-append types (p ∷ []));
+  typed = get_or_append_left types (p ∷ []) (index.Stream Nothing) end.rep h.there ∙ h.typed;
+  idle = h.idle;
+}
+
+EntryIsNamed-more : (types : List TransmitIndex) (p : TransmitIndex) (o : Option Entry) → EntryIsNamed types o → EntryIsNamed (types ++ p ∷ []) o
+EntryIsNamed-more types p None h = tt
+EntryIsNamed-more types p (Some (entries.Stream end)) h = IsNamed-more types p (index.Stream end.ty) end h
+EntryIsNamed-more types p (Some (entries.Future end)) h = IsNamed-more types p (index.Future end.ty) end h
+EntryIsNamed-more types p (Some _) h = tt
+
+AreNamed-more : (types : List TransmitIndex) (p : TransmitIndex) (handles : Handles) → AreNamed types handles → AreNamed (types ++ p ∷ []) handles
+AreNamed-more types p handles h = All-weaker (EntryIsNamed types) (EntryIsNamed (types ++ p ∷ [])) (EntryIsNamed-more types p) handles.entries h
+
+IsSound-hosted : (state : State) (stream : Stream) (ps : List Producer) → StreamIsPlaced (sizes_of state.guests) stream → IsSound state → IsSound (record state { streams = state.streams ++ stream ∷ []; producers = ps })
+IsSound-hosted state stream ps p h = record {
+  named = rw (map-append type_of state.streams (stream ∷ []))
+      (All-weaker (AreNamed (types_of state.streams)) (AreNamed (types_of state.streams ++ type_of stream ∷ [])) (AreNamed-more (types_of state.streams) (type_of stream)) (handles_of state.guests) h.named);
+  placed = All-push (StreamIsPlaced (sizes_of state.guests)) state.streams stream h.placed p;
+  small = h.small;
+  sets = h.sets;
+  contexts = h.contexts;
+}
+
+-- a stream behind the others, and those before it
+at_push : {A : Type 0} (xs : List A) (x d : A) (k : ℕ) (P : A → Type 0) → (k ≡ length xs → P x) → (k ≢ length xs → P (get_or xs k d)) → P (get_or (xs ++ x ∷ []) k d)
+at_push [] x d zero P f g = f refl
+at_push [] x d (suc k) P f g = g (λ e. omega (arith, e))
+at_push (y ∷ ys) x d zero P f g = g (λ e. omega (arith, e))
+at_push (y ∷ ys) x d (suc k) P f g = at_push ys x d k P (λ e. f (ap suc e)) (λ n. g (λ e. n (omega (arith, e))))
+
+serves_used : (duty : Duty) (k : ℕ) → is_used duty ≡ false → duty ≡ Serves k → ⊥
+serves_used duty k e f = let wrong : is_used duty ≡ true = ap is_used f in cc
+
+module _ (old : State) (n : ℕ) (stream : Stream) (h : Holds old) (known : n < host_limit) (unused : is_used (producer_at old n).duty ≡ false)
+    (writer : stream.writer ≡ idle_end (Host n)) (reader : stream.reader ≡ idle_end Loose) where
+  abbrev producer : Producer
+  producer = record no_producer { duty = Serves (length old.streams) }
+
+  abbrev pub hosted_by : State
+  hosted_by = record old { streams = old.streams ++ stream ∷ []; producers = set old.producers n producer }
+
+  duty_of_it : (producer_at hosted_by n).duty ≡ Serves (length old.streams)
+  duty_of_it = ap (λ (p : Producer). p.duty) (get_or-set_same old.producers n producer no_producer (omega (arith, known, h.hosts.all)))
+
+  duty_of_others : (m : ℕ) → m ≢ n → (producer_at hosted_by m).duty ≡ (producer_at old m).duty
+  duty_of_others m ne = ap (λ (p : Producer). p.duty) (get_or-set_other old.producers n m producer no_producer ne)
+
+  -- an old stream, by its number and what stands there
+  old_serves : (m k : ℕ) → (stream_at old k).writer.owner ≡ Host m → (producer_at hosted_by m).duty ≡ Serves k
+  old_serves m k e =
+      let d = (h.hosts.serve m k).serves e in
+      duty_of_others m (λ f. serves_used (producer_at old n).duty k unused (ap (λ i. (producer_at old i).duty) (sym f) ∙ d)) ∙ d
+
+  old_owns : (m k : ℕ) → k ≢ length old.streams → (producer_at hosted_by m).duty ≡ Serves k → (stream_at old k).writer.owner ≡ Host m
+  old_owns m k ne d =
+      elim (cases_eq m n) [
+        | inl e ↦ absurd (ne (one_stream k (length old.streams) (sym d ∙ ap (λ i. (producer_at hosted_by i).duty) e ∙ duty_of_it)))
+        | inr off ↦ (h.hosts.serve m k).owns (sym (duty_of_others m off) ∙ d)
+      ]
+
+  new_serves : (m k : ℕ) → k ≡ length old.streams → stream.writer.owner ≡ Host m → (producer_at hosted_by m).duty ≡ Serves k
+  new_serves m k e o =
+      let same : m ≡ n = no_two m n (sym o ∙ ap (λ (x : End). x.owner) writer) in
+      ap (λ i. (producer_at hosted_by i).duty) same ∙ duty_of_it ∙ ap Serves (sym e)
+
+  new_owns : (m k : ℕ) → k ≡ length old.streams → (producer_at hosted_by m).duty ≡ Serves k → stream.writer.owner ≡ Host m
+  new_owns m k e d =
+      elim (cases_eq m n) [
+        | inl f ↦ ap (λ (x : End). x.owner) writer ∙ ap Host (sym f)
+        | inr off ↦
+            let made = serving_made old m k h.hosts (sym (duty_of_others m off) ∙ d) in
+            absurd (let less : k < length old.streams = made in omega (arith, less, e))
+      ]
+
+  hosted_serve : (m k : ℕ) → ServesOne hosted_by m k
+  hosted_serve m k = record {
+    serves = at_push old.streams stream no_stream k (λ x. x.writer.owner ≡ Host m → (producer_at hosted_by m).duty ≡ Serves k) (new_serves m k) (λ ne. old_serves m k);
+    owns = at_push old.streams stream no_stream k (λ x. (producer_at hosted_by m).duty ≡ Serves k → x.writer.owner ≡ Host m) (new_owns m k) (old_owns m k);
+    idle = at_push old.streams stream no_stream k (λ x. x.writer.owner ≡ Host m → x.writer.operation ≡ None) (λ e o. ap (λ (x : End). x.operation) writer) (λ ne. (h.hosts.serve m k).idle);
+  }
+
+  hosted_free : (k : ℕ) (side : Side) → StaysOrFree (owner_in old.streams k side) (owner_in (old.streams ++ stream ∷ []) k side)
+  hosted_free k side =
+      at_push old.streams stream no_stream k (λ x. StaysOrFree (owner_in old.streams k side) (end_of side x).owner)
+      (λ e. inr (past k side e, free side))
+      (λ ne. inl refl)
+    where
+      free : (side : Side) → is_held (end_of side stream).owner ≡ false
+      free Writing = ap (λ (x : End). is_held x.owner) writer
+      free Reading = ap (λ (x : End). is_held x.owner) reader
+
+      gone : (side : Side) → is_held (end_of side no_stream).owner ≡ false
+      gone Writing = refl
+      gone Reading = refl
+
+      past : (k : ℕ) (side : Side) → k ≡ length old.streams → is_held (owner_in old.streams k side) ≡ false
+      past k side e = ap (λ (x : Stream). is_held (end_of side x).owner) (get_or_past old.streams k no_stream (omega (arith, e))) ∙ gone side
+
+  Holds-hosted_by : Holds hosted_by
+  Holds-hosted_by = record {
+    sound = IsSound-hosted old stream (set old.producers n producer)
+        (record {
+          writer = subst (λ (x : End). OperationIsPlaced (sizes_of old.guests) stream.payload x.operation) (sym writer) tt;
+          reader = subst (λ (x : End). OperationIsPlaced (sizes_of old.guests) stream.payload x.operation) (sym reader) tt;
+        }) h.sound;
+    held = IsHeld-either old.guests old.guests old.streams (old.streams ++ stream ∷ []) (λ g. refl) hosted_free h.held;
+    hosts = record {
+      all = length-set old.producers n producer ∙ h.hosts.all;
+      serve = hosted_serve;
+      unpiped = λ k. at_push old.streams stream no_stream k (λ x. is_host x.reader.owner ≡ false) (λ e. ap (λ (x : End). is_host x.owner) reader) (λ ne. h.hosts.unpiped k);
+    };
+  }
+
+pub Holds-hosted : (old new : State) (n : ℕ) (reply : Reply) → Hosts old n reply new → Holds old → Holds new
+Holds-hosted old new n reply x h = subst Holds (sym x.is) (Holds-hosted_by old n x.stream h x.known x.unused x.writer x.reader)
+
+-- ## A host writer that goes with the other end
+
+pub Holds-forsaken : (state : State) (s n : ℕ) → (stream_at state s).writer.owner ≡ Host n → Holds state → Holds (forsaken_by state s n)
+Holds-forsaken state s n o h =
+    let stream = stream_at state s in
+    let now = forsaken Reading stream in
+    let made = host_made state s (ap is_host o) in
+    let placed = placed_at state s made h.sound in
+    let sound = IsSound-stream state s now refl (record { writer = placed.writer; reader = placed.reader }) h.sound in
+    record {
+      sound = record { named = sound.named; placed = sound.placed; small = sound.small; sets = sound.sets; contexts = sound.contexts };
+      held = IsHeld-either state.guests state.guests state.streams (set state.streams s now) (λ g. refl) (set_either state.streams s now made owners) h.held;
+      hosts = HostsHold-changed state (forsaken_by state s n) s n now h.hosts true
+          (record { made = made; owner = o; leaves = leaves_ended n state.producers; streams = refl; writer = refl; reader = refl });
+    }
+  where
+    owners : (side : Side) → StaysOrFree (owner_in state.streams s side) (end_of side (forsaken Reading (stream_at state s))).owner
+    owners Writing = free_or true (stream_at state s).writer.owner n o
+    owners Reading = inl refl
+
+-- ## Every part
+
+-- what a read asks for, where nothing refuses it, lies in memory, and its stream was made
+pub record Begun (state : State) (end : NamedEnd) (address count : ℕ) : Type 0 where
+  pub found : IsFound state (OnEnd Reading end (Operate address count)) end.guest end.handle (stream_named (named state end)) Reading
+  pub idle : (stream_at state (stream_named (named state end))).reader.operation ≡ None
+  pub unended : has_ended Reading (kind_of end.ty) (stream_at state (stream_named (named state end))) ≡ false
+  pub placed : IsPlaced (sizes_of state.guests) (stream_at state (stream_named (named state end))).payload (begun end.guest address (items_asked end.ty count))
+
+pub read_begun : (state : State) (end : NamedEnd) (address count : ℕ) → IsSound state → refusal state (OnEnd Reading end (Operate address count)) ≡ None → Begun state end address count
+read_begun state end address count h r =
+    let name = named state end in
+    let stream = stream_at state (stream_named name) in
+    let e = sym (refusal-on_end state Reading end (Operate address count)) ∙ r in
+    let first = none_of_both (region_reasons state end.guest end.ty address count) (handle_reasons name ++ own_reasons state Reading end (Operate address count)) e in
+    let second = none_of_both (handle_reasons name) (own_reasons state Reading end (Operate address count)) first.1 in
+    let region = region_fits state end.guest end.ty address count first.0 in
+    let ok = named_ok state end second.0 in
+    let fits = end_fits stream Reading end.guest end.ty (side_named name) second.1 in
+    record {
+      found = on_end-found state Reading end (Operate address count) h region.there ok fits.same;
+      idle = fits.idle;
+      unended = fits.unended;
+      placed = placed_begun state end.guest end.ty address count stream.payload (found_payload state end h ok) region;
+    }
+
+waiting_placed : (state : State) (s : ℕ) (read : Operation) → s < length state.streams → (stream_at state s).reader.operation ≡ Some read → IsSound state → IsPlaced (sizes_of state.guests) (stream_at state s).payload read
+waiting_placed state s read l e h = subst (OperationIsPlaced (sizes_of state.guests) (stream_at state s).payload) e (placed_at state s l h).reader
+
+-- the stream of a read that was opened
+pub opened_payload : (state : State) (s : ℕ) (read : Operation) → (stream_at (opened_by state s read) s).payload ≡ (stream_at state s).payload
+opened_payload state s read = set-keeps (λ (x : Stream). x.payload) state.streams s s (with_operation Reading (stream_at state s) read) no_stream refl
+
+pub opened_owner : (state : State) (s : ℕ) (read : Operation) → (stream_at (opened_by state s read) s).writer.owner ≡ (stream_at state s).writer.owner
+opened_owner state s read = set-keeps (λ (x : Stream). x.writer.owner) state.streams s s (with_operation Reading (stream_at state s) read) no_stream refl
+
+module _ (old new : State) (reply : Reply) (h : Holds old) where
+  Holds-driven : (s : ℕ) → Driven old new s → Holds new
+  Holds-driven s d =
+      let made = host_made old s (ap is_host d.owner) in
+      Holds-turned old new s d.writer d.read h d.owner d.turned (waiting_placed old s d.read made d.waits h.sound)
+
+  Holds-read : (end : NamedEnd) (address count : ℕ) → Reads old end address count reply new → Holds new
+  Holds-read end address count r =
+      let s = stream_named (named old end) in
+      let read = begun end.guest address (items_asked end.ty count) in
+      let opened = opened_by old s read in
+      let b = read_begun old end address count h.sound r.unrefused in
+      let first = Holds-opened old s read b.found.made b.placed h in
+      let owned : (stream_at opened s).writer.owner ≡ Host r.writer = opened_owner old s read ∙ r.owner in
+      let placed : IsPlaced (sizes_of old.guests) (stream_at opened s).payload read = subst (λ p. IsPlaced (sizes_of old.guests) p read) (sym (opened_payload old s read)) b.placed in
+      let second = Holds-turned opened r.mid s r.writer read first owned r.turned placed in
+      subst Holds (sym r.is) (Holds-told r.mid s (turned_made opened r.mid s r.writer read owned r.turned) second)
+
+  pub Holds-effect : (part : Part) → Effect old part reply new → Holds new
+  Holds-effect part (ByReaction act p r e) = subst Holds (sym e) (Holds-reaction old act h)
+  Holds-effect part (ByRest i e) = subst Holds (sym e) h
+  Holds-effect part (ByHosting n p x) = Holds-hosted old new n reply x h
+  Holds-effect part (ByDriving s p d) = Holds-driven s d
+  Holds-effect part (ByReading end address count p r) = Holds-read end address count r
+  Holds-effect part (ByForsaking act p f) =
+      subst Holds (sym f.is) (Holds-forsaken (reaction old act).state f.stream f.writer f.owner (Holds-reaction old act h))
+
+-- ## Runs
+
+pub Holds-next : (world : World) (m : HostMoment) → Follows world m → Holds world.state → Holds m.after.state
+Holds-next world m f h = Holds-effect world.state m.after.state m.reply h m.part (follows_effect world m f h.hosts.unpiped)
+
+pub Holds-chain : (world : World) (all : List HostMoment) → Chain world all → Holds world.state → Holds (last_of world all).state
+Holds-chain world [] c h = h
+Holds-chain world (m ∷ more) c h = Holds-chain m.after more c.1 (Holds-next world m c.0 h)
+
+pub Holds-empty : (tag : ℕ) (limits : Limits) → Holds (empty tag limits)
+Holds-empty tag limits = record {
+  sound = IsSound-empty tag limits;
+  held = record {
+    tables = λ g. IsTable-no_handles;
+    agree = record { named = λ g handle s side is. absurd (none_named handle s side is); held = λ g handle s side is. absurd (none_held side g handle is) };
+  };
+  hosts = HostsHold-empty tag limits;
+}
+  where
+    none_named : (handle s : ℕ) (side : Side) → is_end s side (end_rep_of no_handles handle) ≡ true → ⊥
+    none_named zero s side is = cc
+    none_named (suc i) s side is = cc
+
+    none_held : (side : Side) (g handle : ℕ) → (end_of side no_stream).owner ≡ Held g handle → ⊥
+    none_held Writing g handle is = cc
+    none_held Reading g handle is = cc
+
+-- after whichever steps of a run from an unused store among whichever host ends
+pub run-holds : (tag : ℕ) (limits : Limits) (old new : Tells) (run : List Step) → Holds (last_of (start tag limits old new) (host_moments (start tag limits old new) run)).state
+run-holds tag limits old new run =
+    let first = start tag limits old new in
+    Holds-chain first (host_moments first run) (moments-chain first run) (Holds-empty tag limits)
