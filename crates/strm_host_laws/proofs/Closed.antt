@@ -32,7 +32,7 @@ use Rattle.strm_host_laws.specs.HostMoments.{Part, Acts, HostMoment, part_on, ho
 use Rattle.strm_host_laws.specs.HostLaws.{is_ended, ClosesExactly}
 use Rattle.strm_host_laws.proofs.Chains.{is_part, Chain, moments-chain, StopsAt, play-ends, play-halts}
 use Rattle.strm_host_laws.proofs.Goings.{with_state, Begins, hosted, Rules, Halted, Comes, with_stream_in-same, part-comes, feed-comes}
-use Rattle.strm_host_laws.proofs.Owners.{HostsFrom, HostsFromIn, set-from, reaction-from}
+use Rattle.strm_host_laws.proofs.Owners.{HostsFrom, HostsFromIn, same_writer, set-from, reaction-from}
 
 -- WHAT ONE OF A LIST BECOMES
 
@@ -46,10 +46,16 @@ set-keeps f (y ∷ ys) (suc n) (suc k) x d e = set-keeps f ys n k x d e
 
 -- WHAT HOLDS OF A RUN SO FAR
 
+-- the host writer of a stream is there, of the stream's payload
+pub record IsThere (w : World) (s n : ℕ) : Type 0 where
+  pub there : n < length w.writers
+  pub known : n < host_limit
+  pub payload : (writer_at w n).payload ≡ (stream_in w s).payload
+
 -- host writers that have a stream are there, and those are closed that were so at first or are gone
 pub record Stands (first : World) (w : World) : Type 0 where
   pub kept : length w.state.producers ≡ host_limit
-  pub there : (s n : ℕ) → (stream_in w s).writer.owner ≡ Host n → (n < length w.writers) × (n < host_limit)
+  pub there : (s n : ℕ) → (stream_in w s).writer.owner ≡ Host n → IsThere w s n
   pub closes : ClosesExactly first w.state w.writers
 
 or-true : (b : Bool) → (b || true) ≡ true
@@ -88,12 +94,15 @@ unused-unended Unused e = refl
 unused-unended (Serves s) e = cc
 unused-unended Ended e = cc
 
--- whose write end a stream behind others is
+-- whose write end a stream of a number is once one more stands behind the others
+abbrev PushHosts : Stream → Stream → Stream → ℕ → ℕ → Type 0
+PushHosts old x new k n = ((old.writer.owner ≡ Host k) × (new.payload ≡ old.payload)) ⊎ ((k ≡ n) × (new.payload ≡ x.payload))
+
 push-hosts : (xs : List Stream) (x : Stream) (s k n : ℕ) → x.writer.owner ≡ Host n → (get_or (xs ++ x ∷ []) s no_stream).writer.owner ≡ Host k
-    → ((get_or xs s no_stream).writer.owner ≡ Host k) ⊎ (k ≡ n)
-push-hosts [] x zero k n e f = let same : Host k ≡ Host n = sym f ∙ e in inr cc
-push-hosts [] x (suc s) k n e f = inl f
-push-hosts (y ∷ ys) x zero k n e f = inl f
+    → PushHosts (get_or xs s no_stream) x (get_or (xs ++ x ∷ []) s no_stream) k n
+push-hosts [] x zero k n e f = let same : Host k ≡ Host n = sym f ∙ e in inr (cc, refl)
+push-hosts [] x (suc s) k n e f = inl (f, refl)
+push-hosts (y ∷ ys) x zero k n e f = inl (f, refl)
 push-hosts (y ∷ ys) x (suc s) k n e f = push-hosts ys x s k n e f
 
 -- what is kept of a writer after an answer
@@ -126,7 +135,11 @@ module _ (first : World) where
     there = λ s k e.
         let r = h.there s k e in
         let same = length-set w.writers n (closed_writer (writer_at w n)) in
-        (omega (arith, r.0, same), r.1);
+        record {
+          there = omega (arith, r.there, same);
+          known = r.known;
+          payload = set-keeps (λ (x : Writer). x.payload) w.writers n k (closed_writer (writer_at w n)) no_writer refl ∙ r.payload;
+        };
     closes = λ k. without-closes w n k l (omega (arith, p, h.kept)) h.closes;
   }
 
@@ -141,14 +154,28 @@ module _ (first : World) where
   Stands-stream w s stream f h =
       let v = with_state w (record w.state { streams = slice_set w.state.streams s stream }) in
       leaves-stands (stream_in w s).writer.owner stream.writer.owner v
-      (record { kept = h.kept; there = λ k n e. h.there k n (set-from w.state.streams s stream f k n e); closes = h.closes })
-      (λ n e. h.there s n e)
+      (record {
+        kept = h.kept;
+        there = λ k n e.
+            let from = set-from w.state.streams s stream f k n e in
+            let r = h.there k n from.0 in
+            record { there = r.there; known = r.known; payload = r.payload ∙ sym from.1 };
+        closes = h.closes;
+      })
+      (λ n e. let r = h.there s n e in (r.there, r.known))
 
   -- a writer that tells something else, and is closed as it was
-  Stands-writer : (w : World) (n : ℕ) (writer : Writer) → writer.closed ≡ (writer_at w n).closed → Stands first w → Stands first (with_writer w n writer)
-  Stands-writer w n writer e h = record {
+  Stands-writer : (w : World) (n : ℕ) (writer : Writer) → writer.closed ≡ (writer_at w n).closed → writer.payload ≡ (writer_at w n).payload → Stands first w → Stands first (with_writer w n writer)
+  Stands-writer w n writer e p h = record {
     kept = h.kept;
-    there = λ s k f. let r = h.there s k f in let same = length-set w.writers n writer in (omega (arith, r.0, same), r.1);
+    there = λ s k f.
+        let r = h.there s k f in
+        let same = length-set w.writers n writer in
+        record {
+          there = omega (arith, r.there, same);
+          known = r.known;
+          payload = set-keeps (λ (x : Writer). x.payload) w.writers n k writer no_writer p ∙ r.payload;
+        };
     closes = λ k. set-keeps (λ (x : Writer). x.closed) w.writers n k writer no_writer e ∙ h.closes k;
   }
 
@@ -157,14 +184,17 @@ module _ (first : World) where
       → Stands first (with_state w (record w.state { producers = slice_set w.state.producers n producer }))
   Stands-producer w n producer e h = record {
     kept = length-set w.state.producers n producer ∙ h.kept;
-    there = h.there;
+    there = λ s k f. let r = h.there s k f in record { there = r.there; known = r.known; payload = r.payload };
     closes = λ k. h.closes k ∙ ap (λ b. (writer_at first k).closed || b) (sym (set-keeps (λ (x : Producer). is_ended x.duty) w.state.producers n k producer no_producer e));
   }
 
   Stands-reacts : (w : World) (state : State) → state.producers ≡ w.state.producers → HostsFromIn w.state.streams state.streams → Stands first w → Stands first (with_state w state)
   Stands-reacts w state e f h = record {
     kept = ap length e ∙ h.kept;
-    there = λ s n g. h.there s n (f s n g);
+    there = λ s n g.
+        let from = f s n g in
+        let r = h.there s n from.0 in
+        record { there = r.there; known = r.known; payload = r.payload ∙ sym from.1 };
     closes = λ k. h.closes k ∙ ap (λ ps. (writer_at first k).closed || is_ended (get_or ps k no_producer).duty) (sym e);
   }
 
@@ -177,15 +207,19 @@ module _ (first : World) where
       record {
         kept = served.kept;
         there = λ s k e. elim (push-hosts w.state.streams (hosted_stream (writer_at w n) n) s k n refl e) [
-          | inl f ↦ served.there s k f
-          | inr f ↦ (subst (λ j. j < length w.writers) (sym f) i.there, subst (λ j. j < host_limit) (sym f) i.known)
+          | inl f ↦ (let r = served.there s k f.0 in record { there = r.there; known = r.known; payload = r.payload ∙ sym f.1 })
+          | inr f ↦ record {
+            there = subst (λ j. j < length w.writers) (sym f.0) i.there;
+            known = subst (λ j. j < host_limit) (sym f.0) i.known;
+            payload = ap (λ j. (writer_at w j).payload) f.0 ∙ sym f.1;
+          }
         ];
         closes = served.closes;
       }
 
   -- ALL CHANGES
 
-  abbrev Kept : World → World → Type 0
+  abbrev pub Kept : World → World → Type 0
   Kept w v = Stands first w → Stands first v
 
   rules : Rules Kept
@@ -193,13 +227,13 @@ module _ (first : World) where
     begins = record {
       stays = λ w h. h;
       joins = λ a b c f g h. g (f h);
-      opens = λ w s stream e. Stands-stream w s stream (λ n f. sym e ∙ f);
-      polls = λ w n room said more e. Stands-writer w n (polled_writer (writer_at w n) room said more) refl;
+      opens = λ w s stream e. Stands-stream w s stream (same_writer (stream_in w s) stream e);
+      polls = λ w n room said more e. Stands-writer w n (polled_writer (writer_at w n) room said more) refl refl;
     };
     reacts = λ w act. Stands-reacts w (reaction w.state act).state (reaction-producers w.state act) (reaction-from w.state act);
-    lowers = λ w guests h. record { kept = h.kept; there = h.there; closes = h.closes };
+    lowers = λ w guests h. record { kept = h.kept; there = λ s k f. (let r = h.there s k f in record { there = r.there; known = r.known; payload = r.payload }); closes = h.closes };
     overs = λ w n answer. Stands-producer w n (with_over_producer w n answer) refl;
-    gives = λ w n k. Stands-writer w n (given_writer (writer_at w n) k) refl;
+    gives = λ w n k. Stands-writer w n (given_writer (writer_at w n) k) refl refl;
     leaves = λ w s stream e. Stands-stream w s stream (λ n f. let wrong : Gone ≡ Host n = sym e ∙ f in cc);
     hosts = λ w n e. new_stands w n (is_new w n e);
   }
@@ -207,23 +241,23 @@ module _ (first : World) where
 -- WHERE A STEP STOPS
 
 -- host writers are closed as they were
-abbrev SameClosed : World → World → Type 0
+abbrev pub SameClosed : World → World → Type 0
 SameClosed w v = (n : ℕ) → (writer_at v n).closed ≡ (writer_at w n).closed
 
 begins : Begins SameClosed
 begins = record {
   stays = λ w n. refl;
   joins = λ a b c f g n. g n ∙ f n;
-  opens = λ w s stream e n. ap (λ v. (writer_at v n).closed) (with_stream_in-same w s stream e);
+  opens = λ w s stream e n. ap (λ v. (writer_at v n).closed) (with_stream_in-same w s stream e.owner);
   polls = λ w n room said more e k. set-keeps (λ (x : Writer). x.closed) w.writers n k (polled_writer (writer_at w n) room said more) no_writer refl;
 }
 
 -- RUNS
 
 module _ (first : World) where
-  part-closes : (w : World) (part : Part) → is_part part ≡ true → Comes (Kept first) SameClosed w (part_on w part)
+  pub part-closes : (w : World) (part : Part) → is_part part ≡ true → Comes (Kept first) SameClosed w (part_on w part)
   part-closes w (Acts (OnHost n (Feed bytes))) p =
-      feed-comes (Kept first) SameClosed (rules first) begins w n bytes (λ e. Stands-writer first w n (fed_writer (writer_at w n) bytes) refl)
+      feed-comes (Kept first) SameClosed (rules first) begins w n bytes (λ e. Stands-writer first w n (fed_writer (writer_at w n) bytes) refl refl)
   part-closes w part p = part-comes (Kept first) SameClosed (rules first) begins w part p refl
 
   chain-closes : (w : World) (all : List HostMoment) → Chain w all → Stands first w → Stands first (last_of w all)
@@ -251,7 +285,7 @@ or-false : (b : Bool) → (b || false) ≡ b
 or-false true = refl
 or-false false = refl
 
-Stands-start : (tag : ℕ) (limits : Limits) (old new : Tells) → Stands (start tag limits old new) (start tag limits old new)
+pub Stands-start : (tag : ℕ) (limits : Limits) (old new : Tells) → Stands (start tag limits old new) (start tag limits old new)
 Stands-start tag limits old new =
     let first = start tag limits old new in
     record {

@@ -18,13 +18,13 @@ use Rattle.strm_machine.specs.declared.replies.Reply.{Reply}
 use Rattle.strm_machine.specs.declared.replies.Reply.TheVariants as replies
 use Rattle.strm_world.specs.Ends.{Writer, no_writer, polled_writer, given_writer, fed_writer, closed_writer}
 use Rattle.strm_world.specs.World.{World, writer_at, with_writer, leaves_writer, with_stream_in}
-use Rattle.strm_world.specs.Outcomes.{Outcome, Goes}
+use Rattle.strm_world.specs.Outcomes.{Goes}
 use Rattle.strm_world.specs.HostRefusals.{is_unknown_host, refusal_in}
 use Rattle.strm_world.specs.Steps.{performs_in, unless_refused_in, outcome}
 use Rattle.strm_host_laws.specs.HostMoments.{Part, Acts, HostMoment, part_on, host_moments, last_of}
 use Rattle.strm_host_laws.specs.HostLaws.{used, used_in, all_used, fed_in, all_fed, GoesOn}
 use Rattle.strm_host_laws.proofs.Chains.{is_part, Follows, Chain, moments-chain}
-use Rattle.strm_host_laws.proofs.Goings.{Begins, Rules, Comes, is_feed, part-comes}
+use Rattle.strm_host_laws.proofs.Goings.{Begins, Rules, Comes, IfGoes, is_feed, part-comes}
 use Rattle.strm_host_laws.proofs.Closed.{unmet, not_over}
 
 -- WHAT HOLDS OF EACH HOST WRITER
@@ -37,7 +37,7 @@ pub record OfWriters (P : Writer → Writer → Type 0) : Type 0 where
   pub given : (a : Writer) (k : ℕ) → P a (given_writer a k)
   pub closed : (a : Writer) → P a (closed_writer a)
 
-set-relates : {A : Type 0} (P : A → A → Type 0) (xs : List A) (n k : ℕ) (x d : A) → ((y : A) → P y y) → P (get_or xs n d) x → P (get_or xs k d) (get_or (set xs n x) k d)
+pub set-relates : {A : Type 0} (P : A → A → Type 0) (xs : List A) (n k : ℕ) (x d : A) → ((y : A) → P y y) → P (get_or xs n d) x → P (get_or xs k d) (get_or (set xs n x) k d)
 set-relates P [] n k x d same h = same d
 set-relates P (y ∷ ys) zero zero x d same h = h
 set-relates P (y ∷ ys) zero (suc k) x d same h = same (get_or ys k d)
@@ -49,7 +49,7 @@ module _ (P : Writer → Writer → Type 0) (of : OfWriters P) where
   abbrev pub OfEach : World → World → Type 0
   OfEach w v = (n : ℕ) → P (writer_at w n) (writer_at v n)
 
-  with-each : (w : World) (n : ℕ) (writer : Writer) → P (writer_at w n) writer → OfEach w (with_writer w n writer)
+  pub with-each : (w : World) (n : ℕ) (writer : Writer) → P (writer_at w n) writer → OfEach w (with_writer w n writer)
   with-each w n writer h k = set-relates P w.writers n k writer no_writer of.same h
 
   leaves-each : (old new : Owner) (w : World) → OfEach w (leaves_writer old new w)
@@ -60,7 +60,7 @@ module _ (P : Writer → Writer → Type 0) (of : OfWriters P) where
   stream-each : (w : World) (s : ℕ) → ((old new : Owner) (v : World) → v.writers ≡ w.writers → OfEach w (leaves_writer old new v))
   stream-each w s old new v e = λ k. subst (λ ws. P (get_or ws k no_writer) (writer_at (leaves_writer old new v) k)) e (leaves-each old new v k)
 
-  begins-each : Begins OfEach
+  pub begins-each : Begins OfEach
   unfolding with_stream_in
   begins-each = record {
     stays = λ w n. of.same (writer_at w n);
@@ -118,7 +118,7 @@ of_uses = record {
   closed = λ a. uses_none a (closed_writer a) refl refl refl refl refl;
 }
 
-take-front : {A : Type 0} (xs ys : List A) (n : ℕ) → n ≡ length xs → take n (xs ++ ys) ≡ xs
+pub take-front : {A : Type 0} (xs ys : List A) (n : ℕ) → n ≡ length xs → take n (xs ++ ys) ≡ xs
 take-front [] ys zero e = refl
 take-front [] ys (suc n) e = absurd (omega (arith, e))
 take-front (x ∷ xs) ys zero e = absurd (omega (arith, e))
@@ -132,11 +132,6 @@ used_are before after said e =
     ∙ take-front said after (length (said ++ after) - length after) (omega (arith, l))
 
 -- FEEDS
-
--- what holds where a part goes on
-abbrev IfGoes : Outcome → (Reply → World → Type 0) → Type 0
-IfGoes (Goes reply v) P = P reply v
-IfGoes _ P = Unit {0}
 
 -- a host writer in one moment
 pub record Moves (n : ℕ) (part : Part) (reply : Reply) (a b : Writer) : Type 0 where

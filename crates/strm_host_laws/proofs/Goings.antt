@@ -1,6 +1,6 @@
 -- What comes of a part of a run, by the changes that it is made of: what holds of each of them and from
 -- one to the next holds of the whole.
-use Rattle.std.proofs.Common.{◌≡◌, ℕ, Bool, true, false, cond, List, [], ◌∷◌, length, take, drop, Option, Some, None, refl, ap, ◌∙◌}
+use Rattle.std.proofs.Common.{◌≡◌, ◌==◌, ℕ, Bool, true, false, cond, List, [], ◌∷◌, length, take, drop, Option, Some, None, refl, ap, ◌∙◌}
 use Rattle.std.proofs.lemmas.Bool.{cond_both}
 use Rattle.std.specs.Prelude.{slice_set}
 use Rattle.strm_codes.specs.declared.codes.ReturnCode.{ReturnCode}
@@ -42,9 +42,11 @@ use Rattle.strm_world.specs.Attaching.{hosted_stream, with_new_stream, hosts_new
 use Rattle.strm_world.specs.Driving.{if_open, driven_by, drive_turn}
 use Rattle.strm_world.specs.HostRefusals.{refusal_in}
 use Rattle.strm_world.specs.Steps.{reacts, reads_from, operates_by, drops_in, performs_in, unless_refused_in, outcome}
-use Rattle.strm_world.proofs.SettleLemmas.{is_done_with, moved_on-owner, delivered-owner}
+use Rattle.strm_machine.specs.Turns.{with_received}
+use Rattle.strm_world.proofs.SettleLemmas.{is_done_with, moved_on-owner}
 use Rattle.strm_host_laws.specs.HostMoments.{Part, Acts, Turns, part_on}
 use Rattle.strm_host_laws.proofs.Chains.{is_part}
+use Rattle.strm_host_laws.proofs.Owners.{WriterStays, with_operation-stays}
 
 -- CHANGES
 
@@ -60,7 +62,7 @@ with_state w state = record w { state = state }
 pub record Begins (K : World → World → Type 0) : Type 0 where
   pub stays : (w : World) → K w w
   pub joins : (a b c : World) → K a b → K b c → K a c
-  pub opens : (w : World) (s : ℕ) (stream : Stream) → stream.writer.owner ≡ (stream_in w s).writer.owner → K w (with_stream_in w s stream)
+  pub opens : (w : World) (s : ℕ) (stream : Stream) → WriterStays (stream_in w s) stream → K w (with_stream_in w s stream)
   pub polls : (w : World) (n : ℕ) (room : Option ℕ) (said : WriterSaid) (more : List WriterSaid) → (writer_at w n).coming ≡ said ∷ more → K w (with_writer w n (polled_writer (writer_at w n) room said more))
 
 -- host writer n has a stream more
@@ -89,10 +91,30 @@ Comes R K w (Goes reply after) = R w after
 Comes R K w (Stops stop writers readers) = Halted K w writers
 Comes R K w Stuck = Unit {0}
 
+-- what holds where it goes on
+abbrev pub IfGoes : Outcome → (Reply → World → Type 0) → Type 0
+IfGoes (Goes reply v) P = P reply v
+IfGoes _ P = Unit {0}
+
 -- bytes are passed on to a host writer
 abbrev pub is_feed : Part → Bool
 is_feed (Acts (OnHost n (Feed bytes))) = true
 is_feed _ = false
+
+-- the stream of a turn, and of a report told, is of the same payload
+some_received-payload : (stream : Stream) (b : Bool) (n : ℕ) → (cond b stream (with_received stream n)).payload ≡ stream.payload
+some_received-payload stream true n = refl
+some_received-payload stream false n = refl
+
+pub moved_on-payload : (stream : Stream) (read : Operation) (n : ℕ) (result : Option StreamResult) → (moved_on Reading stream read n result).payload ≡ stream.payload
+unfolding moved_on
+moved_on-payload stream read n None = some_received-payload stream (n == 0) n
+moved_on-payload stream read n (Some results.Dropped) = some_received-payload stream (n == 0) n
+moved_on-payload stream read n (Some _) = some_received-payload stream (n == 0) n
+
+pub delivered-stays : (stream : Stream) → WriterStays stream (delivered Reading stream)
+unfolding delivered
+delivered-stays stream = record { owner = refl; payload = refl }
 
 -- a stream written back whose host writer stays
 leaves_writer-same : (owner : Owner) (w : World) → leaves_writer owner owner w ≡ w
@@ -132,7 +154,7 @@ module _ (R K : World → World → Type 0) (rules : Rules R) (begins : Begins K
       let now = moved_on Reading stream read (length items) result in
       let v = with_guests w (lowered w.state.guests stream.payload read items) in
       joined w v (with_stream_in v s now) (rules.lowers w (lowered w.state.guests stream.payload read items))
-      (rules.begins.opens v s now (moved_on-owner stream read (length items) result ∙ ap (λ b. cond b Gone stream.writer.owner) e))
+      (rules.begins.opens v s now (record { owner = moved_on-owner stream read (length items) result ∙ ap (λ b. cond b Gone stream.writer.owner) e; payload = moved_on-payload stream read (length items) result }))
 
   receives-comes : (w : World) (s : ℕ) (read : Operation) (items : List Item) (result : Option StreamResult) → R w (receives w s read items result)
   receives-comes w s read items result = receives-by w s read items result (is_done_with result) refl
@@ -194,7 +216,7 @@ module _ (R K : World → World → Type 0) (rules : Rules R) (begins : Begins K
 
   answers-comes : (w : World) (s : ℕ) (report : Option ReturnCode) → Is w (answered_with w s Reading report)
   answers-comes w s (Some code) =
-      rules.begins.opens w s (delivered Reading (stream_in w s)) (delivered-owner (stream_in w s))
+      rules.begins.opens w s (delivered Reading (stream_in w s)) (delivered-stays (stream_in w s))
   answers-comes w s None = rules.begins.stays w
 
   answered-behind : (a b : World) (s : ℕ) (report : Option ReturnCode) → R a b → Is a (answered_with b s Reading report)
@@ -211,7 +233,7 @@ module _ (R K : World → World → Type 0) (rules : Rules R) (begins : Begins K
   reads-comes w s n read =
       let stream = with_operation Reading (stream_in w s) read in
       let opened = with_stream_in w s stream in
-      then-comes w opened s (producer_turn opened s n read) (rules.begins.opens w s stream refl) (begins.opens w s stream refl)
+      then-comes w opened s (producer_turn opened s n read) (rules.begins.opens w s stream (with_operation-stays Reading (stream_in w s) read)) (begins.opens w s stream (with_operation-stays Reading (stream_in w s) read))
       (turn-comes opened s n read)
 
   -- WHAT THE MACHINE DOES WITHOUT HOST ENDS
@@ -226,7 +248,7 @@ module _ (R K : World → World → Type 0) (rules : Rules R) (begins : Begins K
       let r = reaction w.state act in replied-comes w r.reply r.state (rules.reacts w act)
 
   forsaken-comes : (w : World) (s : ℕ) (side : Side) → R w (with_stream_in w s (forsaken side (stream_in w s)))
-  forsaken-comes w s Writing = rules.begins.opens w s (forsaken Writing (stream_in w s)) refl
+  forsaken-comes w s Writing = rules.begins.opens w s (forsaken Writing (stream_in w s)) (record { owner = refl; payload = refl })
   forsaken-comes w s Reading = rules.leaves w s (forsaken Reading (stream_in w s)) refl
 
   forsakes-comes : (w : World) (s : ℕ) (side : Side) (o : Outcome) → Is w o → Is w (forsakes o s side)

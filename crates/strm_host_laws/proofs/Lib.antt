@@ -7,3 +7,14 @@ pub mod Effects
 pub mod TurnMoves
 pub mod Standing
 pub mod GuestLaws
+pub mod Turned
+pub mod Sounds
+pub mod Lowered
+pub mod Unmoved
+pub mod Forms
+pub mod WorldsHold
+pub mod Lives
+pub mod Touched
+pub mod Moments
+pub mod Delivered
+pub mod Counted

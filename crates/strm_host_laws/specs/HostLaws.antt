@@ -1,17 +1,25 @@
 -- What holds of every run with host writers. Ours.
-use Rattle.std.specs.Prelude.{◌≡◌, ℕ, ◌+◌, ◌-◌, ◌==◌, Bool, true, false, ◌||◌, if◌then◌else◌, List, [], ◌∷◌, ◌++◌, length, take}
+use Rattle.std.specs.Prelude.{◌≡◌, ℕ, ◌+◌, ◌-◌, ◌==◌, Bool, true, false, ◌||◌, if◌then◌else◌, List, [], ◌∷◌, ◌++◌, length, map, take, All, Option, Some}
 use Rattle.std.specs.Option.{option_map}
+use Rattle.strm_codes.specs.Layout.{scalars_of}
+use Rattle.strm_memory.specs.Items.{AreItems}
+use Rattle.strm_buffers.specs.Listing.{Item}
 use Rattle.strm_buffers.specs.Said.{WriterSaid}
-use Rattle.strm_machine.specs.State.{State, producer_at}
-use Rattle.strm_machine.specs.declared.acts.Act.TheVariants.{OnHost}
-use Rattle.strm_machine.specs.declared.acts.HostAct.TheVariants.{Feed}
+use Rattle.strm_machine.specs.State.{State, is_host, producer_at}
+use Rattle.strm_machine.specs.Moments.{Moment, received, got_in}
+use Rattle.strm_machine.specs.declared.acts.Act.{Act}
+use Rattle.strm_machine.specs.declared.acts.Act.TheVariants.{OnHost, Drive}
+use Rattle.strm_machine.specs.declared.acts.HostAct.TheVariants.{New, Feed}
 use Rattle.strm_machine.specs.declared.replies.Reply.{Reply}
 use Rattle.strm_machine.specs.declared.replies.Reply.TheVariants as replies
 use Rattle.strm_machine.specs.declared.streams.Duty.{Duty}
 use Rattle.strm_machine.specs.declared.streams.Duty.TheVariants.{Ended}
+use Rattle.strm_machine.specs.declared.streams.Owner.{Owner}
+use Rattle.strm_machine.specs.declared.streams.Owner.TheVariants.{Host}
 use Rattle.strm_world.specs.Ends.{Writer, writer_in}
-use Rattle.strm_world.specs.World.{World, writer_at}
-use Rattle.strm_host_laws.specs.HostMoments.{Part, Acts, HostMoment}
+use Rattle.strm_world.specs.World.{World, stream_in, writer_at}
+use Rattle.strm_world.specs.Does.{SaidFits}
+use Rattle.strm_host_laws.specs.HostMoments.{Part, Acts, Turns, HostMoment}
 
 -- CLOSES
 
@@ -42,6 +50,11 @@ abbrev pub all_used : ℕ → List HostMoment → List WriterSaid
 all_used n [] = []
 all_used n (m ∷ more) = used_in n m ++ all_used n more
 
+-- the items of records
+abbrev pub items_of : List WriterSaid → List Item
+items_of [] = []
+items_of (said ∷ more) = said.items ++ items_of more
+
 -- what a feed passes on to host writer n, if it is accepted: the bytes, behind so many records
 abbrev pub fed_in : ℕ → ℕ → Part → Reply → List (ℕ × List ℕ)
 fed_in n spoken (Acts (OnHost host (Feed bytes))) replies.Done =
@@ -60,3 +73,81 @@ pub record GoesOn (n : ℕ) (all : List HostMoment) (first last : Writer) : Type
   pub records : first.coming ≡ all_used n all ++ last.coming
   pub spoken : last.spoken ≡ first.spoken + length (all_used n all)
   pub heard : last.heard ≡ option_map (λ xs. xs ++ all_fed n all) first.heard
+
+-- WHAT HOST WRITERS PRODUCED
+
+-- what a host writer held when stream s was made of it
+abbrev pub made_of : ℕ → World → Part → Reply → List Item
+made_of s world (Acts (OnHost host New)) (replies.Number n) =
+    if n == s then (writer_at world host).holds else []
+made_of s world part reply = []
+
+-- the items of the records that a write end of this owner used in a moment
+abbrev pub produced_by : HostMoment → Owner → List Item
+produced_by m (Host n) = items_of (used_in n m)
+produced_by m owner = []
+
+-- on stream s
+abbrev pub produced_in : ℕ → HostMoment → List Item
+produced_in s m = produced_by m (stream_in m.before s).writer.owner
+
+-- all that the host writer of stream s produced in these moments: what it held when the stream was made,
+-- and then the items of its records
+abbrev pub produced : ℕ → List HostMoment → List Item
+produced s [] = []
+produced s (m ∷ more) = made_of s m.before m.part m.reply ++ (produced_in s m ++ produced s more)
+
+-- WHAT WAS RECEIVED
+
+-- the act that a part is of
+abbrev pub act_in : Part → Act
+act_in (Acts act) = act
+act_in (Turns s) = Drive
+
+-- a moment without what its host ends tell
+abbrev pub plain : HostMoment → Moment
+plain m = record {
+  act = act_in m.part;
+  before = m.before.state;
+  reply = m.reply;
+  after = m.after.state;
+}
+
+-- the items received on stream s in these moments, each as it lay in the reader's memory just after it
+-- was received
+abbrev pub host_got : ℕ → List HostMoment → List (Option Item)
+host_got s [] = []
+host_got s (m ∷ more) = got_in s (plain m) ++ host_got s more
+
+-- DELIVERS
+
+-- stream s was made of a host writer in a moment
+abbrev pub is_made_by : ℕ → Part → Reply → Bool
+is_made_by s (Acts (OnHost host New)) (replies.Number n) = n == s
+is_made_by s part reply = false
+
+-- and in one of these
+abbrev pub is_hosted : ℕ → List HostMoment → Bool
+is_hosted s [] = false
+is_hosted s (m ∷ more) = is_made_by s m.part m.reply || is_hosted s more
+
+-- what is held on a stream of this write end's owner
+abbrev pub held_by : World → Owner → List Item
+held_by world (Host n) = (writer_at world n).holds
+held_by world owner = []
+
+-- what a host writer holds and what its records produce are items of its payload
+pub record Supplies (writer : Writer) : Type 0 where
+  pub holds : AreItems (scalars_of writer.payload) writer.holds
+  pub coming : All (SaidFits writer.payload) writer.coming
+
+-- what the host writer of stream s produced is, in order, what was received and what is held, while it is
+-- an end of the stream; from then on what was received comes first of it, and the rest is given up. As
+-- many items were counted
+pub record DeliversAll (s : ℕ) (all : List HostMoment) (last : World) : Type 0 where
+  pub there :
+      is_host (stream_in last s).writer.owner ≡ true →
+      map Some (produced s all) ≡ host_got s all ++ map Some (held_by last (stream_in last s).writer.owner)
+  pub given_up : is_hosted s all ≡ true →
+      host_got s all ≡ take (length (host_got s all)) (map Some (produced s all))
+  pub count : is_hosted s all ≡ true → length (host_got s all) ≡ received s last.state

@@ -3,7 +3,7 @@
 //! Meaning: `HostLaws.antt`, `HostMoments.antt`, and `HostPlays.antt` and `Does.antt` of `strm_world`.
 //! Ours.
 
-ghost use Rattle.std.specs.Prelude.{◌≡◌, ℕ, List, []};
+ghost use Rattle.std.specs.Prelude.{◌≡◌, ℕ, ◌≤◌, List, [], length};
 ghost use Rattle.strm_buffers.specs.Tells.{Tells};
 ghost use Rattle.strm_machine.specs.declared.limits.Limits.{Limits};
 ghost use Rattle.strm_machine.specs.declared.replies.Reply.{Reply};
@@ -14,7 +14,7 @@ ghost use Rattle.strm_world.specs.World.{World, writer_at};
 ghost use Rattle.strm_world.specs.HostPlays.{Ends, Halts, play};
 ghost use Rattle.strm_world.specs.Does.{start};
 ghost use Rattle.strm_host_laws.specs.HostMoments.{host_moments, last_of};
-ghost use Rattle.strm_host_laws.specs.HostLaws.{ClosesExactly, GoesOn};
+ghost use Rattle.strm_host_laws.specs.HostLaws.{ClosesExactly, GoesOn, Supplies, DeliversAll};
 
 /// The moments of a run lead to where its play ends, from whichever world.
 pub fn moments_lead_to_the_end()
@@ -47,4 +47,15 @@ pub fn writers_are_fed_exactly()
     ensures { (first : World) (run : List Step) (n : ℕ) →
         GoesOn n (host_moments first run) (writer_at first n)
         (writer_at (last_of first (host_moments first run)) n) }
+{}
+
+/// On each stream of a host writer, what the writer held when the stream was made and the items of all
+/// records that it used are, in order, what was received, each as it lay in the reader's memory just
+/// after it was received, and what is held, while the writer is an end of the stream; from then on what
+/// was received comes first of it, and the rest is given up together. As many items were counted.
+pub fn producers_deliver_in_order()
+    ensures { (tag : ℕ) (limits : Limits) (old new : Tells) (run : List Step) (s : ℕ) →
+        ((n : ℕ) → Supplies (writer_at (start tag limits old new) n)) → length run ≤ 4294967295 →
+        DeliversAll s (host_moments (start tag limits old new) run)
+        (last_of (start tag limits old new) (host_moments (start tag limits old new) run)) }
 {}

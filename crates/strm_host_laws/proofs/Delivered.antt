@@ -1,0 +1,471 @@
+-- What a host writer produced is what was received and what is held, over the moments of a run.
+use Rattle.std.proofs.Common.{◌≡◌, ◌≢◌, ℕ, ◌+◌, ◌*◌, ◌^◌, ◌<◌, ◌≤◌, ◌||◌, Bool, true, false, cond, List, [], ◌∷◌, ◌++◌, length, map, take, get_or, set, Option, Some, refl, sym, ap, subst, ◌∙◌, ◌⊎◌, inl, inr, arith, append_assoc, append-nil, length-append}
+use Rattle.std.proofs.lemmas.Bool.{cases_eq, cases_lt, eq-eqb, ne_eqb}
+use Rattle.std.proofs.lemmas.List.{map-append, get_or_past, get_or_push}
+use Rattle.strm_buffers.specs.Listing.{Item}
+use Rattle.strm_machine.specs.State.{no_stream, is_host}
+use Rattle.strm_machine.specs.Moments.{received, got_in}
+use Rattle.strm_machine.specs.Sides.{with_operation}
+use Rattle.strm_machine.specs.Endings.{delivered}
+use Rattle.strm_machine.specs.declared.acts.Act.{Act}
+use Rattle.strm_machine.specs.declared.acts.Act.TheVariants.{OnHost}
+use Rattle.strm_machine.specs.declared.acts.HostAct.TheVariants.{New}
+use Rattle.strm_machine.specs.declared.acts.NamedEnd.{NamedEnd}
+use Rattle.strm_machine.specs.declared.limits.Limits.{Limits}
+use Rattle.strm_machine.specs.declared.streams.Owner.{Owner}
+use Rattle.strm_machine.specs.declared.streams.Owner.TheVariants.{Host, Gone}
+use Rattle.strm_machine.specs.declared.streams.Side.TheVariants.{Reading}
+use Rattle.strm_machine.specs.declared.streams.Stream.{Stream}
+use Rattle.strm_machine.specs.declared.replies.Reply.{Reply}
+use Rattle.strm_machine.specs.declared.replies.Reply.TheVariants as replies
+use Rattle.strm_machine.proofs.MomentLemmas.{nothing_got}
+use Rattle.strm_buffers.specs.Tells.{Tells}
+use Rattle.strm_machine.specs.declared.steps.Step.{Step}
+use Rattle.strm_world.specs.Does.{start}
+use Rattle.strm_world.specs.World.{World, stream_in, writer_at, with_stream_in}
+use Rattle.strm_world.specs.Attaching.{forsaken, hosted_stream}
+use Rattle.strm_host_laws.specs.HostMoments.{Part, Acts, HostMoment, host_moments, last_of}
+use Rattle.strm_host_laws.specs.HostLaws.{used_in, items_of, made_of, produced_by, produced_in, produced, plain, host_got, is_made_by, is_hosted, held_by, DeliversAll}
+use Rattle.strm_host_laws.proofs.Chains.{Follows, Chain, moments-chain}
+use Rattle.strm_host_laws.proofs.Closed.{Stands-start}
+use Rattle.strm_host_laws.proofs.Counted.{moments_few}
+use Rattle.strm_host_laws.proofs.Fed.{take-front}
+use Rattle.strm_host_laws.proofs.Forms.{opened, called, reacted_to, stream_of, is_making, IsRead, Form, BySame, ByReacting, ByForsaking, ByHosting, ByFeeding, ByTurning, ByReading}
+use Rattle.strm_host_laws.proofs.Goings.{hosted}
+use Rattle.strm_host_laws.proofs.Lives.{AllSupply, Lives, owned_made, owned_quiet, drive_can, read_can, goes_form, follows_lives}
+use Rattle.strm_host_laws.proofs.Moments.{holds_before, touch_delivers}
+use Rattle.strm_host_laws.proofs.Owners.{HostsFrom, set-from, reaction-from}
+use Rattle.strm_host_laws.proofs.Sounds.{push-other, Holds-empty}
+use Rattle.strm_host_laws.proofs.Touched.{reaction-made, Touch, NotTouched, IsLost, HasTurn, HasRead, form_touch}
+use Rattle.strm_host_laws.proofs.Unmoved.{WriterGone}
+use Rattle.strm_host_laws.proofs.WorldsHold.{back-streams, back-other, back-length, turned-other, turned-length}
+
+-- MOMENTS THAT MAKE NO STREAM OF A NUMBER
+
+-- stream s is not made of a host writer in this part
+pub record MakesNot (s : ℕ) (w : World) (part : Part) (reply : Reply) : Type 0 where
+  pub made : made_of s w part reply ≡ []
+  pub by : is_made_by s part reply ≡ false
+
+unmaking : (s : ℕ) (w : World) (part : Part) (reply : Reply) → is_making part reply ≡ false → MakesNot s w part reply
+unmaking s w (Acts (OnHost host New)) (replies.Number n) e = cc
+unmaking s w (Acts (OnHost host New)) reply e = record { made = refl; by = refl }
+unmaking s w part reply e = record { made = refl; by = refl }
+
+other_number : (s n : ℕ) (w : World) (k : ℕ) → k ≢ s → MakesNot s w (Acts (OnHost n New)) (replies.Number k)
+other_number s n w k ne = record {
+  made = ap (λ b. cond b (writer_at w n).holds []) (ne_eqb k s ne);
+  by = ne_eqb k s ne;
+}
+
+form_makes_not : (s : ℕ) (w : World) (part : Part) (reply : Reply) (v : World) → s ≢ length w.state.streams → Form w part reply v → MakesNot s w part reply
+form_makes_not s w part reply v ne (BySame m e) = unmaking s w part reply m
+form_makes_not s w part reply v ne (ByReacting act m e) = unmaking s w part reply m
+form_makes_not s w part reply v ne (ByForsaking act t n m f) = unmaking s w part reply m
+form_makes_not s w part reply v ne (ByHosting n p r e f) =
+    subst (λ x. MakesNot s w x reply) (sym p) (subst (λ x. MakesNot s w (Acts (OnHost n New)) x) (sym r) (other_number s n w (length w.state.streams) (λ g. ne (sym g))))
+form_makes_not s w part reply v ne (ByFeeding n bytes m e) = unmaking s w part reply m
+form_makes_not s w part reply v ne (ByTurning t n read m i) = unmaking s w part reply m
+form_makes_not s w part reply v ne (ByReading end address count n m r) = unmaking s w part reply m
+
+-- A STREAM THAT NO HOST WRITER WRITES
+
+not_host : (owner : Owner) → ((n : ℕ) → owner ≡ Host n → ⊥) → is_host owner ≡ false
+not_host (Host n) h = absurd (h n refl)
+not_host _ h = refl
+
+no_host : (owner : Owner) (n : ℕ) → is_host owner ≡ false → owner ≡ Host n → ⊥
+no_host owner n e f = let g : is_host owner ≡ true = ap is_host f in cc
+
+-- no host writer has the write end of stream s
+abbrev pub IsUnhosted : ℕ → World → Type 0
+IsUnhosted s w = is_host (stream_in w s).writer.owner ≡ false
+
+module _ (first w : World) (s : ℕ) (l : Lives first w) (u : IsUnhosted s w) where
+  reacted_from : (act : Act) (n : ℕ) → (stream_in (reacted_to w act) s).writer.owner ≡ Host n → ⊥
+  reacted_from act n e =
+      no_host (stream_in w s).writer.owner n u (reaction-from w.state act s n e).0
+
+  -- another stream, whose host writer had a turn
+  off : (t n : ℕ) → (stream_in w t).writer.owner ≡ Host n → s ≢ t
+  off t n e f = no_host (stream_in w s).writer.owner n u (ap (λ k. (stream_in w k).writer.owner) f ∙ e)
+
+  forsaken_from : (act : Act) (t n : ℕ) → (stream_in (with_stream_in (reacted_to w act) t (forsaken Reading (stream_in (reacted_to w act) t))) s).writer.owner ≡ Host n → ⊥
+  forsaken_from act t n e =
+      let x = reacted_to w act in
+      let now = forsaken Reading (stream_in x t) in
+      let from : HostsFrom (stream_in x t) now = λ k f. (let wrong : Gone ≡ Host k = f in cc) in
+      let there : (get_or (set x.state.streams t now) s no_stream).writer.owner ≡ Host n = ap (λ xs. (get_or xs s no_stream).writer.owner) (sym (back-streams x t now)) ∙ e in
+      reacted_from act n (set-from x.state.streams t now from s n there).0
+
+  read_same : (part : Part) (v : World) (end : NamedEnd) (address count n : ℕ) → IsRead w part v end address count n → stream_in v s ≡ stream_in w s
+  read_same part v end address count n r =
+      let t = stream_of w end in
+      let read = called end address count in
+      let ne = off t n r.owner in
+      let told = delivered Reading (stream_in r.mid t) in
+      let mid : stream_in r.mid s ≡ stream_in w s = turned-other (opened w t read) t n read r.mid r.turned (read_can first w part v end address count n l r) s ne ∙ back-other w t (with_operation Reading (stream_in w t) read) s ne in
+      elim r.told [
+        | inl e ↦ ap (λ x. stream_in x s) e ∙ mid
+        | inr e ↦ ap (λ x. stream_in x s) e ∙ back-other r.mid t told s ne ∙ mid
+      ]
+
+  making_not : (n k : ℕ) (part : Part) (reply : Reply) → part ≡ Acts (OnHost n New) → reply ≡ replies.Number k → is_making part reply ≡ false → ⊥
+  making_not n k part reply p r m =
+      let is : is_making part reply ≡ true = ap (λ x. is_making x reply) p ∙ ap (is_making (Acts (OnHost n New))) r in
+      let wrong : true ≡ false = sym is ∙ m in
+      cc
+
+  -- none gets it but by the making of a stream of its number
+  pub form_unhosted : (part : Part) (reply : Reply) (v : World) → (s ≢ length w.state.streams) ⊎ (is_making part reply ≡ false) → Form w part reply v → IsUnhosted s v
+  form_unhosted part reply v ne (BySame m e) = ap (λ x. is_host (stream_in x s).writer.owner) e ∙ u
+  form_unhosted part reply v ne (ByReacting act m e) =
+      ap (λ x. is_host (stream_in x s).writer.owner) e ∙ not_host (stream_in (reacted_to w act) s).writer.owner (reacted_from act)
+  form_unhosted part reply v ne (ByForsaking act t n m f) =
+      ap (λ x. is_host (stream_in x s).writer.owner) f.is ∙ not_host _ (forsaken_from act t)
+  form_unhosted part reply v (inr m) (ByHosting n p r e f) = absurd (making_not n (length w.state.streams) part reply p r m)
+  form_unhosted part reply v (inl ne) (ByHosting n p r e f) =
+      ap (λ x. is_host (stream_in x s).writer.owner) f
+      ∙ ap (λ (x : Stream). is_host x.writer.owner) (push-other w.state.streams (hosted_stream (writer_at w n) n) s ne) ∙ u
+  form_unhosted part reply v ne (ByFeeding n bytes m e) = ap (λ x. is_host (stream_in x s).writer.owner) e ∙ u
+  form_unhosted part reply v ne (ByTurning t n read m i) =
+      ap (λ (x : Stream). is_host x.writer.owner) (turned-other w t n read v i.turned (drive_can first w part v t n read l i) s (off t n i.owner)) ∙ u
+  form_unhosted part reply v ne (ByReading end address count n m r) =
+      ap (λ (x : Stream). is_host x.writer.owner) (read_same part v end address count n r) ∙ u
+
+-- a stream stays made
+module _ (first w : World) (s : ℕ) (l : Lives first w) (made : s < length w.state.streams) where
+  long_as : (v : World) → length v.state.streams ≡ length w.state.streams → s < length v.state.streams
+  long_as v e = subst (λ k. s < k) (sym e) made
+
+  pub form_made : (part : Part) (reply : Reply) (v : World) → Form w part reply v → s < length v.state.streams
+  form_made part reply v (BySame m e) = long_as v (ap (λ (x : World). length x.state.streams) e)
+  form_made part reply v (ByReacting act m e) = subst (λ (x : World). s < length x.state.streams) (sym e) (reaction-made w.state act s l.holds made)
+  form_made part reply v (ByForsaking act t n m f) =
+      let x = reacted_to w act in
+      let now = forsaken Reading (stream_in x t) in
+      subst (λ k. s < k) (sym (ap (λ (y : World). length y.state.streams) f.is ∙ back-length x t now)) (reaction-made w.state act s l.holds made)
+  form_made part reply v (ByHosting n p r e f) =
+      subst (λ (x : World). s < length x.state.streams) (sym f) (omega (arith, made, length-append w.state.streams (hosted_stream (writer_at w n) n ∷ [])))
+  form_made part reply v (ByFeeding n bytes m e) = long_as v (ap (λ (x : World). length x.state.streams) e)
+  form_made part reply v (ByTurning t n read m i) = long_as v (turned-length w t n read v i.turned (drive_can first w part v t n read l i))
+  form_made part reply v (ByReading end address count n m r) =
+      let t = stream_of w end in
+      let read = called end address count in
+      let mid : length r.mid.state.streams ≡ length w.state.streams = turned-length (opened w t read) t n read r.mid r.turned (read_can first w part v end address count n l r) ∙ back-length w t (with_operation Reading (stream_in w t) read) in
+      elim r.told [
+        | inl e ↦ long_as v (ap (λ (x : World). length x.state.streams) e ∙ mid)
+        | inr e ↦ long_as v (ap (λ (x : World). length x.state.streams) e ∙ back-length r.mid t (delivered Reading (stream_in r.mid t)) ∙ mid)
+      ]
+
+-- RUNS
+
+or_both : (a b : Bool) → a ≡ false → b ≡ false → (a || b) ≡ false
+or_both true b e f = e
+or_both false b e f = f
+
+-- of what was produced in a moment and after it, where no stream of this number is made
+produced_split : (s : ℕ) (m : HostMoment) (more : List HostMoment) → made_of s m.before m.part m.reply ≡ [] → (xs : List Item) → produced_in s m ≡ xs → produced s (m ∷ more) ≡ xs ++ produced s more
+produced_split s m more e xs f =
+    ap (λ ys. ys ++ (produced_in s m ++ produced s more)) e ∙ ap (λ ys. ys ++ produced s more) f
+
+module _ (first : World) where
+  -- what a moment that follows is
+  moment_form : (m : HostMoment) → Follows m.before m → Lives first m.before → Form m.before m.part m.reply m.after
+  moment_form m f l = goes_form first m.before l m.part m.reply m.after f.part f.goes
+
+  moment_lives : (m : HostMoment) → Follows m.before m → Lives first m.before → Lives first m.after
+  moment_lives m f l = follows_lives first m f.part f.goes l
+
+  from_itself : (w : World) (m : HostMoment) → Follows w m → Follows m.before m
+  from_itself w m f = record { begins = refl; part = f.part; goes = f.goes }
+
+  -- A STREAM WHOSE WRITER IS GONE
+
+  record GoneRun (s : ℕ) (w : World) (all : List HostMoment) : Type 0 where
+    got : host_got s all ≡ []
+    made : produced s all ≡ []
+    count : received s (last_of w all).state ≡ received s w.state
+    owner : (stream_in (last_of w all) s).writer.owner ≡ Gone
+    unhosted : is_hosted s all ≡ false
+
+  gone_stays : (s : ℕ) (m : HostMoment) → (stream_in m.before s).writer.owner ≡ Gone → Touch s m.before m.part m.after
+      → ((stream_in m.after s).writer.owner ≡ Gone) × ((received s m.after.state ≡ received s m.before.state) × (s < length m.after.state.streams))
+  gone_stays s m e (NotTouched a) = (a.stream.writer ∙ e, (a.stream.received, a.made))
+  gone_stays s m e (IsLost n f) = let wrong : Gone ≡ Host n = sym e ∙ f.was in cc
+  gone_stays s m e (HasTurn n read i) = let wrong : Gone ≡ Host n = sym e ∙ i.owner in cc
+  gone_stays s m e (HasRead end address count n at r) = let wrong : Gone ≡ Host n = sym e ∙ ap (λ k. (stream_in m.before k).writer.owner) (sym at) ∙ r.owner in cc
+
+  gone_run : (s : ℕ) (w : World) (all : List HostMoment) → Chain w all → Lives first w → (stream_in w s).writer.owner ≡ Gone → s < length w.state.streams → GoneRun s w all
+  gone_run s w [] c l e made = record { got = refl; made = refl; count = refl; owner = e; unhosted = refl }
+  gone_run s w (m ∷ more) c l e made =
+      subst (λ x. GoneRun s x (m ∷ more)) c.0.begins
+      (here (from_itself w m c.0) (subst (Lives first) (sym c.0.begins) l) (ap (λ x. (stream_in x s).writer.owner) c.0.begins ∙ e) (subst (λ (x : World). s < length x.state.streams) (sym c.0.begins) made)
+      (λ k o j. gone_run s m.after more c.1 k o j))
+    where
+      here : Follows m.before m → Lives first m.before → (stream_in m.before s).writer.owner ≡ Gone → s < length m.before.state.streams
+          → (Lives first m.after → (stream_in m.after s).writer.owner ≡ Gone → s < length m.after.state.streams → GoneRun s m.after more) → GoneRun s m.before (m ∷ more)
+      here f l e made next =
+          let form = moment_form m f l in
+          let not = form_makes_not s m.before m.part m.reply m.after (λ g. absurd (omega (arith, made, g))) form in
+          let stays = gone_stays s m e (form_touch first m.before s l made (WriterGone e) m.part m.reply m.after form) in
+          let rest = next (moment_lives m f l) stays.0 stays.1.1 in
+          record {
+            got = ap (λ g. g ++ host_got s more) (nothing_got s (plain m) stays.1.0).0 ∙ rest.got;
+            made = produced_split s m more not.made [] (ap (produced_by m) e) ∙ rest.made;
+            count = rest.count ∙ stays.1.0;
+            owner = rest.owner;
+            unhosted = or_both (is_made_by s m.part m.reply) (is_hosted s more) not.by rest.unhosted;
+          }
+
+  -- A STREAM OF A HOST WRITER
+
+  record HostedRun (s n : ℕ) (w : World) (all : List HostMoment) : Type 0 where
+    rest : List Item
+    balance : map Some ((writer_at w n).holds ++ produced s all) ≡ host_got s all ++ map Some rest
+    count : received s (last_of w all).state ≡ received s w.state + length (host_got s all)
+    ends : is_host (stream_in (last_of w all) s).writer.owner ≡ true → rest ≡ held_by (last_of w all) (stream_in (last_of w all) s).writer.owner
+    unhosted : is_hosted s all ≡ false
+
+  -- counts have room for the items of these moments
+  abbrev HasRoom : ℕ → World → List HostMoment → Type 0
+  HasRoom s w all = received s w.state + 2 ^ 28 * length all < 2 ^ 128
+
+  -- what one moment and those behind it produced
+  balance_both : (held p q r t h : List Item) (x y : List (Option Item)) → map Some (held ++ p) ≡ x ++ map Some r → r ≡ h → map Some (h ++ q) ≡ y ++ map Some t
+      → map Some (held ++ (p ++ q)) ≡ (x ++ y) ++ map Some t
+  balance_both held p q r t h x y e f k =
+      ap (map Some) (sym (append_assoc held p q))
+      ∙ map-append Some (held ++ p) q
+      ∙ ap (λ zs. zs ++ map Some q) e
+      ∙ append_assoc x (map Some r) (map Some q)
+      ∙ ap (λ zs. x ++ zs) (sym (map-append Some r q) ∙ ap (λ zs. map Some (zs ++ q)) f ∙ k)
+      ∙ sym (append_assoc x y (map Some t))
+
+  -- by what comes of the moments behind the first
+  abbrev Behind : ℕ → ℕ → HostMoment → List HostMoment → Type 0
+  Behind s n m more = Lives first m.after → (stream_in m.after s).writer.owner ≡ Host n → HasRoom s m.after more → HostedRun s n m.after more
+
+  hosted_then : (s n : ℕ) (m : HostMoment) (more : List HostMoment) → Chain m.after more → Follows m.before m → Lives first m.before → (stream_in m.before s).writer.owner ≡ Host n → HasRoom s m.before (m ∷ more)
+      → Behind s n m more → HostedRun s n m.before (m ∷ more)
+  hosted_then s n m more c f l o room next =
+      let made = owned_made m.before.state s n l.holds o in
+      let form = moment_form m f l in
+      let not = form_makes_not s m.before m.part m.reply m.after (λ g. absurd (omega (arith, made, g))) form in
+      let touch = form_touch first m.before s l made (owned_quiet m.before.state s n l.holds o) m.part m.reply m.after form in
+      let d = touch_delivers first m l s n o (omega (arith, room)) touch in
+      let live = moment_lives m f l in
+      let here : produced s (m ∷ more) ≡ items_of (used_in n m) ++ produced s more = produced_split s m more not.made (items_of (used_in n m)) (ap (produced_by m) o) in
+      let g = got_in s (plain m) in
+      elim d.ends [
+        | inl gone ↦ (
+            let k = gone_run s m.after more c live gone d.made in
+            let left : length (g ++ host_got s more) ≡ length g = ap (λ xs. length (g ++ xs)) k.got ∙ ap length (append-nil g) in
+            record {
+              rest = d.rest;
+              balance =
+                  ap (λ xs. map Some (holds_before n m ++ xs)) (here ∙ ap (λ xs. items_of (used_in n m) ++ xs) k.made ∙ append-nil (items_of (used_in n m)))
+                  ∙ d.balance
+                  ∙ ap (λ xs. xs ++ map Some d.rest) (sym (append-nil g) ∙ ap (λ xs. g ++ xs) (sym k.got));
+              count = omega (arith, k.count, d.count, left);
+              ends = λ h. absurd (let wrong : is_host Gone ≡ true = ap is_host (sym k.owner) ∙ h in cc);
+              unhosted = or_both (is_made_by s m.part m.reply) (is_hosted s more) not.by k.unhosted;
+            })
+        | inr stays ↦ (
+            let k = next live stays.0 (omega (arith, room, d.count, d.few)) in
+            let long = length-append g (host_got s more) in
+            record {
+              rest = k.rest;
+              balance =
+                  ap (λ xs. map Some (holds_before n m ++ xs)) here
+                  ∙ balance_both (holds_before n m) (items_of (used_in n m)) (produced s more) d.rest k.rest (writer_at m.after n).holds g (host_got s more) d.balance (sym stays.1) k.balance;
+              count = omega (arith, k.count, d.count, long);
+              ends = k.ends;
+              unhosted = or_both (is_made_by s m.part m.reply) (is_hosted s more) not.by k.unhosted;
+            })
+      ]
+
+  hosted_run : (s n : ℕ) (w : World) (all : List HostMoment) → Chain w all → Lives first w → (stream_in w s).writer.owner ≡ Host n → HasRoom s w all → HostedRun s n w all
+  hosted_run s n w [] c l o room = record {
+    rest = (writer_at w n).holds;
+    balance = ap (map Some) (append-nil (writer_at w n).holds);
+    count = omega arith;
+    ends = λ h. ap (held_by w) (sym o);
+    unhosted = refl;
+  }
+  hosted_run s n w (m ∷ more) c l o room =
+      subst (λ x. HostedRun s n x (m ∷ more)) c.0.begins
+      (hosted_then s n m more c.1 (from_itself w m c.0) (subst (Lives first) (sym c.0.begins) l) (ap (λ x. (stream_in x s).writer.owner) c.0.begins ∙ o)
+      (subst (λ x. HasRoom s x (m ∷ more)) (sym c.0.begins) room)
+      (λ k e r. hosted_run s n m.after more c.1 k e r))
+
+  -- A STREAM OF GUESTS
+
+  record OtherRun (s : ℕ) (w : World) (all : List HostMoment) : Type 0 where
+    unhosted : is_hosted s all ≡ false
+    owner : IsUnhosted s (last_of w all)
+
+  other_run : (s : ℕ) (w : World) (all : List HostMoment) → Chain w all → Lives first w → IsUnhosted s w → s < length w.state.streams → OtherRun s w all
+  other_run s w [] c l u made = record { unhosted = refl; owner = u }
+  other_run s w (m ∷ more) c l u made =
+      let l' : Lives first m.before = subst (Lives first) (sym c.0.begins) l in
+      let u' : IsUnhosted s m.before = subst (IsUnhosted s) (sym c.0.begins) u in
+      let made' : s < length m.before.state.streams = subst (λ (x : World). s < length x.state.streams) (sym c.0.begins) made in
+      let form = moment_form m (from_itself w m c.0) l' in
+      let ne : s ≢ length m.before.state.streams = λ g. absurd (omega (arith, made', g)) in
+      let not = form_makes_not s m.before m.part m.reply m.after ne form in
+      let rest = other_run s m.after more c.1 (moment_lives m (from_itself w m c.0) l') (form_unhosted first m.before s l' u' m.part m.reply m.after (inl ne) form) (form_made first m.before s l' made' m.part m.reply m.after form) in
+      record { unhosted = or_both (is_made_by s m.part m.reply) (is_hosted s more) not.by rest.unhosted; owner = rest.owner }
+
+  -- A STREAM THAT IS NOT MADE YET
+
+  -- what was produced, and then a rest
+  record Shares (s : ℕ) (all : List HostMoment) : Type 0 where
+    rest : List Item
+    balance : map Some (produced s all) ≡ host_got s all ++ map Some rest
+
+  record NewRun (s : ℕ) (w : World) (all : List HostMoment) : Type 0 where
+    there : is_host (stream_in (last_of w all) s).writer.owner ≡ true → map Some (produced s all) ≡ host_got s all ++ map Some (held_by (last_of w all) (stream_in (last_of w all) s).writer.owner)
+    shares : is_hosted s all ≡ true → Shares s all
+    count : is_hosted s all ≡ true → length (host_got s all) ≡ received s (last_of w all).state
+
+  -- nothing stands past the last stream
+  past : (s : ℕ) (w : World) → length w.state.streams ≤ s → stream_in w s ≡ no_stream
+  past s w le = get_or_past w.state.streams s no_stream le
+
+  -- it is made in this moment
+  new_hosted : (s n : ℕ) (m : HostMoment) (more : List HostMoment) → Chain m.after more → Follows m.before m → Lives first m.before → length m.before.state.streams ≤ s → s ≡ length m.before.state.streams
+      → m.part ≡ Acts (OnHost n New) → m.reply ≡ replies.Number (length m.before.state.streams) → m.after ≡ hosted m.before n → 2 ^ 28 * length more < 2 ^ 128 → NewRun s m.before (m ∷ more)
+  new_hosted s n m more c f l le at p r is room =
+      let w = m.before in
+      let stream = hosted_stream (writer_at w n) n in
+      let now : stream_in m.after s ≡ stream = ap (λ x. stream_in x s) is ∙ ap (λ k. get_or (w.state.streams ++ stream ∷ []) k no_stream) at ∙ get_or_push w.state.streams stream no_stream (length w.state.streams) refl in
+      let none : received s m.after.state ≡ 0 = ap (λ (x : Stream). x.received) now in
+      let before : received s w.state ≡ 0 = ap (λ (x : Stream). x.received) (past s w le) in
+      let k = hosted_run s n m.after more c (moment_lives m f l) (ap (λ (x : Stream). x.writer.owner) now) (omega (arith, none, room)) in
+      let nothing = (nothing_got s (plain m) (none ∙ sym before)).0 in
+      let num = eq-eqb (length w.state.streams) s (sym at) in
+      let made : made_of s w m.part m.reply ≡ (writer_at w n).holds = ap (λ x. made_of s w x m.reply) p ∙ ap (made_of s w (Acts (OnHost n New))) r ∙ ap (λ b. cond b (writer_at w n).holds []) num in
+      let by : is_made_by s m.part m.reply ≡ true = ap (λ x. is_made_by s x m.reply) p ∙ ap (is_made_by s (Acts (OnHost n New))) r ∙ num in
+      let unwritten : produced_in s m ≡ [] = ap (λ (x : Stream). produced_by m x.writer.owner) (past s w le) in
+      let held : (writer_at m.after n).holds ≡ (writer_at w n).holds = ap (λ x. (writer_at x n).holds) is in
+      let all_made : produced s (m ∷ more) ≡ (writer_at m.after n).holds ++ produced s more = ap (λ xs. xs ++ (produced_in s m ++ produced s more)) (made ∙ sym held) ∙ ap (λ xs. (writer_at m.after n).holds ++ (xs ++ produced s more)) unwritten in
+      let all_got : host_got s (m ∷ more) ≡ host_got s more = ap (λ xs. xs ++ host_got s more) nothing in
+      let balance : map Some (produced s (m ∷ more)) ≡ host_got s (m ∷ more) ++ map Some k.rest = ap (map Some) all_made ∙ k.balance ∙ ap (λ xs. xs ++ map Some k.rest) (sym all_got) in
+      let long = ap length all_got in
+      record {
+        there = λ h. balance ∙ ap (λ xs. host_got s (m ∷ more) ++ map Some xs) (k.ends h);
+        shares = λ h. record { rest = k.rest; balance = balance };
+        count = λ h. omega (arith, k.count, none, long);
+      }
+
+  -- it is made with a guest's write end, or not yet
+  new_later : (s : ℕ) (m : HostMoment) (more : List HostMoment) → Chain m.after more → Follows m.before m → Lives first m.before → length m.before.state.streams ≤ s → MakesNot s m.before m.part m.reply → IsUnhosted s m.after
+      → (length m.after.state.streams ≤ s → NewRun s m.after more) → NewRun s m.before (m ∷ more)
+  new_later s m more c f l le not u next =
+      elim (cases_lt s (length m.after.state.streams)) [
+        | inl made ↦ (
+            let k = other_run s m.after more c (moment_lives m f l) u made in
+            let none : is_hosted s (m ∷ more) ≡ false = or_both (is_made_by s m.part m.reply) (is_hosted s more) not.by k.unhosted in
+            record {
+              there = λ h. absurd (let wrong : true ≡ false = sym h ∙ k.owner in cc);
+              shares = λ h. absurd (let wrong : true ≡ false = sym h ∙ none in cc);
+              count = λ h. absurd (let wrong : true ≡ false = sym h ∙ none in cc);
+            })
+        | inr after ↦ (
+            let k = next after in
+            let same : received s m.after.state ≡ received s m.before.state = ap (λ (x : Stream). x.received) (past s m.after after ∙ sym (past s m.before le)) in
+            let nothing = (nothing_got s (plain m) same).0 in
+            let all_got : host_got s (m ∷ more) ≡ host_got s more = ap (λ xs. xs ++ host_got s more) nothing in
+            let all_made : produced s (m ∷ more) ≡ produced s more = produced_split s m more not.made [] (ap (λ (x : Stream). produced_by m x.writer.owner) (past s m.before le)) in
+            let hosted_later : is_hosted s (m ∷ more) ≡ is_hosted s more = ap (λ b. b || is_hosted s more) not.by in
+            let long = ap length all_got in
+            record {
+              there = λ h. ap (map Some) all_made ∙ k.there h ∙ ap (λ xs. xs ++ map Some (held_by (last_of m.after more) (stream_in (last_of m.after more) s).writer.owner)) (sym all_got);
+              shares = λ h. (let x = k.shares (sym hosted_later ∙ h) in record { rest = x.rest; balance = ap (map Some) all_made ∙ x.balance ∙ ap (λ xs. xs ++ map Some x.rest) (sym all_got) });
+              count = λ h. long ∙ k.count (sym hosted_later ∙ h);
+            })
+      ]
+
+  -- stream s is the one that is made in this part
+  record IsMadeHere (s : ℕ) (w : World) (part : Part) (reply : Reply) (v : World) : Type 0 where
+    host : ℕ
+    number : s ≡ length w.state.streams
+    part_is : part ≡ Acts (OnHost host New)
+    reply_is : reply ≡ replies.Number (length w.state.streams)
+    is : v ≡ hosted w host
+
+  past_unhosted : (s : ℕ) (w : World) → length w.state.streams ≤ s → IsUnhosted s w
+  past_unhosted s w le = ap (λ (x : Stream). is_host x.writer.owner) (past s w le)
+
+  -- or it is not, and no host writer gets it
+  abbrev MadeOrNot : ℕ → World → Part → Reply → World → Type 0
+  MadeOrNot s w part reply v = IsMadeHere s w part reply v ⊎ (MakesNot s w part reply × IsUnhosted s v)
+
+  making_form : (s : ℕ) (w : World) (part : Part) (reply : Reply) (v : World) → Lives first w → length w.state.streams ≤ s → is_making part reply ≡ true → Form w part reply v → MadeOrNot s w part reply v
+  making_form s w part reply v l le t (ByHosting n p r e is) =
+      elim (cases_eq s (length w.state.streams)) [
+        | inl at ↦ inl (record { host = n; number = at; part_is = p; reply_is = r; is = is })
+        | inr ne ↦ inr (form_makes_not s w part reply v ne (ByHosting n p r e is), form_unhosted first w s l (past_unhosted s w le) part reply v (inl ne) (ByHosting n p r e is))
+      ]
+  making_form s w part reply v l le t (BySame m e) = absurd (let wrong : true ≡ false = sym t ∙ m in cc)
+  making_form s w part reply v l le t (ByReacting act m e) = absurd (let wrong : true ≡ false = sym t ∙ m in cc)
+  making_form s w part reply v l le t (ByForsaking act k n m f) = absurd (let wrong : true ≡ false = sym t ∙ m in cc)
+  making_form s w part reply v l le t (ByFeeding n bytes m e) = absurd (let wrong : true ≡ false = sym t ∙ m in cc)
+  making_form s w part reply v l le t (ByTurning k n read m i) = absurd (let wrong : true ≡ false = sym t ∙ m in cc)
+  making_form s w part reply v l le t (ByReading end address count n m r) = absurd (let wrong : true ≡ false = sym t ∙ m in cc)
+
+  made_or_not : (s : ℕ) (w : World) (part : Part) (reply : Reply) (v : World) (b : Bool) → is_making part reply ≡ b → Lives first w → length w.state.streams ≤ s → Form w part reply v → MadeOrNot s w part reply v
+  made_or_not s w part reply v true t l le form = making_form s w part reply v l le t form
+  made_or_not s w part reply v false t l le form =
+      inr (unmaking s w part reply t, form_unhosted first w s l (past_unhosted s w le) part reply v (inr t) form)
+
+  new_then : (s : ℕ) (m : HostMoment) (more : List HostMoment) → Chain m.after more → Follows m.before m → Lives first m.before → length m.before.state.streams ≤ s → 2 ^ 28 * length more < 2 ^ 128
+      → (Lives first m.after → length m.after.state.streams ≤ s → NewRun s m.after more) → NewRun s m.before (m ∷ more)
+  new_then s m more c f l le room next =
+      elim (made_or_not s m.before m.part m.reply m.after (is_making m.part m.reply) refl l le (moment_form m f l)) [
+        | inl h ↦ new_hosted s h.host m more c f l le h.number h.part_is h.reply_is h.is room
+        | inr h ↦ new_later s m more c f l le h.0 h.1 (next (moment_lives m f l))
+      ]
+
+  new_run : (s : ℕ) (w : World) (all : List HostMoment) → Chain w all → Lives first w → length w.state.streams ≤ s → 2 ^ 28 * length all < 2 ^ 128 → NewRun s w all
+  new_run s w [] c l le room = record {
+    there = λ h. absurd (let wrong : is_host Gone ≡ true = ap (λ (x : Stream). is_host x.writer.owner) (sym (past s w le)) ∙ h in cc);
+    shares = λ h. cc;
+    count = λ h. cc;
+  }
+  new_run s w (m ∷ more) c l le room =
+      subst (λ x. NewRun s x (m ∷ more)) c.0.begins
+      (new_then s m more c.1 (from_itself w m c.0) (subst (Lives first) (sym c.0.begins) l) (subst (λ (x : World). length x.state.streams ≤ s) (sym c.0.begins) le) (omega (arith, room))
+      (λ k a. new_run s m.after more c.1 k a (omega (arith, room))))
+
+  -- what comes first of all that was produced
+  first_of_all : (xs : List (Option Item)) (ys : List (Option Item)) (all : List (Option Item)) → all ≡ xs ++ ys → xs ≡ take (length xs) all
+  first_of_all xs ys all e = sym (ap (take (length xs)) e ∙ take-front xs ys (length xs) refl)
+
+  -- the law, of a stream that is made in these moments
+  pub delivers_from : (s : ℕ) (w : World) (all : List HostMoment) → Chain w all → Lives first w → length w.state.streams ≤ s → 2 ^ 28 * length all < 2 ^ 128 → DeliversAll s all (last_of w all)
+  delivers_from s w all c l le room =
+      let k = new_run s w all c l le room in
+      record {
+        there = k.there;
+        given_up = λ h. (let x = k.shares h in first_of_all (host_got s all) (map Some x.rest) (map Some (produced s all)) x.balance);
+        count = k.count;
+      }
+
+-- RUNS FROM AN UNUSED STORE
+
+Lives-start : (tag : ℕ) (limits : Limits) (old new : Tells) → AllSupply (start tag limits old new) → Lives (start tag limits old new) (start tag limits old new)
+Lives-start tag limits old new h = record {
+  holds = Holds-empty tag limits;
+  stands = Stands-start tag limits old new;
+  supplied = h;
+}
+
+pub run-delivers : (tag : ℕ) (limits : Limits) (old new : Tells) (run : List Step) (s : ℕ) → AllSupply (start tag limits old new) → length run ≤ 4294967295
+    → DeliversAll s (host_moments (start tag limits old new) run) (last_of (start tag limits old new) (host_moments (start tag limits old new) run))
+run-delivers tag limits old new run s h few =
+    let first = start tag limits old new in
+    let l = Lives-start tag limits old new h in
+    let most = moments_few first first run l (omega (arith, few)) in
+    delivers_from first s first (host_moments first run) (moments-chain first run) l (omega arith) (omega (arith, few, most))

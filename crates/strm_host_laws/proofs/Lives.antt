@@ -1,0 +1,217 @@
+-- What holds of every world that a run comes to: its state is sound, host writers that have a stream are
+-- there, and what host writers hold and will produce are items of their payload.
+use Rattle.std.proofs.Common.{◌≡◌, ℕ, ◌<◌, true, false, List, ◌∷◌, length, Option, Some, None, refl, sym, ap, subst, ◌∙◌, inl, inr}
+use Rattle.std.specs.Prelude.{All}
+use Rattle.std.proofs.lemmas.List.Elements.{All-head, All-tail}
+use Rattle.strm_codes.specs.Layout.{scalars_of}
+use Rattle.strm_codes.specs.declared.scalars.Scalar.{Scalar}
+use Rattle.strm_memory.specs.Items.{AreItems}
+use Rattle.strm_memory.proofs.AppendLemmas.{AreItems-drop}
+use Rattle.strm_buffers.specs.Said.{WriterSaid, past_room}
+use Rattle.strm_buffers.specs.Listing.{Item}
+use Rattle.strm_machine.specs.State.{State, producer_at, stream_at}
+use Rattle.strm_machine.specs.Sides.{with_operation}
+use Rattle.strm_machine.specs.Endings.{delivered}
+use Rattle.strm_machine.specs.Soundness.{sizes_of, IsPlaced, OperationIsPlaced}
+use Rattle.strm_machine.specs.declared.acts.Act.{Act}
+use Rattle.strm_machine.specs.declared.acts.Act.TheVariants.{OnHost}
+use Rattle.strm_machine.specs.declared.acts.HostAct.TheVariants.{New, Feed}
+use Rattle.strm_machine.specs.declared.acts.NamedEnd.{NamedEnd}
+use Rattle.strm_machine.specs.declared.streams.Duty.{Duty}
+use Rattle.strm_machine.specs.declared.streams.Duty.TheVariants.{Unused, Serves, Ended}
+use Rattle.strm_machine.specs.declared.streams.Owner.TheVariants.{Host}
+use Rattle.strm_machine.specs.declared.streams.Operation.{Operation}
+use Rattle.strm_machine.specs.declared.streams.Side.TheVariants.{Reading}
+use Rattle.strm_machine.specs.declared.streams.Stream.{Stream}
+use Rattle.strm_machine.specs.declared.replies.Reply.{Reply}
+use Rattle.strm_machine.proofs.HostLemmas.{serving_made}
+use Rattle.strm_machine.proofs.SoundLemmas.{placed_at}
+use Rattle.strm_world.specs.Ends.{Writer, polled_writer, fed_writer}
+use Rattle.strm_world.specs.World.{World, stream_in, writer_at}
+use Rattle.strm_world.specs.Outcomes.{Outcome, Goes, Stops, Stuck}
+use Rattle.strm_world.specs.HostRefusals.{is_used, refusal_in}
+use Rattle.strm_world.specs.Attaching.{forsaken, hosted_stream}
+use Rattle.strm_world.specs.Does.{SaidFits}
+use Rattle.strm_host_laws.specs.HostMoments.{Part, Acts, HostMoment, part_on}
+use Rattle.strm_host_laws.specs.HostLaws.{Supplies}
+use Rattle.strm_host_laws.proofs.Chains.{is_part}
+use Rattle.strm_host_laws.proofs.Closed.{Stands, is_new, Kept, SameClosed, part-closes}
+use Rattle.strm_host_laws.proofs.Fed.{OfWriters, OfEach, part-each, rules-each, begins-each, with-each}
+use Rattle.strm_host_laws.proofs.Forms.{opened, called, reacted_to, stream_of, IsTurn, IsRead, IsForsaking, Form, BySame, ByReacting, ByForsaking, ByHosting, ByFeeding, ByTurning, ByReading, part-formed}
+use Rattle.strm_host_laws.proofs.Goings.{hosted, IfGoes, Comes, with_stream_in-same, feed-comes}
+use Rattle.strm_host_laws.proofs.Sounds.{Holds, Holds-reaction, Holds-hosted, opened-stays, told-stays, forsaken-leaves}
+use Rattle.strm_host_laws.proofs.Unmoved.{IsQuiet, WriterHost, reaction-unmoved}
+use Rattle.strm_host_laws.proofs.WorldsHold.{back-guests, back-here, back-length, Holds-stays, Holds-leaves, CanTurn, turned-length, Holds-turned}
+
+-- ITEMS OF HOST WRITERS
+
+-- a writer holds and will produce items, if another does
+abbrev Feeding : Writer → Writer → Type 0
+Feeding a b = Supplies a → Supplies b
+
+past_items : (ss : List Scalar) (room : Option ℕ) (items : List Item) → AreItems ss items → AreItems ss (past_room room items)
+past_items ss None items h = tt
+past_items ss (Some n) items h = AreItems-drop ss n items h
+
+polled_supplies : (a : Writer) (room : Option ℕ) (said : WriterSaid) (more : List WriterSaid) → a.coming ≡ said ∷ more → Supplies a → Supplies (polled_writer a room said more)
+polled_supplies a room said more e h =
+    let all : All (SaidFits a.payload) (said ∷ more) = subst (All (SaidFits a.payload)) e h.coming in
+    record {
+      holds = past_items (scalars_of a.payload) room said.items (All-head (SaidFits a.payload) said more all);
+      coming = All-tail (SaidFits a.payload) said more all;
+    }
+
+of_supplies : OfWriters Feeding
+of_supplies = record {
+  same = λ a h. h;
+  joined = λ a b c f g h. g (f h);
+  polled = polled_supplies;
+  given = λ a k h. record { holds = AreItems-drop (scalars_of a.payload) k a.holds h.holds; coming = h.coming };
+  closed = λ a h. record { holds = tt; coming = h.coming };
+}
+
+-- each host writer does
+abbrev pub AllSupply : World → Type 0
+AllSupply w = (n : ℕ) → Supplies (writer_at w n)
+
+part-supplies : (w : World) (part : Part) → is_part part ≡ true → IfGoes (part_on w part) (λ reply v. OfEach Feeding of_supplies w v)
+part-supplies w part p = by (part_on w part) (part-any w part p)
+  where
+    by : (o : Outcome) → Comes (OfEach Feeding of_supplies) (OfEach Feeding of_supplies) w o → IfGoes o (λ reply v. OfEach Feeding of_supplies w v)
+    by (Goes reply v) h = h
+    by (Stops stop writers readers) h = tt
+    by Stuck h = tt
+
+    part-any : (w : World) (part : Part) → is_part part ≡ true → Comes (OfEach Feeding of_supplies) (OfEach Feeding of_supplies) w (part_on w part)
+    part-any w (Acts (OnHost n (Feed bytes))) p =
+        feed-comes (OfEach Feeding of_supplies) (OfEach Feeding of_supplies) (rules-each Feeding of_supplies) (begins-each Feeding of_supplies) w n bytes
+        (λ e. with-each Feeding of_supplies w n (fed_writer (writer_at w n) bytes) (λ h. record { holds = h.holds; coming = h.coming }))
+    part-any w part p = part-each Feeding of_supplies w part p refl
+
+-- THE STATE
+
+-- what is known of the world before a moment
+pub record Lives (first w : World) : Type 0 where
+  pub holds : Holds w.state
+  pub stands : Stands first w
+  pub supplied : AllSupply w
+
+-- a stream of a host writer was made
+pub owned_made : (state : State) (s n : ℕ) → Holds state → (stream_at state s).writer.owner ≡ Host n → s < length state.streams
+owned_made state s n h e = serving_made state n s h.hosts ((h.hosts.serve n s).serves e)
+
+-- and no other is its
+pub owned_once : (state : State) (s t n : ℕ) → Holds state → (stream_at state s).writer.owner ≡ Host n → (stream_at state t).writer.owner ≡ Host n → t ≡ s
+owned_once state s t n h e f =
+    let a : (producer_at state n).duty ≡ Serves s = (h.hosts.serve n s).serves e in
+    let b : (producer_at state n).duty ≡ Serves t = (h.hosts.serve n t).serves f in
+    let c : Serves t ≡ Serves s = sym b ∙ a in
+    cc
+
+pub owned_quiet : (state : State) (s n : ℕ) → Holds state → (stream_at state s).writer.owner ≡ Host n → IsQuiet (stream_at state s)
+owned_quiet state s n h e = WriterHost n e ((h.hosts.serve n s).idle e)
+
+-- a turn in a drive round can be
+pub drive_can : (first w : World) (part : Part) (v : World) (s n : ℕ) (read : Operation) → Lives first w → IsTurn w part v s n read → CanTurn w s n read
+drive_can first w part v s n read l t =
+    let made = owned_made w.state s n l.holds t.owner in
+    let placed = placed_at w.state s made l.holds.sound in
+    record {
+      made = made;
+      owner = t.owner;
+      placed = subst (OperationIsPlaced (sizes_of w.state.guests) (stream_in w s).payload) t.operation placed.reader;
+      there = (l.stands.there s n t.owner).there;
+    }
+
+module _ (first w : World) (part : Part) (v : World) (end : NamedEnd) (address count n : ℕ) (l : Lives first w) (r : IsRead w part v end address count n) where
+  abbrev at : ℕ
+  at = stream_of w end
+
+  abbrev read : Operation
+  read = called end address count
+
+  abbrev open_world : World
+  open_world = opened w at read
+
+  at_made : at < length w.state.streams
+  at_made = r.operates.found.made
+
+  pub opened_here : stream_in open_world at ≡ with_operation Reading (stream_in w at) read
+  opened_here = back-here w at (with_operation Reading (stream_in w at) read) at_made
+
+  opened_holds : Holds open_world.state
+  opened_holds = Holds-stays w at (with_operation Reading (stream_in w at) read) (opened-stays (sizes_of w.state.guests) (stream_in w at) read r.operates.streams r.operates.placed) l.holds
+
+  -- its turn can be
+  pub read_can : CanTurn open_world at n read
+  read_can = record {
+    made = subst (λ k. at < k) (sym (back-length w at (with_operation Reading (stream_in w at) read))) at_made;
+    owner = ap (λ (x : Stream). x.writer.owner) opened_here ∙ r.owner;
+    placed =
+        subst (λ gs. IsPlaced (sizes_of gs) (stream_in open_world at).payload read) (sym (back-guests w at (with_operation Reading (stream_in w at) read)))
+        (subst (λ p. IsPlaced (sizes_of w.state.guests) p read) (sym (ap (λ (x : Stream). x.payload) opened_here)) r.operates.placed);
+    there = subst (λ ws. n < length ws) (sym (ap (λ (x : World). x.writers) (with_stream_in-same w at (with_operation Reading (stream_in w at) read) refl))) (l.stands.there at n r.owner).there;
+  }
+
+  mid_holds : Holds r.mid.state
+  mid_holds = Holds-turned open_world at n read r.mid r.turned read_can opened_holds
+
+  pub mid_made : at < length r.mid.state.streams
+  mid_made = subst (λ k. at < k) (sym (turned-length open_world at n read r.mid r.turned read_can)) read_can.made
+
+  read_holds : Holds v.state
+  read_holds =
+      elim r.told [
+        | inl e ↦ subst (λ (x : World). Holds x.state) (sym e) mid_holds
+        | inr e ↦ subst (λ (x : World). Holds x.state) (sym e)
+            (Holds-stays r.mid at (delivered Reading (stream_in r.mid at)) (told-stays (sizes_of r.mid.state.guests) (stream_in r.mid at) (placed_at r.mid.state at mid_made mid_holds.sound)) mid_holds)
+      ]
+
+unused_is : (duty : Duty) → is_used duty ≡ false → duty ≡ Unused
+unused_is Unused e = refl
+unused_is (Serves s) e = cc
+unused_is Ended e = cc
+
+module _ (first w : World) (l : Lives first w) where
+  forsaken_holds : (v : World) (act : Act) (s n : ℕ) → IsForsaking w v act s n → Holds v.state
+  forsaken_holds v act s n f =
+      let u = reacted_to w act in
+      let holds : Holds u.state = Holds-reaction w.state act l.holds in
+      let made = owned_made w.state s n l.holds f.owner in
+      let stays = reaction-unmoved w.state act s l.holds made (owned_quiet w.state s n l.holds f.owner) in
+      let owner : (stream_in u s).writer.owner ≡ Host n = stays.writer ∙ f.owner in
+      let there = owned_made u.state s n holds owner in
+      subst (λ (x : World). Holds x.state) (sym f.is)
+      (Holds-leaves u s (forsaken Reading (stream_in u s)) n there (forsaken-leaves (sizes_of u.state.guests) (stream_in u s) n (placed_at u.state s there holds.sound) owner) holds)
+
+  hosted_holds : (n : ℕ) → refusal_in w (OnHost n New) ≡ None → Holds (hosted w n).state
+  hosted_holds n e =
+      let i = is_new w n e in
+      Holds-hosted w.state n (hosted_stream (writer_at w n) n) i.known (unused_is (producer_at w.state n).duty i.unused) (record { writer = refl; reader = refl }) l.holds
+
+  form-holds : (part : Part) (reply : Reply) (v : World) → Form w part reply v → Holds v.state
+  form-holds part reply v (BySame m e) = subst (λ (x : World). Holds x.state) (sym e) l.holds
+  form-holds part reply v (ByReacting act m e) = subst (λ (x : World). Holds x.state) (sym e) (Holds-reaction w.state act l.holds)
+  form-holds part reply v (ByForsaking act s n m f) = forsaken_holds v act s n f
+  form-holds part reply v (ByHosting n p r e f) = subst (λ (x : World). Holds x.state) (sym f) (hosted_holds n e)
+  form-holds part reply v (ByFeeding n bytes m e) = subst (λ (x : World). Holds x.state) (sym e) l.holds
+  form-holds part reply v (ByTurning s n read m t) = Holds-turned w s n read v t.turned (drive_can first w part v s n read l t) l.holds
+  form-holds part reply v (ByReading end address count n m r) = read_holds first w part v end address count n l r
+
+  -- a part that goes on
+  pub goes_form : (part : Part) (reply : Reply) (v : World) → is_part part ≡ true → part_on w part ≡ Goes reply v → Form w part reply v
+  goes_form part reply v p e = subst (λ o. IfGoes o (Form w part)) e (part-formed w l.holds part p)
+
+  pub goes_lives : (part : Part) (reply : Reply) (v : World) → is_part part ≡ true → part_on w part ≡ Goes reply v → Lives first v
+  goes_lives part reply v p e =
+      let supplies : OfEach Feeding of_supplies w v = subst (λ o. IfGoes o (λ reply x. OfEach Feeding of_supplies w x)) e (part-supplies w part p) in
+      let stands : Kept first w v = subst (Comes (Kept first) SameClosed w) e (part-closes first w part p) in
+      record {
+        holds = form-holds part reply v (goes_form part reply v p e);
+        stands = stands l.stands;
+        supplied = λ n. supplies n (l.supplied n);
+      }
+
+-- the world after a moment
+pub follows_lives : (first : World) (m : HostMoment) → is_part m.part ≡ true → part_on m.before m.part ≡ Goes m.reply m.after → Lives first m.before → Lives first m.after
+follows_lives first m p e l = goes_lives first m.before l m.part m.reply m.after p e

@@ -1,0 +1,224 @@
+-- What a moment does to one stream that a host writer has, or that its writer has left: nothing, unless it is
+-- that host writer's turn, or the stream is forsaken.
+use Rattle.std.proofs.Common.{◌≡◌, ◌≢◌, ℕ, ◌<◌, List, [], ◌∷◌, ◌++◌, length, set, Option, Some, None, refl, sym, ap, subst, ◌∙◌, inl, inr, arith}
+use Rattle.std.proofs.lemmas.Bool.{cases_eq}
+use Rattle.std.proofs.lemmas.List.{length-set}
+use Rattle.strm_machine.specs.State.{State}
+use Rattle.strm_machine.specs.Making.{made_stream, made_pair, with_stream}
+use Rattle.strm_machine.specs.Sides.{with_operation}
+use Rattle.strm_machine.specs.Endings.{delivered}
+use Rattle.strm_machine.specs.Tests.{named, stream_named}
+use Rattle.strm_machine.specs.Turns.{Turn}
+use Rattle.strm_machine.specs.Reactions.{Reaction, written_back, reaction}
+use Rattle.strm_codes.specs.declared.codes.ReturnCode.{ReturnCode}
+use Rattle.strm_machine.specs.declared.acts.Act.{Act}
+use Rattle.strm_machine.specs.declared.acts.NamedEnd.{NamedEnd}
+use Rattle.strm_machine.specs.declared.streams.Owner.TheVariants.{Host, Gone}
+use Rattle.strm_machine.specs.declared.streams.Operation.{Operation}
+use Rattle.strm_machine.specs.declared.streams.Side.TheVariants.{Reading}
+use Rattle.strm_machine.specs.declared.streams.Stream.{Stream}
+use Rattle.strm_machine.specs.declared.replies.Reply.{Reply}
+use Rattle.strm_machine.proofs.Shapes.{turn_on, Shape, ByTurn, BySetting, ByOwner, ByTable, ByPair, ByGuest, ByPut, ByRest}
+use Rattle.strm_machine.proofs.ShapeLemmas.{reaction-shape}
+use Rattle.std.proofs.lemmas.List.{length-append}
+use Rattle.strm_world.specs.Ends.{Writer, no_writer, fed_writer}
+use Rattle.strm_world.specs.World.{World, stream_in, writer_at, with_stream_in}
+use Rattle.strm_world.specs.Attaching.{forsaken, hosted_stream}
+use Rattle.strm_host_laws.specs.HostMoments.{Part}
+use Rattle.strm_host_laws.proofs.Closed.{set-keeps}
+use Rattle.strm_host_laws.proofs.Forms.{opened, called, reacted_to, stream_of, IsTurn, IsRead, IsForsaking, Form, BySame, ByReacting, ByForsaking, ByHosting, ByFeeding, ByTurning, ByReading}
+use Rattle.strm_host_laws.proofs.Goings.{hosted}
+use Rattle.strm_host_laws.proofs.Lives.{Lives, owned_made, owned_once, owned_quiet, drive_can, read_can}
+use Rattle.strm_host_laws.proofs.Sounds.{Holds, push-other}
+use Rattle.strm_host_laws.proofs.Unmoved.{Unmoved, IsQuiet, reaction-unmoved}
+use Rattle.strm_host_laws.proofs.WorldsHold.{back-writer, back-coming, back-here, back-other, back-length, back-stays, turned-other, turned-length, turned-writer}
+
+-- STREAMS STAY MADE
+
+written_made : (state : State) (s t : ℕ) (x : Turn) (code : Option ReturnCode) → s < length state.streams → s < length (written_back state t x code).state.streams
+written_made state s t x (Some code) l = subst (λ k. s < k) (sym (length-set state.streams t x.stream)) l
+written_made state s t x None l = subst (λ k. s < k) (sym (length-set state.streams t x.stream)) l
+
+set_made : (xs : List Stream) (s t : ℕ) (x : Stream) → s < length xs → s < length (set xs t x)
+set_made xs s t x l = subst (λ k. s < k) (sym (length-set xs t x)) l
+
+push_made : (xs : List Stream) (s : ℕ) (x : Stream) → s < length xs → s < length (xs ++ x ∷ [])
+push_made xs s x l = omega (arith, l, length-append xs (x ∷ []))
+
+shape_made : (state : State) (act : Act) (r : Reaction) (s : ℕ) → s < length state.streams → Shape state act r → s < length r.state.streams
+unfolding with_stream
+shape_made state act r s l (ByTurn side end address count a e o) =
+    let t = turn_on state side end address count in
+    subst (λ (x : Reaction). s < length x.state.streams) (sym e) (written_made state s (stream_named (named state end)) t t.code l)
+shape_made state act r s l (BySetting reply x e o) = subst (λ (y : Reaction). s < length y.state.streams) (sym e) (set_made state.streams s x.stream _ l)
+shape_made state act r s l (ByOwner reply x e o) = subst (λ (y : Reaction). s < length y.state.streams) (sym e) (set_made state.streams s x.stream _ l)
+shape_made state act r s l (ByTable reply x e o) = subst (λ (y : Reaction). s < length y.state.streams) (sym e) l
+shape_made state act r s l (ByPair writer reader ty a e o) =
+    let pair = made_pair state writer reader ty in
+    subst (λ (y : Reaction). s < length y.state.streams) (sym e) (push_made state.streams s (made_stream ty writer pair.write reader pair.read) l)
+shape_made state act r s l (ByGuest size a e o) = subst (λ (y : Reaction). s < length y.state.streams) (sym e) l
+shape_made state act r s l (ByPut reply g address bytes e o) = subst (λ (y : Reaction). s < length y.state.streams) (sym e) l
+shape_made state act r s l (ByRest reply e o) = subst (λ (y : Reaction). s < length y.state.streams) (sym e) l
+
+pub reaction-made : (state : State) (act : Act) (s : ℕ) → Holds state → s < length state.streams → s < length (reaction state act).state.streams
+reaction-made state act s h l = shape_made state act (reaction state act) s l (reaction-shape state act h.sound)
+
+-- WHAT IS DONE TO ONE STREAM
+
+-- a host writer holds what it held, and none of its records is used
+pub record SameHeld (a b : Writer) : Type 0 where
+  pub holds : b.holds ≡ a.holds
+  pub coming : b.coming ≡ a.coming
+
+held_by_same : (a b : Writer) → b ≡ a → SameHeld a b
+held_by_same a b e = record { holds = ap (λ (x : Writer). x.holds) e; coming = ap (λ (x : Writer). x.coming) e }
+
+-- nothing is done to stream s, nor to its host writer
+pub record Aside (s : ℕ) (w v : World) : Type 0 where
+  pub stream : Unmoved (stream_in w s) (stream_in v s)
+  pub made : s < length v.state.streams
+  pub writer : (n : ℕ) → (stream_in w s).writer.owner ≡ Host n → SameHeld (writer_at w n) (writer_at v n)
+
+-- its host writer is gone, and nothing was received
+pub record Forsaken (s n : ℕ) (w v : World) : Type 0 where
+  pub was : (stream_in w s).writer.owner ≡ Host n
+  pub gone : (stream_in v s).writer.owner ≡ Gone
+  pub received : (stream_in v s).received ≡ (stream_in w s).received
+  pub made : s < length v.state.streams
+  pub coming : (writer_at v n).coming ≡ (writer_at w n).coming
+
+pub data Touch (s : ℕ) (w : World) (part : Part) (v : World) : Type 0 where
+  NotTouched : Aside s w v → Touch s w part v
+  IsLost : (n : ℕ) → Forsaken s n w v → Touch s w part v
+  HasTurn : (n : ℕ) (read : Operation) → IsTurn w part v s n read → Touch s w part v
+  HasRead : (end : NamedEnd) (address count n : ℕ) → stream_of w end ≡ s → IsRead w part v end address count n → Touch s w part v
+
+same_stream : (a b : Stream) → b ≡ a → Unmoved a b
+same_stream a b e = record { received = ap (λ (x : Stream). x.received) e; writer = ap (λ (x : Stream). x.writer.owner) e }
+
+unmoved_twice : (a b c : Stream) → Unmoved a b → Unmoved b c → Unmoved a c
+unmoved_twice a b c h k = record { received = k.received ∙ h.received; writer = k.writer ∙ h.writer }
+
+aside_same : (s : ℕ) (w v : World) → v ≡ w → s < length w.state.streams → Aside s w v
+aside_same s w v e l = record {
+  stream = same_stream (stream_in w s) (stream_in v s) (ap (λ x. stream_in x s) e);
+  made = subst (λ (x : World). s < length x.state.streams) (sym e) l;
+  writer = λ n o. held_by_same (writer_at w n) (writer_at v n) (ap (λ x. writer_at x n) e);
+}
+
+-- told its report, a stream's read end changes nothing of its writer
+pub told_stream : (stream : Stream) → Unmoved stream (delivered Reading stream)
+unfolding delivered
+told_stream stream = record { received = refl; writer = refl }
+
+module _ (first w : World) (s : ℕ) (l : Lives first w) (made : s < length w.state.streams) (q : IsQuiet (stream_in w s)) where
+  -- a host writer of another stream is another one
+  other_writer : (t n m : ℕ) → s ≢ t → (stream_in w t).writer.owner ≡ Host n → (stream_in w s).writer.owner ≡ Host m → m ≢ n
+  other_writer t n m ne e f g =
+      let same : (stream_in w s).writer.owner ≡ Host n = f ∙ ap Host g in
+      ne (owned_once w.state t s n l.holds e same)
+
+  reacted_aside : (v : World) (act : Act) → v ≡ reacted_to w act → Aside s w v
+  reacted_aside v act e = record {
+    stream = subst (λ x. Unmoved (stream_in w s) (stream_in x s)) (sym e) (reaction-unmoved w.state act s l.holds made q);
+    made = subst (λ (x : World). s < length x.state.streams) (sym e) (reaction-made w.state act s l.holds made);
+    writer = λ n o. held_by_same (writer_at w n) (writer_at v n) (ap (λ x. writer_at x n) e);
+  }
+
+  forsaken_touch : (part : Part) (v : World) (act : Act) (t n : ℕ) → IsForsaking w v act t n → Touch s w part v
+  forsaken_touch part v act t n f =
+      let u = reacted_to w act in
+      let a = reacted_aside u act refl in
+      let tmade = owned_made w.state t n l.holds f.owner in
+      let tquiet = owned_quiet w.state t n l.holds f.owner in
+      let towner : (stream_in u t).writer.owner ≡ Host n = (reaction-unmoved w.state act t l.holds tmade tquiet).writer ∙ f.owner in
+      let now = forsaken Reading (stream_in u t) in
+      let long : s < length v.state.streams = subst (λ (x : World). s < length x.state.streams) (sym f.is) (subst (λ k. s < k) (sym (back-length u t now)) a.made) in
+      elim (cases_eq s t) [
+        | inl e ↦
+            let here : stream_in v s ≡ now = ap (λ x. stream_in x s) f.is ∙ ap (λ k. stream_in (with_stream_in u t now) k) e ∙ back-here u t now (reaction-made w.state act t l.holds tmade) in
+            IsLost n (record {
+              was = ap (λ k. (stream_in w k).writer.owner) e ∙ f.owner;
+              gone = ap (λ (x : Stream). x.writer.owner) here;
+              received = ap (λ (x : Stream). x.received) here ∙ ap (λ k. (stream_in u k).received) (sym e) ∙ a.stream.received;
+              made = long;
+              coming = ap (λ x. (writer_at x n).coming) f.is ∙ back-coming u t now n;
+            })
+        | inr ne ↦ NotTouched (record {
+          stream = unmoved_twice (stream_in w s) (stream_in u s) (stream_in v s) a.stream
+              (same_stream (stream_in u s) (stream_in v s) (ap (λ x. stream_in x s) f.is ∙ back-other u t now s ne));
+          made = long;
+          writer = λ m o. held_by_same (writer_at w m) (writer_at v m)
+              (ap (λ x. writer_at x m) f.is
+              ∙ back-writer u t now m (λ k g. let same : Host k ≡ Host n = sym g ∙ towner in let who : k ≡ n = cc in λ h. other_writer t n m ne f.owner o (h ∙ who)));
+        })
+      ]
+
+  hosted_aside : (v : World) (n : ℕ) → v ≡ hosted w n → Aside s w v
+  hosted_aside v n e = record {
+    stream = same_stream (stream_in w s) (stream_in v s) (ap (λ x. stream_in x s) e ∙ push-other w.state.streams (hosted_stream (writer_at w n) n) s (λ f. absurd (omega (arith, made, f))));
+    made = subst (λ (x : World). s < length x.state.streams) (sym e) (push_made w.state.streams s (hosted_stream (writer_at w n) n) made);
+    writer = λ m o. held_by_same (writer_at w m) (writer_at v m) (ap (λ x. writer_at x m) e);
+  }
+
+  fed_aside : (v : World) (n : ℕ) (bytes : List ℕ) → v ≡ record w { writers = set w.writers n (fed_writer (writer_at w n) bytes) } → Aside s w v
+  fed_aside v n bytes e = record {
+    stream = same_stream (stream_in w s) (stream_in v s) (ap (λ x. stream_in x s) e);
+    made = subst (λ (x : World). s < length x.state.streams) (sym e) made;
+    writer = λ m o. record {
+      holds = ap (λ x. (writer_at x m).holds) e ∙ set-keeps (λ (x : Writer). x.holds) w.writers n m (fed_writer (writer_at w n) bytes) no_writer refl;
+      coming = ap (λ x. (writer_at x m).coming) e ∙ set-keeps (λ (x : Writer). x.coming) w.writers n m (fed_writer (writer_at w n) bytes) no_writer refl;
+    };
+  }
+
+  turned_touch : (part : Part) (v : World) (t n : ℕ) (read : Operation) → IsTurn w part v t n read → Touch s w part v
+  turned_touch part v t n read i =
+      let can = drive_can first w part v t n read l i in
+      elim (cases_eq t s) [
+        | inl e ↦ HasTurn n read (subst (λ k. IsTurn w part v k n read) e i)
+        | inr ne ↦ (
+            let off : s ≢ t = λ f. ne (sym f) in
+            NotTouched (record {
+              stream = same_stream (stream_in w s) (stream_in v s) (turned-other w t n read v i.turned can s off);
+              made = subst (λ k. s < k) (sym (turned-length w t n read v i.turned can)) made;
+              writer = λ m o. held_by_same (writer_at w m) (writer_at v m) (turned-writer w t n read v i.turned can m (other_writer t n m off i.owner o));
+            }))
+      ]
+
+  read_touch : (part : Part) (v : World) (end : NamedEnd) (address count n : ℕ) → IsRead w part v end address count n → Touch s w part v
+  read_touch part v end address count n r =
+      let t = stream_of w end in
+      let read = called end address count in
+      let o = opened w t read in
+      let can = read_can first w part v end address count n l r in
+      let open_stream = with_operation Reading (stream_in w t) read in
+      elim (cases_eq t s) [
+        | inl e ↦ HasRead end address count n e r
+        | inr ne ↦ (
+            let off : s ≢ t = λ f. ne (sym f) in
+            let mid_stream : stream_in r.mid s ≡ stream_in w s = turned-other o t n read r.mid r.turned can s off ∙ back-other w t open_stream s off in
+            let mid_long : s < length r.mid.state.streams = subst (λ k. s < k) (sym (turned-length o t n read r.mid r.turned can ∙ back-length w t open_stream)) made in
+            let mid_writer : (m : ℕ) → (stream_in w s).writer.owner ≡ Host m → writer_at r.mid m ≡ writer_at w m = λ m x. turned-writer o t n read r.mid r.turned can m (other_writer t n m off r.owner x) ∙ back-stays w t open_stream refl m in
+            let told = delivered Reading (stream_in r.mid t) in
+            NotTouched (elim r.told [
+              | inl e ↦ record {
+                stream = same_stream (stream_in w s) (stream_in v s) (ap (λ x. stream_in x s) e ∙ mid_stream);
+                made = subst (λ (x : World). s < length x.state.streams) (sym e) mid_long;
+                writer = λ m x. held_by_same (writer_at w m) (writer_at v m) (ap (λ y. writer_at y m) e ∙ mid_writer m x);
+              }
+              | inr e ↦ record {
+                stream = same_stream (stream_in w s) (stream_in v s) (ap (λ x. stream_in x s) e ∙ back-other r.mid t told s off ∙ mid_stream);
+                made = subst (λ (x : World). s < length x.state.streams) (sym e) (subst (λ k. s < k) (sym (back-length r.mid t told)) mid_long);
+                writer = λ m x. held_by_same (writer_at w m) (writer_at v m) (ap (λ y. writer_at y m) e ∙ back-stays r.mid t told (told_stream (stream_in r.mid t)).writer m ∙ mid_writer m x);
+              }
+            ]))
+      ]
+
+  pub form_touch : (part : Part) (reply : Reply) (v : World) → Form w part reply v → Touch s w part v
+  form_touch part reply v (BySame m e) = NotTouched (aside_same s w v e made)
+  form_touch part reply v (ByReacting act m e) = NotTouched (reacted_aside v act e)
+  form_touch part reply v (ByForsaking act t n m f) = forsaken_touch part v act t n f
+  form_touch part reply v (ByHosting n p r e f) = NotTouched (hosted_aside v n f)
+  form_touch part reply v (ByFeeding n bytes m e) = NotTouched (fed_aside v n bytes e)
+  form_touch part reply v (ByTurning t n read m i) = turned_touch part v t n read i
+  form_touch part reply v (ByReading end address count n m r) = read_touch part v end address count n r

@@ -1,0 +1,151 @@
+-- What the turn of a host writer does where it goes on: the items that it hands over, the records that it
+-- uses, and what it holds then.
+use Rattle.std.proofs.Common.{◌≡◌, ℕ, ◌≤◌, ◌||◌, List, [], ◌∷◌, ◌++◌, length, take, drop, Option, Some, refl, sym, ap, ◌∙◌, arith, append-nil, take-append-drop, length-take}
+use Rattle.std.proofs.lemmas.Bool.{cond_both}
+use Rattle.std.specs.Prelude.{slice_set}
+use Rattle.strm_codes.specs.declared.codes.StreamResult.{StreamResult}
+use Rattle.strm_codes.specs.declared.codes.StreamResult.TheVariants as results
+use Rattle.strm_buffers.specs.HostRules.{breaks_as_writer}
+use Rattle.strm_buffers.specs.Listing.{Item}
+use Rattle.strm_buffers.specs.Said.{WriterSaid}
+use Rattle.strm_machine.specs.State.{no_producer, producer_at}
+use Rattle.strm_machine.specs.declared.streams.Operation.{Operation}
+use Rattle.strm_machine.specs.declared.streams.Producer.{Producer}
+use Rattle.strm_machine.specs.declared.streams.Side.TheVariants.{Reading}
+use Rattle.strm_machine.specs.declared.streams.Stream.{Stream}
+use Rattle.strm_machine.specs.declared.replies.Reply.{Reply}
+use Rattle.strm_world.specs.Ends.{Writer, no_writer, polled_writer, given_writer}
+use Rattle.strm_world.specs.World.{World, stream_in, writer_at, with_writer, with_stream_in}
+use Rattle.strm_world.specs.Outcomes.{done}
+use Rattle.strm_world.specs.Polls.{AfterWriter, is_failed, is_writer_poll, writer_says}
+use Rattle.strm_world.specs.Settling.{moved_on}
+use Rattle.strm_world.specs.Producing.{lowered, receives, is_last, with_over, produced_result, produces, producer_turn}
+use Rattle.strm_world.proofs.WorldLemmas.{set-same}
+use Rattle.strm_host_laws.specs.HostLaws.{items_of}
+use Rattle.strm_host_laws.proofs.Goings.{IfGoes}
+
+-- the world after a turn, but for the stream: these items were lowered, and this is kept of the writer
+abbrev pub turned : World → ℕ → ℕ → Operation → List Item → Producer → Writer → World
+turned w s n read items producer writer = record {
+  state = record w.state {
+    guests = lowered w.state.guests (stream_in w s).payload read items;
+    producers = slice_set w.state.producers n producer;
+  };
+  writers = slice_set w.writers n writer;
+  readers = w.readers;
+}
+
+-- the stream after it
+abbrev pub stream_moved : World → ℕ → Operation → List Item → Option StreamResult → Stream
+stream_moved w s read items result = moved_on Reading (stream_in w s) read (length items) result
+
+pub record Turned (w : World) (s n : ℕ) (read : Operation) (v : World) : Type 0 where
+  pub items : List Item
+  pub said : List WriterSaid
+  pub result : Option StreamResult
+  pub producer : Producer
+  pub writer : Writer
+  pub is : v ≡ with_stream_in (turned w s n read items producer writer) s (stream_moved w s read items result)
+  pub fits : length items ≤ read.left
+  pub duty : producer.duty ≡ (producer_at w.state n).duty
+  pub coming : (writer_at w n).coming ≡ said ++ writer.coming
+  pub balance : (writer_at w n).holds ++ items_of said ≡ items ++ writer.holds
+
+module _ (w : World) (s n : ℕ) (read : Operation) where
+  -- a turn that goes on did this
+  abbrev AsTurned : Reply → World → Type 0
+  AsTurned reply v = Turned w s n read v
+
+  -- written back
+  abbrev back : List Item → Option StreamResult → Producer → Writer → World
+  back items result producer writer = with_stream_in (turned w s n read items producer writer) s (stream_moved w s read items result)
+
+  -- held items
+  by_holding : (item : Item) (items : List Item) → IfGoes (produces w s n read (item ∷ items)) AsTurned
+  by_holding item items =
+      let held = (writer_at w n).holds in
+      let writer = given_writer (writer_at w n) read.left in
+      let moved = stream_moved w s read (take read.left held) (Some results.Completed) in
+      record {
+        items = take read.left held;
+        said = [];
+        result = Some results.Completed;
+        producer = producer_at w.state n;
+        writer = writer;
+        is = ap (λ ps. with_stream_in (record {
+          state = record w.state { guests = lowered w.state.guests (stream_in w s).payload read (take read.left held); producers = ps };
+          writers = slice_set w.writers n writer;
+          readers = w.readers;
+        }) s moved) (sym (set-same w.state.producers n no_producer));
+        fits = omega (arith, length-take read.left held);
+        duty = refl;
+        coming = refl;
+        balance = append-nil held ∙ sym (take-append-drop read.left held);
+      }
+
+  -- a writer that is over
+  by_over : (writer_at w n).holds ≡ [] → Turned w s n read (receives w s read [] (Some results.Dropped))
+  by_over e =
+      let moved = stream_moved w s read [] (Some results.Dropped) in
+      record {
+        items = [];
+        said = [];
+        result = Some results.Dropped;
+        producer = producer_at w.state n;
+        writer = writer_at w n;
+        is = ap (λ ps. with_stream_in (record {
+          state = record w.state { guests = lowered w.state.guests (stream_in w s).payload read []; producers = ps };
+          writers = w.writers;
+          readers = w.readers;
+        }) s moved) (sym (set-same w.state.producers n no_producer))
+            ∙ ap (λ ws. with_stream_in (record {
+              state = record w.state { guests = lowered w.state.guests (stream_in w s).payload read []; producers = slice_set w.state.producers n (producer_at w.state n) };
+              writers = ws;
+              readers = w.readers;
+            }) s moved) (sym (set-same w.writers n no_writer));
+        fits = omega arith;
+        duty = refl;
+        coming = refl;
+        balance = append-nil (writer_at w n).holds;
+      }
+
+  -- after a record
+  abbrev next : AfterWriter
+  next after said = done (receives (with_over after n said.answer) s read (take read.left said.items) (produced_result said.answer (drop read.left said.items)))
+
+  by_record : (said : WriterSaid) (more : List WriterSaid) → (writer_at w n).holds ≡ [] → (writer_at w n).coming ≡ said ∷ more
+      → IfGoes (next (with_writer w n (polled_writer (writer_at w n) (Some read.left) said more)) said) AsTurned
+  by_record said more e c =
+      let items = said.items in
+      record {
+        items = take read.left items;
+        said = said ∷ [];
+        result = produced_result said.answer (drop read.left items);
+        producer = record (producer_at w.state n) { over = (producer_at w.state n).over || is_last said.answer };
+        writer = polled_writer (writer_at w n) (Some read.left) said more;
+        is = refl;
+        fits = omega (arith, length-take read.left items);
+        duty = refl;
+        coming = c;
+        balance = ap (λ xs. xs ++ (items ++ [])) e ∙ append-nil items ∙ sym (take-append-drop read.left items);
+      }
+
+  by_saying : (coming : List WriterSaid) → (writer_at w n).holds ≡ [] → (writer_at w n).coming ≡ coming
+      → IfGoes (writer_says w s n (Some read.left) read.asked coming next) AsTurned
+  by_saying [] e c = tt
+  by_saying (said ∷ more) e c =
+      cond_both (is_writer_poll (Some read.left) read.asked said) _ _ (λ o. IfGoes o AsTurned)
+      (λ f. cond_both (is_failed said.answer) _ _ (λ o. IfGoes o AsTurned) (λ g. tt)
+      (λ g. cond_both (breaks_as_writer (stream_in w s).kind said) _ _ (λ o. IfGoes o AsTurned) (λ k. tt) (λ k. by_record said more e c)))
+      (λ f. tt)
+
+  by_held : (held : List Item) → (writer_at w n).holds ≡ held → IfGoes (produces w s n read held) AsTurned
+  by_held (item ∷ items) e = by_holding item items
+  by_held [] e =
+      cond_both (producer_at w.state n).over _ _ (λ o. IfGoes o AsTurned)
+      (λ f. by_over e)
+      (λ f. by_saying (writer_at w n).coming e refl)
+
+  pub turn_is : IfGoes (producer_turn w s n read) AsTurned
+  unfolding producer_turn
+  turn_is = by_held (writer_at w n).holds refl
