@@ -34,9 +34,9 @@ use Rattle.strm_host_laws.proofs.Chains.{is_part}
 use Rattle.strm_host_laws.proofs.Forms.{opened, called, reacted_to, stream_of, Form, BySame, ByReacting, ByForsaking, ByHosting, ByFeeding, ByTurning, ByReading}
 use Rattle.strm_host_laws.proofs.Goings.{IfGoes}
 use Rattle.strm_host_laws.proofs.Lives.{Lives, drive_can, read_can, goes_form, goes_lives}
-use Rattle.strm_host_laws.proofs.Sounds.{Holds}
+use Rattle.strm_host_laws.proofs.Standing.{Holds}
 use Rattle.strm_host_laws.proofs.Turned.{turned, stream_moved, Turned, turn_is}
-use Rattle.strm_host_laws.proofs.WorldsHold.{back-length, turned-length}
+use Rattle.strm_host_laws.proofs.WrittenBack.{back-length, turned-length}
 
 -- the streams made
 abbrev pub streams_in : World → ℕ

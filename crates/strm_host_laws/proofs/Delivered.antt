@@ -35,10 +35,10 @@ use Rattle.strm_host_laws.proofs.Goings.{hosted}
 use Rattle.strm_host_laws.proofs.Lives.{AllSupply, Lives, owned_made, owned_quiet, drive_can, read_can, goes_form, follows_lives}
 use Rattle.strm_host_laws.proofs.Moments.{holds_before, touch_delivers}
 use Rattle.strm_host_laws.proofs.Owners.{HostsFrom, set-from, reaction-from}
-use Rattle.strm_host_laws.proofs.Sounds.{push-other, Holds-empty}
+use Rattle.strm_host_laws.proofs.Standing.{Holds-empty}
 use Rattle.strm_host_laws.proofs.Touched.{reaction-made, Touch, NotTouched, IsLost, HasTurn, HasRead, form_touch}
-use Rattle.strm_host_laws.proofs.Unmoved.{WriterGone}
-use Rattle.strm_host_laws.proofs.WorldsHold.{back-streams, back-other, back-length, turned-other, turned-length}
+use Rattle.strm_host_laws.proofs.Unmoved.{push-other, WriterGone}
+use Rattle.strm_host_laws.proofs.WrittenBack.{back-streams, back-other, back-length, turned-other, turned-length}
 
 -- MOMENTS THAT MAKE NO STREAM OF A NUMBER
 

@@ -1,15 +1,13 @@
 -- What a moment of a run is, by what it does to the world: one of seven forms.
-use Rattle.std.proofs.Common.{◌≡◌, ℕ, Bool, true, false, List, ◌++◌, length, Option, Some, None, refl, sym, ◌∙◌, ◌⊎◌, inl, inr}
+use Rattle.std.proofs.Common.{◌≡◌, ℕ, Bool, true, false, List, length, Option, Some, None, refl, sym, ◌∙◌, ◌⊎◌, inl, inr}
 use Rattle.std.proofs.lemmas.Bool.{cond_both}
 use Rattle.strm_codes.specs.declared.codes.ReturnCode.{ReturnCode}
 use Rattle.strm_codes.specs.declared.refusals.Refusal.{Refusal}
-use Rattle.strm_machine.specs.State.{State, is_host}
+use Rattle.strm_machine.specs.State.{is_host}
 use Rattle.strm_machine.specs.Sides.{opposite, end_of, with_operation}
-use Rattle.strm_machine.specs.Meetings.{begun}
+use Rattle.strm_machine.specs.Meetings.{begun as begun_operation}
 use Rattle.strm_machine.specs.Endings.{report_on, delivered}
-use Rattle.strm_machine.specs.Tests.{named, stream_named, side_named, items_asked}
-use Rattle.strm_machine.specs.Refusals.{first_of, region_reasons, handle_reasons, own_reasons, on_end_reasons}
-use Rattle.strm_machine.specs.Soundness.{IsSound}
+use Rattle.strm_machine.specs.Tests.{named, stream_named, items_asked}
 use Rattle.strm_machine.specs.Reactions.{reaction}
 use Rattle.strm_machine.specs.declared.acts.Act.{Act}
 use Rattle.strm_machine.specs.declared.acts.Act.TheVariants.{OnEnd, OnLoose, OnHost, Drive}
@@ -24,11 +22,6 @@ use Rattle.strm_machine.specs.declared.streams.Side.{Side}
 use Rattle.strm_machine.specs.declared.streams.Side.TheVariants.{Writing, Reading}
 use Rattle.strm_machine.specs.declared.replies.Reply.{Reply}
 use Rattle.strm_machine.specs.declared.replies.Reply.TheVariants as replies
-use Rattle.strm_machine.proofs.NamedEndLemmas.{end_fits, found_payload, found_kind, on_end-found}
-use Rattle.strm_machine.proofs.ReactionLemmas.{refusal-on_end}
-use Rattle.strm_machine.proofs.RefusalLemmas.{none_of_both, named_ok, region_fits, placed_begun}
-use Rattle.strm_machine.proofs.Shapes.{stream_on, Operates}
-use Rattle.strm_machine.proofs.SoundLemmas.{placed_at}
 use Rattle.strm_world.specs.Ends.{fed_writer}
 use Rattle.strm_world.specs.World.{World, stream_in, writer_at, with_writer, with_stream_in}
 use Rattle.strm_world.specs.Outcomes.{Outcome, Goes, Stops, Stuck, then_on, of_reply}
@@ -42,7 +35,7 @@ use Rattle.strm_world.proofs.OutcomeLemmas.{refusal_in-on_end}
 use Rattle.strm_host_laws.specs.HostMoments.{Part, Acts, Turns, part_on}
 use Rattle.strm_host_laws.proofs.Chains.{is_part}
 use Rattle.strm_host_laws.proofs.Goings.{with_state, hosted, IfGoes}
-use Rattle.strm_host_laws.proofs.Sounds.{Holds}
+use Rattle.strm_host_laws.proofs.Standing.{Holds, Begun, read_begun}
 use Rattle.strm_host_laws.proofs.Turned.{Turned, turn_is}
 
 -- a stream of a host writer is made, and its number answered
@@ -52,7 +45,7 @@ is_making part reply = false
 
 -- a read that is called
 abbrev pub called : NamedEnd → ℕ → ℕ → Operation
-called end address count = begun end.guest address (items_asked end.ty count)
+called end address count = begun_operation end.guest address (items_asked end.ty count)
 
 -- a read opens on stream s
 abbrev pub opened : World → ℕ → Operation → World
@@ -76,7 +69,7 @@ pub record IsTurn (w : World) (part : Part) (v : World) (s n : ℕ) (read : Oper
 -- a read is called, for which the host writer has its turn, and whose report is told
 pub record IsRead (w : World) (part : Part) (v : World) (end : NamedEnd) (address count n : ℕ) : Type 0 where
   pub part_is : part ≡ Acts (OnEnd Reading end (Operate address count))
-  pub operates : Operates w.state Reading end address count
+  pub begun : Begun w.state end address count
   pub owner : (stream_in w (stream_of w end)).writer.owner ≡ Host n
   pub mid : World
   pub turned : Turned (opened w (stream_of w end) (called end address count)) (stream_of w end) n (called end address count) mid
@@ -95,26 +88,6 @@ pub data Form (w : World) (part : Part) (reply : Reply) (v : World) : Type 0 whe
   ByFeeding : (n : ℕ) (bytes : List ℕ) → is_making part reply ≡ false → v ≡ with_writer w n (fed_writer (writer_at w n) bytes) → Form w part reply v
   ByTurning : (s n : ℕ) (read : Operation) → is_making part reply ≡ false → IsTurn w part v s n read → Form w part reply v
   ByReading : (end : NamedEnd) (address count n : ℕ) → is_making part reply ≡ false → IsRead w part v end address count n → Form w part reply v
-
--- where nothing refuses a read or write, its end is one that may
-operate-fits : (state : State) (side : Side) (end : NamedEnd) (address count : ℕ) → IsSound state → first_of (on_end_reasons state side end (Operate address count)) ≡ None → Operates state side end address count
-operate-fits state side end address count h e =
-    let name = named state end in
-    let stream = stream_on state end in
-    let first = none_of_both (region_reasons state end.guest end.ty address count) (handle_reasons name ++ own_reasons state side end (Operate address count)) e in
-    let second = none_of_both (handle_reasons name) (own_reasons state side end (Operate address count)) first.1 in
-    let region = region_fits state end.guest end.ty address count first.0 in
-    let ok = named_ok state end second.0 in
-    let fits = end_fits stream side end.guest end.ty (side_named name) second.1 in
-    let found = on_end-found state side end (Operate address count) h region.there ok fits.same in
-    record {
-      found = found;
-      idle = fits.idle;
-      unended = fits.unended;
-      kind = found_kind state end h ok;
-      placed = placed_begun state end.guest end.ty address count stream.payload (found_payload state end h ok) region;
-      streams = placed_at state (stream_named name) found.made h;
-    }
 
 host_number : (owner : Owner) → is_host owner ≡ true → (n : ℕ) × (owner ≡ Host n)
 host_number (Host n) e = (n, refl)
@@ -176,7 +149,7 @@ module _ (w : World) (h : Holds w.state) where
 
   -- A READ
 
-  module _ (end : NamedEnd) (address count n : ℕ) (o : Operates w.state Reading end address count) (e : (stream_in w (stream_of w end)).writer.owner ≡ Host n) where
+  module _ (end : NamedEnd) (address count n : ℕ) (o : Begun w.state end address count) (e : (stream_in w (stream_of w end)).writer.owner ≡ Host n) where
     abbrev reading : Part
     reading = Acts (OnEnd Reading end (Operate address count))
 
@@ -184,8 +157,8 @@ module _ (w : World) (h : Holds w.state) where
     here = stream_of w end
 
     answers-formed : (u : World) (report : Option ReturnCode) → Turned (opened w here (called end address count)) here n (called end address count) u → Formed reading (answered_with u here Reading report)
-    answers-formed u (Some code) t = ByReading end address count n refl (record { part_is = refl; operates = o; owner = e; mid = u; turned = t; told = inr refl })
-    answers-formed u None t = ByReading end address count n refl (record { part_is = refl; operates = o; owner = e; mid = u; turned = t; told = inl refl })
+    answers-formed u (Some code) t = ByReading end address count n refl (record { part_is = refl; begun = o; owner = e; mid = u; turned = t; told = inr refl })
+    answers-formed u None t = ByReading end address count n refl (record { part_is = refl; begun = o; owner = e; mid = u; turned = t; told = inl refl })
 
     then-formed : (x : Outcome) → IfGoes x (λ reply u. Turned (opened w here (called end address count)) here n (called end address count) u) → Formed reading (then_on x (λ after. answered after here Reading))
     then-formed (Goes reply u) t = answers-formed u (report_on Reading (stream_in u here)) t
@@ -197,15 +170,12 @@ module _ (w : World) (h : Holds w.state) where
         then-formed (producer_turn (opened w here (called end address count)) here n (called end address count))
         (turn_is (opened w here (called end address count)) here n (called end address count))
 
-  operates-formed : (side : Side) (end : NamedEnd) (address count : ℕ) (owner : Owner) → Operates w.state side end address count → (end_of (opposite side) (stream_in w (stream_of w end))).owner ≡ owner
+  operates-formed : (side : Side) (end : NamedEnd) (address count : ℕ) (owner : Owner) → refusal_in w (OnEnd side end (Operate address count)) ≡ None → (end_of (opposite side) (stream_in w (stream_of w end))).owner ≡ owner
       → Formed (Acts (OnEnd side end (Operate address count))) (operates_by w side end address count owner)
-  operates-formed Reading end address count (Host n) o e = reads-formed end address count n o e
-  operates-formed side end address count _ o e = reacts-formed (OnEnd side end (Operate address count)) (λ reply. refl)
-
-  operate_fits_in : (side : Side) (end : NamedEnd) (address count : ℕ) → refusal_in w (OnEnd side end (Operate address count)) ≡ None → Operates w.state side end address count
-  operate_fits_in side end address count e =
-      operate-fits w.state side end address count h.sound
-      (sym (refusal-on_end w.state side end (Operate address count)) ∙ sym (refusal_in-on_end w side end (Operate address count)) ∙ e)
+  operates-formed Reading end address count (Host n) r e =
+      let b = read_begun w.state end address count h.sound (sym (refusal_in-on_end w Reading end (Operate address count)) ∙ r) in
+      reads-formed end address count n b e
+  operates-formed side end address count _ r e = reacts-formed (OnEnd side end (Operate address count)) (λ reply. refl)
 
   -- A STEP
 
@@ -216,7 +186,7 @@ module _ (w : World) (h : Holds w.state) where
   performs-formed : (act : Act) → is_part (Acts act) ≡ true → refusal_in w act ≡ None → Formed (Acts act) (performs_in w act)
   unfolding performs_in
   performs-formed (OnEnd side end (Operate address count)) p e =
-      operates-formed side end address count _ (operate_fits_in side end address count e) refl
+      operates-formed side end address count _ e refl
   performs-formed (OnEnd side end Drop) p e =
       drops-formed (stream_of w end) side (OnEnd side end Drop) (λ reply. refl)
   performs-formed (OnLoose reader Close) p e = drops-formed reader Reading (OnLoose reader Close) (λ reply. refl)

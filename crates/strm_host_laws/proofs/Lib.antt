@@ -8,11 +8,10 @@ pub mod TurnMoves
 pub mod Standing
 pub mod GuestLaws
 pub mod Turned
-pub mod Sounds
 pub mod Lowered
 pub mod Unmoved
 pub mod Forms
-pub mod WorldsHold
+pub mod WrittenBack
 pub mod Lives
 pub mod Touched
 pub mod Moments

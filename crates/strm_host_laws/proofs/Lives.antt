@@ -1,6 +1,6 @@
 -- What holds of every world that a run comes to: its state is sound, host writers that have a stream are
 -- there, and what host writers hold and will produce are items of their payload.
-use Rattle.std.proofs.Common.{◌≡◌, ℕ, ◌<◌, true, false, List, ◌∷◌, length, Option, Some, None, refl, sym, ap, subst, ◌∙◌, inl, inr}
+use Rattle.std.proofs.Common.{◌≡◌, ℕ, ◌<◌, true, List, ◌∷◌, length, Option, Some, None, refl, sym, ap, subst, ◌∙◌}
 use Rattle.std.specs.Prelude.{All}
 use Rattle.std.proofs.lemmas.List.Elements.{All-head, All-tail}
 use Rattle.strm_codes.specs.Layout.{scalars_of}
@@ -11,14 +11,11 @@ use Rattle.strm_buffers.specs.Said.{WriterSaid, past_room}
 use Rattle.strm_buffers.specs.Listing.{Item}
 use Rattle.strm_machine.specs.State.{State, producer_at, stream_at}
 use Rattle.strm_machine.specs.Sides.{with_operation}
-use Rattle.strm_machine.specs.Endings.{delivered}
 use Rattle.strm_machine.specs.Soundness.{sizes_of, IsPlaced, OperationIsPlaced}
-use Rattle.strm_machine.specs.declared.acts.Act.{Act}
 use Rattle.strm_machine.specs.declared.acts.Act.TheVariants.{OnHost}
-use Rattle.strm_machine.specs.declared.acts.HostAct.TheVariants.{New, Feed}
+use Rattle.strm_machine.specs.declared.acts.HostAct.TheVariants.{Feed}
 use Rattle.strm_machine.specs.declared.acts.NamedEnd.{NamedEnd}
-use Rattle.strm_machine.specs.declared.streams.Duty.{Duty}
-use Rattle.strm_machine.specs.declared.streams.Duty.TheVariants.{Unused, Serves, Ended}
+use Rattle.strm_machine.specs.declared.streams.Duty.TheVariants.{Serves}
 use Rattle.strm_machine.specs.declared.streams.Owner.TheVariants.{Host}
 use Rattle.strm_machine.specs.declared.streams.Operation.{Operation}
 use Rattle.strm_machine.specs.declared.streams.Side.TheVariants.{Reading}
@@ -29,19 +26,17 @@ use Rattle.strm_machine.proofs.SoundLemmas.{placed_at}
 use Rattle.strm_world.specs.Ends.{Writer, polled_writer, fed_writer}
 use Rattle.strm_world.specs.World.{World, stream_in, writer_at}
 use Rattle.strm_world.specs.Outcomes.{Outcome, Goes, Stops, Stuck}
-use Rattle.strm_world.specs.HostRefusals.{is_used, refusal_in}
-use Rattle.strm_world.specs.Attaching.{forsaken, hosted_stream}
 use Rattle.strm_world.specs.Does.{SaidFits}
 use Rattle.strm_host_laws.specs.HostMoments.{Part, Acts, HostMoment, part_on}
 use Rattle.strm_host_laws.specs.HostLaws.{Supplies}
 use Rattle.strm_host_laws.proofs.Chains.{is_part}
-use Rattle.strm_host_laws.proofs.Closed.{Stands, is_new, Kept, SameClosed, part-closes}
+use Rattle.strm_host_laws.proofs.Closed.{Stands, Kept, SameClosed, part-closes}
 use Rattle.strm_host_laws.proofs.Fed.{OfWriters, OfEach, part-each, rules-each, begins-each, with-each}
-use Rattle.strm_host_laws.proofs.Forms.{opened, called, reacted_to, stream_of, IsTurn, IsRead, IsForsaking, Form, BySame, ByReacting, ByForsaking, ByHosting, ByFeeding, ByTurning, ByReading, part-formed}
-use Rattle.strm_host_laws.proofs.Goings.{hosted, IfGoes, Comes, with_stream_in-same, feed-comes}
-use Rattle.strm_host_laws.proofs.Sounds.{Holds, Holds-reaction, Holds-hosted, opened-stays, told-stays, forsaken-leaves}
-use Rattle.strm_host_laws.proofs.Unmoved.{IsQuiet, WriterHost, reaction-unmoved}
-use Rattle.strm_host_laws.proofs.WorldsHold.{back-guests, back-here, back-length, Holds-stays, Holds-leaves, CanTurn, turned-length, Holds-turned}
+use Rattle.strm_host_laws.proofs.Forms.{opened, called, stream_of, IsTurn, IsRead, Form, part-formed}
+use Rattle.strm_host_laws.proofs.Goings.{IfGoes, Comes, with_stream_in-same, feed-comes}
+use Rattle.strm_host_laws.proofs.Standing.{Holds, Holds-next}
+use Rattle.strm_host_laws.proofs.Unmoved.{IsQuiet, WriterHost}
+use Rattle.strm_host_laws.proofs.WrittenBack.{back-guests, back-here, back-length, CanTurn, turned-length}
 
 -- ITEMS OF HOST WRITERS
 
@@ -134,13 +129,10 @@ module _ (first w : World) (part : Part) (v : World) (end : NamedEnd) (address c
   open_world = opened w at read
 
   at_made : at < length w.state.streams
-  at_made = r.operates.found.made
+  at_made = r.begun.found.made
 
   pub opened_here : stream_in open_world at ≡ with_operation Reading (stream_in w at) read
   opened_here = back-here w at (with_operation Reading (stream_in w at) read) at_made
-
-  opened_holds : Holds open_world.state
-  opened_holds = Holds-stays w at (with_operation Reading (stream_in w at) read) (opened-stays (sizes_of w.state.guests) (stream_in w at) read r.operates.streams r.operates.placed) l.holds
 
   -- its turn can be
   pub read_can : CanTurn open_world at n read
@@ -149,55 +141,14 @@ module _ (first w : World) (part : Part) (v : World) (end : NamedEnd) (address c
     owner = ap (λ (x : Stream). x.writer.owner) opened_here ∙ r.owner;
     placed =
         subst (λ gs. IsPlaced (sizes_of gs) (stream_in open_world at).payload read) (sym (back-guests w at (with_operation Reading (stream_in w at) read)))
-        (subst (λ p. IsPlaced (sizes_of w.state.guests) p read) (sym (ap (λ (x : Stream). x.payload) opened_here)) r.operates.placed);
+        (subst (λ p. IsPlaced (sizes_of w.state.guests) p read) (sym (ap (λ (x : Stream). x.payload) opened_here)) r.begun.placed);
     there = subst (λ ws. n < length ws) (sym (ap (λ (x : World). x.writers) (with_stream_in-same w at (with_operation Reading (stream_in w at) read) refl))) (l.stands.there at n r.owner).there;
   }
-
-  mid_holds : Holds r.mid.state
-  mid_holds = Holds-turned open_world at n read r.mid r.turned read_can opened_holds
 
   pub mid_made : at < length r.mid.state.streams
   mid_made = subst (λ k. at < k) (sym (turned-length open_world at n read r.mid r.turned read_can)) read_can.made
 
-  read_holds : Holds v.state
-  read_holds =
-      elim r.told [
-        | inl e ↦ subst (λ (x : World). Holds x.state) (sym e) mid_holds
-        | inr e ↦ subst (λ (x : World). Holds x.state) (sym e)
-            (Holds-stays r.mid at (delivered Reading (stream_in r.mid at)) (told-stays (sizes_of r.mid.state.guests) (stream_in r.mid at) (placed_at r.mid.state at mid_made mid_holds.sound)) mid_holds)
-      ]
-
-unused_is : (duty : Duty) → is_used duty ≡ false → duty ≡ Unused
-unused_is Unused e = refl
-unused_is (Serves s) e = cc
-unused_is Ended e = cc
-
 module _ (first w : World) (l : Lives first w) where
-  forsaken_holds : (v : World) (act : Act) (s n : ℕ) → IsForsaking w v act s n → Holds v.state
-  forsaken_holds v act s n f =
-      let u = reacted_to w act in
-      let holds : Holds u.state = Holds-reaction w.state act l.holds in
-      let made = owned_made w.state s n l.holds f.owner in
-      let stays = reaction-unmoved w.state act s l.holds made (owned_quiet w.state s n l.holds f.owner) in
-      let owner : (stream_in u s).writer.owner ≡ Host n = stays.writer ∙ f.owner in
-      let there = owned_made u.state s n holds owner in
-      subst (λ (x : World). Holds x.state) (sym f.is)
-      (Holds-leaves u s (forsaken Reading (stream_in u s)) n there (forsaken-leaves (sizes_of u.state.guests) (stream_in u s) n (placed_at u.state s there holds.sound) owner) holds)
-
-  hosted_holds : (n : ℕ) → refusal_in w (OnHost n New) ≡ None → Holds (hosted w n).state
-  hosted_holds n e =
-      let i = is_new w n e in
-      Holds-hosted w.state n (hosted_stream (writer_at w n) n) i.known (unused_is (producer_at w.state n).duty i.unused) (record { writer = refl; reader = refl }) l.holds
-
-  form-holds : (part : Part) (reply : Reply) (v : World) → Form w part reply v → Holds v.state
-  form-holds part reply v (BySame m e) = subst (λ (x : World). Holds x.state) (sym e) l.holds
-  form-holds part reply v (ByReacting act m e) = subst (λ (x : World). Holds x.state) (sym e) (Holds-reaction w.state act l.holds)
-  form-holds part reply v (ByForsaking act s n m f) = forsaken_holds v act s n f
-  form-holds part reply v (ByHosting n p r e f) = subst (λ (x : World). Holds x.state) (sym f) (hosted_holds n e)
-  form-holds part reply v (ByFeeding n bytes m e) = subst (λ (x : World). Holds x.state) (sym e) l.holds
-  form-holds part reply v (ByTurning s n read m t) = Holds-turned w s n read v t.turned (drive_can first w part v s n read l t) l.holds
-  form-holds part reply v (ByReading end address count n m r) = read_holds first w part v end address count n l r
-
   -- a part that goes on
   pub goes_form : (part : Part) (reply : Reply) (v : World) → is_part part ≡ true → part_on w part ≡ Goes reply v → Form w part reply v
   goes_form part reply v p e = subst (λ o. IfGoes o (Form w part)) e (part-formed w l.holds part p)
@@ -207,7 +158,7 @@ module _ (first w : World) (l : Lives first w) where
       let supplies : OfEach Feeding of_supplies w v = subst (λ o. IfGoes o (λ reply x. OfEach Feeding of_supplies w x)) e (part-supplies w part p) in
       let stands : Kept first w v = subst (Comes (Kept first) SameClosed w) e (part-closes first w part p) in
       record {
-        holds = form-holds part reply v (goes_form part reply v p e);
+        holds = Holds-next w (record { part = part; before = w; reply = reply; after = v }) (record { begins = refl; part = p; goes = e }) l.holds;
         stands = stands l.stands;
         supplied = λ n. supplies n (l.supplied n);
       }

@@ -41,7 +41,7 @@ use Rattle.strm_host_laws.proofs.Lives.{Lives, drive_can, opened_here, read_can,
 use Rattle.strm_host_laws.proofs.Lowered.{lowered_lie}
 use Rattle.strm_host_laws.proofs.Touched.{Touch, NotTouched, IsLost, HasTurn, HasRead, told_stream}
 use Rattle.strm_host_laws.proofs.Turned.{Turned}
-use Rattle.strm_host_laws.proofs.WorldsHold.{back-guests, back-here, back-length, back-stays, CanTurn, turned-here, turned-guests, turned-length, turned-coming, turned-ends}
+use Rattle.strm_host_laws.proofs.WrittenBack.{back-guests, back-here, back-length, back-stays, CanTurn, turned-here, turned-guests, turned-length, turned-coming, turned-ends}
 
 -- ITEMS OF RECORDS
 
@@ -288,7 +288,7 @@ module _ (first : World) (m : HostMoment) (l : Lives first m.before) where
         let turn = turned_count o at n read r.mid t c (omega (arith, b, was)) in
         let told = same.counted in
         let counts : received at m.after.state ≡ received at m.before.state + length t.items = omega (arith, told, turn, was) in
-        let named = named_itself m.before.state (OnEnd Reading end (Operate address count)) m.reply at Reading Reading (r.operates.found.named m.reply) in
+        let named = named_itself m.before.state (OnEnd Reading end (Operate address count)) m.reply at Reading Reading (r.begun.found.named m.reply) in
         record {
           items = t.items;
           said = t.said;

@@ -29,9 +29,9 @@ use Rattle.strm_host_laws.proofs.Closed.{set-keeps}
 use Rattle.strm_host_laws.proofs.Forms.{opened, called, reacted_to, stream_of, IsTurn, IsRead, IsForsaking, Form, BySame, ByReacting, ByForsaking, ByHosting, ByFeeding, ByTurning, ByReading}
 use Rattle.strm_host_laws.proofs.Goings.{hosted}
 use Rattle.strm_host_laws.proofs.Lives.{Lives, owned_made, owned_once, owned_quiet, drive_can, read_can}
-use Rattle.strm_host_laws.proofs.Sounds.{Holds, push-other}
-use Rattle.strm_host_laws.proofs.Unmoved.{Unmoved, IsQuiet, reaction-unmoved}
-use Rattle.strm_host_laws.proofs.WorldsHold.{back-writer, back-coming, back-here, back-other, back-length, back-stays, turned-other, turned-length, turned-writer}
+use Rattle.strm_host_laws.proofs.Standing.{Holds}
+use Rattle.strm_host_laws.proofs.Unmoved.{push-other, Unmoved, IsQuiet, reaction-unmoved}
+use Rattle.strm_host_laws.proofs.WrittenBack.{back-writer, back-coming, back-here, back-other, back-length, back-stays, turned-other, turned-length, turned-writer}
 
 -- STREAMS STAY MADE
 

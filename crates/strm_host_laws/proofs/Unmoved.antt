@@ -1,5 +1,5 @@
 -- What the machine does without host ends moves nothing on a stream whose writer is a host writer or gone.
-use Rattle.std.proofs.Common.{◌≡◌, ℕ, ◌<◌, true, false, List, length, get_or, set, Option, Some, None, refl, sym, ap, subst, ◌∙◌, inl, inr, arith}
+use Rattle.std.proofs.Common.{◌≡◌, ◌≢◌, ℕ, zero, suc, ◌<◌, true, false, List, [], ◌∷◌, ◌++◌, length, get_or, set, Option, Some, None, refl, sym, ap, subst, ◌∙◌, inl, inr, arith}
 use Rattle.std.proofs.lemmas.Bool.{cases_eq, cond_both}
 use Rattle.std.proofs.lemmas.List.{get_or-set_same, get_or-set_other}
 use Rattle.strm_codes.specs.declared.codes.ReturnCode.{ReturnCode}
@@ -18,7 +18,14 @@ use Rattle.strm_machine.specs.declared.streams.Stream.{Stream}
 use Rattle.strm_machine.proofs.HeldLemmas.{StateIsHeld}
 use Rattle.strm_machine.proofs.Shapes.{stream_on, begun_on, turn_on, IsFreed, Shape, ByTurn, BySetting, ByOwner, ByTable, ByPair, ByGuest, ByPut, ByRest}
 use Rattle.strm_machine.proofs.ShapeLemmas.{reaction-shape}
-use Rattle.strm_host_laws.proofs.Sounds.{Holds, push-other}
+use Rattle.strm_host_laws.proofs.Standing.{Holds}
+
+-- a stream that stands before a new one
+pub push-other : (xs : List Stream) (x : Stream) (t : ℕ) → t ≢ length xs → get_or (xs ++ x ∷ []) t no_stream ≡ get_or xs t no_stream
+push-other [] x zero ne = absurd (ne refl)
+push-other [] x (suc t) ne = refl
+push-other (y ∷ ys) x zero ne = refl
+push-other (y ∷ ys) x (suc t) ne = push-other ys x t (λ e. ne (ap suc e))
 
 -- the same count and writer
 pub record Unmoved (old new : Stream) : Type 0 where

@@ -1,22 +1,19 @@
--- What is seen of a world after one of its streams was written back, and after a turn; and that its state is
--- sound then.
-use Rattle.std.proofs.Common.{◌≡◌, ◌≢◌, ℕ, ◌<◌, Bool, true, false, cond, ◌++◌, length, get_or, set, refl, sym, ap, subst, ◌∙◌, ◌⊎◌, inl, inr}
+-- What is seen of a world after one of its streams was written back, and after a turn.
+use Rattle.std.proofs.Common.{◌≡◌, ◌≢◌, ℕ, ◌<◌, Bool, true, false, cond, ◌++◌, length, get_or, set, refl, sym, ap, ◌∙◌, ◌⊎◌, inl, inr}
 use Rattle.std.proofs.lemmas.List.{get_or-set_same, get_or-set_other, length-set}
 use Rattle.std.specs.Prelude.{slice_set}
 use Rattle.strm_machine.specs.State.{no_stream}
-use Rattle.strm_machine.specs.Soundness.{sizes_of, IsPlaced, StreamIsPlaced}
+use Rattle.strm_machine.specs.Soundness.{sizes_of, IsPlaced}
 use Rattle.strm_machine.specs.declared.streams.Owner.{Owner}
 use Rattle.strm_machine.specs.declared.streams.Owner.TheVariants.{Host, Gone}
 use Rattle.strm_machine.specs.declared.streams.Operation.{Operation}
 use Rattle.strm_machine.specs.declared.streams.Stream.{Stream}
-use Rattle.strm_machine.proofs.SoundLemmas.{placed_at}
 use Rattle.strm_world.specs.Ends.{Writer, no_writer, closed_writer}
-use Rattle.strm_world.specs.World.{World, stream_in, writer_at, without_writer, leaves_writer, with_stream_in}
+use Rattle.strm_world.specs.World.{World, stream_in, writer_at, leaves_writer, with_stream_in}
 use Rattle.strm_world.specs.Producing.{lowered}
 use Rattle.strm_world.proofs.SettleLemmas.{is_done_with, moved_on-owner}
 use Rattle.strm_host_laws.proofs.Closed.{set-keeps}
 use Rattle.strm_host_laws.proofs.Goings.{with_state, with_stream_in-same}
-use Rattle.strm_host_laws.proofs.Sounds.{Holds, StreamStays, StreamLeaves, Holds-stream, Holds-gone, Holds-lowered, lowered-keeps, moved-stays, moved-leaves}
 use Rattle.strm_host_laws.proofs.Turned.{turned, stream_moved, Turned}
 
 -- A STREAM WRITTEN BACK
@@ -73,20 +70,6 @@ module _ (w : World) (s : ℕ) (stream : Stream) where
 
   pub back-stays : stream.writer.owner ≡ (stream_in w s).writer.owner → (k : ℕ) → writer_at (with_stream_in w s stream) k ≡ writer_at w k
   back-stays e k = ap (λ v. writer_at v k) (with_stream_in-same w s stream e)
-
-  back-gone : (n : ℕ) → (stream_in w s).writer.owner ≡ Host n → stream.writer.owner ≡ Gone → with_stream_in w s stream ≡ without_writer (set_back w s stream) n
-  unfolding with_stream_in
-  back-gone n e f =
-      ap (λ o. leaves_writer o stream.writer.owner (set_back w s stream)) e
-      ∙ ap (λ o. leaves_writer (Host n) o (set_back w s stream)) f
-
-  pub Holds-stays : StreamStays (sizes_of w.state.guests) (stream_in w s) stream → Holds w.state → Holds (with_stream_in w s stream).state
-  Holds-stays k h =
-      subst (λ (v : World). Holds v.state) (sym (with_stream_in-same w s stream k.writer)) (Holds-stream w.state s stream k h)
-
-  pub Holds-leaves : (n : ℕ) → s < length w.state.streams → StreamLeaves (sizes_of w.state.guests) (stream_in w s) stream n → Holds w.state → Holds (with_stream_in w s stream).state
-  Holds-leaves n l k h =
-      subst (λ (v : World). Holds v.state) (sym (back-gone n k.was k.gone)) (Holds-gone w.state s n stream l k h)
 
 -- A TURN
 
@@ -152,15 +135,3 @@ module _ (w : World) (s n : ℕ) (read : Operation) (v : World) (t : Turned w s 
             ap (λ (x : Stream). x.writer.owner) turned-here ∙ stays,
             ap (λ x. (writer_at x n).holds) t.is ∙ ap (λ (x : Writer). x.holds) (back-stays but s now (stays ∙ sym c.owner) n ∙ writer_but),
           )
-
-  pub Holds-turned : Holds w.state → Holds v.state
-  Holds-turned h =
-      let keeps = lowered-keeps w.state.guests (stream_in w s).payload read t.items c.placed t.fits in
-      let first : Holds but.state = Holds-lowered w.state (lowered w.state.guests (stream_in w s).payload read t.items) n t.producer keeps t.duty h in
-      let sizes = sizes_of but.state.guests in
-      let placed : IsPlaced sizes (stream_in w s).payload read = subst (λ xs. IsPlaced xs (stream_in w s).payload read) (sym keeps.sizes) c.placed in
-      subst (λ (x : World). Holds x.state) (sym t.is) (by first (placed_at but.state s c.made first.sound) placed (is_done_with t.result) refl)
-    where
-      by : Holds but.state → StreamIsPlaced (sizes_of but.state.guests) (stream_in w s) → IsPlaced (sizes_of but.state.guests) (stream_in w s).payload read → (b : Bool) → is_done_with t.result ≡ b → Holds (with_stream_in but s now).state
-      by first p q false e = Holds-stays but s now (moved-stays (sizes_of but.state.guests) (stream_in w s) (length t.items) p read t.result q t.fits e) first
-      by first p q true e = Holds-leaves but s now n c.made (moved-leaves (sizes_of but.state.guests) (stream_in w s) (length t.items) p read t.result q t.fits n e c.owner) first
