@@ -7,3 +7,4 @@ pub mod StepLemmas
 pub mod StopLemmas
 pub mod ServingLemmas
 pub mod LawLemmas
+pub mod KeptLemmas

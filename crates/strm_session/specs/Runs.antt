@@ -21,10 +21,13 @@ use Rattle.strm_machine.specs.declared.acts.Act.TheVariants.{OnHost, Drive}
 use Rattle.strm_machine.specs.declared.stops.Stop.{Stop}
 use Rattle.strm_machine.specs.declared.stops.Stop.TheVariants as stops
 use Rattle.strm_buffers.specs.Tells.{Tells, Rose}
-use Rattle.strm_world.specs.World.{World}
+use Rattle.strm_machine.specs.Hosting.{HostsHold}
+use Rattle.strm_world.specs.World.{World, writer_at}
 use Rattle.strm_world.specs.HostPlays.{play as play_among}
 use Rattle.strm_world.specs.HostPlays as world_plays
 use Rattle.strm_world.specs.Does.{saids, world_of, faults_of, StopsWith}
+use Rattle.strm_host_laws.specs.HostMoments.{HostMoment, host_moments, last_of}
+use Rattle.strm_host_laws.specs.HostLaws.{ClosesExactly, GoesOn as WriterGoesOn}
 use Rattle.strm_session.specs.declared.runs.RunCause.{RunCause}
 use Rattle.strm_session.specs.declared.runs.RunCause.TheVariants as causes
 
@@ -85,6 +88,32 @@ pub record IsKept (steps : List Step) (replies : List Reply) (end : State) : Typ
   pub put : All LieThere (moments start steps)
 
 -- AMONG HOST ENDS
+
+-- the laws of a run from this world with these moments, which ends here: exactly the host writers that
+-- became gone were closed; each used its records in order and heard exactly the feeds to it; handles and
+-- ends agree, one handle an end; members of sets are live; error contexts count their handles; and the
+-- state is sound, host writers and their streams agree in it
+pub record HasLawsAmong (first : World) (all : List HostMoment) (end : World) : Type 0 where
+  pub closes : ClosesExactly first end.state end.writers
+  pub goes_on : (n : ℕ) → WriterGoesOn n all (writer_at first n) (writer_at end n)
+  pub hold : HandlesHold end.state
+  pub single : HandlesAreSingle end.state
+  pub members : MembersAreLive end.state
+  pub contexts : ContextsCount end.state
+  pub sound : IsSound end.state
+  pub hosts : HostsHold end.state
+
+-- a run of these steps leads from one world to the other, and the laws hold after each step, the last one
+-- too
+pub record IsKeptAmong (first : World) (steps : List Step) (end : World) : Type 0 where
+  pub ends : last_of first (host_moments first steps) ≡ end
+  pub laws : (n : ℕ) → HasLawsAmong first (host_moments first (take n steps)) (last_of first (host_moments first (take n steps)))
+
+-- these are the machine's replies to the first of the steps, which keep the laws
+pub record IsKeptBefore (first : World) (steps : List Step) (told : List Reply) : Type 0 where
+  pub world : World
+  pub before : play_among [] first (take (length told) steps) ≡ world_plays.Ends told world
+  pub kept : IsKeptAmong first (take (length told) steps) world
 
 -- why the machine stops where a run does; none for want of memory
 abbrev pub stop_of : RunCause → Option Stop

@@ -8,12 +8,12 @@ use Rattle.strm_machine.specs.declared.replies.Reply.{Reply}
 use Rattle.strm_machine.specs.declared.stops.Stop.{Stop}
 use Rattle.strm_machine.specs.declared.stops.Stop.TheVariants as stops
 use Rattle.strm_buffers.specs.Tells.{Tells}
-use Rattle.strm_world.specs.Does.{RunsTo}
+use Rattle.strm_world.specs.Does.{RunsTo, spent}
 use Rattle.strm_ports.specs.Faults.{Rose}
 use Rattle.strm_lines.specs.Lines.{lines_of, Spells, IsFirstBad, IsTooLong}
 use Rattle.strm_session.specs.declared.runs.RunCause.{RunCause}
 use Rattle.strm_session.specs.declared.runs.RunCause.TheVariants as causes
-use Rattle.strm_session.specs.Runs.{start, start_among, AreOfGuests, counts_of, IsKept, StopsAmong, StopsBy}
+use Rattle.strm_session.specs.Runs.{start, start_among, AreOfGuests, counts_of, IsKept, IsKeptAmong, IsKeptBefore, StopsAmong, StopsBy}
 use Rattle.strm_lines.specs.Text.{transcript_text, stopped_text, usage_text, bad_line_text, too_long_text, read_fault_text}
 
 -- the words behind the program's name tell it to run
@@ -21,7 +21,7 @@ abbrev pub IsRun : List (List ℕ) → Type 0
 IsRun words = words ≡ codes "run" ∷ []
 
 -- the text of the machine's play on the steps that the lines of an input spell, and on the records that
--- host ends added, exactly those. Of guests alone it is the machine's without host ends, and on each
+-- host ends added, exactly those; the laws of every run hold of it. Of guests alone it is the machine's without host ends, and on each
 -- stream what was received in it is, in order, the first k items of each accepted write, k the count
 -- reported, each as it lay in the writer's memory just before it was copied, and as many as the reads
 -- report
@@ -31,6 +31,7 @@ pub record IsTranscript (old new : Tells) (input text : List ℕ) : Type 0 where
   pub replies : List Reply
   pub state : State
   pub played : RunsTo (start_among old new) steps replies state new
+  pub kept_among : IsKeptAmong (start_among old new) steps (spent state new)
   pub alone : AreOfGuests steps → play [] start steps ≡ Ends replies state
   pub kept : AreOfGuests steps → IsKept steps replies state
   pub text_is : text ≡ transcript_text replies (counts_of state)
@@ -42,8 +43,15 @@ IsStatusOf status (causes.HostBroke end) stop = (status ≡ 7) × (stop ≡ stop
 IsStatusOf status (causes.BadItem stream) stop = (status ≡ 8) × (stop ≡ stops.BadItem stream)
 IsStatusOf status causes.OutOfMemory stop = ⊥
 
+-- the status of a run that the machine halts so; it never halts because a store was trapped before
+abbrev pub StandsFor : ℕ → Stop → Type 0
+StandsFor status (stops.HostFailed end) = status ≡ 6
+StandsFor status (stops.HostBroke end) = status ≡ 7
+StandsFor status (stops.BadItem stream) = status ≡ 8
+StandsFor status stops.StoreTrapped = ⊥
+
 -- the text of a run of the steps that the lines of an input spell, which stops: the machine halts there
--- by the cause that the status stands for. Of guests alone the laws hold of the steps before
+-- by the cause that the status stands for. The laws hold of the steps before
 pub record IsStopped (old new : Tells) (status : ℕ) (input text : List ℕ) : Type 0 where
   pub steps : List Step
   pub spelled : Spells (lines_of input) steps
@@ -52,6 +60,7 @@ pub record IsStopped (old new : Tells) (status : ℕ) (input text : List ℕ) : 
   pub why : Stop
   pub status_is : IsStatusOf status cause why
   pub stop : StopsAmong old new steps replies cause
+  pub kept_before : IsKeptBefore (start_among old new) steps replies
   pub alone : AreOfGuests steps → StopsBy steps replies cause
   pub text_is : text ≡ stopped_text replies why
 

@@ -16,14 +16,19 @@ ghost use Rattle.strm_laws.specs.Laws.{HasBytes, AreSteps};
 ghost use Rattle.strm_machine.specs.Untouched.{StaysAside, LieThere};
 ghost use Rattle.strm_machine.specs.Acts.{act_of};
 ghost use Rattle.strm_world.specs.Steps.{step_of, touches};
-ghost use Rattle.strm_world.specs.Does.{Fits, Does, RunsTo};
+ghost use Rattle.strm_world.specs.World.{World};
+ghost use Rattle.strm_world.specs.HostPlays.{play as play_among, Ends as EndsAmong};
+ghost use Rattle.strm_world.specs.Does.{Fits, Does, RunsTo, spent};
+ghost use Rattle.strm_host_laws.specs.HostMoments.{host_moments, last_of};
+ghost use Rattle.strm_buffers.specs.Tells.{Tells};
 ghost use Rattle.strm_transmit.specs.Hosted.{answered, lone};
 ghost use Rattle.strm_buffers.specs.AllTells.{tells_of};
-ghost use Rattle.strm_session.specs.Runs.{start, start_among, AreOfGuests, counts_of, next_step, HasLaws, IsKept, stop_of, StopsAmong, AsksBad, AsksItems, StopsAt, StopsStep, StopsBy, StopsIn};
+ghost use Rattle.strm_session.specs.Runs.{start, start_among, AreOfGuests, counts_of, next_step, HasLaws, IsKept, HasLawsAmong, IsKeptAmong, IsKeptBefore, stop_of, StopsAmong, AsksBad, AsksItems, StopsAt, StopsStep, StopsBy, StopsIn};
 
 use std::alloc::Global;
 use strm_buffers::hosts::Hosts;
 use strm_codes::counts::OutOfMemory;
+use strm_host_laws::{guests, runs};
 use strm_laws::laws::{
     bytes_are_put, conservation, contexts_count_their_handles, futures_pass_one,
     handles_hold_their_ends, members_are_live, never_two_open, other_bytes_stay, states_are_sound,
@@ -93,6 +98,13 @@ pub fn run(alloc: Global, steps: &[Step], hosts: &mut Hosts) -> Result<Transcrip
     ensures stop { IfErr result (λ stop. StopsAmong (tells_of writer_tells reader_tells hosts.old) (tells_of writer_tells reader_tells hosts.new) steps.now stop.replies stop.cause) }
     ensures at { IfErr result (λ stop. stop.at ≡ next_step stop.replies) }
 
+    // After each step, among whichever host writers: exactly those that became gone were closed, each
+    // used its records in order and heard exactly the feeds to it; and the other laws of every run.
+    ensures kept_among { IfOk result (λ t. IsKeptAmong (start_among (tells_of writer_tells reader_tells hosts.old) (tells_of writer_tells reader_tells hosts.new))
+        steps.now (spent t.store (tells_of writer_tells reader_tells hosts.new))) }
+    ensures kept_before { IfErr result (λ stop. IsKeptBefore (start_among (tells_of writer_tells reader_tells hosts.old) (tells_of writer_tells reader_tells hosts.new))
+        steps.now stop.replies) }
+
     // Of guests alone it is the machine's without host ends, which stay as they were.
     ensures alone { AreOfGuests steps.now → IfOk result (λ t. play [] start steps.now ≡ Ends t.replies t.store) }
     ensures stop_alone { AreOfGuests steps.now → IfErr result (λ stop. StopsBy steps.now stop.replies stop.cause) }
@@ -110,6 +122,7 @@ pub fn run(alloc: Global, steps: &[Step], hosts: &mut Hosts) -> Result<Transcrip
         IfErr result (λ stop. stop.cause ≡ RunCause.OutOfMemory) }
 {
     laws_hold();
+    laws_hold_among();
     let mut store = Store::new(alloc, 0, PROGRAM_LIMITS);
     let mut replies = Replies::new(alloc);
     // Where there is no room for all, each reply asks for its own.
@@ -140,6 +153,24 @@ fn laws_hold()
     contexts_count_their_handles();
     other_bytes_stay();
     bytes_are_put();
+}
+
+// What the laws say of every run among host ends. It does nothing.
+fn laws_hold_among()
+    ensures laws { (old new : Tells) (steps : List Step) → HasLawsAmong (start_among old new)
+        (host_moments (start_among old new) steps)
+        (last_of (start_among old new) (host_moments (start_among old new) steps)) }
+    ensures leads { (old new : Tells) (steps : List Step) (replies : List Reply) (end : World) →
+        play_among [] (start_among old new) steps ≡ EndsAmong replies end →
+        last_of (start_among old new) (host_moments (start_among old new) steps) ≡ end }
+{
+    runs::moments_lead_to_the_end();
+    runs::ends_close_exactly();
+    runs::writers_are_fed_exactly();
+    guests::states_are_sound();
+    guests::handles_hold_their_ends();
+    guests::members_are_live();
+    guests::contexts_count_their_handles();
 }
 
 // A run that stopped behind these replies.

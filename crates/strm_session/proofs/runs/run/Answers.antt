@@ -6,6 +6,7 @@ use Rattle.strm_laws.specs.Laws.{HasBytes}
 use Rattle.strm_machine.specs.Plays.{play, Ends}
 use Rattle.strm_session.specs.Runs.{start, AreOfGuests}
 use Rattle.strm_session.proofs.AmongLemmas.{stops_behind}
+use Rattle.strm_session.proofs.KeptLemmas.{kept_among, stop_kept}
 use Rattle.strm_session.proofs.LawLemmas.{run_kept, front_kept}
 use Rattle.strm_session.proofs.StopLemmas.{answers-in, answers-items}
 use Rattle.strm_session.proofs.runs.run.Goals as goal
@@ -18,6 +19,23 @@ returns-in-Ok-clause-stop g c =
     IfErr-weaker c.finished.result _ _
     (λ stop e. rw e (stops_behind _ _ c.args.steps.now c.play_steps.new.replies c.play_steps.new.store c.in-Ok.ensures.all c.in-Ok.ensures.ok))
     c.finished.ensures.stop
+
+pub returns-in-Err-clause-kept_before : goal.returns-in-Err-clause-kept_before
+returns-in-Err-clause-kept_before g c =
+    rw c.stopped.ensures (stop_kept _ _ (c.laws_hold_among.ensures.laws _ _) (c.laws_hold_among.ensures.leads _ _) c.args.steps.now c.play_steps.new.replies _ c.in-Err.ensures.stop)
+
+pub returns-in-Ok-clause-kept_before : goal.returns-in-Ok-clause-kept_before
+returns-in-Ok-clause-kept_before g c =
+    IfErr-weaker c.finished.result _ _
+    (λ stop e. rw e (stop_kept _ _ (c.laws_hold_among.ensures.laws _ _) (c.laws_hold_among.ensures.leads _ _) c.args.steps.now c.play_steps.new.replies _
+    (stops_behind _ _ c.args.steps.now c.play_steps.new.replies c.play_steps.new.store c.in-Ok.ensures.all c.in-Ok.ensures.ok)))
+    c.finished.ensures.stop
+
+pub returns-in-Ok-clause-kept_among : goal.returns-in-Ok-clause-kept_among
+returns-in-Ok-clause-kept_among g c =
+    IfOk-weaker c.finished.result _ _
+    (λ t e. rw e.1 (kept_among _ (c.laws_hold_among.ensures.laws _ _) (c.laws_hold_among.ensures.leads _ _) c.args.steps.now c.play_steps.new.replies _ c.in-Ok.ensures.ok))
+    c.finished.ensures.ok
 
 pub returns-in-Err-clause-stop_alone : goal.returns-in-Err-clause-stop_alone
 returns-in-Err-clause-stop_alone g c = λ alone.

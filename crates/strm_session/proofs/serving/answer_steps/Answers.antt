@@ -16,6 +16,7 @@ returns-in_ok-text-in-Err-clause-stopped g c = λ input s q. record {
     | in-BadItem w ↦ rw (w.in-BadItem.is, w.status-is) (refl, refl)
   ];
   stop = c.in-Err.ensures.stop;
+  kept_before = c.in-Err.ensures.kept_before;
   alone = c.in-Err.ensures.stop_alone;
   text_is = c.in_ok-text-in-Err.ensures.ok ∙ ap (λ told. stopped_text told c.match-stop.status.1) c.as_slice.ensures;
 }

@@ -1,5 +1,5 @@
 use Rattle.std.proofs.Common.{rules, inl}
-use Rattle.strm_session.proofs.ServingLemmas.{told_done, told_bad_item, told_bad_line, told_too_long, told_usage}
+use Rattle.strm_session.proofs.ServingLemmas.{told_done, told_ends, told_halts, told_bad_item, told_bad_line, told_too_long, told_usage}
 use Rattle.strm_session.proofs.serving.serve.Goals as goal
 
 pub returns-in-Ok-write_whole-clause-told : goal.returns-in-Ok-write_whole-clause-told
@@ -11,6 +11,14 @@ returns-in-Ok-clause-nothing g c = search rules
 pub returns-in-Ok-write_whole-clause-complete : goal.returns-in-Ok-write_whole-clause-complete
 returns-in-Ok-write_whole-clause-complete g c = λ input steps f s long alone items.
     inl (told_done (g.S.Source.left c.args.source.now) input c.in-Ok.ensures.told f.run f.input_is f.source long steps s alone items)
+
+pub returns-in-Ok-write_whole-clause-ends : goal.returns-in-Ok-write_whole-clause-ends
+returns-in-Ok-write_whole-clause-ends g c = λ input steps f s long replies end e.
+    inl (told_ends (g.S.Source.left c.args.source.now) input c.in-Ok.ensures.told f.run f.input_is f.source long steps s replies end e)
+
+pub returns-in-Ok-write_whole-clause-halts : goal.returns-in-Ok-write_whole-clause-halts
+returns-in-Ok-write_whole-clause-halts g c = λ input steps f s long replies stop writers readers e.
+    inl (told_halts (g.S.Source.left c.args.source.now) input c.in-Ok.ensures.told f.run f.input_is f.source long steps s replies stop writers readers e)
 
 pub returns-in-Ok-write_whole-clause-bad_item : goal.returns-in-Ok-write_whole-clause-bad_item
 returns-in-Ok-write_whole-clause-bad_item g c = λ input steps f s long alone told state stream a.

@@ -1,0 +1,16 @@
+use Rattle.strm_session.proofs.runs.laws_hold_among.Goals as goal
+
+pub returns-clause-laws : goal.returns-clause-laws
+returns-clause-laws c = λ old new steps. record {
+  closes = c.ends_close_exactly.ensures.moments 0 _ old new steps;
+  goes_on = λ n. c.writers_are_fed_exactly.ensures _ steps n;
+  hold = c.handles_hold_their_ends.ensures.holds 0 _ old new steps;
+  single = c.handles_hold_their_ends.ensures.single 0 _ old new steps;
+  members = c.members_are_live.ensures 0 _ old new steps;
+  contexts = c.contexts_count_their_handles.ensures 0 _ old new steps;
+  sound = c.states_are_sound.ensures.sound 0 _ old new steps;
+  hosts = c.states_are_sound.ensures.hosts 0 _ old new steps;
+}
+
+pub returns-clause-leads : goal.returns-clause-leads
+returns-clause-leads c = λ old new steps replies end e. c.moments_lead_to_the_end.ensures _ steps replies end e
