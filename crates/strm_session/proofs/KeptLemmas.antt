@@ -1,5 +1,6 @@
 -- What the laws of every run among host ends say of one that came to its end, or stopped.
-use Rattle.std.proofs.Common.{◌≡◌, ℕ, List, [], length, take}
+use Rattle.std.proofs.Common.{◌≡◌, ℕ, ◌≤◌, List, [], length, take, arith}
+use Rattle.std.proofs.lemmas.List.{length-take}
 use Rattle.strm_buffers.specs.Tells.{Tells}
 use Rattle.strm_machine.specs.declared.steps.Step.{Step}
 use Rattle.strm_machine.specs.declared.replies.Reply.{Reply}
@@ -11,19 +12,26 @@ use Rattle.strm_session.specs.declared.runs.RunCause.{RunCause}
 
 -- the laws of whichever steps from this world
 abbrev pub LawsAmong : World → Type 0
-LawsAmong first = (steps : List Step) → HasLawsAmong first (host_moments first steps) (last_of first (host_moments first steps))
+LawsAmong first = (steps : List Step) → length steps ≤ 4294967295 → HasLawsAmong first (host_moments first steps) (last_of first (host_moments first steps))
 
 -- the moments of a run lead to its end
 abbrev pub LeadsAmong : World → Type 0
 LeadsAmong first = (steps : List Step) (replies : List Reply) (end : World) → play [] first steps ≡ Ends replies end → last_of first (host_moments first steps) ≡ end
 
 module _ (first : World) (laws : LawsAmong first) (leads : LeadsAmong first) where
-  pub kept_among : (steps : List Step) (replies : List Reply) (end : World) → play [] first steps ≡ Ends replies end → IsKeptAmong first steps end
-  kept_among steps replies end e = record { ends = leads steps replies end e; laws = λ n. laws (take n steps) }
+  pub kept_among : (steps : List Step) (replies : List Reply) (end : World) → length steps ≤ 4294967295 → play [] first steps ≡ Ends replies end → IsKeptAmong first steps end
+  kept_among steps replies end few e = record {
+    ends = leads steps replies end e;
+    laws = λ n. laws (take n steps) (omega (arith, few, length-take n steps));
+  }
 
-  pub kept_before : (steps : List Step) (told : List Reply) (world : World) → play [] first (take (length told) steps) ≡ Ends told world → IsKeptBefore first steps told
-  kept_before steps told world e = record { world = world; before = e; kept = kept_among (take (length told) steps) told world e }
+  pub kept_before : (steps : List Step) (told : List Reply) (world : World) → length steps ≤ 4294967295 → play [] first (take (length told) steps) ≡ Ends told world → IsKeptBefore first steps told
+  kept_before steps told world few e = record {
+    world = world;
+    before = e;
+    kept = kept_among (take (length told) steps) told world (omega (arith, few, length-take (length told) steps)) e;
+  }
 
 -- a run that stops has kept them before
-pub stop_kept : (old new : Tells) → LawsAmong (start_among old new) → LeadsAmong (start_among old new) → (steps : List Step) (told : List Reply) (cause : RunCause) → StopsAmong old new steps told cause → IsKeptBefore (start_among old new) steps told
-stop_kept old new laws leads steps told cause s = kept_before (start_among old new) laws leads steps told s.world s.before
+pub stop_kept : (old new : Tells) → LawsAmong (start_among old new) → LeadsAmong (start_among old new) → (steps : List Step) (told : List Reply) (cause : RunCause) → length steps ≤ 4294967295 → StopsAmong old new steps told cause → IsKeptBefore (start_among old new) steps told
+stop_kept old new laws leads steps told cause few s = kept_before (start_among old new) laws leads steps told s.world few s.before

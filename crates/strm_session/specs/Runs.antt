@@ -27,7 +27,7 @@ use Rattle.strm_world.specs.HostPlays.{play as play_among}
 use Rattle.strm_world.specs.HostPlays as world_plays
 use Rattle.strm_world.specs.Does.{saids, world_of, faults_of, StopsWith}
 use Rattle.strm_host_laws.specs.HostMoments.{HostMoment, host_moments, last_of}
-use Rattle.strm_host_laws.specs.HostLaws.{ClosesExactly, GoesOn as WriterGoesOn}
+use Rattle.strm_host_laws.specs.HostLaws.{ClosesExactly, GoesOn as WriterGoesOn, Supplies, DeliversAll}
 use Rattle.strm_session.specs.declared.runs.RunCause.{RunCause}
 use Rattle.strm_session.specs.declared.runs.RunCause.TheVariants as causes
 
@@ -90,12 +90,14 @@ pub record IsKept (steps : List Step) (replies : List Reply) (end : State) : Typ
 -- AMONG HOST ENDS
 
 -- the laws of a run from this world with these moments, which ends here: exactly the host writers that
--- became gone were closed; each used its records in order and heard exactly the feeds to it; handles and
+-- became gone were closed; each used its records in order and heard exactly the feeds to it; what each
+-- produced is received in order, held, or given up at its end, if its records are of items; handles and
 -- ends agree, one handle an end; members of sets are live; error contexts count their handles; and the
 -- state is sound, host writers and their streams agree in it
 pub record HasLawsAmong (first : World) (all : List HostMoment) (end : World) : Type 0 where
   pub closes : ClosesExactly first end.state end.writers
   pub goes_on : (n : ℕ) → WriterGoesOn n all (writer_at first n) (writer_at end n)
+  pub delivers : ((n : ℕ) → Supplies (writer_at first n)) → (s : ℕ) → DeliversAll s all end
   pub hold : HandlesHold end.state
   pub single : HandlesAreSingle end.state
   pub members : MembersAreLive end.state

@@ -157,7 +157,7 @@ fn laws_hold()
 
 // What the laws say of every run among host ends. It does nothing.
 fn laws_hold_among()
-    ensures laws { (old new : Tells) (steps : List Step) → HasLawsAmong (start_among old new)
+    ensures laws { (old new : Tells) (steps : List Step) → length steps ≤ 4294967295 → HasLawsAmong (start_among old new)
         (host_moments (start_among old new) steps)
         (last_of (start_among old new) (host_moments (start_among old new) steps)) }
     ensures leads { (old new : Tells) (steps : List Step) (replies : List Reply) (end : World) →
@@ -167,6 +167,7 @@ fn laws_hold_among()
     runs::moments_lead_to_the_end();
     runs::ends_close_exactly();
     runs::writers_are_fed_exactly();
+    runs::producers_deliver_in_order();
     guests::states_are_sound();
     guests::handles_hold_their_ends();
     guests::members_are_live();

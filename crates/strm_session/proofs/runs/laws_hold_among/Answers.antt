@@ -1,9 +1,10 @@
 use Rattle.strm_session.proofs.runs.laws_hold_among.Goals as goal
 
 pub returns-clause-laws : goal.returns-clause-laws
-returns-clause-laws c = λ old new steps. record {
+returns-clause-laws c = λ old new steps few. record {
   closes = c.ends_close_exactly.ensures.moments 0 _ old new steps;
   goes_on = λ n. c.writers_are_fed_exactly.ensures _ steps n;
+  delivers = λ supplies s. c.producers_deliver_in_order.ensures 0 _ old new steps s supplies few;
   hold = c.handles_hold_their_ends.ensures.holds 0 _ old new steps;
   single = c.handles_hold_their_ends.ensures.single 0 _ old new steps;
   members = c.members_are_live.ensures 0 _ old new steps;

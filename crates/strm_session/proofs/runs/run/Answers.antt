@@ -22,19 +22,19 @@ returns-in-Ok-clause-stop g c =
 
 pub returns-in-Err-clause-kept_before : goal.returns-in-Err-clause-kept_before
 returns-in-Err-clause-kept_before g c =
-    rw c.stopped.ensures (stop_kept _ _ (c.laws_hold_among.ensures.laws _ _) (c.laws_hold_among.ensures.leads _ _) c.args.steps.now c.play_steps.new.replies _ c.in-Err.ensures.stop)
+    rw c.stopped.ensures (stop_kept _ _ (c.laws_hold_among.ensures.laws _ _) (c.laws_hold_among.ensures.leads _ _) c.args.steps.now c.play_steps.new.replies _ c.requires.few c.in-Err.ensures.stop)
 
 pub returns-in-Ok-clause-kept_before : goal.returns-in-Ok-clause-kept_before
 returns-in-Ok-clause-kept_before g c =
     IfErr-weaker c.finished.result _ _
-    (λ stop e. rw e (stop_kept _ _ (c.laws_hold_among.ensures.laws _ _) (c.laws_hold_among.ensures.leads _ _) c.args.steps.now c.play_steps.new.replies _
+    (λ stop e. rw e (stop_kept _ _ (c.laws_hold_among.ensures.laws _ _) (c.laws_hold_among.ensures.leads _ _) c.args.steps.now c.play_steps.new.replies _ c.requires.few
     (stops_behind _ _ c.args.steps.now c.play_steps.new.replies c.play_steps.new.store c.in-Ok.ensures.all c.in-Ok.ensures.ok)))
     c.finished.ensures.stop
 
 pub returns-in-Ok-clause-kept_among : goal.returns-in-Ok-clause-kept_among
 returns-in-Ok-clause-kept_among g c =
     IfOk-weaker c.finished.result _ _
-    (λ t e. rw e.1 (kept_among _ (c.laws_hold_among.ensures.laws _ _) (c.laws_hold_among.ensures.leads _ _) c.args.steps.now c.play_steps.new.replies _ c.in-Ok.ensures.ok))
+    (λ t e. rw e.1 (kept_among _ (c.laws_hold_among.ensures.laws _ _) (c.laws_hold_among.ensures.leads _ _) c.args.steps.now c.play_steps.new.replies _ c.requires.few c.in-Ok.ensures.ok))
     c.finished.ensures.ok
 
 pub returns-in-Err-clause-stop_alone : goal.returns-in-Err-clause-stop_alone
