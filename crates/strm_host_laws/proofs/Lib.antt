@@ -17,3 +17,4 @@ pub mod Touched
 pub mod Moments
 pub mod Delivered
 pub mod Counted
+pub mod HostRows
