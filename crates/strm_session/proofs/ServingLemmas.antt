@@ -6,7 +6,7 @@ use Rattle.std.specs.Prelude.{codes}
 use Rattle.strm_machine.specs.declared.steps.Step.{Step}
 use Rattle.strm_ports.specs.Faults.{Rose}
 use Rattle.strm_lines.specs.Lines.{lines_of, Spells, IsFirstBad, IsTooLong}
-use Rattle.strm_session.specs.Serving.{IsRun, IsStop, IsStatusOf, StandsFor, IsAnswer}
+use Rattle.strm_session.specs.Serving.{IsRun, IsStop, IsStatusOf, PlaysOn, HaltsWith, StandsFor, IsAnswer}
 use Rattle.strm_world.specs.Ends.{Writer, Reader}
 use Rattle.strm_world.specs.World.{World}
 use Rattle.strm_world.specs.HostPlays.{Played, play, Ends, Halts}
@@ -71,20 +71,20 @@ stop_in _ = stops.StoreTrapped
 halts_no_end : (told replies : List Reply) (stop : Stop) (writers : List Writer) (readers : List Reader) (end : World) → Halts told stop writers readers ≡ Ends replies end → ⊥
 halts_no_end told replies stop writers readers end e = cc
 
-module _ (old new : Tells) (steps : List Step) (told : List Reply) where
+module _ (old new : Tells) (steps : List Step) (told : List Reply) (status : ℕ) where
   -- a run that stops was not played to its end
-  stops_no_end : (status : ℕ) (cause : RunCause) (why : Stop) → IsStatusOf status cause why → HaltsBy (start_among old new) steps told new (stop_of cause) → (replies : List Reply) (end : World) → play [] (start_among old new) steps ≡ Ends replies end → ⊥
-  stops_no_end status (causes.HostFailed x) why s h replies end e = halts_no_end told replies _ _ _ end (sym h.1 ∙ e)
-  stops_no_end status (causes.HostBroke x) why s h replies end e = halts_no_end told replies _ _ _ end (sym h.1 ∙ e)
-  stops_no_end status (causes.BadItem x) why s h replies end e = halts_no_end told replies _ _ _ end (sym h.1 ∙ e)
-  stops_no_end status causes.OutOfMemory why s h replies end e = absurd s
+  stops_no_end : (cause : RunCause) (why : Stop) → IsStatusOf status cause why → HaltsBy (start_among old new) steps told new (stop_of cause) → PlaysOn (start_among old new) steps → ⊥
+  stops_no_end (causes.HostFailed x) why s h plays = halts_no_end told plays.0 _ _ _ plays.1 (sym h.1 ∙ plays.2)
+  stops_no_end (causes.HostBroke x) why s h plays = halts_no_end told plays.0 _ _ _ plays.1 (sym h.1 ∙ plays.2)
+  stops_no_end (causes.BadItem x) why s h plays = halts_no_end told plays.0 _ _ _ plays.1 (sym h.1 ∙ plays.2)
+  stops_no_end causes.OutOfMemory why s h plays = absurd s
 
   -- and its status is that of the stop
-  stands_for : (status : ℕ) (cause : RunCause) (why : Stop) → IsStatusOf status cause why → HaltsBy (start_among old new) steps told new (stop_of cause) → (replies : List Reply) (stop : Stop) (writers : List Writer) (readers : List Reader) → play [] (start_among old new) steps ≡ Halts replies stop writers readers → StandsFor status stop
-  stands_for status (causes.HostFailed x) why s h replies stop writers readers e = subst (StandsFor status) (ap stop_in (sym h.1 ∙ e)) s.0
-  stands_for status (causes.HostBroke x) why s h replies stop writers readers e = subst (StandsFor status) (ap stop_in (sym h.1 ∙ e)) s.0
-  stands_for status (causes.BadItem x) why s h replies stop writers readers e = subst (StandsFor status) (ap stop_in (sym h.1 ∙ e)) s.0
-  stands_for status causes.OutOfMemory why s h replies stop writers readers e = absurd s
+  stands_for : (cause : RunCause) (why stop : Stop) → IsStatusOf status cause why → HaltsBy (start_among old new) steps told new (stop_of cause) → HaltsWith (start_among old new) steps stop → StandsFor status stop
+  stands_for (causes.HostFailed x) why stop s h halts = subst (StandsFor status) (ap stop_in (sym h.1 ∙ halts.3)) s.0
+  stands_for (causes.HostBroke x) why stop s h halts = subst (StandsFor status) (ap stop_in (sym h.1 ∙ halts.3)) s.0
+  stands_for (causes.BadItem x) why stop s h halts = subst (StandsFor status) (ap stop_in (sym h.1 ∙ halts.3)) s.0
+  stands_for causes.OutOfMemory why stop s h halts = absurd s
 
 three_of : (status : ℕ) → status ≢ 1 → status ≢ 4 → (status ≢ 3 → ⊥) → status ≡ 3
 three_of status a d n = ⊎_elim (λ e. e) (λ e. absurd (n e)) (cases_eq status 3)
@@ -139,26 +139,26 @@ module _ {words : List (List ℕ)} {rest : Option (List ℕ)} {old new : Tells} 
         no_bad_line q = let bad = h.bad_line q in spelled_not_bad (lines_of input) steps bad.0 s bad.1
 
         -- a run that the machine plays to its end is done
-        ends_of : (replies : List Reply) (end : World) → play [] (start_among old new) steps ≡ Ends replies end → status ≡ 0
-        ends_of replies end e =
+        ends_of : PlaysOn (start_among old new) steps → status ≡ 0
+        ends_of plays =
             zero_of status h.known not_usage no_bad_line (λ q. long (h.too_long q).0) not_fault
             (λ q.
             let stopped = h.stopped q in
             let same = one_spelling (lines_of input) stopped.steps steps stopped.spelled s in
-            stops_no_end old new stopped.steps stopped.replies status stopped.cause stopped.why stopped.status_is stopped.stop.halts replies end
-            (ap (play [] (start_among old new)) same ∙ e))
+            stops_no_end old new stopped.steps stopped.replies status stopped.cause stopped.why stopped.status_is stopped.stop.halts
+            (subst (PlaysOn (start_among old new)) (sym same) plays))
 
         -- and one that it halts has the status of the stop
-        halts_of : (replies : List Reply) (stop : Stop) (writers : List Writer) (readers : List Reader) → play [] (start_among old new) steps ≡ Halts replies stop writers readers → StandsFor status stop
-        halts_of replies stop writers readers e =
+        halts_of : (stop : Stop) → HaltsWith (start_among old new) steps stop → StandsFor status stop
+        halts_of stop halts =
             let undone : status ≢ 0 = λ q.
             let done = h.done q in
             let same = one_spelling (lines_of input) done.steps steps done.spelled s in
-            halts_no_end replies done.replies stop writers readers _ (sym e ∙ ap (play [] (start_among old new)) (sym same) ∙ done.played) in
+            halts_no_end halts.0 done.replies stop halts.1 halts.2 _ (sym halts.3 ∙ ap (play [] (start_among old new)) (sym same) ∙ done.played) in
             let stopped = h.stopped (stop_of_known status h.known undone not_usage no_bad_line (λ q. long (h.too_long q).0) not_fault) in
             let same = one_spelling (lines_of input) stopped.steps steps stopped.spelled s in
-            stands_for old new stopped.steps stopped.replies status stopped.cause stopped.why stopped.status_is stopped.stop.halts replies stop writers readers
-            (ap (play [] (start_among old new)) same ∙ e)
+            stands_for old new stopped.steps stopped.replies status stopped.cause stopped.why stop stopped.status_is stopped.stop.halts
+            (subst (λ k. HaltsWith (start_among old new) k stop) (sym same) halts)
 
         module _ (alone : AreOfGuests steps) where
           -- where nothing is amiss the run is done
@@ -207,10 +207,10 @@ module _ {words : List (List ℕ)} {rest : Option (List ℕ)} {old new : Tells} 
     pub told_bad_item : IsRun words → left ≡ Some input → (Rose before after → ⊥) → (IsTooLong input → ⊥) → (steps : List Step) → Spells (lines_of input) steps → AreOfGuests steps → (told : List Reply) (state : State) (stream : ℕ) → AsksBad steps told state stream → status ≡ 8
     told_bad_item r e calm = bad_item_of input (told_input e) r calm
 
-    pub told_ends : IsRun words → left ≡ Some input → (Rose before after → ⊥) → (IsTooLong input → ⊥) → (steps : List Step) → Spells (lines_of input) steps → (replies : List Reply) (end : World) → play [] (start_among old new) steps ≡ Ends replies end → status ≡ 0
+    pub told_ends : IsRun words → left ≡ Some input → (Rose before after → ⊥) → (IsTooLong input → ⊥) → (steps : List Step) → Spells (lines_of input) steps → PlaysOn (start_among old new) steps → status ≡ 0
     told_ends r e calm = ends_of input (told_input e) r calm
 
-    pub told_halts : IsRun words → left ≡ Some input → (Rose before after → ⊥) → (IsTooLong input → ⊥) → (steps : List Step) → Spells (lines_of input) steps → (replies : List Reply) (stop : Stop) (writers : List Writer) (readers : List Reader) → play [] (start_among old new) steps ≡ Halts replies stop writers readers → StandsFor status stop
+    pub told_halts : IsRun words → left ≡ Some input → (Rose before after → ⊥) → (IsTooLong input → ⊥) → (steps : List Step) → Spells (lines_of input) steps → (stop : Stop) → HaltsWith (start_among old new) steps stop → StandsFor status stop
     told_halts r e calm = halts_of input (told_input e) r calm
 
     pub told_bad_line : IsRun words → left ≡ Some input → (Rose before after → ⊥) → (IsTooLong input → ⊥) → (line : ℕ) → IsFirstBad (lines_of input) line → status ≡ 2

@@ -8,6 +8,10 @@ use Rattle.strm_machine.specs.declared.replies.Reply.{Reply}
 use Rattle.strm_machine.specs.declared.stops.Stop.{Stop}
 use Rattle.strm_machine.specs.declared.stops.Stop.TheVariants as stops
 use Rattle.strm_buffers.specs.Tells.{Tells}
+use Rattle.strm_world.specs.Ends.{Writer, Reader}
+use Rattle.strm_world.specs.World.{World}
+use Rattle.strm_world.specs.HostPlays.{play as play_among}
+use Rattle.strm_world.specs.HostPlays as world_plays
 use Rattle.strm_world.specs.Does.{RunsTo, spent}
 use Rattle.strm_ports.specs.Faults.{Rose}
 use Rattle.strm_lines.specs.Lines.{lines_of, Spells, IsFirstBad, IsTooLong}
@@ -42,6 +46,17 @@ IsStatusOf status (causes.HostFailed end) stop = (status ≡ 6) × (stop ≡ sto
 IsStatusOf status (causes.HostBroke end) stop = (status ≡ 7) × (stop ≡ stops.HostBroke end)
 IsStatusOf status (causes.BadItem stream) stop = (status ≡ 8) × (stop ≡ stops.BadItem stream)
 IsStatusOf status causes.OutOfMemory stop = ⊥
+
+-- the machine plays these steps to their end
+abbrev pub PlaysOn : World → List Step → Type 0
+PlaysOn first steps =
+    (replies : List Reply) × (end : World) × (play_among [] first steps ≡ world_plays.Ends replies end)
+
+-- it halts in them, by this stop
+abbrev pub HaltsWith : World → List Step → Stop → Type 0
+HaltsWith first steps stop =
+    (replies : List Reply) × (writers : List Writer) × (readers : List Reader)
+    × (play_among [] first steps ≡ world_plays.Halts replies stop writers readers)
 
 -- the status of a run that the machine halts so; it never halts because a store was trapped before
 abbrev pub StandsFor : ℕ → Stop → Type 0

@@ -9,13 +9,10 @@ ghost use Rattle.strm_machine.specs.State.{State};
 ghost use Rattle.strm_machine.specs.declared.replies.Reply.{Reply};
 ghost use Rattle.strm_buffers.specs.AllTells.{tells_of};
 ghost use Rattle.strm_machine.specs.declared.stops.Stop.{Stop};
-ghost use Rattle.strm_world.specs.Ends.{Writer, Reader};
-ghost use Rattle.strm_world.specs.World.{World};
-ghost use Rattle.strm_world.specs.HostPlays.{play, Ends, Halts};
 ghost use Rattle.strm_session.specs.Runs.{start_among, AreOfGuests, AsksBad, AsksItems};
 ghost use Rattle.strm_ports.specs.Faults.{Rose, TakesPart};
 ghost use Rattle.strm_lines.specs.Lines.{lines_of, Spells, IsFirstBad, IsTooLong};
-ghost use Rattle.strm_session.specs.Serving.{IsRun, IsStop, IsAnswer, IsStatus, IsFaultless, IsTranscript, IsStopped, StandsFor};
+ghost use Rattle.strm_session.specs.Serving.{IsRun, IsStop, IsAnswer, IsStatus, IsFaultless, IsTranscript, IsStopped, PlaysOn, HaltsWith, StandsFor};
 
 use crate::runs::{RunCause, run};
 use crate::texts::{bad_line_text, read_fault_text, stopped_text, text, too_long_text, usage_text};
@@ -90,15 +87,14 @@ pub fn serve<S: Source, K: Sink>(
     ensures ends { (input : List ℕ) (steps : List Step) →
         IsFaultless (map string_bytes words.now.items) (S.left source.old) input
         (S.faults source.old) (S.faults source.new) (K.faults sink.old) (K.faults sink.new) →
-        Spells (lines_of input) steps → ¬ IsTooLong input → (replies : List Reply) (end : World) →
-        play [] (start_among (tells_of writer_tells reader_tells hosts.old) (tells_of writer_tells reader_tells hosts.new)) steps ≡ Ends replies end →
+        Spells (lines_of input) steps → ¬ IsTooLong input →
+        PlaysOn (start_among (tells_of writer_tells reader_tells hosts.old) (tells_of writer_tells reader_tells hosts.new)) steps →
         (result ≡ DONE) ⊎ (result ≡ OUT_OF_MEMORY) }
     ensures halts { (input : List ℕ) (steps : List Step) →
         IsFaultless (map string_bytes words.now.items) (S.left source.old) input
         (S.faults source.old) (S.faults source.new) (K.faults sink.old) (K.faults sink.new) →
-        Spells (lines_of input) steps → ¬ IsTooLong input → (replies : List Reply) (stop : Stop)
-        (writers : List Writer) (readers : List Reader) →
-        play [] (start_among (tells_of writer_tells reader_tells hosts.old) (tells_of writer_tells reader_tells hosts.new)) steps ≡ Halts replies stop writers readers →
+        Spells (lines_of input) steps → ¬ IsTooLong input → (stop : Stop) →
+        HaltsWith (start_among (tells_of writer_tells reader_tells hosts.old) (tells_of writer_tells reader_tells hosts.new)) steps stop →
         (StandsFor result stop) ⊎ (result ≡ OUT_OF_MEMORY) }
 
     // Of guests alone: what is in the grammar and the limits and asks for items alone is run and

@@ -13,12 +13,12 @@ returns-in-Ok-write_whole-clause-complete g c = λ input steps f s long alone it
     inl (told_done (g.S.Source.left c.args.source.now) input c.in-Ok.ensures.told f.run f.input_is f.source long steps s alone items)
 
 pub returns-in-Ok-write_whole-clause-ends : goal.returns-in-Ok-write_whole-clause-ends
-returns-in-Ok-write_whole-clause-ends g c = λ input steps f s long replies end e.
-    inl (told_ends (g.S.Source.left c.args.source.now) input c.in-Ok.ensures.told f.run f.input_is f.source long steps s replies end e)
+returns-in-Ok-write_whole-clause-ends g c = λ input steps f s long plays.
+    inl (told_ends (g.S.Source.left c.args.source.now) input c.in-Ok.ensures.told f.run f.input_is f.source long steps s plays)
 
 pub returns-in-Ok-write_whole-clause-halts : goal.returns-in-Ok-write_whole-clause-halts
-returns-in-Ok-write_whole-clause-halts g c = λ input steps f s long replies stop writers readers e.
-    inl (told_halts (g.S.Source.left c.args.source.now) input c.in-Ok.ensures.told f.run f.input_is f.source long steps s replies stop writers readers e)
+returns-in-Ok-write_whole-clause-halts g c = λ input steps f s long stop halts.
+    inl (told_halts (g.S.Source.left c.args.source.now) input c.in-Ok.ensures.told f.run f.input_is f.source long steps s stop halts)
 
 pub returns-in-Ok-write_whole-clause-bad_item : goal.returns-in-Ok-write_whole-clause-bad_item
 returns-in-Ok-write_whole-clause-bad_item g c = λ input steps f s long alone told state stream a.
