@@ -1,19 +1,14 @@
 -- What a part of a run does to the state: the few ways, and what is known of each.
-use Rattle.std.proofs.Common.{◌≡◌, ◌≢◌, ℕ, ◌<◌, ◌≤◌, ◌||◌, Bool, true, false, cond, List, [], ◌∷◌, ◌++◌, length, take, drop, get_or, set, Option, Some, None, refl, sym, ap, subst, ◌∙◌, inl, inr, arith, length-take}
+use Rattle.std.proofs.Common.{◌≡◌, ◌≢◌, ℕ, ◌<◌, Bool, true, false, cond, [], ◌∷◌, ◌++◌, length, set, Option, Some, None, refl, sym, ap, subst, ◌∙◌, inl, inr}
 use Rattle.std.proofs.lemmas.Bool.{cond_both, cases_lt}
-use Rattle.std.proofs.lemmas.List.{get_or-set_same, get_or-set_other, get_or_past, length-set}
-use Rattle.std.specs.Prelude.{slice_set}
+use Rattle.std.proofs.lemmas.List.{get_or-set_same, get_or-set_other, get_or_past}
 use Rattle.strm_codes.specs.declared.codes.ReturnCode.{ReturnCode}
-use Rattle.strm_codes.specs.declared.codes.StreamResult.{StreamResult}
-use Rattle.strm_codes.specs.declared.codes.StreamResult.TheVariants as results
 use Rattle.strm_codes.specs.declared.refusals.Refusal.{Refusal}
-use Rattle.strm_buffers.specs.declared.answers.Answer.{Answer}
-use Rattle.strm_buffers.specs.HostRules.{breaks_as_writer}
-use Rattle.strm_buffers.specs.Listing.{Item}
-use Rattle.strm_buffers.specs.Said.{WriterSaid}
 use Rattle.strm_machine.specs.State.{State, host_limit, no_producer, no_stream, idle_end, producer_at, stream_at, is_host, is_gone}
 use Rattle.strm_machine.specs.Sides.{opposite, end_of, with_end, with_operation}
 use Rattle.strm_machine.specs.Meetings.{begun}
+use Rattle.strm_machine.specs.Moments.{code_told}
+use Rattle.strm_host_laws.specs.HostLaws.{is_made_by}
 use Rattle.strm_machine.specs.Endings.{report_on, told_end, delivered, dropped}
 use Rattle.strm_machine.specs.Tests.{named, stream_named, items_asked}
 use Rattle.strm_machine.specs.Refusals.{refusal}
@@ -26,191 +21,30 @@ use Rattle.strm_machine.specs.declared.acts.HostAct.TheVariants.{New, Feed}
 use Rattle.strm_machine.specs.declared.acts.NamedEnd.{NamedEnd}
 use Rattle.strm_machine.specs.declared.streams.Duty.TheVariants.{Serves, Ended}
 use Rattle.strm_machine.specs.declared.streams.Owner.{Owner}
-use Rattle.strm_machine.specs.declared.streams.Owner.TheVariants.{Loose, Host, Gone}
+use Rattle.strm_machine.specs.declared.streams.Owner.TheVariants.{Loose, Host}
 use Rattle.strm_machine.specs.declared.streams.Operation.{Operation}
-use Rattle.strm_machine.specs.declared.streams.Producer.{Producer}
 use Rattle.strm_machine.specs.declared.streams.Side.{Side}
 use Rattle.strm_machine.specs.declared.streams.Side.TheVariants.{Writing, Reading}
 use Rattle.strm_machine.specs.declared.streams.Stream.{Stream}
 use Rattle.strm_machine.specs.declared.replies.Reply.{Reply}
 use Rattle.strm_machine.specs.declared.replies.Reply.TheVariants as replies
 use Rattle.strm_machine.proofs.ReactionLemmas.{reaction-performs, reaction-refused}
-use Rattle.strm_world.specs.Ends.{polled_writer, given_writer}
-use Rattle.strm_world.specs.World.{World, stream_in, writer_at, with_guests, with_writer, leaves_writer, with_stream_in}
-use Rattle.strm_world.specs.Outcomes.{Outcome, Goes, Stops, Stuck, then_on, done, of_reply}
-use Rattle.strm_world.specs.Polls.{AfterWriter, is_failed, is_writer_poll, writer_says}
-use Rattle.strm_world.specs.Settling.{moved_on, answered_with, answered}
-use Rattle.strm_world.specs.Producing.{lowered, receives, is_last, with_over, produced_result, produces, producer_turn}
+use Rattle.strm_world.specs.World.{World, stream_in, writer_at, with_stream_in}
+use Rattle.strm_world.specs.Outcomes.{Outcome, Goes, Stops, Stuck, then_on, of_reply}
+use Rattle.strm_world.specs.Settling.{answered_with, answered}
+use Rattle.strm_world.specs.Producing.{producer_turn}
 use Rattle.strm_world.specs.Attaching.{hosted_stream, hosts_new, forsaken, forsakes}
 use Rattle.strm_world.specs.Driving.{if_open, driven_by, drive_turn}
 use Rattle.strm_world.specs.HostRefusals.{is_used, refusal_in}
 use Rattle.strm_world.specs.Steps.{reacts, reads_from, operates_by, drops_in, performs_in, unless_refused_in, outcome}
-use Rattle.strm_world.proofs.SettleLemmas.{is_done_with, moved_on-owner, delivered-owner, code_told}
+use Rattle.strm_world.proofs.SettleLemmas.{delivered-owner, code_told as code_answered}
 use Rattle.strm_world.proofs.WorldLemmas.{set-same}
 use Rattle.strm_world.proofs.OutcomeLemmas.{refusal_in-on_end, refusal_in-on_loose}
 use Rattle.strm_host_laws.specs.HostMoments.{Part, Acts, Turns, HostMoment, part_on}
 use Rattle.strm_host_laws.proofs.Chains.{is_part, Follows}
-use Rattle.strm_host_laws.proofs.Goings.{with_state, with_stream_in-same}
+use Rattle.strm_host_laws.proofs.Goings.{with_state}
 use Rattle.strm_host_laws.proofs.Closed.{set-keeps, is_new}
-
--- ## What is kept of host writers
-
--- host writer n ends where it is done, and else nothing becomes of duties
-pub record Leaves (done : Bool) (n : ℕ) (old new : List Producer) : Type 0 where
-  pub all : length new ≡ length old
-  pub others : (k : ℕ) → k ≢ n → (get_or new k no_producer).duty ≡ (get_or old k no_producer).duty
-  pub here : n < length old → (get_or new n no_producer).duty ≡ cond done Ended (get_or old n no_producer).duty
-
-leaves_none : (n : ℕ) (ps : List Producer) → Leaves false n ps ps
-leaves_none n ps = record { all = refl; others = λ k ne. refl; here = λ l. refl }
-
-pub leaves_ended : (n : ℕ) (ps : List Producer) → Leaves true n ps (set ps n (record (get_or ps n no_producer) { duty = Ended }))
-leaves_ended n ps =
-    let producer = record (get_or ps n no_producer) { duty = Ended } in
-    record {
-      all = length-set ps n producer;
-      others = λ k ne. ap (λ (p : Producer). p.duty) (get_or-set_other ps n k producer no_producer ne);
-      here = λ l. ap (λ (p : Producer). p.duty) (get_or-set_same ps n producer no_producer l);
-    }
-
--- duties are as they were
-pub record SameDuties (old new : List Producer) : Type 0 where
-  pub all : length new ≡ length old
-  pub same : (k : ℕ) → (get_or new k no_producer).duty ≡ (get_or old k no_producer).duty
-
-leaves_behind : (done : Bool) (n : ℕ) (a b c : List Producer) → SameDuties a b → Leaves done n b c → Leaves done n a c
-leaves_behind done n a b c s h = record {
-  all = h.all ∙ s.all;
-  others = λ k ne. h.others k ne ∙ s.same k;
-  here = λ l. h.here (omega (arith, l, s.all)) ∙ ap (cond done Ended) (s.same n);
-}
-
--- ## The turn of a host writer
-
--- the stream once the read on it got so many items, and is settled so, if it is
-abbrev pub turned_stream : State → ℕ → Operation → List Item → Option StreamResult → Stream
-turned_stream state s read items result = moved_on Reading (stream_at state s) read (length items) result
-
--- the state then, but for what is kept of host writers
-abbrev pub turned_by : State → ℕ → Operation → List Item → Option StreamResult → List Producer → State
-turned_by state s read items result producers = record state {
-  guests = lowered state.guests (stream_at state s).payload read items;
-  streams = set state.streams s (turned_stream state s read items result);
-  producers = producers;
-}
-
--- host writer n had its turn for this read on stream s
-pub record Turned (old new : State) (s n : ℕ) (read : Operation) : Type 0 where
-  pub items : List Item
-  pub result : Option StreamResult
-  pub producers : List Producer
-  pub few : length items ≤ read.left
-  pub leaves : Leaves (is_done_with result) n old.producers producers
-  pub is : new ≡ turned_by old s read items result producers
-
-turned_over : (old : State) (ps : List Producer) (new : State) (s n : ℕ) (read : Operation) → SameDuties old.producers ps → Turned (record old { producers = ps }) new s n read → Turned old new s n read
-turned_over old ps new s n read d t = record {
-  items = t.items;
-  result = t.result;
-  producers = t.producers;
-  few = t.few;
-  leaves = leaves_behind (is_done_with t.result) n old.producers ps t.producers d t.leaves;
-  is = t.is;
-}
-
--- a stream written back whose host writer goes
-pub with_stream_in-gone : (w : World) (s n : ℕ) (stream : Stream) → (stream_in w s).writer.owner ≡ Host n → stream.writer.owner ≡ Gone
-    → (with_stream_in w s stream).state ≡ record w.state { streams = set w.state.streams s stream; producers = set w.state.producers n (record (producer_at w.state n) { duty = Ended }) }
-unfolding with_stream_in
-with_stream_in-gone w s n stream e g =
-    let after = with_state w (record w.state { streams = slice_set w.state.streams s stream }) in
-    ap (λ o. (leaves_writer o stream.writer.owner after).state) e ∙ ap (λ o. (leaves_writer (Host n) o after).state) g
-
-pub with_stream_in-kept : (w : World) (s : ℕ) (stream : Stream) → stream.writer.owner ≡ (stream_in w s).writer.owner → (with_stream_in w s stream).state ≡ with_stream_at w.state s stream
-with_stream_in-kept w s stream e = ap (λ (v : World). v.state) (with_stream_in-same w s stream e)
-
--- of what comes of a part, what holds where it goes on
-abbrev pub Going : (Reply → World → Type 0) → Outcome → Type 0
-Going P (Goes reply v) = P reply v
-Going P (Stops stop writers readers) = Unit {0}
-Going P Stuck = Unit {0}
-
-module _ (s n : ℕ) (read : Operation) where
-  -- the turn of host writer n
-  abbrev pub TurnsIn : World → Reply → World → Type 0
-  TurnsIn w reply v = Turned w.state v.state s n read
-
-  receives_by : (w : World) (items : List Item) (result : Option StreamResult) (b : Bool) → (stream_in w s).writer.owner ≡ Host n → length items ≤ read.left → is_done_with result ≡ b → Turned w.state (receives w s read items result).state s n read
-  receives_by w items result true o l e =
-      let now = turned_stream w.state s read items result in
-      let v = with_guests w (lowered w.state.guests (stream_in w s).payload read items) in
-      record {
-        items = items;
-        result = result;
-        producers = set w.state.producers n (record (producer_at w.state n) { duty = Ended });
-        few = l;
-        leaves = rw e (leaves_ended n w.state.producers);
-        is = with_stream_in-gone v s n now o (moved_on-owner (stream_in w s) read (length items) result ∙ ap (λ b. cond b Gone (stream_in w s).writer.owner) e);
-      }
-  receives_by w items result false o l e =
-      let now = turned_stream w.state s read items result in
-      let v = with_guests w (lowered w.state.guests (stream_in w s).payload read items) in
-      record {
-        items = items;
-        result = result;
-        producers = w.state.producers;
-        few = l;
-        leaves = rw e (leaves_none n w.state.producers);
-        is = with_stream_in-kept v s now (moved_on-owner (stream_in w s) read (length items) result ∙ ap (λ b. cond b Gone (stream_in w s).writer.owner) e);
-      }
-
-  receives_turned : (w : World) (items : List Item) (result : Option StreamResult) → (stream_in w s).writer.owner ≡ Host n → length items ≤ read.left → Turned w.state (receives w s read items result).state s n read
-  receives_turned w items result o l = receives_by w items result (is_done_with result) o l refl
-
-  front_few : (xs : List Item) → length (take read.left xs) ≤ read.left
-  front_few xs = omega (arith, length-take read.left xs)
-
-  over_same : (w : World) (answer : Answer) → SameDuties w.state.producers (with_over w n answer).state.producers
-  over_same w answer =
-      let producer = record (producer_at w.state n) { over = (producer_at w.state n).over || is_last answer } in
-      record {
-        all = length-set w.state.producers n producer;
-        same = λ k. set-keeps (λ (p : Producer). p.duty) w.state.producers n k producer no_producer refl;
-      }
-
-  says_turned : (w : World) (room : Option ℕ) (finish : Bool) (coming : List WriterSaid) (next : AfterWriter) → ((v : World) (said : WriterSaid) → v.state ≡ w.state → Going (TurnsIn w) (next v said)) → Going (TurnsIn w) (writer_says w s n room finish coming next)
-  says_turned w room finish [] next h = tt
-  says_turned w room finish (said ∷ more) next h =
-      let after = with_writer w n (polled_writer (writer_at w n) room said more) in
-      cond_both (is_writer_poll room finish said) _ _ (Going (TurnsIn w))
-      (λ f. cond_both (is_failed said.answer) _ _ (Going (TurnsIn w)) (λ g. tt)
-      (λ g. cond_both (breaks_as_writer (stream_in w s).kind said) _ _ (Going (TurnsIn w)) (λ k. tt) (λ k. h after said refl)))
-      (λ f. tt)
-
-  produced_turned : (w v : World) (said : WriterSaid) → (stream_in w s).writer.owner ≡ Host n → v.state ≡ w.state
-      → Turned w.state (receives (with_over v n said.answer) s read (take read.left said.items) (produced_result said.answer (drop read.left said.items))).state s n read
-  produced_turned w v said o e =
-      let over = with_over v n said.answer in
-      let items = take read.left said.items in
-      let result = produced_result said.answer (drop read.left said.items) in
-      let owned : (stream_in v s).writer.owner ≡ Host n = ap (λ (x : State). (stream_at x s).writer.owner) e ∙ o in
-      subst (λ (x : State). Turned x (receives over s read items result).state s n read) e
-      (turned_over v.state over.state.producers (receives over s read items result).state s n read (over_same v said.answer) (receives_turned over items result owned (front_few said.items)))
-
-  produces_turned : (w : World) (held : List Item) → (stream_in w s).writer.owner ≡ Host n → Going (TurnsIn w) (produces w s n read held)
-  produces_turned w (item ∷ items) o =
-      let writer = writer_at w n in
-      receives_turned (with_writer w n (given_writer writer read.left)) (take read.left writer.holds) (Some results.Completed) o (front_few writer.holds)
-  produces_turned w [] o =
-      cond_both (producer_at w.state n).over _ _ (Going (TurnsIn w))
-      (λ e. receives_turned w [] (Some results.Dropped) o (omega arith))
-      (λ e. says_turned w (Some read.left) read.asked (writer_at w n).coming
-      (λ after said. done (receives (with_over after n said.answer) s read (take read.left said.items) (produced_result said.answer (drop read.left said.items))))
-      (λ v said e. produced_turned w v said o e))
-
-  pub turn_turned : (w : World) → (stream_in w s).writer.owner ≡ Host n → Going (TurnsIn w) (producer_turn w s n read)
-  unfolding producer_turn
-  turn_turned w o = produces_turned w (writer_at w n).holds o
+use Rattle.strm_host_laws.proofs.HostTurns.{Turned, Going, turn_turned, turn_done, with_stream_in-gone, with_stream_in-kept}
 
 -- ## All ways
 
@@ -235,7 +69,7 @@ pub record Reads (old : State) (end : NamedEnd) (address count : ℕ) (reply : R
   pub unrefused : refusal old (OnEnd Reading end (Operate address count)) ≡ None
   pub owner : (stream_at old (stream_named (named old end))).writer.owner ≡ Host writer
   pub turned : Turned (opened_by old (stream_named (named old end)) (begun end.guest address (items_asked end.ty count))) mid (stream_named (named old end)) writer (begun end.guest address (items_asked end.ty count))
-  pub reply_is : reply ≡ replies.Code (code_told (report_on Reading (stream_at mid (stream_named (named old end)))))
+  pub reply_is : reply ≡ replies.Code (code_answered (report_on Reading (stream_at mid (stream_named (named old end)))))
   pub is : new ≡ told mid (stream_named (named old end)) Reading
 
 -- host writer n has a stream more, whose read end is loose
@@ -256,26 +90,35 @@ forsaken_by state s n = record state {
   producers = set state.producers n (record (producer_at state n) { duty = Ended });
 }
 
+-- a part that names no end of a stream: it is done to a host writer, or is the turn of a stream
+abbrev pub is_idle : Part → Bool
+is_idle (Acts (OnHost n act)) = true
+is_idle (Turns s) = true
+is_idle _ = false
+
+-- a part that changes nothing, tells nothing, and makes no stream
+pub record Rests (part : Part) (reply : Reply) : Type 0 where
+  pub idle : is_idle part ≡ true
+  pub untold : code_told reply ≡ None
+  pub unmade : (s : ℕ) → is_made_by s part reply ≡ false
+
 -- a read end is dropped, or closed, and its host writer goes with it
 pub record Forsakes (old : State) (act : Act) (reply : Reply) (new : State) : Type 0 where
   pub stream : ℕ
   pub writer : ℕ
   pub gone : is_gone (stream_at (reaction old act).state stream).reader.owner ≡ true
   pub owner : (stream_at (reaction old act).state stream).writer.owner ≡ Host writer
+  pub others : (k : ℕ) → k ≢ stream → stream_at (reaction old act).state k ≡ stream_at old k
+  pub done : (reaction old act).reply ≡ replies.Done
+  pub drops : is_idle (Acts act) ≡ false
   pub reply_is : reply ≡ (reaction old act).reply
   pub is : new ≡ forsaken_by (reaction old act).state stream writer
 
--- a part that changes nothing, and names no end of a stream
-abbrev pub is_idle : Part → Bool
-is_idle (Acts (OnHost n act)) = true
-is_idle (Turns s) = true
-is_idle _ = false
-
 pub data Effect (old : State) (part : Part) (reply : Reply) (new : State) : Type 0 where
-  ByReaction : (act : Act) → part ≡ Acts act → reply ≡ (reaction old act).reply → new ≡ (reaction old act).state → Effect old part reply new
-  ByRest : is_idle part ≡ true → new ≡ old → Effect old part reply new
+  ByReaction : (act : Act) → part ≡ Acts act → is_idle part ≡ false → reply ≡ (reaction old act).reply → new ≡ (reaction old act).state → Effect old part reply new
+  ByRest : Rests part reply → new ≡ old → Effect old part reply new
   ByHosting : (n : ℕ) → part ≡ Acts (OnHost n New) → Hosts old n reply new → Effect old part reply new
-  ByDriving : (s : ℕ) → part ≡ Turns s → Driven old new s → Effect old part reply new
+  ByDriving : (s : ℕ) → part ≡ Turns s → reply ≡ replies.Done → Driven old new s → Effect old part reply new
   ByReading : (end : NamedEnd) (address count : ℕ) → part ≡ Acts (OnEnd Reading end (Operate address count)) → Reads old end address count reply new → Effect old part reply new
   ByForsaking : (act : Act) → part ≡ Acts act → Forsakes old act reply new → Effect old part reply new
 
@@ -290,18 +133,22 @@ Going_maps P Q Stuck f h = tt
 
 -- ## A turn in a drive round
 
+-- a turn that goes on tells nothing of its own
+abbrev TurnsDone : ℕ → ℕ → Operation → World → Reply → World → Type 0
+TurnsDone s n read w reply v = Turned w.state v.state s n read × (reply ≡ replies.Done)
+
 open_effect : (w : World) (s n : ℕ) (o : Option Operation) → (stream_in w s).writer.owner ≡ Host n → (stream_in w s).reader.operation ≡ o → Going (EffectIn w (Turns s)) (if_open w o (producer_turn w s n))
-open_effect w s n None e f = ByRest refl refl
+open_effect w s n None e f = ByRest (record { idle = refl; untold = refl; unmade = λ k. refl }) refl
 open_effect w s n (Some read) e f =
     cond_both read.is_open _ _ (Going (EffectIn w (Turns s)))
-    (λ open_. Going_maps (TurnsIn s n read w) (EffectIn w (Turns s)) (producer_turn w s n read)
-    (λ reply v t. ByDriving s refl (record { writer = n; read = read; owner = e; waits = f; open_ = open_; turned = t }))
-    (turn_turned s n read w e))
-    (λ shut. ByRest refl refl)
+    (λ open_. Going_maps (TurnsDone s n read w) (EffectIn w (Turns s)) (producer_turn w s n read)
+    (λ reply v t. ByDriving s refl t.1 (record { writer = n; read = read; owner = e; waits = f; open_ = open_; turned = t.0 }))
+    (turn_done s n read w e))
+    (λ shut. ByRest (record { idle = refl; untold = refl; unmade = λ k. refl }) refl)
 
 driven_effect : (w : World) (s : ℕ) (owner : Owner) → (stream_in w s).writer.owner ≡ owner → Going (EffectIn w (Turns s)) (driven_by w s (stream_in w s) owner)
 driven_effect w s (Host n) e = open_effect w s n (stream_in w s).reader.operation e refl
-driven_effect w s _ e = ByRest refl refl
+driven_effect w s _ e = ByRest (record { idle = refl; untold = refl; unmade = λ k. refl }) refl
 
 drive_effect : (w : World) (s : ℕ) → Going (EffectIn w (Turns s)) (drive_turn w s)
 unfolding drive_turn
@@ -321,8 +168,8 @@ replied_is w act _ e = (e, refl)
 reacts_is : (w : World) (act : Act) → Going (IsOf w act) (reacts w act)
 reacts_is w act = replied_is w act (reaction w.state act).reply refl
 
-reacts_effect : (w : World) (act : Act) → Going (EffectIn w (Acts act)) (reacts w act)
-reacts_effect w act = Going_maps (IsOf w act) (EffectIn w (Acts act)) (reacts w act) (λ reply v p. ByReaction act refl p.0 p.1) (reacts_is w act)
+reacts_effect : (w : World) (act : Act) → is_idle (Acts act) ≡ false → Going (EffectIn w (Acts act)) (reacts w act)
+reacts_effect w act i = Going_maps (IsOf w act) (EffectIn w (Acts act)) (reacts w act) (λ reply v p. ByReaction act refl i p.0 p.1) (reacts_is w act)
 
 -- ## A read of a host writer
 
@@ -352,7 +199,7 @@ module _ (w : World) (end : NamedEnd) (address count n : ℕ) where
       unrefused = unrefused;
       owner = o;
       turned = t;
-      reply_is = ap (λ c. replies.Code (code_told c)) (sym e);
+      reply_is = ap (λ c. replies.Code (code_answered c)) (sym e);
       is = with_stream_in-kept v at_end (delivered Reading (stream_in v at_end)) (delivered-owner (stream_in v at_end));
     })
     reads_by v None e t = ByReading end address count refl (record {
@@ -361,7 +208,7 @@ module _ (w : World) (end : NamedEnd) (address count n : ℕ) where
       unrefused = unrefused;
       owner = o;
       turned = t;
-      reply_is = ap (λ c. replies.Code (code_told c)) (sym e);
+      reply_is = ap (λ c. replies.Code (code_answered c)) (sym e);
       is = sym (told_nothing v.state at_end e);
     })
 
@@ -387,7 +234,7 @@ module _ (w : World) (end : NamedEnd) (address count n : ℕ) where
 operates_effect : (w : World) (side : Side) (end : NamedEnd) (address count : ℕ) (owner : Owner) → refusal w.state (OnEnd side end (Operate address count)) ≡ None
     → (end_of (opposite side) (stream_in w (stream_named (named w.state end)))).owner ≡ owner → Going (EffectIn w (Acts (OnEnd side end (Operate address count)))) (operates_by w side end address count owner)
 operates_effect w Reading end address count (Host n) r e = reads_effect w end address count n r e
-operates_effect w side end address count _ r e = reacts_effect w (OnEnd side end (Operate address count))
+operates_effect w side end address count _ r e = reacts_effect w (OnEnd side end (Operate address count)) refl
 
 -- ## Ends that are dropped
 
@@ -399,6 +246,9 @@ host_number _ e = cc
 pub record DropsRead (state : State) (act : Act) (s : ℕ) : Type 0 where
   pub gone : is_gone (stream_at (reaction state act).state s).reader.owner ≡ true
   pub owner : (stream_at (reaction state act).state s).writer.owner ≡ (stream_at state s).writer.owner
+  pub others : (k : ℕ) → k ≢ s → stream_at (reaction state act).state k ≡ stream_at state k
+  pub done : (reaction state act).reply ≡ replies.Done
+  pub drops : is_idle (Acts act) ≡ false
 
 module _ (w : World) (s : ℕ) (act : Act) (n : ℕ) (d : DropsRead w.state act s) (o : (stream_in w s).writer.owner ≡ Host n) where
   forsaken_effect : (reply : Reply) (v : World) → IsOf w act reply v → EffectIn w (Acts act) reply (with_stream_in v s (forsaken Reading (stream_in v s)))
@@ -409,6 +259,9 @@ module _ (w : World) (s : ℕ) (act : Act) (n : ℕ) (d : DropsRead w.state act 
         writer = n;
         gone = d.gone;
         owner = d.owner ∙ o;
+        others = d.others;
+        done = d.done;
+        drops = d.drops;
         reply_is = p.0;
         is = with_stream_in-gone v s n (forsaken Reading (stream_in v s)) owned refl ∙ ap (λ (x : State). forsaken_by x s n) p.1;
       })
@@ -418,13 +271,13 @@ module _ (w : World) (s : ℕ) (act : Act) (n : ℕ) (d : DropsRead w.state act 
   forsakes_effect (Stops stop writers readers) h = tt
   forsakes_effect Stuck h = tt
 
-drops_effect : (w : World) (s : ℕ) (side : Side) (act : Act) → is_host (stream_in w s).reader.owner ≡ false → (side ≡ Reading → is_host (stream_in w s).writer.owner ≡ true → DropsRead w.state act s) → Going (EffectIn w (Acts act)) (drops_in w s side act)
-drops_effect w s Writing act unpiped d =
-    subst (λ b. Going (EffectIn w (Acts act)) (cond b (forsakes (reacts w act) s Writing) (reacts w act))) (sym unpiped) (reacts_effect w act)
-drops_effect w s Reading act unpiped d =
+drops_effect : (w : World) (s : ℕ) (side : Side) (act : Act) → is_idle (Acts act) ≡ false → is_host (stream_in w s).reader.owner ≡ false → (side ≡ Reading → is_host (stream_in w s).writer.owner ≡ true → DropsRead w.state act s) → Going (EffectIn w (Acts act)) (drops_in w s side act)
+drops_effect w s Writing act i unpiped d =
+    subst (λ b. Going (EffectIn w (Acts act)) (cond b (forsakes (reacts w act) s Writing) (reacts w act))) (sym unpiped) (reacts_effect w act i)
+drops_effect w s Reading act i unpiped d =
     cond_both (is_host (stream_in w s).writer.owner) _ _ (Going (EffectIn w (Acts act)))
     (λ e. let host = host_number (stream_in w s).writer.owner e in forsakes_effect w s act host.0 (d refl e) host.1 (reacts w act) (reacts_is w act))
-    (λ e. reacts_effect w act)
+    (λ e. reacts_effect w act i)
 
 pub host_made : (state : State) (s : ℕ) → is_host (stream_at state s).writer.owner ≡ true → s < length state.streams
 host_made state s e =
@@ -443,6 +296,9 @@ end_dropped state end t e h =
     record {
       gone = ap (λ (r : Reaction). is_gone (stream_at r.state s).reader.owner) is ∙ ap (λ (x : Stream). is_gone x.reader.owner) (get_or-set_same state.streams s new no_stream (host_made state s h));
       owner = ap (λ (r : Reaction). (stream_at r.state s).writer.owner) is ∙ set-keeps (λ (x : Stream). x.writer.owner) state.streams s s new no_stream refl;
+      others = λ k ne. ap (λ (r : Reaction). stream_at r.state k) is ∙ get_or-set_other state.streams s k new no_stream ne;
+      done = ap (λ (r : Reaction). r.reply) is;
+      drops = refl;
     }
 
 loose_closed : (state : State) (s : ℕ) → state.trapped ≡ false → refusal state (OnLoose s Close) ≡ None → is_host (stream_at state s).writer.owner ≡ true → DropsRead state (OnLoose s Close) s
@@ -453,6 +309,9 @@ loose_closed state s t e h =
     record {
       gone = ap (λ (r : Reaction). is_gone (stream_at r.state s).reader.owner) is ∙ ap (λ (x : Stream). is_gone x.reader.owner) (get_or-set_same state.streams s new no_stream (host_made state s h));
       owner = ap (λ (r : Reaction). (stream_at r.state s).writer.owner) is ∙ set-keeps (λ (x : Stream). x.writer.owner) state.streams s s new no_stream refl;
+      others = λ k ne. ap (λ (r : Reaction). stream_at r.state k) is ∙ get_or-set_other state.streams s k new no_stream ne;
+      done = ap (λ (r : Reaction). r.reply) is;
+      drops = refl;
     }
 
 -- ## Every part
@@ -479,23 +338,24 @@ module _ (w : World) (unpiped : (s : ℕ) → is_host (stream_in w s).reader.own
       operates_effect w side end address count _ (sym (refusal_in-on_end w side end (Operate address count)) ∙ e) refl
   performs_effect (OnEnd side end Drop) p e =
       let s = stream_named (named w.state end) in
-      drops_effect w s side (OnEnd side end Drop) (unpiped s)
+      drops_effect w s side (OnEnd side end Drop) refl (unpiped s)
       (λ r h. subst (λ d. DropsRead w.state (OnEnd d end Drop) s) (sym r)
       (end_dropped w.state end t (sym (refusal_in-on_end w Reading end Drop) ∙ subst (λ d. refusal_in w (OnEnd d end Drop) ≡ None) r e) h))
   performs_effect (OnLoose reader Close) p e =
-      drops_effect w reader Reading (OnLoose reader Close) (unpiped reader) (λ r h. loose_closed w.state reader t (sym (refusal_in-on_loose w reader Close) ∙ e) h)
+      drops_effect w reader Reading (OnLoose reader Close) refl (unpiped reader) (λ r h. loose_closed w.state reader t (sym (refusal_in-on_loose w reader Close) ∙ e) h)
   performs_effect (OnHost n New) p e = hosts_effect w n e
-  performs_effect (OnHost n (Feed bytes)) p e = ByRest refl refl
+  performs_effect (OnHost n (Feed bytes)) p e = ByRest (record { idle = refl; untold = refl; unmade = λ k. refl }) refl
   performs_effect Drive p e = cc
-  performs_effect act p e = reacts_effect w act
+  performs_effect act p e = reacts_effect w act refl
 
   -- one that is refused
   refused_effect : (act : Act) (r : Refusal) → refusal_in w act ≡ Some r → EffectIn w (Acts act) (replies.Refused r) w
   unfolding refusal_in refusal
-  refused_effect (OnHost n act) r e = ByRest refl refl
+  refused_effect (OnHost n New) r e = ByRest (record { idle = refl; untold = refl; unmade = λ k. refl }) refl
+  refused_effect (OnHost n (Feed bytes)) r e = ByRest (record { idle = refl; untold = refl; unmade = λ k. refl }) refl
   refused_effect act r e =
       let is = reaction-refused w.state act r t e in
-      ByReaction act refl (ap (λ (x : Reaction). x.reply) (sym is)) (ap (λ (x : Reaction). x.state) (sym is))
+      ByReaction act refl refl (ap (λ (x : Reaction). x.reply) (sym is)) (ap (λ (x : Reaction). x.state) (sym is))
 
   unless_effect : (act : Act) (o : Option Refusal) → is_part (Acts act) ≡ true → refusal_in w act ≡ o → Going (EffectIn w (Acts act)) (unless_refused_in w act o)
   unless_effect act (Some r) p e = refused_effect act r e

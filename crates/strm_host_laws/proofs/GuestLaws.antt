@@ -1,17 +1,21 @@
 -- What holds of handles, sets and error contexts of a state that stands.
-use Rattle.std.proofs.Common.{◌≡◌, ℕ, zero, suc, false, length, Option, Some, None, Ok, is_some, refl, sym, ap, ◌∙◌, inl, inr, arith}
+use Rattle.std.proofs.Common.{◌≡◌, ℕ, zero, suc, false, List, length, subst, Option, Some, None, Ok, is_some, refl, sym, ap, ◌∙◌, inl, inr, arith}
 use Rattle.std.proofs.lemmas.Bool.{cases_lt}
 use Rattle.std.proofs.lemmas.List.{get_or_past}
 use Rattle.strm_handles.specs.Handles.{no_handles, entry_at}
 use Rattle.strm_handles.specs.Lookups.{error_context_rep_of}
 use Rattle.strm_contexts.specs.Contexts.{Context, context_at, handles_of}
-use Rattle.strm_machine.specs.State.{State, Guest, no_guest, guest_in, sets_in}
+use Rattle.strm_machine.specs.State.{State, Guest, no_guest, no_stream, guest_in, sets_in, stream_at}
+use Rattle.strm_codes.specs.declared.payloads.Payload.{Payload}
+use Rattle.strm_machine.specs.Soundness.{OperationIsPlaced, sizes_of}
+use Rattle.strm_machine.specs.declared.streams.Operation.{Operation}
+use Rattle.strm_machine.proofs.SoundLemmas.{placed_at}
 use Rattle.strm_machine.specs.ErrorContexts.{context_number}
 use Rattle.strm_machine.proofs.AgreeLemmas.{Agree-single, Agree-unheld}
 use Rattle.strm_machine.proofs.ErrorContextLemmas.{context_entry, named_is_there}
 use Rattle.strm_machine.proofs.HeldLemmas.{names_in}
 use Rattle.strm_machine.proofs.TableLemmas.{owner_in}
-use Rattle.strm_laws.specs.Laws.{HandlesHold, HandlesAreSingle, MembersAreLive, ContextsCount}
+use Rattle.strm_laws.specs.Laws.{IsCounted, AreCounted, HandlesHold, HandlesAreSingle, MembersAreLive, ContextsCount}
 use Rattle.strm_host_laws.proofs.Standing.{Holds}
 
 module _ (state : State) (h : Holds state) where
@@ -56,3 +60,18 @@ contexts_count state holds =
       ];
       message = λ g handle. h.messages (context_number state g handle);
     }
+
+operation_counted : (sizes : List ℕ) (payload : Payload) (o : Option Operation) → OperationIsPlaced sizes payload o → IsCounted o
+operation_counted sizes payload None p = tt
+operation_counted sizes payload (Some o) p = p.counted
+
+-- both operations of a stream, where there is one
+pub counted : (state : State) → Holds state → (s : ℕ) → AreCounted (stream_at state s)
+counted state h s =
+    elim (cases_lt s (length state.streams)) [
+      | inl l ↦ let p = placed_at state s l h.sound in (
+        operation_counted (sizes_of state.guests) (stream_at state s).payload (stream_at state s).writer.operation p.writer,
+        operation_counted (sizes_of state.guests) (stream_at state s).payload (stream_at state s).reader.operation p.reader,
+      )
+      | inr l ↦ subst AreCounted (sym (get_or_past state.streams s no_stream l)) (tt, tt)
+    ]

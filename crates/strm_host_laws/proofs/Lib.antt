@@ -3,9 +3,15 @@ pub mod Owners
 pub mod Goings
 pub mod Closed
 pub mod Fed
+pub mod HostTurns
 pub mod Effects
 pub mod TurnMoves
+pub mod HostsAgree
 pub mod Standing
+pub mod SeenSteps
+pub mod PartsSeen
+pub mod GuestsSeen
+pub mod GuestRuns
 pub mod GuestLaws
 pub mod Turned
 pub mod Lowered

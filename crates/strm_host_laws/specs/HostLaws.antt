@@ -113,6 +113,10 @@ plain m = record {
   after = m.after.state;
 }
 
+-- and all of these
+abbrev pub plains : List HostMoment → List Moment
+plains all = map plain all
+
 -- the items received on stream s in these moments, each as it lay in the reader's memory just after it
 -- was received
 abbrev pub host_got : ℕ → List HostMoment → List (Option Item)

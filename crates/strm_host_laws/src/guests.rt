@@ -4,15 +4,20 @@
 //! Meaning: `Laws.antt` of `strm_laws`, said of the state after the last moment of `HostMoments.antt`.
 //! Ours.
 
-ghost use Rattle.std.specs.Prelude.{ℕ, List};
+ghost use Rattle.std.specs.Prelude.{◌≡◌, ℕ, ◌≤◌, List, length, true, false, None};
 ghost use Rattle.strm_buffers.specs.Tells.{Tells};
+ghost use Rattle.strm_codes.specs.declared.codes.TransmitKind.TheVariants.{Future};
 ghost use Rattle.strm_machine.specs.Hosting.{HostsHold};
-ghost use Rattle.strm_machine.specs.Soundness.{IsSound};
+ghost use Rattle.strm_machine.specs.Soundness.{IsSound, both_open, AreUnmoved};
 ghost use Rattle.strm_machine.specs.declared.limits.Limits.{Limits};
 ghost use Rattle.strm_machine.specs.declared.steps.Step.{Step};
-ghost use Rattle.strm_laws.specs.Laws.{HandlesHold, HandlesAreSingle, MembersAreLive, ContextsCount};
+ghost use Rattle.strm_machine.specs.declared.streams.Side.{Side};
+ghost use Rattle.strm_laws.specs.Conservation.{calls, got};
+ghost use Rattle.strm_laws.specs.Laws.{AreSteps, AreCounted, Conserves, Stands, HandlesHold, HandlesAreSingle, MembersAreLive, ContextsCount, waiting};
+ghost use Rattle.strm_world.specs.World.{stream_in};
 ghost use Rattle.strm_world.specs.Does.{start};
 ghost use Rattle.strm_host_laws.specs.HostMoments.{host_moments, last_of};
+ghost use Rattle.strm_host_laws.specs.HostLaws.{plains, is_hosted};
 
 /// Every state is sound, after whichever steps: handles name streams that were made, of their type, the
 /// items that an operation has left lie in its guest's memory, and each guest's table agrees with its
@@ -55,4 +60,63 @@ pub fn contexts_count_their_handles()
     ensures { (tag : ℕ) (limits : Limits) (old new : Tells) (run : List Step) →
         ContextsCount (last_of (start tag limits old new)
         (host_moments (start tag limits old new) run)).state }
+{}
+
+/// No stream or future has both an open write and an open read, after at most 4,294,967,295 steps. On one
+/// that was made of a host writer no guest writes at all.
+pub fn never_two_open()
+    ensures apart { (tag : ℕ) (limits : Limits) (old new : Tells) (run : List Step) (s : ℕ) →
+        AreSteps run → both_open (stream_in (last_of (start tag limits old new)
+        (host_moments (start tag limits old new) run)) s) ≡ false }
+    ensures idle { (tag : ℕ) (limits : Limits) (old new : Tells) (run : List Step) (s : ℕ) →
+        AreSteps run → is_hosted s (host_moments (start tag limits old new) run) ≡ true →
+        (stream_in (last_of (start tag limits old new)
+        (host_moments (start tag limits old new) run)) s).writer.operation ≡ None }
+{}
+
+/// A read or write that has not met has moved nothing, on a stream that no host writer made: so a cancel of
+/// it says Cancelled of no item. A read of a host writer may get items of a poll that leaves it open.
+pub fn unmet_has_moved_none()
+    ensures { (tag : ℕ) (limits : Limits) (old new : Tells) (run : List Step) (s : ℕ) →
+        AreSteps run → is_hosted s (host_moments (start tag limits old new) run) ≡ false →
+        AreUnmoved (stream_in (last_of (start tag limits old new)
+        (host_moments (start tag limits old new) run)) s) }
+{}
+
+/// The items of an operation, those that it moved and those that it has left, are below 2^28
+/// together.
+pub fn totals_are_counts()
+    ensures { (tag : ℕ) (limits : Limits) (old new : Tells) (run : List Step) (s : ℕ) →
+        AreCounted (stream_in (last_of (start tag limits old new)
+        (host_moments (start tag limits old new) run)) s) }
+{}
+
+/// On each stream that no host writer made, what was received is, in order, exactly the first k items of
+/// each accepted write, k the count reported, each as the writer's memory held it just before it was
+/// copied, whatever host writers did on other streams. The reports of the reads speak of exactly as many
+/// items, those of either end count once each, and none speaks of more than its call asked for. What
+/// carries it: a read or write that has no report yet has moved what its operation says, and its next item
+/// lies behind that.
+pub fn conservation()
+    ensures conserves { (tag : ℕ) (limits : Limits) (old new : Tells) (run : List Step) (s : ℕ) →
+        AreSteps run → is_hosted s (host_moments (start tag limits old new) run) ≡ false →
+        Conserves s (plains (host_moments (start tag limits old new) run))
+        (last_of (start tag limits old new) (host_moments (start tag limits old new) run)).state }
+    ensures stands { (tag : ℕ) (limits : Limits) (old new : Tells) (run : List Step) (s : ℕ)
+        (side : Side) →
+        AreSteps run → is_hosted s (host_moments (start tag limits old new) run) ≡ false →
+        Stands (stream_in (last_of (start tag limits old new)
+        (host_moments (start tag limits old new) run)) s).payload
+        (waiting s side (last_of (start tag limits old new)
+        (host_moments (start tag limits old new) run)).state)
+        (calls s side (plains (host_moments (start tag limits old new) run))) }
+{}
+
+/// On a future that no host writer made one item is received at most.
+pub fn futures_pass_one()
+    ensures { (tag : ℕ) (limits : Limits) (old new : Tells) (run : List Step) (s : ℕ) →
+        AreSteps run → is_hosted s (host_moments (start tag limits old new) run) ≡ false →
+        (stream_in (last_of (start tag limits old new)
+        (host_moments (start tag limits old new) run)) s).kind ≡ Future →
+        length (got s (plains (host_moments (start tag limits old new) run))) ≤ 1 }
 {}
