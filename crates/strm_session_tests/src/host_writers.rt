@@ -1,7 +1,5 @@
 //! Runs among host writers by example: those of the program, and writers of a script.
 
-ghost use Rattle.std.specs.Prelude.{◌≡◌};
-
 use crate::calls::served_among;
 use std::alloc::Global;
 use std::test::Fail;
@@ -155,10 +153,13 @@ fn host_writers_of_the_program(rt: HostRuntime) -> Result<(), Fail> {
 
 const LINES: &str = "host 0\nguest 16\nlower 0 0 stream:u8\nread 0 stream:u8 1 0 2\n";
 
-// The status and the text of these lines where one host writer produces these items and answers so.
-fn scripted(alloc: Global, items: Items, answer: Answer) -> Result<(u8, Vec<u8>), Fail>
-    requires { items.payload ≡ BYTE }
-{
+// The status and the text of these lines where one host writer produces this byte, or nothing, and
+// answers so.
+fn scripted(alloc: Global, byte: Option<u8>, answer: Answer) -> Result<(u8, Vec<u8>), Fail> {
+    let mut items = Items::new(alloc, BYTE);
+    if let Some(byte) = byte {
+        items.push(&byte.lower())?;
+    }
     let mut turns = Vec::new(alloc);
     turns.push(WriterTurn { items, answer })?;
     let writer = ScriptedWriter::new(alloc, TransmitKind::Stream, BYTE, turns);
@@ -172,9 +173,7 @@ fn scripted(alloc: Global, items: Items, answer: Answer) -> Result<(u8, Vec<u8>)
 
 #[test]
 fn a_host_writer_that_breaks_its_rules(rt: HostRuntime) -> Result<(), Fail> {
-    let mut items = Items::new(rt.alloc(), BYTE);
-    items.push(&7u8.lower())?;
-    let (status, text) = scripted(rt.alloc(), items, Answer::Pending)?;
+    let (status, text) = scripted(rt.alloc(), Some(7), Answer::Pending)?;
     assert_eq!(rt; status, 7);
     let expected = "0\n0\n1\nstopped 4 host-broke writer 0\n";
     assert!(rt; text.as_slice() == expected.as_bytes());
@@ -183,7 +182,7 @@ fn a_host_writer_that_breaks_its_rules(rt: HostRuntime) -> Result<(), Fail> {
 
 #[test]
 fn a_host_writer_that_fails(rt: HostRuntime) -> Result<(), Fail> {
-    let (status, text) = scripted(rt.alloc(), Items::new(rt.alloc(), BYTE), Answer::Failed)?;
+    let (status, text) = scripted(rt.alloc(), None, Answer::Failed)?;
     assert_eq!(rt; status, 6);
     let expected = "0\n0\n1\nstopped 4 host-failed writer 0\n";
     assert!(rt; text.as_slice() == expected.as_bytes());

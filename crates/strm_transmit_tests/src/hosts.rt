@@ -1,5 +1,9 @@
 //! Host writers by example: reads that they serve, drive rounds, cancels, and ends that go with them.
 
+ghost use Rattle.std.specs.Prelude.{◌≡◌, All};
+ghost use Rattle.strm_codes.specs.declared.payloads.Payload.TheVariants.{One};
+ghost use Rattle.strm_codes.specs.declared.scalars.Scalar.TheVariants.{U8};
+
 use crate::calls::no_hosts;
 use std::alloc::Global;
 use std::test::Fail;
@@ -33,13 +37,31 @@ const LIMITS: Limits = Limits {
 
 const GONE: ReturnCode = ReturnCode::Dropped(ItemCount::ZERO);
 
-// A turn of so many bytes, from one on.
-fn turn(alloc: Global, first: u8, count: u8, answer: Answer) -> Result<WriterTurn, Fail> {
-    let mut items = Items::new(alloc, BYTES);
-    for byte in 0..count {
-        items.push(&first.wrapping_add(byte).lower())?;
+// The turns of a host writer of bytes.
+#[derive(Drop)]
+struct Script {
+    turns: Vec<WriterTurn>,
+    alloc: Global,
+    ghost typed: { All (λ turn. turn.items.payload ≡ One U8) turns.items },
+}
+
+impl Script {
+    fn new(alloc: Global) -> Script {
+        Script {
+            turns: Vec::new(alloc),
+            alloc,
+        }
     }
-    Ok(WriterTurn { items, answer })
+
+    // A turn more: so many bytes, from one on.
+    fn then(mut self, first: u8, count: u8, answer: Answer) -> Result<Script, Fail> {
+        let mut items = Items::new(self.alloc, BYTES);
+        for byte in 0..count {
+            items.push(&first.wrapping_add(byte).lower())?;
+        }
+        self.turns.push(WriterTurn { items, answer })?;
+        Ok(self)
+    }
 }
 
 // So many items were moved.
@@ -48,11 +70,20 @@ fn counted(count: u32) -> ItemCount {
 }
 
 // A writer of these turns, at the end of the list.
-fn add_writer(alloc: Global, hosts: &mut Hosts, turns: Vec<WriterTurn>) -> Result<(), Fail> {
+fn add_writer(hosts: &mut Hosts, script: Script) -> Result<(), Fail> {
+    let Script { turns, alloc } = script;
     let writer = ScriptedWriter::new(alloc, TransmitKind::Stream, BYTES, turns);
     let writer: Box<dyn HostWriter> = Box::new(alloc, writer)?;
     hosts.writers.push(writer)?;
     Ok(())
+}
+
+// How many polls a writer recorded.
+fn records(hosts: &Hosts, number: usize) -> Option<usize> {
+    match hosts.writers.get(number) {
+        Some(writer) => Some(writer.records()),
+        None => None,
+    }
 }
 
 // A store with one guest.
@@ -116,11 +147,11 @@ fn first_wrong(
 fn reads_are_served(rt: HostRuntime) -> Result<(), Fail> {
     let alloc = rt.alloc();
     let mut hosts = no_hosts(alloc);
-    let mut turns = Vec::new(alloc);
-    turns.push(turn(alloc, 7, 3, Answer::Completed)?)?;
-    turns.push(turn(alloc, 0, 0, Answer::Pending)?)?;
-    turns.push(turn(alloc, 5, 1, Answer::Dropped)?)?;
-    add_writer(alloc, &mut hosts, turns)?;
+    let script = Script::new(alloc)
+        .then(7, 3, Answer::Completed)?
+        .then(0, 0, Answer::Pending)?
+        .then(5, 1, Answer::Dropped)?;
+    add_writer(&mut hosts, script)?;
     let mut store = one_guest(alloc).ok().ok_or("a guest")?;
     let rows = [
         (
@@ -157,9 +188,9 @@ fn reads_are_served(rt: HostRuntime) -> Result<(), Fail> {
     ];
     assert_eq!(rt; first_wrong(&mut store, &mut hosts, &rows), 0);
     let bytes = store.memory(0).ok_or("a memory")?;
-    assert_eq!(rt; bytes.split_at(4).0, [7, 8, 9, 5].as_slice());
+    assert!(rt; bytes.starts_with(&[7, 8, 9, 5]));
     assert_eq!(rt; store.moved(0), Some(4));
-    assert_eq!(rt; hosts.writers[0].records(), 3);
+    assert_eq!(rt; records(&hosts, 0), Some(3));
     Ok(())
 }
 
@@ -168,9 +199,8 @@ fn reads_are_served(rt: HostRuntime) -> Result<(), Fail> {
 fn held_items_come_first(rt: HostRuntime) -> Result<(), Fail> {
     let alloc = rt.alloc();
     let mut hosts = no_hosts(alloc);
-    let mut turns = Vec::new(alloc);
-    turns.push(turn(alloc, 1, 3, Answer::Dropped)?)?;
-    add_writer(alloc, &mut hosts, turns)?;
+    let script = Script::new(alloc).then(1, 3, Answer::Dropped)?;
+    add_writer(&mut hosts, script)?;
     let mut store = one_guest(alloc).ok().ok_or("a guest")?;
     let rows = [
         (Step::HostNew { host: 0 }, Ok(Reply::Number(0))),
@@ -186,7 +216,7 @@ fn held_items_come_first(rt: HostRuntime) -> Result<(), Fail> {
         (read(3, 2), Ok(Reply::Code(GONE))),
     ];
     assert_eq!(rt; first_wrong(&mut store, &mut hosts, &rows), 0);
-    assert_eq!(rt; hosts.writers[0].records(), 1);
+    assert_eq!(rt; records(&hosts, 0), Some(1));
     Ok(())
 }
 
@@ -195,10 +225,10 @@ fn held_items_come_first(rt: HostRuntime) -> Result<(), Fail> {
 fn a_cancel_asks_to_finish(rt: HostRuntime) -> Result<(), Fail> {
     let alloc = rt.alloc();
     let mut hosts = no_hosts(alloc);
-    let mut turns = Vec::new(alloc);
-    turns.push(turn(alloc, 0, 0, Answer::Pending)?)?;
-    turns.push(turn(alloc, 0, 0, Answer::Cancelled)?)?;
-    add_writer(alloc, &mut hosts, turns)?;
+    let script = Script::new(alloc)
+        .then(0, 0, Answer::Pending)?
+        .then(0, 0, Answer::Cancelled)?;
+    add_writer(&mut hosts, script)?;
     let mut store = one_guest(alloc).ok().ok_or("a guest")?;
     let cancelled = ReturnCode::Cancelled(ItemCount::ZERO);
     let rows = [
@@ -221,12 +251,10 @@ fn a_cancel_asks_to_finish(rt: HostRuntime) -> Result<(), Fail> {
 fn a_poll_that_stops(rt: HostRuntime) -> Result<(), Fail> {
     let alloc = rt.alloc();
     let mut hosts = no_hosts(alloc);
-    let mut turns = Vec::new(alloc);
-    turns.push(turn(alloc, 1, 1, Answer::Failed)?)?;
-    add_writer(alloc, &mut hosts, turns)?;
-    let mut turns = Vec::new(alloc);
-    turns.push(turn(alloc, 1, 1, Answer::Pending)?)?;
-    add_writer(alloc, &mut hosts, turns)?;
+    let script = Script::new(alloc).then(1, 1, Answer::Failed)?;
+    add_writer(&mut hosts, script)?;
+    let script = Script::new(alloc).then(1, 1, Answer::Pending)?;
+    add_writer(&mut hosts, script)?;
     let end = HostEnd::Writer(0);
     let failing = [
         (Step::HostNew { host: 0 }, Ok(Reply::Number(0))),
@@ -256,10 +284,10 @@ fn a_round_goes_by_streams(rt: HostRuntime) -> Result<(), Fail> {
     let alloc = rt.alloc();
     let mut hosts = no_hosts(alloc);
     for first in 0..2u8 {
-        let mut turns = Vec::new(alloc);
-        turns.push(turn(alloc, 0, 0, Answer::Pending)?)?;
-        turns.push(turn(alloc, first, 1, Answer::Failed)?)?;
-        add_writer(alloc, &mut hosts, turns)?;
+        let script = Script::new(alloc)
+            .then(0, 0, Answer::Pending)?
+            .then(first, 1, Answer::Failed)?;
+        add_writer(&mut hosts, script)?;
     }
     let mut store = one_guest(alloc).ok().ok_or("a guest")?;
     let lower = Step::Lower {
@@ -285,8 +313,8 @@ fn a_round_goes_by_streams(rt: HostRuntime) -> Result<(), Fail> {
         (Step::Drive, Err(StoreError::HostFailed { end })),
     ];
     assert_eq!(rt; first_wrong(&mut store, &mut hosts, &rows), 0);
-    assert_eq!(rt; hosts.writers[0].records(), 1);
-    assert_eq!(rt; hosts.writers[1].records(), 2);
+    assert_eq!(rt; records(&hosts, 0), Some(1));
+    assert_eq!(rt; records(&hosts, 1), Some(2));
     Ok(())
 }
 
@@ -295,9 +323,8 @@ fn a_round_goes_by_streams(rt: HostRuntime) -> Result<(), Fail> {
 fn a_close_takes_the_writer_along(rt: HostRuntime) -> Result<(), Fail> {
     let alloc = rt.alloc();
     let mut hosts = no_hosts(alloc);
-    let mut turns = Vec::new(alloc);
-    turns.push(turn(alloc, 1, 1, Answer::Completed)?)?;
-    add_writer(alloc, &mut hosts, turns)?;
+    let script = Script::new(alloc).then(1, 1, Answer::Completed)?;
+    add_writer(&mut hosts, script)?;
     let mut store = one_guest(alloc).ok().ok_or("a guest")?;
     let rows = [
         (Step::HostNew { host: 0 }, Ok(Reply::Number(0))),
@@ -310,6 +337,6 @@ fn a_close_takes_the_writer_along(rt: HostRuntime) -> Result<(), Fail> {
     ];
     assert_eq!(rt; first_wrong(&mut store, &mut hosts, &rows), 0);
     assert_eq!(rt; store.transmit_index(0), None);
-    assert_eq!(rt; hosts.writers[0].records(), 0);
+    assert_eq!(rt; records(&hosts, 0), Some(0));
     Ok(())
 }
