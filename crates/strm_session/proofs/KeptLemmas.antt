@@ -1,7 +1,10 @@
 -- What the laws of every run among host ends say of one that came to its end, or stopped.
 use Rattle.std.proofs.Common.{◌≡◌, ℕ, ◌≤◌, List, [], length, take, arith}
 use Rattle.std.proofs.lemmas.List.{length-take}
+use Rattle.std.specs.Prelude.{All}
 use Rattle.strm_buffers.specs.Tells.{Tells}
+use Rattle.strm_laws.specs.Laws.{HasBytes, AreSteps}
+use Rattle.strm_laws.proofs.LawfulRuns.{AreSteps-take}
 use Rattle.strm_machine.specs.declared.steps.Step.{Step}
 use Rattle.strm_machine.specs.declared.replies.Reply.{Reply}
 use Rattle.strm_world.specs.World.{World}
@@ -12,26 +15,26 @@ use Rattle.strm_session.specs.declared.runs.RunCause.{RunCause}
 
 -- the laws of whichever steps from this world
 abbrev pub LawsAmong : World → Type 0
-LawsAmong first = (steps : List Step) → length steps ≤ 4294967295 → HasLawsAmong first (host_moments first steps) (last_of first (host_moments first steps))
+LawsAmong first = (steps : List Step) → AreSteps steps → HasLawsAmong first (host_moments first steps) (last_of first (host_moments first steps))
 
 -- the moments of a run lead to its end
 abbrev pub LeadsAmong : World → Type 0
 LeadsAmong first = (steps : List Step) (replies : List Reply) (end : World) → play [] first steps ≡ Ends replies end → last_of first (host_moments first steps) ≡ end
 
+-- the first of some steps
+pub are_first : (steps : List Step) (n : ℕ) → length steps ≤ 4294967295 → All HasBytes (take n steps) → AreSteps (take n steps)
+are_first steps n few bytes = record { few = omega (arith, few, length-take n steps); bytes = bytes }
+
 module _ (first : World) (laws : LawsAmong first) (leads : LeadsAmong first) where
-  pub kept_among : (steps : List Step) (replies : List Reply) (end : World) → length steps ≤ 4294967295 → play [] first steps ≡ Ends replies end → IsKeptAmong first steps end
-  kept_among steps replies end few e = record {
+  pub kept_among : (steps : List Step) (replies : List Reply) (end : World) → AreSteps steps → play [] first steps ≡ Ends replies end → IsKeptAmong first steps end
+  kept_among steps replies end a e = record {
     ends = leads steps replies end e;
-    laws = λ n. laws (take n steps) (omega (arith, few, length-take n steps));
+    laws = λ n. laws (take n steps) (AreSteps-take steps n a);
   }
 
-  pub kept_before : (steps : List Step) (told : List Reply) (world : World) → length steps ≤ 4294967295 → play [] first (take (length told) steps) ≡ Ends told world → IsKeptBefore first steps told
-  kept_before steps told world few e = record {
-    world = world;
-    before = e;
-    kept = kept_among (take (length told) steps) told world (omega (arith, few, length-take (length told) steps)) e;
-  }
+  pub kept_before : (steps : List Step) (told : List Reply) (world : World) → AreSteps (take (length told) steps) → play [] first (take (length told) steps) ≡ Ends told world → IsKeptBefore first steps told
+  kept_before steps told world a e = record { world = world; before = e; kept = kept_among (take (length told) steps) told world a e }
 
 -- a run that stops has kept them before
-pub stop_kept : (old new : Tells) → LawsAmong (start_among old new) → LeadsAmong (start_among old new) → (steps : List Step) (told : List Reply) (cause : RunCause) → length steps ≤ 4294967295 → StopsAmong old new steps told cause → IsKeptBefore (start_among old new) steps told
-stop_kept old new laws leads steps told cause few s = kept_before (start_among old new) laws leads steps told s.world few s.before
+pub stop_kept : (old new : Tells) → LawsAmong (start_among old new) → LeadsAmong (start_among old new) → (steps : List Step) (told : List Reply) (cause : RunCause) → AreSteps (take (length told) steps) → StopsAmong old new steps told cause → IsKeptBefore (start_among old new) steps told
+stop_kept old new laws leads steps told cause a s = kept_before (start_among old new) laws leads steps told s.world a s.before

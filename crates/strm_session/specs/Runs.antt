@@ -22,12 +22,12 @@ use Rattle.strm_machine.specs.declared.stops.Stop.{Stop}
 use Rattle.strm_machine.specs.declared.stops.Stop.TheVariants as stops
 use Rattle.strm_buffers.specs.Tells.{Tells, Rose}
 use Rattle.strm_machine.specs.Hosting.{HostsHold}
-use Rattle.strm_world.specs.World.{World, writer_at}
+use Rattle.strm_world.specs.World.{World, writer_at, stream_in}
 use Rattle.strm_world.specs.HostPlays.{play as play_among}
 use Rattle.strm_world.specs.HostPlays as world_plays
 use Rattle.strm_world.specs.Does.{saids, world_of, faults_of, StopsWith}
 use Rattle.strm_host_laws.specs.HostMoments.{HostMoment, host_moments, last_of}
-use Rattle.strm_host_laws.specs.HostLaws.{ClosesExactly, GoesOn as WriterGoesOn, Supplies, DeliversAll}
+use Rattle.strm_host_laws.specs.HostLaws.{ClosesExactly, GoesOn as WriterGoesOn, Supplies, DeliversAll, is_hosted, plains}
 use Rattle.strm_session.specs.declared.runs.RunCause.{RunCause}
 use Rattle.strm_session.specs.declared.runs.RunCause.TheVariants as causes
 
@@ -91,19 +91,37 @@ pub record IsKept (steps : List Step) (replies : List Reply) (end : State) : Typ
 
 -- the laws of a run from this world with these moments, which ends here: exactly the host writers that
 -- became gone were closed; each used its records in order and heard exactly the feeds to it; what each
--- produced is received in order, held, or given up at its end, if its records are of items; handles and
--- ends agree, one handle an end; members of sets are live; error contexts count their handles; and the
--- state is sound, host writers and their streams agree in it
-pub record HasLawsAmong (first : World) (all : List HostMoment) (end : World) : Type 0 where
+-- produced is received in order, held, or given up at its end, if its records are of items
+pub record HasHostLaws (first : World) (all : List HostMoment) (end : World) : Type 0 where
   pub closes : ClosesExactly first end.state end.writers
   pub goes_on : (n : ℕ) → WriterGoesOn n all (writer_at first n) (writer_at end n)
   pub delivers : ((n : ℕ) → Supplies (writer_at first n)) → (s : ℕ) → DeliversAll s all end
+  pub hosts : HostsHold end.state
+
+-- on each stream that no host writer made what was received is what was handed over, and what both ends
+-- report; a read or write that waits has moved what it says, and one that has not met nothing; a future
+-- passes one item at most
+pub record HasStreamLaws (s : ℕ) (all : List HostMoment) (end : World) : Type 0 where
+  pub conserves : Conserves s (plains all) end.state
+  pub stands : (side : Side) →
+      Stands (stream_in end s).payload (waiting s side end.state) (calls s side (plains all))
+  pub passes_one : (stream_in end s).kind ≡ Future → length (got s (plains all)) ≤ 1
+  pub unmoved : AreUnmoved (stream_in end s)
+
+-- those, and: never are two sides open, and no guest writes on a host writer's stream; the items of each
+-- operation are a count; handles and ends agree, one handle an end; members of sets are live; error
+-- contexts count their handles; and the state is sound
+pub record HasLawsAmong (first : World) (all : List HostMoment) (end : World) : Type 0 where
+  pub host : HasHostLaws first all end
+  pub streams : (s : ℕ) → is_hosted s all ≡ false → HasStreamLaws s all end
+  pub apart : (s : ℕ) → both_open (stream_in end s) ≡ false
+  pub idle : (s : ℕ) → is_hosted s all ≡ true → (stream_in end s).writer.operation ≡ None
+  pub counted : (s : ℕ) → AreCounted (stream_in end s)
   pub hold : HandlesHold end.state
   pub single : HandlesAreSingle end.state
   pub members : MembersAreLive end.state
   pub contexts : ContextsCount end.state
   pub sound : IsSound end.state
-  pub hosts : HostsHold end.state
 
 -- a run of these steps leads from one world to the other, and the laws hold after each step, the last one
 -- too

@@ -99,7 +99,10 @@ pub fn run(alloc: Global, steps: &[Step], hosts: &mut Hosts) -> Result<Transcrip
     ensures at { IfErr result (λ stop. stop.at ≡ next_step stop.replies) }
 
     // After each step, among whichever host writers: exactly those that became gone were closed, each
-    // used its records in order and heard exactly the feeds to it; and the other laws of every run.
+    // used its records in order, and what it produced is received, held, or given up at its end. On each
+    // stream that no host writer made, what was received is, in order, the first k items of each accepted
+    // write, k the count reported, each as it lay in the writer's memory just before it was copied; the
+    // reads report as many; and the other laws of every run.
     ensures kept_among { IfOk result (λ t. IsKeptAmong (start_among (tells_of writer_tells reader_tells hosts.old) (tells_of writer_tells reader_tells hosts.new))
         steps.now (spent t.store (tells_of writer_tells reader_tells hosts.new))) }
     ensures kept_before { IfErr result (λ stop. IsKeptBefore (start_among (tells_of writer_tells reader_tells hosts.old) (tells_of writer_tells reader_tells hosts.new))
@@ -110,9 +113,7 @@ pub fn run(alloc: Global, steps: &[Step], hosts: &mut Hosts) -> Result<Transcrip
     ensures stop_alone { AreOfGuests steps.now → IfErr result (λ stop. StopsBy steps.now stop.replies stop.cause) }
     ensures hosts { AreOfGuests steps.now → (tells_of writer_tells reader_tells hosts.new) ≡ (tells_of writer_tells reader_tells hosts.old) }
 
-    // After each step of guests alone: on each stream, what was received is, in order, the first k items
-    // of each accepted write, k the count reported, each as it lay in the writer's memory just before it
-    // was copied; the reads report as many; and the other laws of every run.
+    // After each step of guests alone these laws hold of all streams, and other bytes stay.
     ensures kept { AreOfGuests steps.now → IfOk result (λ t. IsKept steps.now t.replies t.store) }
 
     // A bad item stops it at the step that asks for it, and nothing else but want of memory does.
@@ -157,7 +158,7 @@ fn laws_hold()
 
 // What the laws say of every run among host ends. It does nothing.
 fn laws_hold_among()
-    ensures laws { (old new : Tells) (steps : List Step) → length steps ≤ 4294967295 → HasLawsAmong (start_among old new)
+    ensures laws { (old new : Tells) (steps : List Step) → AreSteps steps → HasLawsAmong (start_among old new)
         (host_moments (start_among old new) steps)
         (last_of (start_among old new) (host_moments (start_among old new) steps)) }
     ensures leads { (old new : Tells) (steps : List Step) (replies : List Reply) (end : World) →
@@ -168,6 +169,11 @@ fn laws_hold_among()
     runs::ends_close_exactly();
     runs::writers_are_fed_exactly();
     runs::producers_deliver_in_order();
+    guests::conservation();
+    guests::futures_pass_one();
+    guests::never_two_open();
+    guests::unmet_has_moved_none();
+    guests::totals_are_counts();
     guests::states_are_sound();
     guests::handles_hold_their_ends();
     guests::members_are_live();

@@ -1,16 +1,27 @@
 use Rattle.strm_session.proofs.runs.laws_hold_among.Goals as goal
 
 pub returns-clause-laws : goal.returns-clause-laws
-returns-clause-laws c = λ old new steps few. record {
-  closes = c.ends_close_exactly.ensures.moments 0 _ old new steps;
-  goes_on = λ n. c.writers_are_fed_exactly.ensures _ steps n;
-  delivers = λ supplies s. c.producers_deliver_in_order.ensures 0 _ old new steps s supplies few;
+returns-clause-laws c = λ old new steps a. record {
+  host = record {
+    closes = c.ends_close_exactly.ensures.moments 0 _ old new steps;
+    goes_on = λ n. c.writers_are_fed_exactly.ensures _ steps n;
+    delivers = λ supplies s. c.producers_deliver_in_order.ensures 0 _ old new steps s supplies a.few;
+    hosts = c.states_are_sound.ensures.hosts 0 _ old new steps;
+  };
+  streams = λ s none. record {
+    conserves = c.conservation.ensures.conserves 0 _ old new steps s a none;
+    stands = λ side. c.conservation.ensures.stands 0 _ old new steps s side a none;
+    passes_one = c.futures_pass_one.ensures 0 _ old new steps s a none;
+    unmoved = c.unmet_has_moved_none.ensures 0 _ old new steps s a none;
+  };
+  apart = λ s. c.never_two_open.ensures.apart 0 _ old new steps s a;
+  idle = λ s. c.never_two_open.ensures.idle 0 _ old new steps s a;
+  counted = λ s. c.totals_are_counts.ensures 0 _ old new steps s;
   hold = c.handles_hold_their_ends.ensures.holds 0 _ old new steps;
   single = c.handles_hold_their_ends.ensures.single 0 _ old new steps;
   members = c.members_are_live.ensures 0 _ old new steps;
   contexts = c.contexts_count_their_handles.ensures 0 _ old new steps;
   sound = c.states_are_sound.ensures.sound 0 _ old new steps;
-  hosts = c.states_are_sound.ensures.hosts 0 _ old new steps;
 }
 
 pub returns-clause-leads : goal.returns-clause-leads

@@ -2,11 +2,11 @@ use Rattle.std.proofs.Common.{◌≡◌, ◌+◌, [], Err, length, take, sym, su
 use Rattle.std.specs.Prelude.{All, IfOk, IfErr}
 use Rattle.std.proofs.lemmas.List.{take_all, append-nil}
 use Rattle.std.proofs.lemmas.Result.{IfErr-weaker, IfOk-weaker}
-use Rattle.strm_laws.specs.Laws.{HasBytes}
+use Rattle.strm_laws.specs.Laws.{HasBytes, AreSteps}
 use Rattle.strm_machine.specs.Plays.{play, Ends}
 use Rattle.strm_session.specs.Runs.{start, AreOfGuests}
 use Rattle.strm_session.proofs.AmongLemmas.{stops_behind}
-use Rattle.strm_session.proofs.KeptLemmas.{kept_among, stop_kept}
+use Rattle.strm_session.proofs.KeptLemmas.{are_first, kept_among, stop_kept}
 use Rattle.strm_session.proofs.LawLemmas.{run_kept, front_kept}
 use Rattle.strm_session.proofs.StopLemmas.{answers-in, answers-items}
 use Rattle.strm_session.proofs.runs.run.Goals as goal
@@ -22,19 +22,23 @@ returns-in-Ok-clause-stop g c =
 
 pub returns-in-Err-clause-kept_before : goal.returns-in-Err-clause-kept_before
 returns-in-Err-clause-kept_before g c =
-    rw c.stopped.ensures (stop_kept _ _ (c.laws_hold_among.ensures.laws _ _) (c.laws_hold_among.ensures.leads _ _) c.args.steps.now c.play_steps.new.replies _ c.requires.few c.in-Err.ensures.stop)
+    rw c.stopped.ensures (stop_kept _ _ (c.laws_hold_among.ensures.laws _ _) (c.laws_hold_among.ensures.leads _ _) c.args.steps.now c.play_steps.new.replies _
+    (are_first c.args.steps.now (length c.play_steps.new.replies) c.requires.few c.in-Err.ensures.bytes) c.in-Err.ensures.stop)
 
 pub returns-in-Ok-clause-kept_before : goal.returns-in-Ok-clause-kept_before
 returns-in-Ok-clause-kept_before g c =
     IfErr-weaker c.finished.result _ _
-    (λ stop e. rw e (stop_kept _ _ (c.laws_hold_among.ensures.laws _ _) (c.laws_hold_among.ensures.leads _ _) c.args.steps.now c.play_steps.new.replies _ c.requires.few
+    (λ stop e. rw e (stop_kept _ _ (c.laws_hold_among.ensures.laws _ _) (c.laws_hold_among.ensures.leads _ _) c.args.steps.now c.play_steps.new.replies _
+    (are_first c.args.steps.now (length c.play_steps.new.replies) c.requires.few c.in-Ok.ensures.bytes)
     (stops_behind _ _ c.args.steps.now c.play_steps.new.replies c.play_steps.new.store c.in-Ok.ensures.all c.in-Ok.ensures.ok)))
     c.finished.ensures.stop
 
 pub returns-in-Ok-clause-kept_among : goal.returns-in-Ok-clause-kept_among
 returns-in-Ok-clause-kept_among g c =
+    let all = take_all (length c.play_steps.new.replies) c.args.steps.now (omega (arith, c.in-Ok.ensures.all)) in
+    let a : AreSteps c.args.steps.now = record { few = c.requires.few; bytes = subst (All HasBytes) all c.in-Ok.ensures.bytes } in
     IfOk-weaker c.finished.result _ _
-    (λ t e. rw e.1 (kept_among _ (c.laws_hold_among.ensures.laws _ _) (c.laws_hold_among.ensures.leads _ _) c.args.steps.now c.play_steps.new.replies _ c.requires.few c.in-Ok.ensures.ok))
+    (λ t e. rw e.1 (kept_among _ (c.laws_hold_among.ensures.laws _ _) (c.laws_hold_among.ensures.leads _ _) c.args.steps.now c.play_steps.new.replies _ a c.in-Ok.ensures.ok))
     c.finished.ensures.ok
 
 pub returns-in-Err-clause-stop_alone : goal.returns-in-Err-clause-stop_alone
