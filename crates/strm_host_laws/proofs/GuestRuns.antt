@@ -1,18 +1,15 @@
 -- Every run with host writers: what its states keep of each stream, and the account of each that no host writer
 -- made.
-use Rattle.std.proofs.Common.{◌≡◌, ℕ, suc, ◌+◌, ◌-◌, ◌*◌, ◌^◌, ◌<◌, ◌≤◌, ◌||◌, ◌&&◌, Bool, true, false, cond, List, [], ◌∷◌, ◌++◌, length, map, None, refl, sym, ap, subst, ◌∙◌, inl, inr, arith, append-nil, append_assoc}
+use Rattle.std.proofs.Common.{◌≡◌, ℕ, ◌+◌, ◌-◌, ◌*◌, ◌^◌, ◌<◌, ◌≤◌, ◌==◌, ◌||◌, ◌&&◌, Bool, true, false, cond, List, [], ◌∷◌, ◌++◌, length, None, refl, sym, ap, subst, ◌∙◌, inl, inr, arith, append-nil, append_assoc}
 use Rattle.std.specs.Prelude.{All, IsSome}
 use Rattle.std.proofs.lemmas.Bool.{cases_lt, le-ltb, or_parts}
 use Rattle.std.proofs.lemmas.List.{map-append}
-use Rattle.std.proofs.lemmas.List.Elements.{All-nil, All-append, All-head, All-tail}
+use Rattle.std.proofs.lemmas.List.Elements.{All-nil, All-append}
 use Rattle.strm_codes.specs.declared.codes.TransmitKind.{TransmitKind}
 use Rattle.strm_codes.specs.declared.codes.TransmitKind.TheVariants.{Future}
-use Rattle.strm_machine.specs.Acts.{act_of}
-use Rattle.strm_machine.specs.Moments.{Moment, PutsBytes, received, got_in}
+use Rattle.strm_machine.specs.Moments.{Moment, received, got_in}
 use Rattle.strm_machine.specs.State.{State, empty, stream_at}
 use Rattle.strm_machine.specs.Soundness.{AreUnmoved, is_opened, both_open}
-use Rattle.strm_machine.specs.declared.acts.Act.{Act}
-use Rattle.strm_machine.specs.declared.acts.Act.TheVariants.{Drive}
 use Rattle.strm_machine.specs.declared.limits.Limits.{Limits}
 use Rattle.strm_machine.specs.declared.steps.Step.{Step}
 use Rattle.strm_machine.specs.declared.streams.Side.{Side}
@@ -25,86 +22,22 @@ use Rattle.strm_machine.proofs.MomentLemmas.{Untold}
 use Rattle.strm_machine.proofs.TallyLemmas.{received_one}
 use Rattle.strm_buffers.specs.Tells.{Tells}
 use Rattle.strm_world.specs.World.{World}
-use Rattle.strm_world.specs.Outcomes.{Outcome, Goes, Stops, Stuck}
-use Rattle.strm_world.specs.Driving.{round_of}
 use Rattle.strm_world.specs.Does.{start}
 use Rattle.strm_laws.specs.Conservation.{calls, writes, got, all_handed}
-use Rattle.strm_laws.specs.Laws.{HasBytes, AreSteps, total, waiting, moved_at, IsAsked, Conserves, Stands}
+use Rattle.strm_laws.specs.Laws.{AreSteps, total, waiting, moved_at, IsAsked, Conserves, Stands}
 use Rattle.strm_laws.proofs.Calls.{calls-push, all_reported-push, got-push}
 use Rattle.strm_laws.proofs.Handed.{length-all_handed}
 use Rattle.strm_laws.proofs.Kept.{kind_at, Kept}
 use Rattle.strm_laws.proofs.KeptChanges.{keeps}
 use Rattle.strm_laws.proofs.Conserved.{IsQuiet, Account}
-use Rattle.strm_host_laws.specs.HostMoments.{Part, Acts, Turns, HostMoment, parts_of, part_on, followed, acted, host_moments, last_of}
+use Rattle.strm_host_laws.specs.HostMoments.{Part, Acts, Turns, HostMoment, host_moments, last_of}
 use Rattle.strm_host_laws.specs.HostLaws.{plain, plains, is_made_by, is_hosted}
 use Rattle.strm_host_laws.proofs.Chains.{Chain, moments-chain}
+use Rattle.strm_host_laws.proofs.StepsLeft.{left_after, Pays, Costs, moments_cost}
 use Rattle.strm_host_laws.proofs.Effects.{Effect, follows_effect}
 use Rattle.strm_host_laws.proofs.Standing.{Holds, Holds-effect, Holds-empty}
 use Rattle.strm_host_laws.proofs.PartsSeen.{IsHosted, effect_hosted}
 use Rattle.strm_host_laws.proofs.GuestsSeen.{IsGuests, SeenIn, guests_after, effect_in, effect_makes, PutsPart, effect_bytes}
-
--- ## Steps of a run
-
--- a step takes one of so many, and a turn of a drive round none
-abbrev pub left_after : Part → ℕ → ℕ
-left_after (Acts act) n = n - 1
-left_after (Turns s) n = n
-
--- one more can be done, and puts bytes
-abbrev pub Pays : Part → ℕ → Type 0
-Pays (Acts act) n = (0 < n) × PutsBytes act
-Pays (Turns s) n = Unit {0}
-
--- these moments are of so many steps
-abbrev pub Costs : List HostMoment → ℕ → Type 0
-Costs [] n = Unit {0}
-Costs (m ∷ more) n = Pays m.part n × Costs more (left_after m.part n)
-
-costs_more : (all : List HostMoment) (n k : ℕ) → n ≤ k → Costs all n → Costs all k
-costs_more [] n k l c = tt
-costs_more (m ∷ more) n k l c = (pays m.part c.0, costs_more more (left_after m.part n) (left_after m.part k) (left m.part) c.1)
-  where
-    pays : (part : Part) → Pays part n → Pays part k
-    pays (Acts act) p = (omega (arith, l, p.0), p.1)
-    pays (Turns s) p = tt
-
-    left : (part : Part) → left_after part n ≤ left_after part k
-    left (Acts act) = omega (arith, l)
-    left (Turns s) = l
-
-abbrev Next : Type 0
-Next = World → List HostMoment
-
-abbrev AllCost : Next → ℕ → Type 0
-AllCost next n = (v : World) → Costs (next v) n
-
-act_costs : (world : World) (act : Act) (o : Outcome) (next : Next) (n : ℕ) → PutsBytes act → AllCost next n → Costs (followed world (Acts act) o next) (suc n)
-act_costs world act (Goes reply v) next n p h = let less : n ≡ suc n - 1 = omega arith in ((omega arith, p), subst (Costs (next v)) less (h v))
-act_costs world act (Stops stop writers readers) next n p h = tt
-act_costs world act Stuck next n p h = tt
-
-turn_costs : (world : World) (s : ℕ) (o : Outcome) (next : Next) (n : ℕ) → AllCost next n → Costs (followed world (Turns s) o next) n
-turn_costs world s (Goes reply v) next n h = (tt, h v)
-turn_costs world s (Stops stop writers readers) next n h = tt
-turn_costs world s Stuck next n h = tt
-
-turns_cost : (world : World) (xs : List ℕ) (next : Next) (n : ℕ) → AllCost next n → Costs (acted world (map Turns xs) next) n
-turns_cost world [] next n h = h world
-turns_cost world (s ∷ xs) next n h = turn_costs world s (part_on world (Turns s)) (λ v. acted v (map Turns xs) next) n (λ v. turns_cost v xs next n h)
-
-parts_cost : (world : World) (act : Act) (next : Next) (n : ℕ) → PutsBytes act → AllCost next n → Costs (acted world (parts_of world act) next) (suc n)
-parts_cost world Drive next n p h = turns_cost world (round_of world) next (suc n) (λ v. costs_more (next v) n (suc n) (omega arith) (h v))
-parts_cost world act next n p h = act_costs world act (part_on world (Acts act)) (λ v. acted v [] next) n p h
-
-step_costs : (world : World) (act : Act) (next : Next) (n : ℕ) (b : Bool) → PutsBytes act → AllCost next n → Costs (acted world (cond b (Acts act ∷ []) (parts_of world act)) next) (suc n)
-step_costs world act next n true p h = act_costs world act (part_on world (Acts act)) (λ v. acted v [] next) n p h
-step_costs world act next n false p h = parts_cost world act next n p h
-
-moments_cost : (world : World) (run : List Step) → All HasBytes run → Costs (host_moments world run) (length run)
-moments_cost world [] b = tt
-moments_cost world (step ∷ more) b =
-    step_costs world (act_of step) (λ v. host_moments v more) (length more) world.state.trapped (All-head HasBytes step more b)
-    (λ v. moments_cost v more (All-tail HasBytes step more b))
 
 -- ## One moment more
 
@@ -175,14 +108,14 @@ pub record RunKeeps (s : ℕ) (all : List HostMoment) (state : State) (n : ℕ) 
   pub accounts : is_hosted s all ≡ false → (side : Side) → Account s side (plains all) state
   pub whole : is_hosted s all ≡ false → All IsSome (got s (plains all))
 
-module _ (s : ℕ) (all : List HostMoment) (m : HostMoment) (n : ℕ) (pays : Pays m.part n) (k : RunKeeps s all m.before.state n) (effect : Effect m.before.state m.part m.reply m.after.state) where
+module _ (s : ℕ) (all : List HostMoment) (m : HostMoment) (n : ℕ) (pays : Pays s m.part n) (k : RunKeeps s all m.before.state n) (effect : Effect m.before.state m.part m.reply m.after.state) where
   abbrev old : State
   old = m.before.state
 
   abbrev new : State
   new = m.after.state
 
-  puts : (part : Part) → Pays part n → PutsPart part
+  puts : (part : Part) → Pays s part n → PutsPart part
   puts (Acts act) p = p.1
   puts (Turns j) p = tt
 
@@ -190,11 +123,15 @@ module _ (s : ℕ) (all : List HostMoment) (m : HostMoment) (n : ℕ) (pays : Pa
   seen_next : is_hosted s all ≡ false → is_made_by s m.part m.reply ≡ false → SeenIn old m.part m.reply new s
   seen_next h u =
       effect_in old new m.reply s k.holds k.bytes (k.guests h) m.part u
-      (λ act e. let paid : Pays (Acts act) n = subst (λ p. Pays p n) e pays in omega (arith, paid.0, k.room h)) effect
+      (λ act e. let paid : Pays s (Acts act) n = subst (λ p. Pays s p n) e pays in omega (arith, paid.0, k.room h)) effect
 
-  room_next : (part : Part) → Pays part n → received s old + 2 ^ 28 * n < 2 ^ 128 → received s new ≤ received s old + 2 ^ 28 → ((j : ℕ) → part ≡ Turns j → received s new ≡ received s old) → received s new + 2 ^ 28 * left_after part n < 2 ^ 128
+  room_next : (part : Part) → Pays s part n → received s old + 2 ^ 28 * n < 2 ^ 128 → received s new ≤ received s old + 2 ^ 28 → ((j : ℕ) → part ≡ Turns j → received s new ≡ received s old) → received s new + 2 ^ 28 * left_after s part n < 2 ^ 128
   room_next (Acts act) p r most still = omega (arith, p.0, r, most)
-  room_next (Turns j) p r most still = omega (arith, r, still j refl)
+  room_next (Turns j) p r most still = less (j == s)
+    where
+      less : (b : Bool) → received s new + 2 ^ 28 * cond b (n - 1) n < 2 ^ 128
+      less true = omega (arith, r, still j refl)
+      less false = omega (arith, r, still j refl)
 
   before_is : (b : Bool) → is_hosted s (all ++ m ∷ []) ≡ b → (is_hosted s all || is_made_by s m.part m.reply) ≡ b
   before_is b e = sym (is_hosted-push s all m) ∙ e
@@ -221,7 +158,7 @@ module _ (s : ℕ) (all : List HostMoment) (m : HostMoment) (n : ℕ) (pays : Pa
         (subst (All IsSome) (sym (got-push s (plains all) (plain m)))
         (All-append IsSome (got s (plains all)) (got_in s (plain m)) (k.whole parts.0) seen.seen.whole))
 
-  keeps_next : RunKeeps s (all ++ m ∷ []) new (left_after m.part n)
+  keeps_next : RunKeeps s (all ++ m ∷ []) new (left_after s m.part n)
   keeps_next = record {
     holds = Holds-effect old new m.reply k.holds m.part effect;
     bytes = effect_bytes old new m.part m.reply k.holds (puts m.part pays) k.bytes effect;
@@ -235,19 +172,19 @@ module _ (s : ℕ) (all : List HostMoment) (m : HostMoment) (n : ℕ) (pays : Pa
 -- ## Every run
 
 -- the steps to come after these moments
-abbrev pub left_at : List HostMoment → ℕ → ℕ
-left_at [] n = n
-left_at (m ∷ more) n = left_at more (left_after m.part n)
+abbrev pub left_at : ℕ → List HostMoment → ℕ → ℕ
+left_at s [] n = n
+left_at s (m ∷ more) n = left_at s more (left_after s m.part n)
 
-keeps_from : (s : ℕ) (all : List HostMoment) (w : World) (more : List HostMoment) (n : ℕ) → Chain w more → Costs more n → RunKeeps s all w.state n → RunKeeps s (all ++ more) (last_of w more).state (left_at more n)
+keeps_from : (s : ℕ) (all : List HostMoment) (w : World) (more : List HostMoment) (n : ℕ) → Chain w more → Costs s more n → RunKeeps s all w.state n → RunKeeps s (all ++ more) (last_of w more).state (left_at s more n)
 keeps_from s all w [] n c p k = rw (append-nil all) k
 keeps_from s all w (m ∷ more) n c p k =
     let f = c.0 in
     let here : RunKeeps s all m.before.state n = subst (λ (v : World). RunKeeps s all v.state n) (sym f.begins) k in
     let effect : Effect m.before.state m.part m.reply m.after.state =
     subst (λ (v : World). Effect v.state m.part m.reply m.after.state) (sym f.begins) (follows_effect w m f k.holds.hosts.unpiped) in
-    let next = keeps_from s (all ++ m ∷ []) m.after more (left_after m.part n) c.1 p.1 (keeps_next s all m n p.0 here effect) in
-    subst (λ l. RunKeeps s l (last_of m.after more).state (left_at more (left_after m.part n))) (append_assoc all (m ∷ []) more) next
+    let next = keeps_from s (all ++ m ∷ []) m.after more (left_after s m.part n) c.1 p.1 (keeps_next s all m n p.0 here effect) in
+    subst (λ l. RunKeeps s l (last_of m.after more).state (left_at s more (left_after s m.part n))) (append_assoc all (m ∷ []) more) next
 
 -- ## At first
 
@@ -277,8 +214,8 @@ module _ (tag : ℕ) (limits : Limits) (tells told : Tells) (run : List Step) (s
   abbrev end_state : State
   end_state = (last_of first all_moments).state
 
-  run_keeps : RunKeeps s all_moments end_state (left_at all_moments (length run))
-  run_keeps = keeps_from s [] first all_moments (length run) (moments-chain first run) (moments_cost first run a.bytes) (keeps_empty s tag limits run a)
+  run_keeps : RunKeeps s all_moments end_state (left_at s all_moments (length run))
+  run_keeps = keeps_from s [] first all_moments (length run) (moments-chain first run) (moments_cost s first run a.bytes) (keeps_empty s tag limits run a)
 
   -- no stream has an open write and an open read
   pub apart : both_open (stream_at end_state s) ≡ false

@@ -11,7 +11,9 @@ pub mod Standing
 pub mod SeenSteps
 pub mod PartsSeen
 pub mod GuestsSeen
+pub mod StepsLeft
 pub mod GuestRuns
+pub mod HostBytes
 pub mod GuestLaws
 pub mod Turned
 pub mod Lowered

@@ -347,7 +347,7 @@ read_begun state end address count h r =
       placed = placed_begun state end.guest end.ty address count stream.payload (found_payload state end h ok) region;
     }
 
-waiting_placed : (state : State) (s : ℕ) (read : Operation) → s < length state.streams → (stream_at state s).reader.operation ≡ Some read → IsSound state → IsPlaced (sizes_of state.guests) (stream_at state s).payload read
+pub waiting_placed : (state : State) (s : ℕ) (read : Operation) → s < length state.streams → (stream_at state s).reader.operation ≡ Some read → IsSound state → IsPlaced (sizes_of state.guests) (stream_at state s).payload read
 waiting_placed state s read l e h = subst (OperationIsPlaced (sizes_of state.guests) (stream_at state s).payload) e (placed_at state s l h).reader
 
 -- the stream of a read that was opened

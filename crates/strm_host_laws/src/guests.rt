@@ -4,11 +4,12 @@
 //! Meaning: `Laws.antt` of `strm_laws`, said of the state after the last moment of `HostMoments.antt`.
 //! Ours.
 
-ghost use Rattle.std.specs.Prelude.{◌≡◌, ℕ, ◌≤◌, List, length, true, false, None};
+ghost use Rattle.std.specs.Prelude.{◌≡◌, ℕ, ◌≤◌, List, length, true, false, All, None};
 ghost use Rattle.strm_buffers.specs.Tells.{Tells};
 ghost use Rattle.strm_codes.specs.declared.codes.TransmitKind.TheVariants.{Future};
 ghost use Rattle.strm_machine.specs.Hosting.{HostsHold};
 ghost use Rattle.strm_machine.specs.Soundness.{IsSound, both_open, AreUnmoved};
+ghost use Rattle.strm_machine.specs.Untouched.{LieThere, StaysAside};
 ghost use Rattle.strm_machine.specs.declared.limits.Limits.{Limits};
 ghost use Rattle.strm_machine.specs.declared.steps.Step.{Step};
 ghost use Rattle.strm_machine.specs.declared.streams.Side.{Side};
@@ -119,4 +120,19 @@ pub fn futures_pass_one()
         (stream_in (last_of (start tag limits old new)
         (host_moments (start tag limits old new) run)) s).kind ≡ Future →
         length (got s (plains (host_moments (start tag limits old new) run))) ≤ 1 }
+{}
+
+/// Nothing but a poke, a message and the items received changes a memory: in each moment of a run all other
+/// bytes of each guest stay as they were, no guest goes, and no memory changes its length. What a host
+/// writer hands over touches the bytes where its items are received.
+pub fn other_bytes_stay()
+    ensures { (tag : ℕ) (limits : Limits) (old new : Tells) (run : List Step) → AreSteps run →
+        All StaysAside (plains (host_moments (start tag limits old new) run)) }
+{}
+
+/// The bytes that a step puts into a memory, those of a poke or of an error context's message, lie there
+/// after it, in whichever run: exactly as many as the step names, or answers.
+pub fn bytes_are_put()
+    ensures { (tag : ℕ) (limits : Limits) (old new : Tells) (run : List Step) →
+        All LieThere (plains (host_moments (start tag limits old new) run)) }
 {}
