@@ -109,14 +109,17 @@ pub record HasStreamLaws (s : ℕ) (all : List HostMoment) (end : World) : Type 
   pub unmoved : AreUnmoved (stream_in end s)
 
 -- those, and: never are two sides open, and no guest writes on a host writer's stream; the items of each
--- operation are a count; handles and ends agree, one handle an end; members of sets are live; error
--- contexts count their handles; and the state is sound
+-- operation are a count; in each moment all bytes stay that are neither put nor received, and those that
+-- are put lie there; handles and ends agree, one handle an end; members of sets are live; error contexts
+-- count their handles; and the state is sound
 pub record HasLawsAmong (first : World) (all : List HostMoment) (end : World) : Type 0 where
   pub host : HasHostLaws first all end
   pub streams : (s : ℕ) → is_hosted s all ≡ false → HasStreamLaws s all end
   pub apart : (s : ℕ) → both_open (stream_in end s) ≡ false
   pub idle : (s : ℕ) → is_hosted s all ≡ true → (stream_in end s).writer.operation ≡ None
   pub counted : (s : ℕ) → AreCounted (stream_in end s)
+  pub aside : All StaysAside (plains all)
+  pub put : All LieThere (plains all)
   pub hold : HandlesHold end.state
   pub single : HandlesAreSingle end.state
   pub members : MembersAreLive end.state

@@ -113,7 +113,7 @@ pub fn run(alloc: Global, steps: &[Step], hosts: &mut Hosts) -> Result<Transcrip
     ensures stop_alone { AreOfGuests steps.now → IfErr result (λ stop. StopsBy steps.now stop.replies stop.cause) }
     ensures hosts { AreOfGuests steps.now → (tells_of writer_tells reader_tells hosts.new) ≡ (tells_of writer_tells reader_tells hosts.old) }
 
-    // After each step of guests alone these laws hold of all streams, and other bytes stay.
+    // After each step of guests alone these laws hold of all streams.
     ensures kept { AreOfGuests steps.now → IfOk result (λ t. IsKept steps.now t.replies t.store) }
 
     // A bad item stops it at the step that asks for it, and nothing else but want of memory does.
@@ -174,6 +174,8 @@ fn laws_hold_among()
     guests::never_two_open();
     guests::unmet_has_moved_none();
     guests::totals_are_counts();
+    guests::other_bytes_stay();
+    guests::bytes_are_put();
     guests::states_are_sound();
     guests::handles_hold_their_ends();
     guests::members_are_live();
