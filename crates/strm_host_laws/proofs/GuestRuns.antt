@@ -9,7 +9,7 @@ use Rattle.strm_codes.specs.declared.codes.TransmitKind.{TransmitKind}
 use Rattle.strm_codes.specs.declared.codes.TransmitKind.TheVariants.{Future}
 use Rattle.strm_machine.specs.Moments.{Moment, received, got_in}
 use Rattle.strm_machine.specs.State.{State, empty, stream_at}
-use Rattle.strm_machine.specs.Soundness.{AreUnmoved, is_opened, both_open}
+use Rattle.strm_machine.specs.Soundness.{AreUnmoved, IsUnmoved, is_opened, both_open}
 use Rattle.strm_machine.specs.declared.limits.Limits.{Limits}
 use Rattle.strm_machine.specs.declared.steps.Step.{Step}
 use Rattle.strm_machine.specs.declared.streams.Side.{Side}
@@ -31,7 +31,7 @@ use Rattle.strm_laws.proofs.Kept.{kind_at, Kept}
 use Rattle.strm_laws.proofs.KeptChanges.{keeps}
 use Rattle.strm_laws.proofs.Conserved.{IsQuiet, Account}
 use Rattle.strm_host_laws.specs.HostMoments.{Part, Acts, Turns, HostMoment, host_moments, last_of}
-use Rattle.strm_host_laws.specs.HostLaws.{plain, plains, is_made_by, is_hosted}
+use Rattle.strm_host_laws.specs.HostLaws.{plain, plains, is_made_by, is_hosted, MovesByHosts}
 use Rattle.strm_host_laws.proofs.Chains.{Chain, moments-chain}
 use Rattle.strm_host_laws.proofs.StepsLeft.{left_after, Pays, Costs, moments_cost}
 use Rattle.strm_host_laws.proofs.Effects.{Effect, follows_effect}
@@ -227,6 +227,18 @@ module _ (tag : ℕ) (limits : Limits) (tells told : Tells) (run : List Step) (s
       by : (b : Bool) → is_hosted s all_moments ≡ b → both_open (stream_at end_state s) ≡ false
       by true e = none_open (stream_at end_state s) (run_keeps.hosted e).idle
       by false e = (run_keeps.guests e).apart
+
+  -- what has not met has moved nothing, unless a host writer moves it
+  pub moved_by_hosts : MovesByHosts (stream_at end_state s)
+  moved_by_hosts = by (is_hosted s all_moments) refl
+    where
+      by : (b : Bool) → is_hosted s all_moments ≡ b → MovesByHosts (stream_at end_state s)
+      by true e =
+          let h = run_keeps.hosted e in
+          record { writing = subst IsUnmoved (sym h.idle) tt; reading = h.parted }
+      by false e =
+          let tallies = (run_keeps.guests e).tallies in
+          record { writing = tallies.writing; reading = λ u v. tallies.reading }
 
   module _ (g : is_hosted s all_moments ≡ false) where
     -- what has not met has moved nothing

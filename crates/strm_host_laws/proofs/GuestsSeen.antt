@@ -12,7 +12,7 @@ use Rattle.strm_machine.specs.Making.{made_stream, made_pair, with_stream}
 use Rattle.strm_machine.specs.Moves.{with_owner}
 use Rattle.strm_machine.specs.Endings.{delivered}
 use Rattle.strm_machine.specs.Moments.{Moment, PutsBytes, code_told, received}
-use Rattle.strm_machine.specs.Soundness.{both_open}
+use Rattle.strm_machine.specs.Soundness.{both_open, IsUnmoved}
 use Rattle.strm_machine.specs.Tests.{named, stream_named, items_asked}
 use Rattle.strm_machine.specs.Turns.{Turn}
 use Rattle.strm_machine.specs.Reactions.{Reaction, written_back, reaction}
@@ -47,7 +47,7 @@ use Rattle.strm_host_laws.proofs.HostTurns.{Turned, turned_stream}
 use Rattle.strm_host_laws.proofs.Effects.{opened_by, Driven, Reads, Hosts, Forsakes, Rests, Effect, ByReaction, ByRest, ByHosting, ByDriving, ByReading, ByForsaking, is_idle}
 use Rattle.strm_host_laws.proofs.SeenSteps.{same_seen, named_other, reaction_seen, reaction_bytes}
 use Rattle.strm_codes.specs.Layout.{scalars_of}
-use Rattle.strm_host_laws.proofs.PartsSeen.{IsHosted}
+use Rattle.strm_host_laws.proofs.PartsSeen.{IsHosted, Parted}
 use Rattle.strm_host_laws.proofs.Standing.{Holds, read_begun}
 use Rattle.strm_host_laws.proofs.Closed.{set-keeps}
 
@@ -266,6 +266,7 @@ made_hosted old new n s reply x e =
       idle = ap (λ (y : Stream). y.writer.operation) is ∙ ap (λ (y : End). y.operation) x.writer;
       unheld = ap (λ (y : Stream). is_held y.writer.owner) is ∙ ap (λ (y : End). is_held y.owner) x.writer;
       tied = ap (λ (y : Stream). is_loose y.writer.owner) is ∙ ap (λ (y : End). is_loose y.owner) x.writer;
+      parted = subst Parted (sym is) (λ u v. subst (λ (y : End). IsUnmoved y.operation) (sym x.reader) tt);
     }
 
 pub effect_makes : (old new : State) (part : Part) (reply : Reply) (s : ℕ) → Effect old part reply new → is_made_by s part reply ≡ true → IsHosted new s

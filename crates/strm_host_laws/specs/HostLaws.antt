@@ -5,7 +5,9 @@ use Rattle.strm_codes.specs.Layout.{scalars_of}
 use Rattle.strm_memory.specs.Items.{AreItems}
 use Rattle.strm_buffers.specs.Listing.{Item}
 use Rattle.strm_buffers.specs.Said.{WriterSaid}
-use Rattle.strm_machine.specs.State.{State, is_host, producer_at}
+use Rattle.strm_machine.specs.State.{State, is_host, producer_at, is_gone}
+use Rattle.strm_machine.specs.Soundness.{IsUnmoved}
+use Rattle.strm_machine.specs.declared.streams.Stream.{Stream}
 use Rattle.strm_machine.specs.Moments.{Moment, received, got_in}
 use Rattle.strm_machine.specs.declared.acts.Act.{Act}
 use Rattle.strm_machine.specs.declared.acts.Act.TheVariants.{OnHost, Drive}
@@ -155,3 +157,12 @@ pub record DeliversAll (s : ℕ) (all : List HostMoment) (last : World) : Type 0
   pub given_up : is_hosted s all ≡ true →
       host_got s all ≡ take (length (host_got s all)) (map Some (produced s all))
   pub count : is_hosted s all ≡ true → length (host_got s all) ≡ received s last.state
+
+-- MOVES
+
+-- a write that has not met has moved nothing, and neither has a read, unless a host writer has the write
+-- end, or the read end is gone
+pub record MovesByHosts (stream : Stream) : Type 0 where
+  pub writing : IsUnmoved stream.writer.operation
+  pub reading : is_host stream.writer.owner ≡ false → is_gone stream.reader.owner ≡ false →
+      IsUnmoved stream.reader.operation

@@ -18,7 +18,7 @@ ghost use Rattle.strm_laws.specs.Laws.{AreSteps, AreCounted, Conserves, Stands, 
 ghost use Rattle.strm_world.specs.World.{stream_in};
 ghost use Rattle.strm_world.specs.Does.{start};
 ghost use Rattle.strm_host_laws.specs.HostMoments.{host_moments, last_of};
-ghost use Rattle.strm_host_laws.specs.HostLaws.{plains, is_hosted};
+ghost use Rattle.strm_host_laws.specs.HostLaws.{plains, is_hosted, MovesByHosts};
 
 /// Every state is sound, after whichever steps: handles name streams that were made, of their type, the
 /// items that an operation has left lie in its guest's memory, and each guest's table agrees with its
@@ -81,6 +81,14 @@ pub fn unmet_has_moved_none()
     ensures { (tag : ℕ) (limits : Limits) (old new : Tells) (run : List Step) (s : ℕ) →
         AreSteps run → is_hosted s (host_moments (start tag limits old new) run) ≡ false →
         AreUnmoved (stream_in (last_of (start tag limits old new)
+        (host_moments (start tag limits old new) run)) s) }
+{}
+
+/// Of every stream: a write that has not met has moved nothing, and a read that has not met, and whose end
+/// is there, has moved something only while a host writer has the write end.
+pub fn unmet_moves_by_host_writers()
+    ensures { (tag : ℕ) (limits : Limits) (old new : Tells) (run : List Step) (s : ℕ) →
+        AreSteps run → MovesByHosts (stream_in (last_of (start tag limits old new)
         (host_moments (start tag limits old new) run)) s) }
 {}
 
