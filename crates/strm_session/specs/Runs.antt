@@ -27,7 +27,7 @@ use Rattle.strm_world.specs.HostPlays.{play as play_among}
 use Rattle.strm_world.specs.HostPlays as world_plays
 use Rattle.strm_world.specs.Does.{saids, world_of, faults_of, StopsWith}
 use Rattle.strm_host_laws.specs.HostMoments.{HostMoment, host_moments, last_of}
-use Rattle.strm_host_laws.specs.HostLaws.{ClosesExactly, GoesOn as WriterGoesOn, Supplies, DeliversAll, is_hosted, plains}
+use Rattle.strm_host_laws.specs.HostLaws.{ClosesExactly, GoesOn as WriterGoesOn, Supplies, DeliversAll, MovesByHosts, is_hosted, plains}
 use Rattle.strm_session.specs.declared.runs.RunCause.{RunCause}
 use Rattle.strm_session.specs.declared.runs.RunCause.TheVariants as causes
 
@@ -108,8 +108,8 @@ pub record HasStreamLaws (s : ℕ) (all : List HostMoment) (end : World) : Type 
   pub passes_one : (stream_in end s).kind ≡ Future → length (got s (plains all)) ≤ 1
   pub unmoved : AreUnmoved (stream_in end s)
 
--- those, and: never are two sides open, and no guest writes on a host writer's stream; the items of each
--- operation are a count; in each moment all bytes stay that are neither put nor received, and those that
+-- those, and: never are two sides open, and no guest writes on a host writer's stream; what has not met is
+-- moved by a host writer alone; the items of each operation are a count; in each moment all bytes stay that are neither put nor received, and those that
 -- are put lie there; handles and ends agree, one handle an end; members of sets are live; error contexts
 -- count their handles; and the state is sound
 pub record HasLawsAmong (first : World) (all : List HostMoment) (end : World) : Type 0 where
@@ -117,6 +117,7 @@ pub record HasLawsAmong (first : World) (all : List HostMoment) (end : World) : 
   pub streams : (s : ℕ) → is_hosted s all ≡ false → HasStreamLaws s all end
   pub apart : (s : ℕ) → both_open (stream_in end s) ≡ false
   pub idle : (s : ℕ) → is_hosted s all ≡ true → (stream_in end s).writer.operation ≡ None
+  pub moves : (s : ℕ) → MovesByHosts (stream_in end s)
   pub counted : (s : ℕ) → AreCounted (stream_in end s)
   pub aside : All StaysAside (plains all)
   pub put : All LieThere (plains all)

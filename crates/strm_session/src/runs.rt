@@ -173,6 +173,7 @@ fn laws_hold_among()
     guests::futures_pass_one();
     guests::never_two_open();
     guests::unmet_has_moved_none();
+    guests::unmet_moves_by_host_writers();
     guests::totals_are_counts();
     guests::other_bytes_stay();
     guests::bytes_are_put();

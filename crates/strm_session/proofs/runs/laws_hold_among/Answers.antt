@@ -16,6 +16,7 @@ returns-clause-laws c = λ old new steps a. record {
   };
   apart = λ s. c.never_two_open.ensures.apart 0 _ old new steps s a;
   idle = λ s. c.never_two_open.ensures.idle 0 _ old new steps s a;
+  moves = λ s. c.unmet_moves_by_host_writers.ensures 0 _ old new steps s a;
   counted = λ s. c.totals_are_counts.ensures 0 _ old new steps s;
   aside = c.other_bytes_stay.ensures 0 _ old new steps a;
   put = c.bytes_are_put.ensures 0 _ old new steps;
