@@ -109,9 +109,9 @@ pub record HasStreamLaws (s : ℕ) (all : List HostMoment) (end : World) : Type 
   pub unmoved : AreUnmoved (stream_in end s)
 
 -- those, and: never are two sides open, and no guest writes on a host writer's stream; what has not met is
--- moved by a host writer alone; the items of each operation are a count; in each moment all bytes stay that are neither put nor received, and those that
--- are put lie there; handles and ends agree, one handle an end; members of sets are live; error contexts
--- count their handles; and the state is sound
+-- moved by a host writer alone; the items of each operation are a count; in each moment all bytes stay that
+-- are neither put nor received, and those that are put lie there; handles and ends agree, one handle an
+-- end; members of sets are live; error contexts count their handles; and the state is sound
 pub record HasLawsAmong (first : World) (all : List HostMoment) (end : World) : Type 0 where
   pub host : HasHostLaws first all end
   pub streams : (s : ℕ) → is_hosted s all ≡ false → HasStreamLaws s all end
