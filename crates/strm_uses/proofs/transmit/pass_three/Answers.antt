@@ -1,8 +1,8 @@
 use Rattle.strm_uses.proofs.TransmitLemmas.{Known, known}
 use Rattle.strm_uses.proofs.transmit.pass_three.Goals as goal
-use Rattle.strm_uses.proofs.transmit.pass_three.Goals.{In_ok-told}
+use Rattle.strm_uses.proofs.transmit.pass_three.Goals.{After-drop-hosts-3}
 
-all_known : (c : In_ok-told) → Known c.args.bytes.now c.take_event.new.self c.in_ok-read.read c.in_ok-told.told
+all_known : (c : After-drop-hosts-3) → Known c.args.bytes.now c.take_event.new.self c.in_ok-read.read c.in_ok-told.told
 all_known c =
     known c.args.bytes.now c.in_ok-writer.writer c.in_ok-reader.reader c.in_ok-pair.pair
     c.add_guest.new.self c.add_guest-2.new.self c.new_between.new.self c.poke.new.self c.stream_write.new.self c.stream_read.new.self c.take_event.new.self
@@ -18,11 +18,12 @@ all_known c =
     })
 
 pub stream_write-requires : goal.stream_write-requires
-stream_write-requires c =
-    c.in_ok-poke.ensures.fits _ (c.in_ok-pair.ensures.fits _ (c.in_ok-reader.ensures.fits _ (c.in_ok-writer.ensures.fits _ (c.new-store.ensures.fits _))))
+stream_write-requires c = record {
+  fits = c.in_ok-poke.ensures.fits _ (c.in_ok-pair.ensures.fits _ (c.in_ok-reader.ensures.fits _ (c.in_ok-writer.ensures.fits _ (c.new-store.ensures.fits _))));
+}
 
 pub stream_read-requires : goal.stream_read-requires
-stream_read-requires c = c.in_ok-stream_write.ensures.meets.fits
+stream_read-requires c = record { fits = c.in_ok-stream_write.ensures.meets.fits }
 
 pub returns-clause-memory : goal.returns-clause-memory
 returns-clause-memory c = (all_known c).memory
