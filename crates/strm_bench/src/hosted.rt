@@ -64,6 +64,17 @@ fn touched(alloc: Global, size: u32) -> Result<Store, StoreError>
     Ok(store)
 }
 
+// A step that is no read; its reply is not looked at.
+fn done(store: &mut Store, hosts: &mut Hosts, step: &Step) -> Result<(), StoreError>
+    requires { Fits store.old (tells_of writer_tells reader_tells hosts.old) }
+    ensures { Fits store.new (tells_of writer_tells reader_tells hosts.new) }
+{
+    match apply(store, hosts, step) {
+        Ok(_) => Ok(()),
+        Err(error) => Err(error),
+    }
+}
+
 /// A store with one guest, which reads the stream of the first host writer.
 #[derive(Drop)]
 pub struct Reading {
@@ -97,7 +108,7 @@ impl Reading {
             bytes: fed(),
         };
         for round in 0..rounds {
-            apply(&mut self.store, hosts, &step)?;
+            done(&mut self.store, hosts, &step)?;
             let address = round % (FED / FEED) * FEED;
             self.store
                 .stream_read(hosts, 0, BYTES, self.handle, address, FEED)?;

@@ -1,5 +1,8 @@
 //! Rounds on a store: a write of 8 items waits, a read takes them, and the write is told.
 
+ghost use Rattle.strm_buffers.specs.AllTells.{tells_of};
+ghost use Rattle.strm_world.specs.Does.{Fits};
+
 use std::alloc::Global;
 use strm_buffers::hosts::Hosts;
 use strm_codes::codes::{ReturnCode, TransmitIndex};
@@ -7,6 +10,12 @@ use strm_codes::payloads::Payload;
 use strm_machine::limits::Limits;
 use strm_transmit::errors::StoreError;
 use strm_transmit::store::Store;
+
+/// The guest that is made first writes.
+const WRITER: u32 = 0;
+
+/// The other one reads.
+const READER: u32 = 1;
 
 /// The bytes of each guest's memory.
 const SIZE: u32 = 1_048_576;
@@ -33,27 +42,43 @@ pub struct Told {
 /// So many rounds on a new store with a stream from one guest to another.
 pub fn run(alloc: Global, items: Payload, rounds: u32) -> Result<Told, StoreError> {
     let mut store = Store::new(alloc, 0, LIMITS);
-    let writer = store.add_guest(SIZE)?;
-    let reader = store.add_guest(SIZE)?;
-    let pair = store.new_between(writer, reader, TransmitIndex::Stream(items))?;
+    store.add_guest(SIZE)?;
+    store.add_guest(SIZE)?;
+    let payload = items;
+    let pair = store.new_between(WRITER, READER, TransmitIndex::Stream(payload))?;
     let mut hosts = Hosts {
         writers: Vec::new(alloc),
         readers: Vec::new(alloc),
     };
-    let mut words = 0u64;
-    for round in 0..rounds {
-        let address = round % PLACES * 8;
-        let written = store.stream_write(&mut hosts, writer, items, pair.write, address, COUNT)?;
-        let read = store.stream_read(&mut hosts, reader, items, pair.read, address, COUNT)?;
-        let told = store
-            .take_event(writer, pair.write)?
-            .unwrap_or(ReturnCode::Blocked);
-        words = added(words, written, read, told);
-    }
+    let words = repeat(&mut store, &mut hosts, items, pair.write, pair.read, rounds)?;
     Ok(Told {
         words,
         received: store.moved(pair.stream).unwrap_or(0),
     })
+}
+
+// So many rounds: the words of all codes.
+fn repeat(
+    store: &mut Store,
+    hosts: &mut Hosts,
+    items: Payload,
+    write: u32,
+    read: u32,
+    rounds: u32,
+) -> Result<u64, StoreError>
+    requires { Fits store.old (tells_of writer_tells reader_tells hosts.old) }
+{
+    let mut words = 0u64;
+    for round in 0..rounds {
+        let address = round % PLACES * 8;
+        let written = store.stream_write(hosts, WRITER, items, write, address, COUNT)?;
+        let taken = store.stream_read(hosts, READER, items, read, address, COUNT)?;
+        let told = store
+            .take_event(WRITER, write)?
+            .unwrap_or(ReturnCode::Blocked);
+        words = added(words, written, taken, told);
+    }
+    Ok(words)
 }
 
 fn added(words: u64, written: ReturnCode, read: ReturnCode, told: ReturnCode) -> u64 {
