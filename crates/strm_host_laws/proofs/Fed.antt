@@ -139,6 +139,8 @@ pub record Moves (n : ℕ) (part : Part) (reply : Reply) (a b : Writer) : Type 0
   pub records : a.coming ≡ said ++ b.coming
   pub spoken : b.spoken ≡ a.spoken + length said
   pub heard : b.heard ≡ option_map (λ xs. xs ++ fed_in n a.spoken part reply) a.heard
+  pub kind : b.kind ≡ a.kind
+  pub payload : b.payload ≡ a.payload
 
 heard_none : (x : Heard (List ℕ)) → x ≡ option_map (λ xs. xs ++ []) x
 heard_none None = refl
@@ -151,6 +153,8 @@ unheard n part reply a b e u = record {
   records = u.records;
   spoken = u.spoken;
   heard = u.heard ∙ heard_none a.heard ∙ ap (λ f. option_map (λ xs. xs ++ f) a.heard) (sym e);
+  kind = u.kind;
+  payload = u.payload;
 }
 
 unfed : (n spoken : ℕ) (part : Part) (reply : Reply) → is_feed part ≡ false → fed_in n spoken part reply ≡ []
@@ -183,6 +187,8 @@ module _ (w : World) (host : ℕ) (bytes : List ℕ) where
               records = refl;
               spoken = omega arith;
               heard = ap (λ f. option_map (λ xs. xs ++ f) (writer_at w n).heard) (sym fed);
+              kind = refl;
+              payload = refl;
             })
         | inr ne ↦
             let is : writer_at (with_writer w host fed_one) n ≡ writer_at w n = get_or-set_other w.writers host n fed_one no_writer ne in
@@ -221,7 +227,7 @@ heard_both None f g = refl
 heard_both (Some xs) f g = ap Some (append_assoc xs f g)
 
 chain-goes_on : (n : ℕ) (w : World) (all : List HostMoment) → Chain w all → GoesOn n all (writer_at w n) (writer_at (last_of w all) n)
-chain-goes_on n w [] c = record { records = refl; spoken = omega arith; heard = heard_none (writer_at w n).heard }
+chain-goes_on n w [] c = record { records = refl; spoken = omega arith; heard = heard_none (writer_at w n).heard; kind = refl; payload = refl }
 chain-goes_on n w (m ∷ more) c =
     let h = moment-moves w m c.0 n in
     let rest = chain-goes_on n m.after more c.1 in
@@ -244,6 +250,8 @@ chain-goes_on n w (m ∷ more) c =
           ∙ ap (option_map (λ xs. xs ++ all_fed n more)) h.heard
           ∙ heard_both a.heard (fed_in n a.spoken m.part m.reply) (all_fed n more)
           ∙ ap (λ f. option_map (λ xs. xs ++ (f ++ all_fed n more)) a.heard) (sym fed_here);
+      kind = rest.kind ∙ h.kind;
+      payload = rest.payload ∙ h.payload;
     }
 
 pub run-goes_on : (first : World) (run : List Step) (n : ℕ) → GoesOn n (host_moments first run) (writer_at first n) (writer_at (last_of first (host_moments first run)) n)

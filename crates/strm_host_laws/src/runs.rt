@@ -41,8 +41,8 @@ pub fn ends_close_exactly()
 {}
 
 /// A host writer uses its records in order, each once, and hears exactly the accepted feeds to it, in
-/// order, each behind as many records as it had used when it came; from whichever world, whatever the
-/// steps.
+/// order, each behind as many records as it had used when it came, and stays of its kind and payload; from
+/// whichever world, whatever the steps.
 pub fn writers_are_fed_exactly()
     ensures { (first : World) (run : List Step) (n : ℕ) →
         GoesOn n (host_moments first run) (writer_at first n)

@@ -13,7 +13,7 @@ use Rattle.strm_world.specs.World.{World}
 use Rattle.strm_world.specs.Outcomes.{Outcome, Goes}
 use Rattle.strm_world.specs.Steps.{step_of}
 use Rattle.strm_world.specs.HostPlays.{play, after_step, Ends}
-use Rattle.strm_world.specs.Does.{Logs, Begins, AllBegin, saids, Extends, world_of, faults_of, Gives, Caused, Does, RunsTo, StopsWith}
+use Rattle.strm_world.specs.Does.{Logs, Begins, AllBegin, saids, Extends, world_of, faults_of, Gives, Caused, Does, RunsTo, StopsWith, AreSupplied}
 use Rattle.strm_session.specs.Runs.{start, start_among, stop_of, HaltsBy, Raised, StopsAmong}
 use Rattle.strm_session.specs.declared.runs.RunCause.{RunCause}
 use Rattle.strm_session.specs.declared.runs.RunCause.TheVariants as causes
@@ -40,9 +40,10 @@ pub record LedOn (old : Tells) (steps : List Step) (k : ℕ) (told : List Reply)
 pub record LedAmong (old : Tells) (steps : List Step) (k : ℕ) (told : List Reply) (state : State) (now : Tells) : Type 0 where
   pub led : (logs : Logs) → Extends now logs → LedOn old steps k told state now logs
   pub faults : (end : HostEnd) → faults_of old end ≤ faults_of now end
+  pub supplied : AreSupplied old → AreSupplied now
 
 pub led_none : (old : Tells) (steps : List Step) → LedAmong old steps 0 [] start old
-led_none old steps = record { led = λ logs e. record { begins = e; goes_on = λ more. refl }; faults = λ end. omega arith }
+led_none old steps = record { led = λ logs e. record { begins = e; goes_on = λ more. refl }; faults = λ end. omega arith; supplied = λ a. a }
 
 -- a count that rose has risen since it was less
 rose_since : (a b c : ℕ) → a ≤ b → Rose b c → Rose a c
@@ -64,6 +65,7 @@ led_more old now after steps k step told reply state next h l d = record {
             ∙ ap (λ (o : Outcome). after_step told o (λ told' world'. play told' world' more)) (d.gives logs e);
       };
   faults = λ end. at_most (faults_of old end) (faults_of now end) (faults_of after end) (l.faults end) (d.faults end);
+  supplied = λ a. d.supplied (l.supplied a);
 }
 
 -- all steps are answered

@@ -1,17 +1,20 @@
 -- What the laws of every run among host ends say of one that came to its end, or stopped.
-use Rattle.std.proofs.Common.{◌≡◌, ℕ, ◌≤◌, List, [], length, take, arith}
-use Rattle.std.proofs.lemmas.List.{length-take}
+use Rattle.std.proofs.Common.{◌≡◌, ℕ, ◌≤◌, List, [], length, take, subst, arith}
+use Rattle.std.proofs.lemmas.List.{length-take, take_all}
 use Rattle.std.specs.Prelude.{All}
 use Rattle.strm_buffers.specs.Tells.{Tells}
 use Rattle.strm_laws.specs.Laws.{HasBytes, AreSteps}
 use Rattle.strm_laws.proofs.LawfulRuns.{AreSteps-take}
+use Rattle.strm_machine.specs.State.{State}
 use Rattle.strm_machine.specs.declared.steps.Step.{Step}
 use Rattle.strm_machine.specs.declared.replies.Reply.{Reply}
 use Rattle.strm_world.specs.World.{World}
 use Rattle.strm_world.specs.HostPlays.{play, Ends}
+use Rattle.strm_world.specs.Does.{AreSupplied, spent}
 use Rattle.strm_host_laws.specs.HostMoments.{host_moments, last_of}
-use Rattle.strm_session.specs.Runs.{start_among, HasLawsAmong, IsKeptAmong, IsKeptBefore, StopsAmong}
+use Rattle.strm_session.specs.Runs.{start_among, HasLawsAmong, IsKeptAmong, IsKeptBefore, AreOfItems, DeliversEach, StopsAmong}
 use Rattle.strm_session.specs.declared.runs.RunCause.{RunCause}
+use Rattle.strm_session.proofs.SuppliedLemmas.{all_supply}
 
 -- the laws of whichever steps from this world
 abbrev pub LawsAmong : World → Type 0
@@ -38,3 +41,11 @@ module _ (first : World) (laws : LawsAmong first) (leads : LeadsAmong first) whe
 -- a run that stops has kept them before
 pub stop_kept : (old new : Tells) → LawsAmong (start_among old new) → LeadsAmong (start_among old new) → (steps : List Step) (told : List Reply) (cause : RunCause) → AreSteps (take (length told) steps) → StopsAmong old new steps told cause → IsKeptBefore (start_among old new) steps told
 stop_kept old new laws leads steps told cause a s = kept_before (start_among old new) laws leads steps told s.world a s.before
+
+-- what each host writer produced is delivered, where what it recorded and held were items
+pub delivers_each : (old new : Tells) (steps : List Step) (state : State) → IsKeptAmong (start_among old new) steps (spent state new) → AreOfItems old → AreSupplied new → DeliversEach (start_among old new) steps (spent state new)
+delivers_each old new steps state k o a s =
+    let first = start_among old new in
+    let laws = subst (λ (xs : List Step). HasLawsAmong first (host_moments first xs) (last_of first (host_moments first xs))) (take_all (length steps) steps (omega arith)) (k.laws (length steps)) in
+    let now = subst (HasLawsAmong first (host_moments first steps)) k.ends laws in
+    now.host.delivers (all_supply old new state o a (λ n. (now.host.goes_on n).payload)) s

@@ -8,3 +8,4 @@ pub mod StopLemmas
 pub mod ServingLemmas
 pub mod LawLemmas
 pub mod KeptLemmas
+pub mod SuppliedLemmas

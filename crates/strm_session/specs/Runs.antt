@@ -20,12 +20,14 @@ use Rattle.strm_machine.specs.declared.acts.Act.{Act}
 use Rattle.strm_machine.specs.declared.acts.Act.TheVariants.{OnHost, Drive}
 use Rattle.strm_machine.specs.declared.stops.Stop.{Stop}
 use Rattle.strm_machine.specs.declared.stops.Stop.TheVariants as stops
-use Rattle.strm_buffers.specs.Tells.{Tells, Rose}
+use Rattle.strm_codes.specs.Layout.{scalars_of}
+use Rattle.strm_memory.specs.Items.{AreItems}
+use Rattle.strm_buffers.specs.Tells.{WriterTells, Tells, Rose}
 use Rattle.strm_machine.specs.Hosting.{HostsHold}
 use Rattle.strm_world.specs.World.{World, writer_at, stream_in}
 use Rattle.strm_world.specs.HostPlays.{play as play_among}
 use Rattle.strm_world.specs.HostPlays as world_plays
-use Rattle.strm_world.specs.Does.{saids, world_of, faults_of, StopsWith}
+use Rattle.strm_world.specs.Does.{saids, world_of, faults_of, StopsWith, AreSupplied}
 use Rattle.strm_host_laws.specs.HostMoments.{HostMoment, host_moments, last_of}
 use Rattle.strm_host_laws.specs.HostLaws.{ClosesExactly, GoesOn as WriterGoesOn, Supplies, DeliversAll, MovesByHosts, is_hosted, plains}
 use Rattle.strm_session.specs.declared.runs.RunCause.{RunCause}
@@ -132,6 +134,20 @@ pub record HasLawsAmong (first : World) (all : List HostMoment) (end : World) : 
 pub record IsKeptAmong (first : World) (steps : List Step) (end : World) : Type 0 where
   pub ends : last_of first (host_moments first steps) ≡ end
   pub laws : (n : ℕ) → HasLawsAmong first (host_moments first (take n steps)) (last_of first (host_moments first (take n steps)))
+
+-- what a host writer holds are items of its payload
+abbrev pub HoldsItems : WriterTells → Type 0
+HoldsItems tells = AreItems (scalars_of tells.payload) tells.holds
+
+-- what host writers recorded and hold are items of their payloads
+pub record AreOfItems (tells : Tells) : Type 0 where
+  pub recorded : AreSupplied tells
+  pub held : All HoldsItems tells.writers
+
+-- what the host writer of each stream produced in a run of these steps, which ends here, is received, held
+-- or given up
+abbrev pub DeliversEach : World → List Step → World → Type 0
+DeliversEach first steps end = (s : ℕ) → DeliversAll s (host_moments first steps) end
 
 -- these are the machine's replies to the first of the steps, which keep the laws
 pub record IsKeptBefore (first : World) (steps : List Step) (told : List Reply) : Type 0 where

@@ -17,7 +17,7 @@ use Rattle.strm_ports.specs.Faults.{Rose}
 use Rattle.strm_lines.specs.Lines.{lines_of, Spells, IsFirstBad, IsTooLong}
 use Rattle.strm_session.specs.declared.runs.RunCause.{RunCause}
 use Rattle.strm_session.specs.declared.runs.RunCause.TheVariants as causes
-use Rattle.strm_session.specs.Runs.{start, start_among, AreOfGuests, counts_of, IsKept, IsKeptAmong, IsKeptBefore, StopsAmong, StopsBy}
+use Rattle.strm_session.specs.Runs.{start, start_among, AreOfGuests, counts_of, IsKept, IsKeptAmong, IsKeptBefore, AreOfItems, DeliversEach, StopsAmong, StopsBy}
 use Rattle.strm_lines.specs.Text.{transcript_text, stopped_text, usage_text, bad_line_text, too_long_text, read_fault_text}
 
 -- the words behind the program's name tell it to run
@@ -36,6 +36,7 @@ pub record IsTranscript (old new : Tells) (input text : List ℕ) : Type 0 where
   pub state : State
   pub played : RunsTo (start_among old new) steps replies state new
   pub kept_among : IsKeptAmong (start_among old new) steps (spent state new)
+  pub delivers : AreOfItems old → DeliversEach (start_among old new) steps (spent state new)
   pub alone : AreOfGuests steps → play [] start steps ≡ Ends replies state
   pub kept : AreOfGuests steps → IsKept steps replies state
   pub text_is : text ≡ transcript_text replies (counts_of state)

@@ -18,12 +18,12 @@ ghost use Rattle.strm_machine.specs.Acts.{act_of};
 ghost use Rattle.strm_world.specs.Steps.{step_of, touches};
 ghost use Rattle.strm_world.specs.World.{World};
 ghost use Rattle.strm_world.specs.HostPlays.{play as play_among, Ends as EndsAmong};
-ghost use Rattle.strm_world.specs.Does.{Fits, Does, RunsTo, spent};
+ghost use Rattle.strm_world.specs.Does.{Fits, Does, AreSupplied, RunsTo, spent};
 ghost use Rattle.strm_host_laws.specs.HostMoments.{host_moments, last_of};
 ghost use Rattle.strm_buffers.specs.Tells.{Tells};
 ghost use Rattle.strm_transmit.specs.Hosted.{answered, lone};
 ghost use Rattle.strm_buffers.specs.AllTells.{tells_of};
-ghost use Rattle.strm_session.specs.Runs.{start, start_among, AreOfGuests, counts_of, next_step, HasLaws, IsKept, HasLawsAmong, IsKeptAmong, IsKeptBefore, stop_of, StopsAmong, AsksBad, AsksItems, StopsAt, StopsStep, StopsBy, StopsIn};
+ghost use Rattle.strm_session.specs.Runs.{start, start_among, AreOfGuests, counts_of, next_step, HasLaws, IsKept, HasLawsAmong, IsKeptAmong, IsKeptBefore, AreOfItems, DeliversEach, stop_of, StopsAmong, AsksBad, AsksItems, StopsAt, StopsStep, StopsBy, StopsIn};
 
 use std::alloc::Global;
 use strm_buffers::hosts::Hosts;
@@ -107,6 +107,14 @@ pub fn run(alloc: Global, steps: &[Step], hosts: &mut Hosts) -> Result<Transcrip
         steps.now (spent t.store (tells_of writer_tells reader_tells hosts.new))) }
     ensures kept_before { IfErr result (λ stop. IsKeptBefore (start_among (tells_of writer_tells reader_tells hosts.old) (tells_of writer_tells reader_tells hosts.new))
         steps.now stop.replies) }
+
+    // Where the host writers recorded and held items alone before, they record items alone, and what each
+    // produced on its stream is received, in order, or held, or given up at its end.
+    ensures supplied { AreSupplied (tells_of writer_tells reader_tells hosts.old)
+        → AreSupplied (tells_of writer_tells reader_tells hosts.new) }
+    ensures delivers { AreOfItems (tells_of writer_tells reader_tells hosts.old) → IfOk result (λ t. DeliversEach
+        (start_among (tells_of writer_tells reader_tells hosts.old) (tells_of writer_tells reader_tells hosts.new))
+        steps.now (spent t.store (tells_of writer_tells reader_tells hosts.new))) }
 
     // Of guests alone it is the machine's without host ends, which stay as they were.
     ensures alone { AreOfGuests steps.now → IfOk result (λ t. play [] start steps.now ≡ Ends t.replies t.store) }
@@ -246,6 +254,8 @@ fn play_steps(
         × (play [] start (take (length replies.new) steps.now) ≡ Ends replies.new state)
         × StopsAt steps.now replies.new state cause) }
     ensures hosts { AreOfGuests steps.now → (tells_of writer_tells reader_tells hosts.new) ≡ (tells_of writer_tells reader_tells hosts.old) }
+    ensures supplied { AreSupplied (tells_of writer_tells reader_tells hosts.old)
+        → AreSupplied (tells_of writer_tells reader_tells hosts.new) }
     ensures all { OnOk result (length replies.new ≡ length steps.now) }
     ensures count { length replies.new ≤ length steps.now }
     ensures bytes { All HasBytes (take (length replies.new) steps.now) }

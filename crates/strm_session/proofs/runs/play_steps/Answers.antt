@@ -39,6 +39,12 @@ returns-in-Err-clause-hosts g c = λ all.
     let l = alone_before _ _ c.args.steps.now k c.loop-step.replies c.loop-step.store c.loop-step.invariant.alone all in
     c.step_once.ensures.hosts (untouched_at c.args.steps.now k _ c.loop-step.store at l.unhosted all) ∙ l.same
 
+pub returns-in-Err-clause-supplied : goal.returns-in-Err-clause-supplied
+returns-in-Err-clause-supplied g c = λ a. c.in-Err.ensures.stop.supplied (c.loop-step.invariant.led.supplied a)
+
+pub returns-clause-supplied : goal.returns-clause-supplied
+returns-clause-supplied g c = c.loop-step.invariant.led.supplied
+
 pub returns-in-Err-clause-bytes : goal.returns-in-Err-clause-bytes
 returns-in-Err-clause-bytes g c =
     let count : c.loop-step.step-index ≡ length c.step_once.new.replies = sym (ap length c.in-Err.ensures.err ∙ c.loop-step.invariant.count) in

@@ -6,7 +6,7 @@ use Rattle.strm_laws.specs.Laws.{HasBytes, AreSteps}
 use Rattle.strm_machine.specs.Plays.{play, Ends}
 use Rattle.strm_session.specs.Runs.{start, AreOfGuests}
 use Rattle.strm_session.proofs.AmongLemmas.{stops_behind}
-use Rattle.strm_session.proofs.KeptLemmas.{are_first, kept_among, stop_kept}
+use Rattle.strm_session.proofs.KeptLemmas.{are_first, kept_among, stop_kept, delivers_each}
 use Rattle.strm_session.proofs.LawLemmas.{run_kept, front_kept}
 use Rattle.strm_session.proofs.StopLemmas.{answers-in, answers-items}
 use Rattle.strm_session.proofs.runs.run.Goals as goal
@@ -39,6 +39,15 @@ returns-in-Ok-clause-kept_among g c =
     let a : AreSteps c.args.steps.now = record { few = c.requires.few; bytes = subst (All HasBytes) all c.in-Ok.ensures.bytes } in
     IfOk-weaker c.finished.result _ _
     (λ t e. rw e.1 (kept_among _ (c.laws_hold_among.ensures.laws _ _) (c.laws_hold_among.ensures.leads _ _) c.args.steps.now c.play_steps.new.replies _ a c.in-Ok.ensures.ok))
+    c.finished.ensures.ok
+
+pub returns-in-Ok-clause-delivers : goal.returns-in-Ok-clause-delivers
+returns-in-Ok-clause-delivers g c = λ o.
+    let all = take_all (length c.play_steps.new.replies) c.args.steps.now (omega (arith, c.in-Ok.ensures.all)) in
+    let a : AreSteps c.args.steps.now = record { few = c.requires.few; bytes = subst (All HasBytes) all c.in-Ok.ensures.bytes } in
+    let kept = kept_among _ (c.laws_hold_among.ensures.laws _ _) (c.laws_hold_among.ensures.leads _ _) c.args.steps.now c.play_steps.new.replies _ a c.in-Ok.ensures.ok in
+    IfOk-weaker c.finished.result _ _
+    (λ t e. rw e.1 (delivers_each _ _ c.args.steps.now c.play_steps.new.store kept o (c.play_steps.ensures.supplied o.recorded)))
     c.finished.ensures.ok
 
 pub returns-in-Err-clause-stop_alone : goal.returns-in-Err-clause-stop_alone
