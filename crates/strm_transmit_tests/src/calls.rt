@@ -1,5 +1,9 @@
 //! Calls of a store as rows: what is called, and what is told.
 
+ghost use Rattle.std.specs.Prelude.{OnOk};
+ghost use Rattle.strm_buffers.specs.AllTells.{tells_of};
+ghost use Rattle.strm_world.specs.Does.{Fits};
+
 use std::alloc::Global;
 use strm_buffers::hosts::Hosts;
 use strm_codes::codes::{ReturnCode, TransmitIndex};
@@ -97,10 +101,9 @@ fn on_stream(
     payload: Payload,
     handle: u32,
     act: Act,
-) -> Answer {
-    if !store.fits(hosts) {
-        return Err(StoreError::OutOfMemory);
-    }
+) -> Answer
+    requires { Fits store.old (tells_of writer_tells reader_tells hosts.old) }
+{
     match act {
         Act::Write(address, count) => store
             .stream_write(hosts, guest, payload, handle, address, count)
@@ -130,10 +133,9 @@ fn on_future(
     payload: Payload,
     handle: u32,
     act: Act,
-) -> Answer {
-    if !store.fits(hosts) {
-        return Err(StoreError::OutOfMemory);
-    }
+) -> Answer
+    requires { Fits store.old (tells_of writer_tells reader_tells hosts.old) }
+{
     match act {
         Act::Write(address, _) => store
             .future_write(hosts, guest, payload, handle, address)
@@ -203,6 +205,26 @@ fn has_type(store: &Store, stream: u32, ty: TransmitIndex) -> Answer {
     }
 }
 
+/// What is done to an end of this type, among host ends that the store may need.
+pub(crate) fn on_end(
+    store: &mut Store,
+    hosts: &mut Hosts,
+    guest: u32,
+    ty: TransmitIndex,
+    handle: u32,
+    act: Act,
+) -> Answer {
+    match (fit(store, hosts), ty) {
+        (Ok(()), TransmitIndex::Stream(payload)) => {
+            on_stream(store, hosts, guest, payload, handle, act)
+        }
+        (Ok(()), TransmitIndex::Future(payload)) => {
+            on_future(store, hosts, guest, payload, handle, act)
+        }
+        (Err(error), _) => Err(error),
+    }
+}
+
 fn answer(store: &mut Store, hosts: &mut Hosts, call: &Call) -> Answer {
     match call {
         Call::AddGuest(size) => store.add_guest(*size).map(Reply::Number),
@@ -210,12 +232,7 @@ fn answer(store: &mut Store, hosts: &mut Hosts, call: &Call) -> Answer {
         Call::Between(writer, reader, ty) => {
             store.new_between(*writer, *reader, *ty).map(Reply::Pair)
         }
-        Call::OnEnd(guest, TransmitIndex::Stream(payload), handle, act) => {
-            on_stream(store, hosts, *guest, *payload, *handle, *act)
-        }
-        Call::OnEnd(guest, TransmitIndex::Future(payload), handle, act) => {
-            on_future(store, hosts, *guest, *payload, *handle, *act)
-        }
+        Call::OnEnd(guest, ty, handle, act) => { on_end(store, hosts, *guest, *ty, *handle, *act) }
         Call::TakeEvent(guest, handle) => store.take_event(*guest, *handle).map(Reply::Event),
         Call::Poke(guest, address, bytes) => poked(store, *guest, *address, bytes),
         Call::Dump(guest, address, bytes) => dumped(store, *guest, *address, bytes),
@@ -233,12 +250,59 @@ pub(crate) fn no_hosts(alloc: Global) -> Hosts {
     }
 }
 
+// Sees that the host ends are those that the store needs.
+fn fit(store: &Store, hosts: &Hosts) -> Result<(), StoreError>
+    ensures { OnOk result (Fits store.now (tells_of writer_tells reader_tells hosts.now)) }
+{
+    if store.fits(hosts) {
+        Ok(())
+    } else {
+        Err(StoreError::OutOfMemory)
+    }
+}
+
 /// A step, where the host ends are those that the store needs.
 pub(crate) fn apply_fitting(store: &mut Store, hosts: &mut Hosts, step: &Step) -> Answer {
-    if !store.fits(hosts) {
-        return Err(StoreError::OutOfMemory);
+    match fit(store, hosts) {
+        Ok(()) => apply(store, hosts, step),
+        Err(error) => Err(error),
     }
-    apply(store, hosts, step)
+}
+
+/// `Store::stream_drop_readable`, among host ends that the store may need.
+pub(crate) fn drop_readable(
+    store: &mut Store,
+    hosts: &mut Hosts,
+    guest: u32,
+    payload: Payload,
+    handle: u32,
+) -> Result<(), StoreError> {
+    match fit(store, hosts) {
+        Ok(()) => store.stream_drop_readable(hosts, guest, payload, handle),
+        Err(error) => Err(error),
+    }
+}
+
+/// `Store::stream_drop_writable`, the same way.
+pub(crate) fn drop_writable(
+    store: &mut Store,
+    hosts: &mut Hosts,
+    guest: u32,
+    payload: Payload,
+    handle: u32,
+) -> Result<(), StoreError> {
+    match fit(store, hosts) {
+        Ok(()) => store.stream_drop_writable(hosts, guest, payload, handle),
+        Err(error) => Err(error),
+    }
+}
+
+/// And `Store::close`.
+pub(crate) fn close(store: &mut Store, hosts: &mut Hosts, reader: u32) -> Result<(), StoreError> {
+    match fit(store, hosts) {
+        Ok(()) => store.close(hosts, reader),
+        Err(error) => Err(error),
+    }
 }
 
 // The first row that is not told so, from 1.

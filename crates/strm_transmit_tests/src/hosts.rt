@@ -1,10 +1,10 @@
 //! Host writers by example: reads that they serve, drive rounds, cancels, and ends that go with them.
 
-ghost use Rattle.std.specs.Prelude.{◌≡◌, All};
+ghost use Rattle.std.specs.Prelude.{◌≡◌, All, IfOk};
 ghost use Rattle.strm_codes.specs.declared.payloads.Payload.TheVariants.{One};
 ghost use Rattle.strm_codes.specs.declared.scalars.Scalar.TheVariants.{U8};
 
-use crate::calls::no_hosts;
+use crate::calls::{apply_fitting, no_hosts};
 use std::alloc::Global;
 use std::test::Fail;
 use strm_buffers::answers::Answer;
@@ -23,7 +23,6 @@ use strm_machine::steps::Step;
 use strm_machine::streams::HostEnd;
 use strm_memory::payloaded::Payloaded;
 use strm_transmit::errors::StoreError;
-use strm_transmit::steps::apply;
 use strm_transmit::store::Store;
 
 const BYTES: Payload = Payload::One(Scalar::U8);
@@ -53,15 +52,40 @@ impl Script {
         }
     }
 
-    // A turn more: so many bytes, from one on.
-    fn then(mut self, first: u8, count: u8, answer: Answer) -> Result<Script, Fail> {
-        let mut items = Items::new(self.alloc, BYTES);
-        for byte in 0..count {
-            items.push(&first.wrapping_add(byte).lower())?;
-        }
+    // A turn more.
+    fn then(mut self, items: Items, answer: Answer) -> Result<Script, Fail>
+        requires { items.payload ≡ One U8 }
+    {
         self.turns.push(WriterTurn { items, answer })?;
         Ok(self)
     }
+}
+
+// No items.
+fn none(alloc: Global) -> Items
+    ensures { result.payload ≡ One U8 }
+{
+    Items::new(alloc, BYTES)
+}
+
+// One byte.
+fn one(alloc: Global, byte: u8) -> Result<Items, Fail>
+    ensures { IfOk result (λ items. items.payload ≡ One U8) }
+{
+    let mut items = Items::new(alloc, BYTES);
+    items.push(&byte.lower())?;
+    Ok(items)
+}
+
+// Three bytes.
+fn three(alloc: Global, first: u8, second: u8, third: u8) -> Result<Items, Fail>
+    ensures { IfOk result (λ items. items.payload ≡ One U8) }
+{
+    let mut items = Items::new(alloc, BYTES);
+    items.push(&first.lower())?;
+    items.push(&second.lower())?;
+    items.push(&third.lower())?;
+    Ok(items)
 }
 
 // So many items were moved.
@@ -135,7 +159,7 @@ fn first_wrong(
     let mut at = 0usize;
     for (step, expected) in rows {
         at = at.wrapping_add(1);
-        if !store.fits(hosts) || apply(store, hosts, step) != *expected {
+        if apply_fitting(store, hosts, step) != *expected {
             return at;
         }
     }
@@ -148,9 +172,9 @@ fn reads_are_served(rt: HostRuntime) -> Result<(), Fail> {
     let alloc = rt.alloc();
     let mut hosts = no_hosts(alloc);
     let script = Script::new(alloc)
-        .then(7, 3, Answer::Completed)?
-        .then(0, 0, Answer::Pending)?
-        .then(5, 1, Answer::Dropped)?;
+        .then(three(alloc, 7, 8, 9)?, Answer::Completed)?
+        .then(none(alloc), Answer::Pending)?
+        .then(one(alloc, 5)?, Answer::Dropped)?;
     add_writer(&mut hosts, script)?;
     let mut store = one_guest(alloc).ok().ok_or("a guest")?;
     let rows = [
@@ -199,7 +223,7 @@ fn reads_are_served(rt: HostRuntime) -> Result<(), Fail> {
 fn held_items_come_first(rt: HostRuntime) -> Result<(), Fail> {
     let alloc = rt.alloc();
     let mut hosts = no_hosts(alloc);
-    let script = Script::new(alloc).then(1, 3, Answer::Dropped)?;
+    let script = Script::new(alloc).then(three(alloc, 1, 2, 3)?, Answer::Dropped)?;
     add_writer(&mut hosts, script)?;
     let mut store = one_guest(alloc).ok().ok_or("a guest")?;
     let rows = [
@@ -226,8 +250,8 @@ fn a_cancel_asks_to_finish(rt: HostRuntime) -> Result<(), Fail> {
     let alloc = rt.alloc();
     let mut hosts = no_hosts(alloc);
     let script = Script::new(alloc)
-        .then(0, 0, Answer::Pending)?
-        .then(0, 0, Answer::Cancelled)?;
+        .then(none(alloc), Answer::Pending)?
+        .then(none(alloc), Answer::Cancelled)?;
     add_writer(&mut hosts, script)?;
     let mut store = one_guest(alloc).ok().ok_or("a guest")?;
     let cancelled = ReturnCode::Cancelled(ItemCount::ZERO);
@@ -251,9 +275,9 @@ fn a_cancel_asks_to_finish(rt: HostRuntime) -> Result<(), Fail> {
 fn a_poll_that_stops(rt: HostRuntime) -> Result<(), Fail> {
     let alloc = rt.alloc();
     let mut hosts = no_hosts(alloc);
-    let script = Script::new(alloc).then(1, 1, Answer::Failed)?;
+    let script = Script::new(alloc).then(one(alloc, 1)?, Answer::Failed)?;
     add_writer(&mut hosts, script)?;
-    let script = Script::new(alloc).then(1, 1, Answer::Pending)?;
+    let script = Script::new(alloc).then(one(alloc, 1)?, Answer::Pending)?;
     add_writer(&mut hosts, script)?;
     let end = HostEnd::Writer(0);
     let failing = [
@@ -285,8 +309,8 @@ fn a_round_goes_by_streams(rt: HostRuntime) -> Result<(), Fail> {
     let mut hosts = no_hosts(alloc);
     for first in 0..2u8 {
         let script = Script::new(alloc)
-            .then(0, 0, Answer::Pending)?
-            .then(first, 1, Answer::Failed)?;
+            .then(none(alloc), Answer::Pending)?
+            .then(one(alloc, first)?, Answer::Failed)?;
         add_writer(&mut hosts, script)?;
     }
     let mut store = one_guest(alloc).ok().ok_or("a guest")?;
@@ -323,7 +347,7 @@ fn a_round_goes_by_streams(rt: HostRuntime) -> Result<(), Fail> {
 fn a_close_takes_the_writer_along(rt: HostRuntime) -> Result<(), Fail> {
     let alloc = rt.alloc();
     let mut hosts = no_hosts(alloc);
-    let script = Script::new(alloc).then(1, 1, Answer::Completed)?;
+    let script = Script::new(alloc).then(one(alloc, 1)?, Answer::Completed)?;
     add_writer(&mut hosts, script)?;
     let mut store = one_guest(alloc).ok().ok_or("a guest")?;
     let rows = [

@@ -1,6 +1,6 @@
 //! Ends that move by example: lifts, lowers, closes and transfers, by steps and by calls.
 
-use crate::calls::{apply_fitting, no_hosts};
+use crate::calls::{Act, apply_fitting, close, drop_readable, drop_writable, no_hosts, on_end};
 use std::alloc::Global;
 use std::test::Fail;
 use strm_codes::codes::{ReturnCode, TransmitIndex};
@@ -18,6 +18,8 @@ use strm_transmit::store::Store;
 const BYTES: Payload = Payload::One(Scalar::U8);
 
 const WORDS: Payload = Payload::One(Scalar::U32);
+
+const WORD_FUTURE: TransmitIndex = TransmitIndex::Future(WORDS);
 
 const BYTE_STREAM: TransmitIndex = TransmitIndex::Stream(BYTES);
 
@@ -84,9 +86,9 @@ fn a_write_goes_on_after_a_move(rt: HostRuntime) -> Result<(), Fail> {
     let mut hosts = no_hosts(rt.alloc());
     let bytes = Chunk::new(&[10, 11, 12]).unwrap();
     assert_eq!(rt; store.poke(0, 0, &bytes), Ok(()));
-    let blocked = Ok(ReturnCode::Blocked);
-    assert!(rt; store.fits(&hosts));
-    assert_eq!(rt; store.stream_write(&mut hosts, 0, BYTES, 1, 0, 3), blocked);
+    let write = Act::Write(0, 3);
+    let answer = on_end(&mut store, &mut hosts, 0, BYTE_STREAM, 1, write);
+    assert_eq!(rt; answer, Ok(Reply::Code(ReturnCode::Blocked)));
     let steps = [
         (read(0, 1), Reply::Code(completed(1))),
         (LIFT, Reply::Number(0)),
@@ -101,8 +103,7 @@ fn a_write_goes_on_after_a_move(rt: HostRuntime) -> Result<(), Fail> {
     for (step, reply) in steps {
         assert_eq!(rt; apply_fitting(&mut store, &mut hosts, &step), Ok(reply));
     }
-    assert!(rt; store.fits(&hosts));
-    assert_eq!(rt; store.stream_drop_writable(&mut hosts, 0, BYTES, 1), Ok(()));
+    assert_eq!(rt; drop_writable(&mut store, &mut hosts, 0, BYTES, 1), Ok(()));
     assert_eq!(rt; store.transmit_index(0), None);
     let moved = Chunk::new(&[10, 0, 0, 0, 11, 12]).unwrap();
     assert_eq!(rt; store.dump(1, 0, 6), Ok(moved));
@@ -115,17 +116,12 @@ fn a_write_goes_on_after_a_move(rt: HostRuntime) -> Result<(), Fail> {
 fn an_end_that_was_told_stays(rt: HostRuntime) -> Result<(), Fail> {
     let mut store = with_stream(rt.alloc()).ok().ok_or("a stream")?;
     let mut hosts = no_hosts(rt.alloc());
-    assert!(rt; store.fits(&hosts));
-    assert_eq!(rt; store.stream_drop_writable(&mut hosts, 0, BYTES, 1), Ok(()));
+    assert_eq!(rt; drop_writable(&mut store, &mut hosts, 0, BYTES, 1), Ok(()));
     let mut moving = with_stream(rt.alloc()).ok().ok_or("a stream")?;
-    assert!(rt; moving.fits(&hosts));
-    assert_eq!(rt;
-        moving.stream_drop_writable(&mut hosts, 0, BYTES, 1),
-        Ok(())
-    );
+    assert_eq!(rt; drop_writable(&mut moving, &mut hosts, 0, BYTES, 1), Ok(()));
     assert_eq!(rt; moving.stream_transfer(1, BYTES, 1, 0), Ok(1));
-    assert!(rt; moving.fits(&hosts));
-    assert_eq!(rt; moving.stream_read(&mut hosts, 0, BYTES, 1, 0, 1), Ok(GONE));
+    let answer = on_end(&mut moving, &mut hosts, 0, BYTE_STREAM, 1, Act::Read(0, 1));
+    assert_eq!(rt; answer, Ok(Reply::Code(GONE)));
     assert_eq!(rt; store.take_event(1, 1), Ok(Some(GONE)));
     assert_eq!(rt; store.stream_transfer(1, BYTES, 1, 0), SPENT);
     assert_eq!(rt; store.lift(1, BYTE_STREAM, 1), SPENT);
@@ -141,20 +137,16 @@ fn a_future_that_passed_stays(rt: HostRuntime) -> Result<(), Fail> {
     assert_eq!(rt; store.add_guest(16), Ok(1));
     assert!(rt; store.future_new(0, WORDS).is_ok());
     assert_eq!(rt; store.future_transfer(0, WORDS, 1, 1), Ok(1));
-    let blocked = Ok(ReturnCode::Blocked);
-    assert!(rt; store.fits(&hosts));
-    assert_eq!(rt; store.future_read(&mut hosts, 1, WORDS, 1, 0), blocked);
+    let answer = on_end(&mut store, &mut hosts, 1, WORD_FUTURE, 1, Act::Read(0, 1));
+    assert_eq!(rt; answer, Ok(Reply::Code(ReturnCode::Blocked)));
     let busy = Err(StoreError::Refused(Refusal::Busy));
     assert_eq!(rt; store.future_transfer(1, WORDS, 1, 0), busy);
-    assert!(rt; store.fits(&hosts));
-    assert_eq!(rt;
-        store.future_write(&mut hosts, 0, WORDS, 2, 0),
-        Ok(completed(0))
-    );
+    let answer = on_end(&mut store, &mut hosts, 0, WORD_FUTURE, 2, Act::Write(0, 1));
+    assert_eq!(rt; answer, Ok(Reply::Code(completed(0))));
     let told = Ok(Some(completed(0)));
     assert_eq!(rt; store.take_event(1, 1), told);
     assert_eq!(rt; store.future_transfer(1, WORDS, 1, 0), SPENT);
-    assert_eq!(rt; store.lift(1, TransmitIndex::Future(WORDS), 1), SPENT);
+    assert_eq!(rt; store.lift(1, WORD_FUTURE, 1), SPENT);
     Ok(())
 }
 
@@ -166,8 +158,7 @@ fn a_move_to_the_same_guest(rt: HostRuntime) -> Result<(), Fail> {
     assert_eq!(rt; store.add_guest(16), Ok(0));
     assert!(rt; store.stream_new(0, BYTES).is_ok());
     assert!(rt; store.stream_new(0, BYTES).is_ok());
-    assert!(rt; store.fits(&hosts));
-    assert_eq!(rt; store.stream_drop_readable(&mut hosts, 0, BYTES, 3), Ok(()));
+    assert_eq!(rt; drop_readable(&mut store, &mut hosts, 0, BYTES, 3), Ok(()));
     assert_eq!(rt; store.stream_transfer(0, BYTES, 1, 0), Ok(1));
     let unknown = Err(StoreError::Refused(Refusal::UnknownGuest));
     assert_eq!(rt; store.stream_transfer(0, BYTES, 9, 7), unknown);
@@ -193,17 +184,14 @@ fn handles_at_their_limit(rt: HostRuntime) -> Result<(), Fail> {
     let full = Err(StoreError::Refused(Refusal::HandleLimit));
     assert_eq!(rt; store.lower(0, 1, BYTE_STREAM), full);
     assert_eq!(rt; store.stream_transfer(0, BYTES, 1, 1), Ok(1));
-    assert!(rt; store.fits(&hosts));
-    assert_eq!(rt; store.stream_drop_readable(&mut hosts, 1, BYTES, 1), Ok(()));
+    assert_eq!(rt; drop_readable(&mut store, &mut hosts, 1, BYTES, 1), Ok(()));
     let kind = Err(StoreError::Refused(Refusal::WrongKind));
     assert_eq!(rt; store.lower(0, 1, TransmitIndex::Future(BYTES)), kind);
     let ty = Err(StoreError::Refused(Refusal::WrongType));
     assert_eq!(rt; store.lower(0, 1, TransmitIndex::Stream(WORDS)), ty);
     assert_eq!(rt; store.lower(0, 1, BYTE_STREAM), Ok(1));
     let unknown = Err(StoreError::Refused(Refusal::UnknownReader));
-    assert!(rt; store.fits(&hosts));
-    assert_eq!(rt; store.close(&mut hosts, 0), unknown);
-    assert!(rt; store.fits(&hosts));
-    assert_eq!(rt; store.close(&mut hosts, 7), unknown);
+    assert_eq!(rt; close(&mut store, &mut hosts, 0), unknown);
+    assert_eq!(rt; close(&mut store, &mut hosts, 7), unknown);
     Ok(())
 }

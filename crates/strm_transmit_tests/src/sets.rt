@@ -1,6 +1,6 @@
 //! Waitable sets by example: members in order, what a member may not do, and limits.
 
-use crate::calls::{apply_fitting, no_hosts};
+use crate::calls::{apply_fitting, drop_readable, drop_writable, no_hosts};
 use std::alloc::Global;
 use std::test::Fail;
 use strm_codes::codes::{ReturnCode, TransmitIndex};
@@ -242,8 +242,7 @@ fn calls_of_sets(rt: HostRuntime) -> Result<(), Fail> {
     assert_eq!(rt; store.set_join(0, 4, 2), Ok(()));
     assert_eq!(rt; store.set_drop(0, 3), Ok(()));
     assert_eq!(rt; store.set_poll(0, 4), Ok(None));
-    assert!(rt; store.fits(&hosts));
-    assert_eq!(rt; store.stream_drop_readable(&mut hosts, 0, BYTES, 1), Ok(()));
+    assert_eq!(rt; drop_readable(&mut store, &mut hosts, 0, BYTES, 1), Ok(()));
     let gone = Member {
         handle: 2,
         code: GONE,
@@ -252,8 +251,7 @@ fn calls_of_sets(rt: HostRuntime) -> Result<(), Fail> {
     assert_eq!(rt; store.set_poll(0, 4), Ok(None));
     let members = Err(StoreError::Refused(Refusal::SetNotEmpty));
     assert_eq!(rt; store.set_drop(0, 4), members);
-    assert!(rt; store.fits(&hosts));
-    assert_eq!(rt; store.stream_drop_writable(&mut hosts, 0, BYTES, 2), Ok(()));
+    assert_eq!(rt; drop_writable(&mut store, &mut hosts, 0, BYTES, 2), Ok(()));
     assert_eq!(rt; store.set_drop(0, 4), Ok(()));
     Ok(())
 }
