@@ -56,7 +56,10 @@ pub struct Copies {
 impl Copies {
     /// Slices whose bytes are written to: every fourth byte of the source counts up, and all others
     /// are 0, so that each field of four bytes is a character.
-    pub fn new(alloc: Global, payload: Payload, count: ItemCount) -> Result<Copies, OutOfMemory> {
+    pub fn new(alloc: Global, payload: Payload, count: ItemCount) -> Result<Copies, OutOfMemory>
+        ensures payload { IfOk result (λ copies. copies.payload ≡ payload) }
+        ensures count { IfOk result (λ copies. copies.count ≡ count) }
+    {
         let len = payload.size() as usize * count.as_usize();
         let mut source = filled(alloc, 0, len)?;
         let destination = filled(alloc, 7, len)?;
@@ -75,7 +78,11 @@ impl Copies {
 
     /// Copies all items, so many times.
     #[inline(never)]
-    pub fn repeat(&mut self, rounds: u32) {
+    pub fn repeat(&mut self, rounds: u32)
+        ensures payload { self.new.payload ≡ self.old.payload }
+        ensures count { self.new.count ≡ self.old.count }
+        ensures source { self.new.source ≡ self.old.source }
+    {
         for _ in 0..rounds {
             let _ = copy_items(
                 self.source.as_slice(),

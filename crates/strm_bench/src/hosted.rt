@@ -1,6 +1,6 @@
 //! Host writers on a store: feeds that a guest reads at once, and a long list that it reads in pieces.
 
-ghost use Rattle.std.specs.Prelude.{IfOk};
+ghost use Rattle.std.specs.Prelude.{◌≡◌, IfOk, vec_len};
 ghost use Rattle.strm_buffers.specs.AllTells.{tells_of};
 ghost use Rattle.strm_buffers.specs.Tells.{Tells};
 ghost use Rattle.strm_world.specs.Does.{Fits};
@@ -40,7 +40,9 @@ const LIMITS: Limits = Limits {
 };
 
 /// A list of so many bytes.
-pub fn list(alloc: Global, len: u32) -> Result<Vec<u8>, AllocError> {
+pub fn list(alloc: Global, len: u32) -> Result<Vec<u8>, AllocError>
+    ensures { IfOk result (λ bytes. vec_len bytes ≡ len) }
+{
     vec![in alloc; 7u8; len as usize]
 }
 
@@ -102,6 +104,7 @@ impl Reading {
     #[inline(never)]
     pub fn feed_and_read(&mut self, hosts: &mut Hosts, rounds: u32) -> Result<(), StoreError>
         requires { Fits self.old.store (tells_of writer_tells reader_tells hosts.old) }
+        ensures fits { Fits self.new.store (tells_of writer_tells reader_tells hosts.new) }
     {
         let step = Step::Feed {
             host: 0,
@@ -120,6 +123,7 @@ impl Reading {
     #[inline(never)]
     pub fn read_list(&mut self, hosts: &mut Hosts) -> Result<(), StoreError>
         requires { Fits self.old.store (tells_of writer_tells reader_tells hosts.old) }
+        ensures fits { Fits self.new.store (tells_of writer_tells reader_tells hosts.new) }
     {
         for piece in 0..LISTED / PIECE {
             self.store
