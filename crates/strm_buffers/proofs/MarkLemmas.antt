@@ -8,11 +8,11 @@ use Rattle.strm_codes.specs.declared.scalars.Scalar.TheVariants.{U8}
 use Rattle.strm_codes.specs.declared.payloads.Payload.{Payload}
 use Rattle.strm_codes.specs.declared.payloads.Payload.TheVariants.{One}
 use Rattle.strm_memory.specs.Bytes.{put_at, bytes_at, IsBytes}
-use Rattle.strm_memory.specs.Items.{items_at, stored_at, AreItems}
+use Rattle.strm_memory.specs.Items.{items_at, stored_at, AreItems, byte_items}
 use Rattle.strm_memory.proofs.ByteLemmas.{IsBytes-drop, IsBytes-take}
 use Rattle.strm_memory.proofs.RegionLemmas.{AreItems-items}
 use Rattle.strm_memory.proofs.AppendLemmas.{items-bytes}
-use Rattle.strm_buffers.specs.Listing.{listed, AreKept, items_in, byte_items}
+use Rattle.strm_buffers.specs.Listing.{listed, AreKept, items_in}
 use Rattle.strm_buffers.specs.Windows.{Lent, Between, CanCount, lent_memory, lent_between, with_marked, with_direct, last_of, unmarked_kept, window_kept, KeepsRest, IsWindow, standing}
 use Rattle.strm_buffers.proofs.ListingLemmas.{Lie, lie_none, lie_made, lie_same, length-items_in}
 use Rattle.strm_buffers.proofs.PutLemmas.{put_at-nil, put_at-same, put_at-kept, put_at-over, last_nil, length-last, stored_at-bytes, length-put_at}

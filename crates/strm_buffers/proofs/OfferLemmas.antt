@@ -6,10 +6,10 @@ use Rattle.strm_codes.specs.Layout.{scalars_of, item_size}
 use Rattle.strm_codes.specs.declared.payloads.Payload.{Payload}
 use Rattle.strm_codes.specs.declared.payloads.Payload.TheVariants.{One}
 use Rattle.strm_codes.specs.declared.scalars.Scalar.TheVariants.{U8}
-use Rattle.strm_memory.specs.Items.{items}
+use Rattle.strm_memory.specs.Items.{items, byte_items}
 use Rattle.strm_memory.proofs.ItemLemmas.{item_fits}
 use Rattle.strm_memory.proofs.AppendLemmas.{items-bytes}
-use Rattle.strm_buffers.specs.Listing.{Item, TypedItems, listed, items_in, byte_items}
+use Rattle.strm_buffers.specs.Listing.{Item, TypedItems, listed, items_in}
 use Rattle.strm_buffers.specs.Offers.{items_lent, IsSource, Shows}
 use Rattle.strm_buffers.specs.declared.sources.Source.{Source}
 use Rattle.strm_buffers.specs.declared.sources.Source.TheVariants.{Region, Listed}

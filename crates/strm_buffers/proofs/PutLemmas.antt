@@ -3,9 +3,8 @@ use Rattle.std.proofs.Common.{◌≡◌, ℕ, ◌+◌, ◌-◌, ◌<◌, ◌≤�
 use Rattle.std.proofs.lemmas.List.{take_at, drop_at, drop-drop, take-append-drop, length-take-le, drop-append-le, drop_all}
 use Rattle.strm_codes.specs.declared.scalars.Scalar.TheVariants.{U8}
 use Rattle.strm_memory.specs.Bytes.{put_at, bytes_at}
-use Rattle.strm_memory.specs.Items.{stored_at}
+use Rattle.strm_memory.specs.Items.{stored_at, byte_items}
 use Rattle.strm_memory.proofs.AppendLemmas.{stored-bytes}
-use Rattle.strm_buffers.specs.Listing.{byte_items}
 use Rattle.strm_buffers.specs.Windows.{last_of}
 
 pub put_flat : (m : List ℕ) (at : ℕ) (s : List ℕ) → put_at m at s ≡ take at m ++ (s ++ drop (at + length s) m)

@@ -41,10 +41,6 @@ abbrev pub kept_items : Payload → List ℕ → ℕ → ℕ → TypedItems
 kept_items payload bytes start len =
     record { payload = payload; items = items_in (scalars_of payload) bytes start len }
 
--- bytes as items of payload u8, and the bytes that such items are
-abbrev pub byte_items : List ℕ → List Item
-byte_items bytes = map (λ b. pos b ∷ []) bytes
-
 -- the byte that an item of payload u8 is
 abbrev pub byte_of : Item → ℕ
 byte_of [] = 0

@@ -5,8 +5,8 @@ use Rattle.strm_codes.specs.Layout.{scalars_of, item_size}
 use Rattle.strm_codes.specs.declared.scalars.Scalar.{Scalar}
 use Rattle.strm_codes.specs.declared.payloads.Payload.{Payload}
 use Rattle.strm_memory.specs.Bytes.{bytes_at}
-use Rattle.strm_memory.specs.Items.{decode}
-use Rattle.strm_buffers.specs.Listing.{Item, TypedItems, byte_items}
+use Rattle.strm_memory.specs.Items.{decode, byte_items}
+use Rattle.strm_buffers.specs.Listing.{Item, TypedItems}
 use Rattle.strm_buffers.specs.declared.sources.Source.{Source}
 use Rattle.strm_buffers.specs.declared.sources.Source.TheVariants.{Region, Listed}
 

@@ -7,8 +7,8 @@ use Rattle.strm_codes.specs.declared.scalars.Scalar.TheVariants.{U8}
 use Rattle.strm_codes.specs.declared.payloads.Payload.{Payload}
 use Rattle.strm_codes.specs.declared.payloads.Payload.TheVariants.{One}
 use Rattle.strm_memory.specs.Bytes.{put_at, bytes_at}
-use Rattle.strm_memory.specs.Items.{stored_at}
-use Rattle.strm_buffers.specs.Listing.{Item, LieIn, items_in, byte_items}
+use Rattle.strm_memory.specs.Items.{stored_at, byte_items}
+use Rattle.strm_buffers.specs.Listing.{Item, LieIn, items_in}
 
 -- where items go: into a memory, which has the marked ones in it and is otherwise as it was lent,
 -- from an address on, with room for so many in all; or to another host end

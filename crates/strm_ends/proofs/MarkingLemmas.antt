@@ -4,7 +4,8 @@ use Rattle.std.proofs.lemmas.List.{take_at, drop_at, take_all, take-append-drop,
 use Rattle.strm_codes.specs.Layout.{scalars_of, item_size}
 use Rattle.strm_codes.specs.declared.scalars.Scalar.TheVariants.{U8}
 use Rattle.strm_memory.proofs.AppendLemmas.{items-bytes}
-use Rattle.strm_buffers.specs.Listing.{Item, listed, items_in, byte_items}
+use Rattle.strm_memory.specs.Items.{byte_items}
+use Rattle.strm_buffers.specs.Listing.{Item, listed, items_in}
 use Rattle.strm_buffers.specs.Windows.{Lent, Place, Memory, Between, HasRoom, IsBehind, behind_direct, with_direct, with_marked, stored_in}
 use Rattle.strm_buffers.specs.Lending.{past, with_past, room_end, written_over, with_unmarked}
 use Rattle.strm_buffers.specs.Tells.{Fills}

@@ -5,7 +5,7 @@
 ghost use Rattle.std.specs.Prelude.{◌≡◌, ◌≤◌, ◌++◌, [], length, drop, true, OnOk};
 ghost use Rattle.strm_codes.specs.declared.payloads.Payload.TheVariants.{One};
 ghost use Rattle.strm_codes.specs.declared.scalars.Scalar.TheVariants.{U8};
-ghost use Rattle.strm_buffers.specs.Listing.{byte_items};
+ghost use Rattle.strm_memory.specs.Items.{byte_items};
 ghost use Rattle.strm_buffers.specs.Windows.{HasRoom};
 ghost use Rattle.strm_buffers.specs.Tells.{Fills};
 

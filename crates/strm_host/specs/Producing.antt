@@ -7,7 +7,8 @@ use Rattle.strm_buffers.specs.declared.answers.Turn.TheVariants.{NoMemory}
 use Rattle.strm_buffers.specs.Said.{turn_of}
 use Rattle.strm_buffers.specs.declared.answers.Answer.{Answer}
 use Rattle.strm_codes.specs.Layout.{scalars_of}
-use Rattle.strm_buffers.specs.Listing.{Item, byte_items}
+use Rattle.strm_memory.specs.Items.{byte_items}
+use Rattle.strm_buffers.specs.Listing.{Item}
 use Rattle.strm_buffers.specs.Windows.{Lent, stored_in}
 
 -- one poll: all items that it produces, and its answer

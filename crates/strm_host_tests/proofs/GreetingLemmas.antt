@@ -6,7 +6,7 @@ use Rattle.strm_codes.specs.declared.codes.StreamResult.{StreamResult}
 use Rattle.strm_codes.specs.declared.codes.StreamResult.TheVariants as result
 use Rattle.strm_buffers.specs.declared.answers.Turn.{Turn}
 use Rattle.strm_buffers.specs.declared.answers.Turn.TheVariants.{Pending, Ready, Failed, NoMemory}
-use Rattle.strm_buffers.specs.Listing.{byte_items}
+use Rattle.strm_memory.specs.Items.{byte_items}
 use Rattle.strm_buffers.specs.Windows.{Lent, stored_in, with_direct}
 use Rattle.strm_buffers.specs.Said.{IfAnswered}
 use Rattle.strm_buffers.specs.Tells.{Fills, Rises}

@@ -1,7 +1,7 @@
 -- The items of a region of a memory, and a memory with items stored in a region.
 -- Canonical ABI, "Loading" and "Storing": `load_record` and `store_record`,
 -- `load_list_from_valid_range` and `store_list_into_valid_range`. Padding is never written.
-use Rattle.std.specs.Prelude.{ℕ, zero, suc, ◌+◌, ◌*◌, ◌<◌, IsSome, IsNone, ℤ, Bool, true, false, List, [], ◌∷◌, ◌++◌, take, drop, slice_index_or, Option, Some, option_and_then}
+use Rattle.std.specs.Prelude.{ℕ, zero, suc, ◌+◌, ◌*◌, ◌<◌, IsSome, IsNone, ℤ, pos, Bool, true, false, List, [], ◌∷◌, ◌++◌, take, drop, map, slice_index_or, Option, Some, option_and_then}
 use Rattle.std.specs.Option.{option_map}
 use Rattle.strm_codes.specs.Scalars.{size_of, is_whole_number}
 use Rattle.strm_codes.specs.Layout.{gap_before, item_size}
@@ -71,6 +71,10 @@ stored_at ss memory address xs = take address memory ++ stored ss (drop address 
 abbrev pub AreItems : List Scalar → List (List ℤ) → Type 0
 AreItems ss [] = Unit {0}
 AreItems ss (x ∷ xs) = FitsItem ss x × AreItems ss xs
+
+-- bytes as items of payload u8
+abbrev pub byte_items : List ℕ → List (List ℤ)
+byte_items bytes = map (λ b. pos b ∷ []) bytes
 
 -- any bytes are items of these payloads: nothing, and one whole number
 abbrev pub is_number_or_none : Payload → Bool

@@ -37,17 +37,17 @@ pub fn copy_items(
     ensures err { OnErr result (destination.new ≡ destination.old) }
     ensures number_or_none { IsTrue (is_number_or_none payload) → IsOk result }
 {
-    copy_region(source, 0, destination, 0, payload, count)
+    copy_region(source, 0, destination, 0, payload, count.as_usize())
 }
 
-// The same from and to an address.
-pub(crate) fn copy_region(
+/// The same from an address and to one, of any number of items.
+pub fn copy_region(
     source: &[u8],
     from: usize,
     destination: &mut [u8],
     to: usize,
     payload: Payload,
-    count: ItemCount,
+    count: usize,
 ) -> Result<(), BadItem>
     requires source_holds { from + item_size (scalars_of payload) * count ≤ length source.now }
     requires room { to + item_size (scalars_of payload) * count ≤ length destination.old }
@@ -60,7 +60,6 @@ pub(crate) fn copy_region(
         (bytes_at source.now from (item_size (scalars_of payload) * count)) }
 {
     let size = payload.size() as usize;
-    let count = count.as_usize();
     match payload {
         Payload::Nothing => Ok(()),
         Payload::One(scalar) if scalar.is_whole_number() => {

@@ -181,7 +181,7 @@ impl GuestMemory {
             self.bytes.as_mut_slice(),
             to,
             payload,
-            count,
+            count.as_usize(),
         )
     }
 

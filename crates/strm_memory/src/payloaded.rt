@@ -2,11 +2,15 @@
 //!
 //! Source: ours; wasmtime has `Lift` and `Lower`, which read and write a guest's memory.
 
-ghost use Rattle.std.specs.Prelude.{◌≡◌, ◌≤◌, ◌↔◌, length, IsSome, IfSome};
+ghost use Rattle.std.specs.Prelude.{◌≡◌, ◌+◌, ◌≤◌, ◌↔◌, [], ◌∷◌, length, map, IsSome, IsNone, IfSome};
 ghost use Rattle.strm_codes.specs.Items.{FitsItem};
-ghost use Rattle.strm_codes.specs.Layout.{scalars_of};
-ghost use Rattle.strm_codes.specs.declared.payloads.Payload.TheVariants.{Tuple};
+ghost use Rattle.strm_codes.specs.Layout.{scalars_of, item_size};
+ghost use Rattle.strm_codes.specs.declared.payloads.Payload.TheVariants.{One, Tuple};
+ghost use Rattle.strm_codes.specs.declared.scalars.Scalar.TheVariants.{U8};
+ghost use Rattle.strm_memory.specs.Items.{stored_at, byte_items};
 
+use crate::fields::lower_field;
+use crate::items::lower_item_at;
 use crate::typed_fields::Field;
 use strm_codes::payloads::{Payload, Shape};
 use strm_codes::scalars::Scalar;
@@ -36,6 +40,26 @@ pub trait Payloaded: Copy {
     fn lower(&self) -> Value
         ensures exact { result ≡ item self.now }
         ensures fits { FitsItem (scalars_of payload) result };
+
+    /// Stores the item that the value is in the bytes from a place on. Padding stays as it was. Takes
+    /// no memory.
+    fn put(&self, bytes: &mut [u8], at: usize)
+        requires { at + item_size (scalars_of payload) ≤ length bytes.old }
+        ensures { bytes.new ≡ stored_at (scalars_of payload) bytes.old at (item self.now ∷ []) }
+    {
+        lower_item_at(&self.lower(), Self::payload(), bytes, at);
+    }
+
+    /// The values taken out as the bytes that they are, where they are bytes; others stay. Takes no
+    /// memory.
+    fn take_bytes(values: &mut Vec<Self>) -> Option<Vec<u8>>
+        ensures payload { IfSome result (λ _. payload ≡ One U8) }
+        ensures bytes { IfSome result (λ bytes. map item values.old.items ≡ byte_items bytes.items) }
+        ensures others { IsNone result → values.new ≡ values.old }
+    {
+        let _ = values;
+        None
+    }
 
     // No two values are one item: so what is lowered is lifted again.
     ghost apart: { (x y : Self) → item x ≡ item y → x ≡ y };
@@ -183,7 +207,6 @@ impl Payloaded for () {
 impl<T: Field> Payloaded for T {
     ghost use Rattle.std.specs.Prelude.{[], ◌∷◌};
     ghost use Rattle.strm_memory.specs.Apart.{one_apart};
-    ghost use Rattle.strm_codes.specs.declared.payloads.Payload.TheVariants.{One};
 
     ghost payload = { One T.scalar };
 
@@ -202,6 +225,14 @@ impl<T: Field> Payloaded for T {
 
     fn lower(&self) -> Value {
         value_of((*self, ()))
+    }
+
+    fn put(&self, bytes: &mut [u8], at: usize) {
+        lower_field(bytes, at, T::scalar(), self.to_number());
+    }
+
+    fn take_bytes(values: &mut Vec<T>) -> Option<Vec<u8>> {
+        <T as Field>::take_bytes(values)
     }
 }
 

@@ -2,9 +2,11 @@
 //!
 //! Source: ours; wasmtime has `Lift` and `Lower`, which read and write a guest's memory.
 
-ghost use Rattle.std.specs.Prelude.{◌≡◌, ◌↔◌, IsSome, IfSome};
+ghost use Rattle.std.specs.Prelude.{◌≡◌, ◌↔◌, IsSome, IsNone, IfSome, pos, map};
 ghost use Rattle.strm_codes.specs.Scalars.{FitsScalar};
+ghost use Rattle.strm_codes.specs.declared.scalars.Scalar.TheVariants.{U8};
 
+use std::mem;
 use strm_codes::scalars::Scalar;
 
 /// A type whose values are the items of one scalar.
@@ -31,6 +33,17 @@ pub trait Field: Copy {
     fn to_number(self) -> i128
         ensures exact { result ≡ number self }
         ensures fits { FitsScalar scalar result };
+
+    /// The values taken out as the bytes that they are, where the scalar is u8; of another scalar they
+    /// stay. Takes no memory.
+    fn take_bytes(values: &mut Vec<Self>) -> Option<Vec<u8>>
+        ensures scalar { IfSome result (λ _. scalar ≡ U8) }
+        ensures bytes { IfSome result (λ bytes. map number values.old.items ≡ map (λ b. pos b) bytes.items) }
+        ensures others { IsNone result → values.new ≡ values.old }
+    {
+        let _ = values;
+        None
+    }
 
     // No two values are one number.
     ghost apart: { (x y : Self) → number x ≡ number y → x ≡ y };
@@ -104,6 +117,11 @@ impl Field for u8 {
 
     fn scalar() -> Scalar {
         Scalar::U8
+    }
+
+    fn take_bytes(values: &mut Vec<u8>) -> Option<Vec<u8>> {
+        let none = Vec::new(*values.allocator());
+        Some(mem::replace(values, none))
     }
 
     fn from_number(of: i128) -> Option<u8> {

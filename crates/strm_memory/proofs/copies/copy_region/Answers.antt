@@ -11,7 +11,7 @@ returns-in-Nothing-clause-bad c = rw c.in-Nothing.is (never_none _ (items-no_cha
 
 pub returns-in-One-clause-ok : goal.returns-in-One-clause-ok
 returns-in-One-clause-ok c =
-    rw c.in-One.is (numbers_copied_at c.in-One.scalar c.args.count c.args.source.now c.args.destination.now _ c.args.from c.args.to _ (sym c.if-is_whole_number.ensures) (λ k. omega (arith, c.type_inv.source k)) (rw c.in-One.is at c.requires.source_holds) (rw (c.as_usize-count.ensures.exact, c.size-size.ensures.exact, c.in-One.is) refl) c.copy_bytes.ensures)
+    rw c.in-One.is (numbers_copied_at c.in-One.scalar c.args.count c.args.source.now c.args.destination.now _ c.args.from c.args.to _ (sym c.if-is_whole_number.ensures) (λ k. omega (arith, c.type_inv.source k)) (rw c.in-One.is at c.requires.source_holds) (rw (c.size-size.ensures.exact, c.in-One.is) refl) c.copy_bytes.ensures)
 
 pub returns-in-One-clause-bad : goal.returns-in-One-clause-bad
 returns-in-One-clause-bad c =

@@ -3,7 +3,8 @@ use Rattle.strm_codes.specs.Layout.{scalars_of, item_size}
 use Rattle.strm_codes.specs.declared.payloads.Payload.{Payload}
 use Rattle.strm_codes.specs.declared.payloads.Payload.TheVariants.{One}
 use Rattle.strm_codes.specs.declared.scalars.Scalar.TheVariants.{U8}
-use Rattle.strm_buffers.specs.Listing.{Item, items_in, byte_items}
+use Rattle.strm_memory.specs.Items.{byte_items}
+use Rattle.strm_buffers.specs.Listing.{Item, items_in}
 use Rattle.strm_ends.proofs.MarkingLemmas.{bytes_are_items}
 use Rattle.strm_ends.proofs.feeds.Feeds.mark.Goals as goal
 
