@@ -44,7 +44,7 @@ use Rattle.strm_machine.specs.declared.streams.Stream.{Stream}
 use Rattle.strm_machine.proofs.BoundLemmas.{within}
 use Rattle.strm_machine.proofs.CarryLemmas.{no_scalars}
 use Rattle.strm_machine.proofs.Lawful.{as_moment}
-use Rattle.strm_machine.proofs.LawfulLemmas.{made_at}
+use Rattle.strm_machine.proofs.SeenSteps.{made_at}
 use Rattle.strm_machine.proofs.NamedEndLemmas.{named_itself}
 use Rattle.strm_machine.proofs.PutLemmas.{reaction-there}
 use Rattle.strm_machine.proofs.ShapeLemmas.{reaction-shape}

@@ -14,7 +14,7 @@ use Rattle.strm_machine.specs.declared.streams.Operation.{Operation}
 use Rattle.strm_machine.specs.declared.streams.End.{End}
 use Rattle.strm_machine.specs.declared.streams.Stream.{Stream}
 use Rattle.strm_machine.specs.declared.replies.Reply.{Reply}
-use Rattle.strm_machine.proofs.LawfulLemmas.{made_at}
+use Rattle.strm_machine.proofs.SeenSteps.{made_at}
 use Rattle.strm_machine.proofs.NamedEndLemmas.{NamesEnd}
 use Rattle.strm_machine.specs.Reactions.{makes}
 use Rattle.strm_memory.specs.Bytes.{IsBytes}
@@ -134,7 +134,7 @@ module _ (state : State) (side : Side) (end : NamedEnd) (address count : ℕ) (t
       }
   turn_seen_here None h u =
       let r = written_back state k t None in
-      let streams : set state.streams k t.stream ≡ state.streams = ap (set state.streams k) u.same_stream ∙ set-get_or state.streams k no_stream in
+      let streams : set state.streams k t.stream ≡ state.streams = ap (set state.streams k) u ∙ set-get_or state.streams k no_stream in
       same_seen state k (as_moment state (operating side end address count) r) refl h
       (λ other. untold k other (as_moment state (operating side end address count) r) refl)
       (ap (λ xs. get_or xs k no_stream) streams)

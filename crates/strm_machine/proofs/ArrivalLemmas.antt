@@ -90,7 +90,7 @@ unfolding decoded
 decoded-zero ss bytes zero e = refl
 decoded-zero ss bytes (suc n) e = absurd (omega arith)
 
-decoded-items : (ss : List Scalar) (bytes : List ℕ) (n : ℕ) (xs : List (List ℤ)) → items ss bytes n ≡ Some xs → decoded ss bytes n ≡ map Some xs
+pub decoded-items : (ss : List Scalar) (bytes : List ℕ) (n : ℕ) (xs : List (List ℤ)) → items ss bytes n ≡ Some xs → decoded ss bytes n ≡ map Some xs
 unfolding items decoded
 decoded-items ss bytes zero xs e = let q : [] ≡ xs = cc in rw (← q) refl
 decoded-items ss bytes (suc n) xs e =
@@ -117,7 +117,6 @@ all_nothing bytes (suc n) = All-cons IsSome (Some []) (decoded [] (drop (item_si
 pub record Arrives (guests after : List Guest) (payload : Payload) (write read : Operation) (n : ℕ) : Type 0 where
   pub brings : items_in payload after read.guest read.address n ≡ items_in payload guests write.guest write.address n
   pub whole : All IsSome (items_in payload after read.guest read.address n)
-  pub bytes : AreBytes after
 
 -- the items of two places
 abbrev Same : List Scalar → List ℕ → List ℕ → ℕ → Type 0
@@ -164,5 +163,11 @@ module _ (guests after : List Guest) (payload : Payload) (write read : Operation
       record {
         brings = ap (λ m. decoded ss (drop read.address m) n) here ∙ same.0;
         whole = subst (λ m. All IsSome (decoded ss (drop read.address m) n)) (sym here) same.1;
-        bytes = subst AreBytes q (AreBytes-with_memory guests read.guest new (IsBytes-stored_at ss memory read.address xs (memory_bytes guests read.guest h)) h);
       })
+
+  pub carried_bytes : AreBytes guests → carried guests payload write read n ≡ Some after → AreBytes after
+  carried_bytes h e =
+      let ss = scalars_of payload in
+      let memory = memory_in guests read.guest in
+      option_map_some _ (items_at ss (memory_in guests write.guest) write.address n) after e
+      (λ xs p q. subst AreBytes q (AreBytes-with_memory guests read.guest (stored_at ss memory read.address xs) (IsBytes-stored_at ss memory read.address xs (memory_bytes guests read.guest h)) h))

@@ -37,6 +37,10 @@ use Rattle.strm_machine.proofs.ReactionLemmas.{reaction-by, reaction-trapped, re
 
 -- ## Who completes
 
+-- where mine meets theirs
+abbrev meeting_at : Side → Operation → Operation → Meeting
+meeting_at side mine theirs = meeting_of (write_of side mine theirs).left (read_of side mine theirs).left
+
 both_complete : (w r : ℕ) → 0 < w → 0 < r → meeting_of w r ≡ BothComplete
 both_complete w r h k = rw (ne_eqb w 0 (λ e. omega arith), ne_eqb r 0 (λ e. omega arith)) refl
 
@@ -50,11 +54,11 @@ both_have w r e =
       ]
     ]
 
-meets_both : (side : Side) (mine theirs : Operation) → 0 < mine.left → 0 < theirs.left → meeting_of (write_of side mine theirs).left (read_of side mine theirs).left ≡ BothComplete
+meets_both : (side : Side) (mine theirs : Operation) → 0 < mine.left → 0 < theirs.left → meeting_at side mine theirs ≡ BothComplete
 meets_both Writing mine theirs h k = both_complete mine.left theirs.left h k
 meets_both Reading mine theirs h k = both_complete theirs.left mine.left k h
 
-sides_have : (side : Side) (mine theirs : Operation) → meeting_of (write_of side mine theirs).left (read_of side mine theirs).left ≡ BothComplete → (0 < mine.left) × (0 < theirs.left)
+sides_have : (side : Side) (mine theirs : Operation) → meeting_at side mine theirs ≡ BothComplete → (0 < mine.left) × (0 < theirs.left)
 sides_have Writing mine theirs e = both_have mine.left theirs.left e
 sides_have Reading mine theirs e = let h = both_have theirs.left mine.left e in (h.1, h.0)
 
@@ -101,7 +105,7 @@ module _ (side : Side) (guests : List Guest) (stream : Stream) (mine : Operation
   alone_answers who theirs = cond_both (same_side who side) _ _ (λ (t : Turn). t.code ≡ None → ⊥) (λ b e. cc) (λ b e. cc)
 
   module _ (there : is_gone (end_of (opposite side) stream).owner ≡ false) where
-    bad-rendezvous : (theirs : Operation) → (end_of (opposite side) stream).operation ≡ Some theirs → theirs.is_open ≡ true → (m : Meeting) → meeting_of (write_of side mine theirs).left (read_of side mine theirs).left ≡ m → (rendezvous_by m side guests stream mine theirs).code ≡ None → MeetsBad side guests stream mine
+    bad-rendezvous : (theirs : Operation) → (end_of (opposite side) stream).operation ≡ Some theirs → theirs.is_open ≡ true → (m : Meeting) → meeting_at side mine theirs ≡ m → (rendezvous_by m side guests stream mine theirs).code ≡ None → MeetsBad side guests stream mine
     bad-rendezvous theirs w o BothComplete m e =
         let have = sides_have side mine theirs m in
         let none = not_carried theirs (min mine.left theirs.left) _ e in

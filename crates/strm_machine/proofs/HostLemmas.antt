@@ -14,7 +14,7 @@ use Rattle.strm_machine.specs.declared.streams.Producer.{Producer}
 use Rattle.strm_machine.specs.declared.streams.Owner.TheVariants.{Host}
 use Rattle.strm_machine.proofs.EndLemmas.{IsLeft, left_by}
 use Rattle.strm_machine.proofs.HeldLemmas.{names_in, StateIsHeld}
-use Rattle.strm_machine.proofs.LawfulLemmas.{made_at}
+use Rattle.strm_machine.proofs.SeenSteps.{made_at}
 use Rattle.strm_machine.proofs.SoundStepLemmas.{operate-keeps}
 use Rattle.strm_machine.proofs.TableLemmas.{OwnersStay, with_end-owners}
 use Rattle.strm_machine.proofs.Shapes.{stream_on, begun_on, turn_on, Operates, set_by, owned_by, IsFreed, tabled_by, Shape, ByTurn, BySetting, ByOwner, ByTable, ByPair, ByGuest, ByPut, ByRest}

@@ -14,6 +14,12 @@ pub record IsLawful (state : State) : Type 0 where
   pub apart : (s : ℕ) → both_open (stream_at state s) ≡ false
   pub tallies : (s : ℕ) → Tallies (stream_at state s)
 
+-- the same, as far as it is seen of one stream
+pub record IsLawfulAt (state : State) (s : ℕ) : Type 0 where
+  pub bytes : All (λ g. IsBytes g.memory) state.guests
+  pub apart : both_open (stream_at state s) ≡ false
+  pub tallies : Tallies (stream_at state s)
+
 -- a count that has room for the items of one more step
 abbrev pub HasRoom : State → Type 0
 HasRoom state = (s : ℕ) → received s state + 2 ^ 28 < 2 ^ 128

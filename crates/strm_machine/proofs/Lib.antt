@@ -27,6 +27,8 @@ pub mod ContextStepLemmas
 pub mod PlaceLemmas
 pub mod ShapeLemmas
 pub mod SoundStepLemmas
+pub mod SeenSteps
+pub mod ByteSteps
 pub mod LawfulLemmas
 pub mod AgreeLemmas
 pub mod HeldLemmas

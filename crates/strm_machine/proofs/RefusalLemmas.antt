@@ -176,13 +176,17 @@ event_fits state g handle e =
     let first = not_refused (is_unknown_guest state g) _ _ e in
     record { there = not_le (length state.guests) g first.0; found = first.1 }
 
+-- the reasons of the end that is named and of its side, and then more
+abbrev pub named_reasons : State → Side → NamedEnd → List Reason → List Reason
+named_reasons state side end more = handle_reasons (named state end) ++ side_reasons side (side_named (named state end)) more
+
 -- a handle of the side that is named, for which nothing else speaks against what is done
 pub record SideFits (state : State) (side : Side) (end : NamedEnd) (more : List Reason) : Type 0 where
   pub found : first_of (handle_reasons (named state end)) ≡ None
   pub same : same_side side (side_named (named state end)) ≡ true
   pub rest : first_of more ≡ None
 
-side_fits : (state : State) (side : Side) (end : NamedEnd) (more : List Reason) → first_of (handle_reasons (named state end) ++ side_reasons side (side_named (named state end)) more) ≡ None → SideFits state side end more
+side_fits : (state : State) (side : Side) (end : NamedEnd) (more : List Reason) → first_of (named_reasons state side end more) ≡ None → SideFits state side end more
 side_fits state side end more e =
     let name = named state end in
     let both = none_of_both (handle_reasons name) (side_reasons side (side_named name) more) e in
@@ -195,7 +199,7 @@ pub record NamedFits (state : State) (side : Side) (end : NamedEnd) : Type 0 whe
   pub found : first_of (handle_reasons (named state end)) ≡ None
   pub same : same_side side (side_named (named state end)) ≡ true
 
-pub named_fits : (state : State) (side : Side) (end : NamedEnd) (more : List Reason) → first_of (where_ (is_unknown_guest state end.guest) refusals.UnknownGuest ∷ (handle_reasons (named state end) ++ side_reasons side (side_named (named state end)) more)) ≡ None → NamedFits state side end × (first_of more ≡ None)
+pub named_fits : (state : State) (side : Side) (end : NamedEnd) (more : List Reason) → first_of (where_ (is_unknown_guest state end.guest) refusals.UnknownGuest ∷ named_reasons state side end more) ≡ None → NamedFits state side end × (first_of more ≡ None)
 named_fits state side end more e =
     let first = not_refused (is_unknown_guest state end.guest) _ _ e in
     let fits = side_fits state side end more first.1 in
@@ -261,7 +265,8 @@ pub record LowerFits (state : State) (s g : ℕ) (ty : TransmitIndex) : Type 0 w
   pub number : next_in state g < handle_limit
   pub handles : handles_in_use state + 1 ≤ state.limits.handles
 
-same_kind_is : (a b : TransmitKind) → same_kind a b ≡ true → a ≡ b
+-- two kinds that are tested the same are the same
+pub same_kind_is : (a b : TransmitKind) → same_kind a b ≡ true → a ≡ b
 same_kind_is AStream AStream e = refl
 same_kind_is AStream Future e = cc
 same_kind_is Future AStream e = cc

@@ -14,10 +14,9 @@ use Rattle.strm_machine.specs.Turns.{answers, waits, moves, completes_alone, ren
 use Rattle.strm_machine.specs.declared.streams.Meeting.{Meeting}
 use Rattle.strm_machine.proofs.SideLemmas.{read_of-placed}
 use Rattle.strm_machine.specs.Moments.{Place, place_of}
-use Rattle.strm_machine.specs.Soundness.{is_opened}
+use Rattle.strm_machine.specs.Soundness.{is_opened, IsUnmoved}
 use Rattle.strm_machine.proofs.Changes.{Scene, Change, ByRest, ByGoing, ByOpening, ByServing}
 use Rattle.strm_machine.proofs.EndLemmas.{each_side, apart_by, write_mine, write_theirs, read_fits, write_none, read_none, IsTurned, turned_not, turned_end, turned_both, turned_moves}
-use Rattle.strm_machine.specs.Soundness.{IsUnmoved}
 use Rattle.strm_machine.proofs.TallyLemmas.{AreOne, none_unmoved, unmoved_on, Tallies-by, IsOne-advanced, one_at, none_one, Tallies, one_on, PassesOne-by, count_passed, Begins, count_reported-completed, count_reported-dropped}
 use Rattle.strm_machine.proofs.ArrivalLemmas.{AreBytes, decoded-zero, carried_arrives}
 
@@ -55,16 +54,11 @@ pub record Does (side : Side) (guests : List Guest) (stream : Stream) (mine : Op
   pub whole : All IsSome (got_by side stream mine t)
   pub most : t.stream.received ≤ stream.received + 2 ^ 28
   pub apart : both_open t.stream ≡ false
-  pub bytes : AreBytes t.guests
   pub tallies : Tallies t.stream
 
-pub record Unturned (guests : List Guest) (stream : Stream) (t : Turn) : Type 0 where
-  pub same_guests : t.guests ≡ guests
-  pub same_stream : t.stream ≡ stream
-
--- a turn that answers a code does this, and one that finds a bad item changes nothing
+-- a turn that answers a code does this, and one that finds a bad item leaves the stream
 abbrev pub DoesBy : Side → List Guest → Stream → Operation → Turn → Option ReturnCode → Type 0
-DoesBy side guests stream mine t None = Unturned guests stream t
+DoesBy side guests stream mine t None = t.stream ≡ stream
 DoesBy side guests stream mine t (Some code) = Does side guests stream mine code t
 
 -- mine is taken and has the report, theirs neither
@@ -204,7 +198,6 @@ module _ (side : Side) (guests : List Guest) (stream : Stream) (mine : Operation
         whole = none_whole stream.payload guests place.guest place.address new.received stream.received t.count;
         most = omega (arith, t.count);
         apart = apart_by side new (ap is_opened t.mine_is);
-        bytes = bytes;
         tallies = Tallies-by side new (none_unmoved (end_of side new).operation t.mine_is) (subst IsUnmoved (sym t.theirs_is) (unmoved_on (opposite side) stream tallies))
             (λ k. let p = tallies.one (sym t.kind ∙ k) in PassesOne-by side new (none_one (end_of side new).operation t.mine_is) (subst AreOne (sym t.theirs_is) (one_on (opposite side) stream p)) (rw (t.count, t.pass) p.count));
       }
@@ -232,7 +225,6 @@ module _ (side : Side) (guests : List Guest) (stream : Stream) (mine : Operation
         whole = none_whole stream.payload guests place.guest place.address new.received stream.received t.count;
         most = omega (arith, t.count);
         apart = apart_by (opposite side) new (ap is_opened t.theirs_is ∙ p.closed);
-        bytes = bytes;
         tallies = Tallies-by side new (subst IsUnmoved (sym t.mine_is) (λ e. start)) (subst IsUnmoved (sym t.theirs_is) p.unmoved)
             (λ k. let f : stream.kind ≡ Future = sym t.kind ∙ k in
             PassesOne-by side new (subst AreOne (sym t.mine_is) (begins f).one) (subst AreOne (sym t.theirs_is) (p.one f)) (rw (t.count, t.pass) (tallies.one f).count));
@@ -314,7 +306,6 @@ module _ (side : Side) (guests : List Guest) (stream : Stream) (mine : Operation
         whole = subst (All IsSome) (sym got) arrives.whole;
         most = omega (arith, more, t.count);
         apart = apart_by side new (ap is_opened t.mine_is);
-        bytes = arrives.bytes;
         tallies = Tallies-by side new (none_unmoved (end_of side new).operation t.mine_is) (subst IsUnmoved (sym t.theirs_is) (λ g. cc))
             (λ k. let f : stream.kind ≡ Future = sym t.kind ∙ k in
             let was = tallies.one f in
@@ -324,7 +315,7 @@ module _ (side : Side) (guests : List Guest) (stream : Stream) (mine : Operation
       }
 
   carries : (theirs : Operation) (n : ℕ) (o : Option (List Guest)) → Moving side guests stream mine theirs n → Carries theirs n o → DoesTurn (moves side guests stream mine theirs n o)
-  carries theirs n None h e = record { same_guests = refl; same_stream = refl }
+  carries theirs n None h e = refl
   carries theirs n (Some after) h e = moved theirs n after h e
 
   -- one of the two has nothing left and completes alone

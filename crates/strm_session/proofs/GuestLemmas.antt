@@ -16,7 +16,7 @@ use Rattle.strm_machine.specs.declared.acts.Act.{Act}
 use Rattle.strm_machine.specs.declared.acts.Act.TheVariants.{OnEnd, OnLoose, OnHost, Drive}
 use Rattle.strm_machine.specs.declared.acts.EndAct.TheVariants.{Operate, Drop}
 use Rattle.strm_machine.specs.declared.acts.LooseAct.TheVariants.{Close}
-use Rattle.strm_machine.proofs.LawfulLemmas.{made_at}
+use Rattle.strm_machine.proofs.SeenSteps.{made_at}
 use Rattle.strm_machine.proofs.SoundStepLemmas.{operate-keeps, reaction-sound}
 use Rattle.strm_machine.proofs.TableLemmas.{OwnersStay, with_end-owners, owner_in}
 use Rattle.strm_machine.proofs.Shapes.{turn_on, Shape, ByTurn, BySetting, ByOwner, ByTable, ByPair, ByGuest, ByPut, ByRest}
