@@ -3,6 +3,7 @@ use Rattle.std.proofs.Common.{◌≡◌, zero, suc, Bool, true, false, List, [],
 use Rattle.std.specs.Str.{IsAscii, is_utf8}
 use Rattle.std.proofs.lemmas.Str.{IsUtf8-from_ascii, is_utf8-from_IsUtf8}
 use Rattle.strm_machine.specs.declared.steps.Step.{Step}
+use Rattle.strm_machine.specs.declared.replies.Reply.{Reply}
 use Rattle.strm_machine.specs.declared.replies.Reply.TheVariants as replies
 use Rattle.strm_machine.specs.declared.steps.Step.TheVariants as steps
 use Rattle.strm_codes.specs.declared.refusals.Refusal.TheVariants as refusals
@@ -55,7 +56,9 @@ gives-told : AllGive start told
 unfolding performs with_stream turn delivered dropped decode_from encode_from items stored
 gives-told = (is_text, (no_text 0xff _ (omega arith), (no_text 0xff _ (omega arith), (no_text 0xff _ (omega arith), tt))))
 
-replies_to-told : replies_to (steps_of told) ≡
+-- its replies
+abbrev told_replies : List Reply
+told_replies =
     replies.Number 0
     ∷ replies.Number 1
     ∷ replies.Done
@@ -71,5 +74,7 @@ replies_to-told : replies_to (steps_of told) ≡
     ∷ replies.Refused refusals.MessageTooLong
     ∷ replies.Refused refusals.OutOfBounds
     ∷ []
+
+replies_to-told : replies_to (steps_of told) ≡ told_replies
 unfolding performs with_stream turn delivered dropped decode_from encode_from items stored
 replies_to-told = replies-by told gives-told
