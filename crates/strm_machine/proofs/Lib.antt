@@ -29,6 +29,7 @@ pub mod ShapeLemmas
 pub mod SoundStepLemmas
 pub mod SeenSteps
 pub mod ByteSteps
+pub mod StreamSteps
 pub mod LawfulLemmas
 pub mod AgreeLemmas
 pub mod HeldLemmas

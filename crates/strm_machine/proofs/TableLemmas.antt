@@ -8,6 +8,10 @@ use Rattle.strm_machine.specs.Words.{Guest, Handles, no_handles, Sets, no_sets, 
 use Rattle.strm_handles.specs.Handles.{IsTable}
 use Rattle.strm_machine.specs.Soundness.{handles_of}
 
+-- what one of a list keeps is as it was of each
+pub set-keeps : {A B : Type 0} (f : A → B) (xs : List A) (n k : ℕ) (x d : A) → f x ≡ f (get_or xs n d) → f (get_or (set xs n x) k d) ≡ f (get_or xs k d)
+set-keeps f xs n k x d e = sym (get_or-map f (set xs n x) k d) ∙ ap (λ l. get_or l k (f d)) (map-set_same f xs n x d e) ∙ get_or-map f xs k d
+
 -- ## Guests
 
 pub handles_of-with_memory : (guests : List Guest) (g : ℕ) (memory : List ℕ) → handles_of (with_memory guests g memory) ≡ handles_of guests
@@ -67,9 +71,7 @@ owner_in streams s side = (end_of side (get_or streams s no_stream)).owner
 
 -- another stream of the same owners
 pub owner-set_same : (streams : List Stream) (s : ℕ) (x : Stream) (k : ℕ) (side : Side) → (end_of side x).owner ≡ owner_in streams s side → owner_in (set streams s x) k side ≡ owner_in streams k side
-owner-set_same streams s x k side e =
-    let f : Stream → Owner = λ st. (end_of side st).owner in
-    sym (get_or-map f (set streams s x) k no_stream) ∙ ap (λ l. get_or l k (f no_stream)) (map-set_same f streams s x no_stream e) ∙ get_or-map f streams k no_stream
+owner-set_same streams s x k side e = set-keeps (λ (st : Stream). (end_of side st).owner) streams s k x no_stream e
 
 pub owner-set_stays : (streams : List Stream) (s : ℕ) (x : Stream) (k : ℕ) (side : Side) → OwnersStay (get_or streams s no_stream) x → owner_in (set streams s x) k side ≡ owner_in streams k side
 owner-set_stays streams s x k side h = owner-set_same streams s x k side (owner_stays side (get_or streams s no_stream) x h)
