@@ -76,12 +76,16 @@ abbrev first_and_others : ℕ → List ℕ × List ℕ → Option (List Scalar)
 first_and_others n p =
     option_and_then {U = List Scalar} (λ s. option_and_then {U = List Scalar} (λ rest. Some (s ∷ rest)) (fields_read n p.1)) (scalar_read p.0)
 
-fields_sound : (n : ℕ) (word : List ℕ) (fields : List Scalar) → fields_read n word ≡ Some fields → AreFields n word fields
+-- what is read as n fields at most spells them
+abbrev FieldsAreSound : ℕ → Type 0
+FieldsAreSound n = (word : List ℕ) (fields : List Scalar) → fields_read n word ≡ Some fields → AreFields n word fields
+
+fields_sound : (n : ℕ) → FieldsAreSound n
 unfolding fields_read
 fields_sound zero word fields e = absurd (none-some fields e)
 fields_sound (suc n) word fields e = by_comma (cut_at 44 word) refl (fields_sound n) e
   where
-    by_comma : (o : Option (List ℕ × List ℕ)) → cut_at 44 word ≡ o → ((rest : List ℕ) (fields : List Scalar) → fields_read n rest ≡ Some fields → AreFields n rest fields) → option_map_or (first_and_others n) o (option_map (λ s. s ∷ []) (scalar_read word)) ≡ Some fields → AreFields (suc n) word fields
+    by_comma : (o : Option (List ℕ × List ℕ)) → cut_at 44 word ≡ o → FieldsAreSound n → option_map_or (first_and_others n) o (option_map (λ s. s ∷ []) (scalar_read word)) ≡ Some fields → AreFields (suc n) word fields
     by_comma None f others e = option_map_some _ (scalar_read word) fields e (λ s g h. rw (← h) (record { spelled = scalar_sound word s g; some = omega arith; most = omega arith }))
     by_comma (Some p) f others e =
         option_and_then_some _ (scalar_read p.0) fields e (λ s g h.

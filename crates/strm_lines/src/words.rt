@@ -4,7 +4,7 @@
 
 ghost use Rattle.std.specs.Prelude.{◌≡◌, ◌%◌, ◌≤◌, ◌<◌, false, IsTrue, length, drop, slice_index_or, Some, None};
 ghost use Rattle.std.specs.Option.{option_map};
-ghost use Rattle.strm_lines.specs.Reading.{behind, cut_at, early, late, named_among, scalar_read, fields_read, shape_read, payload_read, leading, is_digit, number, read_to, number_within, nibble, pairs_from, fed, hex, type_read};
+ghost use Rattle.strm_lines.specs.Reading.{behind, cut_at, early, late, named_among, scalar_read, fields_read, shape_read, payload_read, leading, is_digit, number, read_to, number_within, nibble, pairs_from, hex, type_read};
 
 use memchr::memchr;
 use strm_codes::codes::TransmitIndex;
@@ -291,18 +291,6 @@ fn pairs(word: &[u8]) -> Option<Chunk>
         return None;
     }
     Chunk::new(&bytes[..len])
-}
-
-// What is fed: 1 to 64 bytes, or none for `end`.
-#[tactic(auto, unfolding(crate::specs::Reading::fed))]
-pub(crate) fn fed(word: &[u8]) -> Option<Chunk>
-    ensures { result ≡ fed word.now }
-{
-    if word == b"end".as_slice() {
-        Chunk::new(&[])
-    } else {
-        hex(word)
-    }
 }
 
 // 1 to 64 bytes, as pairs of lower-case hexadecimal digits.

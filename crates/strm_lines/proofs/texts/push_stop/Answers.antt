@@ -1,6 +1,6 @@
-use Rattle.std.proofs.Common.{◌≡◌, ◌++◌, ℕ, List, [], ◌∷◌, sym, ap, ◌∙◌, append_assoc, codes}
+use Rattle.std.proofs.Common.{◌≡◌, ◌++◌, ℕ, List, [], ◌∷◌, ◌∙◌, append_assoc, codes}
 use Rattle.std.proofs.lemmas.Result.{on_ok_weaker}
-use Rattle.strm_lines.specs.Text.{ended, host_end_text, stop_text}
+use Rattle.strm_lines.specs.Text.{ended, host_end_text}
 use Rattle.strm_lines.proofs.texts.push_stop.Goals as goal
 
 -- a word and its space, and then a host end, as a line
