@@ -43,7 +43,8 @@ use Rattle.strm_machine.specs.declared.streams.Stream.{Stream}
 use Rattle.strm_machine.proofs.HeldLemmas.{StateIsHeld, reaction-held}
 use Rattle.strm_machine.proofs.TurnLemmas.{GuestsKeep}
 use Rattle.strm_machine.proofs.EndLemmas.{left_by}
-use Rattle.strm_machine.proofs.HostLemmas.{HostsHold-empty, reaction-hosts, serving_made}
+use Rattle.strm_machine.proofs.EmptyLemmas.{HostsHold-empty}
+use Rattle.strm_machine.proofs.HostLemmas.{reaction-hosts, serving_made}
 use Rattle.strm_machine.proofs.RefusalLemmas.{none_of_both, region_fits, named_ok, placed_begun}
 use Rattle.strm_machine.proofs.NamedEndLemmas.{IsFound, end_fits, on_end-found, found_payload}
 use Rattle.strm_machine.proofs.ReactionLemmas.{refusal-on_end}

@@ -38,18 +38,23 @@ not_out-front size ss address n k h e =
     let w = item_size ss in
     not_out size ss address k (λ p q. let whole = within size ss address n e (omega arith) q in let less : w * k ≤ w * n = grind arith in omega (arith, whole, less))
 
--- items taken from one place and stored in a region keep the memory's length
-pub length-stored_region : (ss : List Scalar) (source memory : List ℕ) (from to n : ℕ) (xs : List (List ℤ)) → items_at ss source from n ≡ Some xs → is_out_of_bounds (length memory) ss to n ≡ false → length (stored_at ss memory to xs) ≡ length memory
-length-stored_region ss source memory from to n xs i h =
-    let count = length-items ss (drop from source) n xs i in
-    let room : item_size ss * n ≤ length memory - to = fits (length memory) (item_size ss) to n (λ p q. within (length memory) ss to n h p q) in
-    let same = length-stored ss (drop to memory) xs (rw count (omega (arith, room, length-drop to memory))) in
+-- what a region takes is room that the memory has behind its address
+room_left : (size w to n : ℕ) → (0 < n → 0 < w → to + w * n ≤ size) → w * n ≤ size - to
+room_left size zero to n k = omega arith
+room_left size (suc w) to zero k = omega arith
+room_left size (suc w) to (suc n) k = omega (arith, k (omega arith) (omega arith))
+
+-- items stored in a region, no more than it holds, keep the memory's length
+pub length-stored_front : (ss : List Scalar) (memory : List ℕ) (to n : ℕ) (xs : List (List ℤ)) → length xs ≤ n → is_out_of_bounds (length memory) ss to n ≡ false → length (stored_at ss memory to xs) ≡ length memory
+length-stored_front ss memory to n xs l h =
+    let front = not_out-front (length memory) ss to n (length xs) l h in
+    let room : item_size ss * length xs ≤ length memory - to = room_left (length memory) (item_size ss) to (length xs) (λ p q. within (length memory) ss to (length xs) front p q) in
+    let same = length-stored ss (drop to memory) xs (omega (arith, room, length-drop to memory)) in
     rw (length-append, same) (omega (arith, length-take to memory, length-drop to memory))
-  where
-    fits : (size w to n : ℕ) → (0 < n → 0 < w → to + w * n ≤ size) → w * n ≤ size - to
-    fits size zero to n k = omega arith
-    fits size (suc w) to zero k = omega arith
-    fits size (suc w) to (suc n) k = omega (arith, k (omega arith) (omega arith))
+
+-- so do items taken from one place and stored in such a region
+pub length-stored_region : (ss : List Scalar) (source memory : List ℕ) (from to n : ℕ) (xs : List (List ℤ)) → items_at ss source from n ≡ Some xs → is_out_of_bounds (length memory) ss to n ≡ false → length (stored_at ss memory to xs) ≡ length memory
+length-stored_region ss source memory from to n xs i h = length-stored_front ss memory to n xs (omega (arith, length-items ss (drop from source) n xs i)) h
 
 -- the address behind n items that lie in a memory of at most 2^28 bytes
 pub address_room : (sizes : List ℕ) (g : ℕ) (ss : List Scalar) (address n : ℕ) → g < length sizes → is_out_of_bounds (get_or sizes g 0) ss address n ≡ false → sum sizes ≤ memory_limit → address < 2 ^ 32 → address + item_size ss * n < 2 ^ 32
@@ -61,12 +66,13 @@ address_room sizes g ss address n l h s a =
     room size (suc w) address zero k s a = omega arith
     room size (suc w) address (suc n) k s a = omega (arith, k (omega arith) (omega arith))
 
+-- a range of bytes that is not out of bounds
+pub bytes_inside : (size address count : ℕ) → bytes_out_of_bounds size address count ≡ false → 0 < count → address + count ≤ size
+bytes_inside size address count e h = grind (arith, nat_tests)
+
 -- bytes put where they don't pass the end keep the memory's length
 pub length-poked : (memory : List ℕ) (address : ℕ) (bytes : List ℕ) → bytes_out_of_bounds (length memory) address (length bytes) ≡ false → length (put_at memory address bytes) ≡ length memory
 length-poked memory address [] h =
     let e : length (drop (address + 0) memory) ≡ length memory - address = rw add-zero (length-drop address memory) in
     omega (arith, e, length-append (take address memory ++ []) (drop (address + 0) memory), length-append (take address memory) [], length-take address memory)
-length-poked memory address (b ∷ bytes) h = length-put_at memory address (b ∷ bytes) (inside (length memory) address (length (b ∷ bytes)) h (omega arith))
-  where
-    inside : (size address count : ℕ) → bytes_out_of_bounds size address count ≡ false → 0 < count → address + count ≤ size
-    inside size address count e h = grind (arith, nat_tests)
+length-poked memory address (b ∷ bytes) h = length-put_at memory address (b ∷ bytes) (bytes_inside (length memory) address (length (b ∷ bytes)) h (omega arith))

@@ -127,3 +127,6 @@ pub record IsReplaced (side : Side) (old new : Stream) (e : End) : Type 0 where
 pub with_end-replaces : (side : Side) (stream : Stream) (e : End) → IsReplaced side stream (with_end side stream e) e
 with_end-replaces Writing stream e = record { here = refl; other = refl; payload = refl; kind = refl; count = refl }
 with_end-replaces Reading stream e = record { here = refl; other = refl; payload = refl; kind = refl; count = refl }
+
+pub with_operation-count : (side : Side) (stream : Stream) (o : Operation) → (with_operation side stream o).received ≡ stream.received
+with_operation-count side stream o = (with_end-replaces side stream (record (end_of side stream) { operation = Some o })).count

@@ -1,15 +1,14 @@
 -- Host writers and streams agree after every step, by its shape: no step gives a host end an end, or takes one.
-use Rattle.std.proofs.Common.{◌≡◌, ℕ, zero, suc, ◌<◌, true, false, List, [], ◌∷◌, ◌++◌, length, get_or, set, Option, Some, None, refl, sym, ap, ◌∙◌, subst, inl, inr, arith}
-use Rattle.std.specs.Prelude.{replicate}
+use Rattle.std.proofs.Common.{◌≡◌, ℕ, ◌<◌, true, false, List, [], ◌∷◌, ◌++◌, length, get_or, set, Option, Some, None, refl, sym, ap, ◌∙◌, subst, inl, inr, arith}
 use Rattle.std.proofs.lemmas.Bool.{cases_eq, cases_lt, cond_both}
-use Rattle.std.proofs.lemmas.List.{get_or-set_same, get_or-set_other, get_or_past, length-replicate}
-use Rattle.strm_machine.specs.Words.{Guest, ReturnCode, TransmitIndex, State, empty, no_stream, stream_at, end_of, with_end, Turn, named, stream_named, Reaction, written_back, is_end, NamedEnd, Act, Limits, Side, Writing, Reading, Operation, End, Stream, Owner, is_loose, IsSound}
+use Rattle.std.proofs.lemmas.List.{get_or-set_same, get_or-set_other, get_or_past}
+use Rattle.strm_machine.specs.Words.{Guest, ReturnCode, TransmitIndex, State, no_stream, stream_at, end_of, with_end, Turn, named, stream_named, Reaction, written_back, is_end, NamedEnd, Act, Side, Writing, Reading, Operation, End, Stream, Owner, is_loose, IsSound}
 use Rattle.strm_machine.specs.State.{host_limit, no_producer, producer_at, is_host, is_gone}
 use Rattle.strm_machine.specs.Hosting.{HostsHold}
 use Rattle.strm_machine.specs.Making.{made_stream, made_pair, with_stream}
 use Rattle.strm_machine.specs.Turns.{finds, turn}
 use Rattle.strm_machine.specs.Reactions.{reaction}
-use Rattle.strm_machine.specs.declared.streams.Duty.TheVariants.{Unused, Serves}
+use Rattle.strm_machine.specs.declared.streams.Duty.TheVariants.{Serves}
 use Rattle.strm_machine.specs.declared.streams.Producer.{Producer}
 use Rattle.strm_machine.specs.declared.streams.Owner.TheVariants.{Host}
 use Rattle.strm_machine.proofs.EndLemmas.{IsLeft, left_by}
@@ -42,8 +41,8 @@ HostsHold-stays state after p stays h = record {
   unpiped = λ s. (stays s).unpiped (h.unpiped s);
 }
 
-stays_same : (stream : Stream) → HostsStay stream stream
-stays_same stream = record { was = λ n e. e; is = λ n e. e; idle = λ e o. o; unpiped = λ e. e }
+pub HostsStay-same : (stream : Stream) → HostsStay stream stream
+HostsStay-same stream = record { was = λ n e. e; is = λ n e. e; idle = λ e o. o; unpiped = λ e. e }
 
 -- both ends stay with their owners
 stays_owned : (old new : Stream) → OwnersStay old new → (is_host old.writer.owner ≡ true → old.writer.operation ≡ None → new.writer.operation ≡ None) → HostsStay old new
@@ -54,14 +53,23 @@ stays_owned old new same idle = record {
   unpiped = λ e. ap is_host same.reader ∙ e;
 }
 
-not_host : (owner : Owner) (n : ℕ) → is_host owner ≡ false → owner ≡ Host n → ⊥
-not_host owner n e f = let g : is_host owner ≡ true = ap is_host f in cc
+-- whether an owner is a host end
+pub no_host : (owner : Owner) (n : ℕ) → is_host owner ≡ false → owner ≡ Host n → ⊥
+no_host owner n e f = let g : is_host owner ≡ true = ap is_host f in cc
+
+pub unless_host : (owner : Owner) → ((n : ℕ) → owner ≡ Host n → ⊥) → is_host owner ≡ false
+unless_host (Host n) h = absurd (h n refl)
+unless_host _ h = refl
+
+pub host_number : (owner : Owner) → is_host owner ≡ true → (n : ℕ) × (owner ≡ Host n)
+host_number (Host n) e = (n, refl)
+host_number _ e = cc
 
 -- of the write end, neither the old owner nor the new one is a host end
 stays_unhosted : (old new : Stream) → is_host old.writer.owner ≡ false → is_host new.writer.owner ≡ false → (is_host old.reader.owner ≡ false → is_host new.reader.owner ≡ false) → HostsStay old new
 stays_unhosted old new was is unpiped = record {
-  was = λ n e. absurd (not_host new.writer.owner n is e);
-  is = λ n e. absurd (not_host old.writer.owner n was e);
+  was = λ n e. absurd (no_host new.writer.owner n is e);
+  is = λ n e. absurd (no_host old.writer.owner n was e);
   idle = λ e o. absurd (let wrong : true ≡ false = sym e ∙ was in cc);
   unpiped = unpiped;
 }
@@ -71,7 +79,7 @@ stays_set : (streams : List Stream) (s : ℕ) (x : Stream) → s < length stream
 stays_set streams s x l h k =
     elim (cases_eq k s) [
       | inl e ↦ rw (e, get_or-set_same streams s x no_stream l) h
-      | inr ne ↦ rw (get_or-set_other streams s k x no_stream ne) (stays_same (get_or streams k no_stream))
+      | inr ne ↦ rw (get_or-set_other streams s k x no_stream ne) (HostsStay-same (get_or streams k no_stream))
     ]
 
 -- ## What each shape keeps
@@ -81,7 +89,7 @@ unhosted_named : (state : State) (g handle s : ℕ) (side : Side) → StateIsHel
 unhosted_named state g handle s side held e = ap is_host (held.agree.named g handle s side e)
 
 -- a read leaves a write end without an operation so
-turn_idle : (guests : List Guest) (stream : Stream) (mine : Operation) → stream.writer.operation ≡ None → (turn Reading guests stream mine).stream.writer.operation ≡ None
+pub turn_idle : (guests : List Guest) (stream : Stream) (mine : Operation) → stream.writer.operation ≡ None → (turn Reading guests stream mine).stream.writer.operation ≡ None
 unfolding turn
 turn_idle guests stream mine e =
     cond_both (is_gone stream.writer.owner) _ _ (λ (t : Turn). t.stream.writer.operation ≡ None)
@@ -128,7 +136,7 @@ pair_stays state writer reader ty k =
     let made = made_stream ty writer pair.write reader pair.read in
     let streams = state.streams ++ made ∷ [] in
     elim (made_at state.streams made k) [
-      | inl e ↦ rw e (stays_same (stream_at state k))
+      | inl e ↦ rw e (HostsStay-same (stream_at state k))
       | inr e ↦ stays_unhosted (stream_at state k) (get_or streams k no_stream)
           (ap (λ st. is_host st.writer.owner) e.0) (ap (λ st. is_host st.writer.owner) e.1) (λ u. ap (λ st. is_host st.reader.owner) e.1)
     ]
@@ -142,7 +150,7 @@ written_hosts state s t (Some code) l k h = HostsHold-stays state (written_back 
 -- streams and producers are as they were
 HostsHold-same : (state after : State) → after.producers ≡ state.producers → after.streams ≡ state.streams → HostsHold state → HostsHold after
 HostsHold-same state after p e h =
-    HostsHold-stays state after p (λ k. subst (λ xs. HostsStay (stream_at state k) (get_or xs k no_stream)) (sym e) (stays_same (stream_at state k))) h
+    HostsHold-stays state after p (λ k. subst (λ xs. HostsStay (stream_at state k) (get_or xs k no_stream)) (sym e) (HostsStay-same (stream_at state k))) h
 
 pub shape-hosts : (state : State) (act : Act) (r : Reaction) → StateIsHeld state → HostsHold state → Shape state act r → HostsHold r.state
 unfolding with_stream
@@ -168,25 +176,6 @@ shape-hosts state act r held h (ByRest reply e none) = rw e h
 pub reaction-hosts : (state : State) (act : Act) → IsSound state → StateIsHeld state → HostsHold state → HostsHold (reaction state act).state
 reaction-hosts state act sound held h = shape-hosts state act (reaction state act) held h (reaction-shape state act sound)
 
--- a state without host writers in use
-pub HostsHold-empty : (tag : ℕ) (limits : Limits) → HostsHold (empty tag limits)
-HostsHold-empty tag limits =
-    let none : (s : ℕ) → stream_at (empty tag limits) s ≡ no_stream = λ s. get_or_past (empty tag limits).streams s no_stream (omega arith) in
-    record {
-      all = length-replicate {A = Producer} host_limit no_producer;
-      serve = λ n s. record {
-        serves = λ e. absurd (not_host (stream_at (empty tag limits) s).writer.owner n (ap (λ st. is_host st.writer.owner) (none s)) e);
-        owns = λ e. absurd (let unused = unused_all host_limit n in cc);
-        idle = λ e. absurd (not_host (stream_at (empty tag limits) s).writer.owner n (ap (λ st. is_host st.writer.owner) (none s)) e);
-      };
-      unpiped = λ s. ap (λ st. is_host st.reader.owner) (none s);
-    }
-  where
-    unused_all : (m n : ℕ) → (get_or (replicate m no_producer) n no_producer).duty ≡ Unused
-    unused_all zero n = refl
-    unused_all (suc m) zero = refl
-    unused_all (suc m) (suc n) = unused_all m n
-
 -- ## Host ends in use
 
 -- one that serves a stream is known
@@ -202,5 +191,5 @@ pub serving_made : (state : State) (n s : ℕ) → HostsHold state → (producer
 serving_made state n s h e =
     elim (cases_lt s (length state.streams)) [
       | inl l ↦ l
-      | inr l ↦ absurd (not_host (stream_at state s).writer.owner n (ap (λ st. is_host st.writer.owner) (get_or_past state.streams s no_stream l)) ((h.serve n s).owns e))
+      | inr l ↦ absurd (no_host (stream_at state s).writer.owner n (ap (λ st. is_host st.writer.owner) (get_or_past state.streams s no_stream l)) ((h.serve n s).owns e))
     ]

@@ -37,3 +37,4 @@ pub mod UntouchedLemmas
 pub mod PutLemmas
 pub mod AskedLemmas
 pub mod HostLemmas
+pub mod EmptyLemmas

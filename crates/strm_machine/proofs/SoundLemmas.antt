@@ -37,7 +37,7 @@ IsSound-guests state guests k h = record {
   contexts = HoldsContexts-same state.guests guests state.contexts (λ number. all_handles-same number state.guests guests k.handles) h.contexts;
 }
 
-type_of-same : (a b : Stream) → a.payload ≡ b.payload → a.kind ≡ b.kind → type_of a ≡ type_of b
+pub type_of-same : (a b : Stream) → a.payload ≡ b.payload → a.kind ≡ b.kind → type_of a ≡ type_of b
 type_of-same a b e f = rw (e, f) refl
 
 -- a stream of the same type, whose operations lie in memory
@@ -108,7 +108,7 @@ EntryIsNamed-more types p (Some (entries.ErrorContext rep)) h = tt
 EntryIsNamed-more types p (Some (entries.Subtask rep is_host)) h = tt
 EntryIsNamed-more types p (Some (entries.WaitableSet rep)) h = tt
 
-AreNamed-more : (types : List TransmitIndex) (p : TransmitIndex) (handles : Handles) → AreNamed types handles → AreNamed (types ++ p ∷ []) handles
+pub AreNamed-more : (types : List TransmitIndex) (p : TransmitIndex) (handles : Handles) → AreNamed types handles → AreNamed (types ++ p ∷ []) handles
 AreNamed-more types p handles h = All-weaker (EntryIsNamed types) (EntryIsNamed (types ++ p ∷ [])) (EntryIsNamed-more types p) handles.entries h
 
 entries_with-named : (types : List TransmitIndex) (es : List (Option Entry)) (n : ℕ) (e : Entry) → EntryIsNamed types (Some e) → All (EntryIsNamed types) es → All (EntryIsNamed types) (entries_with es n (Some e))

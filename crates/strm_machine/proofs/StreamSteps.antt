@@ -10,7 +10,7 @@ use Rattle.strm_machine.specs.Reactions.{reaction}
 use Rattle.strm_machine.specs.Turns.{moves, completes_alone, rendezvous_by, finds, turn}
 use Rattle.strm_machine.specs.declared.streams.Meeting.{Meeting}
 use Rattle.strm_machine.specs.declared.streams.Meeting.TheVariants.{BothComplete, WriteCompletes, ReadCompletes}
-use Rattle.strm_machine.proofs.EndLemmas.{with_end-replaces}
+use Rattle.strm_machine.proofs.EndLemmas.{with_end-replaces, with_operation-count}
 use Rattle.strm_machine.proofs.MoveLemmas.{end_by}
 use Rattle.strm_machine.proofs.SeenSteps.{made_at}
 use Rattle.strm_machine.proofs.Shapes.{stream_on, begun_on, turn_on, Shape, ByTurn, BySetting, ByOwner, ByTable, ByPair, ByGuest, ByPut, ByRest}
@@ -23,12 +23,6 @@ use Rattle.strm_machine.proofs.TableLemmas.{set-keeps}
 -- a count that stops at the greatest
 pub most_of : (r n : ℕ) → n < 2 ^ 28 → min (r + n) (2 ^ 128 - 1) ≤ r + 2 ^ 28
 most_of r n l = omega arith
-
-with_end-count : (side : Side) (stream : Stream) (e : End) → (with_end side stream e).received ≡ stream.received
-with_end-count side stream e = (with_end-replaces side stream e).count
-
-with_operation-count : (side : Side) (stream : Stream) (o : Operation) → (with_operation side stream o).received ≡ stream.received
-with_operation-count side stream o = with_end-count side stream (record (end_of side stream) { operation = Some o })
 
 module _ (side : Side) (guests : List Guest) (stream : Stream) (mine : Operation) (small : mine.left < 2 ^ 28) where
   abbrev Few : Turn → Type 0
@@ -58,7 +52,7 @@ module _ (side : Side) (guests : List Guest) (stream : Stream) (mine : Operation
   unfolding turn
   turn_few =
       cond_both (is_gone (end_of (opposite side) stream).owner) _ _ Few
-      (λ e. omega (arith, with_end-count side stream (record (end_of side stream) { told = true })))
+      (λ e. omega (arith, (with_end-replaces side stream (record (end_of side stream) { told = true })).count))
       (λ e. finds_few _)
 
 -- ## The streams

@@ -1,5 +1,6 @@
--- The handles of guests and the owners of streams, after a change of one guest's table or of one stream.
-use Rattle.std.proofs.Common.{◌≡◌, ◌≢◌, ℕ, zero, suc, ◌<◌, List, [], ◌∷◌, ◌++◌, length, get_or, set, refl, sym, ap, ◌∙◌, ⊎_elim}
+-- The handles of guests and the owners of streams, after a change of one guest's table or of one stream, and
+-- before them what stays of a list.
+use Rattle.std.proofs.Common.{◌≡◌, ◌≢◌, ℕ, zero, suc, ◌<◌, List, [], ◌∷◌, ◌++◌, length, get_or, set, refl, sym, ap, ◌∙◌, ⊎_elim, arith}
 use Rattle.std.proofs.Math.Seq.{map-set_same}
 use Rattle.std.proofs.Math.ListN.{get_or-map}
 use Rattle.std.proofs.lemmas.Bool.{cases_eq}
@@ -11,6 +12,13 @@ use Rattle.strm_machine.specs.Soundness.{handles_of}
 -- what one of a list keeps is as it was of each
 pub set-keeps : {A B : Type 0} (f : A → B) (xs : List A) (n k : ℕ) (x d : A) → f x ≡ f (get_or xs n d) → f (get_or (set xs n x) k d) ≡ f (get_or xs k d)
 set-keeps f xs n k x d e = sym (get_or-map f (set xs n x) k d) ∙ ap (λ l. get_or l k (f d)) (map-set_same f xs n x d e) ∙ get_or-map f xs k d
+
+-- one more behind them, or what was before
+pub at_push : {A : Type 0} (xs : List A) (x d : A) (k : ℕ) (P : A → Type 0) → (k ≡ length xs → P x) → (k ≢ length xs → P (get_or xs k d)) → P (get_or (xs ++ x ∷ []) k d)
+at_push [] x d zero P f g = f refl
+at_push [] x d (suc k) P f g = g (λ e. omega (arith, e))
+at_push (y ∷ ys) x d zero P f g = g (λ e. omega (arith, e))
+at_push (y ∷ ys) x d (suc k) P f g = at_push ys x d k P (λ e. f (ap suc e)) (λ n. g (λ e. n (omega (arith, e))))
 
 -- ## Guests
 

@@ -1,11 +1,10 @@
 -- What each step leaves of memories: all bytes but those that it pokes or receives items at.
 use Rattle.std.proofs.Common.{Bool, List, None, Option, Some, [], ap, arith, cond, drop, false, get_or, inl, inr, length, length-append, length-set, min, refl, set, subst, suc, sym, take, zero, ℕ, ℤ, ◌*◌, ◌++◌, ◌+◌, ◌-◌, ◌<◌, ◌^◌, ◌∙◌, ◌∷◌, ◌≡◌, ◌≤◌}
 use Rattle.std.proofs.lemmas.Bool.{cases_eq, cases_lt, cond_both}
-use Rattle.std.proofs.lemmas.Bool.Decides.{nat_tests}
 use Rattle.std.proofs.lemmas.List.{append_assoc, get_or-set_same, get_or_append_left, length-map, take-append-drop}
 use Rattle.strm_machine.specs.Words.{Guest, item_size, scalars_of, ReturnCode, TransmitIndex, Payload, Scalar, Handles, Sets, no_handles, no_sets, Moment, names, received, advanced, carried, Reaction, goes, operates, written_back, end_of, opposite, same_side, with_operation, IsPlaced, IsSound, OperationIsPlaced, sizes_of, State, guest_in, memory_in, no_guest, no_stream, sets_in, stream_at, with_handles, with_memory, with_table, named, stream_named, Turn, with_received, Operation, Side, Reading, Writing, Stream, put_at, items_at, stored_at, NamedEnd, Act, Make, Reply}
 use Rattle.strm_handles.specs.Handles.{inserted}
-use Rattle.strm_machine.proofs.EndLemmas.{read_fits}
+use Rattle.strm_machine.proofs.EndLemmas.{read_fits, with_operation-count}
 use Rattle.strm_machine.proofs.Lawful.{HasRoom, as_moment}
 use Rattle.strm_machine.proofs.NamedEndLemmas.{named_itself}
 use Rattle.strm_machine.proofs.SoundStepLemmas.{operate-keeps, poke-keeps}
@@ -14,7 +13,7 @@ use Rattle.strm_machine.proofs.ShapeLemmas.{reaction-shape}
 use Rattle.strm_machine.proofs.TurnChangeLemmas.{place_by, rose, there}
 use Rattle.strm_machine.specs.Moments.{Place, place_of, read_place, target}
 use Rattle.strm_machine.specs.Untouched.{LiesApart, Region, StaysAside, bytes_of, put_by, received_by}
-use Rattle.strm_machine.proofs.BoundLemmas.{within}
+use Rattle.strm_machine.proofs.BoundLemmas.{within, bytes_inside}
 use Rattle.strm_machine.proofs.CarryLemmas.{carried-nothing}
 use Rattle.strm_machine.proofs.SideLemmas.{end_placed, read_of-placed}
 use Rattle.strm_machine.proofs.MoveLemmas.{length-by, memory_in-by}
@@ -66,8 +65,8 @@ stays_all m n e = record {
   bytes = λ r l u. ap (λ memory. bytes_at memory r.place.address r.size) (e r.place.guest l);
 }
 
-stays_same : (m : Moment) → m.after.guests ≡ m.before.guests → StaysAside m
-stays_same m e = stays_all m (omega (arith, ap length e)) (λ g l. ap (λ guests. memory_in guests g) e)
+pub StaysAside-same : (m : Moment) → m.after.guests ≡ m.before.guests → StaysAside m
+StaysAside-same m e = stays_all m (omega (arith, ap length e)) (λ g l. ap (λ guests. memory_in guests g) e)
 
 -- bytes of one memory, where another is put in its place
 bytes_with : (guests : List Guest) (g : ℕ) (memory : List ℕ) (r : Region) → g < length guests → (r.place.guest ≡ g → bytes_at memory r.place.address r.size ≡ bytes_at (memory_in guests g) r.place.address r.size) → bytes_of (with_memory guests g memory) r ≡ bytes_of guests r
@@ -86,10 +85,7 @@ put_stays memory address [] other (suc size) inside apart =
     nothing : address + length {A = ℕ} [] ≡ address
     nothing = omega arith
 put_stays memory address (b ∷ new) other (suc size) inside apart =
-    bytes_at-put_at_apart memory address (b ∷ new) other (suc size) (fits (length memory) address (length (b ∷ new)) inside (omega arith)) (apart (omega arith) (omega arith))
-  where
-    fits : (size address count : ℕ) → bytes_out_of_bounds size address count ≡ false → 0 < count → address + count ≤ size
-    fits size address count e h = grind (arith, nat_tests)
+    bytes_at-put_at_apart memory address (b ∷ new) other (suc size) (bytes_inside (length memory) address (length (b ∷ new)) inside (omega arith)) (apart (omega arith) (omega arith))
 
 -- ## Items received
 
@@ -139,10 +135,6 @@ region_same p q a b e f = rw (e, f) refl
 abbrev region_by : Side → Stream → Operation → Turn → Region
 region_by side stream mine t = record { place = place_by side stream mine; size = item_size (scalars_of stream.payload) * (t.stream.received - stream.received) }
 
-received-with_operation : (side : Side) (stream : Stream) (o : Operation) → (with_operation side stream o).received ≡ stream.received
-received-with_operation Writing stream o = refl
-received-with_operation Reading stream o = refl
-
 place_by-read : (side : Side) (stream : Stream) (mine theirs : Operation) → (end_of (opposite side) stream).operation ≡ Some theirs → place_by side stream mine ≡ place_of (Some (read_of side mine theirs))
 place_by-read Writing stream mine theirs e = ap place_of e
 place_by-read Reading stream mine theirs e = refl
@@ -162,7 +154,7 @@ module _ (side : Side) (guests : List Guest) (stream : Stream) (mine : Operation
       let laid : IsPlaced (sizes_of guests) stream.payload read = read_of-placed side (sizes_of guests) stream.payload mine theirs placed held in
       let more = rose stream.received n room (omega (arith, placed.counted)) in
       let new = with_operation (opposite side) (with_received stream n) (advanced stream.payload theirs n) in
-      let rise : new.received - stream.received ≡ n = omega (arith, more, received-with_operation (opposite side) (with_received stream n) (advanced stream.payload theirs n)) in
+      let rise : new.received - stream.received ≡ n = omega (arith, more, with_operation-count (opposite side) (with_received stream n) (advanced stream.payload theirs n)) in
       let here : region_by side stream mine (moves side guests stream mine theirs n (Some after)) ≡ region_of stream.payload read n =
       region_same (place_by side stream mine) (place_of (Some read)) _ _ (place_by-read side stream mine theirs is) (ap (λ k. item_size (scalars_of stream.payload) * k) rise) in
       carried_stays guests after stream.payload (write_of side mine theirs) read n (there guests stream.payload read laid) (read_fits mine theirs side n fit fits) laid e r l (subst (LiesApart r) here apart)
@@ -255,7 +247,7 @@ pair_stays state writer reader ty =
 
 shape-stays : (state : State) (act : Act) (r : Reaction) → HasRoom state → Shape state act r → StaysAside (as_moment state act r)
 shape-stays state act r room (ByTurn side end address count a e o) = rw (a, e) (operates_stays state side end address count room o)
-shape-stays state act r room (BySetting reply x e set) = rw e (stays_same (as_moment state act (goes reply (set_by state x))) refl)
+shape-stays state act r room (BySetting reply x e set) = rw e (StaysAside-same (as_moment state act (goes reply (set_by state x))) refl)
 shape-stays state act r room (ByOwner reply x e o) =
     rw e (stays_all (as_moment state act (goes reply (owned_by state x))) (omega (arith, length-by state.guests x)) (λ g l. memory_in-by state.guests x g))
 shape-stays state act r room (ByTable reply x e t) =
@@ -263,7 +255,7 @@ shape-stays state act r room (ByTable reply x e t) =
 shape-stays state act r room (ByPair writer reader ty a e fits) = rw (a, e) (pair_stays state writer reader ty)
 shape-stays state act r room (ByGuest size a e fits) = rw (a, e) (guest_stays state size)
 shape-stays state act r room (ByPut reply g address bytes e p) = rw e (bytes_stay state act reply g address bytes p)
-shape-stays state act r room (ByRest reply e none) = rw e (stays_same (as_moment state act (goes reply state)) refl)
+shape-stays state act r room (ByRest reply e none) = rw e (StaysAside-same (as_moment state act (goes reply state)) refl)
 
 pub reaction-stays : (state : State) (act : Act) → IsSound state → HasRoom state → StaysAside (as_moment state act (reaction state act))
 reaction-stays state act h room = shape-stays state act (reaction state act) room (reaction-shape state act h)

@@ -8,7 +8,8 @@ use Rattle.strm_machine.specs.Plays.{play}
 use Rattle.strm_machine.specs.Acts.{act_of}
 use Rattle.strm_machine.specs.declared.steps.Step.{Step}
 use Rattle.strm_machine.specs.declared.replies.Reply.{Reply}
-use Rattle.strm_machine.proofs.HostLemmas.{HostsHold-empty, serving_made}
+use Rattle.strm_machine.proofs.EmptyLemmas.{HostsHold-empty}
+use Rattle.strm_machine.proofs.HostLemmas.{serving_made}
 use Rattle.strm_world.specs.Steps.{touches}
 use Rattle.strm_world.specs.Does.{Fits}
 use Rattle.strm_transmit.specs.Hosted.{lone}

@@ -30,7 +30,8 @@ use Rattle.strm_machine.specs.declared.replies.Reply.TheVariants as replies
 use Rattle.strm_machine.proofs.ReactionLemmas.{reaction-trapped, reaction-performs}
 use Rattle.strm_machine.proofs.SoundStepLemmas.{reaction-sound}
 use Rattle.strm_machine.proofs.HeldLemmas.{StateIsHeld, reaction-held}
-use Rattle.strm_machine.proofs.HostLemmas.{reaction-hosts, HostsHold-empty}
+use Rattle.strm_machine.proofs.EmptyLemmas.{HostsHold-empty}
+use Rattle.strm_machine.proofs.HostLemmas.{reaction-hosts}
 use Rattle.strm_world.specs.World.{World}
 use Rattle.strm_world.specs.Outcomes.{done, of_reply, reacted}
 use Rattle.strm_world.specs.Driving.{driven, round_of}
