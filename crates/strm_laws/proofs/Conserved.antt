@@ -23,7 +23,7 @@ use Rattle.strm_laws.proofs.Kept.{kind_at, Kept}
 use Rattle.strm_laws.proofs.KeptChanges.{keeps}
 use Rattle.strm_laws.proofs.LawfulRuns.{IsReady, IsReady-empty, IsReady-next, first_reacts, lawful}
 
-Kept-empty : (s : ℕ) (side : Side) (tag : ℕ) (limits : Limits) → Kept (kind_at s (empty tag limits)) s side [] (empty tag limits)
+pub Kept-empty : (s : ℕ) (side : Side) (tag : ℕ) (limits : Limits) → Kept (kind_at s (empty tag limits)) s side [] (empty tag limits)
 unfolding all_handed
 Kept-empty s Writing tag limits = record { stands = tt; items = λ e. refl; count = refl; within = All-nil _; told = refl; reached = λ n. sym (le-ltb n 0 (omega arith)) }
 Kept-empty s Reading tag limits = record { stands = tt; items = λ e. refl; count = refl; within = All-nil _; told = refl; reached = λ n. sym (le-ltb n 0 (omega arith)) }

@@ -3,16 +3,16 @@ use Rattle.std.proofs.Common.{◌≡◌, ℕ, ◌+◌, ◌*◌, ◌^◌, ◌<◌
 use Rattle.std.specs.Prelude.{All}
 use Rattle.std.proofs.lemmas.Bool.{cases_lt}
 use Rattle.std.proofs.lemmas.List.{get_or_past, take-append-drop}
-use Rattle.std.proofs.lemmas.List.Elements.{All-nil, All-cons, All-head, All-tail, All-get_or}
-use Rattle.strm_machine.specs.Words.{Payload, act_of, State, empty, no_stream, stream_at, OperationIsPlaced, StreamIsPlaced, IsSound, sizes_of, both_open, react, received}
+use Rattle.std.proofs.lemmas.List.Elements.{All-nil, All-cons, All-head, All-tail}
+use Rattle.strm_machine.specs.Words.{Payload, act_of, State, empty, no_stream, stream_at, OperationIsPlaced, IsSound, sizes_of, both_open, react, received}
 use Rattle.strm_machine.specs.declared.limits.Limits.{Limits}
 use Rattle.strm_machine.specs.declared.streams.Operation.{Operation}
 use Rattle.strm_machine.specs.declared.steps.Step.{Step}
-use Rattle.strm_machine.specs.Soundness.{AreNamed, AreUnmoved}
+use Rattle.strm_machine.specs.Soundness.{AreUnmoved}
 use Rattle.strm_machine.proofs.Lawful.{IsLawful, Reacts}
 use Rattle.strm_machine.proofs.LawfulLemmas.{reacts}
-use Rattle.strm_machine.proofs.WaitableSetLemmas.{HoldSets-none}
-use Rattle.strm_machine.proofs.ErrorContextLemmas.{HoldsContexts-none}
+use Rattle.strm_machine.proofs.EmptyLemmas.{IsSound-empty}
+use Rattle.strm_machine.proofs.SoundLemmas.{placed_at}
 use Rattle.strm_machine.proofs.SoundStepLemmas.{reaction-sound}
 use Rattle.strm_laws.specs.Conservation.{last}
 use Rattle.strm_laws.specs.Laws.{HasBytes, AreSteps, IsCounted, AreCounted}
@@ -20,7 +20,7 @@ use Rattle.strm_laws.specs.Laws.{HasBytes, AreSteps, IsCounted, AreCounted}
 -- ## Parts of a run
 
 -- the first steps of a run
-AreSteps-front : (run more : List Step) → AreSteps (run ++ more) → AreSteps run
+pub AreSteps-front : (run more : List Step) → AreSteps (run ++ more) → AreSteps run
 AreSteps-front run more a = record {
   few = omega (arith, a.few, length-append run more);
   bytes = All-front run more a.bytes;
@@ -44,7 +44,7 @@ pub record IsReady (state : State) (steps : List Step) : Type 0 where
 
 pub IsLawful-empty : (tag : ℕ) (limits : Limits) → IsLawful (empty tag limits)
 IsLawful-empty tag limits = record {
-  sound = record { named = All-nil (AreNamed []); placed = All-nil (StreamIsPlaced []); small = omega arith; sets = HoldSets-none; contexts = HoldsContexts-none };
+  sound = IsSound-empty tag limits;
   bytes = All-nil _;
   apart = λ s. refl;
   tallies = λ s. record { writing = tt; reading = tt; one = λ k. cc };
@@ -76,7 +76,7 @@ sound_from state [] h = h
 sound_from state (step ∷ more) h = sound_from (react state step).state more (reaction-sound state (act_of step) h)
 
 pub sound : (tag : ℕ) (limits : Limits) (run : List Step) → IsSound (last (empty tag limits) run)
-sound tag limits run = sound_from (empty tag limits) run (IsLawful-empty tag limits).sound
+sound tag limits run = sound_from (empty tag limits) run (IsSound-empty tag limits)
 
 lawful_from : (state : State) (run : List Step) → IsReady state run → IsLawful (last state run)
 lawful_from state [] h = h.lawful
@@ -96,10 +96,10 @@ OperationIsPlaced-counted sizes payload None p = tt
 OperationIsPlaced-counted sizes payload (Some o) p = p.counted
 
 -- both operations of a stream, where there is one
-stream_counted : (state : State) (s : ℕ) → IsSound state → AreCounted (stream_at state s)
+pub stream_counted : (state : State) (s : ℕ) → IsSound state → AreCounted (stream_at state s)
 stream_counted state s h =
     elim (cases_lt s (length state.streams)) [
-      | inl l ↦ let p : StreamIsPlaced (sizes_of state.guests) (stream_at state s) = All-get_or (StreamIsPlaced (sizes_of state.guests)) state.streams s no_stream l h.placed in (
+      | inl l ↦ let p = placed_at state s l h in (
         OperationIsPlaced-counted (sizes_of state.guests) (stream_at state s).payload (stream_at state s).writer.operation p.writer,
         OperationIsPlaced-counted (sizes_of state.guests) (stream_at state s).payload (stream_at state s).reader.operation p.reader,
       )
