@@ -1,20 +1,23 @@
 -- Items that lie in bytes: one more, some off the front, one by its number, and the same in other
 -- bytes.
-use Rattle.std.proofs.Common.{◌≡◌, ℕ, zero, suc, ◌+◌, ◌*◌, ◌-◌, ◌<◌, ◌≤◌, List, [], ◌∷◌, ◌++◌, length, take, drop, Option, Some, None, refl, sym, ap, subst, ◌∙◌, arith, length-append, length-drop, replicate}
-use Rattle.std.proofs.lemmas.List.{drop_at, take_at, drop-drop, drop-take, length-take-le, length-replicate}
+use Rattle.std.proofs.Common.{◌≡◌, ℕ, zero, suc, ◌+◌, ◌*◌, ◌-◌, ◌<◌, ◌≤◌, pos, List, [], ◌∷◌, ◌++◌, length, take, drop, Option, Some, None, refl, sym, ap, subst, ◌∙◌, arith, length-append, length-drop, replicate}
+use Rattle.std.proofs.lemmas.List.{drop_at, take_at, drop-drop, drop-take, take-take, take_all, take-append-le, drop-append-le, length-take-le, length-replicate, length-map, drop_all, append-nil}
+use Rattle.std.proofs.Math.Nat.{mul-le-mul_left}
 use Rattle.std.proofs.lemmas.Option.{option_and_then_some}
 use Rattle.std.specs.Prelude.{IsSome, slice_get, option_and_then}
 use Rattle.std.specs.Option.{option_map}
 use Rattle.strm_codes.specs.Layout.{scalars_of, item_size}
 use Rattle.strm_codes.specs.Items.{FitsItem}
 use Rattle.strm_codes.specs.declared.scalars.Scalar.{Scalar}
-use Rattle.strm_memory.specs.Items.{decode, items, items_at, stored_at, AreItems}
+use Rattle.strm_codes.specs.declared.scalars.Scalar.TheVariants.{U8}
+use Rattle.strm_memory.specs.Bytes.{IsBytes}
+use Rattle.strm_memory.specs.Items.{decode, items, stored, items_at, stored_at, AreItems, byte_items}
 use Rattle.strm_memory.proofs.CopyLemmas.{option_map_some}
 use Rattle.strm_memory.proofs.ItemLemmas.{items-add, item_fits}
-use Rattle.strm_memory.proofs.RegionLemmas.{length-items, length-stored_at}
-use Rattle.strm_memory.proofs.AppendLemmas.{items-same, items_at-put, AreItems-append, AreItems-drop}
+use Rattle.strm_memory.proofs.RegionLemmas.{length-items, length-stored_at, items_at-stored_at, AreItems-items}
+use Rattle.strm_memory.proofs.AppendLemmas.{items-same, items-bytes, items_at-more, items_at-put, AreItems-append, AreItems-drop}
 use Rattle.strm_codes.specs.declared.payloads.Payload.{Payload}
-use Rattle.strm_buffers.specs.Listing.{Item, TypedItems, listed, items_in, LieIn, AreKept, kept_items}
+use Rattle.strm_buffers.specs.Listing.{Item, TypedItems, listed, items_in, LieIn, AreKept, AreStored, kept_items}
 
 some_listed : {A : Type 0} (o : Option (List A)) → IsSome o → o ≡ Some (listed o)
 some_listed None i = cc
@@ -41,13 +44,14 @@ pub lie_none : (ss : List Scalar) (m : List ℕ) (a : ℕ) → a ≤ length m �
 unfolding items
 lie_none ss m a h = lie_made ss m a 0 [] (omega (arith, h)) refl tt
 
-pub lie_put : (ss : List Scalar) (m : List ℕ) (a n : ℕ) (x : Item) → LieIn ss m a n → FitsItem ss x → a + item_size ss * n + item_size ss ≤ length m → Lie ss (stored_at ss m (a + item_size ss * n) (x ∷ [])) a (n + 1) (items_in ss m a n ++ x ∷ [])
-lie_put ss m a n x l f h =
+-- items stored behind others
+pub lie_put : (ss : List Scalar) (m : List ℕ) (a n : ℕ) (ys : List Item) → LieIn ss m a n → AreItems ss ys → a + item_size ss * n + item_size ss * length ys ≤ length m → Lie ss (stored_at ss m (a + item_size ss * n) ys) a (n + length ys) (items_in ss m a n ++ ys)
+lie_put ss m a n ys l f h =
     let w = item_size ss in
-    let new = stored_at ss m (a + w * n) (x ∷ []) in
-    let size : length new ≡ length m = length-stored_at ss m (a + w * n) (x ∷ []) (omega (arith, h)) in
-    let more : w * (n + 1) ≡ w * n + w = grind arith in
-    lie_made ss new a (n + 1) (items_in ss m a n ++ x ∷ []) (omega (arith, size, more, h)) (items_at-put ss m a n (items_in ss m a n) x (lie_is ss m a n l) f h) (AreItems-append ss (items_in ss m a n) (x ∷ []) l.fit (f, tt))
+    let new = stored_at ss m (a + w * n) ys in
+    let size : length new ≡ length m = length-stored_at ss m (a + w * n) ys h in
+    let more : w * (n + length ys) ≡ w * n + w * length ys = grind arith in
+    lie_made ss new a (n + length ys) (items_in ss m a n ++ ys) (omega (arith, size, more, h)) (items_at-put ss m a n (items_in ss m a n) ys (lie_is ss m a n l) f h) (AreItems-append ss (items_in ss m a n) ys l.fit f)
 
 -- the same bytes are the same items
 pub lie_same : (ss : List Scalar) (m new : List ℕ) (a b n : ℕ) → LieIn ss m a n → take (item_size ss * n) (drop b new) ≡ take (item_size ss * n) (drop a m) → b + item_size ss * n ≤ length new → Lie ss new b n (items_in ss m a n)
@@ -70,6 +74,52 @@ lie_skip ss m a n k l h =
     (λ us p q. option_map_some _ (items ss (drop (w * k) (drop a m)) (n - k)) xs q
     (λ vs u v. u ∙ ap Some (tail_is us vs xs k v (length-items ss (drop a m) k us p)))) in
     lie_made ss m (a + w * k) (n - k) (drop k xs) (omega (arith, l.within, sizes)) (ap (λ b. items ss b (n - k)) (sym (drop-drop (w * k) a m)) ∙ rest) (AreItems-drop ss k xs l.fit)
+
+-- so many items and the rest of them are all
+pub cut : (w k n : ℕ) → k ≤ n → w * k + w * (n - k) ≡ w * n
+cut w k n h =
+    let split : n ≡ k + (n - k) = omega arith in
+    sym (ap (λ j. w * j) split ∙ grind arith)
+
+pub AreItems-take : (ss : List Scalar) (k : ℕ) (xs : List Item) → AreItems ss xs → AreItems ss (take k xs)
+AreItems-take ss zero xs f = tt
+AreItems-take ss (suc k) [] f = tt
+AreItems-take ss (suc k) (x ∷ xs) f = (f.0, AreItems-take ss k xs f.1)
+
+front_is : {A : Type 0} (us vs xs : List A) (k : ℕ) → us ++ vs ≡ xs → length us ≡ k → us ≡ take k xs
+front_is us vs xs k e h = sym (take_at us vs k h) ∙ ap (take k) e
+
+-- the first of them
+lie_front : (ss : List Scalar) (m : List ℕ) (a n k : ℕ) → LieIn ss m a n → k ≤ n → Lie ss m a k (take k (items_in ss m a n))
+lie_front ss m a n k l h =
+    let w = item_size ss in
+    let xs = items_in ss m a n in
+    let split : n ≡ k + (n - k) = omega arith in
+    let whole : option_and_then (λ us. option_map (λ vs. us ++ vs) (items ss (drop (w * k) (drop a m)) (n - k))) (items ss (drop a m) k) ≡ Some xs =
+    sym (items-add ss (drop a m) k (n - k)) ∙ ap (items ss (drop a m)) (sym split) ∙ lie_is ss m a n l in
+    let first : items ss (drop a m) k ≡ Some (take k xs) =
+    option_and_then_some _ (items ss (drop a m) k) xs whole
+    (λ us p q. option_map_some _ (items ss (drop (w * k) (drop a m)) (n - k)) xs q
+    (λ vs u v. p ∙ ap Some (front_is us vs xs k v (length-items ss (drop a m) k us p)))) in
+    lie_made ss m a k (take k xs) (omega (arith, l.within, cut w k n h)) first (AreItems-take ss k xs l.fit)
+
+-- where they are
+pub part_inside : (w start count n all : ℕ) → start + count ≤ n → all ≡ w * n → w * start + w * count ≤ all
+part_inside w start count n all h e =
+    let both : w * (start + count) ≡ w * start + w * count = grind arith in
+    omega (arith, both, e, mul-le-mul_left w h)
+
+-- some of them, in bytes of their own
+pub lie_part : (ss : List Scalar) (m new : List ℕ) (n start count : ℕ) → LieIn ss m 0 n → start + count ≤ n → new ≡ take (item_size ss * count) (drop (item_size ss * start) m) → length new ≡ item_size ss * count → Lie ss new 0 count (take count (drop start (items_in ss m 0 n)))
+lie_part ss m new n start count l h e s =
+    let w = item_size ss in
+    let at : 0 + w * start ≡ w * start = omega arith in
+    let r = lie_skip ss m 0 n start l (omega (arith, h)) in
+    let f = lie_front ss m (0 + w * start) (n - start) count r.lie (omega (arith, h)) in
+    let same : take (w * count) new ≡ take (w * count) (drop (0 + w * start) m) =
+    ap (take (w * count)) (e ∙ ap (λ j. take (w * count) (drop j m)) (sym at)) ∙ take-take (w * count) (w * count) (drop (0 + w * start) m) (omega arith) in
+    let t = lie_same ss m new (0 + w * start) 0 count f.lie same (omega (arith, s)) in
+    record { lie = t.lie; is = t.is ∙ f.is ∙ ap (take count) r.is }
 
 first_is : (ss : List Scalar) (bytes : List ℕ) (j : ℕ) (ys : List Item) → items ss bytes (suc j) ≡ Some ys → decode ss bytes ≡ slice_get ys 0
 unfolding items
@@ -105,37 +155,52 @@ some_get (suc k) (x ∷ xs) h e = some_get k xs (omega (arith, h)) e
 pub spot : (w k n start all size : ℕ) → k < n → all ≡ start + w * n → size ≡ w → start + size * k + w ≤ all
 spot w k n start all size h e s = rw s (omega (arith, item_fits k n w h, e))
 
--- so many items and the rest of them are all
-pub cut : (w k n : ℕ) → k ≤ n → w * k + w * (n - k) ≡ w * n
-cut w k n h =
-    let split : n ≡ k + (n - k) = omega arith in
-    sym (ap (λ j. w * j) split ∙ grind arith)
+-- items behind all others
+pub record Pushed (ss : List Scalar) (old new : List ℕ) (start n : ℕ) (xs : List Item) : Type 0 where
+  pub lie : Lie ss new start (n + length xs) (items_in ss old start n ++ xs)
+  pub all : length new ≡ start + item_size ss * (n + length xs)
 
--- an item behind all others
-pub record Pushed (ss : List Scalar) (old new : List ℕ) (start n : ℕ) (x : Item) : Type 0 where
-  pub lie : Lie ss new start (n + 1) (items_in ss old start n ++ x ∷ [])
-  pub all : length new ≡ start + item_size ss * (n + 1)
-
-pub pushed : (ss : List Scalar) (old new : List ℕ) (start n end : ℕ) (x : Item) → LieIn ss old start n → FitsItem ss x → end ≡ start + item_size ss * n → end ≤ length old → new ≡ stored_at ss (take end old ++ replicate (item_size ss) 0) end (x ∷ []) → Pushed ss old new start n x
-pushed ss old new start n end x l f e h s =
+pub pushed : (ss : List Scalar) (old new : List ℕ) (start n end zeros : ℕ) (xs : List Item) → LieIn ss old start n → AreItems ss xs → end ≡ start + item_size ss * n → end ≤ length old → zeros ≡ item_size ss * length xs
+    → new ≡ stored_at ss (take end old ++ replicate zeros 0) end xs → Pushed ss old new start n xs
+pushed ss old new start n end zeros xs l f e h z s =
     let w = item_size ss in
     let front = take (start + w * n) old in
-    let m : List ℕ = front ++ replicate w 0 in
+    let m : List ℕ = front ++ replicate zeros 0 in
     let fl : length front ≡ start + w * n = length-take-le (start + w * n) old (omega (arith, e, h)) in
-    let zeros : length (replicate w 0) ≡ w = length-replicate {A = ℕ} w 0 in
-    let ml : length m ≡ start + w * n + w = length-append front (replicate w 0) ∙ omega (arith, fl, zeros) in
+    let behind : length (replicate zeros 0) ≡ zeros = length-replicate {A = ℕ} zeros 0 in
+    let ml : length m ≡ start + w * n + zeros = length-append front (replicate zeros 0) ∙ omega (arith, fl, behind) in
+    let room : start + w * n + w * length xs ≤ length m = omega (arith, ml, z) in
     let same : take (w * n) (drop start m) ≡ take (w * n) (drop start old) =
-    sym (drop-take start (w * n) m) ∙ ap (drop start) (take_at front (replicate w 0) (start + w * n) fl) ∙ drop-take start (w * n) old in
+    sym (drop-take start (w * n) m) ∙ ap (drop start) (take_at front (replicate zeros 0) (start + w * n) fl) ∙ drop-take start (w * n) old in
     let there = lie_same ss old m start start n l same (omega (arith, ml)) in
-    let put = lie_put ss m start n x there.lie f (omega (arith, ml)) in
-    let is : new ≡ stored_at ss m (start + w * n) (x ∷ []) = s ∙ ap (λ k. stored_at ss (take k old ++ replicate w 0) k (x ∷ [])) e in
-    let more : w * (n + 1) ≡ w * n + w = grind arith in
-    let size : length new ≡ length m = ap length is ∙ length-stored_at ss m (start + w * n) (x ∷ []) (omega (arith, ml)) in
+    let put = lie_put ss m start n xs there.lie f room in
+    let is : new ≡ stored_at ss m (start + w * n) xs = s ∙ ap (λ k. stored_at ss (take k old ++ replicate zeros 0) k xs) e in
+    let more : w * (n + length xs) ≡ w * n + w * length xs = grind arith in
+    let size : length new ≡ length m = ap length is ∙ length-stored_at ss m (start + w * n) xs room in
     record {
-      lie = subst (λ b. Lie ss b start (n + 1) (items_in ss old start n ++ x ∷ [])) (sym is)
-          (record { lie = put.lie; is = put.is ∙ ap (λ l. l ++ x ∷ []) there.is });
-      all = omega (arith, size, ml, more);
+      lie = subst (λ b. Lie ss b start (n + length xs) (items_in ss old start n ++ xs)) (sym is)
+          (record { lie = put.lie; is = put.is ∙ ap (λ l. l ++ xs) there.is });
+      all = omega (arith, size, ml, more, z);
     }
+
+-- the bytes of items behind those of others
+pub lie_more : (ss : List Scalar) (bytes given : List ℕ) (a len n : ℕ) (ys : List Item) → LieIn ss bytes a len → length bytes ≡ a + item_size ss * len → items ss given n ≡ Some ys → AreItems ss ys → item_size ss * n ≤ length given
+    → Lie ss (bytes ++ take (item_size ss * n) given) a (len + n) (items_in ss bytes a len ++ ys)
+lie_more ss bytes given a len n ys l all e f h =
+    let w = item_size ss in
+    let k = w * n in
+    let new : List ℕ = take k given in
+    let m : List ℕ = bytes ++ new in
+    let size : length new ≡ k = length-take-le k given h in
+    let both = length-append bytes new in
+    let sizes : w * (len + n) ≡ w * len + k = grind arith in
+    let inside : w * len ≤ length (drop a bytes) = omega (arith, all, length-drop a bytes) in
+    let old : take (w * len) (drop a m) ≡ take (w * len) (drop a bytes) = ap (take (w * len)) (drop-append-le a bytes new (omega (arith, all))) ∙ take-append-le (w * len) (drop a bytes) new inside in
+    let there = lie_same ss bytes m a a len l old (omega (arith, all, both)) in
+    let first : items_at ss m a len ≡ Some (items_in ss bytes a len) = lie_is ss m a len there.lie ∙ ap Some there.is in
+    let behind : drop (a + w * len) m ≡ new = drop_at bytes new (a + w * len) all in
+    let last : items_at ss m (a + w * len) n ≡ Some ys = ap (λ b. items ss b n) behind ∙ items-same ss given new n (take-take k k given (omega arith)) ∙ e in
+    lie_made ss m a (len + n) (items_in ss bytes a len ++ ys) (omega (arith, all, both, size, sizes)) (items_at-more ss m a len n (items_in ss bytes a len) ys first last) (AreItems-append ss (items_in ss bytes a len) ys l.fit f)
 
 -- the bytes of items that are kept, from their first on
 pub kept_behind : (payload : Payload) (bytes new : List ℕ) (start len : ℕ) (v : TypedItems) → AreKept payload bytes start len → kept_items payload bytes start len ≡ v → new ≡ drop start bytes → Lie (scalars_of v.payload) new 0 (length v.items) v.items
@@ -160,3 +225,57 @@ kept_again payload bytes new start len v k e n =
     let there = lie_same ss bytes new start 0 len k.lie (ap (take (item_size ss * len)) n) (omega (arith, size, k.all)) in
     let items = there.is in
     (record { all = omega (arith, size, k.all); lie = there.lie; few = k.few }, cc (items, e))
+
+-- items kept behind those that are kept
+pub kept_append : (payload : Payload) (bytes given : List ℕ) (start len : ℕ) (v u : TypedItems) → AreKept payload bytes start len → kept_items payload bytes start len ≡ v → u.payload ≡ v.payload
+    → Lie (scalars_of u.payload) given 0 (length u.items) u.items → length given ≡ item_size (scalars_of u.payload) * length u.items → length v.items + length u.items < 4294967295
+    → AreKept payload (bytes ++ given) start (len + length u.items) × (items_in (scalars_of payload) (bytes ++ given) start (len + length u.items) ≡ v.items ++ u.items)
+kept_append payload bytes given start len v u k e p l s few =
+    let ss = scalars_of payload in
+    let w = item_size ss in
+    let n = length u.items in
+    let same : u.payload ≡ payload = p ∙ sym (ap (λ (x : TypedItems). x.payload) e) in
+    let there : Lie ss given 0 n u.items = subst (λ (q : Payload). Lie (scalars_of q) given 0 n u.items) same l in
+    let size : length given ≡ w * n = subst (λ (q : Payload). length given ≡ item_size (scalars_of q) * n) same s in
+    let more = lie_more ss bytes given start len n u.items k.lie k.all (lie_is ss given 0 n there.lie ∙ ap Some there.is) (subst (AreItems ss) there.is there.lie.fit) (omega (arith, size)) in
+    let all : Lie ss (bytes ++ given) start (len + n) (items_in ss bytes start len ++ u.items) =
+    subst (λ l. Lie ss (bytes ++ l) start (len + n) (items_in ss bytes start len ++ u.items)) (take_all (w * n) given (omega (arith, size))) more in
+    let sizes : w * (len + n) ≡ w * len + w * n = grind arith in
+    let count = length-items_in ss bytes start len k.lie in
+    let counted = ap (λ (x : TypedItems). length x.items) e in (
+      record { all = length-append bytes given ∙ omega (arith, k.all, size, sizes); lie = all.lie; few = omega (arith, few, count, counted) },
+      all.is ∙ ap (λ (x : TypedItems). x.items ++ u.items) e,
+    )
+
+-- the bytes of items are kept as they are
+pub kept_stored : (payload : Payload) (bytes : List ℕ) (xs : List Item) (n : ℕ) → AreStored (scalars_of payload) bytes xs → n ≡ length xs → n < 4294967295 → AreKept payload bytes 0 n × (items_in (scalars_of payload) bytes 0 n ≡ xs)
+kept_stored payload bytes xs n s e few =
+    let ss = scalars_of payload in
+    let there = lie_made ss bytes 0 (length xs) xs (omega (arith, s.all)) s.are s.fit in
+    let lie : Lie ss bytes 0 n xs = subst (λ j. Lie ss bytes 0 j xs) (sym e) there in
+    (record { all = omega (arith, s.all, ap (λ j. item_size ss * j) e); lie = lie.lie; few = few }, lie.is)
+
+-- items stored in as many bytes as they take, which are then all bytes
+pub are_stored : (ss : List Scalar) (zeros new : List ℕ) (len : ℕ) (xs : List Item) → length zeros ≡ item_size ss * length xs → len ≡ length zeros → AreItems ss xs → new ≡ stored ss zeros xs → AreStored ss (take len (new ++ drop (length new) zeros)) xs
+are_stored ss zeros new len xs size all f e =
+    let room : 0 + item_size ss * length xs ≤ length zeros = omega (arith, size) in
+    let same : length new ≡ length zeros = ap length e ∙ length-stored_at ss zeros 0 xs room in
+    let none : drop (length new) zeros ≡ [] = drop_all (length new) zeros (omega (arith, same)) in
+    let is : take len (new ++ drop (length new) zeros) ≡ new = ap (λ l. take len (new ++ l)) none ∙ ap (take len) (append-nil new) ∙ take_all len new (omega (arith, same, all)) in
+    subst (λ b. AreStored ss b xs) (sym is) (record {
+      all = same ∙ size;
+      are = ap (λ b. items_at ss b 0 (length xs)) e ∙ items_at-stored_at ss zeros 0 xs f room;
+      fit = f;
+    })
+
+-- bytes are items of payload u8
+pub bytes_stored : (bytes : List ℕ) → IsBytes bytes → AreStored (U8 ∷ []) bytes (byte_items bytes)
+bytes_stored bytes f =
+    let n = length bytes in
+    let count : length (byte_items bytes) ≡ n = length-map bytes (λ b. pos b ∷ []) in
+    let are : items (U8 ∷ []) bytes n ≡ Some (byte_items bytes) = items-bytes bytes n (omega arith) ∙ ap (λ l. Some (byte_items l)) (take_all n bytes (omega arith)) in
+    record {
+      all = omega (arith, count);
+      are = ap (items (U8 ∷ []) bytes) count ∙ are;
+      fit = AreItems-items (U8 ∷ []) bytes n (byte_items bytes) f are;
+    }

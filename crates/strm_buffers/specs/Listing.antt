@@ -1,5 +1,5 @@
 -- Items kept as their bytes, one after the other. Ours.
-use Rattle.std.specs.Prelude.{◌≡◌, ℕ, ◌+◌, ◌*◌, ◌<◌, ◌≤◌, IsSome, ℤ, pos, List, [], ◌∷◌, length, map, Option, Some, None}
+use Rattle.std.specs.Prelude.{◌≡◌, ℕ, ◌+◌, ◌*◌, ◌<◌, ◌≤◌, IsSome, ℤ, List, [], ◌∷◌, length, map, Option, Some, None}
 use Rattle.strm_codes.specs.Scalars.{magnitude}
 use Rattle.strm_codes.specs.Layout.{scalars_of, item_size}
 use Rattle.strm_codes.specs.declared.scalars.Scalar.{Scalar}
@@ -35,6 +35,12 @@ pub record AreKept (payload : Payload) (bytes : List ℕ) (start len : ℕ) : Ty
   pub all : length bytes ≡ start + item_size (scalars_of payload) * len
   pub lie : LieIn (scalars_of payload) bytes start len
   pub few : len < 4294967295
+
+-- the bytes that these items are, which fit
+pub record AreStored (ss : List Scalar) (bytes : List ℕ) (xs : List Item) : Type 0 where
+  pub all : length bytes ≡ item_size ss * length xs
+  pub are : items_at ss bytes 0 (length xs) ≡ Some xs
+  pub fit : AreItems ss xs
 
 -- the items that are kept so
 abbrev pub kept_items : Payload → List ℕ → ℕ → ℕ → TypedItems

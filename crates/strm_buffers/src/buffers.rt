@@ -1,12 +1,13 @@
 //! Buffers that host ends write from and read into. What is moved, followed by the rest, is what was
-//! there. No call takes memory.
+//! there. No call but `take_all` takes memory.
 //!
 //! Source: wasmtime, `futures_and_streams/buffers.rs`, `WriteBuffer` and `ReadBuffer`.
 
-ghost use Rattle.std.specs.Prelude.{◌≡◌, ◌+◌, ◌-◌, ◌<◌, ◌≤◌, [], ◌∷◌, ◌++◌, length, take, drop, vec_len, vec_capacity};
+ghost use Rattle.std.specs.Prelude.{◌≡◌, ◌+◌, ◌-◌, ◌<◌, ◌≤◌, [], ◌∷◌, ◌++◌, length, take, drop, vec_len, vec_capacity, IfOk, OnOk, OnErr};
 ghost use Rattle.std.specs.Mem.{FitsInMemory};
 
 use std::alloc::Global;
+use strm_codes::counts::OutOfMemory;
 
 /// What items are taken from, in order.
 pub trait WriteBuffer<T> {
@@ -41,6 +42,22 @@ pub trait WriteBuffer<T> {
         ensures moved { out.new.items ≡ out.old.items ++ take count (items self.old) }
         ensures rest { items self.new ≡ drop count (items self.old) }
         ensures capacity { vec_capacity out.old ≤ vec_capacity out.new };
+
+    /// Moves all items out, into a vector of their own. The one call that may take memory: what holds
+    /// its items in such a vector gives that. After `OutOfMemory` nothing has changed.
+    fn take_all(&mut self, alloc: Global) -> Result<Vec<T>, OutOfMemory>
+        ensures taken { IfOk result (λ all. all.items ≡ items self.old) }
+        ensures rest { OnOk result (items self.new ≡ []) }
+        ensures err { OnErr result (items self.new ≡ items self.old) }
+    {
+        let count = self.len();
+        let mut all = match Vec::with_capacity(alloc, count) {
+            Ok(all) => all,
+            Err(_) => return Err(OutOfMemory),
+        };
+        self.take(count, &mut all);
+        Ok(all)
+    }
 
     /// Moves the first item out.
     fn take_first(&mut self) -> T

@@ -2,19 +2,21 @@
 //!
 //! Source: ours. Layout: Canonical ABI, "Loading" and "Storing".
 
-ghost use Rattle.std.specs.Prelude.{◌≡◌, ℕ, ◌+◌, ◌*◌, ◌^◌, ◌<◌, ◌≤◌, [], ◌∷◌, ◌++◌, length, take, drop, replicate, slice_get, Some, IfOk, OnOk, OnErr};
+ghost use Rattle.std.specs.Prelude.{◌≡◌, ℕ, ◌+◌, ◌*◌, ◌^◌, ◌<◌, ◌≤◌, [], ◌∷◌, ◌++◌, length, take, drop, map, replicate, slice_get, Some, IfOk, OnOk, OnErr};
 ghost use Rattle.strm_codes.specs.Layout.{scalars_of, item_size};
 ghost use Rattle.strm_codes.specs.Items.{FitsItem};
 ghost use Rattle.strm_memory.specs.Items.{stored_at, AreItems};
-ghost use Rattle.strm_buffers.specs.Listing.{kept_items, items_in, AreKept};
+ghost use Rattle.strm_buffers.specs.Listing.{kept_items, items_in, AreKept, LieIn, AreStored};
 
-use crate::kept_bytes::append_zeros;
+use crate::kept_bytes::{append_zeros, are_bytes};
 use std::alloc::Global;
 use std::marker::Model;
 use strm_codes::counts::OutOfMemory;
 use strm_codes::payloads::Payload;
 use strm_codes::values::Value;
+use strm_memory::copies::copy_region;
 use strm_memory::items::{lift_item_into, lower_item_at};
+use strm_memory::payloaded::{Payloaded, put_values};
 
 /// Fewer than 4,294,967,295 values of one payload.
 #[derive(Drop)]
@@ -63,14 +65,41 @@ impl Items {
         }
     }
 
+    /// The items that these values are. Takes no memory where the values are bytes. After `OutOfMemory`
+    /// nothing was kept.
+    pub fn of_values<T: Payloaded>(alloc: Global, values: Vec<T>) -> Result<Items, OutOfMemory>
+        requires { length values.items < 4294967295 }
+        ensures payload { IfOk result (λ items. items.payload ≡ T.payload) }
+        ensures items { IfOk result (λ items. items.items ≡ map T.item values.items) }
+    {
+        let count = values.len();
+        match bytes_of_values(alloc, values) {
+            Ok(bytes) => Ok(Items::of_bytes(T::payload(), bytes, count)),
+            Err(error) => Err(error),
+        }
+    }
+
     // The bytes of the items.
     pub(crate) fn bytes(&self) -> &[u8]
+        ensures lie { LieIn (scalars_of self.now.payload) result.now 0 (length self.now.items) }
         ensures items { items_in (scalars_of self.now.payload) result.now 0 (length self.now.items)
             ≡ self.now.items }
         ensures all { length result.now
             ≡ item_size (scalars_of self.now.payload) * length self.now.items }
     {
         self.bytes.as_slice().split_at(self.start).1
+    }
+
+    // The bytes of so many items from a place on.
+    pub(crate) fn bytes_of(&self, start: usize, count: usize) -> &[u8]
+        requires { start + count ≤ length self.now.items }
+        ensures lie { LieIn (scalars_of self.now.payload) result.now 0 count }
+        ensures items { items_in (scalars_of self.now.payload) result.now 0 count
+            ≡ take count (drop start self.now.items) }
+    {
+        let size = self.payload.size() as usize;
+        let (_, behind) = self.bytes().split_at(size * start);
+        behind.split_at(size * count).0
     }
 
     /// What one item is.
@@ -136,6 +165,22 @@ impl Items {
         Ok(())
     }
 
+    /// Adds items behind the others. After `OutOfMemory` nothing has changed.
+    pub fn append(&mut self, more: &Items) -> Result<(), OutOfMemory>
+        requires payload { more.now.payload ≡ self.old.payload }
+        requires few { length self.old.items + length more.now.items < 4294967295 }
+        ensures payload { self.new.payload ≡ self.old.payload }
+        ensures ok { OnOk result (self.new.items ≡ self.old.items ++ more.now.items) }
+        ensures err { OnErr result (self.new ≡ self.old) }
+    {
+        match self.bytes.extend_from_slice(more.bytes()) {
+            Ok(()) => {}
+            Err(_) => return Err(OutOfMemory),
+        }
+        self.len += more.len();
+        Ok(())
+    }
+
     /// A copy. After `OutOfMemory` nothing was kept.
     pub fn copy(&self) -> Result<Items, OutOfMemory>
         ensures { IfOk result (λ items. items ≡ self.now) }
@@ -194,4 +239,75 @@ pub(crate) fn write_item(bytes: &mut Vec<u8>, at: usize, item: &Value, payload: 
     ensures { bytes.new.items ≡ stored_at (scalars_of payload) bytes.old.items at (item.now ∷ []) }
 {
     lower_item_at(item, payload, bytes.as_mut_slice(), at);
+}
+
+// Cuts bytes off at a place, and puts so many items there with which a source begins. After
+// `OutOfMemory` nothing has changed.
+pub(crate) fn append_items(
+    bytes: &mut Vec<u8>,
+    at: usize,
+    source: &[u8],
+    payload: Payload,
+    count: u32,
+) -> Result<(), OutOfMemory>
+    requires lie { LieIn (scalars_of payload) source.now 0 count }
+    requires inside { at ≤ length bytes.old.items }
+    ensures ok { OnOk result (bytes.new.items ≡ stored_at (scalars_of payload)
+        (take at bytes.old.items ++ replicate (item_size (scalars_of payload) * count) 0) at
+        (items_in (scalars_of payload) source.now 0 count)) }
+    ensures err { OnErr result (bytes.new.items ≡ bytes.old.items) }
+{
+    match append_zeros(bytes, at, payload.size() as usize * count as usize) {
+        Ok(()) => {}
+        Err(error) => return Err(error),
+    }
+    write_items(bytes, at, source, payload, count);
+    Ok(())
+}
+
+// Writes so many items at a place with which a source begins.
+pub(crate) fn write_items(
+    bytes: &mut Vec<u8>,
+    at: usize,
+    source: &[u8],
+    payload: Payload,
+    count: u32,
+)
+    requires lie { LieIn (scalars_of payload) source.now 0 count }
+    requires inside { at + item_size (scalars_of payload) * count ≤ length bytes.old.items }
+    ensures { bytes.new.items ≡ stored_at (scalars_of payload) bytes.old.items at
+        (items_in (scalars_of payload) source.now 0 count) }
+{
+    match copy_region(source, 0, bytes.as_mut_slice(), at, payload, count as usize) {
+        Ok(()) => {}
+        Err(_) => unreachable!(),
+    }
+}
+
+// The bytes of the items that these values are: their own, where they are bytes, else new ones.
+fn bytes_of_values<T: Payloaded>(alloc: Global, mut values: Vec<T>) -> Result<Vec<u8>, OutOfMemory>
+    requires { length values.items < 4294967295 }
+    ensures { IfOk result (λ bytes. AreStored (scalars_of T.payload) bytes.items (map T.item values.items)) }
+{
+    match T::take_bytes(&mut values) {
+        Some(bytes) => {
+            are_bytes(&bytes);
+            Ok(bytes)
+        }
+        None => store_values(alloc, &values),
+    }
+}
+
+// The same in new bytes, one behind the other.
+fn store_values<T: Payloaded>(alloc: Global, values: &[T]) -> Result<Vec<u8>, OutOfMemory>
+    requires { length values.now < 4294967295 }
+    ensures { IfOk result (λ bytes. AreStored (scalars_of T.payload) bytes.items (map T.item values.now)) }
+{
+    let mut bytes = Vec::new(alloc);
+    match append_zeros(&mut bytes, 0, T::payload().size() as usize * values.len()) {
+        Ok(()) => {}
+        Err(error) => return Err(error),
+    }
+    put_values(values, bytes.as_mut_slice());
+    Ok(bytes)
 }

@@ -88,15 +88,10 @@ fn mark_first(window: &mut Window, items: &Items, count: usize) -> Result<(), Ou
     ensures fills { Fills window.old window.new }
     ensures out_of_memory { OnErr result (window.old.place ≡ Between) }
 {
-    window.sound();
-    for index in window.marked() as usize..count {
-        let item = items.get(index);
-        match window.put(&item) {
-            Ok(()) => {}
-            Err(error) => return Err(error),
-        }
-    }
-    Ok(())
+    let _few = items.len();
+    let first = window.marked() as usize;
+    let more = count - first;
+    window.put_all(items.bytes_of(first, more), more as u32)
 }
 
 /// Takes as many items as are wanted or left; it stops at a bad one, and does not take that.

@@ -6,6 +6,7 @@ ghost use Rattle.std.specs.Prelude.{◌≡◌, ◌≤◌, [], length, drop, IfOk
 
 use crate::buffers::WriteBuffer;
 use std::alloc::Global;
+use std::mem;
 use strm_codes::counts::OutOfMemory;
 
 /// The items of a vector from a place on.
@@ -84,6 +85,21 @@ impl<T: Copy> WriteBuffer<T> for VecBuffer<T> {
             Err(_) => unreachable!(),
         }
         self.first += count;
+    }
+
+    fn take_all(&mut self, alloc: Global) -> Result<Vec<T>, OutOfMemory> {
+        let none = Vec::new(alloc);
+        if self.first == 0 {
+            return Ok(mem::replace(&mut self.buffer, none));
+        }
+        let mut all = none;
+        match all.extend_from_slice(self.as_slice()) {
+            Ok(()) => {
+                self.first = self.buffer.len();
+                Ok(all)
+            }
+            Err(_) => Err(OutOfMemory),
+        }
     }
 
     fn take_first(&mut self) -> T {

@@ -9,9 +9,10 @@ ghost use Rattle.strm_codes.specs.Layout.{scalars_of, item_size};
 ghost use Rattle.strm_codes.specs.Items.{FitsItem};
 ghost use Rattle.strm_codes.specs.declared.payloads.Payload.TheVariants.{One};
 ghost use Rattle.strm_codes.specs.declared.scalars.Scalar.TheVariants.{U8};
+ghost use Rattle.strm_buffers.specs.Listing.{LieIn, items_in};
 ghost use Rattle.strm_buffers.specs.Windows.{Between, room_of, HasRoom, CanCount, IsBehind, lent_memory, lent_between, with_items, with_marked, with_direct, memory_of, standing, IsSoundPlace};
 
-use crate::items::{Items, append_item, item_place, write_item};
+use crate::items::{Items, append_item, append_items, item_place, write_item, write_items};
 use crate::kept_bytes::{append_zeros, are_bytes, end_of, keep, last_of, put_back};
 use std::alloc::Global;
 use std::marker::Model;
@@ -168,6 +169,34 @@ impl Window {
                     Err(error) => return Err(error),
                 }
                 self.marked += 1;
+                Ok(())
+            }
+        }
+    }
+
+    /// Marks so many items more, which these bytes begin with, all at once; between host ends the
+    /// unmarked bytes are given up. After `OutOfMemory`, which comes only there, nothing has changed.
+    pub fn put_all(&mut self, bytes: &[u8], count: u32) -> Result<(), OutOfMemory>
+        requires lie { LieIn (scalars_of self.old.payload) bytes.now 0 count }
+        requires room { HasRoom self.old.place (length self.old.marked) count }
+        ensures ok { OnOk result (self.new ≡ with_items self.old
+            (items_in (scalars_of self.old.payload) bytes.now 0 count)) }
+        ensures err { OnErr result (self.new ≡ self.old) }
+        ensures out_of_memory { OnErr result (self.old.place ≡ Between) }
+    {
+        let at = item_place(self.address, self.payload, self.marked);
+        match self.room {
+            Some(_) => {
+                write_items(&mut self.bytes, at, bytes, self.payload, count);
+                self.marked += count;
+                Ok(())
+            }
+            None => {
+                match append_items(&mut self.bytes, at, bytes, self.payload, count) {
+                    Ok(()) => {}
+                    Err(error) => return Err(error),
+                }
+                self.marked += count;
                 Ok(())
             }
         }

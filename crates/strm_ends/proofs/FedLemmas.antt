@@ -1,64 +1,16 @@
 -- Some of the items that lie in bytes, and one feed more behind all others.
-use Rattle.std.proofs.Common.{◌≡◌, ℕ, zero, suc, ◌+◌, ◌*◌, ◌-◌, ◌<◌, ◌≤◌, List, [], ◌∷◌, ◌++◌, length, take, drop, map, Option, Some, None, refl, sym, ap, subst, ◌∙◌, arith, length-append, length-drop}
-use Rattle.std.proofs.lemmas.List.{drop-drop, take-take, take_at, drop_at, take_all, drop-append-le, take-append-le, take-append-drop, length-take-le, map-append}
+use Rattle.std.proofs.Common.{◌≡◌, ℕ, ◌+◌, ◌*◌, ◌-◌, ◌≤◌, List, [], ◌∷◌, ◌++◌, length, take, drop, map, Some, refl, sym, ap, subst, ◌∙◌, arith, length-append, length-drop}
+use Rattle.std.proofs.lemmas.List.{drop_at, take_all, drop-append-le, take-append-le, take-append-drop, length-take-le, map-append}
 use Rattle.std.proofs.lemmas.List.Elements.{All-head, All-tail, All-weaker, All-push}
-use Rattle.std.proofs.lemmas.Option.{option_and_then_some}
-use Rattle.std.proofs.Math.Nat.{mul-le-mul_left}
-use Rattle.std.specs.Prelude.{All, option_and_then}
-use Rattle.std.specs.Option.{option_map}
+use Rattle.std.specs.Prelude.{All}
 use Rattle.strm_codes.specs.Layout.{scalars_of, item_size}
-use Rattle.strm_codes.specs.declared.scalars.Scalar.{Scalar}
 use Rattle.strm_codes.specs.declared.payloads.Payload.{Payload}
-use Rattle.strm_memory.specs.Items.{items, items_at, AreItems}
-use Rattle.strm_memory.proofs.CopyLemmas.{option_map_some}
-use Rattle.strm_memory.proofs.ItemLemmas.{items-add}
-use Rattle.strm_memory.proofs.RegionLemmas.{length-items}
-use Rattle.strm_memory.proofs.AppendLemmas.{items-same, items_at-more, AreItems-append}
-use Rattle.strm_buffers.specs.Listing.{Item, LieIn, items_in}
-use Rattle.strm_buffers.proofs.ListingLemmas.{Lie, lie_is, lie_made, lie_same, lie_skip, cut}
+use Rattle.strm_memory.specs.Items.{items, AreItems}
+use Rattle.strm_buffers.specs.Listing.{items_in}
+use Rattle.strm_buffers.proofs.ListingLemmas.{Lie, lie_more}
 use Rattle.strm_ends.specs.Queues.{items_fed}
 use Rattle.strm_ends.specs.Fed.{AllFed, more_fed, bytes_of_feed, heard_of, heard_kept, fed_kept, LiesThere, IsFed}
 use Rattle.strm_ends.specs.declared.feeds.Feed.{Feed}
-
-pub AreItems-take : (ss : List Scalar) (k : ℕ) (xs : List Item) → AreItems ss xs → AreItems ss (take k xs)
-AreItems-take ss zero xs f = tt
-AreItems-take ss (suc k) [] f = tt
-AreItems-take ss (suc k) (x ∷ xs) f = (f.0, AreItems-take ss k xs f.1)
-
-front_is : {A : Type 0} (us vs xs : List A) (k : ℕ) → us ++ vs ≡ xs → length us ≡ k → us ≡ take k xs
-front_is us vs xs k e h = sym (take_at us vs k h) ∙ ap (take k) e
-
--- the first of them
-lie_front : (ss : List Scalar) (m : List ℕ) (a n k : ℕ) → LieIn ss m a n → k ≤ n → Lie ss m a k (take k (items_in ss m a n))
-lie_front ss m a n k l h =
-    let w = item_size ss in
-    let xs = items_in ss m a n in
-    let split : n ≡ k + (n - k) = omega arith in
-    let whole : option_and_then (λ us. option_map (λ vs. us ++ vs) (items ss (drop (w * k) (drop a m)) (n - k))) (items ss (drop a m) k) ≡ Some xs =
-    sym (items-add ss (drop a m) k (n - k)) ∙ ap (items ss (drop a m)) (sym split) ∙ lie_is ss m a n l in
-    let first : items ss (drop a m) k ≡ Some (take k xs) =
-    option_and_then_some _ (items ss (drop a m) k) xs whole
-    (λ us p q. option_map_some _ (items ss (drop (w * k) (drop a m)) (n - k)) xs q
-    (λ vs u v. p ∙ ap Some (front_is us vs xs k v (length-items ss (drop a m) k us p)))) in
-    lie_made ss m a k (take k xs) (omega (arith, l.within, cut w k n h)) first (AreItems-take ss k xs l.fit)
-
--- where they are
-pub part_inside : (w start count n all : ℕ) → start + count ≤ n → all ≡ w * n → w * start + w * count ≤ all
-part_inside w start count n all h e =
-    let both : w * (start + count) ≡ w * start + w * count = grind arith in
-    omega (arith, both, e, mul-le-mul_left w h)
-
--- some of them, in bytes of their own
-pub lie_part : (ss : List Scalar) (m new : List ℕ) (n start count : ℕ) → LieIn ss m 0 n → start + count ≤ n → new ≡ take (item_size ss * count) (drop (item_size ss * start) m) → length new ≡ item_size ss * count → Lie ss new 0 count (take count (drop start (items_in ss m 0 n)))
-lie_part ss m new n start count l h e s =
-    let w = item_size ss in
-    let at : 0 + w * start ≡ w * start = omega arith in
-    let r = lie_skip ss m 0 n start l (omega (arith, h)) in
-    let f = lie_front ss m (0 + w * start) (n - start) count r.lie (omega (arith, h)) in
-    let same : take (w * count) new ≡ take (w * count) (drop (0 + w * start) m) =
-    ap (take (w * count)) (e ∙ ap (λ j. take (w * count) (drop j m)) (sym at)) ∙ take-take (w * count) (w * count) (drop (0 + w * start) m) (omega arith) in
-    let t = lie_same ss m new (0 + w * start) 0 count f.lie same (omega (arith, s)) in
-    record { lie = t.lie; is = t.is ∙ f.is ∙ ap (take count) r.is }
 
 -- a part of a list stays where it is when more comes behind all
 pub part-more : {A : Type 0} (xs more : List A) (a n : ℕ) → a + n ≤ length xs → take n (drop a (xs ++ more)) ≡ take n (drop a xs)
@@ -99,22 +51,6 @@ bytes_behind bytes rest given records k h =
     ∙ ap (λ l. take k given ++ l) (take_all (length given - k) (drop k given) (omega (arith, m)))
     ∙ take-append-drop k given
 
--- the items of a feed lie behind all others
-lie_more : (ss : List Scalar) (bytes given : List ℕ) (len n : ℕ) (ys : List Item) → LieIn ss bytes 0 len → length bytes ≡ item_size ss * len → items ss given n ≡ Some ys → AreItems ss ys → item_size ss * n ≤ length given → Lie ss (bytes ++ take (item_size ss * n) given) 0 (len + n) (items_in ss bytes 0 len ++ ys)
-lie_more ss bytes given len n ys l all e f h =
-    let w = item_size ss in
-    let k = w * n in
-    let new : List ℕ = take k given in
-    let m : List ℕ = bytes ++ new in
-    let size : length new ≡ k = length-take-le k given h in
-    let both = length-append bytes new in
-    let sizes : w * (len + n) ≡ w * len + k = grind arith in
-    let there = lie_same ss bytes m 0 0 len l (take-append-le (w * len) bytes new (omega (arith, all))) (omega (arith, all, both)) in
-    let first : items_at ss m 0 len ≡ Some (items_in ss bytes 0 len) = lie_is ss m 0 len there.lie ∙ ap Some there.is in
-    let behind : drop (0 + w * len) m ≡ new = drop_at bytes new (0 + w * len) (omega (arith, all)) in
-    let last : items_at ss m (0 + w * len) n ≡ Some ys = ap (λ b. items ss b n) behind ∙ items-same ss given new n (take-take k k given (omega arith)) ∙ e in
-    lie_made ss m 0 (len + n) (items_in ss bytes 0 len ++ ys) (omega (arith, all, both, size, sizes)) (items_at-more ss m 0 len n (items_in ss bytes 0 len) ys first last) (AreItems-append ss (items_in ss bytes 0 len) ys l.fit f)
-
 -- what is kept after a feed
 pub record FedMore (old : AllFed) (records : ℕ) (given : List ℕ) (payload : Payload) (bytes : List ℕ) (len : ℕ) (rest : List ℕ) (feeds : List Feed) : Type 0 where
   pub is_fed : IsFed payload bytes len rest feeds
@@ -135,7 +71,7 @@ fed_more payload bytes rest given len n k records feeds old i v e f s h g =
     let beside = length-append rest left in
     let sizes : w * (len + n) ≡ w * len + w * n = grind arith in
     let lie : Lie ss (bytes ++ new) 0 (len + n) (items_in ss bytes 0 len ++ items_fed payload given) =
-    subst (λ j. Lie ss (bytes ++ take j given) 0 (len + n) (items_in ss bytes 0 len ++ items_fed payload given)) (sym s) (lie_more ss bytes given len n (items_fed payload given) i.lie i.all e f (omega (arith, s, h))) in
+    subst (λ j. Lie ss (bytes ++ take j given) 0 (len + n) (items_in ss bytes 0 len ++ items_fed payload given)) (sym s) (lie_more ss bytes given 0 len n (items_fed payload given) i.lie (omega (arith, i.all)) e f (omega (arith, s, h))) in
     let last : LiesThere (bytes ++ new) (rest ++ left) feed = (omega (arith, both, size), omega (arith, beside, other)) in
     let heard : heard_kept (bytes ++ new) (rest ++ left) (feeds ++ feed ∷ []) ≡ heard_kept bytes rest feeds ++ (records, given) ∷ [] =
     map-append (heard_of (bytes ++ new) (rest ++ left)) feeds (feed ∷ []) ∙ ap (λ l. l ++ heard_kept (bytes ++ new) (rest ++ left) (feed ∷ [])) (heard-more bytes rest new left feeds i.there) ∙ ap (λ b. heard_kept bytes rest feeds ++ (records, b) ∷ []) (bytes_behind bytes rest given records k h) in

@@ -3,7 +3,7 @@
 //! The bytes of all items lie one after the other, so that those of a poll are copied at once, and
 //! the others apart from them: each byte is kept once. Source: ours.
 
-ghost use Rattle.std.specs.Prelude.{◌≡◌, ◌+◌, ◌*◌, ◌<◌, ◌≤◌, [], true, length, take, drop, IfOk, OnOk, OnErr};
+ghost use Rattle.std.specs.Prelude.{◌≡◌, ◌+◌, ◌*◌, ◌<◌, ◌≤◌, [], length, take, drop, IfOk, OnOk, OnErr};
 ghost use Rattle.strm_codes.specs.Layout.{scalars_of};
 ghost use Rattle.strm_memory.specs.Items.{AreItems};
 ghost use Rattle.strm_buffers.specs.Windows.{HasRoom};
@@ -11,16 +11,12 @@ ghost use Rattle.strm_buffers.specs.Tells.{Fills};
 ghost use Rattle.strm_ends.specs.Fed.{nothing_fed, more_fed};
 
 use crate::counting::count_items;
-use crate::marking::mark_bytes;
 use std::alloc::Global;
 use std::marker::Model;
 use strm_buffers::items::Items;
 use strm_buffers::windows::Window;
 use strm_codes::counts::OutOfMemory;
 use strm_codes::payloads::Payload;
-use strm_codes::scalars::Scalar;
-use strm_codes::values::Value;
-use strm_memory::items::lift_item_at;
 
 // A feed: how many records there were, where the bytes of its items lie, and where the others do.
 #[derive(Clone, Copy, Debug)]
@@ -141,22 +137,16 @@ impl Feeds {
     ) -> Result<(), OutOfMemory>
         requires payload { window.old.payload ≡ self.now.payload }
         requires nothing_marked { window.old.marked ≡ [] }
-        requires prepared { window.old.prepared ≡ true }
         requires room { HasRoom window.old.place 0 count }
         requires there { start + count ≤ length self.now.items }
         ensures marked { OnOk result (window.new.marked ≡ take count (drop start self.now.items)) }
         ensures fills { Fills window.old window.new }
     {
-        match self.payload() {
-            Payload::One(Scalar::U8) => mark_bytes(window, self.bytes_of(start, count)),
-            _ => self.put(window, start, count),
-        }
+        window.put_all(self.bytes_of(start, count), count)
     }
 }
 
 impl Feeds {
-    ghost use Rattle.std.specs.Prelude.{slice_get, Some};
-    ghost use Rattle.strm_codes.specs.Items.{FitsItem};
     ghost use Rattle.strm_codes.specs.Layout.{item_size};
     ghost use Rattle.strm_buffers.specs.Listing.{LieIn, items_in};
 
@@ -171,39 +161,5 @@ impl Feeds {
         let size = self.payload.size() as usize;
         let (_, behind) = self.bytes.as_slice().split_at(size * start);
         behind.split_at(size * count as usize).0
-    }
-
-    // An item, from 0.
-    fn get(&self, index: usize) -> Value
-        requires { index < length self.now.items }
-        ensures exact { slice_get self.now.items index ≡ Some result }
-        ensures fits { FitsItem (scalars_of self.now.payload) result }
-    {
-        let size = self.payload.size() as usize;
-        match lift_item_at(&self.bytes, size * index, self.payload) {
-            Some(item) => item,
-            None => unreachable!(),
-        }
-    }
-
-    // Marks so many items from a place on, one by one.
-    fn put(&self, window: &mut Window, start: usize, count: u32) -> Result<(), OutOfMemory>
-        requires payload { window.old.payload ≡ self.now.payload }
-        requires nothing_marked { window.old.marked ≡ [] }
-        requires room { HasRoom window.old.place 0 count }
-        requires there { start + count ≤ length self.now.items }
-        ensures marked { OnOk result (window.new.marked ≡ take count (drop start self.now.items)) }
-        ensures fills { Fills window.old window.new }
-    {
-        window.sound();
-        let _ = self.len();
-        for index in 0..count {
-            let item = self.get(start + index as usize);
-            match window.put(&item) {
-                Ok(()) => {}
-                Err(error) => return Err(error),
-            }
-        }
-        Ok(())
     }
 }

@@ -4,7 +4,6 @@
 
 mod counting;
 mod feeds;
-mod marking;
 mod polls;
 pub mod queue_writer;
 pub mod scripted_writer;

@@ -161,7 +161,6 @@ impl QueueWriter {
     fn give_next(&mut self, window: &mut Window, finish: bool) -> Result<Answer, OutOfMemory>
         requires payload { window.old.payload ≡ self.old.fed.payload }
         requires nothing_marked { window.old.marked ≡ [] }
-        requires prepared { window.old.prepared ≡ true }
         ensures marked { OnOk result (window.new.marked
             ≡ items_given self.old.kind (room_of window.old.place) (queue_of self.old)) }
         ensures answer { IfOk result (λ answer. answer

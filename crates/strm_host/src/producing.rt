@@ -2,7 +2,7 @@
 //!
 //! Source: ours.
 
-ghost use Rattle.std.specs.Prelude.{◌≡◌, ◌+◌, ◌<◌, ◌≤◌, ◌++◌, [], true, length, take, drop, map, IfOk, OnOk, IfSome};
+ghost use Rattle.std.specs.Prelude.{◌≡◌, ◌+◌, ◌<◌, ◌≤◌, ◌++◌, [], true, length, take, drop, map, IfOk, IfSome};
 ghost use Rattle.strm_codes.specs.Layout.{scalars_of};
 ghost use Rattle.strm_memory.specs.Items.{AreItems};
 ghost use Rattle.strm_buffers.specs.Windows.{room_of};
@@ -124,7 +124,7 @@ fn produce<P: StreamProducer>(
         buffer,
         alloc: _,
     } = produced;
-    let items = gather::<P::Item, P::Buffer>(&filled, buffer);
+    let items = gather::<P::Item, P::Buffer>(alloc, &filled, buffer);
     *window = filled;
     match (answer_of(turn), items) {
         (Some(answer), Ok(items)) => Ok((answer, items)),
@@ -134,42 +134,43 @@ fn produce<P: StreamProducer>(
 
 // The marked items, and behind them those of a buffer.
 fn gather<T: Payloaded, B: WriteBuffer<T> + Drop>(
+    alloc: Global,
     window: &Window,
-    buffer: B,
+    mut buffer: B,
 ) -> Result<Items, OutOfMemory>
     requires payload { window.now.payload ≡ T.payload }
     requires few { length window.now.marked + length (B.items buffer) < 4294967295 }
     ensures payload { IfOk result (λ items. items.payload ≡ T.payload) }
     ensures items { IfOk result (λ items. items.items ≡ window.now.marked ++ map T.item (B.items buffer)) }
 {
-    let mut items = match window.marked_items() {
-        Ok(items) => items,
+    let values = match buffer.take_all(alloc) {
+        Ok(values) => values,
         Err(error) => return Err(error),
     };
-    match lower_all::<T, B>(buffer, &mut items) {
-        Ok(()) => Ok(items),
+    match Items::of_values::<T>(alloc, values) {
+        Ok(items) => put_behind_marked(window, items),
         Err(error) => Err(error),
     }
 }
 
-// Puts the items of a buffer behind these, as numbers.
-fn lower_all<T: Payloaded, B: WriteBuffer<T> + Drop>(
-    mut buffer: B,
-    items: &mut Items,
-) -> Result<(), OutOfMemory>
-    requires payload { items.old.payload ≡ T.payload }
-    requires few { length items.old.items + length (B.items buffer) < 4294967295 }
-    ensures payload { items.new.payload ≡ items.old.payload }
-    ensures ok { OnOk result (items.new.items ≡ items.old.items ++ map T.item (B.items buffer)) }
+// The marked items, and these behind them.
+fn put_behind_marked(window: &Window, items: Items) -> Result<Items, OutOfMemory>
+    requires payload { window.now.payload ≡ items.payload }
+    requires few { length window.now.marked + length items.items < 4294967295 }
+    ensures payload { IfOk result (λ all. all.payload ≡ items.payload) }
+    ensures items { IfOk result (λ all. all.items ≡ window.now.marked ++ items.items) }
 {
-    for _ in 0..buffer.len() {
-        let item = buffer.take_first();
-        match items.push(&item.lower()) {
-            Ok(()) => {}
-            Err(error) => return Err(error),
-        }
+    if window.marked() == 0 {
+        return Ok(items);
     }
-    Ok(())
+    let mut all = match window.marked_items() {
+        Ok(all) => all,
+        Err(error) => return Err(error),
+    };
+    match all.append(&items) {
+        Ok(()) => Ok(all),
+        Err(error) => Err(error),
+    }
 }
 
 // The answer of a turn; none where memory was wanting.

@@ -8,7 +8,7 @@ use Rattle.std.specs.Option.{option_map}
 use Rattle.strm_codes.specs.Layout.{item_size}
 use Rattle.strm_codes.specs.declared.scalars.Scalar.{Scalar}
 use Rattle.strm_codes.specs.Items.{FitsItem}
-use Rattle.strm_memory.specs.Items.{decode, encode, items, stored, AreItems}
+use Rattle.strm_memory.specs.Items.{decode, encode, items, stored, AreItems, stored_at}
 use Rattle.strm_memory.proofs.FieldLemmas.{is_some-both, from_on, with_front, with_front-more}
 
 pub item_fits : (k n size : ℕ) → k < n → size * k + size ≤ size * n
@@ -82,6 +82,17 @@ unfolding stored
 stored_step ss m at k size xs x h e s less =
     let here : drop k xs ≡ x ∷ drop (k + 1) xs = drop_more xs k x h ∙ ap (λ y. y ∷ drop (k + 1) xs) (sym e) in
     rw (here, ← s) (sweep_more m at size (encode ss (drop at m) x) (λ b. stored ss b (drop (k + 1) xs)) less)
+
+-- one item stored in its place, and the others behind it
+pub stored_next : (ss : List Scalar) (m new : List ℕ) (k size : ℕ) (xs : List (List ℤ)) (x : List ℤ) → k < length xs → x ≡ get_or xs k x → size ≡ item_size ss → size * length xs ≤ length m → new ≡ stored_at ss m (size * k) (x ∷ [])
+    → take (size * (k + 1)) new ++ stored ss (drop (size * (k + 1)) new) (drop (k + 1) xs) ≡ take (size * k) m ++ stored ss (drop (size * k) m) (drop k xs)
+unfolding stored
+stored_next ss m new k size xs x h e s room n =
+    let at = size * k in
+    let more : size * (k + 1) ≡ at + size = grind arith in
+    let less : at ≤ length m = omega (arith, item_fits k (length xs) size h, room) in
+    let is : new ≡ from_on (λ b. encode ss b x) at m = n ∙ ap (λ l. take at m ++ l) (take-append-drop (item_size ss) (encode ss (drop at m) x)) in
+    ap (λ j. from_on (stores ss (drop (k + 1) xs)) j new) more ∙ ap (from_on (stores ss (drop (k + 1) xs)) (at + size)) is ∙ stored_step ss m at k size xs x h e s less
 
 pub stored_end : (ss : List Scalar) (m : List ℕ) (at k : ℕ) (xs : List (List ℤ)) → length xs ≤ k → take at m ++ stored ss (drop at m) (drop k xs) ≡ m
 unfolding stored

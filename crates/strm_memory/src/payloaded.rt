@@ -2,12 +2,12 @@
 //!
 //! Source: ours; wasmtime has `Lift` and `Lower`, which read and write a guest's memory.
 
-ghost use Rattle.std.specs.Prelude.{◌≡◌, ◌+◌, ◌≤◌, ◌↔◌, [], ◌∷◌, length, map, IsSome, IsNone, IfSome};
+ghost use Rattle.std.specs.Prelude.{◌≡◌, ◌+◌, ◌*◌, ◌≤◌, ◌↔◌, [], ◌∷◌, length, map, IsSome, IsNone, IfSome};
 ghost use Rattle.strm_codes.specs.Items.{FitsItem};
 ghost use Rattle.strm_codes.specs.Layout.{scalars_of, item_size};
 ghost use Rattle.strm_codes.specs.declared.payloads.Payload.TheVariants.{One, Tuple};
 ghost use Rattle.strm_codes.specs.declared.scalars.Scalar.TheVariants.{U8};
-ghost use Rattle.strm_memory.specs.Items.{stored_at, byte_items};
+ghost use Rattle.strm_memory.specs.Items.{stored, stored_at, AreItems, byte_items};
 
 use crate::fields::lower_field;
 use crate::items::lower_item_at;
@@ -45,7 +45,8 @@ pub trait Payloaded: Copy {
     /// no memory.
     fn put(&self, bytes: &mut [u8], at: usize)
         requires { at + item_size (scalars_of payload) ≤ length bytes.old }
-        ensures { bytes.new ≡ stored_at (scalars_of payload) bytes.old at (item self.now ∷ []) }
+        ensures stored { bytes.new ≡ stored_at (scalars_of payload) bytes.old at (item self.now ∷ []) }
+        ensures fits { FitsItem (scalars_of payload) (item self.now) }
     {
         lower_item_at(&self.lower(), Self::payload(), bytes, at);
     }
@@ -63,6 +64,19 @@ pub trait Payloaded: Copy {
 
     // No two values are one item: so what is lowered is lifted again.
     ghost apart: { (x y : Self) → item x ≡ item y → x ≡ y };
+}
+
+/// Stores the items that these values are from the front of the bytes on, one behind the other.
+/// Padding stays as it was. Takes no memory.
+pub fn put_values<T: Payloaded>(values: &[T], bytes: &mut [u8])
+    requires { item_size (scalars_of T.payload) * length values.now ≤ length bytes.old }
+    ensures stored { bytes.new ≡ stored (scalars_of T.payload) bytes.old (map T.item values.now) }
+    ensures fit { AreItems (scalars_of T.payload) (map T.item values.now) }
+{
+    let size = T::payload().size() as usize;
+    for k in 0..values.len() {
+        values[k].put(bytes, size * k);
+    }
 }
 
 // Values of some fields, one behind the other: `(a, (b, (c, ())))`.

@@ -1,9 +1,19 @@
-use Rattle.strm_buffers.proofs.PollingLemmas.{marks_none, mark_next}
+use Rattle.std.proofs.Common.{◌≡◌, ◌+◌, ◌-◌, ◌++◌, take, drop, sym, ap, ◌∙◌, arith}
+use Rattle.std.proofs.lemmas.Result.{on_ok_weaker}
+use Rattle.std.proofs.Math.Seq.{take-add}
+use Rattle.strm_codes.specs.Layout.{scalars_of}
+use Rattle.strm_buffers.specs.Listing.{items_in}
+use Rattle.strm_buffers.specs.Windows.{Lent}
 use Rattle.strm_buffers.proofs.polling.mark_first.Goals as goal
 
-pub loop-index-init : goal.loop-index-init
-loop-index-init c = rw c.marked-index.ensures.exact (marks_none c.args.window.now c.args.items.now.items c.requires.begun)
-
-pub loop-index-preserved : goal.loop-index-preserved
-loop-index-preserved c =
-    mark_next c.args.window.now c.loop-index.window c.put.new.self c.args.items.now.items c.get-item.result c.loop-index.index c.args.count c.sound.ensures c.requires.room c.loop-index-test.true c.loop-index.invariant c.get-item.ensures.exact c.in-Ok.ensures.ok
+pub returns-clause-ok : goal.returns-clause-ok
+returns-clause-ok c =
+    let xs = c.args.items.now.items in
+    let n = c.marked-first.result in
+    let k = c.args.count - n in
+    let first : c.args.window.now.marked ≡ take n xs = c.requires.begun ∙ ap (λ j. take j xs) (sym c.marked-first.ensures.exact) in
+    let all : n + k ≡ c.args.count = omega (arith, c.requires.least, c.marked-first.ensures.exact) in
+    let items : items_in (scalars_of c.args.window.now.payload) c.bytes_of.result.now 0 k ≡ take k (drop n xs) = ap (λ p. items_in (scalars_of p) c.bytes_of.result.now 0 k) (sym c.requires.payload) ∙ c.bytes_of.ensures.items in
+    on_ok_weaker c.put_all.result
+    (λ e. ap (λ (w : Lent). w.marked) e ∙ ap (λ ys. c.args.window.now.marked ++ ys) items ∙ ap (λ ys. ys ++ take k (drop n xs)) first ∙ sym (take-add n k xs) ∙ ap (λ j. take j xs) all)
+    c.put_all.ensures.ok

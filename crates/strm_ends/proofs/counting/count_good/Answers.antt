@@ -1,4 +1,4 @@
-use Rattle.std.proofs.Common.{◌≡◌, ◌+◌, ◌*◌, drop, Some, None, sym, ap, ◌∙◌, arith}
+use Rattle.std.proofs.Common.{◌≡◌, ◌+◌, ◌*◌, drop, sym, ap, ◌∙◌, arith}
 use Rattle.strm_codes.specs.Layout.{scalars_of, item_size}
 use Rattle.strm_memory.specs.Items.{decode}
 use Rattle.strm_ends.proofs.GoodLemmas.{good_first, good_next, good_stop, good_end}

@@ -1,6 +1,5 @@
-use Rattle.std.proofs.Common.{◌≡◌, length, Some, sym, ap, ◌∙◌}
-use Rattle.strm_codes.specs.Layout.{scalars_of, item_size}
-use Rattle.strm_memory.specs.Items.{items, is_number_or_none}
+use Rattle.std.proofs.Common.{length, Some, sym, ap, ◌∙◌}
+use Rattle.strm_codes.specs.Layout.{scalars_of}
 use Rattle.strm_memory.proofs.RegionLemmas.{AreItems-items, items-number_or_none}
 use Rattle.strm_ends.specs.Queues.{most_items, good_items, items_fed}
 use Rattle.strm_ends.proofs.GoodLemmas.{good_some}

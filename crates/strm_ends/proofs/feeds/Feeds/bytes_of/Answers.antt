@@ -1,9 +1,8 @@
 use Rattle.std.proofs.Common.{◌≡◌, ◌+◌, ◌*◌, ◌≤◌, length, take, drop, sym, ap, subst, ◌∙◌, arith}
 use Rattle.strm_codes.specs.Layout.{scalars_of, item_size}
 use Rattle.strm_buffers.specs.Listing.{LieIn, items_in}
-use Rattle.strm_buffers.proofs.ListingLemmas.{Lie, length-items_in}
+use Rattle.strm_buffers.proofs.ListingLemmas.{length-items_in, lie_part, part_inside}
 use Rattle.strm_ends.specs.Fed.{AllFed}
-use Rattle.strm_ends.proofs.FedLemmas.{lie_part, part_inside}
 use Rattle.strm_ends.proofs.feeds.Feeds.bytes_of.Goals as goal
 
 pub overflow_mul-size : goal.overflow_mul-size

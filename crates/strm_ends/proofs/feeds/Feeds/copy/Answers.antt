@@ -1,5 +1,4 @@
-use Rattle.std.proofs.Common.{◌≡◌, ◌+◌, ◌*◌, ◌++◌, length, take, drop, refl, ap, ◌∙◌, arith}
-use Rattle.strm_codes.specs.Layout.{scalars_of, item_size}
+use Rattle.std.proofs.Common.{◌≡◌, ◌++◌, refl, ap, ◌∙◌, arith}
 use Rattle.strm_ends.proofs.feeds.Feeds.copy.Goals as goal
 
 pub of_bytes-requires : goal.of_bytes-requires

@@ -1,6 +1,6 @@
-use Rattle.std.proofs.Common.{◌≡◌, ◌+◌, ◌*◌, ◌-◌, ◌≤◌, [], ◌∷◌, ◌++◌, length, take, drop, refl, ap, ◌∙◌, arith, length-drop}
+use Rattle.std.proofs.Common.{◌≡◌, ◌+◌, ◌*◌, ◌-◌, [], ◌∷◌, ◌++◌, length, take, drop, refl, ap, ◌∙◌, arith, length-drop}
 use Rattle.strm_codes.specs.Layout.{scalars_of, item_size}
-use Rattle.strm_ends.specs.Fed.{IsFed, more_fed, fed_kept}
+use Rattle.strm_ends.specs.Fed.{more_fed, fed_kept}
 use Rattle.strm_ends.specs.declared.feeds.Feed.{Feed}
 use Rattle.strm_ends.proofs.FedLemmas.{FedMore, fed_more, feed_behind}
 use Rattle.strm_ends.proofs.feeds.Feeds.feed.Goals as goal

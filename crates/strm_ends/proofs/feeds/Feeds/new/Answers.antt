@@ -1,6 +1,6 @@
-use Rattle.std.proofs.Common.{◌≡◌, ◌*◌, [], length, ap, arith, refl}
+use Rattle.std.proofs.Common.{◌≡◌, [], length, ap, arith, refl}
 use Rattle.std.proofs.lemmas.List.Elements.{All-nil, All-same}
-use Rattle.strm_codes.specs.Layout.{scalars_of, item_size}
+use Rattle.strm_codes.specs.Layout.{scalars_of}
 use Rattle.strm_buffers.proofs.ListingLemmas.{lie_none}
 use Rattle.strm_ends.specs.Fed.{nothing_fed, fed_kept, LiesThere}
 use Rattle.strm_ends.proofs.feeds.Feeds.new.Goals as goal

@@ -1,4 +1,4 @@
-use Rattle.std.proofs.Common.{◌≡◌, ◌+◌, ◌-◌, ◌≤◌, [], ◌∷◌, ◌++◌, length, take, drop, ap, ◌∙◌, arith}
+use Rattle.std.proofs.Common.{◌≡◌, ◌+◌, ◌-◌, ◌≤◌, [], ◌∷◌, ◌++◌, length, drop, ap, ◌∙◌, arith}
 use Rattle.std.proofs.lemmas.List.Elements.{All-push, All-same}
 use Rattle.std.specs.Prelude.{min}
 use Rattle.strm_codes.specs.Layout.{scalars_of}
@@ -8,7 +8,7 @@ use Rattle.strm_buffers.proofs.EndLemmas.{Fills-same}
 use Rattle.strm_ends.specs.Queues.{most_given}
 use Rattle.strm_ends.specs.Polls.{IsPoll}
 use Rattle.strm_ends.specs.declared.polls.Poll.{Poll}
-use Rattle.strm_ends.proofs.FedLemmas.{AreItems-take}
+use Rattle.strm_buffers.proofs.ListingLemmas.{AreItems-take}
 use Rattle.strm_ends.proofs.QueueLemmas.{given_is}
 use Rattle.strm_ends.proofs.queue_writer.QueueWriter.give_next.Goals as goal
 
