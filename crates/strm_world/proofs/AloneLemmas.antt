@@ -18,8 +18,6 @@ use Rattle.strm_machine.specs.declared.acts.Act.TheVariants.{OnEnd, OnLoose, OnH
 use Rattle.strm_machine.specs.declared.acts.EndAct.TheVariants.{Operate, Drop}
 use Rattle.strm_machine.specs.declared.acts.LooseAct.TheVariants.{Close}
 use Rattle.strm_machine.specs.declared.streams.Duty.TheVariants.{Unused, Serves}
-use Rattle.strm_machine.specs.declared.streams.Owner.{Owner}
-use Rattle.strm_machine.specs.declared.streams.Owner.TheVariants.{Host}
 use Rattle.strm_machine.specs.declared.streams.Side.{Side}
 use Rattle.strm_machine.specs.declared.streams.Side.TheVariants.{Writing, Reading}
 use Rattle.strm_machine.specs.declared.stops.Stop.{Stop}
@@ -31,7 +29,7 @@ use Rattle.strm_machine.proofs.ReactionLemmas.{reaction-trapped, reaction-perfor
 use Rattle.strm_machine.proofs.SoundStepLemmas.{reaction-sound}
 use Rattle.strm_machine.proofs.HeldLemmas.{StateIsHeld, reaction-held}
 use Rattle.strm_machine.proofs.EmptyLemmas.{HostsHold-empty}
-use Rattle.strm_machine.proofs.HostLemmas.{reaction-hosts}
+use Rattle.strm_machine.proofs.HostLemmas.{reaction-hosts, unless_host}
 use Rattle.strm_world.specs.World.{World}
 use Rattle.strm_world.specs.Outcomes.{done, of_reply, reacted}
 use Rattle.strm_world.specs.Driving.{driven, round_of}
@@ -107,9 +105,13 @@ pub record Lasts (P : State → Type 0) : Type 0 where
   pub stays : (state : State) (step : Step) → P state → IsOfGuests step → P (react state step).state
 
 module _ (P : State → Type 0) (lasts : Lasts P) (first : State) (tells : Tells) (logs : Logs) where
+  -- a store in this state among the host ends
+  abbrev among_hosts : State → World
+  among_hosts state = world_of state tells logs
+
   -- the rest of a run
   abbrev Follow : List Step → Type 0
-  Follow more = (told : List Reply) (state : State) → state.producers ≡ first.producers → P state → play told (world_of state tells logs) more ≡ among first tells logs (machine.play told state more)
+  Follow more = (told : List Reply) (state : State) → state.producers ≡ first.producers → P state → play told (among_hosts state) more ≡ among first tells logs (machine.play told state more)
 
   -- and as a run goes on
   abbrev go_on : List Step → List Reply → World → Played
@@ -119,11 +121,11 @@ module _ (P : State → Type 0) (lasts : Lasts P) (first : State) (tells : Tells
   guests_go_on more told state = machine.play told state more
 
   halts_same : (told : List Reply) (stop : Stop) (state : State) → state.producers ≡ first.producers
-      → Halts told stop (world_of state tells logs).writers (world_of state tells logs).readers ≡ Halts told stop (world_of first tells logs).writers (world_of first tells logs).readers
+      → Halts told stop (among_hosts state).writers (among_hosts state).readers ≡ Halts told stop (among_hosts first).writers (among_hosts first).readers
   halts_same told stop state e = ap (λ ps. Halts told stop (writers_from ps tells.writers logs.writers) (readers_from tells.readers logs.readers)) e
 
   after_alone : (told : List Reply) (reply : Reply) (state : State) (more : List Step) → state.producers ≡ first.producers → P state → Follow more
-      → after_step told (of_reply reply (world_of state tells logs)) (go_on more) ≡ among first tells logs (machine.after_step told reply state (guests_go_on more))
+      → after_step told (of_reply reply (among_hosts state)) (go_on more) ≡ among first tells logs (machine.after_step told reply state (guests_go_on more))
   after_alone told (replies.BadItem s) state more e p follow = halts_same told (BadItem s) state e
   after_alone told replies.StoreTrapped state more e p follow = halts_same told StoreTrapped state e
   after_alone told reply state more e p follow = follow (told ++ reply ∷ []) state e p
@@ -139,12 +141,8 @@ module _ (P : State → Type 0) (lasts : Lasts P) (first : State) (tells : Tells
 
 -- A STORE WHOSE HOST WRITERS ARE UNUSED
 
-not_host : (owner : Owner) → ((n : ℕ) → owner ≡ Host n → ⊥) → is_host owner ≡ false
-not_host (Host n) h = absurd (h n refl)
-not_host _ h = refl
-
 pub unused-no_host : (state : State) → HostsHold state → ((n : ℕ) → (producer_at state n).duty ≡ Unused) → HasNoHost state
-unused-no_host state h u s Writing = not_host (stream_at state s).writer.owner (λ n e. let d : (producer_at state n).duty ≡ Serves s = (h.serve n s).serves e in let f : Unused ≡ Serves s = sym (u n) ∙ d in cc)
+unused-no_host state h u s Writing = unless_host (stream_at state s).writer.owner (λ n e. let d : (producer_at state n).duty ≡ Serves s = (h.serve n s).serves e in let f : Unused ≡ Serves s = sym (u n) ∙ d in cc)
 unused-no_host state h u s Reading = h.unpiped s
 
 -- a store of guests alone

@@ -1,8 +1,8 @@
 -- What one piece of code did and what the next one did make up what both do.
 use Rattle.std.proofs.Common.{◌≡◌, ℕ, ◌≤◌, Ok, Err, Option, Some, None, refl, sym, subst, arith}
-use Rattle.strm_buffers.specs.Tells.{Tells}
+use Rattle.strm_buffers.specs.Tells.{Tells, Rose}
+use Rattle.std.proofs.Math.Nat.{le_trans}
 use Rattle.std.proofs.lemmas.Bool.Decides.{nat_tests}
-use Rattle.strm_buffers.specs.Tells.{Rose}
 use Rattle.strm_machine.specs.State.{State}
 use Rattle.strm_machine.specs.declared.stops.Stop.{Stop}
 use Rattle.strm_machine.specs.declared.stops.Stop.TheVariants.{HostFailed}
@@ -13,7 +13,7 @@ use Rattle.strm_world.specs.Outcomes.{Outcome, Stops, then_on}
 use Rattle.strm_world.specs.Does.{Logs, world_of, Answered, Gives, faults_of, Caused, Does}
 
 -- a count that rose has risen since it was less
-rose_more : (a b c : ℕ) → a ≤ b → Rose b c → Rose a c
+pub rose_more : (a b c : ℕ) → a ≤ b → Rose b c → Rose a c
 rose_more a b c h r = grind (arith, nat_tests)
 
 -- a cause in the second part is one of the whole
@@ -23,9 +23,6 @@ caused_from x y z (Err None) h c = tt
 caused_from x y z (Err (Some (HostFailed end))) h c = rose_more (faults_of x end) (faults_of y end) (faults_of z end) (h end) c
 caused_from x y z (Err (Some _)) h c = tt
 
-at_most : (a b c : ℕ) → a ≤ b → b ≤ c → a ≤ c
-at_most a b c h k = omega (arith, h, k)
-
 -- a part that went on, and then another
 pub Does-then : (a b c : State) (x y z : Tells) (reply : Reply) (result : Answered) (m n : World → Outcome)
     → Does a b x y (Ok reply) m → Does b c y z result n → Does a c x z result (λ w. then_on (m w) n)
@@ -34,7 +31,7 @@ Does-then a b c x y z reply result m n d k = record {
   gives = λ logs e.
       subst (λ o. Gives result (world_of c z logs) (then_on o n)) (sym (d.gives logs (k.begins logs e))) (k.gives logs e);
   supplied = λ s. k.supplied (d.supplied s);
-  faults = λ end. at_most (faults_of x end) (faults_of y end) (faults_of z end) (d.faults end) (k.faults end);
+  faults = λ end. le_trans (d.faults end) (k.faults end);
   cause = caused_from x y z result d.faults k.cause;
 }
 

@@ -47,7 +47,8 @@ then_on-twice (Goes reply world) f g = refl
 then_on-twice (Stops stop writers readers) f g = refl
 then_on-twice Stuck f g = refl
 
-then_on_same : (o : Outcome) (f g : World → Outcome) → ((w : World) → f w ≡ g w) → then_on o f ≡ then_on o g
+-- two continuations that do the same on each world
+pub then_on_same : (o : Outcome) (f g : World → Outcome) → ((w : World) → f w ≡ g w) → then_on o f ≡ then_on o g
 then_on_same (Goes reply world) f g h = h world
 then_on_same (Stops stop writers readers) f g h = refl
 then_on_same Stuck f g h = refl

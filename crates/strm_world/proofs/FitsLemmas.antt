@@ -8,11 +8,10 @@ use Rattle.strm_codes.specs.declared.codes.StreamResult.TheVariants as results
 use Rattle.strm_buffers.specs.Listing.{Item}
 use Rattle.strm_buffers.specs.Said.{WriterSaid}
 use Rattle.strm_buffers.specs.Tells.{WriterTells, Tells, no_tells, told_by, with_told, PollsWriter, ClosesWriter}
-use Rattle.strm_machine.specs.State.{State, no_producer, no_stream, producer_at, stream_at, is_host}
+use Rattle.strm_machine.specs.State.{State, no_producer, no_stream, producer_at, stream_at}
 use Rattle.strm_machine.specs.Reactions.{with_stream_at}
 use Rattle.strm_machine.specs.Turns.{with_received}
 use Rattle.strm_machine.specs.declared.streams.Duty.TheVariants.{Serves, Ended}
-use Rattle.strm_machine.specs.declared.streams.Owner.{Owner}
 use Rattle.strm_machine.specs.declared.streams.Owner.TheVariants.{Host}
 use Rattle.strm_machine.specs.declared.streams.Operation.{Operation}
 use Rattle.strm_machine.specs.declared.streams.Producer.{Producer}
@@ -22,6 +21,7 @@ use Rattle.strm_world.specs.Settling.{moved_on}
 use Rattle.strm_world.specs.Does.{Logs, world_of, FitsWriter, Fits}
 use Rattle.strm_world.proofs.CloseLemmas.{ended_producer, ended_in}
 use Rattle.strm_world.proofs.DriveLemmas.{AreAlone}
+use Rattle.strm_machine.proofs.HostLemmas.{unless_host}
 
 -- two are of one kind and payload
 pub record IsLike (a : TransmitKind) (p : Payload) (b : TransmitKind) (q : Payload) : Type 0 where
@@ -125,15 +125,11 @@ Fits-kept_of state tells n p e =
 
 -- STREAMS THAT NO HOST WRITER SERVES
 
-not_host : (owner : Owner) → ((n : ℕ) → owner ≡ Host n → ⊥) → is_host owner ≡ false
-not_host (Host n) h = absurd (h n refl)
-not_host _ h = refl
-
 -- a stream between two of those that are served is alone
 pub are_alone : (state : State) (tells : Tells) (logs : Logs) (s m : ℕ) → ((n t : ℕ) → (stream_at state t).writer.owner ≡ Host n → (producer_at state n).duty ≡ Serves t)
     → ((n t : ℕ) → (producer_at state n).duty ≡ Serves t → s ≤ t → t < s + m → ⊥) → AreAlone (world_of state tells logs) s m
 are_alone state tells logs s zero serves none = tt
 are_alone state tells logs s (suc m) serves none = (
-  not_host (stream_at state s).writer.owner (λ n e. none n s (serves n s e) (omega arith) (omega arith)),
+  unless_host (stream_at state s).writer.owner (λ n e. none n s (serves n s e) (omega arith) (omega arith)),
   are_alone state tells logs (s + 1) m serves (λ n t d l k. none n t d (omega (arith, l)) (omega (arith, k))),
 )

@@ -1,5 +1,6 @@
 -- One host writer that told more, among the others: what all of them tell then.
 use Rattle.std.proofs.Common.{◌≡◌, ℕ, zero, suc, ◌<◌, ◌≤◌, List, [], ◌∷◌, ◌++◌, length, drop, refl, sym, ap, subst, ◌∙◌, append-nil, arith}
+use Rattle.std.proofs.Math.Nat.{le_trans}
 use Rattle.std.specs.Prelude.{slice_set, slice_index_or, map, All}
 use Rattle.std.proofs.lemmas.List.Elements.{All-append, All-set}
 use Rattle.std.proofs.lemmas.Bool.Decides.{nat_tests}
@@ -123,14 +124,11 @@ follows-told tells n w there g = record {
   faults = faults-told tells n w g.faults;
 }
 
-at_most : (a b c : ℕ) → a ≤ b → b ≤ c → a ≤ c
-at_most a b c h k = omega (arith, h, k)
-
 pub follows-then : (a b c : Tells) → Follows a b → Follows b c → Follows a c
 follows-then a b c f g = record {
   begins = λ logs e. f.begins logs (g.begins logs e);
   supplied = λ s. g.supplied (f.supplied s);
-  faults = λ end. at_most (faults_of a end) (faults_of b end) (faults_of c end) (f.faults end) (g.faults end);
+  faults = λ end. le_trans (f.faults end) (g.faults end);
 }
 
 -- a part of a step

@@ -6,6 +6,7 @@ pub mod DriveLemmas
 pub mod PollLemmas
 pub mod CloseLemmas
 pub mod SettleLemmas
+pub mod LoweredLemmas
 pub mod OutcomeLemmas
 pub mod TurnLemmas
 pub mod BackLemmas

@@ -40,15 +40,19 @@ Does-reads_from old new tells told result s n read d = record {
   cause = d.cause;
 }
 
+-- the writer's turn for a read that begins
+abbrev pub DoesTurn : State → State → Tells → Tells → Answered → ℕ → ℕ → Operation → Type 0
+DoesTurn old mid tells told result s n read = Does (opened old s read) mid tells told result (λ w. producer_turn w s n read)
+
 -- a read that the writer's turn settled, or left waiting, is answered
-pub Does-read : (old mid new : State) (tells told : Tells) (s n : ℕ) (read : Operation) (result : Answered) → Does (opened old s read) mid tells told (Ok replies.Done) (λ w. producer_turn w s n read)
-    → Does mid new told told result (λ w. answered w s Reading) → Does old new tells told result (λ w. reads_from w s n read)
+pub Does-read : (old mid new : State) (tells told : Tells) (s n : ℕ) (read : Operation) (result : Answered) → DoesTurn old mid tells told (Ok replies.Done) s n read → Does mid new told told result (λ w. answered w s Reading)
+    → Does old new tells told result (λ w. reads_from w s n read)
 Does-read old mid new tells told s n read result turn answer =
     Does-reads_from old new tells told result s n read
     (Does-then (opened old s read) mid new tells told told replies.Done result (λ w. producer_turn w s n read) (λ w. answered w s Reading) turn answer)
 
 -- or its turn stops
-pub Does-read_stop : (old new : State) (tells told : Tells) (s n : ℕ) (read : Operation) (stop : Option Stop) → Does (opened old s read) new tells told (Err stop) (λ w. producer_turn w s n read)
+pub Does-read_stop : (old new : State) (tells told : Tells) (s n : ℕ) (read : Operation) (stop : Option Stop) → DoesTurn old new tells told (Err stop) s n read
     → Does old new tells told (Err stop) (λ w. reads_from w s n read)
 Does-read_stop old new tells told s n read stop turn =
     Does-reads_from old new tells told (Err stop) s n read

@@ -24,7 +24,7 @@ use Rattle.strm_world.proofs.WorldLemmas.{set-same}
 use Rattle.strm_world.proofs.CloseLemmas.{ended_in, without_writer-box}
 use Rattle.strm_world.proofs.DoesLemmas.{Does-untold}
 
-leaves_writer-stays : (owner : Owner) (world : World) → leaves_writer owner owner world ≡ world
+pub leaves_writer-stays : (owner : Owner) (world : World) → leaves_writer owner owner world ≡ world
 leaves_writer-stays (Host n) world = refl
 leaves_writer-stays _ world = refl
 
@@ -97,7 +97,7 @@ code_told (Some code) = code
 code_told None = Blocked
 
 -- a stream whose end was told nothing is as it was
-told-nothing : (state : State) (s : ℕ) → report_on Reading (stream_at state s) ≡ None → told state s Reading ≡ state
+pub told-nothing : (state : State) (s : ℕ) → report_on Reading (stream_at state s) ≡ None → told state s Reading ≡ state
 unfolding delivered
 told-nothing state s e =
     ap (λ code. with_stream_at state s (with_end Reading (stream_at state s) (told_end code (stream_at state s).reader))) e
