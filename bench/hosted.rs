@@ -1,5 +1,7 @@
-//! The copies of `strm_bench`'s host writers in plain Rust: bytes that come from outside are kept, and
-//! copied from there to a guest's memory; and a list is copied there in pieces.
+//! The copies of `strm_bench`'s host writers in plain Rust: bytes that come from outside are kept, with
+//! a record of each feed and of each read, and copied from there to a guest's memory; and a list is
+//! kept once as the record of what was produced and once as what is left, and copied from there in
+//! pieces.
 //!
 //! `bench/hosted` times both.
 
@@ -25,27 +27,50 @@ fn sum(memory: &[u8]) -> u64 {
     memory.iter().map(|byte| u64::from(*byte)).sum()
 }
 
+// Where the bytes of a feed lie, and behind how many reads it came.
+struct Feed {
+    reads: usize,
+    bytes: std::ops::Range<usize>,
+}
+
+// How much room a read had, and which bytes it got.
+struct Read {
+    room: usize,
+    bytes: std::ops::Range<usize>,
+}
+
 #[inline(never)]
 fn feed_and_read(memory: &mut [u8], rounds: usize) -> usize {
     let bytes = [7; FEED];
     let mut fed: Vec<u8> = Vec::new();
+    let mut feeds: Vec<Feed> = Vec::new();
+    let mut reads: Vec<Read> = Vec::new();
     let mut given = 0;
     for round in 0..rounds {
+        let start = fed.len();
         fed.extend_from_slice(black_box(&bytes));
+        feeds.push(Feed { reads: reads.len(), bytes: start..fed.len() });
         let address = round % (FED / FEED) * FEED;
         memory[address..address + FEED].copy_from_slice(&fed[given..given + FEED]);
+        reads.push(Read { room: FEED, bytes: given..given + FEED });
         given += FEED;
     }
+    let told: usize = feeds.iter().map(|feed| feed.reads + feed.bytes.len()).sum();
+    let got: usize = reads.iter().map(|read| read.room + read.bytes.len()).sum();
+    black_box(told + got);
     given
 }
 
 #[inline(never)]
-fn read_list(memory: &mut [u8], list: &[u8]) -> usize {
+fn read_list(memory: &mut [u8], list: Vec<u8>) -> usize {
+    let left = list.clone();
+    let produced = black_box(list);
     let mut given = 0;
-    for (target, source) in memory.chunks_mut(PIECE).zip(list.chunks(PIECE)) {
+    for (target, source) in memory.chunks_mut(PIECE).zip(left.chunks(PIECE)) {
         target.copy_from_slice(black_box(source));
         given += source.len();
     }
+    assert_eq!(produced.len(), given);
     given
 }
 
@@ -61,7 +86,7 @@ fn main() {
     let list = vec![7; LISTED];
     let mut memory = touched(LISTED);
     let start = Instant::now();
-    let received = read_list(&mut memory, &list);
+    let received = read_list(&mut memory, list);
     let spent = start.elapsed().as_nanos();
     println!("listed {received}: {}", sum(&memory));
     eprintln!("a list of 64 MiB: {spent} ns");
