@@ -15,7 +15,7 @@ use Rattle.strm_world.specs.Driving.{drive_turn, driven, round_of}
 use Rattle.strm_world.specs.Steps.{performs_in, outcome}
 use Rattle.strm_world.specs.HostPlays.{Ends, Halts, after_step, play}
 use Rattle.strm_world.proofs.OutcomeLemmas.{outcome-trapped, outcome-performs, refusal_in-drive}
-use Rattle.strm_world.proofs.DriveLemmas.{then_on-twice}
+use Rattle.strm_world.proofs.DriveLemmas.{then_on-twice, then_on_same}
 use Rattle.strm_host_laws.specs.HostMoments.{Part, Acts, Turns, HostMoment, parts_of, parts_in, part_on, followed, acted, host_moments, last_of}
 
 -- THE MOMENTS FOLLOW EACH OTHER
@@ -79,11 +79,6 @@ moments-chain world (step ∷ more) =
 abbrev parts_on : World → List Part → Outcome
 parts_on world [] = done world
 parts_on world (part ∷ more) = then_on (part_on world part) (λ v. parts_on v more)
-
-then_on_same : (o : Outcome) (f g : World → Outcome) → ((w : World) → f w ≡ g w) → then_on o f ≡ then_on o g
-then_on_same (Goes reply world) f g h = h world
-then_on_same (Stops stop writers readers) f g h = refl
-then_on_same Stuck f g h = refl
 
 driven-parts : (world : World) (xs : List ℕ) → parts_on world (map Turns xs) ≡ then_on (driven world xs) done
 driven-parts world [] = refl

@@ -1,9 +1,8 @@
 -- Exactly the host writers that became gone were closed.
-use Rattle.std.proofs.Common.{◌≡◌, ℕ, zero, suc, ◌<◌, ◌||◌, Bool, true, false, cond, List, [], ◌∷◌, ◌++◌, length, get_or, set, Option, Some, None, refl, sym, ap, subst, ◌∙◌, ◌⊎◌, inl, inr, arith}
-use Rattle.std.proofs.lemmas.Bool.{cases_eq, cases_lt, le-leb, or_parts, true≢false}
+use Rattle.std.proofs.Common.{◌≡◌, ℕ, zero, suc, ◌<◌, ◌||◌, Bool, true, false, List, [], ◌∷◌, ◌++◌, length, get_or, set, None, refl, sym, ap, subst, ◌∙◌, ◌⊎◌, inl, inr, arith}
+use Rattle.std.proofs.lemmas.Bool.{cases_eq, or_parts}
 use Rattle.std.proofs.lemmas.List.{get_or-set_same, get_or-set_other, get_or_past, length-set, length-replicate}
 use Rattle.std.specs.Prelude.{slice_set, replicate, nat_le}
-use Rattle.strm_codes.specs.declared.refusals.Refusal.{Refusal}
 use Rattle.strm_buffers.specs.declared.answers.Answer.{Answer}
 use Rattle.strm_buffers.specs.Tells.{Tells}
 use Rattle.strm_machine.specs.State.{State, host_limit, no_stream, no_producer, producer_at}
@@ -33,16 +32,10 @@ use Rattle.strm_host_laws.specs.HostLaws.{is_ended, ClosesExactly}
 use Rattle.strm_host_laws.proofs.Chains.{is_part, Chain, moments-chain, StopsAt, play-ends, play-halts}
 use Rattle.strm_host_laws.proofs.Goings.{with_state, Begins, hosted, Rules, Halted, Comes, with_stream_in-same, part-comes, feed-comes}
 use Rattle.strm_host_laws.proofs.Owners.{HostsFrom, HostsFromIn, same_writer, set-from, reaction-from}
+use Rattle.strm_machine.proofs.TableLemmas.{set-keeps}
+use Rattle.strm_machine.proofs.RefusalLemmas.{not_refused, not_le}
 
 -- WHAT ONE OF A LIST BECOMES
-
--- a fact that one of a list keeps
-pub set-keeps : {A B : Type 0} (f : A → B) (xs : List A) (n k : ℕ) (x d : A) → f x ≡ f (get_or xs n d) → f (get_or (set xs n x) k d) ≡ f (get_or xs k d)
-set-keeps f [] n k x d e = refl
-set-keeps f (y ∷ ys) zero zero x d e = e
-set-keeps f (y ∷ ys) zero (suc k) x d e = refl
-set-keeps f (y ∷ ys) (suc n) zero x d e = refl
-set-keeps f (y ∷ ys) (suc n) (suc k) x d e = set-keeps f ys n k x d e
 
 -- WHAT HOLDS OF A RUN SO FAR
 
@@ -70,24 +63,13 @@ pub record IsNew (w : World) (n : ℕ) : Type 0 where
   pub known : n < host_limit
   pub unused : is_used (producer_at w.state n).duty ≡ false
 
-pub unmet : (b : Bool) (r : Refusal) (behind : Option Refusal) → cond b (Some r) behind ≡ None → (b ≡ false) × (behind ≡ None)
-unmet true r behind e = cc
-unmet false r behind e = (refl, e)
-
-pub not_over : (count n : ℕ) → nat_le count n ≡ false → n < count
-not_over count n e =
-    elim (cases_lt n count) [
-      | inl l ↦ l
-      | inr l ↦ absurd (true≢false (sym (le-leb count n l) ∙ e))
-    ]
-
 pub is_new : (w : World) (n : ℕ) → refusal_in w (OnHost n New) ≡ None → IsNew w n
 unfolding refusal_in
 is_new w n e =
-    let known = unmet (is_unknown_host (length w.writers) n) _ _ e in
-    let unused = unmet (is_used (producer_at w.state n).duty) _ _ known.1 in
+    let known = not_refused (is_unknown_host (length w.writers) n) _ _ e in
+    let unused = not_refused (is_used (producer_at w.state n).duty) _ _ known.1 in
     let parts = or_parts (nat_le (length w.writers) n) (nat_le host_limit n) known.0 in
-    record { there = not_over (length w.writers) n parts.0; known = not_over host_limit n parts.1; unused = unused.0 }
+    record { there = not_le (length w.writers) n parts.0; known = not_le host_limit n parts.1; unused = unused.0 }
 
 unused-unended : (duty : Duty) → is_used duty ≡ false → is_ended duty ≡ false
 unused-unended Unused e = refl

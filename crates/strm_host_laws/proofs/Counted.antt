@@ -1,17 +1,10 @@
 -- A run has no more moments than its steps can have: a drive round has one for each stream, and a step makes one
 -- stream at most.
-use Rattle.std.proofs.Common.{◌≡◌, ℕ, zero, suc, ◌+◌, ◌*◌, ◌≤◌, Bool, true, false, cond, List, [], ◌∷◌, length, map, set, Option, Some, None, refl, sym, ap, subst, ◌∙◌, inl, inr, arith, length-append}
+use Rattle.std.proofs.Common.{◌≡◌, ℕ, zero, suc, ◌+◌, ◌*◌, ◌≤◌, Bool, true, false, cond, List, [], ◌∷◌, length, map, Option, Some, None, refl, sym, ap, subst, ◌∙◌, inl, inr, arith, length-append}
 use Rattle.std.proofs.lemmas.Bool.{cond_both}
-use Rattle.std.proofs.lemmas.List.{length-set}
-use Rattle.strm_codes.specs.declared.codes.ReturnCode.{ReturnCode}
-use Rattle.strm_machine.specs.State.{State}
 use Rattle.strm_machine.specs.Acts.{act_of}
-use Rattle.strm_machine.specs.Making.{made_stream, made_pair, with_stream}
 use Rattle.strm_machine.specs.Sides.{with_operation}
 use Rattle.strm_machine.specs.Endings.{delivered}
-use Rattle.strm_machine.specs.Tests.{named, stream_named}
-use Rattle.strm_machine.specs.Turns.{Turn}
-use Rattle.strm_machine.specs.Reactions.{Reaction, written_back, reaction}
 use Rattle.strm_machine.specs.declared.acts.Act.{Act}
 use Rattle.strm_machine.specs.declared.acts.Act.TheVariants.{Drive}
 use Rattle.strm_machine.specs.declared.steps.Step.{Step}
@@ -21,8 +14,7 @@ use Rattle.strm_machine.specs.declared.streams.Owner.TheVariants.{Host}
 use Rattle.strm_machine.specs.declared.streams.Side.TheVariants.{Reading}
 use Rattle.strm_machine.specs.declared.streams.Stream.{Stream}
 use Rattle.strm_machine.specs.declared.replies.Reply.{Reply}
-use Rattle.strm_machine.proofs.Shapes.{turn_on, Shape, ByTurn, BySetting, ByOwner, ByTable, ByPair, ByGuest, ByPut, ByRest}
-use Rattle.strm_machine.proofs.ShapeLemmas.{reaction-shape}
+use Rattle.strm_machine.proofs.StreamSteps.{reaction_streams}
 use Rattle.strm_world.specs.World.{World, stream_in, writer_at}
 use Rattle.strm_world.specs.Outcomes.{Outcome, Goes, Stops, Stuck}
 use Rattle.strm_world.specs.Attaching.{forsaken, hosted_stream}
@@ -34,7 +26,6 @@ use Rattle.strm_host_laws.proofs.Chains.{is_part}
 use Rattle.strm_host_laws.proofs.Forms.{opened, called, reacted_to, stream_of, Form, BySame, ByReacting, ByForsaking, ByHosting, ByFeeding, ByTurning, ByReading}
 use Rattle.strm_host_laws.proofs.Goings.{IfGoes}
 use Rattle.strm_host_laws.proofs.Lives.{Lives, drive_can, read_can, goes_form, goes_lives}
-use Rattle.strm_host_laws.proofs.Standing.{Holds}
 use Rattle.strm_host_laws.proofs.Turned.{turned, stream_moved, Turned, turn_is}
 use Rattle.strm_host_laws.proofs.WrittenBack.{back-length, turned-length}
 
@@ -44,45 +35,17 @@ streams_in w = length w.state.streams
 
 -- ONE STREAM MORE AT MOST
 
-abbrev Grows : State → Reaction → Type 0
-Grows state r = length r.state.streams ≤ length state.streams + 1
-
-set_grows : (xs : List Stream) (t : ℕ) (x : Stream) → length (set xs t x) ≤ length xs + 1
-set_grows xs t x = omega (arith, length-set xs t x)
-
-written_grows : (state : State) (t : ℕ) (x : Turn) (code : Option ReturnCode) → Grows state (written_back state t x code)
-written_grows state t x (Some code) = omega (arith, length-set state.streams t x.stream)
-written_grows state t x None = omega (arith, length-set state.streams t x.stream)
-
-shape_grows : (state : State) (act : Act) (r : Reaction) → Shape state act r → Grows state r
-unfolding with_stream
-shape_grows state act r (ByTurn side end address count a e o) =
-    let t = turn_on state side end address count in
-    subst (Grows state) (sym e) (written_grows state (stream_named (named state end)) t t.code)
-shape_grows state act r (BySetting reply x e o) = subst (Grows state) (sym e) (set_grows state.streams x.stream _)
-shape_grows state act r (ByOwner reply x e o) = subst (Grows state) (sym e) (set_grows state.streams x.stream _)
-shape_grows state act r (ByTable reply x e o) = subst (Grows state) (sym e) (omega arith)
-shape_grows state act r (ByPair writer reader ty a e o) =
-    let pair = made_pair state writer reader ty in
-    subst (Grows state) (sym e) (omega (arith, length-append state.streams (made_stream ty writer pair.write reader pair.read ∷ [])))
-shape_grows state act r (ByGuest size a e o) = subst (Grows state) (sym e) (omega arith)
-shape_grows state act r (ByPut reply g address bytes e o) = subst (Grows state) (sym e) (omega arith)
-shape_grows state act r (ByRest reply e o) = subst (Grows state) (sym e) (omega arith)
-
-reaction_grows : (state : State) (act : Act) → Holds state → Grows state (reaction state act)
-reaction_grows state act h = shape_grows state act (reaction state act) (reaction-shape state act h.sound)
-
 module _ (first w : World) (l : Lives first w) where
   as_many : (v : World) → streams_in v ≡ streams_in w → streams_in v ≤ streams_in w + 1
   as_many v e = omega (arith, e)
 
   form_grows : (part : Part) (reply : Reply) (v : World) → Form w part reply v → streams_in v ≤ streams_in w + 1
   form_grows part reply v (BySame m e) = as_many v (ap streams_in e)
-  form_grows part reply v (ByReacting act m e) = subst (λ x. streams_in x ≤ streams_in w + 1) (sym e) (reaction_grows w.state act l.holds)
+  form_grows part reply v (ByReacting act m e) = subst (λ x. streams_in x ≤ streams_in w + 1) (sym e) ((reaction_streams w.state act l.holds.sound).few)
   form_grows part reply v (ByForsaking act t n m f) =
       let x = reacted_to w act in
       let same = ap streams_in f.is ∙ back-length x t (forsaken Reading (stream_in x t)) in
-      let grows = reaction_grows w.state act l.holds in
+      let grows = (reaction_streams w.state act l.holds.sound).few in
       omega (arith, same, grows)
   form_grows part reply v (ByHosting n p r e f) =
       let same = ap streams_in f in

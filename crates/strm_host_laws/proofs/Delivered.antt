@@ -12,7 +12,6 @@ use Rattle.strm_machine.specs.declared.acts.Act.TheVariants.{OnHost}
 use Rattle.strm_machine.specs.declared.acts.HostAct.TheVariants.{New}
 use Rattle.strm_machine.specs.declared.acts.NamedEnd.{NamedEnd}
 use Rattle.strm_machine.specs.declared.limits.Limits.{Limits}
-use Rattle.strm_machine.specs.declared.streams.Owner.{Owner}
 use Rattle.strm_machine.specs.declared.streams.Owner.TheVariants.{Host, Gone}
 use Rattle.strm_machine.specs.declared.streams.Side.TheVariants.{Reading}
 use Rattle.strm_machine.specs.declared.streams.Stream.{Stream}
@@ -39,6 +38,7 @@ use Rattle.strm_host_laws.proofs.Standing.{Holds-empty}
 use Rattle.strm_host_laws.proofs.Touched.{reaction-made, Touch, NotTouched, IsLost, HasTurn, HasRead, form_touch}
 use Rattle.strm_host_laws.proofs.Unmoved.{push-other, WriterGone}
 use Rattle.strm_host_laws.proofs.WrittenBack.{back-streams, back-other, back-length, turned-other, turned-length}
+use Rattle.strm_machine.proofs.HostLemmas.{no_host, unless_host}
 
 -- MOMENTS THAT MAKE NO STREAM OF A NUMBER
 
@@ -69,13 +69,6 @@ form_makes_not s w part reply v ne (ByTurning t n read m i) = unmaking s w part 
 form_makes_not s w part reply v ne (ByReading end address count n m r) = unmaking s w part reply m
 
 -- A STREAM THAT NO HOST WRITER WRITES
-
-not_host : (owner : Owner) → ((n : ℕ) → owner ≡ Host n → ⊥) → is_host owner ≡ false
-not_host (Host n) h = absurd (h n refl)
-not_host _ h = refl
-
-no_host : (owner : Owner) (n : ℕ) → is_host owner ≡ false → owner ≡ Host n → ⊥
-no_host owner n e f = let g : is_host owner ≡ true = ap is_host f in cc
 
 -- no host writer has the write end of stream s
 abbrev pub IsUnhosted : ℕ → World → Type 0
@@ -120,9 +113,9 @@ module _ (first w : World) (s : ℕ) (l : Lives first w) (u : IsUnhosted s w) wh
   pub form_unhosted : (part : Part) (reply : Reply) (v : World) → (s ≢ length w.state.streams) ⊎ (is_making part reply ≡ false) → Form w part reply v → IsUnhosted s v
   form_unhosted part reply v ne (BySame m e) = ap (λ x. is_host (stream_in x s).writer.owner) e ∙ u
   form_unhosted part reply v ne (ByReacting act m e) =
-      ap (λ x. is_host (stream_in x s).writer.owner) e ∙ not_host (stream_in (reacted_to w act) s).writer.owner (reacted_from act)
+      ap (λ x. is_host (stream_in x s).writer.owner) e ∙ unless_host (stream_in (reacted_to w act) s).writer.owner (reacted_from act)
   form_unhosted part reply v ne (ByForsaking act t n m f) =
-      ap (λ x. is_host (stream_in x s).writer.owner) f.is ∙ not_host _ (forsaken_from act t)
+      ap (λ x. is_host (stream_in x s).writer.owner) f.is ∙ unless_host _ (forsaken_from act t)
   form_unhosted part reply v (inr m) (ByHosting n p r e f) = absurd (making_not n (length w.state.streams) part reply p r m)
   form_unhosted part reply v (inl ne) (ByHosting n p r e f) =
       ap (λ x. is_host (stream_in x s).writer.owner) f
@@ -333,60 +326,6 @@ module _ (first : World) where
   past : (s : ℕ) (w : World) → length w.state.streams ≤ s → stream_in w s ≡ no_stream
   past s w le = get_or_past w.state.streams s no_stream le
 
-  -- it is made in this moment
-  new_hosted : (s n : ℕ) (m : HostMoment) (more : List HostMoment) → Chain m.after more → Follows m.before m → Lives first m.before → length m.before.state.streams ≤ s → s ≡ length m.before.state.streams
-      → m.part ≡ Acts (OnHost n New) → m.reply ≡ replies.Number (length m.before.state.streams) → m.after ≡ hosted m.before n → 2 ^ 28 * length more < 2 ^ 128 → NewRun s m.before (m ∷ more)
-  new_hosted s n m more c f l le at p r is room =
-      let w = m.before in
-      let stream = hosted_stream (writer_at w n) n in
-      let now : stream_in m.after s ≡ stream = ap (λ x. stream_in x s) is ∙ ap (λ k. get_or (w.state.streams ++ stream ∷ []) k no_stream) at ∙ get_or_push w.state.streams stream no_stream (length w.state.streams) refl in
-      let none : received s m.after.state ≡ 0 = ap (λ (x : Stream). x.received) now in
-      let before : received s w.state ≡ 0 = ap (λ (x : Stream). x.received) (past s w le) in
-      let k = hosted_run s n m.after more c (moment_lives m f l) (ap (λ (x : Stream). x.writer.owner) now) (omega (arith, none, room)) in
-      let nothing = (nothing_got s (plain m) (none ∙ sym before)).0 in
-      let num = eq-eqb (length w.state.streams) s (sym at) in
-      let made : made_of s w m.part m.reply ≡ (writer_at w n).holds = ap (λ x. made_of s w x m.reply) p ∙ ap (made_of s w (Acts (OnHost n New))) r ∙ ap (λ b. cond b (writer_at w n).holds []) num in
-      let by : is_made_by s m.part m.reply ≡ true = ap (λ x. is_made_by s x m.reply) p ∙ ap (is_made_by s (Acts (OnHost n New))) r ∙ num in
-      let unwritten : produced_in s m ≡ [] = ap (λ (x : Stream). produced_by m x.writer.owner) (past s w le) in
-      let held : (writer_at m.after n).holds ≡ (writer_at w n).holds = ap (λ x. (writer_at x n).holds) is in
-      let all_made : produced s (m ∷ more) ≡ (writer_at m.after n).holds ++ produced s more = ap (λ xs. xs ++ (produced_in s m ++ produced s more)) (made ∙ sym held) ∙ ap (λ xs. (writer_at m.after n).holds ++ (xs ++ produced s more)) unwritten in
-      let all_got : host_got s (m ∷ more) ≡ host_got s more = ap (λ xs. xs ++ host_got s more) nothing in
-      let balance : map Some (produced s (m ∷ more)) ≡ host_got s (m ∷ more) ++ map Some k.rest = ap (map Some) all_made ∙ k.balance ∙ ap (λ xs. xs ++ map Some k.rest) (sym all_got) in
-      let long = ap length all_got in
-      record {
-        there = λ h. balance ∙ ap (λ xs. host_got s (m ∷ more) ++ map Some xs) (k.ends h);
-        shares = λ h. record { rest = k.rest; balance = balance };
-        count = λ h. omega (arith, k.count, none, long);
-      }
-
-  -- it is made with a guest's write end, or not yet
-  new_later : (s : ℕ) (m : HostMoment) (more : List HostMoment) → Chain m.after more → Follows m.before m → Lives first m.before → length m.before.state.streams ≤ s → MakesNot s m.before m.part m.reply → IsUnhosted s m.after
-      → (length m.after.state.streams ≤ s → NewRun s m.after more) → NewRun s m.before (m ∷ more)
-  new_later s m more c f l le not u next =
-      elim (cases_lt s (length m.after.state.streams)) [
-        | inl made ↦ (
-            let k = other_run s m.after more c (moment_lives m f l) u made in
-            let none : is_hosted s (m ∷ more) ≡ false = or_both (is_made_by s m.part m.reply) (is_hosted s more) not.by k.unhosted in
-            record {
-              there = λ h. absurd (let wrong : true ≡ false = sym h ∙ k.owner in cc);
-              shares = λ h. absurd (let wrong : true ≡ false = sym h ∙ none in cc);
-              count = λ h. absurd (let wrong : true ≡ false = sym h ∙ none in cc);
-            })
-        | inr after ↦ (
-            let k = next after in
-            let same : received s m.after.state ≡ received s m.before.state = ap (λ (x : Stream). x.received) (past s m.after after ∙ sym (past s m.before le)) in
-            let nothing = (nothing_got s (plain m) same).0 in
-            let all_got : host_got s (m ∷ more) ≡ host_got s more = ap (λ xs. xs ++ host_got s more) nothing in
-            let all_made : produced s (m ∷ more) ≡ produced s more = produced_split s m more not.made [] (ap (λ (x : Stream). produced_by m x.writer.owner) (past s m.before le)) in
-            let hosted_later : is_hosted s (m ∷ more) ≡ is_hosted s more = ap (λ b. b || is_hosted s more) not.by in
-            let long = ap length all_got in
-            record {
-              there = λ h. ap (map Some) all_made ∙ k.there h ∙ ap (λ xs. xs ++ map Some (held_by (last_of m.after more) (stream_in (last_of m.after more) s).writer.owner)) (sym all_got);
-              shares = λ h. (let x = k.shares (sym hosted_later ∙ h) in record { rest = x.rest; balance = ap (map Some) all_made ∙ x.balance ∙ ap (λ xs. xs ++ map Some x.rest) (sym all_got) });
-              count = λ h. long ∙ k.count (sym hosted_later ∙ h);
-            })
-      ]
-
   -- stream s is the one that is made in this part
   record IsMadeHere (s : ℕ) (w : World) (part : Part) (reply : Reply) (v : World) : Type 0 where
     host : ℕ
@@ -420,13 +359,67 @@ module _ (first : World) where
   made_or_not s w part reply v false t l le form =
       inr (unmaking s w part reply t, form_unhosted first w s l (past_unhosted s w le) part reply v (inr t) form)
 
-  new_then : (s : ℕ) (m : HostMoment) (more : List HostMoment) → Chain m.after more → Follows m.before m → Lives first m.before → length m.before.state.streams ≤ s → 2 ^ 28 * length more < 2 ^ 128
-      → (Lives first m.after → length m.after.state.streams ≤ s → NewRun s m.after more) → NewRun s m.before (m ∷ more)
-  new_then s m more c f l le room next =
-      elim (made_or_not s m.before m.part m.reply m.after (is_making m.part m.reply) refl l le (moment_form m f l)) [
-        | inl h ↦ new_hosted s h.host m more c f l le h.number h.part_is h.reply_is h.is room
-        | inr h ↦ new_later s m more c f l le h.0 h.1 (next (moment_lives m f l))
-      ]
+  -- of a moment, and of those behind it
+  module _ (s : ℕ) (m : HostMoment) (more : List HostMoment) (c : Chain m.after more) (f : Follows m.before m) (l : Lives first m.before) (le : length m.before.state.streams ≤ s) where
+    -- it is made in this moment
+    new_hosted : IsMadeHere s m.before m.part m.reply m.after → 2 ^ 28 * length more < 2 ^ 128 → NewRun s m.before (m ∷ more)
+    new_hosted h room =
+        let w = m.before in
+        let n = h.host in
+        let stream = hosted_stream (writer_at w n) n in
+        let now : stream_in m.after s ≡ stream = ap (λ x. stream_in x s) h.is ∙ ap (λ k. get_or (w.state.streams ++ stream ∷ []) k no_stream) h.number ∙ get_or_push w.state.streams stream no_stream (length w.state.streams) refl in
+        let none : received s m.after.state ≡ 0 = ap (λ (x : Stream). x.received) now in
+        let before : received s w.state ≡ 0 = ap (λ (x : Stream). x.received) (past s w le) in
+        let k = hosted_run s n m.after more c (moment_lives m f l) (ap (λ (x : Stream). x.writer.owner) now) (omega (arith, none, room)) in
+        let nothing = (nothing_got s (plain m) (none ∙ sym before)).0 in
+        let num = eq-eqb (length w.state.streams) s (sym h.number) in
+        let made : made_of s w m.part m.reply ≡ (writer_at w n).holds = ap (λ x. made_of s w x m.reply) h.part_is ∙ ap (made_of s w (Acts (OnHost n New))) h.reply_is ∙ ap (λ b. cond b (writer_at w n).holds []) num in
+        let by : is_made_by s m.part m.reply ≡ true = ap (λ x. is_made_by s x m.reply) h.part_is ∙ ap (is_made_by s (Acts (OnHost n New))) h.reply_is ∙ num in
+        let unwritten : produced_in s m ≡ [] = ap (λ (x : Stream). produced_by m x.writer.owner) (past s w le) in
+        let held : (writer_at m.after n).holds ≡ (writer_at w n).holds = ap (λ x. (writer_at x n).holds) h.is in
+        let all_made : produced s (m ∷ more) ≡ (writer_at m.after n).holds ++ produced s more = ap (λ xs. xs ++ (produced_in s m ++ produced s more)) (made ∙ sym held) ∙ ap (λ xs. (writer_at m.after n).holds ++ (xs ++ produced s more)) unwritten in
+        let all_got : host_got s (m ∷ more) ≡ host_got s more = ap (λ xs. xs ++ host_got s more) nothing in
+        let balance : map Some (produced s (m ∷ more)) ≡ host_got s (m ∷ more) ++ map Some k.rest = ap (map Some) all_made ∙ k.balance ∙ ap (λ xs. xs ++ map Some k.rest) (sym all_got) in
+        let long = ap length all_got in
+        record {
+          there = λ q. balance ∙ ap (λ xs. host_got s (m ∷ more) ++ map Some xs) (k.ends q);
+          shares = λ q. record { rest = k.rest; balance = balance };
+          count = λ q. omega (arith, k.count, none, long);
+        }
+
+    -- it is made with a guest's write end, or not yet
+    new_later : MakesNot s m.before m.part m.reply → IsUnhosted s m.after → (length m.after.state.streams ≤ s → NewRun s m.after more) → NewRun s m.before (m ∷ more)
+    new_later not u next =
+        elim (cases_lt s (length m.after.state.streams)) [
+          | inl made ↦ (
+              let k = other_run s m.after more c (moment_lives m f l) u made in
+              let none : is_hosted s (m ∷ more) ≡ false = or_both (is_made_by s m.part m.reply) (is_hosted s more) not.by k.unhosted in
+              record {
+                there = λ h. absurd (let wrong : true ≡ false = sym h ∙ k.owner in cc);
+                shares = λ h. absurd (let wrong : true ≡ false = sym h ∙ none in cc);
+                count = λ h. absurd (let wrong : true ≡ false = sym h ∙ none in cc);
+              })
+          | inr after ↦ (
+              let k = next after in
+              let same : received s m.after.state ≡ received s m.before.state = ap (λ (x : Stream). x.received) (past s m.after after ∙ sym (past s m.before le)) in
+              let nothing = (nothing_got s (plain m) same).0 in
+              let all_got : host_got s (m ∷ more) ≡ host_got s more = ap (λ xs. xs ++ host_got s more) nothing in
+              let all_made : produced s (m ∷ more) ≡ produced s more = produced_split s m more not.made [] (ap (λ (x : Stream). produced_by m x.writer.owner) (past s m.before le)) in
+              let hosted_later : is_hosted s (m ∷ more) ≡ is_hosted s more = ap (λ b. b || is_hosted s more) not.by in
+              let long = ap length all_got in
+              record {
+                there = λ h. ap (map Some) all_made ∙ k.there h ∙ ap (λ xs. xs ++ map Some (held_by (last_of m.after more) (stream_in (last_of m.after more) s).writer.owner)) (sym all_got);
+                shares = λ h. (let x = k.shares (sym hosted_later ∙ h) in record { rest = x.rest; balance = ap (map Some) all_made ∙ x.balance ∙ ap (λ xs. xs ++ map Some x.rest) (sym all_got) });
+                count = λ h. long ∙ k.count (sym hosted_later ∙ h);
+              })
+        ]
+
+    new_then : 2 ^ 28 * length more < 2 ^ 128 → (Lives first m.after → length m.after.state.streams ≤ s → NewRun s m.after more) → NewRun s m.before (m ∷ more)
+    new_then room next =
+        elim (made_or_not s m.before m.part m.reply m.after (is_making m.part m.reply) refl l le (moment_form m f l)) [
+          | inl h ↦ new_hosted h room
+          | inr h ↦ new_later h.0 h.1 (next (moment_lives m f l))
+        ]
 
   new_run : (s : ℕ) (w : World) (all : List HostMoment) → Chain w all → Lives first w → length w.state.streams ≤ s → 2 ^ 28 * length all < 2 ^ 128 → NewRun s w all
   new_run s w [] c l le room = record {

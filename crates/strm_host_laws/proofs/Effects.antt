@@ -5,11 +5,11 @@ use Rattle.std.proofs.lemmas.List.{get_or-set_same, get_or-set_other, get_or_pas
 use Rattle.strm_codes.specs.declared.codes.ReturnCode.{ReturnCode}
 use Rattle.strm_codes.specs.declared.refusals.Refusal.{Refusal}
 use Rattle.strm_machine.specs.State.{State, host_limit, no_producer, no_stream, idle_end, producer_at, stream_at, is_host, is_gone}
-use Rattle.strm_machine.specs.Sides.{opposite, end_of, with_end, with_operation}
+use Rattle.strm_machine.specs.Sides.{opposite, end_of, with_operation}
 use Rattle.strm_machine.specs.Meetings.{begun}
 use Rattle.strm_machine.specs.Moments.{code_told}
 use Rattle.strm_host_laws.specs.HostLaws.{is_made_by}
-use Rattle.strm_machine.specs.Endings.{report_on, told_end, delivered, dropped}
+use Rattle.strm_machine.specs.Endings.{report_on, delivered, dropped}
 use Rattle.strm_machine.specs.Tests.{named, stream_named, items_asked}
 use Rattle.strm_machine.specs.Refusals.{refusal}
 use Rattle.strm_machine.specs.Reactions.{Reaction, with_stream_at, told, drops, closes, performs, reaction}
@@ -37,14 +37,15 @@ use Rattle.strm_world.specs.Attaching.{hosted_stream, hosts_new, forsaken, forsa
 use Rattle.strm_world.specs.Driving.{if_open, driven_by, drive_turn}
 use Rattle.strm_world.specs.HostRefusals.{is_used, refusal_in}
 use Rattle.strm_world.specs.Steps.{reacts, reads_from, operates_by, drops_in, performs_in, unless_refused_in, outcome}
-use Rattle.strm_world.proofs.SettleLemmas.{delivered-owner, code_told as code_answered}
-use Rattle.strm_world.proofs.WorldLemmas.{set-same}
+use Rattle.strm_world.proofs.SettleLemmas.{delivered-owner, code_told as code_answered, told-nothing}
 use Rattle.strm_world.proofs.OutcomeLemmas.{refusal_in-on_end, refusal_in-on_loose}
 use Rattle.strm_host_laws.specs.HostMoments.{Part, Acts, Turns, HostMoment, part_on}
 use Rattle.strm_host_laws.proofs.Chains.{is_part, Follows}
 use Rattle.strm_host_laws.proofs.Goings.{with_state}
-use Rattle.strm_host_laws.proofs.Closed.{set-keeps, is_new}
+use Rattle.strm_machine.proofs.TableLemmas.{set-keeps}
+use Rattle.strm_host_laws.proofs.Closed.{is_new}
 use Rattle.strm_host_laws.proofs.HostTurns.{Turned, Going, turn_turned, turn_done, with_stream_in-gone, with_stream_in-kept}
+use Rattle.strm_machine.proofs.HostLemmas.{host_number}
 
 -- ## All ways
 
@@ -173,13 +174,6 @@ reacts_effect w act i = Going_maps (IsOf w act) (EffectIn w (Acts act)) (reacts 
 
 -- ## A read of a host writer
 
--- a stream whose end was told nothing is as it was
-told_nothing : (state : State) (s : ℕ) → report_on Reading (stream_at state s) ≡ None → told state s Reading ≡ state
-unfolding delivered
-told_nothing state s e =
-    ap (λ code. with_stream_at state s (with_end Reading (stream_at state s) (told_end code (stream_at state s).reader))) e
-    ∙ ap (λ xs. record state { streams = xs }) (set-same state.streams s no_stream)
-
 module _ (w : World) (end : NamedEnd) (address count n : ℕ) where
   abbrev at_end : ℕ
   at_end = stream_named (named w.state end)
@@ -209,7 +203,7 @@ module _ (w : World) (end : NamedEnd) (address count n : ℕ) where
       owner = o;
       turned = t;
       reply_is = ap (λ c. replies.Code (code_answered c)) (sym e);
-      is = sym (told_nothing v.state at_end e);
+      is = sym (told-nothing v.state at_end e);
     })
 
     abbrev TurnedFromOpened : Reply → World → Type 0
@@ -231,16 +225,16 @@ module _ (w : World) (end : NamedEnd) (address count n : ℕ) where
         (subst (λ (x : State). Going (λ reply u. Turned x u.state at_end n read_begun) (producer_turn v at_end n read_begun)) is
         (turn_turned at_end n read_begun v owned))
 
-operates_effect : (w : World) (side : Side) (end : NamedEnd) (address count : ℕ) (owner : Owner) → refusal w.state (OnEnd side end (Operate address count)) ≡ None
-    → (end_of (opposite side) (stream_in w (stream_named (named w.state end)))).owner ≡ owner → Going (EffectIn w (Acts (OnEnd side end (Operate address count)))) (operates_by w side end address count owner)
-operates_effect w Reading end address count (Host n) r e = reads_effect w end address count n r e
-operates_effect w side end address count _ r e = reacts_effect w (OnEnd side end (Operate address count)) refl
+module _ (w : World) (end : NamedEnd) (address count : ℕ) where
+  -- a read or write at this end
+  abbrev call : Side → Act
+  call side = OnEnd side end (Operate address count)
+
+  operates_effect : (side : Side) (owner : Owner) → refusal w.state (call side) ≡ None → (end_of (opposite side) (stream_in w (stream_named (named w.state end)))).owner ≡ owner → Going (EffectIn w (Acts (call side))) (operates_by w side end address count owner)
+  operates_effect Reading (Host n) r e = reads_effect w end address count n r e
+  operates_effect side _ r e = reacts_effect w (call side) refl
 
 -- ## Ends that are dropped
-
-host_number : (owner : Owner) → is_host owner ≡ true → (n : ℕ) × (owner ≡ Host n)
-host_number (Host n) e = (n, refl)
-host_number _ e = cc
 
 -- the read end of stream s is gone after this step, and its write end is whose it was
 pub record DropsRead (state : State) (act : Act) (s : ℕ) : Type 0 where
@@ -335,7 +329,7 @@ module _ (w : World) (unpiped : (s : ℕ) → is_host (stream_in w s).reader.own
   performs_effect : (act : Act) → is_part (Acts act) ≡ true → refusal_in w act ≡ None → Going (EffectIn w (Acts act)) (performs_in w act)
   unfolding performs_in
   performs_effect (OnEnd side end (Operate address count)) p e =
-      operates_effect w side end address count _ (sym (refusal_in-on_end w side end (Operate address count)) ∙ e) refl
+      operates_effect w end address count side _ (sym (refusal_in-on_end w side end (Operate address count)) ∙ e) refl
   performs_effect (OnEnd side end Drop) p e =
       let s = stream_named (named w.state end) in
       drops_effect w s side (OnEnd side end Drop) refl (unpiped s)

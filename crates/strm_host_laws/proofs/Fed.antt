@@ -22,10 +22,10 @@ use Rattle.strm_world.specs.Outcomes.{Goes}
 use Rattle.strm_world.specs.HostRefusals.{is_unknown_host, refusal_in}
 use Rattle.strm_world.specs.Steps.{performs_in, unless_refused_in, outcome}
 use Rattle.strm_host_laws.specs.HostMoments.{Part, Acts, HostMoment, part_on, host_moments, last_of}
-use Rattle.strm_host_laws.specs.HostLaws.{used, used_in, all_used, fed_in, all_fed, GoesOn}
+use Rattle.strm_host_laws.specs.HostLaws.{used, used_in, all_used, fed_in, all_fed, WriterGoesOn}
 use Rattle.strm_host_laws.proofs.Chains.{is_part, Follows, Chain, moments-chain}
 use Rattle.strm_host_laws.proofs.Goings.{Begins, Rules, Comes, IfGoes, is_feed, part-comes}
-use Rattle.strm_host_laws.proofs.Closed.{unmet, not_over}
+use Rattle.strm_machine.proofs.RefusalLemmas.{not_refused, not_le}
 
 -- WHAT HOLDS OF EACH HOST WRITER
 
@@ -172,8 +172,8 @@ module _ (w : World) (host : ℕ) (bytes : List ℕ) where
   host_there : refusal_in w (OnHost host (Feed bytes)) ≡ None → host < length w.writers
   unfolding refusal_in
   host_there e =
-      let known = unmet (is_unknown_host (length w.writers) host) refusals.UnknownHost None e in
-      not_over (length w.writers) host (or_parts (nat_le (length w.writers) host) (nat_le host_limit host) known.0).0
+      let known = not_refused (is_unknown_host (length w.writers) host) refusals.UnknownHost None e in
+      not_le (length w.writers) host (or_parts (nat_le (length w.writers) host) (nat_le host_limit host) known.0).0
 
   fed_moves : host < length w.writers → (n : ℕ) → Moves n feeding replies.Done (writer_at w n) (writer_at (with_writer w host fed_one) n)
   fed_moves l n =
@@ -226,7 +226,7 @@ heard_both : {A : Type 0} (x : Option (List A)) (f g : List A) → option_map (�
 heard_both None f g = refl
 heard_both (Some xs) f g = ap Some (append_assoc xs f g)
 
-chain-goes_on : (n : ℕ) (w : World) (all : List HostMoment) → Chain w all → GoesOn n all (writer_at w n) (writer_at (last_of w all) n)
+chain-goes_on : (n : ℕ) (w : World) (all : List HostMoment) → Chain w all → WriterGoesOn n all (writer_at w n) (writer_at (last_of w all) n)
 chain-goes_on n w [] c = record { records = refl; spoken = omega arith; heard = heard_none (writer_at w n).heard; kind = refl; payload = refl }
 chain-goes_on n w (m ∷ more) c =
     let h = moment-moves w m c.0 n in
@@ -254,5 +254,5 @@ chain-goes_on n w (m ∷ more) c =
       payload = rest.payload ∙ h.payload;
     }
 
-pub run-goes_on : (first : World) (run : List Step) (n : ℕ) → GoesOn n (host_moments first run) (writer_at first n) (writer_at (last_of first (host_moments first run)) n)
+pub run-goes_on : (first : World) (run : List Step) (n : ℕ) → WriterGoesOn n (host_moments first run) (writer_at first n) (writer_at (last_of first (host_moments first run)) n)
 run-goes_on first run n = chain-goes_on n first (host_moments first run) (moments-chain first run)

@@ -37,6 +37,7 @@ use Rattle.strm_host_laws.proofs.Chains.{is_part}
 use Rattle.strm_host_laws.proofs.Goings.{with_state, hosted, IfGoes}
 use Rattle.strm_host_laws.proofs.Standing.{Holds, Begun, read_begun}
 use Rattle.strm_host_laws.proofs.Turned.{Turned, turn_is}
+use Rattle.strm_machine.proofs.HostLemmas.{host_number}
 
 -- a stream of a host writer is made, and its number answered
 abbrev pub is_making : Part → Reply → Bool
@@ -88,10 +89,6 @@ pub data Form (w : World) (part : Part) (reply : Reply) (v : World) : Type 0 whe
   ByFeeding : (n : ℕ) (bytes : List ℕ) → is_making part reply ≡ false → v ≡ with_writer w n (fed_writer (writer_at w n) bytes) → Form w part reply v
   ByTurning : (s n : ℕ) (read : Operation) → is_making part reply ≡ false → IsTurn w part v s n read → Form w part reply v
   ByReading : (end : NamedEnd) (address count n : ℕ) → is_making part reply ≡ false → IsRead w part v end address count n → Form w part reply v
-
-host_number : (owner : Owner) → is_host owner ≡ true → (n : ℕ) × (owner ≡ Host n)
-host_number (Host n) e = (n, refl)
-host_number _ e = cc
 
 -- an act that makes no stream of a host writer, whatever its reply
 abbrev MakesNone : Act → Type 0
@@ -170,12 +167,16 @@ module _ (w : World) (h : Holds w.state) where
         then-formed (producer_turn (opened w here (called end address count)) here n (called end address count))
         (turn_is (opened w here (called end address count)) here n (called end address count))
 
-  operates-formed : (side : Side) (end : NamedEnd) (address count : ℕ) (owner : Owner) → refusal_in w (OnEnd side end (Operate address count)) ≡ None → (end_of (opposite side) (stream_in w (stream_of w end))).owner ≡ owner
-      → Formed (Acts (OnEnd side end (Operate address count))) (operates_by w side end address count owner)
-  operates-formed Reading end address count (Host n) r e =
-      let b = read_begun w.state end address count h.sound (sym (refusal_in-on_end w Reading end (Operate address count)) ∙ r) in
-      reads-formed end address count n b e
-  operates-formed side end address count _ r e = reacts-formed (OnEnd side end (Operate address count)) (λ reply. refl)
+  -- a read or write at an end
+  module _ (end : NamedEnd) (address count : ℕ) where
+    abbrev call : Side → Act
+    call side = OnEnd side end (Operate address count)
+
+    operates-formed : (side : Side) (owner : Owner) → refusal_in w (call side) ≡ None → (end_of (opposite side) (stream_in w (stream_of w end))).owner ≡ owner → Formed (Acts (call side)) (operates_by w side end address count owner)
+    operates-formed Reading (Host n) r e =
+        let b = read_begun w.state end address count h.sound (sym (refusal_in-on_end w Reading end (Operate address count)) ∙ r) in
+        reads-formed end address count n b e
+    operates-formed side _ r e = reacts-formed (call side) (λ reply. refl)
 
   -- A STEP
 
@@ -186,7 +187,7 @@ module _ (w : World) (h : Holds w.state) where
   performs-formed : (act : Act) → is_part (Acts act) ≡ true → refusal_in w act ≡ None → Formed (Acts act) (performs_in w act)
   unfolding performs_in
   performs-formed (OnEnd side end (Operate address count)) p e =
-      operates-formed side end address count _ e refl
+      operates-formed end address count side _ e refl
   performs-formed (OnEnd side end Drop) p e =
       drops-formed (stream_of w end) side (OnEnd side end Drop) (λ reply. refl)
   performs-formed (OnLoose reader Close) p e = drops-formed reader Reading (OnLoose reader Close) (λ reply. refl)

@@ -43,7 +43,7 @@ use Rattle.strm_world.specs.Driving.{if_open, driven_by, drive_turn}
 use Rattle.strm_world.specs.HostRefusals.{refusal_in}
 use Rattle.strm_world.specs.Steps.{reacts, reads_from, operates_by, drops_in, performs_in, unless_refused_in, outcome}
 use Rattle.strm_machine.specs.Turns.{with_received}
-use Rattle.strm_world.proofs.SettleLemmas.{is_done_with, moved_on-owner}
+use Rattle.strm_world.proofs.SettleLemmas.{is_done_with, moved_on-owner, leaves_writer-stays}
 use Rattle.strm_host_laws.specs.HostMoments.{Part, Acts, Turns, part_on}
 use Rattle.strm_host_laws.proofs.Chains.{is_part}
 use Rattle.strm_host_laws.proofs.Owners.{WriterStays, with_operation-stays}
@@ -117,16 +117,12 @@ unfolding delivered
 delivered-stays stream = record { owner = refl; payload = refl }
 
 -- a stream written back whose host writer stays
-leaves_writer-same : (owner : Owner) (w : World) → leaves_writer owner owner w ≡ w
-leaves_writer-same (Host n) w = refl
-leaves_writer-same _ w = refl
-
 pub with_stream_in-same : (w : World) (s : ℕ) (stream : Stream) → stream.writer.owner ≡ (stream_in w s).writer.owner
     → with_stream_in w s stream ≡ with_state w (record w.state { streams = slice_set w.state.streams s stream })
 unfolding with_stream_in
 with_stream_in-same w s stream e =
     let after = with_state w (record w.state { streams = slice_set w.state.streams s stream }) in
-    ap (λ o. leaves_writer (stream_in w s).writer.owner o after) e ∙ leaves_writer-same (stream_in w s).writer.owner after
+    ap (λ o. leaves_writer (stream_in w s).writer.owner o after) e ∙ leaves_writer-stays (stream_in w s).writer.owner after
 
 module _ (R K : World → World → Type 0) (rules : Rules R) (begins : Begins K) where
   -- what holds of an outcome from this world

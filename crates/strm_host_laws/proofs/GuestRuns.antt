@@ -2,7 +2,7 @@
 -- made.
 use Rattle.std.proofs.Common.{◌≡◌, ℕ, ◌+◌, ◌-◌, ◌*◌, ◌^◌, ◌<◌, ◌≤◌, ◌==◌, ◌||◌, ◌&&◌, Bool, true, false, cond, List, [], ◌∷◌, ◌++◌, length, None, refl, sym, ap, subst, ◌∙◌, inl, inr, arith, append-nil, append_assoc}
 use Rattle.std.specs.Prelude.{All, IsSome}
-use Rattle.std.proofs.lemmas.Bool.{cases_lt, le-ltb, or_parts}
+use Rattle.std.proofs.lemmas.Bool.{cases_lt, or_parts}
 use Rattle.std.proofs.lemmas.List.{map-append}
 use Rattle.std.proofs.lemmas.List.Elements.{All-nil, All-append}
 use Rattle.strm_codes.specs.declared.codes.TransmitKind.{TransmitKind}
@@ -29,7 +29,7 @@ use Rattle.strm_laws.proofs.Calls.{calls-push, all_reported-push, got-push}
 use Rattle.strm_laws.proofs.Handed.{length-all_handed}
 use Rattle.strm_laws.proofs.Kept.{kind_at, Kept}
 use Rattle.strm_laws.proofs.KeptChanges.{keeps}
-use Rattle.strm_laws.proofs.Conserved.{IsQuiet, Account}
+use Rattle.strm_laws.proofs.Conserved.{IsQuiet, Account, Kept-empty}
 use Rattle.strm_host_laws.specs.HostMoments.{Part, Acts, Turns, HostMoment, host_moments, last_of}
 use Rattle.strm_host_laws.specs.HostLaws.{plain, plains, is_made_by, is_hosted, MovesByHosts}
 use Rattle.strm_host_laws.proofs.Chains.{Chain, moments-chain}
@@ -187,11 +187,6 @@ keeps_from s all w (m ∷ more) n c p k =
     subst (λ l. RunKeeps s l (last_of m.after more).state (left_at s more (left_after s m.part n))) (append_assoc all (m ∷ []) more) next
 
 -- ## At first
-
-Kept-empty : (s : ℕ) (side : Side) (tag : ℕ) (limits : Limits) → Kept (kind_at s (empty tag limits)) s side [] (empty tag limits)
-unfolding all_handed
-Kept-empty s Writing tag limits = record { stands = tt; items = λ e. refl; count = refl; within = All-nil _; told = refl; reached = λ n. sym (le-ltb n 0 (omega arith)) }
-Kept-empty s Reading tag limits = record { stands = tt; items = λ e. refl; count = refl; within = All-nil _; told = refl; reached = λ n. sym (le-ltb n 0 (omega arith)) }
 
 keeps_empty : (s tag : ℕ) (limits : Limits) (run : List Step) → AreSteps run → RunKeeps s [] (empty tag limits) (length run)
 keeps_empty s tag limits run a = record {

@@ -1,21 +1,16 @@
 -- What a part of a run with host writers does to a stream that no host writer made: what a step without them
 -- does.
-use Rattle.std.proofs.Common.{◌≡◌, ◌≢◌, ℕ, ◌+◌, ◌^◌, ◌<◌, ◌≤◌, ◌==◌, true, false, List, [], ◌∷◌, ◌++◌, length, get_or, set, Option, Some, None, refl, sym, ap, subst, ◌∙◌, arith, length-set, length-append}
+use Rattle.std.proofs.Common.{◌≡◌, ◌≢◌, ℕ, ◌+◌, ◌^◌, ◌<◌, ◌≤◌, ◌==◌, true, false, [], ◌∷◌, ◌++◌, length, get_or, refl, sym, ap, subst, ◌∙◌, arith, length-set, length-append}
 use Rattle.std.proofs.lemmas.Bool.{eq-eqb, eqb-true}
-use Rattle.std.proofs.lemmas.List.{get_or-set_other, get_or_append_left}
-use Rattle.strm_codes.specs.declared.codes.ReturnCode.{ReturnCode}
-use Rattle.strm_codes.specs.declared.codes.TransmitIndex.{TransmitIndex}
+use Rattle.std.proofs.lemmas.List.{get_or-set_other}
 use Rattle.strm_machine.specs.State.{State, no_stream, memory_in, stream_at, is_held, is_loose, is_host}
-use Rattle.strm_machine.specs.Sides.{with_end, with_operation}
+use Rattle.strm_machine.specs.Sides.{with_operation}
 use Rattle.strm_machine.specs.Meetings.{begun}
-use Rattle.strm_machine.specs.Making.{made_stream, made_pair, with_stream}
-use Rattle.strm_machine.specs.Moves.{with_owner}
 use Rattle.strm_machine.specs.Endings.{delivered}
 use Rattle.strm_machine.specs.Moments.{Moment, PutsBytes, code_told, received}
 use Rattle.strm_machine.specs.Soundness.{both_open, IsUnmoved}
 use Rattle.strm_machine.specs.Tests.{named, stream_named, items_asked}
-use Rattle.strm_machine.specs.Turns.{Turn}
-use Rattle.strm_machine.specs.Reactions.{Reaction, written_back, reaction}
+use Rattle.strm_machine.specs.Reactions.{reaction}
 use Rattle.strm_machine.specs.declared.acts.Act.{Act}
 use Rattle.strm_machine.specs.declared.acts.Act.TheVariants.{OnEnd, OnHost}
 use Rattle.strm_machine.specs.declared.acts.EndAct.TheVariants.{Operate}
@@ -23,10 +18,9 @@ use Rattle.strm_machine.specs.declared.acts.HostAct.TheVariants.{New}
 use Rattle.strm_machine.specs.declared.acts.NamedEnd.{NamedEnd}
 use Rattle.strm_machine.specs.declared.streams.End.{End}
 use Rattle.strm_machine.specs.declared.streams.Operation.{Operation}
-use Rattle.strm_machine.specs.declared.streams.Owner.{Owner}
 use Rattle.strm_machine.specs.declared.streams.Owner.TheVariants.{Host}
 use Rattle.strm_machine.specs.declared.streams.Side.{Side}
-use Rattle.strm_machine.specs.declared.streams.Side.TheVariants.{Writing, Reading}
+use Rattle.strm_machine.specs.declared.streams.Side.TheVariants.{Reading}
 use Rattle.strm_machine.specs.declared.streams.Stream.{Stream}
 use Rattle.strm_machine.specs.declared.replies.Reply.{Reply}
 use Rattle.strm_machine.specs.declared.replies.Reply.TheVariants as replies
@@ -34,22 +28,21 @@ use Rattle.strm_machine.proofs.ArrivalLemmas.{AreBytes, AreBytes-with_memory, Is
 use Rattle.strm_machine.proofs.Lawful.{StaysMade}
 use Rattle.strm_machine.proofs.MomentLemmas.{Seen, Untold, unnamed, untold}
 use Rattle.strm_machine.proofs.NamedEndLemmas.{names-unmade}
-use Rattle.strm_machine.proofs.ShapeLemmas.{reaction-shape}
-use Rattle.strm_machine.proofs.Shapes.{turn_on, set_by, owned_by, tabled_by, Shape, ByTurn, BySetting, ByOwner, ByTable, ByPair, ByGuest, ByPut, ByRest as ByRestShape}
-use Rattle.strm_machine.proofs.SoundStepLemmas.{operate-keeps}
 use Rattle.strm_machine.proofs.TallyLemmas.{Tallies}
 use Rattle.strm_world.specs.Attaching.{forsaken}
 use Rattle.strm_host_laws.specs.HostMoments.{Part, Acts, Turns}
 use Rattle.strm_host_laws.specs.HostLaws.{act_in, is_made_by}
 use Rattle.strm_host_laws.proofs.Owners.{reaction-from}
-use Rattle.strm_host_laws.proofs.HostsAgree.{at_push}
+use Rattle.strm_machine.proofs.TableLemmas.{at_push}
 use Rattle.strm_host_laws.proofs.HostTurns.{Turned, turned_stream}
 use Rattle.strm_host_laws.proofs.Effects.{opened_by, Driven, Reads, Hosts, Forsakes, Rests, Effect, ByReaction, ByRest, ByHosting, ByDriving, ByReading, ByForsaking, is_idle}
-use Rattle.strm_host_laws.proofs.SeenSteps.{same_seen, named_other, reaction_seen, reaction_bytes}
+use Rattle.strm_machine.proofs.StreamSteps.{reaction_streams}
+use Rattle.strm_machine.proofs.SeenSteps.{same_seen, named_other, reaction_seen}
+use Rattle.strm_machine.proofs.ByteSteps.{reaction_bytes}
 use Rattle.strm_codes.specs.Layout.{scalars_of}
 use Rattle.strm_host_laws.proofs.PartsSeen.{IsHosted, Parted}
 use Rattle.strm_host_laws.proofs.Standing.{Holds, read_begun}
-use Rattle.strm_host_laws.proofs.Closed.{set-keeps}
+use Rattle.strm_machine.proofs.HostLemmas.{no_host, unless_host}
 
 -- a stream that no host writer made, as the laws know it
 pub record IsGuests (state : State) (s : ℕ) : Type 0 where
@@ -85,99 +78,21 @@ same_in old new part reply s b g l e u = record {
 
 -- ## A step
 
-kept_made : (state new : State) (s k : ℕ) (x : Stream) → new.streams ≡ set state.streams k x → x.kind ≡ (stream_at state k).kind → s < length state.streams → StaysMade s state new
-kept_made state new s k x e kind l = record {
-  there = omega (arith, l, ap length e, length-set state.streams k x);
-  kind = ap (λ xs. (get_or xs s no_stream).kind) e ∙ set-keeps (λ (y : Stream). y.kind) state.streams k s x no_stream kind;
-}
-
-all_made : (state new : State) (s : ℕ) → new.streams ≡ state.streams → s < length state.streams → StaysMade s state new
-all_made state new s e l = record {
-  there = omega (arith, l, ap length e);
-  kind = ap (λ xs. (get_or xs s no_stream).kind) e;
-}
-
-back_made : (state : State) (s k : ℕ) (t : Turn) (code : Option ReturnCode) → t.stream.kind ≡ (stream_at state k).kind → s < length state.streams → StaysMade s state (written_back state k t code).state
-back_made state s k t (Some code) e l = kept_made state (written_back state k t (Some code)).state s k t.stream refl e l
-back_made state s k t None e l = kept_made state (written_back state k t None).state s k t.stream refl e l
-
-with_end-kind : (side : Side) (stream : Stream) (e : End) → (with_end side stream e).kind ≡ stream.kind
-with_end-kind Writing stream e = refl
-with_end-kind Reading stream e = refl
-
-pair_made : (state : State) (writer reader : ℕ) (ty : TransmitIndex) (s : ℕ) → s < length state.streams → StaysMade s state (with_stream state writer reader ty)
-unfolding with_stream
-pair_made state writer reader ty s l =
-    let pair = made_pair state writer reader ty in
-    let x = made_stream ty writer pair.write reader pair.read in
-    record {
-      there = omega (arith, l, length-append state.streams (x ∷ []));
-      kind = ap (λ (y : Stream). y.kind) (get_or_append_left state.streams (x ∷ []) no_stream s l);
-    }
-
-shape_made : (state : State) (act : Act) (r : Reaction) (s : ℕ) → Shape state act r → s < length state.streams → StaysMade s state r.state
-shape_made state act r s (ByTurn side end address count a e o) l =
-    let t = turn_on state side end address count in
-    rw e (back_made state s (stream_named (named state end)) t t.code (operate-keeps state side end address count o).stream.kind l)
-shape_made state act r s (BySetting reply x e set) l =
-    rw e (kept_made state (set_by state x) s x.stream (with_end x.side (stream_at state x.stream) x.end) refl (with_end-kind x.side (stream_at state x.stream) x.end) l)
-shape_made state act r s (ByOwner reply x e o) l =
-    rw e (kept_made state (owned_by state x) s x.stream (with_owner x.side (stream_at state x.stream) x.owner) refl (with_end-kind x.side (stream_at state x.stream) _) l)
-shape_made state act r s (ByTable reply x e t) l = rw e (all_made state (tabled_by state x) s refl l)
-shape_made state act r s (ByPair writer reader ty a e fits) l = rw e (pair_made state writer reader ty s l)
-shape_made state act r s (ByGuest size a e fits) l = rw e (all_made state _ s refl l)
-shape_made state act r s (ByPut reply g address bytes e p) l = rw e (all_made state _ s refl l)
-shape_made state act r s (ByRestShape reply e none) l = rw e (all_made state state s refl l)
-
-not_host : (owner : Owner) → ((n : ℕ) → owner ≡ Host n → ⊥) → is_host owner ≡ false
-not_host (Host n) h = absurd (h n refl)
-not_host _ h = refl
-
-host_unless : (owner : Owner) (n : ℕ) → is_host owner ≡ false → owner ≡ Host n → ⊥
-host_unless owner n e f = let wrong : is_host owner ≡ true = ap is_host f in cc
-
 reaction_in : (state : State) (act : Act) (s : ℕ) → Holds state → AreBytes state.guests → received s state + 2 ^ 28 < 2 ^ 128 → IsGuests state s → SeenIn state (Acts act) (reaction state act).reply (reaction state act).state s
 reaction_in state act s h b room g = record {
   seen = reaction_seen state act s h.sound (record { bytes = b; apart = g.apart; tallies = g.tallies }) room;
-  unhosted = not_host (stream_at (reaction state act).state s).writer.owner
-      (λ n e. host_unless (stream_at state s).writer.owner n g.unhosted (reaction-from state act s n e).0);
-  made = shape_made state act (reaction state act) s (reaction-shape state act h.sound);
+  unhosted = unless_host (stream_at (reaction state act).state s).writer.owner
+      (λ n e. no_host (stream_at state s).writer.owner n g.unhosted (reaction-from state act s n e).0);
+  made = λ l. (let streams = reaction_streams state act h.sound in record { there = omega (arith, l, streams.many); kind = streams.kind s l });
   unmade = λ l side. unnamed s side (moment_in state (Acts act) (reaction state act).reply (reaction state act).state) (names-unmade state act (reaction state act).reply s side h.sound l);
   still = λ k q. cc;
 }
-
--- streams are never fewer
-kept_many : {A : Type 0} (xs ys : List A) (k : ℕ) (x : A) → ys ≡ set xs k x → length xs ≤ length ys
-kept_many xs ys k x e = omega (arith, ap length e, length-set xs k x)
-
-back_many : (state : State) (k : ℕ) (t : Turn) (code : Option ReturnCode) → length state.streams ≤ length (written_back state k t code).state.streams
-back_many state k t (Some code) = kept_many state.streams (set state.streams k t.stream) k t.stream refl
-back_many state k t None = kept_many state.streams (set state.streams k t.stream) k t.stream refl
-
-pair_many : (state : State) (writer reader : ℕ) (ty : TransmitIndex) → length state.streams ≤ length (with_stream state writer reader ty).streams
-unfolding with_stream
-pair_many state writer reader ty =
-    let pair = made_pair state writer reader ty in
-    omega (arith, length-append state.streams (made_stream ty writer pair.write reader pair.read ∷ []))
-
-shape_many : (state : State) (act : Act) (r : Reaction) → Shape state act r → length state.streams ≤ length r.state.streams
-shape_many state act r (ByTurn side end address count a e o) =
-    rw e (back_many state (stream_named (named state end)) (turn_on state side end address count) (turn_on state side end address count).code)
-shape_many state act r (BySetting reply x e set) =
-    rw e (kept_many state.streams (set_by state x).streams x.stream (with_end x.side (stream_at state x.stream) x.end) refl)
-shape_many state act r (ByOwner reply x e o) =
-    rw e (kept_many state.streams (owned_by state x).streams x.stream (with_owner x.side (stream_at state x.stream) x.owner) refl)
-shape_many state act r (ByTable reply x e t) = rw e (omega arith)
-shape_many state act r (ByPair writer reader ty a e fits) = rw e (pair_many state writer reader ty)
-shape_many state act r (ByGuest size a e fits) = rw e (omega arith)
-shape_many state act r (ByPut reply g address bytes e p) = rw e (omega arith)
-shape_many state act r (ByRestShape reply e none) = rw e (omega arith)
 
 -- ## A part that a host writer has to do with
 
 -- another stream than one that a host writer has
 other_stream : (state : State) (s k n : ℕ) → is_host (stream_at state s).writer.owner ≡ false → (stream_at state k).writer.owner ≡ Host n → s ≢ k
-other_stream state s k n e o q = host_unless (stream_at state s).writer.owner n e (ap (λ i. (stream_at state i).writer.owner) q ∙ o)
+other_stream state s k n e o q = no_host (stream_at state s).writer.owner n e (ap (λ i. (stream_at state i).writer.owner) q ∙ o)
 
 turned_other : (old new : State) (s k n : ℕ) (read : Operation) → Turned old new k n read → s ≢ k → stream_at new s ≡ stream_at old s
 turned_other old new s k n read t ne =
@@ -228,15 +143,12 @@ module _ (old new : State) (reply : Reply) (s : ℕ) (h : Holds old) (b : AreByt
   forsaken_in : (act : Act) → Forsakes old act reply new → SeenIn old (Acts act) reply new s
   forsaken_in act f =
       let r = reaction old act in
-      let unhosted : is_host (stream_at r.state s).writer.owner ≡ false = not_host (stream_at r.state s).writer.owner (λ n e. host_unless (stream_at old s).writer.owner n g.unhosted (reaction-from old act s n e).0) in
+      let unhosted : is_host (stream_at r.state s).writer.owner ≡ false = unless_host (stream_at r.state s).writer.owner (λ n e. no_host (stream_at old s).writer.owner n g.unhosted (reaction-from old act s n e).0) in
       let ne = other_stream r.state s f.stream f.writer unhosted f.owner in
       let after : stream_at new s ≡ stream_at r.state s = ap (λ (y : State). stream_at y s) f.is ∙ get_or-set_other r.state.streams f.stream s (forsaken Reading (stream_at r.state f.stream)) no_stream ne in
       let many : length new.streams ≡ length r.state.streams = ap (λ (y : State). length y.streams) f.is ∙ length-set r.state.streams f.stream (forsaken Reading (stream_at r.state f.stream)) in
-      same_in old new (Acts act) reply s b g (more many) (after ∙ f.others s ne)
+      same_in old new (Acts act) reply s b g (omega (arith, many, (reaction_streams old act h.sound).many)) (after ∙ f.others s ne)
       (λ side. untold s side (moment_in old (Acts act) reply new) (ap code_told (f.reply_is ∙ f.done)))
-    where
-      more : length new.streams ≡ length (reaction old act).state.streams → length old.streams ≤ length new.streams
-      more e = omega (arith, e, shape_many old act (reaction old act) (reaction-shape old act h.sound))
 
   pub effect_in : (part : Part) → is_made_by s part reply ≡ false → ((act : Act) → part ≡ Acts act → received s old + 2 ^ 28 < 2 ^ 128) → Effect old part reply new → SeenIn old part reply new s
   effect_in part u room (ByReaction act p i r e) = rw (p, r, e) (reaction_in old act s h b (room act p) g)

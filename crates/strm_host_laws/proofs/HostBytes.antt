@@ -1,13 +1,11 @@
 -- Memories in a run with host writers: the bytes that are put lie there, and those that are not touched stay; what
 -- a host writer hands over touches those where its items are received.
-use Rattle.std.proofs.Common.{◌≡◌, ◌≢◌, ℕ, zero, suc, ◌+◌, ◌-◌, ◌*◌, ◌^◌, ◌<◌, ◌≤◌, ◌==◌, min, Bool, true, false, cond, List, [], ◌∷◌, ◌++◌, length, take, drop, get_or, set, Option, Some, None, refl, sym, ap, subst, ◌∙◌, ◌⊎◌, inl, inr, ⊎_elim, arith, length-set}
+use Rattle.std.proofs.Common.{◌≡◌, ◌≢◌, ℕ, zero, suc, ◌+◌, ◌-◌, ◌*◌, ◌^◌, ◌<◌, ◌≤◌, ◌==◌, Bool, true, false, cond, List, [], ◌∷◌, ◌++◌, length, take, drop, get_or, set, Some, refl, sym, ap, subst, ◌∙◌, ◌⊎◌, inl, inr, arith, length-set}
 use Rattle.std.specs.Prelude.{All}
-use Rattle.std.proofs.lemmas.Bool.{cases_eq, cases_lt, cond_both, eqb-true, eq-eqb, ne_eqb}
+use Rattle.std.proofs.lemmas.Bool.{cases_eq, cases_lt, eqb-true, eq-eqb, ne_eqb}
 use Rattle.std.proofs.lemmas.List.{get_or-set_same, get_or-set_other, length-map, take-append-drop}
 use Rattle.std.proofs.lemmas.List.Elements.{All-nil, All-cons}
 use Rattle.strm_codes.specs.Layout.{scalars_of, item_size}
-use Rattle.strm_codes.specs.declared.codes.ReturnCode.{ReturnCode}
-use Rattle.strm_codes.specs.declared.codes.TransmitIndex.{TransmitIndex}
 use Rattle.strm_codes.specs.declared.payloads.Payload.{Payload}
 use Rattle.strm_codes.specs.declared.scalars.Scalar.{Scalar}
 use Rattle.strm_memory.specs.Bytes.{IsApart, bytes_at}
@@ -15,17 +13,15 @@ use Rattle.strm_memory.specs.Items.{stored, stored_at, encode_from}
 use Rattle.strm_memory.proofs.RegionLemmas.{bytes_at-stored_at, stored_at-nil}
 use Rattle.strm_buffers.specs.Listing.{Item}
 use Rattle.strm_buffers.specs.Tells.{Tells}
-use Rattle.strm_machine.specs.Meetings.{begun, advanced}
-use Rattle.strm_machine.specs.Making.{made_stream, made_pair, with_stream}
+use Rattle.strm_machine.specs.Meetings.{begun}
 use Rattle.strm_machine.specs.Moments.{Moment, Place, place_of, read_place, received, rise, target, is_named}
-use Rattle.strm_machine.specs.Moves.{with_owner}
 use Rattle.strm_machine.specs.Endings.{delivered}
-use Rattle.strm_machine.specs.Reactions.{Reaction, told, written_back, reaction}
-use Rattle.strm_machine.specs.Sides.{opposite, end_of, same_side, with_end, with_operation}
+use Rattle.strm_machine.specs.Reactions.{told, reaction}
+use Rattle.strm_machine.specs.Sides.{with_operation}
 use Rattle.strm_machine.specs.Soundness.{IsPlaced, sizes_of}
-use Rattle.strm_machine.specs.State.{State, Guest, no_stream, memory_in, stream_at, is_gone, is_host}
+use Rattle.strm_machine.specs.State.{State, Guest, no_stream, memory_in, stream_at, is_host}
 use Rattle.strm_machine.specs.Tests.{named, stream_named, items_asked}
-use Rattle.strm_machine.specs.Turns.{Turn, with_received, moves, completes_alone, rendezvous_by, finds, turn}
+use Rattle.strm_machine.specs.Turns.{with_received}
 use Rattle.strm_machine.specs.Untouched.{Region, bytes_of, LiesApart, LieThere, received_by, StaysAside}
 use Rattle.strm_machine.specs.declared.acts.Act.{Act}
 use Rattle.strm_machine.specs.declared.acts.Act.TheVariants.{OnEnd, OnHost}
@@ -34,24 +30,18 @@ use Rattle.strm_machine.specs.declared.acts.NamedEnd.{NamedEnd}
 use Rattle.strm_machine.specs.declared.limits.Limits.{Limits}
 use Rattle.strm_machine.specs.declared.replies.Reply.{Reply}
 use Rattle.strm_machine.specs.declared.steps.Step.{Step}
-use Rattle.strm_machine.specs.declared.streams.End.{End}
-use Rattle.strm_machine.specs.declared.streams.Meeting.{Meeting}
-use Rattle.strm_machine.specs.declared.streams.Meeting.TheVariants.{BothComplete, WriteCompletes, ReadCompletes}
 use Rattle.strm_machine.specs.declared.streams.Operation.{Operation}
-use Rattle.strm_machine.specs.declared.streams.Side.{Side}
-use Rattle.strm_machine.specs.declared.streams.Side.TheVariants.{Writing, Reading}
+use Rattle.strm_machine.specs.declared.streams.Side.TheVariants.{Reading}
 use Rattle.strm_machine.specs.declared.streams.Stream.{Stream}
 use Rattle.strm_machine.proofs.BoundLemmas.{within}
 use Rattle.strm_machine.proofs.CarryLemmas.{no_scalars}
 use Rattle.strm_machine.proofs.Lawful.{as_moment}
-use Rattle.strm_machine.proofs.SeenSteps.{made_at}
 use Rattle.strm_machine.proofs.NamedEndLemmas.{named_itself}
 use Rattle.strm_machine.proofs.PutLemmas.{reaction-there}
-use Rattle.strm_machine.proofs.ShapeLemmas.{reaction-shape}
-use Rattle.strm_machine.proofs.Shapes.{stream_on, begun_on, turn_on, Shape, ByTurn, BySetting, ByOwner, ByTable, ByPair, ByGuest, ByPut, ByRest as ByRestShape}
 use Rattle.strm_machine.proofs.StateLemmas.{memory_in-with_memory, memory_in-with_memory_other}
 use Rattle.strm_machine.proofs.TurnLemmas.{front_inside, size_in}
-use Rattle.strm_machine.proofs.UntouchedLemmas.{reaction-stays}
+use Rattle.strm_machine.proofs.UntouchedLemmas.{reaction-stays, StaysAside-same}
+use Rattle.strm_machine.proofs.StreamSteps.{most_of, set_most, reaction_streams}
 use Rattle.strm_world.specs.Attaching.{forsaken}
 use Rattle.strm_world.specs.Producing.{lowered}
 use Rattle.strm_world.specs.World.{World}
@@ -60,105 +50,16 @@ use Rattle.strm_laws.specs.Laws.{AreSteps}
 use Rattle.strm_host_laws.specs.HostMoments.{Part, Acts, Turns, HostMoment, host_moments}
 use Rattle.strm_host_laws.specs.HostLaws.{plain, plains}
 use Rattle.strm_host_laws.proofs.Chains.{Follows, Chain, moments-chain}
-use Rattle.strm_host_laws.proofs.Closed.{set-keeps}
-use Rattle.strm_host_laws.proofs.HostsAgree.{at_push}
+use Rattle.strm_machine.proofs.TableLemmas.{set-keeps, at_push}
 use Rattle.strm_host_laws.proofs.HostTurns.{Turned, turned_stream}
 use Rattle.strm_host_laws.proofs.Effects.{opened_by, Driven, Reads, forsaken_by, Forsakes, Effect, ByReaction, ByRest, ByHosting, ByDriving, ByReading, ByForsaking, is_idle, host_made, follows_effect}
 use Rattle.strm_host_laws.proofs.GuestsSeen.{moment_in}
 use Rattle.strm_host_laws.proofs.Standing.{Holds, Holds-effect, Holds-empty, read_begun, opened_payload, waiting_placed}
 use Rattle.strm_host_laws.proofs.StepsLeft.{left_after, Pays, Costs, moments_cost}
-use Rattle.strm_host_laws.proofs.TurnMoves.{lowered-keeps, moved_on-moves}
+use Rattle.strm_host_laws.proofs.TurnMoves.{moved_on-moves}
+use Rattle.strm_world.proofs.LoweredLemmas.{lowered-keeps}
 
 -- ## How many items a part may bring
-
-most_of : (r n : ℕ) → n < 2 ^ 28 → min (r + n) (2 ^ 128 - 1) ≤ r + 2 ^ 28
-most_of r n l = omega arith
-
-with_operation-count : (side : Side) (stream : Stream) (o : Operation) → (with_operation side stream o).received ≡ stream.received
-with_operation-count Writing stream o = refl
-with_operation-count Reading stream o = refl
-
-with_end-count : (side : Side) (stream : Stream) (e : End) → (with_end side stream e).received ≡ stream.received
-with_end-count Writing stream e = refl
-with_end-count Reading stream e = refl
-
-module _ (side : Side) (guests : List Guest) (stream : Stream) (mine : Operation) (small : mine.left < 2 ^ 28) where
-  abbrev Few : Turn → Type 0
-  Few t = t.stream.received ≤ stream.received + 2 ^ 28
-
-  same_few : (t : Turn) → t.stream.received ≡ stream.received → Few t
-  same_few t e = omega (arith, e)
-
-  moves_few : (theirs : Operation) (n : ℕ) (o : Option (List Guest)) → n < 2 ^ 28 → Few (moves side guests stream mine theirs n o)
-  moves_few theirs n None l = omega arith
-  moves_few theirs n (Some after) l = omega (arith, most_of stream.received n l, with_operation-count (opposite side) (with_received stream n) (advanced stream.payload theirs n))
-
-  alone_few : (who : Side) (theirs : Operation) → Few (completes_alone who side guests stream mine theirs)
-  alone_few who theirs =
-      let stopped = with_operation (opposite side) stream (advanced stream.payload theirs 0) in
-      cond_both (same_side who side) _ _ Few (λ e. omega arith)
-      (λ e. omega (arith, with_operation-count side stopped mine, with_operation-count (opposite side) stream (advanced stream.payload theirs 0)))
-
-  meets_few : (meeting : Meeting) (theirs : Operation) → Few (rendezvous_by meeting side guests stream mine theirs)
-  meets_few BothComplete theirs = moves_few theirs _ _ (omega (arith, small))
-  meets_few WriteCompletes theirs = alone_few Writing theirs
-  meets_few ReadCompletes theirs = alone_few Reading theirs
-
-  finds_few : (o : Option Operation) → Few (finds side guests stream mine o)
-  finds_few None = omega (arith, with_operation-count side stream mine)
-  finds_few (Some theirs) =
-      cond_both theirs.is_open _ _ Few (λ e. meets_few _ theirs) (λ e. omega (arith, with_operation-count side stream mine))
-
-  turn_few : Few (turn side guests stream mine)
-  unfolding turn
-  turn_few =
-      cond_both (is_gone (end_of (opposite side) stream).owner) _ _ Few
-      (λ e. omega (arith, with_end-count side stream (record (end_of side stream) { told = true })))
-      (λ e. finds_few _)
-
--- ## Each step
-
--- a stream that is set
-set_most : (streams : List Stream) (k s : ℕ) (x : Stream) → x.received ≤ (get_or streams k no_stream).received + 2 ^ 28 → (get_or (set streams k x) s no_stream).received ≤ (get_or streams s no_stream).received + 2 ^ 28
-set_most [] k s x l = omega arith
-set_most (y ∷ ys) zero zero x l = l
-set_most (y ∷ ys) zero (suc s) x l = omega arith
-set_most (y ∷ ys) (suc k) zero x l = omega arith
-set_most (y ∷ ys) (suc k) (suc s) x l = set_most ys k s x l
-
-back_most : (state : State) (k s : ℕ) (t : Turn) (code : Option ReturnCode) → t.stream.received ≤ (stream_at state k).received + 2 ^ 28 → received s (written_back state k t code).state ≤ received s state + 2 ^ 28
-back_most state k s t (Some code) l = set_most state.streams k s t.stream l
-back_most state k s t None l = set_most state.streams k s t.stream l
-
-pair_most : (state : State) (writer reader : ℕ) (ty : TransmitIndex) (s : ℕ) → received s (with_stream state writer reader ty) ≤ received s state + 2 ^ 28
-unfolding with_stream
-pair_most state writer reader ty s =
-    let pair = made_pair state writer reader ty in
-    let x = made_stream ty writer pair.write reader pair.read in
-    ⊎_elim
-    (λ same. omega (arith, ap (λ (y : Stream). y.received) same))
-    (λ new. omega (arith, ap (λ (y : Stream). y.received) new.1))
-    (made_at state.streams x s)
-
-shape_most : (state : State) (act : Act) (r : Reaction) (s : ℕ) → Shape state act r → received s r.state ≤ received s state + 2 ^ 28
-shape_most state act r s (ByTurn side end address count a e o) =
-    let t = turn_on state side end address count in
-    rw e (back_most state (stream_named (named state end)) s t t.code (turn_few side state.guests (stream_on state end) (begun_on end address count) (omega (arith, o.placed.counted))))
-shape_most state act r s (BySetting reply x e set) =
-    rw e (set_most state.streams x.stream s (with_end x.side (stream_at state x.stream) x.end) (omega (arith, with_end-count x.side (stream_at state x.stream) x.end)))
-shape_most state act r s (ByOwner reply x e o) =
-    let stream = stream_at state x.stream in
-    rw e (set_most state.streams x.stream s (with_owner x.side stream x.owner) (omega (arith, with_end-count x.side stream (record (end_of x.side stream) { owner = x.owner }))))
-shape_most state act r s (ByTable reply x e t) = rw e (omega arith)
-shape_most state act r s (ByPair writer reader ty a e fits) = rw e (pair_most state writer reader ty s)
-shape_most state act r s (ByGuest size a e fits) = rw e (omega arith)
-shape_most state act r s (ByPut reply g address bytes e p) = rw e (omega arith)
-shape_most state act r s (ByRestShape reply e none) = rw e (omega arith)
-
-reaction_most : (state : State) (act : Act) (s : ℕ) → Holds state → received s (reaction state act).state ≤ received s state + 2 ^ 28
-reaction_most state act s h = shape_most state act (reaction state act) s (reaction-shape state act h.sound)
-
--- ## Each part
 
 -- what a turn brings
 module _ (old new : State) (k n : ℕ) (read : Operation) (t : Turned old new k n read) (small : read.left < 2 ^ 28) where
@@ -212,7 +113,7 @@ module _ (old new : State) (reply : Reply) (h : Holds old) where
   read_placed end address count r = (read_begun old end address count h.sound r.unrefused).placed
 
   pub effect_most : (part : Part) (s : ℕ) → Effect old part reply new → received s new ≤ received s old + 2 ^ 28
-  effect_most part s (ByReaction act p i r e) = omega (arith, ap (received s) e, reaction_most old act s h)
+  effect_most part s (ByReaction act p i r e) = omega (arith, ap (received s) e, (reaction_streams old act h.sound).most s)
   effect_most part s (ByRest q e) = omega (arith, ap (received s) e)
   effect_most part s (ByHosting n p x) =
       omega (arith, ap (received s) x.is, at_push old.streams x.stream no_stream s (λ y. y.received ≤ received s old + 2 ^ 28) (λ q. omega (arith, x.none)) (λ ne. omega arith))
@@ -227,7 +128,7 @@ module _ (old new : State) (reply : Reply) (h : Holds old) where
   effect_most part s (ByForsaking act p f) =
       let r = reaction old act in
       let left : received s (forsaken_by r.state f.stream f.writer) ≡ received s r.state = set-keeps (λ (x : Stream). x.received) r.state.streams f.stream s (forsaken Reading (stream_at r.state f.stream)) no_stream refl in
-      omega (arith, ap (received s) f.is, left, reaction_most old act s h)
+      omega (arith, ap (received s) f.is, left, (reaction_streams old act h.sound).most s)
 
   -- the turn of another stream brings none
   pub effect_still : (k s : ℕ) → k ≢ s → Effect old (Turns k) reply new → received s new ≡ received s old
@@ -243,13 +144,6 @@ module _ (old new : State) (reply : Reply) (h : Holds old) where
 -- ## Memories
 
 -- all memories are as they were
-stays_same : (m : Moment) → m.after.guests ≡ m.before.guests → StaysAside m
-stays_same m e = record {
-  guests = omega (arith, ap length e);
-  size = λ g l. ap (λ (guests : List Guest). length (memory_in guests g)) e;
-  bytes = λ r l u. ap (λ guests. bytes_of guests r) e;
-}
-
 stored-nothing : (bytes : List ℕ) (xs : List Item) → stored [] bytes xs ≡ bytes
 unfolding stored encode_from
 stored-nothing bytes [] = refl
@@ -259,12 +153,15 @@ positive : (a b : ℕ) → 0 < a → 0 < b → 0 < a * b
 positive a b h k = grind arith
 
 -- bytes apart from those where items are stored
-stored_stays : (ss : List Scalar) (memory : List ℕ) (address other : ℕ) (xs : List Item) (size : ℕ) → 0 < item_size ss → (0 < length xs → 0 < item_size ss → address + item_size ss * length xs ≤ length memory)
-    → (0 < size → 0 < item_size ss * length xs → IsApart address (item_size ss * length xs) other size) → bytes_at (stored_at ss memory address xs) other size ≡ bytes_at memory other size
-stored_stays ss memory address other xs zero some room apart = refl
-stored_stays ss memory address other [] (suc size) some room apart = rw (stored_at-nil ss memory address) refl
-stored_stays ss memory address other (x ∷ xs) (suc size) some room apart =
-    bytes_at-stored_at ss memory address (x ∷ xs) other (suc size) (room (omega arith) some) (apart (omega arith) (positive (item_size ss) (length (x ∷ xs)) some (omega arith)))
+module _ (ss : List Scalar) (memory : List ℕ) (address other : ℕ) (some : 0 < item_size ss) where
+  abbrev taken : List Item → ℕ
+  taken xs = item_size ss * length xs
+
+  stored_stays : (xs : List Item) (size : ℕ) → (0 < length xs → address + taken xs ≤ length memory) → (0 < size → 0 < taken xs → IsApart address (taken xs) other size) → bytes_at (stored_at ss memory address xs) other size ≡ bytes_at memory other size
+  stored_stays xs zero room apart = refl
+  stored_stays [] (suc size) room apart = rw (stored_at-nil ss memory address) refl
+  stored_stays (x ∷ xs) (suc size) room apart =
+      bytes_at-stored_at ss memory address (x ∷ xs) other (suc size) (room (omega arith)) (apart (omega arith) (positive (item_size ss) (length (x ∷ xs)) some (omega arith)))
 
 -- where a read gets so many items
 abbrev region_of : Payload → Operation → ℕ → Region
@@ -288,8 +185,8 @@ module _ (guests : List Guest) (payload : Payload) (read : Operation) (items : L
   same_here r apart e =
       elim (cases_lt 0 (item_size ss)) [
         | inl some ↦
-            stored_stays ss memory read.address r.place.address items r.size some
-            (λ p q. within (length memory) ss read.address (length items) (front_inside guests payload read (length items) fit placed) p q) (apart e)
+            stored_stays ss memory read.address r.place.address some items r.size
+            (λ p. within (length memory) ss read.address (length items) (front_inside guests payload read (length items) fit placed) p some) (apart e)
         | inr none ↦
             let empty : ss ≡ [] = no_scalars ss (omega (arith, none)) in
             let same : filled ≡ memory =
@@ -310,15 +207,20 @@ module _ (guests : List Guest) (payload : Payload) (read : Operation) (items : L
         | inr ne ↦ ap (λ bytes. bytes_at bytes r.place.address r.size) (memory_in-with_memory_other guests read.guest r.place.guest filled ne)
       ]
 
--- a moment in which nothing is touched but where a read gets items on stream k
-received_aside : (m : Moment) (k : ℕ) (payload : Payload) (read : Operation) (items : List Item) → m.after.guests ≡ lowered m.before.guests payload read items → IsPlaced (sizes_of m.before.guests) payload read → length items ≤ read.left
-    → received_by k m ≡ region_of payload read (length items) → StaysAside m
-received_aside m k payload read items e p fit here =
-    let sizes : sizes_of m.after.guests ≡ sizes_of m.before.guests = ap sizes_of e ∙ (lowered-keeps m.before.guests payload read items p fit).sizes in
+-- a moment that leaves all memories but where a read gets items
+record Lowers (m : Moment) (payload : Payload) (read : Operation) (items : List Item) : Type 0 where
+  guests : m.after.guests ≡ lowered m.before.guests payload read items
+  placed : IsPlaced (sizes_of m.before.guests) payload read
+  few : length items ≤ read.left
+
+-- it touches nothing else, where the read is of stream k
+received_aside : (m : Moment) (k : ℕ) (payload : Payload) (read : Operation) (items : List Item) → Lowers m payload read items → received_by k m ≡ region_of payload read (length items) → StaysAside m
+received_aside m k payload read items l here =
+    let sizes : sizes_of m.after.guests ≡ sizes_of m.before.guests = ap sizes_of l.guests ∙ (lowered-keeps m.before.guests payload read items l.placed l.few).sizes in
     record {
       guests = omega (arith, length-map m.before.guests (λ (g : Guest). length g.memory), length-map m.after.guests (λ (g : Guest). length g.memory), ap length sizes);
       size = λ g l. sym (size_in m.after.guests g) ∙ ap (λ xs. get_or xs g 0) sizes ∙ size_in m.before.guests g;
-      bytes = λ r l u. ap (λ guests. bytes_of guests r) e ∙ lowered_stays m.before.guests payload read items p fit r (subst (LiesApart r) here (u.got k));
+      bytes = λ r _ u. ap (λ guests. bytes_of guests r) l.guests ∙ lowered_stays m.before.guests payload read items l.placed l.few r (subst (LiesApart r) here (u.got k));
     }
 
 region_same : (p q : Place) (a b : ℕ) → p ≡ q → a ≡ b → ◌≡◌ {A = Region} (record { place = p; size = a }) (record { place = q; size = b })
@@ -342,7 +244,7 @@ module _ (old new : State) (reply : Reply) (h : Holds old) where
       let placed = waiting_placed old k d.read made d.waits h.sound in
       let t = d.turned in
       let rises : rise k m ≡ length t.items = rise_is (received k new) (received k old) (length t.items) (turned_count old new k d.writer d.read t (placed_small (sizes_of old.guests) payload d.read placed) room made) in
-      received_aside m k payload d.read t.items (ap (λ (x : State). x.guests) t.is) placed t.few
+      received_aside m k payload d.read t.items (record { guests = ap (λ (x : State). x.guests) t.is; placed = placed; few = t.few })
       (region_same (target k m) (place_of (Some d.read)) _ _ (ap place_of d.waits) (ap (λ n. item_size (scalars_of payload) * n) rises))
 
   read_aside : (end : NamedEnd) (address count : ℕ) → ((s : ℕ) → received s old + 2 ^ 28 < 2 ^ 128) → Reads old end address count reply new → StaysAside (moment_in old (Acts (OnEnd Reading end (Operate address count))) reply new)
@@ -365,7 +267,7 @@ module _ (old new : State) (reply : Reply) (h : Holds old) where
       ap (λ (x : State). x.guests) r.is ∙ ap (λ (x : State). x.guests) t.is ∙ ap (λ p. lowered old.guests p read t.items) same in
       let named_here : is_named k Reading m ≡ true = named_itself old act reply k Reading Reading (b.found.named reply) in
       let waiting = place_of (stream_at old k).reader.operation in
-      received_aside m k payload read t.items guests b.placed t.few
+      received_aside m k payload read t.items (record { guests = guests; placed = b.placed; few = t.few })
       (region_same (target k m) (place_of (Some read)) _ _ (ap (λ x. cond x (read_place act waiting) waiting) named_here) (ap (λ n. item_size (scalars_of payload) * n) rises))
 
   forsaken_aside : (act : Act) → StaysAside (as_moment old act (reaction old act)) → Forsakes old act reply new → StaysAside (moment_in old (Acts act) reply new)
@@ -390,8 +292,8 @@ module _ (old new : State) (reply : Reply) (h : Holds old) where
   effect_aside part room (ByReaction act p i r e) =
       let all : (s : ℕ) → received s old + 2 ^ 28 < 2 ^ 128 = λ s. room s (subst (λ q. Concerns q s) (sym p) tt) in
       rw (p, r, e) (reaction-stays old act h.sound all)
-  effect_aside part room (ByRest q e) = stays_same (moment_in old part reply new) (ap (λ (x : State). x.guests) e)
-  effect_aside part room (ByHosting n p x) = stays_same (moment_in old part reply new) (ap (λ (y : State). y.guests) x.is)
+  effect_aside part room (ByRest q e) = StaysAside-same (moment_in old part reply new) (ap (λ (x : State). x.guests) e)
+  effect_aside part room (ByHosting n p x) = StaysAside-same (moment_in old part reply new) (ap (λ (y : State). y.guests) x.is)
   effect_aside part room (ByDriving k p done d) =
       subst (λ q. StaysAside (moment_in old q reply new)) (sym p) (driven_aside k (room k (subst (λ q. Concerns q k) (sym p) refl)) d)
   effect_aside part room (ByReading end address count p r) =

@@ -27,7 +27,7 @@ use Rattle.strm_world.specs.Settling.{moved_on}
 use Rattle.strm_world.specs.Producing.{lowered, receives, is_last, with_over, produced_result, produces, producer_turn}
 use Rattle.strm_world.proofs.SettleLemmas.{is_done_with, moved_on-owner}
 use Rattle.strm_host_laws.proofs.Goings.{with_state, with_stream_in-same}
-use Rattle.strm_host_laws.proofs.Closed.{set-keeps}
+use Rattle.strm_machine.proofs.TableLemmas.{set-keeps}
 
 -- ## What is kept of host writers
 

@@ -1,5 +1,5 @@
 -- Handles and ends, host writers and streams still agree after a stream is another or goes.
-use Rattle.std.proofs.Common.{◌≡◌, ◌≢◌, ℕ, zero, suc, ◌<◌, Bool, true, false, cond, List, [], ◌∷◌, ◌++◌, length, get_or, set, refl, sym, ap, subst, ◌∙◌, ◌⊎◌, inl, inr, arith}
+use Rattle.std.proofs.Common.{◌≡◌, ◌≢◌, ℕ, ◌<◌, Bool, true, false, cond, List, length, get_or, set, refl, sym, ap, subst, ◌∙◌, ◌⊎◌, inl, inr, arith}
 use Rattle.std.proofs.lemmas.Bool.{cases_eq}
 use Rattle.std.proofs.lemmas.List.{get_or-set_same, get_or-set_other}
 use Rattle.strm_handles.specs.Handles.{IsTable}
@@ -17,7 +17,7 @@ use Rattle.strm_machine.specs.declared.streams.Owner.TheVariants.{Held, Host, Go
 use Rattle.strm_machine.specs.declared.streams.Side.{Side}
 use Rattle.strm_machine.specs.declared.streams.Stream.{Stream}
 use Rattle.strm_machine.proofs.HeldLemmas.{IsHeld, names_in}
-use Rattle.strm_machine.proofs.HostLemmas.{HostsStay, HostsHold-stays, serving_known}
+use Rattle.strm_machine.proofs.HostLemmas.{HostsStay-same, HostsStay, HostsHold-stays, serving_known}
 use Rattle.strm_machine.proofs.TableLemmas.{owner_in, owner-set_other}
 use Rattle.strm_host_laws.proofs.HostTurns.{Leaves}
 
@@ -170,12 +170,9 @@ HostsHold-set state s x l w r h =
     (λ k. elim (cases_eq k s) [
       | inl e ↦ subst (λ i. HostsStay (stream_at state i) (stream_at (with_stream_at state s x) i)) (sym e)
           (subst (HostsStay (stream_at state s)) (sym (get_or-set_same state.streams s x no_stream l)) stays)
-      | inr ne ↦ subst (HostsStay (stream_at state k)) (sym (get_or-set_other state.streams s k x no_stream ne)) (same (stream_at state k))
+      | inr ne ↦ subst (HostsStay (stream_at state k)) (sym (get_or-set_other state.streams s k x no_stream ne)) (HostsStay-same (stream_at state k))
     ]) h
   where
-    same : (stream : Stream) → HostsStay stream stream
-    same stream = record { was = λ n e. e; is = λ n e. e; idle = λ e o. o; unpiped = λ e. e }
-
     stays : HostsStay (stream_at state s) x
     stays = record {
       was = λ n e. sym (ap (λ (y : End). y.owner) w) ∙ e;
@@ -183,12 +180,3 @@ HostsHold-set state s x l w r h =
       idle = λ e o. ap (λ (y : End). y.operation) w ∙ o;
       unpiped = λ e. ap is_host r ∙ e;
     }
-
--- ## One more
-
--- a stream behind the others, and those before it
-pub at_push : {A : Type 0} (xs : List A) (x d : A) (k : ℕ) (P : A → Type 0) → (k ≡ length xs → P x) → (k ≢ length xs → P (get_or xs k d)) → P (get_or (xs ++ x ∷ []) k d)
-at_push [] x d zero P f g = f refl
-at_push [] x d (suc k) P f g = g (λ e. omega (arith, e))
-at_push (y ∷ ys) x d zero P f g = g (λ e. omega (arith, e))
-at_push (y ∷ ys) x d (suc k) P f g = at_push ys x d k P (λ e. f (ap suc e)) (λ n. g (λ e. n (omega (arith, e))))

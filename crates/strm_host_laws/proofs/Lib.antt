@@ -8,13 +8,11 @@ pub mod Effects
 pub mod TurnMoves
 pub mod HostsAgree
 pub mod Standing
-pub mod SeenSteps
 pub mod PartsSeen
 pub mod GuestsSeen
 pub mod StepsLeft
 pub mod GuestRuns
 pub mod HostBytes
-pub mod GuestLaws
 pub mod Turned
 pub mod Lowered
 pub mod Unmoved

@@ -1,31 +1,23 @@
 -- Items that were lowered where a read's next ones are to lie do lie there.
-use Rattle.std.proofs.Common.{◌≡◌, ℕ, zero, suc, ◌+◌, ◌*◌, ◌<◌, ◌≤◌, ℤ, List, [], ◌∷◌, length, map, drop, Some, refl, ap, ◌∙◌, subst, inl, inr, arith}
+use Rattle.std.proofs.Common.{◌≡◌, ℕ, ◌+◌, ◌*◌, ◌<◌, ◌≤◌, ℤ, List, [], ◌∷◌, length, map, drop, Some, refl, ap, ◌∙◌, subst, inl, inr, arith}
 use Rattle.std.proofs.lemmas.Bool.{cases_lt}
-use Rattle.std.proofs.lemmas.Option.{option_and_then_some}
 use Rattle.strm_codes.specs.Layout.{scalars_of, item_size}
 use Rattle.strm_codes.specs.declared.payloads.Payload.{Payload}
 use Rattle.strm_codes.specs.declared.scalars.Scalar.{Scalar}
-use Rattle.strm_memory.specs.Items.{decode_from, decode, items, stored_at, AreItems}
-use Rattle.strm_memory.proofs.CopyLemmas.{option_map_some}
+use Rattle.strm_memory.specs.Items.{decode_from, stored_at, AreItems}
 use Rattle.strm_memory.proofs.RegionLemmas.{items_at-stored_at}
 use Rattle.strm_buffers.specs.Listing.{Item}
 use Rattle.strm_machine.specs.Moments.{decoded, items_in}
 use Rattle.strm_machine.specs.Soundness.{sizes_of, IsPlaced}
 use Rattle.strm_machine.specs.State.{Guest, memory_in}
 use Rattle.strm_machine.specs.declared.streams.Operation.{Operation}
+use Rattle.strm_machine.proofs.ArrivalLemmas.{decoded-items}
 use Rattle.strm_machine.proofs.BoundLemmas.{within}
 use Rattle.strm_machine.proofs.CarryLemmas.{no_scalars}
 use Rattle.strm_machine.proofs.StateLemmas.{memory_in-with_memory}
 use Rattle.strm_machine.proofs.TurnLemmas.{front_inside}
+use Rattle.strm_machine.proofs.TurnChangeLemmas.{there}
 use Rattle.strm_world.specs.Producing.{lowered}
-
-decoded-items : (ss : List Scalar) (bytes : List ℕ) (n : ℕ) (xs : List (List ℤ)) → items ss bytes n ≡ Some xs → decoded ss bytes n ≡ map Some xs
-unfolding items decoded
-decoded-items ss bytes zero xs e = let q : [] ≡ xs = cc in rw (← q) refl
-decoded-items ss bytes (suc n) xs e =
-    option_and_then_some _ (decode ss bytes) xs e
-    (λ x p q. option_map_some _ (items ss (drop (item_size ss) bytes) n) xs q
-    (λ ys u v. rw (← v, p) (ap (λ l. Some x ∷ l) (decoded-items ss (drop (item_size ss) bytes) n ys u))))
 
 -- items of no scalars are all alike, and lie everywhere
 nothing_decoded : (bytes : List ℕ) (xs : List (List ℤ)) → AreItems [] xs → decoded [] bytes (length xs) ≡ map Some xs
@@ -54,11 +46,11 @@ stored_decoded ss memory to xs h room =
     ]
 
 -- the items of a turn
-pub lowered_lie : (guests : List Guest) (payload : Payload) (read : Operation) (xs : List Item) → read.guest < length guests → IsPlaced (sizes_of guests) payload read → length xs ≤ read.left → AreItems (scalars_of payload) xs
+pub lowered_lie : (guests : List Guest) (payload : Payload) (read : Operation) (xs : List Item) → IsPlaced (sizes_of guests) payload read → length xs ≤ read.left → AreItems (scalars_of payload) xs
     → items_in payload (lowered guests payload read xs) read.guest read.address (length xs) ≡ map Some xs
-lowered_lie guests payload read xs there placed fit h =
+lowered_lie guests payload read xs placed fit h =
     let ss = scalars_of payload in
     let memory = memory_in guests read.guest in
     let new = stored_at ss memory read.address xs in
-    ap (λ m. decoded ss (drop read.address m) (length xs)) (memory_in-with_memory guests read.guest new there)
+    ap (λ m. decoded ss (drop read.address m) (length xs)) (memory_in-with_memory guests read.guest new (there guests payload read placed))
     ∙ stored_decoded ss memory read.address xs h (within (length memory) ss read.address (length xs) (front_inside guests payload read (length xs) fit placed))

@@ -20,6 +20,7 @@ use Rattle.strm_machine.specs.Sides.{with_operation}
 use Rattle.strm_machine.specs.Endings.{delivered}
 use Rattle.strm_machine.specs.Turns.{with_received}
 use Rattle.strm_machine.specs.Soundness.{sizes_of, IsPlaced}
+use Rattle.strm_machine.specs.declared.acts.Act.{Act}
 use Rattle.strm_machine.specs.declared.acts.Act.TheVariants.{OnEnd, Drive}
 use Rattle.strm_machine.specs.declared.acts.EndAct.TheVariants.{Operate}
 use Rattle.strm_machine.specs.declared.acts.NamedEnd.{NamedEnd}
@@ -28,6 +29,7 @@ use Rattle.strm_machine.specs.declared.streams.Operation.{Operation}
 use Rattle.strm_machine.specs.declared.streams.Side.TheVariants.{Reading}
 use Rattle.strm_machine.specs.declared.streams.Stream.{Stream}
 use Rattle.strm_machine.proofs.MomentLemmas.{nothing_got}
+use Rattle.strm_machine.proofs.Shapes.{operating}
 use Rattle.strm_machine.proofs.NamedEndLemmas.{named_itself}
 use Rattle.strm_world.specs.Ends.{Writer}
 use Rattle.strm_world.specs.World.{World, stream_in, writer_at}
@@ -153,38 +155,38 @@ got_at s m place k xs e r lie =
 abbrev place_for : Operation → Place
 place_for read = record { guest = read.guest; address = read.address }
 
+-- a moment in which this is done
+abbrev doing : Act → Moment → Moment
+doing act m = record m { act = act }
+
 -- of a turn in a drive round it is that of the read that waits
 drive_target : (s : ℕ) (m : Moment) (read : Operation) → m.act ≡ Drive → (stream_at m.before s).reader.operation ≡ Some read → target s m ≡ place_for read
-drive_target s m read e f =
-    ap (λ a. target s (record { act = a; before = m.before; reply = m.reply; after = m.after })) e ∙ ap place_of f
+drive_target s m read e f = ap (λ a. target s (doing a m)) e ∙ ap place_of f
 
 -- and of a call that of its read
-call_target : (s : ℕ) (m : Moment) (end : NamedEnd) (address count : ℕ) → m.act ≡ OnEnd Reading end (Operate address count) → is_named s Reading (record { act = OnEnd Reading end (Operate address count); before = m.before; reply = m.reply; after = m.after }) ≡ true
-    → target s m ≡ place_for (called end address count)
+call_target : (s : ℕ) (m : Moment) (end : NamedEnd) (address count : ℕ) → m.act ≡ operating Reading end address count → is_named s Reading (doing (operating Reading end address count) m) ≡ true → target s m ≡ place_for (called end address count)
 call_target s m end address count e f =
-    ap (λ a. target s (record { act = a; before = m.before; reply = m.reply; after = m.after })) e
+    ap (λ a. target s (doing a m)) e
     ∙ ap (λ b. cond b (place_for (called end address count)) (place_of (stream_at m.before s).reader.operation)) f
-
-guest_there : (guests : List Guest) (payload : Payload) (read : Operation) → IsPlaced (sizes_of guests) payload read → read.guest < length guests
-guest_there guests payload read p = subst (λ k. read.guest < k) (length-map guests (λ (g : Guest). length g.memory)) p.there
 
 few_items : (guests : List Guest) (payload : Payload) (read : Operation) (n : ℕ) → IsPlaced (sizes_of guests) payload read → n ≤ read.left → n ≤ 2 ^ 28
 few_items guests payload read n p l = omega (arith, l, p.counted)
 
--- the items of a turn lie where its read has them
-turned_lie : (w : World) (s n : ℕ) (read : Operation) (v : World) (t : Turned w s n read v) → CanTurn w s n read → Supplies (writer_at w n) → (writer_at w n).payload ≡ (stream_in w s).payload
-    → items_in (stream_in w s).payload v.state.guests read.guest read.address (length t.items) ≡ map Some t.items
-turned_lie w s n read v t c h e =
-    let payload = (stream_in w s).payload in
-    let all : AreItems (scalars_of payload) t.items = subst (λ p. AreItems (scalars_of p) t.items) e (turned_items w s n read v h t) in
-    ap (λ gs. items_in payload gs read.guest read.address (length t.items)) (turned-guests w s n read v t c)
-    ∙ lowered_lie w.state.guests payload read t.items (guest_there w.state.guests payload read c.placed) c.placed t.fits all
+-- a turn whose read is placed
+module _ (w : World) (s n : ℕ) (read : Operation) (v : World) (t : Turned w s n read v) (c : CanTurn w s n read) where
+  -- its items lie where its read has them
+  turned_lie : Supplies (writer_at w n) → (writer_at w n).payload ≡ (stream_in w s).payload → items_in (stream_in w s).payload v.state.guests read.guest read.address (length t.items) ≡ map Some t.items
+  turned_lie h e =
+      let payload = (stream_in w s).payload in
+      let all : AreItems (scalars_of payload) t.items = subst (λ p. AreItems (scalars_of p) t.items) e (turned_items w s n read v h t) in
+      ap (λ gs. items_in payload gs read.guest read.address (length t.items)) (turned-guests w s n read v t c)
+      ∙ lowered_lie w.state.guests payload read t.items c.placed t.fits all
 
-turned_count : (w : World) (s n : ℕ) (read : Operation) (v : World) (t : Turned w s n read v) → CanTurn w s n read → (stream_in w s).received + 2 ^ 28 < 2 ^ 128 → (stream_in v s).received ≡ (stream_in w s).received + length t.items
-turned_count w s n read v t c l =
-    let few = few_items w.state.guests (stream_in w s).payload read (length t.items) c.placed t.fits in
-    ap (λ (x : Stream). x.received) (turned-here w s n read v t c)
-    ∙ moved_on-received (stream_in w s) read (length t.items) t.result (omega (arith, l, few))
+  turned_count : (stream_in w s).received + 2 ^ 28 < 2 ^ 128 → (stream_in v s).received ≡ (stream_in w s).received + length t.items
+  turned_count l =
+      let few = few_items w.state.guests (stream_in w s).payload read (length t.items) c.placed t.fits in
+      ap (λ (x : Stream). x.received) (turned-here w s n read v t c)
+      ∙ moved_on-received (stream_in w s) read (length t.items) t.result (omega (arith, l, few))
 
 module _ (first : World) (m : HostMoment) (l : Lives first m.before) where
   -- A TURN IN A DRIVE ROUND

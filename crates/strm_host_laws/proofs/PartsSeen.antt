@@ -40,6 +40,7 @@ use Rattle.strm_host_laws.proofs.HostTurns.{Turned, turned_stream}
 use Rattle.strm_host_laws.proofs.Effects.{opened_by, forsaken_by, Effect, ByReaction, ByRest, ByHosting, ByDriving, ByReading, ByForsaking}
 use Rattle.strm_host_laws.proofs.Standing.{Holds, opened_owner}
 use Rattle.strm_host_laws.proofs.TurnMoves.{moved_on-moves}
+use Rattle.strm_machine.proofs.HostLemmas.{turn_idle}
 
 -- ## Streams that a host writer has, or had
 
@@ -102,13 +103,6 @@ hosted_set old new s k x e f h =
     ]
 
 -- a step
-
-turn_idle : (guests : List Guest) (stream : Stream) (mine : Operation) → stream.writer.operation ≡ None → (turn Reading guests stream mine).stream.writer.operation ≡ None
-unfolding turn
-turn_idle guests stream mine e =
-    cond_both (is_gone stream.writer.owner) _ _ (λ (t : Turn). t.stream.writer.operation ≡ None)
-    (λ g. e)
-    (λ g. subst (λ o. (finds Reading guests stream mine o).stream.writer.operation ≡ None) (sym e) e)
 
 held_unless : (owner : Owner) (g handle : ℕ) → owner ≡ Held g handle → is_held owner ≡ false → ⊥
 held_unless owner g handle e f = let wrong : is_held owner ≡ true = ap is_held e in cc

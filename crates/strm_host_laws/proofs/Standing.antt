@@ -1,28 +1,19 @@
 -- Every state of a run with host writers is sound; handles and ends agree in it, and so do host writers and
 -- streams.
-use Rattle.std.proofs.Common.{◌≡◌, ◌≢◌, ℕ, zero, suc, ◌<◌, Bool, true, false, cond, List, [], ◌∷◌, ◌++◌, length, set, Option, Some, None, refl, sym, ap, subst, ◌∙◌, inl, inr, arith, length-set, length-append}
+use Rattle.std.proofs.Common.{◌≡◌, ◌≢◌, ℕ, ◌<◌, Bool, true, false, cond, List, [], ◌∷◌, ◌++◌, length, set, Some, None, refl, sym, ap, subst, ◌∙◌, inl, inr, arith, length-set}
 use Rattle.std.proofs.lemmas.Bool.{cases_eq}
-use Rattle.std.proofs.lemmas.List.{get_or-set_same, get_or-set_other, get_or_past, map-append, get_or_append_left}
-use Rattle.std.proofs.lemmas.List.Elements.{All-nil, All-push, All-weaker}
-use Rattle.strm_codes.specs.declared.codes.TransmitIndex.{TransmitIndex}
-use Rattle.strm_codes.specs.declared.codes.TransmitIndex.TheVariants as index
-use Rattle.strm_codes.specs.declared.payloads.Payload.TheVariants.{Nothing}
-use Rattle.strm_handles.specs.Handles.{Handles, no_handles}
-use Rattle.strm_handles.specs.Lookups.{end_rep_of}
-use Rattle.strm_handles.specs.declared.entries.Entry.{Entry}
-use Rattle.strm_handles.specs.declared.entries.Entry.TheVariants as entries
-use Rattle.strm_handles.specs.declared.entries.TransmitEnd.{TransmitEnd}
+use Rattle.std.proofs.lemmas.List.{get_or-set_same, get_or-set_other, get_or_past, map-append}
+use Rattle.std.proofs.lemmas.List.Elements.{All-push, All-weaker}
 use Rattle.strm_machine.specs.State.{State, empty, host_limit, no_stream, no_producer, idle_end, stream_at, producer_at, is_host, is_held}
 use Rattle.strm_machine.specs.Hosting.{ServesOne, HostsHold}
 use Rattle.strm_machine.specs.Sides.{end_of, with_end, with_operation}
 use Rattle.strm_machine.specs.Endings.{report_on, told_end, delivered}
-use Rattle.strm_machine.specs.Moments.{is_end}
 use Rattle.strm_machine.specs.Tests.{named, side_named, stream_named, items_asked, has_ended}
 use Rattle.strm_machine.specs.Meetings.{begun}
 use Rattle.strm_machine.specs.Refusals.{region_reasons, handle_reasons, own_reasons, refusal}
 use Rattle.strm_machine.specs.Words.{kind_of}
 use Rattle.strm_machine.specs.Reactions.{with_stream_at, told, reaction}
-use Rattle.strm_machine.specs.Soundness.{IsSound, IsNamed, EntryIsNamed, AreNamed, IsPlaced, OperationIsPlaced, StreamIsPlaced, sizes_of, handles_of, type_of, types_of}
+use Rattle.strm_machine.specs.Soundness.{IsSound, AreNamed, IsPlaced, OperationIsPlaced, StreamIsPlaced, sizes_of, handles_of, type_of, types_of}
 use Rattle.strm_machine.specs.declared.acts.Act.{Act}
 use Rattle.strm_machine.specs.declared.acts.Act.TheVariants.{OnEnd}
 use Rattle.strm_machine.specs.declared.acts.EndAct.TheVariants.{Operate}
@@ -34,7 +25,7 @@ use Rattle.strm_machine.specs.declared.streams.Duty.{Duty}
 use Rattle.strm_machine.specs.declared.streams.Duty.TheVariants.{Serves}
 use Rattle.strm_machine.specs.declared.streams.End.{End}
 use Rattle.strm_machine.specs.declared.streams.Owner.{Owner}
-use Rattle.strm_machine.specs.declared.streams.Owner.TheVariants.{Held, Loose, Host, Gone}
+use Rattle.strm_machine.specs.declared.streams.Owner.TheVariants.{Loose, Host, Gone}
 use Rattle.strm_machine.specs.declared.streams.Operation.{Operation}
 use Rattle.strm_machine.specs.declared.streams.Producer.{Producer}
 use Rattle.strm_machine.specs.declared.streams.Side.{Side}
@@ -43,17 +34,14 @@ use Rattle.strm_machine.specs.declared.streams.Stream.{Stream}
 use Rattle.strm_machine.proofs.HeldLemmas.{StateIsHeld, reaction-held}
 use Rattle.strm_machine.proofs.TurnLemmas.{GuestsKeep}
 use Rattle.strm_machine.proofs.EndLemmas.{left_by}
-use Rattle.strm_machine.proofs.EmptyLemmas.{HostsHold-empty}
+use Rattle.strm_machine.proofs.EmptyLemmas.{HostsHold-empty, IsSound-empty, StateIsHeld-empty}
 use Rattle.strm_machine.proofs.HostLemmas.{reaction-hosts, serving_made}
 use Rattle.strm_machine.proofs.RefusalLemmas.{none_of_both, region_fits, named_ok, placed_begun}
 use Rattle.strm_machine.proofs.NamedEndLemmas.{IsFound, end_fits, on_end-found, found_payload}
 use Rattle.strm_machine.proofs.ReactionLemmas.{refusal-on_end}
-use Rattle.strm_machine.proofs.WaitableSetLemmas.{HoldSets-none}
-use Rattle.strm_machine.proofs.ErrorContextLemmas.{HoldsContexts-none}
-use Rattle.strm_handles.proofs.HandleLemmas.{IsTable-no_handles}
-use Rattle.strm_machine.proofs.SoundLemmas.{IsSound-guests, IsSound-stream, placed_at, asked-placed, left_told}
+use Rattle.strm_machine.proofs.SoundLemmas.{IsSound-guests, IsSound-stream, placed_at, asked-placed, left_told, type_of-same, AreNamed-more}
 use Rattle.strm_machine.proofs.SoundStepLemmas.{reaction-sound}
-use Rattle.strm_machine.proofs.TableLemmas.{handles-same, owner_in}
+use Rattle.strm_machine.proofs.TableLemmas.{handles-same, owner_in, set-keeps, at_push}
 use Rattle.strm_world.specs.HostRefusals.{is_used}
 use Rattle.strm_buffers.specs.Tells.{Tells}
 use Rattle.strm_world.specs.World.{World}
@@ -63,11 +51,11 @@ use Rattle.strm_world.specs.Producing.{lowered}
 use Rattle.strm_world.proofs.SettleLemmas.{is_done_with}
 use Rattle.strm_host_laws.specs.HostMoments.{Part, HostMoment, host_moments, last_of}
 use Rattle.strm_host_laws.proofs.Chains.{Follows, Chain, moments-chain}
-use Rattle.strm_host_laws.proofs.Closed.{set-keeps}
 use Rattle.strm_host_laws.proofs.HostTurns.{leaves_ended, turned_stream, turned_by, Turned}
 use Rattle.strm_host_laws.proofs.Effects.{opened_by, Driven, Reads, Hosts, forsaken_by, Effect, ByReaction, ByRest, ByHosting, ByDriving, ByReading, ByForsaking, host_made, follows_effect}
-use Rattle.strm_host_laws.proofs.TurnMoves.{Moves, lowered-keeps, moved_on-moves, moves-placed}
-use Rattle.strm_host_laws.proofs.HostsAgree.{StaysOrFree, IsHeld-either, set_either, no_two, one_stream, HostsHold-changed, HostsHold-set, at_push}
+use Rattle.strm_host_laws.proofs.TurnMoves.{Moves, moved_on-moves, moves-placed}
+use Rattle.strm_host_laws.proofs.HostsAgree.{StaysOrFree, IsHeld-either, set_either, no_two, one_stream, HostsHold-changed, HostsHold-set}
+use Rattle.strm_world.proofs.LoweredLemmas.{lowered-keeps}
 
 -- what every such state keeps
 pub record Holds (state : State) : Type 0 where
@@ -82,19 +70,7 @@ Holds-reaction state act h = record {
   hosts = reaction-hosts state act h.sound h.held h.hosts;
 }
 
-IsSound-empty : (tag : ℕ) (limits : Limits) → IsSound (empty tag limits)
-IsSound-empty tag limits = record {
-  named = All-nil (AreNamed []);
-  placed = All-nil (StreamIsPlaced []);
-  small = omega arith;
-  sets = HoldSets-none;
-  contexts = HoldsContexts-none;
-}
-
 -- ## The turn of a host writer
-
-type_same : (a b : Stream) → a.payload ≡ b.payload → a.kind ≡ b.kind → type_of a ≡ type_of b
-type_same a b e f = rw (e, f) refl
 
 free_or : (done : Bool) (owner : Owner) (n : ℕ) → owner ≡ Host n → StaysOrFree owner (cond done Gone owner)
 free_or true owner n e = inr (ap is_held e, refl)
@@ -117,7 +93,7 @@ module _ (old new : State) (s n : ℕ) (read : Operation) (h : Holds old) (o : (
     turned_sound : IsSound (turned_by old s read t.items t.result t.producers)
     turned_sound =
         let placed = moves-placed (sizes_of old.guests) (stream_at old s) after read (length t.items) t.result moves t.few p (placed_at old s stream_made h.sound) in
-        let set = IsSound-stream old s after (type_same after (stream_at old s) moves.payload moves.kind) placed h.sound in
+        let set = IsSound-stream old s after (type_of-same after (stream_at old s) moves.payload moves.kind) placed h.sound in
         let both = IsSound-guests (with_stream_at old s after) (lowered old.guests (stream_at old s).payload read t.items) guests_keep set in
         record { named = both.named; placed = both.placed; small = both.small; sets = both.sets; contexts = both.contexts }
 
@@ -189,22 +165,6 @@ Holds-told state s l h =
     })
 
 -- ## A stream more
-
-IsNamed-more : (types : List TransmitIndex) (p ty : TransmitIndex) (end : TransmitEnd) → IsNamed types ty end → IsNamed (types ++ p ∷ []) ty end
-IsNamed-more types p ty end h = record {
-  there = omega (arith, h.there, length-append types (p ∷ []));
-  typed = get_or_append_left types (p ∷ []) (index.Stream Nothing) end.rep h.there ∙ h.typed;
-  idle = h.idle;
-}
-
-EntryIsNamed-more : (types : List TransmitIndex) (p : TransmitIndex) (o : Option Entry) → EntryIsNamed types o → EntryIsNamed (types ++ p ∷ []) o
-EntryIsNamed-more types p None h = tt
-EntryIsNamed-more types p (Some (entries.Stream end)) h = IsNamed-more types p (index.Stream end.ty) end h
-EntryIsNamed-more types p (Some (entries.Future end)) h = IsNamed-more types p (index.Future end.ty) end h
-EntryIsNamed-more types p (Some _) h = tt
-
-AreNamed-more : (types : List TransmitIndex) (p : TransmitIndex) (handles : Handles) → AreNamed types handles → AreNamed (types ++ p ∷ []) handles
-AreNamed-more types p handles h = All-weaker (EntryIsNamed types) (EntryIsNamed (types ++ p ∷ [])) (EntryIsNamed-more types p) handles.entries h
 
 IsSound-hosted : (state : State) (stream : Stream) (ps : List Producer) → StreamIsPlaced (sizes_of state.guests) stream → IsSound state → IsSound (record state { streams = state.streams ++ stream ∷ []; producers = ps })
 IsSound-hosted state stream ps p h = record {
@@ -395,22 +355,7 @@ Holds-chain world [] c h = h
 Holds-chain world (m ∷ more) c h = Holds-chain m.after more c.1 (Holds-next world m c.0 h)
 
 pub Holds-empty : (tag : ℕ) (limits : Limits) → Holds (empty tag limits)
-Holds-empty tag limits = record {
-  sound = IsSound-empty tag limits;
-  held = record {
-    tables = λ g. IsTable-no_handles;
-    agree = record { named = λ g handle s side is. absurd (none_named handle s side is); held = λ g handle s side is. absurd (none_held side g handle is) };
-  };
-  hosts = HostsHold-empty tag limits;
-}
-  where
-    none_named : (handle s : ℕ) (side : Side) → is_end s side (end_rep_of no_handles handle) ≡ true → ⊥
-    none_named zero s side is = cc
-    none_named (suc i) s side is = cc
-
-    none_held : (side : Side) (g handle : ℕ) → (end_of side no_stream).owner ≡ Held g handle → ⊥
-    none_held Writing g handle is = cc
-    none_held Reading g handle is = cc
+Holds-empty tag limits = record { sound = IsSound-empty tag limits; held = StateIsHeld-empty tag limits; hosts = HostsHold-empty tag limits }
 
 -- after whichever steps of a run from an unused store among whichever host ends
 pub run-holds : (tag : ℕ) (limits : Limits) (old new : Tells) (run : List Step) → Holds (last_of (start tag limits old new) (host_moments (start tag limits old new) run)).state

@@ -1,16 +1,12 @@
 -- What a moment does to one stream that a host writer has, or that its writer has left: nothing, unless it is
 -- that host writer's turn, or the stream is forsaken.
-use Rattle.std.proofs.Common.{◌≡◌, ◌≢◌, ℕ, ◌<◌, List, [], ◌∷◌, ◌++◌, length, set, Option, Some, None, refl, sym, ap, subst, ◌∙◌, inl, inr, arith}
+use Rattle.std.proofs.Common.{◌≡◌, ◌≢◌, ℕ, ◌<◌, List, [], ◌∷◌, ◌++◌, length, set, refl, sym, ap, subst, ◌∙◌, inl, inr, arith}
 use Rattle.std.proofs.lemmas.Bool.{cases_eq}
-use Rattle.std.proofs.lemmas.List.{length-set}
+use Rattle.std.proofs.lemmas.List.{length-append}
 use Rattle.strm_machine.specs.State.{State}
-use Rattle.strm_machine.specs.Making.{made_stream, made_pair, with_stream}
 use Rattle.strm_machine.specs.Sides.{with_operation}
 use Rattle.strm_machine.specs.Endings.{delivered}
-use Rattle.strm_machine.specs.Tests.{named, stream_named}
-use Rattle.strm_machine.specs.Turns.{Turn}
-use Rattle.strm_machine.specs.Reactions.{Reaction, written_back, reaction}
-use Rattle.strm_codes.specs.declared.codes.ReturnCode.{ReturnCode}
+use Rattle.strm_machine.specs.Reactions.{reaction}
 use Rattle.strm_machine.specs.declared.acts.Act.{Act}
 use Rattle.strm_machine.specs.declared.acts.NamedEnd.{NamedEnd}
 use Rattle.strm_machine.specs.declared.streams.Owner.TheVariants.{Host, Gone}
@@ -18,14 +14,12 @@ use Rattle.strm_machine.specs.declared.streams.Operation.{Operation}
 use Rattle.strm_machine.specs.declared.streams.Side.TheVariants.{Reading}
 use Rattle.strm_machine.specs.declared.streams.Stream.{Stream}
 use Rattle.strm_machine.specs.declared.replies.Reply.{Reply}
-use Rattle.strm_machine.proofs.Shapes.{turn_on, Shape, ByTurn, BySetting, ByOwner, ByTable, ByPair, ByGuest, ByPut, ByRest}
-use Rattle.strm_machine.proofs.ShapeLemmas.{reaction-shape}
-use Rattle.std.proofs.lemmas.List.{length-append}
+use Rattle.strm_machine.proofs.StreamSteps.{reaction_streams}
 use Rattle.strm_world.specs.Ends.{Writer, no_writer, fed_writer}
 use Rattle.strm_world.specs.World.{World, stream_in, writer_at, with_stream_in}
 use Rattle.strm_world.specs.Attaching.{forsaken, hosted_stream}
 use Rattle.strm_host_laws.specs.HostMoments.{Part}
-use Rattle.strm_host_laws.proofs.Closed.{set-keeps}
+use Rattle.strm_machine.proofs.TableLemmas.{set-keeps}
 use Rattle.strm_host_laws.proofs.Forms.{opened, called, reacted_to, stream_of, IsTurn, IsRead, IsForsaking, Form, BySame, ByReacting, ByForsaking, ByHosting, ByFeeding, ByTurning, ByReading}
 use Rattle.strm_host_laws.proofs.Goings.{hosted}
 use Rattle.strm_host_laws.proofs.Lives.{Lives, owned_made, owned_once, owned_quiet, drive_can, read_can}
@@ -35,33 +29,11 @@ use Rattle.strm_host_laws.proofs.WrittenBack.{back-writer, back-coming, back-her
 
 -- STREAMS STAY MADE
 
-written_made : (state : State) (s t : ℕ) (x : Turn) (code : Option ReturnCode) → s < length state.streams → s < length (written_back state t x code).state.streams
-written_made state s t x (Some code) l = subst (λ k. s < k) (sym (length-set state.streams t x.stream)) l
-written_made state s t x None l = subst (λ k. s < k) (sym (length-set state.streams t x.stream)) l
-
-set_made : (xs : List Stream) (s t : ℕ) (x : Stream) → s < length xs → s < length (set xs t x)
-set_made xs s t x l = subst (λ k. s < k) (sym (length-set xs t x)) l
-
 push_made : (xs : List Stream) (s : ℕ) (x : Stream) → s < length xs → s < length (xs ++ x ∷ [])
 push_made xs s x l = omega (arith, l, length-append xs (x ∷ []))
 
-shape_made : (state : State) (act : Act) (r : Reaction) (s : ℕ) → s < length state.streams → Shape state act r → s < length r.state.streams
-unfolding with_stream
-shape_made state act r s l (ByTurn side end address count a e o) =
-    let t = turn_on state side end address count in
-    subst (λ (x : Reaction). s < length x.state.streams) (sym e) (written_made state s (stream_named (named state end)) t t.code l)
-shape_made state act r s l (BySetting reply x e o) = subst (λ (y : Reaction). s < length y.state.streams) (sym e) (set_made state.streams s x.stream _ l)
-shape_made state act r s l (ByOwner reply x e o) = subst (λ (y : Reaction). s < length y.state.streams) (sym e) (set_made state.streams s x.stream _ l)
-shape_made state act r s l (ByTable reply x e o) = subst (λ (y : Reaction). s < length y.state.streams) (sym e) l
-shape_made state act r s l (ByPair writer reader ty a e o) =
-    let pair = made_pair state writer reader ty in
-    subst (λ (y : Reaction). s < length y.state.streams) (sym e) (push_made state.streams s (made_stream ty writer pair.write reader pair.read) l)
-shape_made state act r s l (ByGuest size a e o) = subst (λ (y : Reaction). s < length y.state.streams) (sym e) l
-shape_made state act r s l (ByPut reply g address bytes e o) = subst (λ (y : Reaction). s < length y.state.streams) (sym e) l
-shape_made state act r s l (ByRest reply e o) = subst (λ (y : Reaction). s < length y.state.streams) (sym e) l
-
 pub reaction-made : (state : State) (act : Act) (s : ℕ) → Holds state → s < length state.streams → s < length (reaction state act).state.streams
-reaction-made state act s h l = shape_made state act (reaction state act) s l (reaction-shape state act h.sound)
+reaction-made state act s h l = omega (arith, l, (reaction_streams state act h.sound).many)
 
 -- WHAT IS DONE TO ONE STREAM
 

@@ -12,7 +12,7 @@ use Rattle.strm_world.specs.Ends.{Writer, no_writer, closed_writer}
 use Rattle.strm_world.specs.World.{World, stream_in, writer_at, leaves_writer, with_stream_in}
 use Rattle.strm_world.specs.Producing.{lowered}
 use Rattle.strm_world.proofs.SettleLemmas.{is_done_with, moved_on-owner}
-use Rattle.strm_host_laws.proofs.Closed.{set-keeps}
+use Rattle.strm_machine.proofs.TableLemmas.{set-keeps}
 use Rattle.strm_host_laws.proofs.Goings.{with_state, with_stream_in-same}
 use Rattle.strm_host_laws.proofs.Turned.{turned, stream_moved, Turned}
 

@@ -71,7 +71,7 @@ all_fed n (m ∷ more) = fed_in n (writer_at m.before n).spoken m.part m.reply +
 -- in these moments a host writer that was this one first and is that one then used its records in order,
 -- each once, and counted them; it heard exactly what was passed on to it, each behind the records that it
 -- had then; and it stayed of its kind and payload
-pub record GoesOn (n : ℕ) (all : List HostMoment) (first last : Writer) : Type 0 where
+pub record WriterGoesOn (n : ℕ) (all : List HostMoment) (first last : Writer) : Type 0 where
   pub records : first.coming ≡ all_used n all ++ last.coming
   pub spoken : last.spoken ≡ first.spoken + length (all_used n all)
   pub heard : last.heard ≡ option_map (λ xs. xs ++ all_fed n all) first.heard

@@ -14,7 +14,7 @@ ghost use Rattle.strm_world.specs.World.{World, writer_at};
 ghost use Rattle.strm_world.specs.HostPlays.{Ends, Halts, play};
 ghost use Rattle.strm_world.specs.Does.{start};
 ghost use Rattle.strm_host_laws.specs.HostMoments.{host_moments, last_of};
-ghost use Rattle.strm_host_laws.specs.HostLaws.{ClosesExactly, GoesOn, Supplies, DeliversAll};
+ghost use Rattle.strm_host_laws.specs.HostLaws.{ClosesExactly, WriterGoesOn, Supplies, DeliversAll};
 
 /// The moments of a run lead to where its play ends, from whichever world.
 pub fn moments_lead_to_the_end()
@@ -45,7 +45,7 @@ pub fn ends_close_exactly()
 /// whichever world, whatever the steps.
 pub fn writers_are_fed_exactly()
     ensures { (first : World) (run : List Step) (n : ℕ) →
-        GoesOn n (host_moments first run) (writer_at first n)
+        WriterGoesOn n (host_moments first run) (writer_at first n)
         (writer_at (last_of first (host_moments first run)) n) }
 {}
 
