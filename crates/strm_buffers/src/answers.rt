@@ -3,8 +3,8 @@
 //! Source: wasmtime, `futures_and_streams.rs`, `StreamResult` behind a `Poll` of a `Result`. The
 //! record is ours.
 
-ghost use Rattle.std.specs.Prelude.{◌≡◌};
-ghost use Rattle.strm_buffers.specs.Said.{turn_of};
+ghost use Rattle.std.specs.Prelude.{◌≡◌, Some, None, IfSome};
+ghost use Rattle.strm_buffers.specs.Said.{turn_of, IfAnswered, IfNoMemory};
 ghost use Rattle.strm_buffers.specs.HostRules.{is_for_two, writer_breaks, breaks_as_reader};
 
 pub use strm_codes::codes::StreamResult;
@@ -25,6 +25,24 @@ pub enum Turn<T> {
 
 /// What a poll of a host end answers.
 pub type HostTurn = Turn<StreamResult>;
+
+impl Turn<StreamResult> {
+    /// The answer of this turn; none where memory was wanting.
+    pub fn answer(self) -> Option<Answer>
+        ensures answered { IfAnswered self (λ answer. result ≡ Some answer) }
+        ensures no_memory { IfNoMemory self (result ≡ None) }
+        ensures turn { IfSome result (λ answer. self ≡ turn_of answer) }
+    {
+        match self {
+            Turn::Pending => Some(Answer::Pending),
+            Turn::Ready(StreamResult::Completed) => Some(Answer::Completed),
+            Turn::Ready(StreamResult::Cancelled) => Some(Answer::Cancelled),
+            Turn::Ready(StreamResult::Dropped) => Some(Answer::Dropped),
+            Turn::Failed => Some(Answer::Failed),
+            Turn::NoMemory => None,
+        }
+    }
+}
 
 /// The answer that the record of a poll has.
 #[derive(Clone, Copy, Debug, PartialEq, Eq)]

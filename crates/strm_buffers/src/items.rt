@@ -18,7 +18,10 @@ use strm_memory::copies::copy_region;
 use strm_memory::items::{lift_item_into, lower_item_at};
 use strm_memory::payloaded::{Payloaded, put_values};
 
-/// Fewer than 4,294,967,295 values of one payload.
+/// The most items that one list can hold.
+pub const MOST_ITEMS: u32 = 4_294_967_294;
+
+/// At most `MOST_ITEMS` values of one payload.
 #[derive(Drop)]
 pub struct Items {
     payload: Payload,

@@ -2,13 +2,14 @@
 //!
 //! Source: ours.
 
-ghost use Rattle.std.specs.Prelude.{◌≡◌};
+ghost use Rattle.std.specs.Prelude.{◌≡◌, IfOk};
 ghost use Rattle.strm_buffers.specs.HostRules.{breaks_as_writer};
 
 use crate::answers::Answer;
 use crate::items::Items;
 use std::marker::Model;
 use strm_codes::codes::TransmitKind;
+use strm_codes::counts::OutOfMemory;
 
 /// One poll of a host writer.
 #[derive(Drop)]
@@ -31,6 +32,21 @@ impl Model for WriterSaid {
 }
 
 impl WriterSaid {
+    /// A copy. After `OutOfMemory` nothing was kept.
+    pub fn copy(&self) -> Result<WriterSaid, OutOfMemory>
+        ensures { IfOk result (λ said. said ≡ self.now) }
+    {
+        match self.items.copy() {
+            Ok(items) => Ok(WriterSaid {
+                room: self.room,
+                finish: self.finish,
+                items,
+                answer: self.answer,
+            }),
+            Err(error) => Err(error),
+        }
+    }
+
     /// Whether a host writer of this kind broke the rules in this poll.
     pub fn breaks_rules(&self, kind: TransmitKind) -> bool
         ensures { result ≡ breaks_as_writer kind self.now }

@@ -10,15 +10,13 @@ use crate::feeds::Feeds;
 use crate::polls::Poll;
 use std::alloc::Global;
 use strm_buffers::answers::{Answer, HostTurn, Turn};
+use strm_buffers::items::MOST_ITEMS;
 use strm_buffers::said::WriterSaid;
 use strm_buffers::windows::Window;
 use strm_buffers::writers::HostWriter;
 use strm_codes::codes::TransmitKind;
 use strm_codes::counts::OutOfMemory;
 use strm_codes::payloads::Payload;
-
-// As many items as one record can hold.
-const MOST: u32 = 4_294_967_294;
 
 /// A writer that gives the items that it is fed, in order. A feed of no bytes tells that no more will
 /// come; on a stream it is then dropped with its last item. It never holds items and never fails.
@@ -228,8 +226,8 @@ fn most_given(kind: TransmitKind, room: Option<u32>) -> u32
     ensures few { result < 4294967295 }
 {
     match (kind, room) {
-        (TransmitKind::Stream, Some(room)) => room.min(MOST),
-        (TransmitKind::Stream, None) => MOST,
+        (TransmitKind::Stream, Some(room)) => room.min(MOST_ITEMS),
+        (TransmitKind::Stream, None) => MOST_ITEMS,
         (TransmitKind::Future, Some(room)) => room.min(1),
         (TransmitKind::Future, None) => 1,
     }

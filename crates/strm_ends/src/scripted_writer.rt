@@ -136,16 +136,7 @@ impl HostWriter for ScriptedWriter {
     }
 
     fn record_at(&self, index: usize) -> Result<WriterSaid, OutOfMemory> {
-        let said = &self.said[index];
-        match said.items.copy() {
-            Ok(items) => Ok(WriterSaid {
-                room: said.room,
-                finish: said.finish,
-                items,
-                answer: said.answer,
-            }),
-            Err(error) => Err(error),
-        }
+        self.said[index].copy()
     }
 }
 

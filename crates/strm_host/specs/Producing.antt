@@ -1,10 +1,6 @@
 -- What a poll of a producer leaves, and what the producer may tell of it before.
 -- wasmtime, `StreamProducer`; what is told is ours.
-use Rattle.std.specs.Prelude.{◌≡◌, ℕ, Bool, List, ◌++◌, map, length, drop, Option, Some, None}
-use Rattle.strm_codes.specs.declared.codes.StreamResult.{StreamResult}
-use Rattle.strm_buffers.specs.declared.answers.Turn.{Turn}
-use Rattle.strm_buffers.specs.declared.answers.Turn.TheVariants.{NoMemory}
-use Rattle.strm_buffers.specs.Said.{turn_of}
+use Rattle.std.specs.Prelude.{ℕ, Bool, List, ◌++◌, map, length, drop, Option}
 use Rattle.strm_buffers.specs.declared.answers.Answer.{Answer}
 use Rattle.strm_codes.specs.Layout.{scalars_of}
 use Rattle.strm_memory.specs.Items.{byte_items}
@@ -24,11 +20,6 @@ Plan = Option (Option ℕ → Bool → Poll)
 -- the poll that marked these items and left those in its buffer
 abbrev pub polled : {T : Type 0} → (T → Item) → List Item → List T → Answer → Poll
 polled item marked buffered answer = record { items = marked ++ map item buffered; answer = answer }
-
--- the answer that a turn has: none where memory was wanting
-abbrev pub IsAnswer : Turn StreamResult → Option Answer → Type 0
-IsAnswer turn None = turn ≡ NoMemory
-IsAnswer turn (Some answer) = turn ≡ turn_of answer
 
 -- the window after these bytes were written at the front of its unmarked ones, and marked
 abbrev pub with_written : Lent → List ℕ → Lent

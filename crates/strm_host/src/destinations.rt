@@ -15,6 +15,7 @@ use std::alloc::Global;
 use std::marker::PhantomData;
 use std::mem;
 use strm_buffers::buffers::WriteBuffer;
+use strm_buffers::items::MOST_ITEMS;
 use strm_buffers::windows::Window;
 use strm_codes::counts::OutOfMemory;
 use strm_memory::payloaded::Payloaded;
@@ -34,9 +35,6 @@ pub struct Destination<'a, T: Payloaded, B: WriteBuffer<T> + Drop> {
     pub produced: &'a mut Produced<B>,
     pub items: PhantomData<T>,
 }
-
-// The most items of one poll.
-pub(crate) const MOST: usize = 4_294_967_294;
 
 impl<'a, T: Payloaded, B: WriteBuffer<T> + Drop> Destination<'a, T, B> {
     /// The buffer; one without items stands in its place.
@@ -77,7 +75,7 @@ impl<'a, T: Payloaded, B: WriteBuffer<T> + Drop> Destination<'a, T, B> {
         requires few { length self.now.produced.now.window.marked + length (B.items self.now.produced.now.buffer) < 4294967295 }
         ensures { result ≡ 4294967294 - (length self.now.produced.now.window.marked + length (B.items self.now.produced.now.buffer)) }
     {
-        MOST - (self.produced.window.marked() as usize + self.produced.buffer.len())
+        MOST_ITEMS as usize - (self.produced.window.marked() as usize + self.produced.buffer.len())
     }
 
     /// Another one, for as long as this one is lent.

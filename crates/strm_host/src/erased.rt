@@ -156,15 +156,6 @@ impl<P: StreamProducer> HostWriter for Erased<P> {
     }
 
     fn record_at(&self, index: usize) -> Result<WriterSaid, OutOfMemory> {
-        let said = &self.said[index];
-        match said.items.copy() {
-            Ok(items) => Ok(WriterSaid {
-                room: said.room,
-                finish: said.finish,
-                items,
-                answer: said.answer,
-            }),
-            Err(error) => Err(error),
-        }
+        self.said[index].copy()
     }
 }

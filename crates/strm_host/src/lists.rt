@@ -5,11 +5,12 @@
 
 ghost use Rattle.std.specs.Prelude.{◌≡◌, [], drop};
 
-use crate::destinations::{Destination, MOST};
+use crate::destinations::Destination;
 use crate::producers::StreamProducer;
 use std::boxed::BoxedSlice;
 use std::mem;
 use strm_buffers::answers::{HostTurn, StreamResult, Turn};
+use strm_buffers::items::MOST_ITEMS;
 use strm_buffers::vec_buffer::VecBuffer;
 use strm_memory::payloaded::Payloaded;
 
@@ -39,7 +40,7 @@ impl<T: Payloaded> StreamProducer for Vec<T> {
     {
         let Destination { produced, items } = destination;
         let mut destination = Destination { produced, items };
-        if self.len() > MOST {
+        if self.len() > MOST_ITEMS as usize {
             return Turn::Failed;
         }
         let none = Vec::new(*self.allocator());
@@ -76,7 +77,7 @@ impl<T: Payloaded> StreamProducer for BoxedSlice<T> {
         let Destination { produced, items } = destination;
         let none = Vec::new(produced.alloc).into_boxed_slice();
         let mut destination = Destination { produced, items };
-        if self.as_slice().len() > MOST {
+        if self.as_slice().len() > MOST_ITEMS as usize {
             return Turn::Failed;
         }
         destination.set_buffer(VecBuffer::from_vec(mem::replace(self, none).into_vec()));

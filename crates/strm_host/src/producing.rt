@@ -8,14 +8,13 @@ ghost use Rattle.strm_memory.specs.Items.{AreItems};
 ghost use Rattle.strm_buffers.specs.Windows.{room_of};
 ghost use Rattle.strm_buffers.specs.Said.{in_room, past_room};
 ghost use Rattle.strm_buffers.specs.Tells.{Fills, Rises};
-ghost use Rattle.strm_host.specs.Producing.{IsAnswer};
 
 use crate::destinations::{Destination, Produced};
 use crate::producers::StreamProducer;
 use std::alloc::Global;
 use std::marker::PhantomData;
 use std::mem;
-use strm_buffers::answers::{Answer, HostTurn, StreamResult, Turn};
+use strm_buffers::answers::Answer;
 use strm_buffers::buffers::WriteBuffer;
 use strm_buffers::items::Items;
 use strm_buffers::polling::mark_rest;
@@ -126,7 +125,7 @@ fn produce<P: StreamProducer>(
     } = produced;
     let items = gather::<P::Item, P::Buffer>(alloc, &filled, buffer);
     *window = filled;
-    match (answer_of(turn), items) {
+    match (turn.answer(), items) {
         (Some(answer), Ok(items)) => Ok((answer, items)),
         _ => Err(OutOfMemory),
     }
@@ -170,19 +169,5 @@ fn put_behind_marked(window: &Window, items: Items) -> Result<Items, OutOfMemory
     match all.append(&items) {
         Ok(()) => Ok(all),
         Err(error) => Err(error),
-    }
-}
-
-// The answer of a turn; none where memory was wanting.
-fn answer_of(turn: HostTurn) -> Option<Answer>
-    ensures { IsAnswer turn result }
-{
-    match turn {
-        Turn::Pending => Some(Answer::Pending),
-        Turn::Ready(StreamResult::Completed) => Some(Answer::Completed),
-        Turn::Ready(StreamResult::Cancelled) => Some(Answer::Cancelled),
-        Turn::Ready(StreamResult::Dropped) => Some(Answer::Dropped),
-        Turn::Failed => Some(Answer::Failed),
-        Turn::NoMemory => None,
     }
 }

@@ -2,9 +2,8 @@
 //!
 //! Source: wasmtime, `futures_and_streams.rs`, `poll_produce` of a guest's read.
 
-ghost use Rattle.std.specs.Prelude.{◌≡◌, ◌≤◌, [], length, take, Some, None, IfOk, OnErr};
+ghost use Rattle.std.specs.Prelude.{◌≡◌, ◌≤◌, [], length, take, IfOk, OnErr};
 ghost use Rattle.strm_machine.specs.Soundness.{sizes_of, IsPlaced};
-ghost use Rattle.strm_buffers.specs.Said.{IfAnswered, IfNoMemory};
 ghost use Rattle.strm_buffers.specs.Tells.{KeepsWriter};
 ghost use Rattle.strm_world.specs.Producing.{lowered};
 ghost use Rattle.strm_turns.specs.Guests.{seen};
@@ -12,28 +11,13 @@ ghost use Rattle.strm_producing.specs.Polls.{PollsInto, Lowers};
 
 use crate::regions::{lend_region, return_region};
 use std::alloc::Global;
-use strm_buffers::answers::{Answer, HostTurn, StreamResult, Turn};
+use strm_buffers::answers::Answer;
 use strm_buffers::boxes::poll_writer;
 use strm_buffers::writers::HostWriter;
 use strm_codes::counts::OutOfMemory;
 use strm_codes::payloads::Payload;
 use strm_machine::streams::Operation;
 use strm_turns::guests::Guest;
-
-// The answer of a turn; none where memory was wanting.
-fn answer_of(turn: HostTurn) -> Option<Answer>
-    ensures answered { IfAnswered turn (λ answer. result ≡ Some answer) }
-    ensures no_memory { IfNoMemory turn (result ≡ None) }
-{
-    match turn {
-        Turn::Pending => Some(Answer::Pending),
-        Turn::Ready(StreamResult::Completed) => Some(Answer::Completed),
-        Turn::Ready(StreamResult::Cancelled) => Some(Answer::Cancelled),
-        Turn::Ready(StreamResult::Dropped) => Some(Answer::Dropped),
-        Turn::Failed => Some(Answer::Failed),
-        Turn::NoMemory => None,
-    }
-}
 
 /// Polls a host writer once for a read, which receives what there was room for: what it answered, and
 /// how many items those are. The memory is lent, and not copied.
@@ -62,7 +46,7 @@ pub fn poll_into(
     }
     let turn = poll_writer(writer, &mut window, read.asked);
     let marked = return_region(guests, read.guest, window);
-    match answer_of(turn) {
+    match turn.answer() {
         Some(answer) => Ok((answer, marked)),
         None => Err(OutOfMemory),
     }

@@ -21,8 +21,8 @@ returns-in-Some-clause-ok g c =
       room = subst (λ n. HasRoom filled.place n 0) c.return_region-marked.ensures.marked c.return_region-marked.ensures.room;
       back = c.return_region-marked.ensures.guests;
     } in
-    polls_read _ _ _ _ _ _ _ h _ _ c.poll_writer-turn.result c.answer_of.result c.in-Some.answer c.return_region-marked.result
-    (record { answered = c.answer_of.ensures.answered; no_memory = c.answer_of.ensures.no_memory }) c.in-Some.is c.return_region-marked.ensures.marked c.poll_writer-turn.ensures.polls
+    polls_read _ _ _ _ _ _ _ h _ _ c.poll_writer-turn.result c.answer.result c.in-Some.answer c.return_region-marked.result
+    (record { answered = c.answer.ensures.answered; no_memory = c.answer.ensures.no_memory }) c.in-Some.is c.return_region-marked.ensures.marked c.poll_writer-turn.ensures.polls
 
 pub returns-in-None-clause-lowers : goal.returns-in-None-clause-lowers
 returns-in-None-clause-lowers g c =
