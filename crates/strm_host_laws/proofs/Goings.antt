@@ -50,10 +50,6 @@ use Rattle.strm_host_laws.proofs.Owners.{WriterStays, with_operation-stays}
 
 -- CHANGES
 
--- from a world to another
-abbrev pub Relation : Type 1
-Relation = World → World → Type 0
-
 -- another state
 abbrev pub with_state : World → State → World
 with_state w state = record w { state = state }

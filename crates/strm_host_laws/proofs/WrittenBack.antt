@@ -88,9 +88,6 @@ module _ (w : World) (s n : ℕ) (read : Operation) (v : World) (t : Turned w s 
   abbrev now : Stream
   now = stream_moved w s read t.items t.result
 
-  pub turned-streams : v.state.streams ≡ set w.state.streams s now
-  turned-streams = ap (λ (x : World). x.state.streams) t.is ∙ back-streams but s now
-
   pub turned-guests : v.state.guests ≡ lowered w.state.guests (stream_in w s).payload read t.items
   turned-guests = ap (λ (x : World). x.state.guests) t.is ∙ back-guests but s now
 

@@ -236,17 +236,6 @@ module _ (P : Reaction → Type 0) (state : State) (step : Step) (bad : (s : ℕ
 
 -- ## Both ways
 
--- a step that stops a store which is not trapped asks for a bad item
-pub unsettled-bad : (state : State) (step : Step) → state.trapped ≡ false → is_settled (react state step).reply ≡ false → (s : ℕ) × HasBadItem state step s
-unsettled-bad state step t =
-    react-by (λ r. is_settled r.reply ≡ false → (s : ℕ) × HasBadItem state step s) state step
-    (λ s h e. (s, h))
-    (λ r g e. absurd (let wrong : true ≡ false = sym g.settled ∙ e in cc)) t
-
--- and one that asks for a bad item stops it
-pub bad-unsettled : (state : State) (step : Step) (s : ℕ) → state.trapped ≡ false → HasBadItem state step s → is_settled (react state step).reply ≡ false
-bad-unsettled state step s t h = ap (λ (r : Reaction). is_settled r.reply) (bad-traps state step s t h)
-
 -- the reply names the stream
 pub reply-bad : (state : State) (step : Step) (s : ℕ) → state.trapped ≡ false → (react state step).reply ≡ replies.BadItem s → HasBadItem state step s
 reply-bad state step s t =

@@ -3,9 +3,8 @@
 use Rattle.std.proofs.Common.{◌≡◌, ℕ, ◌+◌, ◌<◌, ◌≤◌, true, List, [], ◌∷◌, length, take, drop, Option, Some, None, refl, sym, ap, ◌∙◌, arith}
 use Rattle.std.specs.Prelude.{◌||◌}
 use Rattle.std.specs.Str.{is_utf8}
-use Rattle.std.proofs.lemmas.Bool.{cond_both, not-false}
+use Rattle.std.proofs.lemmas.Bool.{not-false}
 use Rattle.std.proofs.lemmas.List.{length-take}
-use Rattle.strm_codes.specs.declared.refusals.Refusal.{Refusal}
 use Rattle.strm_codes.specs.declared.refusals.Refusal.TheVariants as refusals
 use Rattle.strm_handles.specs.Handles.{handle_limit, entry_at, next_index, inserted}
 use Rattle.strm_handles.specs.Lookups.{end_rep_in, error_context_rep_in}
@@ -18,7 +17,7 @@ use Rattle.strm_machine.specs.Tests.{is_unknown_guest, is_no_handle, are_handles
 use Rattle.strm_machine.specs.WaitableSets.{number_named}
 use Rattle.strm_machine.specs.ErrorContexts.{context_named, context_number, is_unknown_context, is_message_too_long, message_limit, message_named, message_in, is_bad_text, with_context_handle}
 use Rattle.strm_machine.specs.Refusals.{where_, slot_reasons, handle_more_reasons, context_reasons, lower_context_reasons, refusal}
-use Rattle.strm_machine.specs.Reactions.{Reaction, makes, shares, shares_unless, lowers_context, on_context}
+use Rattle.strm_machine.specs.Reactions.{makes, shares, on_context}
 use Rattle.strm_machine.specs.Soundness.{types_of, IsMessage, HoldsContexts}
 use Rattle.strm_machine.specs.Moments.{code_told}
 use Rattle.strm_machine.specs.declared.acts.Making.TheVariants.{Context}
@@ -239,14 +238,3 @@ with_context_handle-sound state number g h fits =
     let x = given state g h fits.there number (raised state.contexts number) in
     let t = share-tables state g h fits.there number fits.known fits.handle.number in
     IsSound-table state x.guest x.handles x.sets x.contexts t.named t.holds t.counts h
-
-pub lowers_context-sound : (state : State) (number g : ℕ) → IsSound state → IsSound (lowers_context state number g).state
-unfolding lowers_context
-lowers_context-sound state number g h =
-    cond_both state.trapped _ _ (λ (r : Reaction). IsSound r.state)
-    (λ t. h)
-    (λ t. by (first_of (lower_context_reasons state number g)) refl)
-  where
-    by : (o : Option Refusal) → first_of (lower_context_reasons state number g) ≡ o → IsSound (shares_unless state number g o).state
-    by (Some r) e = h
-    by None e = with_context_handle-sound state number g h (lower_context_fits state number g e)

@@ -24,7 +24,6 @@ pub mod Shapes
 pub mod MoveLemmas
 pub mod SetStepLemmas
 pub mod ContextStepLemmas
-pub mod PlaceLemmas
 pub mod ShapeLemmas
 pub mod SoundStepLemmas
 pub mod SeenSteps

@@ -5,7 +5,7 @@ use Rattle.std.specs.Option.{option_or}
 use Rattle.strm_codes.specs.declared.refusals.Refusal.{Refusal}
 use Rattle.strm_machine.specs.Words.{State, memory_in, end_named, stream_named, Side, first_of, Reaction, goes, NamedEnd, Act, Make, OnEnd, OnMemory}
 use Rattle.strm_machine.specs.Tests.{side_named}
-use Rattle.strm_machine.specs.Refusals.{Reason, on_end_reasons, on_context_reasons, lower_context_reasons, bytes_reasons, refusal}
+use Rattle.strm_machine.specs.Refusals.{Reason, on_end_reasons, lower_context_reasons, bytes_reasons, refusal}
 use Rattle.strm_machine.specs.Reactions.{makes, on_end, on_loose, tells, on_set, on_context, on_memory, shares, shares_unless, lowers_context, performs, unless_refused, reaction}
 use Rattle.strm_machine.specs.declared.acts.Making.{Making}
 use Rattle.strm_machine.specs.declared.acts.EndAct.{EndAct}
@@ -61,14 +61,6 @@ refusal-on_end state side end act = refl
 pub performs-on_end : (state : State) (side : Side) (end : NamedEnd) (act : EndAct) → performs state (OnEnd side end act) ≡ on_end state side end act
 unfolding performs
 performs-on_end state side end act = refl
-
-pub refusal-on_context : (state : State) (g handle : ℕ) (act : ContextAct) → refusal state (OnContext g handle act) ≡ first_of (on_context_reasons state g handle act)
-unfolding refusal
-refusal-on_context state g handle act = refl
-
-pub performs-on_context : (state : State) (g handle : ℕ) (act : ContextAct) → performs state (OnContext g handle act) ≡ on_context state g handle act
-unfolding performs
-performs-on_context state g handle act = refl
 
 -- the lowering of an error context, which is no step
 pub lowers_context-trapped : (state : State) (number g : ℕ) → state.trapped ≡ true → lowers_context state number g ≡ goes replies.StoreTrapped state

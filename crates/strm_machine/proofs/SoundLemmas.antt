@@ -7,7 +7,7 @@ use Rattle.std.proofs.lemmas.Bool.{cases_lt}
 use Rattle.std.proofs.lemmas.List.{get_or_past, length-map, map-append, get_or_append_left, map-set, get_or_push}
 use Rattle.std.proofs.lemmas.List.Elements.{All-set, All-push, All-weaker, All-get_or, All-nil}
 use Rattle.std.proofs.lemmas.List.Sums.{sum_by-append}
-use Rattle.strm_machine.specs.Words.{Guest, TransmitIndex, Payload, kind_of, payload_of, Handles, removed, no_handles, Entry, Sets, no_sets, State, no_guest, no_stream, guest_in, sets_in, with_handles, with_table, without_handle, end_named, HoldsSets, HoldSets, stream_at, Turn, ReturnCode, end_of, with_end, Gone, End, Writing, Reading, Side, sizes_of, IsPlaced, OperationIsPlaced, StreamIsPlaced, IsSound, Operation, Stream}
+use Rattle.strm_machine.specs.Words.{Guest, TransmitIndex, Payload, kind_of, payload_of, Handles, removed, no_handles, Entry, Sets, no_sets, State, no_guest, no_stream, guest_in, sets_in, with_handles, with_table, without_handle, end_named, HoldsSets, HoldSets, stream_at, Turn, ReturnCode, end_of, with_end, End, Writing, Reading, Side, sizes_of, IsPlaced, OperationIsPlaced, StreamIsPlaced, IsSound, Operation, Stream}
 use Rattle.strm_codes.specs.declared.codes.TransmitIndex.TheVariants as index
 use Rattle.strm_codes.specs.declared.payloads.Payload.TheVariants.{Nothing}
 use Rattle.strm_handles.specs.Handles.{handle_limit, entry_at, next_index, inserted, inserted_in, entries_with}
@@ -19,7 +19,7 @@ use Rattle.strm_handles.specs.declared.entries.TransmitEnd.{TransmitEnd}
 use Rattle.strm_handles.specs.Ends.{read_end, write_end}
 use Rattle.strm_machine.specs.State.{memory_limit}
 use Rattle.strm_events.specs.Reports.{left_pending}
-use Rattle.strm_machine.specs.Endings.{dropped, asked_to_finish}
+use Rattle.strm_machine.specs.Endings.{asked_to_finish}
 use Rattle.strm_machine.specs.Making.{read_entry, write_entry, end_entry, with_read_end, with_ends, writer_index, made_stream, made_pair, with_stream}
 use Rattle.strm_machine.specs.Soundness.{handles_of, type_with, type_of, types_of, is_idle_state, IsNamed, EntryIsNamed, AreNamed, HoldsContexts}
 use Rattle.strm_machine.proofs.TurnLemmas.{GuestsKeep, TurnKeeps}
@@ -281,18 +281,3 @@ IsSound-set state s side e l left h =
 pub left_told : (code : Option ReturnCode) (o : Option Operation) → IsLeft o (left_pending code o)
 left_told None o = Unchanged refl
 left_told (Some code) o = Ended refl
-
-module _ (state : State) (s : ℕ) (side : Side) (g handle : ℕ) where
-  -- an end was dropped, and its handle freed
-  abbrev drop_of : State
-  drop_of = record state {
-    guests = (without_handle state g handle).guests;
-    streams = set state.streams s (dropped side (stream_at state s));
-  }
-
-  pub IsSound-dropped : s < length state.streams → is_ok (end_named state g handle) ≡ true → IsSound state → IsSound drop_of
-  unfolding dropped
-  IsSound-dropped l ok h =
-      let stream = stream_at state s in
-      let e = record (end_of side stream) { owner = Gone } in
-      IsSound-freed (record state { streams = set state.streams s (with_end side stream e) }) g handle ok (IsSound-set state s side e l (Unchanged refl) h)

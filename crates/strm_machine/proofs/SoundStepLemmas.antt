@@ -3,18 +3,16 @@ use Rattle.std.proofs.Common.{◌≡◌, ℕ, arith, List, [], ◌∷◌, ◌++�
 use Rattle.std.specs.Prelude.{replicate, sum}
 use Rattle.std.proofs.lemmas.List.{length-replicate}
 use Rattle.std.proofs.lemmas.List.Sums.{sum-map}
-use Rattle.strm_machine.specs.Words.{Guest, ReturnCode, no_handles, no_sets, put_at, State, memory_in, with_memory, stream_at, Turn, named, stream_named, Reaction, written_back, sizes_of, IsSound, NamedEnd, Act, Make, OnEnd, OnLoose, Side}
+use Rattle.strm_machine.specs.Words.{Guest, ReturnCode, no_handles, no_sets, put_at, State, memory_in, with_memory, stream_at, Turn, named, stream_named, Reaction, written_back, sizes_of, IsSound, NamedEnd, Act, Make, Side}
 use Rattle.strm_machine.specs.State.{bytes_in_use}
 use Rattle.strm_machine.specs.Refusals.{refusal}
-use Rattle.strm_machine.specs.Reactions.{on_end, on_loose, makes, on_set, on_context, reaction}
+use Rattle.strm_machine.specs.Reactions.{makes, on_set, on_context, reaction}
 use Rattle.strm_machine.specs.WaitableSets.{with_set}
 use Rattle.strm_machine.specs.ErrorContexts.{message_in, with_context}
 use Rattle.strm_machine.specs.declared.acts.Making.TheVariants.{Set, Context}
 use Rattle.strm_machine.specs.declared.acts.SetAct.{SetAct}
 use Rattle.strm_machine.specs.declared.acts.ContextAct.{ContextAct}
 use Rattle.strm_machine.specs.declared.acts.Act.TheVariants.{OnSet, OnContext}
-use Rattle.strm_machine.specs.declared.acts.EndAct.{EndAct}
-use Rattle.strm_machine.specs.declared.acts.LooseAct.{LooseAct}
 use Rattle.strm_machine.proofs.BoundLemmas.{length-poked}
 use Rattle.strm_machine.proofs.RefusalLemmas.{GuestFits, BytesFit}
 use Rattle.strm_machine.proofs.SoundLemmas.{IsSound-guest, IsSound-guests, IsSound-turn, IsSound-with_stream, IsSound-table, IsSound-set}
@@ -23,7 +21,7 @@ use Rattle.strm_machine.proofs.TurnLemmas.{GuestsKeep, TurnKeeps, turn-keeps, wi
 use Rattle.strm_machine.proofs.Shapes.{stream_on, begun_on, turn_on, Operates, Shape, ByTurn, BySetting, ByOwner, ByTable, ByPair, ByGuest, ByPut, ByRest}
 use Rattle.strm_machine.proofs.SetStepLemmas.{set_fits, set_new-shape, set-shape}
 use Rattle.strm_machine.proofs.ContextStepLemmas.{context_fits, context_new-shape, context-shape}
-use Rattle.strm_machine.proofs.ShapeLemmas.{on_end-shape, loose-shape, reaction-shape}
+use Rattle.strm_machine.proofs.ShapeLemmas.{reaction-shape}
 
 pub operate-keeps : (state : State) (side : Side) (end : NamedEnd) (address count : ℕ) → Operates state side end address count → TurnKeeps state.guests (stream_on state end) (turn_on state side end address count)
 operate-keeps state side end address count o = turn-keeps side state.guests (stream_on state end) (begun_on end address count) o.streams o.placed
@@ -62,13 +60,6 @@ shape-sound state act r h (ByRest reply e none) = rw e h
 
 pub reaction-sound : (state : State) (act : Act) → IsSound state → IsSound (reaction state act).state
 reaction-sound state act h = shape-sound state act (reaction state act) h (reaction-shape state act h)
-
--- what is done to an end that is named, or to a loose one, where nothing refuses it
-pub on_end-sound : (state : State) (side : Side) (end : NamedEnd) (act : EndAct) → IsSound state → refusal state (OnEnd side end act) ≡ None → IsSound (on_end state side end act).state
-on_end-sound state side end act h e = shape-sound state (OnEnd side end act) (on_end state side end act) h (on_end-shape state side end act h e)
-
-pub on_loose-sound : (state : State) (s : ℕ) (act : LooseAct) → IsSound state → refusal state (OnLoose s act) ≡ None → IsSound (on_loose state s act).state
-on_loose-sound state s act h e = shape-sound state (OnLoose s act) (on_loose state s act) h (loose-shape state s act e)
 
 -- what is done to a set, and a set more
 pub on_set-sound : (state : State) (g set : ℕ) (act : SetAct) → IsSound state → refusal state (OnSet g set act) ≡ None → IsSound (on_set state g set act).state

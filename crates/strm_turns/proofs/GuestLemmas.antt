@@ -5,7 +5,7 @@ use Rattle.std.proofs.lemmas.List.{get_or-map, map-set}
 use Rattle.strm_handles.specs.Handles.{Table}
 use Rattle.strm_machine.specs.State as machine
 use Rattle.strm_sets.specs.Sets.{Sets}
-use Rattle.strm_machine.specs.State.{no_guest, guest_in, memory_in, with_memory, with_handles, with_sets, with_table}
+use Rattle.strm_machine.specs.State.{no_guest, guest_in, memory_in, with_memory, with_handles, with_table}
 use Rattle.strm_turns.specs.Guests.{guest_of, seen}
 use Rattle.strm_turns.specs.declared.guests.Guest.{Guest}
 
@@ -27,11 +27,6 @@ pub seen-with_table : (guests : List Guest) (g : ℕ) (x : Guest) (table : Table
 seen-with_table guests g x table sets l e =
     map-set guest_of guests g (record x { table = table; sets = sets })
     ∙ ap (λ (k : machine.Guest). set (seen guests) g (record k { handles = table.handles; sets = sets })) (sym (guest_in-seen guests g x l e))
-
-pub seen-with_sets : (guests : List Guest) (g : ℕ) (x : Guest) (sets : Sets) → g < length guests → x ≡ get_or guests g x → seen (set guests g (record x { sets = sets })) ≡ with_sets (seen guests) g sets
-seen-with_sets guests g x sets l e =
-    map-set guest_of guests g (record x { sets = sets })
-    ∙ ap (λ (k : machine.Guest). set (seen guests) g (record k { sets = sets })) (sym (guest_in-seen guests g x l e))
 
 -- a guest that became what a function makes of it, as the machine's
 pub seen-made : (guests : List Guest) (g : ℕ) (x y : Guest) (f : machine.Guest → machine.Guest) → g < length guests → x ≡ get_or guests g x → guest_of y ≡ f (guest_of x) → seen (set guests g y) ≡ set (seen guests) g (f (guest_in (seen guests) g))

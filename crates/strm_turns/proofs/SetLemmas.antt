@@ -13,7 +13,7 @@ use Rattle.strm_handles.proofs.HandleLemmas.{live_of-removed}
 use Rattle.strm_sets.specs.Sets.{Sets, members, IsLeastReady, NoneReady}
 use Rattle.strm_sets.proofs.SetLemmas.{among_members}
 use Rattle.strm_machine.specs.State as machine
-use Rattle.strm_machine.specs.State.{no_guest, guest_in, sets_in}
+use Rattle.strm_machine.specs.State.{no_guest, sets_in}
 use Rattle.strm_machine.specs.WaitableSets.{has_some}
 use Rattle.strm_turns.specs.Guests.{sets_among}
 
@@ -38,10 +38,6 @@ sets_after guests g y l h = omega (arith, h, sum_by-set (λ (k : machine.Guest).
 -- one set less of one guest is one less of all
 pub sets_less : (guests : List machine.Guest) (g : ℕ) (y : machine.Guest) → g < length guests → how_many y.sets.there + 1 ≡ how_many (sets_in guests g).there → sets_among (set guests g y) + 1 ≡ sets_among guests
 sets_less guests g y l h = omega (arith, h, sum_by-set (λ (k : machine.Guest). how_many k.sets.there) guests g y no_guest l)
-
--- as many sets of one guest are as many of all
-pub sets_same : (guests : List machine.Guest) (g : ℕ) (y : machine.Guest) → g < length guests → how_many y.sets.there ≡ how_many (sets_in guests g).there → sets_among (set guests g y) ≡ sets_among guests
-sets_same guests g y l h = omega (arith, h, sum_by-set (λ (k : machine.Guest). how_many k.sets.there) guests g y no_guest l)
 
 -- ## Whether a set has a member
 

@@ -1,16 +1,13 @@
 -- A part that goes on with a stream written back, as the code leaves the store and its boxes.
-use Rattle.std.proofs.Common.{◌≡◌, ℕ, Ok, refl, ap, ◌∙◌}
+use Rattle.std.proofs.Common.{◌≡◌, ℕ, Ok, ap, ◌∙◌}
 use Rattle.strm_buffers.specs.Tells.{WriterTells, Tells, told_by, with_told}
 use Rattle.strm_machine.specs.State.{State, stream_at}
 use Rattle.strm_machine.specs.Reactions.{with_stream_at}
-use Rattle.strm_machine.specs.declared.streams.Side.TheVariants.{Reading}
 use Rattle.strm_machine.specs.declared.streams.Stream.{Stream}
 use Rattle.strm_machine.specs.declared.replies.Reply.TheVariants as replies
-use Rattle.strm_world.specs.World.{stream_in, with_stream_in}
-use Rattle.strm_world.specs.Attaching.{forsaken}
 use Rattle.strm_world.specs.Outcomes.{done}
 use Rattle.strm_world.specs.Does.{Does}
-use Rattle.strm_world.proofs.GrowLemmas.{Part, Follows, follows-same, follows-told, follows-then, grows-closed, Does-follows}
+use Rattle.strm_world.proofs.GrowLemmas.{Part, Follows, follows-told, follows-then, grows-closed, Does-follows}
 use Rattle.strm_world.proofs.CloseLemmas.{ended_in}
 use Rattle.strm_world.proofs.SettleLemmas.{with_stream_in-stays, IsLeft, with_stream_in-left}
 use Rattle.strm_world.proofs.TurnLemmas.{WritesBack}
@@ -35,17 +32,3 @@ Does-left old but tells told s n stream w part f back l =
     Does-follows old (ended_in (with_stream_at but s stream) n) tells (with_told told n w) (Ok replies.Done) part
     (follows-then tells told (with_told told n w) f g)
     (λ logs x. back logs (g.begins logs x) ∙ ap done (with_stream_in-left but told logs s n stream w l)) tt
-
--- the host end on the other side of stream s goes
-abbrev pub forsakes_in : ℕ → Part
-forsakes_in s world = done (with_stream_in world s (forsaken Reading (stream_in world s)))
-
--- the stream then
-abbrev pub forsaken_at : State → ℕ → Stream
-forsaken_at state s = forsaken Reading (stream_at state s)
-
--- the host writer on the other side of a read end that is gone
-pub Does-forsaken : (state : State) (tells : Tells) (s n : ℕ) (w : WriterTells) → IsLeft state tells s n (forsaken_at state s) w
-    → Does state (ended_in (with_stream_at state s (forsaken_at state s)) n) tells (with_told tells n w) (Ok replies.Done) (forsakes_in s)
-Does-forsaken state tells s n w l =
-    Does-left state state tells tells s n (forsaken_at state s) w (forsakes_in s) (follows-same tells) (λ logs x. refl) l

@@ -1,5 +1,5 @@
 -- A drive round passes over the streams that no host writer writes, and may be cut in two.
-use Rattle.std.proofs.Common.{◌≡◌, ℕ, zero, suc, ◌+◌, Bool, true, false, cond, List, [], ◌∷◌, ◌++◌, append-nil, length, Option, Some, None, Ok, Err, refl, sym, ap, ◌∙◌, arith}
+use Rattle.std.proofs.Common.{◌≡◌, ℕ, zero, suc, ◌+◌, Bool, true, false, cond, List, [], ◌∷◌, ◌++◌, append-nil, Option, Some, None, Ok, Err, refl, sym, ap, ◌∙◌, arith}
 use Rattle.strm_buffers.specs.Tells.{Tells}
 use Rattle.strm_machine.specs.State.{State, is_host}
 use Rattle.strm_machine.specs.declared.stops.Stop.{Stop}
@@ -13,9 +13,6 @@ use Rattle.strm_world.specs.Outcomes.{Outcome, Goes, Stops, Stuck, done, then_on
 use Rattle.strm_world.specs.Producing.{producer_turn}
 use Rattle.strm_world.specs.Driving.{if_open, driven_by, drive_turn, driven, numbers_from}
 use Rattle.strm_world.specs.Does.{Logs, world_of, Answered, Does}
-use Rattle.strm_machine.specs.declared.acts.Act.TheVariants.{Drive}
-use Rattle.strm_world.specs.Steps.{performs_in, outcome}
-use Rattle.strm_world.proofs.OutcomeLemmas.{outcome-performs, refusal_in-drive}
 use Rattle.strm_world.proofs.DoesLemmas.{Does-then, Does-stop, Does-untold, Does-as}
 
 driven_by-other : (world : World) (s : ℕ) (stream : Stream) (writer : Owner) → is_host writer ≡ false → driven_by world s stream writer ≡ done world
@@ -144,10 +141,3 @@ Does-drives_stop a c x z n m stop d =
     Does-as a c x z (Err stop) (λ w. then_on (drives_first n w) (λ v. driven v (numbers_from n m))) (drives_first (n + m))
     (λ logs. drives_first-more (world_of a x logs) n m)
     (Does-stop a c x z stop (drives_first n) (λ v. driven v (numbers_from n m)) d)
-
--- the whole round
-pub Does-drive : (a c : State) (x z : Tells) (result : Answered) → a.trapped ≡ false → Does a c x z result (drives_first (length a.streams)) → Does a c x z result (λ w. outcome w Drive)
-unfolding performs_in
-Does-drive a c x z result t d =
-    Does-as a c x z result (drives_first (length a.streams)) (λ w. outcome w Drive)
-    (λ logs. outcome-performs (world_of a x logs) Drive t (refusal_in-drive (world_of a x logs))) d
