@@ -223,15 +223,17 @@ module _ (P : Reaction → Type 0) (state : State) (step : Step) (bad : (s : ℕ
       (λ r e. done _ (record { settled = refl; trapped = refl }))
       (λ e.
       performs-by (λ act r. act_of step ≡ act → P r) state
-      (λ making does. done _ (makes-goes state making))
-      (λ side end act does. end-by side end act does e)
-      (λ reader act does. done _ (loose-goes state reader act))
-      (λ host act does. done _ (record { settled = refl; trapped = refl }))
-      (λ does. done _ (record { settled = refl; trapped = refl }))
-      (λ g handle does. done _ (record { settled = refl; trapped = refl }))
-      (λ g set act does. done _ (set-goes state g set act))
-      (λ g handle act does. done _ (context-goes state g handle act))
-      (λ g act does. done _ (memory-goes state g act))
+      (record {
+        made = λ making does. done _ (makes-goes state making);
+        ended = λ side end act does. end-by side end act does e;
+        loosed = λ reader act does. done _ (loose-goes state reader act);
+        hosted = λ host act does. done _ (record { settled = refl; trapped = refl });
+        driven = λ does. done _ (record { settled = refl; trapped = refl });
+        told = λ g handle does. done _ (record { settled = refl; trapped = refl });
+        grouped = λ g set act does. done _ (set-goes state g set act);
+        shared = λ g handle act does. done _ (context-goes state g handle act);
+        moved = λ g act does. done _ (memory-goes state g act);
+      })
       (act_of step) refl)
 
 -- ## Both ways

@@ -78,13 +78,15 @@ reaction-there state act h =
     (λ e. trapped_there state act)
     (λ r e. refused_there state act r)
     (performs-by (λ a r. refusal state a ≡ None → LieThere (as_moment state a r)) state
-    (λ making e. refl)
-    (λ side end act e. refl)
-    (λ reader act e. refl)
-    (λ host act e. refl)
-    (λ e. refl)
-    (λ g handle e. refl)
-    (λ g set act e. refl)
-    (context_there state h)
-    (memory_there state)
+    (record {
+      made = λ making e. refl;
+      ended = λ side end act e. refl;
+      loosed = λ reader act e. refl;
+      hosted = λ host act e. refl;
+      driven = λ e. refl;
+      told = λ g handle e. refl;
+      grouped = λ g set act e. refl;
+      shared = context_there state h;
+      moved = memory_there state;
+    })
     act)

@@ -120,7 +120,7 @@ operates_seen state side end address count s h room o =
         let begins = begins_by side end.ty stream end.guest address count o.kind o.unended in
         subst (λ i. Seen i (as_moment state (operating side end address count) (operates state side end address count))) (sym e)
         (turn_seen_here state side end address count t o.found t.code h
-        (turn_does side state.guests stream mine h.bytes room refl o.placed h.tallies begins o.idle (end_placed (opposite side) (sizes_of state.guests) stream o.streams)))
+        (turn_does side state.guests stream mine (record { bytes = h.bytes; room = room; start = refl; placed = o.placed; tallies = h.tallies; begins = begins; idle = o.idle }) (end_placed (opposite side) (sizes_of state.guests) stream o.streams)))
 
 -- ## A stream set to another
 

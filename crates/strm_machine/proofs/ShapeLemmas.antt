@@ -179,15 +179,17 @@ memory-shape state g (Dump address len) e = ByRest _ refl refl
 performs-shape : (state : State) → IsSound state → (act : Act) → refusal state act ≡ None → Shape state act (performs state act)
 performs-shape state h =
     performs-by (λ act r. refusal state act ≡ None → Shape state act r) state
-    (λ making. make-shape state making h)
-    (λ side end act. on_end-shape state side end act h)
-    (loose-shape state)
-    (λ host act e. ByRest replies.Done refl refl)
-    (λ e. ByRest replies.Done refl refl)
-    (λ g handle. event-shape state g handle h)
-    (λ g set act. set-shape state g set act h)
-    (λ g handle act. context-shape state g handle act h)
-    (memory-shape state)
+    (record {
+      made = λ making. make-shape state making h;
+      ended = λ side end act. on_end-shape state side end act h;
+      loosed = loose-shape state;
+      hosted = λ host act e. ByRest replies.Done refl refl;
+      driven = λ e. ByRest replies.Done refl refl;
+      told = λ g handle. event-shape state g handle h;
+      grouped = λ g set act. set-shape state g set act h;
+      shared = λ g handle act. context-shape state g handle act h;
+      moved = memory-shape state;
+    })
 
 pub reaction-shape : (state : State) (act : Act) → IsSound state → Shape state act (reaction state act)
 reaction-shape state act h =

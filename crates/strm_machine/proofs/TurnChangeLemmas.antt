@@ -160,9 +160,17 @@ record IsPassed (stream : Stream) (theirs : Option Operation) : Type 0 where
   unmoved : IsUnmoved theirs
   one : stream.kind ≡ Future → AreOne theirs
 
-module _ (side : Side) (guests : List Guest) (stream : Stream) (mine : Operation)
-    (bytes : AreBytes guests) (room : stream.received + 2 ^ 28 < 2 ^ 128) (start : mine.moved ≡ 0) (placed : IsPlaced (sizes_of guests) stream.payload mine)
-    (tallies : Tallies stream) (begins : stream.kind ≡ Future → Begins stream mine) (idle : (end_of side stream).operation ≡ None) where
+-- what is known of a call and of its stream before the turn
+pub record BeforeTurn (side : Side) (guests : List Guest) (stream : Stream) (mine : Operation) : Type 0 where
+  pub bytes : AreBytes guests
+  pub room : stream.received + 2 ^ 28 < 2 ^ 128
+  pub start : mine.moved ≡ 0
+  pub placed : IsPlaced (sizes_of guests) stream.payload mine
+  pub tallies : Tallies stream
+  pub begins : stream.kind ≡ Future → Begins stream mine
+  pub idle : (end_of side stream).operation ≡ None
+
+module _ (side : Side) (guests : List Guest) (stream : Stream) (mine : Operation) (before : BeforeTurn side guests stream mine) where
   abbrev found : Option Operation
   found = (end_of (opposite side) stream).operation
 
@@ -186,7 +194,7 @@ module _ (side : Side) (guests : List Guest) (stream : Stream) (mine : Operation
       record {
         change = each_side (λ other. Change other (scene_of side other guests stream mine code turned)) side
             (ByServing mine.guest mine.address mine.left code (record {
-              was = idle;
+              was = before.idle;
               is = t.mine_is;
               takes = taken-mine side mine code;
               report = report-mine side code ∙ told;
@@ -198,8 +206,8 @@ module _ (side : Side) (guests : List Guest) (stream : Stream) (mine : Operation
         whole = none_whole stream.payload guests place.guest place.address new.received stream.received t.count;
         most = omega (arith, t.count);
         apart = apart_by side new (ap is_opened t.mine_is);
-        tallies = Tallies-by side new (none_unmoved (end_of side new).operation t.mine_is) (subst IsUnmoved (sym t.theirs_is) (unmoved_on (opposite side) stream tallies))
-            (λ k. let p = tallies.one (sym t.kind ∙ k) in PassesOne-by side new (none_one (end_of side new).operation t.mine_is) (subst AreOne (sym t.theirs_is) (one_on (opposite side) stream p)) (rw (t.count, t.pass) p.count));
+        tallies = Tallies-by side new (none_unmoved (end_of side new).operation t.mine_is) (subst IsUnmoved (sym t.theirs_is) (unmoved_on (opposite side) stream before.tallies))
+            (λ k. let p = before.tallies.one (sym t.kind ∙ k) in PassesOne-by side new (none_one (end_of side new).operation t.mine_is) (subst AreOne (sym t.theirs_is) (one_on (opposite side) stream p)) (rw (t.count, t.pass) p.count));
       }
 
   -- a call that waits, where the opposite end, as it is then, isn't open
@@ -209,13 +217,13 @@ module _ (side : Side) (guests : List Guest) (stream : Stream) (mine : Operation
       record {
         change = each_side (λ other. Change other (scene_of side other guests stream mine codes.Blocked (answers codes.Blocked guests new))) side
             (ByOpening mine.guest mine.address mine.left mine 0 (record {
-              was = idle;
+              was = before.idle;
               is = t.mine_is;
               takes = taken-mine side mine codes.Blocked;
               unreported = report-mine side codes.Blocked;
               guest = refl;
               place = omega arith;
-              moved = start;
+              moved = before.start;
               left = omega arith;
               payload = t.payload;
               more = omega (arith, t.count);
@@ -225,9 +233,9 @@ module _ (side : Side) (guests : List Guest) (stream : Stream) (mine : Operation
         whole = none_whole stream.payload guests place.guest place.address new.received stream.received t.count;
         most = omega (arith, t.count);
         apart = apart_by (opposite side) new (ap is_opened t.theirs_is ∙ p.closed);
-        tallies = Tallies-by side new (subst IsUnmoved (sym t.mine_is) (λ e. start)) (subst IsUnmoved (sym t.theirs_is) p.unmoved)
+        tallies = Tallies-by side new (subst IsUnmoved (sym t.mine_is) (λ e. before.start)) (subst IsUnmoved (sym t.theirs_is) p.unmoved)
             (λ k. let f : stream.kind ≡ Future = sym t.kind ∙ k in
-            PassesOne-by side new (subst AreOne (sym t.mine_is) (begins f).one) (subst AreOne (sym t.theirs_is) (p.one f)) (rw (t.count, t.pass) (tallies.one f).count));
+            PassesOne-by side new (subst AreOne (sym t.mine_is) (before.begins f).one) (subst AreOne (sym t.theirs_is) (p.one f)) (rw (t.count, t.pass) (before.tallies.one f).count));
       }
 
   -- where the opposite end stays as it is
@@ -236,7 +244,7 @@ module _ (side : Side) (guests : List Guest) (stream : Stream) (mine : Operation
       let new = with_operation side stream mine in
       let t = turned_end side stream (record (end_of side stream) { operation = Some mine }) in
       let place = place_by side stream mine in
-      opens new found t (record { closed = closed; unmoved = unmoved_on (opposite side) stream tallies; one = λ k. one_on (opposite side) stream (tallies.one k) })
+      opens new found t (record { closed = closed; unmoved = unmoved_on (opposite side) stream before.tallies; one = λ k. one_on (opposite side) stream (before.tallies.one k) })
       (still (opposite side) (theirs_seen new) (taken-theirs side mine codes.Blocked) (report-theirs side codes.Blocked) (none_got stream.payload guests place.guest place.address new.received stream.received t.count) t.payload t.count t.theirs_is)
 
   -- where its operation has met, with nothing moved
@@ -267,13 +275,13 @@ module _ (side : Side) (guests : List Guest) (stream : Stream) (mine : Operation
   moved theirs n after h e =
       let read = read_of side mine theirs in
       let write = write_of side mine theirs in
-      let laid : IsPlaced (sizes_of guests) stream.payload read = read_of-placed side (sizes_of guests) stream.payload mine theirs placed h.held in
-      let arrives = carried_arrives guests after stream.payload write read n bytes (there guests stream.payload read laid) (read_fits mine theirs side n h.fit h.fits) laid e in
-      let small : n < 2 ^ 28 = omega (arith, placed.counted) in
-      let more = rose stream.received n room small in
+      let laid : IsPlaced (sizes_of guests) stream.payload read = read_of-placed side (sizes_of guests) stream.payload mine theirs before.placed h.held in
+      let arrives = carried_arrives guests after stream.payload write read n before.bytes (there guests stream.payload read laid) (read_fits mine theirs side n h.fit h.fits) laid e in
+      let small : n < 2 ^ 28 = omega (arith, before.placed.counted) in
+      let more = rose stream.received n before.room small in
       let p = advanced stream.payload theirs n in
       let new = with_operation (opposite side) (with_received stream n) p in
-      let t = turned_moves stream p n side None idle in
+      let t = turned_moves stream p n side None before.idle in
       let code = completed_code stream.kind n in
       let turned = answers code after new in
       let got : got_by side stream mine turned ≡ items_in stream.payload after read.guest read.address n = got_moved stream mine theirs turned n (omega (arith, more, t.count)) side h.is in
@@ -282,7 +290,7 @@ module _ (side : Side) (guests : List Guest) (stream : Stream) (mine : Operation
       record {
         change = each_side (λ other. Change other (scene_of side other guests stream mine code turned)) side
             (ByServing mine.guest mine.address mine.left code (record {
-              was = idle;
+              was = before.idle;
               is = t.mine_is;
               takes = taken-mine side mine code;
               report = report-mine side code ∙ report-completed stream.kind n;
@@ -308,10 +316,10 @@ module _ (side : Side) (guests : List Guest) (stream : Stream) (mine : Operation
         apart = apart_by side new (ap is_opened t.mine_is);
         tallies = Tallies-by side new (none_unmoved (end_of side new).operation t.mine_is) (subst IsUnmoved (sym t.theirs_is) (λ g. cc))
             (λ k. let f : stream.kind ≡ Future = sym t.kind ∙ k in
-            let was = tallies.one f in
+            let was = before.tallies.one f in
             PassesOne-by side new (none_one (end_of side new).operation t.mine_is)
             (subst AreOne (sym t.theirs_is) (IsOne-advanced stream.payload theirs n h.ready (h.one f) (one_at found theirs h.is (one_on (opposite side) stream was))))
-            (rw t.pass (count_passed stream.received n new.received stream.passed stream.kind f (begins f).unpassed was.count (h.one f) (t.count ∙ more))));
+            (rw t.pass (count_passed stream.received n new.received stream.passed stream.kind f (before.begins f).unpassed was.count (h.one f) (t.count ∙ more))));
       }
 
   carries : (theirs : Operation) (n : ℕ) (o : Option (List Guest)) → Moving side guests stream mine theirs n → Carries theirs n o → DoesTurn (moves side guests stream mine theirs n o)
@@ -322,20 +330,20 @@ module _ (side : Side) (guests : List Guest) (stream : Stream) (mine : Operation
   alone : (who : Side) (theirs : Operation) → found ≡ Some theirs → (stream.kind ≡ Future → theirs.left ≡ 1) → (same_side who side ≡ true → mine.left ≡ 0) × (same_side who side ≡ false → theirs.left ≡ 0) → DoesTurn (completes_alone who side guests stream mine theirs)
   alone who theirs is left none =
       cond_both (same_side who side) _ _ DoesTurn
-      (λ e. answered (completed_code stream.kind 0) stream (turned_not side stream None idle) (count_reported-completed stream.kind 0 (λ k. omega (arith, none.0 e, (begins k).left))) (report-completed stream.kind 0))
+      (λ e. answered (completed_code stream.kind 0) stream (turned_not side stream None before.idle) (count_reported-completed stream.kind 0 (λ k. omega (arith, none.0 e, (before.begins k).left))) (report-completed stream.kind 0))
       (λ e. waits_met theirs is (none.1 e) left)
 
   meet : (theirs : Operation) → found ≡ Some theirs → IsPlaced (sizes_of guests) stream.payload theirs → theirs.is_open ≡ true → DoesTurn (rendezvous side guests stream mine theirs)
   meet theirs is held ready =
       let write = write_of side mine theirs in
       let read = read_of side mine theirs in
-      let left : stream.kind ≡ Future → theirs.left ≡ 1 = λ k. (one_at found theirs is (one_on (opposite side) stream (tallies.one k))).ready ready in
+      let left : stream.kind ≡ Future → theirs.left ≡ 1 = λ k. (one_at found theirs is (one_on (opposite side) stream (before.tallies.one k))).ready ready in
       let P : Meeting → Type 0 = λ m. DoesTurn (rendezvous_by m side guests stream mine theirs) in
       cond_both (write.left == 0) _ _ P
       (λ e. alone Writing theirs is left (write_none mine theirs side (eqb-true write.left 0 e)))
       (λ e. cond_both (read.left == 0) _ _ P
       (λ f. alone Reading theirs is left (read_none mine theirs side (eqb-true read.left 0 f)))
-      (λ f. carries theirs (min mine.left theirs.left) _ (record { is = is; held = held; fit = omega arith; fits = omega arith; ready = ready; one = λ k. omega (arith, (begins k).left, left k) }) refl))
+      (λ f. carries theirs (min mine.left theirs.left) _ (record { is = is; held = held; fit = omega arith; fits = omega arith; ready = ready; one = λ k. omega (arith, (before.begins k).left, left k) }) refl))
 
   finds_does : (o : Option Operation) → found ≡ o → OperationIsPlaced (sizes_of guests) stream.payload o → DoesTurn (finds side guests stream mine o)
   finds_does None is held = waits_still (ap is_opened is)
@@ -350,5 +358,5 @@ module _ (side : Side) (guests : List Guest) (stream : Stream) (mine : Operation
   turn_does held =
       let end = record (end_of side stream) { told = true } in
       cond_both (is_gone (end_of (opposite side) stream).owner) _ _ DoesTurn
-      (λ e. answered (codes.Dropped 0) (with_end side stream end) (subst (λ o. IsTurned side stream (with_end side stream end) o found stream.passed stream.received) idle (turned_end side stream end)) (count_reported-dropped stream.kind) refl)
+      (λ e. answered (codes.Dropped 0) (with_end side stream end) (subst (λ o. IsTurned side stream (with_end side stream end) o found stream.passed stream.received) before.idle (turned_end side stream end)) (count_reported-dropped stream.kind) refl)
       (λ e. finds_does found refl held)
