@@ -1,11 +1,11 @@
 -- What a step does, by what is known of the state and of the act.
-use Rattle.std.proofs.Common.{◌≡◌, ℕ, Bool, true, false, cond, List, [], ◌∷◌, ◌++◌, Option, Some, None, refl, ap, ◌∙◌}
+use Rattle.std.proofs.Common.{◌≡◌, ℕ, min, take, drop, arith, Bool, true, false, cond, List, [], ◌∷◌, ◌++◌, Option, Some, None, refl, ap, ◌∙◌}
 use Rattle.std.proofs.lemmas.Bool.{cond_both}
 use Rattle.std.specs.Option.{option_or}
 use Rattle.strm_codes.specs.declared.refusals.Refusal.{Refusal}
-use Rattle.strm_machine.specs.Words.{State, end_named, stream_named, Side, first_of, Reaction, goes, NamedEnd, Act, Make, OnEnd, OnMemory}
+use Rattle.strm_machine.specs.Words.{State, memory_in, end_named, stream_named, Side, first_of, Reaction, goes, NamedEnd, Act, Make, OnEnd, OnMemory}
 use Rattle.strm_machine.specs.Tests.{side_named}
-use Rattle.strm_machine.specs.Refusals.{Reason, on_end_reasons, lower_context_reasons, refusal}
+use Rattle.strm_machine.specs.Refusals.{Reason, on_end_reasons, lower_context_reasons, bytes_reasons, refusal}
 use Rattle.strm_machine.specs.Reactions.{makes, on_end, on_loose, tells, on_set, on_context, on_memory, shares, shares_unless, lowers_context, performs, unless_refused, reaction}
 use Rattle.strm_machine.specs.declared.acts.Making.{Making}
 use Rattle.strm_machine.specs.declared.acts.EndAct.{EndAct}
@@ -15,6 +15,7 @@ use Rattle.strm_machine.specs.declared.acts.SetAct.{SetAct}
 use Rattle.strm_machine.specs.declared.acts.ContextAct.{ContextAct}
 use Rattle.strm_machine.specs.declared.acts.MemoryAct.{MemoryAct}
 use Rattle.strm_machine.specs.declared.acts.Act.TheVariants.{OnLoose, OnHost, Drive, Event, OnSet, OnContext}
+use Rattle.strm_machine.specs.declared.acts.MemoryAct.TheVariants.{Dump}
 use Rattle.strm_machine.specs.declared.replies.Reply.TheVariants as replies
 
 unless_refused-by : (P : Reaction → Type 0) (state : State) (act : Act) (o : Option Refusal) → refusal state act ≡ o → ((r : Refusal) → refusal state act ≡ Some r → P (goes (replies.Refused r) state)) → (refusal state act ≡ None → P (performs state act)) → P (unless_refused state act o)
@@ -102,3 +103,29 @@ performs-by P state w (Event g handle) = w.told g handle
 performs-by P state w (OnSet g set act) = w.grouped g set act
 performs-by P state w (OnContext g handle act) = w.shared g handle act
 performs-by P state w (OnMemory g act) = w.moved g act
+
+least : (len : ℕ) → min (min len 64) 64 ≡ min len 64
+least len = omega arith
+
+refusal-dump : (state : State) (g address len : ℕ) → refusal state (OnMemory g (Dump address (min len 64))) ≡ refusal state (OnMemory g (Dump address len))
+unfolding refusal
+refusal-dump state g address len = ap (λ n. first_of (bytes_reasons state g address n)) (least len)
+
+performs-dump : (state : State) (g address len : ℕ) → performs state (OnMemory g (Dump address (min len 64))) ≡ performs state (OnMemory g (Dump address len))
+unfolding performs
+performs-dump state g address len =
+    ap (λ n. goes (replies.Bytes (take n (drop address (memory_in state.guests g)))) state) (least len)
+
+same_unless : (state : State) (one other : Act) (o : Option Refusal) → performs state one ≡ performs state other → unless_refused state one o ≡ unless_refused state other o
+same_unless state one other None e = e
+same_unless state one other (Some r) e = refl
+
+-- at most 64 bytes are looked at
+pub reaction-dump : (state : State) (g address len : ℕ) → reaction state (OnMemory g (Dump address (min len 64))) ≡ reaction state (OnMemory g (Dump address len))
+unfolding reaction
+reaction-dump state g address len =
+    let one = OnMemory g (Dump address (min len 64)) in
+    let other = OnMemory g (Dump address len) in
+    ap (cond state.trapped (goes replies.StoreTrapped state))
+    (ap (unless_refused state one) (refusal-dump state g address len)
+    ∙ same_unless state one other (refusal state other) (performs-dump state g address len))
