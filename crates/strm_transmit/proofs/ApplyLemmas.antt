@@ -1,9 +1,8 @@
 -- A step is the call that its act names, in which a refusal is a reply.
 use Rattle.std.proofs.Common.{◌≡◌, Result, Ok, Err, refl}
-use Rattle.std.specs.Prelude.{IfOk, IfErr, IsTrue}
+use Rattle.std.specs.Prelude.{IfErr}
 use Rattle.strm_buffers.specs.Tells.{Tells}
 use Rattle.strm_machine.specs.State.{State}
-use Rattle.strm_machine.specs.Plays.{is_settled}
 use Rattle.strm_machine.specs.Reactions.{Reaction}
 use Rattle.strm_machine.specs.declared.acts.Act.{Act}
 use Rattle.strm_machine.specs.declared.replies.Reply.{Reply}
@@ -11,6 +10,7 @@ use Rattle.strm_transmit.specs.Meets.{Meets, refused_too}
 use Rattle.strm_transmit.specs.Hosted.{answered, Leaves, MeetsAlone}
 use Rattle.strm_transmit.specs.declared.errors.StoreError.{StoreError}
 use Rattle.strm_transmit.specs.declared.errors.StoreError.TheVariants.{Refused, HostFailed, HostBroke, BadItem, StoreTrapped, OutOfMemory}
+use Rattle.strm_transmit.proofs.HostStepLemmas.{Settles}
 
 -- it is the same answer to the machine
 pub refused-answered : (result : Result Reply StoreError) → answered (refused_too result) ≡ answered result
@@ -43,7 +43,7 @@ refused-leaves old new tells told act (Err (BadItem stream)) l = l
 refused-leaves old new tells told act (Err StoreTrapped) l = l
 refused-leaves old new tells told act (Err OutOfMemory) l = l
 
-pub refused-settled : (result : Result Reply StoreError) → IfOk result (λ reply. IsTrue (is_settled reply)) → IfOk (refused_too result) (λ reply. IsTrue (is_settled reply))
+pub refused-settled : (result : Result Reply StoreError) → Settles result → Settles (refused_too result)
 refused-settled (Ok reply) s = s
 refused-settled (Err (Refused refusal)) s = refl
 refused-settled (Err (HostFailed end)) s = s

@@ -1,10 +1,9 @@
 -- The store after an error context was made, told, shared or dropped; and the walk of the lowering of
 -- one, which is no step.
-use Rattle.std.proofs.Common.{◌≡◌, ℕ, ◌+◌, ◌<◌, ◌≤◌, true, false, Bool, cond, length, Option, Some, None, Result, Ok, Err, refl, sym, ap, subst, ◌∙◌, arith}
+use Rattle.std.proofs.Common.{◌≡◌, ℕ, ◌+◌, ◌<◌, ◌≤◌, true, false, cond, length, Option, Some, None, Result, Ok, Err, refl, sym, ap, subst, ◌∙◌, arith}
 use Rattle.std.specs.Prelude.{OnOk, OnErr}
-use Rattle.std.proofs.lemmas.List.{length-map}
 use Rattle.strm_codes.specs.declared.refusals.Refusal.{Refusal}
-use Rattle.strm_handles.specs.Counters.{Counter, counted, uncounted}
+use Rattle.strm_handles.specs.Counters.{counted}
 use Rattle.strm_handles.specs.Handles.{Handles}
 use Rattle.strm_contexts.specs.Contexts.{Contexts, count_at, message_at}
 use Rattle.strm_machine.specs.State.{State, sets_in, with_handles}
@@ -16,15 +15,16 @@ use Rattle.strm_machine.specs.declared.acts.Act.TheVariants.{OnContext}
 use Rattle.strm_machine.specs.declared.acts.ContextAct.TheVariants.{Drop}
 use Rattle.strm_machine.specs.declared.replies.Reply.TheVariants as replies
 use Rattle.strm_machine.proofs.SoundLemmas.{sizes_of-with_handles}
+use Rattle.strm_machine.proofs.TurnLemmas.{all_kept}
 use Rattle.strm_machine.proofs.ErrorContextLemmas.{count-live}
 use Rattle.strm_machine.proofs.ContextStepLemmas.{NamesContext, context_names}
-use Rattle.strm_turns.specs.Guests.{guest_of, seen, live_in, sets_among, with_context_in}
+use Rattle.strm_turns.specs.Guests.{seen, live_in, sets_among, with_context_in}
 use Rattle.strm_transmit.specs.Inside.{state_of, IsStore}
-use Rattle.strm_transmit.specs.Meets.{Meets, as_answer, admitted, or_found}
+use Rattle.strm_transmit.specs.Meets.{Meets, admitted, or_found}
 use Rattle.strm_transmit.specs.declared.store.Store.TheInside.{Inside}
 use Rattle.strm_transmit.specs.declared.errors.StoreError.{StoreError}
-use Rattle.strm_transmit.specs.declared.errors.StoreError.TheVariants.{Refused, StoreTrapped}
-use Rattle.strm_transmit.proofs.StoreLemmas.{PutsBytes, same_bytes, same_count, sets-with_table}
+use Rattle.strm_transmit.proofs.StepLemmas.{is_admitted, not_admitted}
+use Rattle.strm_transmit.proofs.StoreLemmas.{PutsBytes, sets-with_table, IsCounted, more_counted, kept_tables, kept_streams, IsStore-counted}
 
 -- all but guests, error contexts and the handles' counter stays
 pub record KeepsRest (old new : Inside) : Type 0 where
@@ -42,52 +42,24 @@ pub record SetsContexts (old new : Inside) (g : ℕ) (handles : Handles) (contex
   pub guests : seen new.guests.items ≡ with_handles (seen old.guests.items) g handles
   pub others : new.contexts ≡ contexts
 
--- the handles' counter agrees with the handles
-pub record IsCounted (new : Inside) : Type 0 where
-  pub limit : new.counter.limit ≡ new.limits.handles
-  pub live : new.counter.live ≡ live_in (seen new.guests.items)
-  pub within : new.counter.live ≤ new.counter.limit
-
 module _ (old new : Inside) (g : ℕ) (handles : Handles) (contexts : Contexts) (k : KeepsRest old new) (h : SetsContexts old new g handles contexts) where
   pub state_of-contexts : state_of new ≡ record (state_of old) { guests = with_handles (seen old.guests.items) g handles; contexts = contexts }
   state_of-contexts = rw (k.tag, k.limits, k.trapped, k.streams, k.producers, h.guests, h.others) refl
 
   pub IsStore-contexts : IsCounted new → IsSound (record (state_of old) { guests = with_handles (seen old.guests.items) g handles; contexts = contexts }) → IsStore old → IsStore new
-  IsStore-contexts c sound i =
-      let sizes = ap sizes_of h.guests ∙ sizes_of-with_handles (seen old.guests.items) g handles in
-      let count = same_count (seen old.guests.items) (seen new.guests.items) sizes in
-      record {
-        sound = subst IsSound (sym state_of-contexts) sound;
-        limit = c.limit;
-        live = c.live;
-        within = c.within;
-        streams = rw (k.live_streams, k.streams) i.streams;
-        served = rw (k.producers, k.streams) i.served;
-        sets = k.live_sets ∙ i.sets ∙ sym (ap sets_among h.guests ∙ sets-with_table (seen old.guests.items) g handles (sets_in (seen old.guests.items) g) refl);
-        bytes = k.bytes ∙ i.bytes ∙ sym (same_bytes (seen old.guests.items) (seen new.guests.items) sizes);
-        few_guests = omega (arith, count, i.few_guests, length-map old.guests.items guest_of, length-map new.guests.items guest_of);
-        few_streams = rw k.streams i.few_streams;
-      }
+  IsStore-contexts counted sound i =
+      let guests = seen old.guests.items in
+      IsStore-counted old new
+      (record {
+        handles = counted;
+        sets = k.live_sets ∙ i.sets ∙ sym (ap sets_among h.guests ∙ sets-with_table guests g handles (sets_in guests g) refl);
+        sizes = ap sizes_of h.guests ∙ sizes_of-with_handles guests g handles;
+        bytes = k.bytes;
+      })
+      (kept_streams old new k.streams k.live_streams k.producers i)
+      (subst IsSound (sym state_of-contexts) sound) i
 
--- a handle more, or one less, and counted
-pub more_counted : (old new : Inside) → new.limits ≡ old.limits → new.counter ≡ counted old.counter → live_in (seen new.guests.items) ≡ live_in (seen old.guests.items) + 1 → old.counter.live < old.counter.limit → IsStore old → IsCounted new
-more_counted old new s c live below i = record {
-  limit = rw (c, s) i.limit;
-  live = omega (arith, ap (λ (k : Counter). k.live) c, i.live, live);
-  within = rw c (omega (arith, below));
-}
-
-pub less_counted : (old new : Inside) → new.limits ≡ old.limits → new.counter ≡ uncounted old.counter → live_in (seen new.guests.items) + 1 ≡ live_in (seen old.guests.items) → IsStore old → IsCounted new
-less_counted old new s c live i = record {
-  limit = rw (c, s) i.limit;
-  live = omega (arith, ap (λ (k : Counter). k.live) c, i.live, live);
-  within = rw c (omega (arith, i.within));
-}
-
--- a handle more is below the limit, and so are the handles of a context before it
-pub fits_below : (s : Inside) → IsStore s → live_in (seen s.guests.items) + 1 ≤ s.limits.handles → s.counter.live < s.counter.limit
-fits_below s i h = omega (arith, h, i.limit, i.live)
-
+-- the handles of a context are below the limit, and its message is short
 pub count_below : (s : Inside) (number : ℕ) → IsStore s → count_at s.contexts number ≤ s.counter.live
 count_below s number i = omega (arith, i.live, count-live (state_of s) number i.sound.contexts)
 
@@ -110,19 +82,10 @@ module _ (old new : Inside) (g number : ℕ) (contexts : Contexts) (k : KeepsRes
 
   same_store : seen new.guests.items ≡ seen old.guests.items → new.contexts ≡ old.contexts → new.counter ≡ old.counter → IsStore old → IsStore new
   same_store e f c i =
-      let count = same_count (seen old.guests.items) (seen new.guests.items) (ap sizes_of e) in
-      record {
-        sound = subst IsSound (sym (same_state e f)) i.sound;
-        limit = rw (c, k.limits) i.limit;
-        live = ap (λ (q : Counter). q.live) c ∙ i.live ∙ sym (ap live_in e);
-        within = rw c i.within;
-        streams = rw (k.live_streams, k.streams) i.streams;
-        served = rw (k.producers, k.streams) i.served;
-        sets = k.live_sets ∙ i.sets ∙ sym (ap sets_among e);
-        bytes = k.bytes ∙ i.bytes ∙ sym (same_bytes (seen old.guests.items) (seen new.guests.items) (ap sizes_of e));
-        few_guests = omega (arith, count, i.few_guests, length-map old.guests.items guest_of, length-map new.guests.items guest_of);
-        few_streams = rw k.streams i.few_streams;
-      }
+      IsStore-counted old new
+      (kept_tables old new (record { limits = k.limits; counter = c; live_sets = k.live_sets; bytes = k.bytes; guests = rw e (all_kept (seen old.guests.items)) }) i)
+      (kept_streams old new k.streams k.live_streams k.producers i)
+      (subst IsSound (sym (same_state e f)) i.sound) i
 
   pub IsStore-gives : {A E : Type 0} (r : Result A E) → Gives r old new g number contexts → old.counter.live < old.counter.limit → IsSound (context_given (state_of old) g number contexts) → IsStore old → IsStore new
   IsStore-gives (Ok v) h below sound i =
@@ -142,42 +105,33 @@ dropped_names state g handle h e = context_names state g handle h e
 
 -- ## What is no step
 
-lowers-trapped : (state : State) (number g : ℕ) → state.trapped ≡ true → lowers_context state number g ≡ goes replies.StoreTrapped state
-unfolding lowers_context
-lowers-trapped state number g t = rw t refl
+module _ (state : State) (number g : ℕ) where
+  -- why the lowering is refused, if it is
+  abbrev lower_refusal : Option Refusal
+  lower_refusal = first_of (lower_context_reasons state number g)
 
-lowers-unless : (state : State) (number g : ℕ) (o : Option Refusal) → state.trapped ≡ false → first_of (lower_context_reasons state number g) ≡ o → lowers_context state number g ≡ shares_unless state number g o
-unfolding lowers_context
-lowers-unless state number g o t e =
-    ap (λ b. cond b (goes replies.StoreTrapped state) (shares_unless state number g (first_of (lower_context_reasons state number g)))) t
-    ∙ ap (shares_unless state number g) e
+  lowers-trapped : state.trapped ≡ true → lowers_context state number g ≡ goes replies.StoreTrapped state
+  unfolding lowers_context
+  lowers-trapped t = rw t refl
 
--- why a lowering was not admitted, as the machine's answer
-pub meets_not_lowered : {V : Type 0} (state : State) (number g : ℕ) (wanted : V) (found : Result V Refusal) (error : StoreError) → found ≡ or_found (first_of (lower_context_reasons state number g)) wanted → Err error ≡ admitted state found → Meets state state (Err error) (lowers_context state number g)
-meets_not_lowered {V = V} state number g wanted found error e a =
-    trapped_or state.trapped refl (a ∙ ap (admitted state) e)
-  where
-    refused : (o : Option Refusal) → state.trapped ≡ false → first_of (lower_context_reasons state number g) ≡ o → Err error ≡ as_answer {T = V} (or_found o wanted) → Meets state state (Err error) (lowers_context state number g)
-    refused None t r k = cc
-    refused (Some q) t r k =
-        let same : Refused q ≡ error = cc in rw (← same) (lowers-unless state number g (Some q) t r, refl)
+  lowers-unless : (o : Option Refusal) → state.trapped ≡ false → lower_refusal ≡ o → lowers_context state number g ≡ shares_unless state number g o
+  unfolding lowers_context
+  lowers-unless o t e =
+      ap (λ b. cond b (goes replies.StoreTrapped state) (shares_unless state number g lower_refusal)) t
+      ∙ ap (shares_unless state number g) e
 
-    trapped_or : (b : Bool) → state.trapped ≡ b → Err error ≡ cond b (Err StoreTrapped) (as_answer {T = V} (or_found (first_of (lower_context_reasons state number g)) wanted)) → Meets state state (Err error) (lowers_context state number g)
-    trapped_or true t k = let same : StoreTrapped ≡ error = cc in rw (← same) (lowers-trapped state number g t, refl)
-    trapped_or false t k = refused (first_of (lower_context_reasons state number g)) t refl k
+  -- why it was not admitted, as the machine's answer
+  pub meets_not_lowered : {V : Type 0} (wanted : V) (found : Result V Refusal) (error : StoreError) → found ≡ or_found lower_refusal wanted → Err error ≡ admitted state found → Meets state state (Err error) (lowers_context state number g)
+  meets_not_lowered wanted found error e a =
+      not_admitted state lower_refusal wanted found (λ x. Meets state state (Err x) (lowers_context state number g)) error e a
+      (λ t. (lowers-trapped t, refl)) (λ q t r. (lowers-unless (Some q) t r, refl))
 
--- a lowering that was admitted: nothing refuses it, and it is a handle more
-pub record IsLowered (state : State) (number g : ℕ) : Type 0 where
-  pub none : first_of (lower_context_reasons state number g) ≡ None
-  pub shared : lowers_context state number g ≡ shares state number g
+  -- a lowering that was admitted: nothing refuses it, and it is a handle more
+  pub record IsLowered : Type 0 where
+    pub none : lower_refusal ≡ None
+    pub shared : lowers_context state number g ≡ shares state number g
 
-pub is_lowered : {V : Type 0} (state : State) (number g : ℕ) (wanted : V) (found : Result V Refusal) (value : V) → found ≡ or_found (first_of (lower_context_reasons state number g)) wanted → Ok value ≡ admitted state found → IsLowered state number g
-is_lowered {V = V} state number g wanted found value e a = trapped_or state.trapped refl (a ∙ ap (admitted state) e)
-  where
-    passed : (o : Option Refusal) → state.trapped ≡ false → first_of (lower_context_reasons state number g) ≡ o → Ok value ≡ as_answer (or_found o wanted) → IsLowered state number g
-    passed None t r k = record { none = r; shared = lowers-unless state number g None t r }
-    passed (Some q) t r k = cc
-
-    trapped_or : (b : Bool) → state.trapped ≡ b → Ok value ≡ cond b (Err StoreTrapped) (as_answer (or_found (first_of (lower_context_reasons state number g)) wanted)) → IsLowered state number g
-    trapped_or true t k = cc
-    trapped_or false t k = passed (first_of (lower_context_reasons state number g)) t refl k
+  pub is_lowered : {V : Type 0} (wanted : V) (found : Result V Refusal) (value : V) → found ≡ or_found lower_refusal wanted → Ok value ≡ admitted state found → IsLowered
+  is_lowered wanted found value e a =
+      let passed = is_admitted state lower_refusal wanted found value e a in
+      record { none = passed.none; shared = lowers-unless None passed.untrapped passed.none }

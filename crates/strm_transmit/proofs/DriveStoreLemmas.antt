@@ -3,7 +3,6 @@
 use Rattle.std.proofs.Common.{◌≡◌, ℕ, ◌+◌, ◌-◌, ◌<◌, ◌≤◌, Bool, true, false, cond, length, Option, Some, None, Result, Ok, Err, refl, sym, ap, subst, ◌∙◌, arith}
 use Rattle.strm_buffers.specs.Tells.{Tells}
 use Rattle.strm_machine.specs.State.{State, producer_at, stream_at, is_host}
-use Rattle.std.specs.Prelude.{IfErr}
 use Rattle.strm_machine.specs.declared.acts.Act.TheVariants.{Drive}
 use Rattle.strm_machine.specs.declared.replies.Reply.{Reply}
 use Rattle.strm_machine.specs.declared.replies.Reply.TheVariants as replies
@@ -26,7 +25,7 @@ use Rattle.strm_transmit.specs.Hosted.{answered, IsStop, MeetsHosted}
 use Rattle.strm_transmit.specs.Inside.{AreServed}
 use Rattle.strm_transmit.specs.Turning.{due_in, IsNextServed}
 use Rattle.strm_transmit.specs.declared.errors.StoreError.{StoreError}
-use Rattle.strm_transmit.proofs.OperateLemmas.{leaves_if, cause_of, stop_is}
+use Rattle.strm_transmit.proofs.OperateLemmas.{Halts, hosted_polled, cause_of, stop_is}
 
 -- ## One stream
 
@@ -45,6 +44,10 @@ number_due n (Some due) = due.0
 abbrev read_due : Operation → Due → Operation
 read_due operation None = operation
 read_due operation (Some due) = due.1
+
+-- what is due of stream s
+abbrev due_on : State → ℕ → Due
+due_on state s = due_in (stream_at state s).writer.owner (stream_at state s).reader.operation
 
 -- what is due of an operation that is open
 record OpenDue (b : Bool) (n m : ℕ) (operation read : Operation) : Type 0 where
@@ -73,7 +76,7 @@ due_by world s n read (Held g h) o e f d = let no : false ≡ true = ap is_due d
 due_by world s n read Loose o e f d = let no : false ≡ true = ap is_due d in cc
 due_by world s n read Gone o e f d = let no : false ≡ true = ap is_due d in cc
 
-pub due-turn : (state : State) (tells : Tells) (s n : ℕ) (read : Operation) → ◌≡◌ {A = Due} (due_in (stream_at state s).writer.owner (stream_at state s).reader.operation) (Some (n, read)) → (logs : Logs) → drive_turn (world_of state tells logs) s ≡ producer_turn (world_of state tells logs) s n read
+pub due-turn : (state : State) (tells : Tells) (s n : ℕ) (read : Operation) → ◌≡◌ {A = Due} (due_on state s) (Some (n, read)) → (logs : Logs) → drive_turn (world_of state tells logs) s ≡ producer_turn (world_of state tells logs) s n read
 due-turn state tells s n read d logs =
     drive_turn-due (world_of state tells logs) s n read
     (due_by (world_of state tells logs) s n read (stream_at state s).writer.owner (stream_at state s).reader.operation refl refl d)
@@ -85,7 +88,7 @@ idle_by world s (Held g h) o e f d = drive_turn-alone world s (ap is_host e)
 idle_by world s Loose o e f d = drive_turn-alone world s (ap is_host e)
 idle_by world s Gone o e f d = drive_turn-alone world s (ap is_host e)
 
-pub idle-turn : (state : State) (tells : Tells) (s : ℕ) → ◌≡◌ {A = Due} (due_in (stream_at state s).writer.owner (stream_at state s).reader.operation) None → Does state state tells tells (Ok replies.Done) (λ w. drive_turn w s)
+pub idle-turn : (state : State) (tells : Tells) (s : ℕ) → ◌≡◌ {A = Due} (due_on state s) None → Does state state tells tells (Ok replies.Done) (λ w. drive_turn w s)
 idle-turn state tells s d =
     Does-untold state state tells (Ok replies.Done) (λ w. drive_turn w s)
     (λ logs. idle_by (world_of state tells logs) s (stream_at state s).writer.owner (stream_at state s).reader.operation refl refl d) tt
@@ -115,28 +118,26 @@ module _ (old now : State) (tells told : Tells) (h : AreServed now.producers now
 pub ends_stop : (error : StoreError) → IsStop error → EndsDone (answered (Err error))
 ends_stop error s = subst EndsDone (sym (stop_is error s)) tt
 
-pub drive_stop : (old new : State) (tells told : Tells) (n total : ℕ) (error : StoreError) → IsStop error → n ≤ total → Does old new tells told (answered (Err error)) (drives_first n) → Does old new tells told (answered (Err error)) (drives_first total)
-drive_stop old new tells told n total error s l d =
-    let sum : n + (total - n) ≡ total = omega (arith, l) in
-    let same = stop_is error s in
-    subst (λ (x : Answered). Does old new tells told x (drives_first total)) (sym same)
-    (subst (λ k. Does old new tells told (Err (cause_of error)) (drives_first k)) sum
-    (Does-drives_stop old new tells told n (total - n) (cause_of error)
-    (subst (λ (x : Answered). Does old new tells told x (drives_first n)) same d)))
-
--- the streams that were made are the round
-pub drive_round : (old new : State) (tells told : Tells) (result : Answered) → Does old new tells told result (drives_first (length old.streams)) → Does old new tells told result (λ w. driven w (round_of w))
-drive_round old new tells told result d =
-    Does-as old new tells told result (drives_first (length old.streams)) (λ w. driven w (round_of w)) (λ logs. refl) d
-
 drive-is : (world : World) → world.state.trapped ≡ false → outcome world Drive ≡ driven world (round_of world)
 unfolding performs_in
 drive-is world t = outcome-performs world Drive t (refusal_in-drive world)
 
-pub hosted_drive : {T : Type 0} (old new : State) (tells told : Tells) (f : T → Reply) (result : Result T StoreError) → old.trapped ≡ false → Does old new tells told (answered (replied f result)) (λ w. driven w (round_of w)) → Fits new told → IfErr result IsStop → IfErr result (λ _. new.trapped ≡ true) → MeetsHosted old new tells told (replied f result) Drive
-hosted_drive old new tells told f result t does fits stop trapped = record {
-  does = Does-as old new tells told (answered (replied f result)) (λ w. driven w (round_of w)) (λ w. outcome w Drive) (λ logs. drive-is (world_of old tells logs) t) does;
-  fits = fits;
-  alone = λ u. let no : true ≡ false = u in cc;
-  err = leaves_if old new tells told Drive f result refl stop trapped;
-}
+module _ (old new : State) (tells told : Tells) where
+  pub drive_stop : (n total : ℕ) (error : StoreError) → IsStop error → n ≤ total → Does old new tells told (answered (Err error)) (drives_first n) → Does old new tells told (answered (Err error)) (drives_first total)
+  drive_stop n total error s l d =
+      let sum : n + (total - n) ≡ total = omega (arith, l) in
+      let same = stop_is error s in
+      subst (λ (x : Answered). Does old new tells told x (drives_first total)) (sym same)
+      (subst (λ k. Does old new tells told (Err (cause_of error)) (drives_first k)) sum
+      (Does-drives_stop old new tells told n (total - n) (cause_of error)
+      (subst (λ (x : Answered). Does old new tells told x (drives_first n)) same d)))
+
+  -- the streams that were made are the round
+  pub drive_round : (result : Answered) → Does old new tells told result (drives_first (length old.streams)) → Does old new tells told result (λ w. driven w (round_of w))
+  drive_round result d =
+      Does-as old new tells told result (drives_first (length old.streams)) (λ w. driven w (round_of w)) (λ logs. refl) d
+
+  pub hosted_drive : {T : Type 0} (f : T → Reply) (result : Result T StoreError) → old.trapped ≡ false → Does old new tells told (answered (replied f result)) (λ w. driven w (round_of w)) → Fits new told → Halts result new → MeetsHosted old new tells told (replied f result) Drive
+  hosted_drive f result t does =
+      hosted_polled old new tells told Drive refl f result
+      (Does-as old new tells told (answered (replied f result)) (λ w. driven w (round_of w)) (λ w. outcome w Drive) (λ logs. drive-is (world_of old tells logs) t) does)

@@ -1,10 +1,9 @@
 -- A call that drops an end: what the machine does without host ends, and then the host writer on the
 -- other side goes.
-use Rattle.std.proofs.Common.{◌≡◌, ℕ, ◌<◌, Bool, true, false, cond, List, length, get_or, set, None, Result, Ok, refl, sym, ap, subst, ◌∙◌}
+use Rattle.std.proofs.Common.{◌≡◌, ℕ, ◌<◌, Bool, true, false, cond, List, length, get_or, set, Ok, refl, sym, ap, subst, ◌∙◌}
 use Rattle.std.proofs.lemmas.List.{length-set, get_or-set_same}
 use Rattle.strm_buffers.specs.Tells.{Tells}
 use Rattle.strm_machine.specs.State.{State, no_stream, stream_at, is_host}
-use Rattle.strm_codes.specs.declared.refusals.Refusal.{Refusal}
 use Rattle.strm_machine.specs.Endings.{dropped}
 use Rattle.strm_machine.specs.Moves.{with_owner, without_handle}
 use Rattle.strm_machine.specs.Tests.{named, stream_named}
@@ -31,13 +30,14 @@ use Rattle.strm_world.specs.Outcomes.{Goes, done, then_on, reacted}
 use Rattle.strm_world.specs.Attaching.{forsaken, forsakes}
 use Rattle.strm_world.specs.Steps.{reacts, drops_in, performs_in, touches}
 use Rattle.strm_world.specs.Does.{Logs, world_of, Fits, Does}
-use Rattle.strm_world.proofs.DoesLemmas.{Does-untold, Does-then, Does-as}
+use Rattle.strm_world.proofs.DoesLemmas.{Does-untold, Does-then}
 use Rattle.strm_world.proofs.ReactedLemmas.{world_of-state}
 use Rattle.strm_transmit.specs.Inside.{AreServed}
 use Rattle.strm_transmit.specs.Hosted.{lone, forsaken_in, MeetsHosted}
 use Rattle.strm_transmit.proofs.StepLemmas.{IsAdmitted, reacts as reacts_to}
+use Rattle.strm_transmit.proofs.ForsakeLemmas.{without_end}
 use Rattle.strm_transmit.proofs.FitsLemmas.{KeepsTypes, Fits-kept, reaction-types}
-use Rattle.strm_transmit.proofs.HostStepLemmas.{RefusedBy, does_admitted}
+use Rattle.strm_transmit.proofs.HostStepLemmas.{MayBeDone, PerformsAs, does_admitted}
 
 -- the write end of a stream of which the end on a side was dropped
 abbrev pub WriterAfter : Side → Stream → Stream → Type 0
@@ -52,44 +52,51 @@ goes_by : (b : Bool) (x y : World) → cond b (Goes replies.Done x) (Goes replie
 goes_by true x y = refl
 goes_by false x y = refl
 
--- a call that dropped the end on a side of stream s, without host ends
-pub record Drops (old mid : State) (tells : Tells) (act : Act) (s : ℕ) (side : Side) : Type 0 where
+-- a state that may be dropped from
+pub record IsReady (old : State) (tells : Tells) : Type 0 where
   pub sound : IsSound old
   pub served : AreServed old.producers old.streams
   pub fits : Fits old tells
-  pub untrapped : old.trapped ≡ false
-  pub refused : RefusedBy old tells act None
+
+-- a call that dropped the end on a side of stream s, without host ends
+pub record Drops (old mid : State) (tells : Tells) (act : Act) (s : ℕ) (side : Side) : Type 0 where
+  pub ready : IsReady old tells
+  pub may : MayBeDone old tells act
   pub reaction : reaction old act ≡ goes replies.Done mid
-  pub performs : (logs : Logs) → performs_in (world_of old tells logs) act ≡ drops_in (world_of old tells logs) s side act
+  pub performs : PerformsAs old tells act (λ w. drops_in w s side act)
   pub writer : WriterAfter side (stream_at old s) (stream_at mid s)
 
 module _ (old mid : State) (tells : Tells) (act : Act) (s : ℕ) (side : Side) (d : Drops old mid tells act s side) where
   types : KeepsTypes old mid
-  types = subst (λ (r : Reaction). KeepsTypes old r.state) d.reaction (reaction-types old act d.sound)
+  types = subst (λ (r : Reaction). KeepsTypes old r.state) d.reaction (reaction-types old act d.ready.sound)
 
   pub dropped-fits : Fits mid tells
-  dropped-fits = Fits-kept old mid tells d.served.made types d.fits
+  dropped-fits = Fits-kept old mid tells d.ready.served.made types d.ready.fits
 
-  reacts-is : (logs : Logs) → reacts (world_of old tells logs) act ≡ Goes replies.Done (world_of mid tells logs)
+  -- the world then
+  abbrev then_in : Logs → World
+  then_in logs = world_of mid tells logs
+
+  reacts-is : (logs : Logs) → reacts (world_of old tells logs) act ≡ Goes replies.Done (then_in logs)
   reacts-is logs =
       ap (reacted (world_of old tells logs)) d.reaction
       ∙ ap (λ w. Goes replies.Done w) (world_of-state old mid tells logs types.producers)
 
   -- the host writer goes after the end, by the stream as it is then
-  drops-side : (x : Side) → x ≡ side → (logs : Logs) → WriterAfter x (stream_at old s) (stream_at mid s)
-      → cond (is_host (end_of (opposite x) (stream_at old s)).owner) (forsakes (Goes replies.Done (world_of mid tells logs)) s x) (Goes replies.Done (world_of mid tells logs)) ≡ Goes replies.Done (forsaken_in (world_of mid tells logs) s)
-  drops-side Writing e logs w =
-      ap (λ b. cond b (forsakes (Goes replies.Done (world_of mid tells logs)) s Writing) (Goes replies.Done (world_of mid tells logs))) (d.served.unpiped s)
-      ∙ ap (λ b. Goes replies.Done (cond b (with_stream_in (world_of mid tells logs) s (forsaken Reading (stream_at mid s))) (world_of mid tells logs))) (sym w)
-  drops-side Reading e logs w =
-      ap (λ o. cond (is_host o) (forsakes (Goes replies.Done (world_of mid tells logs)) s Reading) (Goes replies.Done (world_of mid tells logs))) (sym w)
-      ∙ goes_by (is_host (stream_at mid s).writer.owner) (with_stream_in (world_of mid tells logs) s (forsaken Reading (stream_at mid s))) (world_of mid tells logs)
+  drops-side : (x : Side) → WriterAfter x (stream_at old s) (stream_at mid s) → (logs : Logs)
+      → cond (is_host (end_of (opposite x) (stream_at old s)).owner) (forsakes (Goes replies.Done (then_in logs)) s x) (Goes replies.Done (then_in logs)) ≡ Goes replies.Done (forsaken_in (then_in logs) s)
+  drops-side Writing w logs =
+      ap (λ b. cond b (forsakes (Goes replies.Done (then_in logs)) s Writing) (Goes replies.Done (then_in logs))) (d.ready.served.unpiped s)
+      ∙ ap (λ b. Goes replies.Done (cond b (with_stream_in (then_in logs) s (forsaken Reading (stream_at mid s))) (then_in logs))) (sym w)
+  drops-side Reading w logs =
+      ap (λ o. cond (is_host o) (forsakes (Goes replies.Done (then_in logs)) s Reading) (Goes replies.Done (then_in logs))) (sym w)
+      ∙ goes_by (is_host (stream_at mid s).writer.owner) (with_stream_in (then_in logs) s (forsaken Reading (stream_at mid s))) (then_in logs)
 
-  drops-is : (logs : Logs) → performs_in (world_of old tells logs) act ≡ then_on (reacts (world_of old tells logs) act) (λ v. done (forsaken_in v s))
+  drops-is : PerformsAs old tells act (λ w. then_on (reacts w act) (λ v. done (forsaken_in v s)))
   drops-is logs =
       d.performs logs
       ∙ ap (λ o. cond (is_host (end_of (opposite side) (stream_at old s)).owner) (forsakes o s side) o) (reacts-is logs)
-      ∙ drops-side side refl logs d.writer
+      ∙ drops-side side d.writer logs
       ∙ sym (ap (λ o. then_on o (λ v. done (forsaken_in v s))) (reacts-is logs))
 
   mid-does : Does old mid tells tells (Ok replies.Done) (λ w. reacts w act)
@@ -98,9 +105,8 @@ module _ (old mid : State) (tells : Tells) (act : Act) (s : ℕ) (side : Side) (
   pub drops-hosted : (new : State) (told : Tells) → Does mid new tells told (Ok replies.Done) (λ w. done (forsaken_in w s)) → Fits new told
       → (touches (lone old) act ≡ false → new ≡ mid) → (touches (lone old) act ≡ false → told ≡ tells) → MeetsHosted old new tells told (Ok replies.Done) act
   drops-hosted new told f fits same untold = record {
-    does = does_admitted old new tells told act (Ok replies.Done) d.untrapped d.refused
-        (Does-as old new tells told (Ok replies.Done) (λ w. then_on (reacts w act) (λ v. done (forsaken_in v s))) (λ w. performs_in w act) drops-is
-        (Does-then old mid new tells tells told replies.Done (Ok replies.Done) (λ w. reacts w act) (λ v. done (forsaken_in v s)) mid-does f));
+    does = does_admitted old new tells told act (Ok replies.Done) (λ w. then_on (reacts w act) (λ v. done (forsaken_in v s))) d.may drops-is
+        (Does-then old mid new tells tells told replies.Done (Ok replies.Done) (λ w. reacts w act) (λ v. done (forsaken_in v s)) mid-does f);
     fits = fits;
     alone = λ u. record { meets = d.reaction ∙ ap (goes replies.Done) (sym (same u)); ends = untold u };
     err = tt;
@@ -124,47 +130,40 @@ performs-close : (world : World) (reader : ℕ) → performs_in world (OnLoose r
 unfolding performs_in
 performs-close world reader = refl
 
--- a state that may be dropped from
-pub record IsReady (old : State) (tells : Tells) : Type 0 where
-  pub sound : IsSound old
-  pub served : AreServed old.producers old.streams
-  pub fits : Fits old tells
+-- the end that is named may be dropped, and is one of stream s
+abbrev pub MayDrop : State → Side → NamedEnd → ℕ → Type 0
+MayDrop state side end s = IsAdmitted state (refusal state (OnEnd side end Drop)) (stream_named (named state end)) s
 
--- the end that is named was dropped
-pub drops-end : (old mid : State) (tells : Tells) (side : Side) (end : NamedEnd) (s : ℕ) (found : Result ℕ Refusal) → IsReady old tells → IsAdmitted old (OnEnd side end Drop) (stream_named (named old end)) found s → s < length old.streams → mid ≡ with_stream_at (without_handle old end.guest end.handle) s (with_owner side (stream_at old s) Gone) → Drops old mid tells (OnEnd side end Drop) s side
-unfolding dropped
-drops-end old mid tells side end s found r a l e = record {
-  sound = r.sound;
-  served = r.served;
-  fits = r.fits;
-  untrapped = a.untrapped;
-  refused = λ logs. refused-end (world_of old tells logs) side end Drop ∙ a.none;
-  reaction = reacts_to old (OnEnd side end Drop) (stream_named (named old end)) found s (λ k. drops old k side end) a (performs-on_end old side end Drop) ∙ ap (goes replies.Done) (sym e);
-  performs = λ logs. performs-drop (world_of old tells logs) side end s a.same;
-  writer = subst (λ (m : State). WriterAfter side (stream_at old s) (stream_at m s)) (sym e) (writer_after side old.streams s l);
-}
+module _ (old mid : State) (tells : Tells) where
+  -- the end that is named was dropped
+  pub drops-end : (side : Side) (end : NamedEnd) (s : ℕ) → IsReady old tells → MayDrop old side end s → s < length old.streams → mid ≡ without_end (without_handle old end.guest end.handle) s side → Drops old mid tells (OnEnd side end Drop) s side
+  unfolding dropped
+  drops-end side end s r a l e = record {
+    ready = r;
+    may = record { untrapped = a.untrapped; none = λ logs. refused-end (world_of old tells logs) side end Drop ∙ a.none };
+    reaction = reacts_to old (OnEnd side end Drop) (stream_named (named old end)) s (λ k. drops old k side end) a (performs-on_end old side end Drop) ∙ ap (goes replies.Done) (sym e);
+    performs = λ logs. performs-drop (world_of old tells logs) side end s a.same;
+    writer = subst (λ (m : State). WriterAfter side (stream_at old s) (stream_at m s)) (sym e) (writer_after side old.streams s l);
+  }
 
--- the loose read end of a stream was dropped
-pub drops-loose : (old mid : State) (tells : Tells) (s : ℕ) (found : Result (Unit {0}) Refusal) → IsReady old tells → IsAdmitted old (OnLoose s Close) tt found tt → s < length old.streams → mid ≡ with_stream_at old s (with_owner Reading (stream_at old s) Gone) → Drops old mid tells (OnLoose s Close) s Reading
-unfolding dropped performs
-drops-loose old mid tells s found r a l e = record {
-  sound = r.sound;
-  served = r.served;
-  fits = r.fits;
-  untrapped = a.untrapped;
-  refused = λ logs. refused-loose (world_of old tells logs) s Close ∙ a.none;
-  reaction = reacts_to old (OnLoose s Close) tt found tt (λ _. closes old s) a refl ∙ ap (goes replies.Done) (sym e);
-  performs = λ logs. performs-close (world_of old tells logs) s;
-  writer = subst (λ (m : State). WriterAfter Reading (stream_at old s) (stream_at m s)) (sym e) (writer_after Reading old.streams s l);
-}
+  -- the loose read end of a stream was dropped
+  pub drops-loose : (s : ℕ) → IsReady old tells → IsAdmitted {V = Unit {0}} old (refusal old (OnLoose s Close)) tt tt → s < length old.streams → mid ≡ without_end old s Reading → Drops old mid tells (OnLoose s Close) s Reading
+  unfolding dropped performs
+  drops-loose s r a l e = record {
+    ready = r;
+    may = record { untrapped = a.untrapped; none = λ logs. refused-loose (world_of old tells logs) s Close ∙ a.none };
+    reaction = reacts_to old (OnLoose s Close) tt tt (λ _. closes old s) a refl ∙ ap (goes replies.Done) (sym e);
+    performs = λ logs. performs-close (world_of old tells logs) s;
+    writer = subst (λ (m : State). WriterAfter Reading (stream_at old s) (stream_at m s)) (sym e) (writer_after Reading old.streams s l);
+  }
 
--- where no host end is touched, none has the write end then
-pub drops-end-alone : (old mid : State) (tells : Tells) (side : Side) (end : NamedEnd) (s : ℕ) → Drops old mid tells (OnEnd side end Drop) s side → s ≡ stream_named (named old end) → touches (lone old) (OnEnd side end Drop) ≡ false → is_host (stream_at mid s).writer.owner ≡ false
-drops-end-alone old mid tells Writing end s d e u = d.writer
-drops-end-alone old mid tells Reading end s d e u = ap is_host d.writer ∙ ap (λ k. is_host (stream_at old k).writer.owner) e ∙ u
+  -- where no host end is touched, none has the write end then
+  pub drops-end-alone : (side : Side) (end : NamedEnd) (s : ℕ) → Drops old mid tells (OnEnd side end Drop) s side → s ≡ stream_named (named old end) → touches (lone old) (OnEnd side end Drop) ≡ false → is_host (stream_at mid s).writer.owner ≡ false
+  drops-end-alone Writing end s d e u = d.writer
+  drops-end-alone Reading end s d e u = ap is_host d.writer ∙ ap (λ k. is_host (stream_at old k).writer.owner) e ∙ u
 
-pub drops-loose-alone : (old mid : State) (tells : Tells) (s : ℕ) → Drops old mid tells (OnLoose s Close) s Reading → touches (lone old) (OnLoose s Close) ≡ false → is_host (stream_at mid s).writer.owner ≡ false
-drops-loose-alone old mid tells s d u = ap is_host d.writer ∙ u
+  pub drops-loose-alone : (s : ℕ) → Drops old mid tells (OnLoose s Close) s Reading → touches (lone old) (OnLoose s Close) ≡ false → is_host (stream_at mid s).writer.owner ≡ false
+  drops-loose-alone s d u = ap is_host d.writer ∙ u
 
 -- a stream that is another one now was made
 pub still_made : (old mid : State) (s : ℕ) (stream : Stream) → mid ≡ with_stream_at old s stream → s < length old.streams → s < length mid.streams

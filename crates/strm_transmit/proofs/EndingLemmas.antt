@@ -12,7 +12,7 @@ use Rattle.strm_handles.specs.declared.entries.TransmitLocalState.{TransmitLocal
 use Rattle.strm_handles.specs.declared.entries.TransmitLocalState.TheVariants as states
 use Rattle.strm_handles.specs.declared.errors.HandleError.{HandleError}
 use Rattle.strm_machine.specs.State as machine
-use Rattle.strm_machine.specs.State.{State, no_stream, guest_in, with_handles, stream_at, is_gone, is_live}
+use Rattle.strm_machine.specs.State.{State, guest_in, stream_at}
 use Rattle.strm_machine.specs.Turns.{Turn}
 use Rattle.strm_machine.specs.Tests.{Name, named, named_by, end_named, stream_named, side_named, side_of}
 use Rattle.strm_machine.specs.declared.acts.NamedEnd.{NamedEnd}

@@ -14,6 +14,7 @@ use Rattle.strm_machine.specs.Reactions.{Reaction, written_back, reaction}
 use Rattle.strm_machine.specs.declared.acts.Act.{Act}
 use Rattle.strm_machine.specs.declared.streams.Duty.TheVariants.{Serves}
 use Rattle.strm_machine.specs.declared.streams.End.{End}
+use Rattle.strm_machine.specs.declared.streams.Owner.TheVariants.{Host}
 use Rattle.strm_machine.specs.declared.streams.Side.{Side}
 use Rattle.strm_machine.specs.declared.streams.Side.TheVariants.{Writing, Reading}
 use Rattle.strm_machine.specs.declared.streams.Stream.{Stream}
@@ -22,7 +23,9 @@ use Rattle.strm_machine.proofs.Shapes.{turn_on, Shape, ByTurn, BySetting, ByOwne
 use Rattle.strm_machine.proofs.ShapeLemmas.{reaction-shape}
 use Rattle.strm_machine.proofs.SoundStepLemmas.{operate-keeps}
 use Rattle.strm_world.specs.Does.{Fits}
-use Rattle.strm_transmit.proofs.ServedLemmas.{at_set}
+use Rattle.strm_world.proofs.PollLemmas.{IsServing}
+use Rattle.strm_transmit.specs.Inside.{AreServed}
+use Rattle.strm_transmit.proofs.ServedLemmas.{at_set, serving_kept}
 
 -- two streams have one type
 pub record SameType (before after : Stream) : Type 0 where
@@ -34,8 +37,12 @@ pub record KeepsTypes (old new : State) : Type 0 where
   pub producers : new.producers ≡ old.producers
   pub types : (s : ℕ) → s < length old.streams → SameType (stream_at old s) (stream_at new s)
 
+-- a store's streams that are served were made
+abbrev pub AreMade : State → Type 0
+AreMade state = (n s : ℕ) → (producer_at state n).duty ≡ Serves s → s < length state.streams
+
 -- so do the host ends that the store needs
-pub Fits-kept : (old new : State) (tells : Tells) → ((n s : ℕ) → (producer_at old n).duty ≡ Serves s → s < length old.streams) → KeepsTypes old new → Fits old tells → Fits new tells
+pub Fits-kept : (old new : State) (tells : Tells) → AreMade old → KeepsTypes old new → Fits old tells → Fits new tells
 Fits-kept old new tells made k h n s e =
     let serves : (producer_at old n).duty ≡ Serves s = rw (← k.producers) e in
     let fits = h n s serves in
@@ -117,3 +124,18 @@ Fits-told old new tells n w r h m s e =
       payload = at_set tells.writers n w no_tells m (λ x. x.payload ≡ (stream_at new s).payload) r.there
           (λ i. r.payload ∙ ap (λ k. (told_by tells k).payload) (sym i) ∙ fits.payload ∙ sym same.payload) (λ _. fits.payload ∙ sym same.payload);
     }
+
+-- ## The host writer of a stream
+
+-- host writer n has the write end of stream s, in a store that its host ends fit
+pub record HasWriter (state : State) (tells : Tells) (n s : ℕ) : Type 0 where
+  pub served : AreServed state.producers state.streams
+  pub made : s < length state.streams
+  pub owner : (stream_at state s).writer.owner ≡ Host n
+  pub fits : Fits state tells
+
+-- so it is there, and serves the stream
+pub serving : (state : State) (tells : Tells) (n s : ℕ) → HasWriter state tells n s → IsServing state tells n s
+serving state tells n s h =
+    let duty = h.served.serves n s h.owner in
+    record { there = (h.fits n s duty).there; kept = serving_kept state.producers n s duty; duty = duty }

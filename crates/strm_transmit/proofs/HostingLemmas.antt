@@ -1,11 +1,11 @@
 -- A host writer that gets a stream, and one that is fed.
-use Rattle.std.proofs.Common.{◌≡◌, ℕ, ◌+◌, ◌<◌, Bool, true, false, cond, List, [], ◌∷◌, ◌++◌, length, set, Option, Some, None, Result, Ok, Err, refl, sym, ap, subst, ◌∙◌, arith, length-append}
+use Rattle.std.proofs.Common.{◌≡◌, ℕ, ◌+◌, ◌<◌, Bool, true, false, List, [], ◌∷◌, ◌++◌, length, set, None, Result, Ok, Err, refl, sym, ap, subst, ◌∙◌, arith, length-append}
 use Rattle.std.specs.Prelude.{◌||◌, IfOk, OnOk, OnErr, count_by}
 use Rattle.std.proofs.lemmas.Bool.Decides.{nat_tests}
 use Rattle.strm_codes.specs.declared.refusals.Refusal.{Refusal}
 use Rattle.strm_codes.specs.declared.refusals.Refusal.TheVariants as refusals
 use Rattle.strm_buffers.specs.Tells.{Tells, told_by, with_told, fed}
-use Rattle.strm_machine.specs.State.{State, host_limit, stream_limit, no_stream, no_producer, producer_at}
+use Rattle.strm_machine.specs.State.{State, host_limit, stream_limit, no_stream, no_producer, producer_at, is_live, is_host, idle_end}
 use Rattle.strm_machine.specs.Tests.{are_places_full, are_streams_full}
 use Rattle.strm_machine.specs.Refusals.{Reason, where_, first_of}
 use Rattle.strm_machine.specs.declared.acts.Act.TheVariants.{OnHost}
@@ -20,37 +20,49 @@ use Rattle.strm_world.specs.Attaching.{hosts_new}
 use Rattle.strm_world.specs.HostRefusals.{is_unknown_host, is_used, refusal_in}
 use Rattle.strm_world.specs.Steps.{on_host, performs_in, outcome}
 use Rattle.strm_world.specs.Does.{Logs, world_of, FitsWriter, Fits, Does}
-use Rattle.strm_world.proofs.DoesLemmas.{Does-as}
+use Rattle.strm_world.proofs.DoesLemmas.{Does-untold}
 use Rattle.strm_world.proofs.WorldLemmas.{length-writers_from}
 use Rattle.strm_world.proofs.AttachLemmas.{hosted_by, hosted_in, Does-hosts_new, Does-feed}
-use Rattle.strm_transmit.specs.Meets.{as_answer, admitted, replied, or_found}
+use Rattle.strm_transmit.specs.Meets.{admitted, replied, or_found}
 use Rattle.strm_transmit.specs.Hosted.{MeetsHosted}
 use Rattle.strm_transmit.specs.declared.errors.StoreError.{StoreError}
-use Rattle.strm_transmit.specs.declared.errors.StoreError.TheVariants.{StoreTrapped, OutOfMemory}
-use Rattle.strm_transmit.proofs.ServedLemmas.{at_set, at_push, AreServed-hosted}
-use Rattle.strm_transmit.proofs.FitsLemmas.{Fits-told}
-use Rattle.strm_transmit.proofs.HostStepLemmas.{RefusedBy, does_admitted, AreMade, all_stays}
-use Rattle.strm_world.proofs.DoesLemmas.{Does-untold}
-use Rattle.std.proofs.lemmas.List.{map-append, get_or_append_left}
+use Rattle.strm_transmit.specs.declared.errors.StoreError.TheVariants.{OutOfMemory}
+use Rattle.strm_transmit.proofs.ServedLemmas.{at_set, AreServed-hosted}
+use Rattle.strm_transmit.proofs.FitsLemmas.{AreMade, Fits-told}
+use Rattle.strm_transmit.proofs.StepLemmas.{is_admitted}
+use Rattle.strm_transmit.proofs.HostStepLemmas.{MayBeDone, does_admitted, Does-after, Fits-after, all_stays, unchanged}
+use Rattle.strm_transmit.proofs.StoreLemmas.{live_by, live_weight, kept_tables, IsStore-counted}
+use Rattle.std.proofs.lemmas.List.{map-append}
 use Rattle.std.proofs.lemmas.List.Elements.{All-push, All-weaker}
-use Rattle.std.proofs.lemmas.List.Sums.{sum_by-append}
-use Rattle.strm_codes.specs.declared.codes.TransmitIndex.{TransmitIndex}
-use Rattle.strm_codes.specs.declared.codes.TransmitIndex.TheVariants as index
-use Rattle.strm_codes.specs.declared.payloads.Payload.TheVariants.{Nothing}
-use Rattle.strm_handles.specs.Handles.{Handles}
-use Rattle.strm_handles.specs.declared.entries.Entry.{Entry}
-use Rattle.strm_handles.specs.declared.entries.Entry.TheVariants as entries
-use Rattle.strm_handles.specs.declared.entries.TransmitEnd.{TransmitEnd}
-use Rattle.strm_machine.specs.State.{is_live, is_host, idle_end}
-use Rattle.strm_machine.specs.Soundness.{sizes_of, handles_of, type_of, types_of, IsNamed, EntryIsNamed, AreNamed, OperationIsPlaced, StreamIsPlaced, IsSound}
+use Rattle.std.proofs.lemmas.List.Sums.{sum_by_push}
+use Rattle.strm_machine.specs.Soundness.{sizes_of, handles_of, type_of, types_of, AreNamed, OperationIsPlaced, StreamIsPlaced, IsSound}
 use Rattle.strm_machine.specs.declared.streams.End.{End}
 use Rattle.strm_machine.specs.declared.streams.Owner.TheVariants.{Host, Loose}
 use Rattle.strm_machine.specs.declared.streams.Stream.{Stream}
+use Rattle.strm_machine.proofs.SoundLemmas.{AreNamed-more}
+use Rattle.strm_machine.proofs.TableLemmas.{at_push}
+use Rattle.strm_machine.proofs.TurnLemmas.{all_kept}
 use Rattle.strm_turns.specs.Guests.{seen}
-use Rattle.strm_transmit.specs.Inside.{state_of, IsStore}
+use Rattle.strm_transmit.specs.Inside.{state_of, AreServed, IsStore}
 use Rattle.strm_transmit.specs.declared.store.Store.TheInside.{Inside}
 
 -- ## Refusals
+
+-- why a call on host writer n is refused, of so many that there are
+abbrev pub reasons_of : State → ℕ → ℕ → HostAct → List Reason
+reasons_of state count n New =
+    where_ (is_unknown_host count n) refusals.UnknownHost
+    ∷ where_ (is_used (producer_at state n).duty) refusals.HostUsed
+    ∷ where_ (are_places_full state 3 || are_streams_full state) refusals.Full
+    ∷ []
+reasons_of state count n (Feed bytes) = where_ (is_unknown_host count n) refusals.UnknownHost ∷ []
+
+pub host_refusal-is : (state : State) (tells : Tells) (n : ℕ) (act : HostAct) (logs : Logs) → refusal_in (world_of state tells logs) (OnHost n act) ≡ first_of (reasons_of state (length tells.writers) n act)
+unfolding refusal_in
+host_refusal-is state tells n New logs =
+    ap (λ count. first_of (reasons_of state count n New)) (length-writers_from state.producers tells.writers logs.writers)
+host_refusal-is state tells n (Feed bytes) logs =
+    ap (λ count. first_of (reasons_of state count n (Feed bytes))) (length-writers_from state.producers tells.writers logs.writers)
 
 -- no records
 abbrev pub no_logs : Logs
@@ -58,35 +70,15 @@ no_logs = record { writers = []; readers = [] }
 
 -- what refuses does so whatever records are yet to come
 pub host_refusal-same : (state : State) (tells : Tells) (n : ℕ) (act : HostAct) (logs other : Logs) → refusal_in (world_of state tells logs) (OnHost n act) ≡ refusal_in (world_of state tells other) (OnHost n act)
-unfolding refusal_in
-host_refusal-same state tells n New logs other =
-    ap (λ count. first_of (where_ (is_unknown_host count n) refusals.UnknownHost
-    ∷ where_ (is_used (producer_at state n).duty) refusals.HostUsed
-    ∷ where_ (are_places_full state 3 || are_streams_full state) refusals.Full
-    ∷ []))
-    (length-writers_from state.producers tells.writers logs.writers ∙ sym (length-writers_from state.producers tells.writers other.writers))
-host_refusal-same state tells n (Feed bytes) logs other =
-    ap (λ count. first_of (where_ (is_unknown_host count n) refusals.UnknownHost ∷ []))
-    (length-writers_from state.producers tells.writers logs.writers ∙ sym (length-writers_from state.producers tells.writers other.writers))
+host_refusal-same state tells n act logs other = host_refusal-is state tells n act logs ∙ sym (host_refusal-is state tells n act other)
 
--- by how many host writers there are
-pub host_refusal-new : (state : State) (tells : Tells) (n : ℕ) (logs : Logs) → refusal_in (world_of state tells logs) (OnHost n New) ≡ first_of (where_ (is_unknown_host (length tells.writers) n) refusals.UnknownHost
-    ∷ where_ (is_used (producer_at state n).duty) refusals.HostUsed
-    ∷ where_ (are_places_full state 3 || are_streams_full state) refusals.Full
-    ∷ [])
-unfolding refusal_in
-host_refusal-new state tells n logs =
-    ap (λ count. first_of (where_ (is_unknown_host count n) refusals.UnknownHost
-    ∷ where_ (is_used (producer_at state n).duty) refusals.HostUsed
-    ∷ where_ (are_places_full state 3 || are_streams_full state) refusals.Full
-    ∷ []))
-    (length-writers_from state.producers tells.writers logs.writers)
-
-pub host_refusal-feed : (state : State) (tells : Tells) (n : ℕ) (bytes : List ℕ) (logs : Logs) → refusal_in (world_of state tells logs) (OnHost n (Feed bytes)) ≡ first_of (where_ (is_unknown_host (length tells.writers) n) refusals.UnknownHost ∷ [])
-unfolding refusal_in
-host_refusal-feed state tells n bytes logs =
-    ap (λ count. first_of (where_ (is_unknown_host count n) refusals.UnknownHost ∷ []))
-    (length-writers_from state.producers tells.writers logs.writers)
+-- the call was admitted
+module _ (state : State) (tells : Tells) (n : ℕ) (act : HostAct) (found : Result (Unit {0}) Refusal) where
+  pub host_admitted : ((logs : Logs) → found ≡ or_found (refusal_in (world_of state tells logs) (OnHost n act)) tt) → Ok tt ≡ admitted state found → MayBeDone state tells (OnHost n act)
+  host_admitted e a = record {
+    untrapped = (is_admitted state (refusal_in (world_of state tells no_logs) (OnHost n act)) tt found tt (e no_logs) a).untrapped;
+    none = λ logs. (is_admitted state (refusal_in (world_of state tells logs) (OnHost n act)) tt found tt (e logs) a).none;
+  }
 
 -- a first reason that doesn't hold
 record Passes (b : Bool) (rest : List Reason) : Type 0 where
@@ -115,35 +107,21 @@ pub record HostFits (state : State) (tells : Tells) (n : ℕ) : Type 0 where
   pub unused : (producer_at state n).duty ≡ Unused
   pub streams : length state.streams < stream_limit
 
-pub host_fits : (state : State) (tells : Tells) (n : ℕ) (logs : Logs) → refusal_in (world_of state tells logs) (OnHost n New) ≡ None → HostFits state tells n
-host_fits state tells n logs e =
-    let a = passes (is_unknown_host (length tells.writers) n) refusals.UnknownHost (where_ (is_used (producer_at state n).duty) refusals.HostUsed ∷ where_ (are_places_full state 3 || are_streams_full state) refusals.Full ∷ []) (sym (host_refusal-new state tells n logs) ∙ e) in
-    let b = passes (is_used (producer_at state n).duty) refusals.HostUsed (where_ (are_places_full state 3 || are_streams_full state) refusals.Full ∷ []) a.behind in
-    let c = passes (are_places_full state 3 || are_streams_full state) refusals.Full [] b.behind in
+pub host_fits : (state : State) (tells : Tells) (n : ℕ) → MayBeDone state tells (OnHost n New) → HostFits state tells n
+host_fits state tells n may =
+    let used = is_used (producer_at state n).duty in
+    let full = are_places_full state 3 || are_streams_full state in
+    let behind_full : List Reason = where_ full refusals.Full ∷ [] in
+    let a = passes (is_unknown_host (length tells.writers) n) refusals.UnknownHost (where_ used refusals.HostUsed ∷ behind_full) (sym (host_refusal-is state tells n New no_logs) ∙ may.none no_logs) in
+    let b = passes used refusals.HostUsed behind_full a.behind in
+    let c = passes full refusals.Full [] b.behind in
     let known = known_host (length tells.writers) n a.test in
     record { there = known.0; few = known.1; unused = unused_is (producer_at state n).duty b.test; streams = streams_few state c.test }
 
-pub feed_fits : (state : State) (tells : Tells) (n : ℕ) (bytes : List ℕ) (logs : Logs) → refusal_in (world_of state tells logs) (OnHost n (Feed bytes)) ≡ None → n < length tells.writers
-feed_fits state tells n bytes logs e =
-    let a = passes (is_unknown_host (length tells.writers) n) refusals.UnknownHost [] (sym (host_refusal-feed state tells n bytes logs) ∙ e) in
+pub feed_fits : (state : State) (tells : Tells) (n : ℕ) (bytes : List ℕ) → MayBeDone state tells (OnHost n (Feed bytes)) → n < length tells.writers
+feed_fits state tells n bytes may =
+    let a = passes (is_unknown_host (length tells.writers) n) refusals.UnknownHost [] (sym (host_refusal-is state tells n (Feed bytes) no_logs) ∙ may.none no_logs) in
     (known_host (length tells.writers) n a.test).0
-
--- what was admitted
-pub record IsPassed {V : Type 0} (state : State) (o : Option Refusal) (wanted value : V) : Type 0 where
-  pub untrapped : state.trapped ≡ false
-  pub none : o ≡ None
-  pub same : value ≡ wanted
-
-pub is_passed : {V : Type 0} (state : State) (o : Option Refusal) (wanted : V) (found : Result V Refusal) (value : V) → found ≡ or_found o wanted → Ok value ≡ admitted state found → IsPassed state o wanted value
-is_passed {V = V} state o wanted found value e a = trapped_or state.trapped refl (a ∙ ap (admitted state) e)
-  where
-    passed : (q : Option Refusal) → state.trapped ≡ false → o ≡ q → Ok value ≡ as_answer (or_found q wanted) → IsPassed state o wanted value
-    passed None t r k = record { untrapped = t; none = r; same = cc }
-    passed (Some q) t r k = cc
-
-    trapped_or : (b : Bool) → state.trapped ≡ b → Ok value ≡ cond b (Err StoreTrapped) (as_answer (or_found o wanted)) → IsPassed state o wanted value
-    trapped_or true t k = cc
-    trapped_or false t k = passed o t refl k
 
 -- ## A stream more
 
@@ -178,68 +156,58 @@ hosted-fits old tells n made h kept fits m s e =
         at_set old.producers n (record no_producer { duty = Serves (length old.streams) }) no_producer m (λ p. p.duty ≡ Serves s → (producer_at old m).duty ≡ Serves s) kept
         (λ f g. absurd (other (serves_last s g))) (λ f g. g) e
 
-pub hosted_new : (old new : State) (tells : Tells) (n s : ℕ) → AreMade old → length old.producers ≡ host_limit → old.trapped ≡ false → RefusedBy old tells (OnHost n New) None → HostFits old tells n → Fits old tells → s ≡ length old.streams → new ≡ hosted_in old tells n → MeetsHosted old new tells tells (Ok (replies.Number s)) (OnHost n New)
-hosted_new old new tells n s made all t r h fits number is =
-    let does = does_admitted old (hosted_in old tells n) tells tells (OnHost n New) (Ok (replies.Number (length old.streams))) t r
-    (Does-as old (hosted_in old tells n) tells tells (Ok (replies.Number (length old.streams))) (λ w. hosts_new w n) (λ w. performs_in w (OnHost n New)) (λ logs. performs-new (world_of old tells logs) n) (Does-hosts_new old tells n h.there h.unused)) in
-    record {
-      does = subst (λ (x : State). Does old x tells tells (Ok (replies.Number s)) (λ w. outcome w (OnHost n New))) (sym is)
-          (subst (λ k. Does old (hosted_in old tells n) tells tells (Ok (replies.Number k)) (λ w. outcome w (OnHost n New))) (sym number) does);
-      fits = subst (λ (x : State). Fits x tells) (sym is) (hosted-fits old tells n made h (omega (arith, all, h.few)) fits);
-      alone = λ u. cc u;
-      err = tt;
-    }
-
 -- want of memory that changed nothing
 pub hosted_wanting : (old new : State) (tells told : Tells) (n : ℕ) (act : HostAct) → Fits old tells → new ≡ old → told ≡ tells → MeetsHosted old new tells told (Err OutOfMemory) (OnHost n act)
 hosted_wanting old new tells told n act fits same untold =
     subst (λ (x : State). MeetsHosted old x tells told (Err OutOfMemory) (OnHost n act)) (sym same)
-    (subst (λ (x : Tells). MeetsHosted old old tells x (Err OutOfMemory) (OnHost n act)) (sym untold) (record {
-      does = Does-untold old old tells (Err None) (λ w. outcome w (OnHost n act)) (λ logs. tt) tt;
-      fits = fits;
-      alone = λ u. cc u;
-      err = all_stays old tells;
-    }))
+    (subst (λ (x : Tells). MeetsHosted old old tells x (Err OutOfMemory) (OnHost n act)) (sym untold)
+    (unchanged old tells (OnHost n act) OutOfMemory (all_stays old tells)
+    (Does-untold old old tells (Err None) (λ w. outcome w (OnHost n act)) (λ logs. tt) tt) fits (λ u. cc u)))
 
--- by what the making of the stream answered
-pub hosted_made : (old new : State) (tells : Tells) (n : ℕ) (result : Result ℕ StoreError) → AreMade old → length old.producers ≡ host_limit → old.trapped ≡ false → RefusedBy old tells (OnHost n New) None → HostFits old tells n → Fits old tells
-    → IfOk result (λ s. s ≡ length old.streams) → OnOk result (new ≡ hosted_in old tells n) → OnErr result (result ≡ Err OutOfMemory) → OnErr result (new ≡ old) → MeetsHosted old new tells tells (replied replies.Number result) (OnHost n New)
-hosted_made old new tells n (Ok s) made all t r h fits number is memory same = hosted_new old new tells n s made all t r h fits number is
-hosted_made old new tells n (Err error) made all t r h fits number is memory same =
-    subst (λ (x : Result ℕ StoreError). MeetsHosted old new tells tells (replied replies.Number x) (OnHost n New)) (sym memory)
-    (hosted_wanting old new tells tells n New fits same refl)
+-- a stream may be made for host writer n, in a store that its host ends fit
+pub record MayHost (old : State) (tells : Tells) (n : ℕ) : Type 0 where
+  pub served : AreServed old.producers old.streams
+  pub may : MayBeDone old tells (OnHost n New)
+  pub fits : Fits old tells
+
+module _ (old new : State) (tells : Tells) (n : ℕ) (h : MayHost old tells n) where
+  hosted_new : (s : ℕ) → s ≡ length old.streams → new ≡ hosted_in old tells n → MeetsHosted old new tells tells (Ok (replies.Number s)) (OnHost n New)
+  hosted_new s number is =
+      let writer = host_fits old tells n h.may in
+      let does = does_admitted old (hosted_in old tells n) tells tells (OnHost n New) (Ok (replies.Number (length old.streams))) (λ w. hosts_new w n) h.may
+      (λ logs. performs-new (world_of old tells logs) n) (Does-hosts_new old tells n writer.there writer.unused) in
+      record {
+        does = Does-after is refl (subst (λ k. Does old (hosted_in old tells n) tells tells (Ok (replies.Number k)) (λ w. outcome w (OnHost n New))) (sym number) does);
+        fits = Fits-after (hosted_in old tells n) new tells tells is refl (hosted-fits old tells n h.served.made writer (omega (arith, h.served.all, writer.few)) h.fits);
+        alone = λ u. cc u;
+        err = tt;
+      }
+
+  -- by what the making of the stream answered
+  pub hosted_made : (result : Result ℕ StoreError) → IfOk result (λ s. s ≡ length old.streams) → OnOk result (new ≡ hosted_in old tells n) → OnErr result (result ≡ Err OutOfMemory) → OnErr result (new ≡ old) → MeetsHosted old new tells tells (replied replies.Number result) (OnHost n New)
+  hosted_made (Ok s) number is memory same = hosted_new s number is
+  hosted_made (Err error) number is memory same =
+      subst (λ (x : Result ℕ StoreError). MeetsHosted old new tells tells (replied replies.Number x) (OnHost n New)) (sym memory)
+      (hosted_wanting old new tells tells n New h.fits same refl)
 
 -- ## Bytes from outside
 
-pub hosted_feed : (state : State) (tells told : Tells) (n : ℕ) (bytes : List ℕ) → state.trapped ≡ false → RefusedBy state tells (OnHost n (Feed bytes)) None → n < length tells.writers → Fits state tells → told ≡ with_told tells n (fed (told_by tells n) bytes) → MeetsHosted state state tells told (Ok replies.Done) (OnHost n (Feed bytes))
-hosted_feed state tells told n bytes t r there fits is =
+pub hosted_feed : (state : State) (tells told : Tells) (n : ℕ) (bytes : List ℕ) → MayBeDone state tells (OnHost n (Feed bytes)) → Fits state tells → told ≡ with_told tells n (fed (told_by tells n) bytes) → MeetsHosted state state tells told (Ok replies.Done) (OnHost n (Feed bytes))
+hosted_feed state tells told n bytes may fits is =
+    let there = feed_fits state tells n bytes may in
     let after = with_told tells n (fed (told_by tells n) bytes) in
-    subst (λ (x : Tells). MeetsHosted state state tells x (Ok replies.Done) (OnHost n (Feed bytes))) (sym is) (record {
-      does = does_admitted state state tells after (OnHost n (Feed bytes)) (Ok replies.Done) t r
-          (Does-as state state tells after (Ok replies.Done) (λ w. on_host w n (Feed bytes)) (λ w. performs_in w (OnHost n (Feed bytes))) (λ logs. performs-feed (world_of state tells logs) n bytes) (Does-feed state tells n bytes there));
-      fits = Fits-told state state tells n (fed (told_by tells n) bytes)
-          (record { there = there; kind = refl; payload = refl; duties = λ m s e. e; types = λ s. record { kind = refl; payload = refl } }) fits;
+    record {
+      does = Does-after refl is
+          (does_admitted state state tells after (OnHost n (Feed bytes)) (Ok replies.Done) (λ w. on_host w n (Feed bytes)) may
+          (λ logs. performs-feed (world_of state tells logs) n bytes) (Does-feed state tells n bytes there));
+      fits = Fits-after state state after told refl is
+          (Fits-told state state tells n (fed (told_by tells n) bytes)
+          (record { there = there; kind = refl; payload = refl; duties = λ m s e. e; types = λ s. record { kind = refl; payload = refl } }) fits);
       alone = λ u. cc u;
       err = tt;
-    })
+    }
 
 -- ## The store with a stream of a host writer more
-
-IsNamed-more : (types : List TransmitIndex) (p ty : TransmitIndex) (end : TransmitEnd) → IsNamed types ty end → IsNamed (types ++ p ∷ []) ty end
-IsNamed-more types p ty end h = record {
-  there = omega (arith, h.there, length-append types (p ∷ []));
-  typed = get_or_append_left types (p ∷ []) (index.Stream Nothing) end.rep h.there ∙ h.typed;
-  idle = h.idle;
-}
-
-EntryIsNamed-more : (types : List TransmitIndex) (p : TransmitIndex) (o : Option Entry) → EntryIsNamed types o → EntryIsNamed (types ++ p ∷ []) o
-EntryIsNamed-more types p None h = tt
-EntryIsNamed-more types p (Some (entries.Stream end)) h = IsNamed-more types p (index.Stream end.ty) end h
-EntryIsNamed-more types p (Some (entries.Future end)) h = IsNamed-more types p (index.Future end.ty) end h
-EntryIsNamed-more types p (Some _) h = tt
-
-AreNamed-more : (types : List TransmitIndex) (p : TransmitIndex) (handles : Handles) → AreNamed types handles → AreNamed (types ++ p ∷ []) handles
-AreNamed-more types p handles h = All-weaker (EntryIsNamed types) (EntryIsNamed (types ++ p ∷ [])) (EntryIsNamed-more types p) handles.entries h
 
 IsSound-hosted : (state : State) (stream : Stream) (ps : List Producer) → StreamIsPlaced (sizes_of state.guests) stream → IsSound state → IsSound (record state { streams = state.streams ++ stream ∷ []; producers = ps })
 IsSound-hosted state stream ps p h = record {
@@ -251,14 +219,8 @@ IsSound-hosted state stream ps p h = record {
   contexts = h.contexts;
 }
 
-abbrev live_weight : Stream → ℕ
-live_weight stream = cond (is_live stream) 1 0
-
 live_pushed : (streams : List Stream) (stream : Stream) → is_live stream ≡ true → count_by is_live (streams ++ stream ∷ []) ≡ count_by is_live streams + 1
-live_pushed streams stream e =
-    let sum = sum_by-append live_weight streams (stream ∷ []) in
-    let one : live_weight stream ≡ 1 = ap (λ b. cond {A = ℕ} b 1 0) e in
-    omega (arith, sum, one)
+live_pushed streams stream e = sum_by_push live_weight streams stream ∙ ap (λ b. count_by is_live streams + live_by b) e
 
 -- a stream more, that host writer n serves, which was unused before
 pub record HostsStream (old new : Inside) (n : ℕ) (stream : Stream) (p : Producer) : Type 0 where
@@ -293,15 +255,11 @@ IsStore-hosted old new n stream p h i =
       reader = subst (λ (x : End). OperationIsPlaced sizes stream.payload x.operation) (sym h.reader) tt;
     } in
     let live : is_live stream ≡ true = ap (λ (x : End). is_live (record stream { writer = x })) h.writer in
-    record {
-      sound = subst IsSound (sym (state_of-hosted old new n stream p h)) (IsSound-hosted (state_of old) stream (set old.producers n p) idle i.sound);
-      limit = rw (h.counter, h.limits) i.limit;
-      live = rw (h.counter, h.guests) i.live;
-      within = rw h.counter i.within;
-      streams = rw h.streams (omega (arith, h.live_streams, i.streams, live_pushed old.streams.items stream live));
+    IsStore-counted old new
+    (kept_tables old new (record { limits = h.limits; counter = h.counter; live_sets = h.live_sets; bytes = h.bytes; guests = rw h.guests (all_kept (seen old.guests.items)) }) i)
+    (record {
+      live = rw h.streams (omega (arith, h.live_streams, i.streams, live_pushed old.streams.items stream live));
       served = rw (h.producers, h.streams) (AreServed-hosted old.producers old.streams.items i.served n p stream (omega (arith, i.served.all, h.kept)) h.unused h.serves writer reader);
-      sets = rw (h.live_sets, h.guests) i.sets;
-      bytes = rw (h.bytes, h.guests) i.bytes;
-      few_guests = rw h.guests i.few_guests;
-      few_streams = rw h.streams (omega (arith, h.few, length-append old.streams.items (stream ∷ [])));
-    }
+      few = rw h.streams (omega (arith, h.few, length-append old.streams.items (stream ∷ [])));
+    })
+    (subst IsSound (sym (state_of-hosted old new n stream p h)) (IsSound-hosted (state_of old) stream (set old.producers n p) idle i.sound)) i

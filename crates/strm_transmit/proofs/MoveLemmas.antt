@@ -1,12 +1,12 @@
 -- The store after an end of a stream has another owner, and its handle was freed, given or neither.
-use Rattle.std.proofs.Common.{◌≡◌, ℕ, ◌+◌, ◌-◌, ◌<◌, ◌≤◌, true, false, List, length, set, None, refl, sym, ap, ◌∙◌, subst, ⊎_elim, arith}
+use Rattle.std.proofs.Common.{◌≡◌, ℕ, ◌+◌, ◌<◌, true, false, length, set, None, refl, sym, ap, ◌∙◌, subst, ⊎_elim}
 use Rattle.std.specs.Prelude.{count_by, is_ok}
 use Rattle.std.proofs.lemmas.Bool.{cases_lt}
-use Rattle.std.proofs.lemmas.List.{get_or_past}
+use Rattle.std.proofs.lemmas.List.{get_or_past, length-set}
 use Rattle.strm_codes.specs.declared.codes.TransmitIndex.{TransmitIndex}
-use Rattle.strm_handles.specs.Counters.{Counter, counted, uncounted}
+use Rattle.strm_handles.specs.Counters.{counted, uncounted}
 use Rattle.strm_sets.specs.Sets.{left}
-use Rattle.strm_machine.specs.State.{Guest, State, sets_in, no_stream, stream_at, is_loose, is_host, is_live, sets_in_use}
+use Rattle.strm_machine.specs.State.{State, sets_in, no_stream, stream_at, is_loose, is_host, is_live, sets_in_use}
 use Rattle.strm_machine.specs.Sides.{end_of}
 use Rattle.strm_machine.specs.Moves.{without_handle, next_in, with_owner}
 use Rattle.strm_machine.specs.Tests.{named, end_named, stream_named}
@@ -25,6 +25,7 @@ use Rattle.strm_machine.specs.declared.streams.Side.{Side}
 use Rattle.strm_machine.specs.declared.streams.Side.TheVariants.{Writing, Reading}
 use Rattle.strm_machine.specs.declared.streams.Stream.{Stream}
 use Rattle.strm_machine.proofs.EndLemmas.{Unchanged}
+use Rattle.strm_machine.proofs.HostLemmas.{no_host}
 use Rattle.strm_machine.proofs.ReactionLemmas.{reaction-performs, refusal-on_end}
 use Rattle.strm_machine.proofs.RefusalLemmas.{move_fits, lower_fits, close_fits}
 use Rattle.strm_machine.proofs.SoundLemmas.{IsSound-set, IsSound-freed, sizes_of-with_table, sizes_of-with_handles}
@@ -32,9 +33,9 @@ use Rattle.strm_machine.proofs.SoundStepLemmas.{reaction-sound}
 use Rattle.strm_turns.specs.Guests.{seen, live_in, sets_among, without_handle_in, with_end_in}
 use Rattle.strm_transmit.specs.Inside.{state_of, AreServed, IsStore}
 use Rattle.strm_transmit.specs.declared.store.Store.TheInside.{Inside}
-use Rattle.strm_transmit.proofs.ServedLemmas.{no_host, ComesNoHost, AreServed-set}
+use Rattle.strm_transmit.proofs.ServedLemmas.{ComesNoHost, AreServed-set}
 use Rattle.strm_transmit.proofs.EndingLemmas.{named_made}
-use Rattle.strm_transmit.proofs.StoreLemmas.{SameBut, IsStore-stream, sets-with_table}
+use Rattle.strm_transmit.proofs.StoreLemmas.{SameBut, sets-with_table, kept_counted, more_counted, less_counted, fits_below, CountsStreams, IsStore-counted, IsSound-same}
 
 -- an end of stream s has another owner
 pub record SetsOwner (old new : Inside) (s : ℕ) (side : Side) (owner : Owner) : Type 0 where
@@ -65,18 +66,12 @@ module _ (old new : Inside) (s : ℕ) (side : Side) (owner : Owner) (l : s < len
   owned : IsSound (record (state_of old) { streams = new.streams.items })
   owned = rw o.streams (IsSound-set (state_of old) s side (record (end_of side (stream_at (state_of old) s)) { owner = owner }) l (Unchanged refl) i.sound)
 
-  sound_of : (guests : List Guest) → seen new.guests.items ≡ guests → IsSound (record (state_of old) { guests = guests; streams = new.streams.items }) → IsSound (state_of new)
-  sound_of guests e h = record {
-    named = rw e h.named;
-    placed = rw e h.placed;
-    small = rw e h.small;
-    sets = rw e h.sets;
-    contexts = rw (e, o.same.contexts) h.contexts;
-  }
-
   -- no host end came to the stream
   served : AreServed new.producers new.streams.items
   served = rw (o.same.producers, o.streams) (AreServed-set old.producers old.streams.items i.served s (with_owner side (stream_at (state_of old) s) owner) l (owned-comes side (stream_at (state_of old) s) owner u))
+
+  counts : CountsStreams new
+  counts = record { live = o.counted; served = served; few = rw (o.streams, length-set old.streams.items s (with_owner side (stream_at (state_of old) s) owner)) i.few_streams }
 
   -- as many sets as there were
   as_many : sets_among (seen new.guests.items) ≡ sets_among (seen old.guests.items) → new.live_sets ≡ sets_in_use (state_of new)
@@ -84,41 +79,28 @@ module _ (old new : Inside) (s : ℕ) (side : Side) (owner : Owner) (l : s < len
 
   pub IsStore-owned : KeepsHandles old new → IsStore new
   IsStore-owned h =
-      IsStore-stream old new s _
+      IsStore-counted old new
       (record {
-        limit = rw (h.counter, o.same.limits) i.limit;
-        live = rw (h.counter, h.guests) i.live;
-        within = rw h.counter i.within;
+        handles = kept_counted old new o.same.limits h.counter (ap (λ (g : _). live_in (seen g.items)) h.guests) i;
+        sets = as_many (ap (λ (g : _). sets_among (seen g.items)) h.guests);
         sizes = rw h.guests refl;
         bytes = o.bytes;
-        counted = o.counted;
-        sets = as_many (ap (λ (g : _). sets_among (seen g.items)) h.guests);
-        streams = o.streams;
-        served = served;
       })
-      (sound_of (seen old.guests.items) (ap (λ (g : _). seen g.items) h.guests) owned) i
+      counts
+      (IsSound-same (record (state_of old) { streams = new.streams.items }) (state_of new) (ap (λ (g : _). seen g.items) h.guests) refl o.same.contexts owned) i
 
   pub IsStore-released : (g handle : ℕ) → is_ok (end_named (state_of old) g handle) ≡ true → FreesHandle old new g handle → IsStore new
   IsStore-released g handle ok h =
-      IsStore-stream old new s _
+      IsStore-counted old new
       (record {
-        limit = rw (h.counter, o.same.limits) i.limit;
-        live = ap (λ (c : Counter). c.live) h.counter ∙ fewer _ _ _ i.live h.live;
-        within = rw h.counter (less _ _ i.within);
+        handles = less_counted old new o.same.limits h.counter h.live i;
+        sets = as_many (ap sets_among h.guests ∙ sets-with_table (seen old.guests.items) g _ _ refl);
         sizes = ap sizes_of h.guests ∙ sizes_of-with_table (seen old.guests.items) g _ _;
         bytes = o.bytes;
-        counted = o.counted;
-        sets = as_many (ap sets_among h.guests ∙ sets-with_table (seen old.guests.items) g _ _ refl);
-        streams = o.streams;
-        served = served;
       })
-      (sound_of _ h.guests (IsSound-freed (record (state_of old) { streams = new.streams.items }) g handle ok owned)) i
-    where
-      fewer : (c n m : ℕ) → c ≡ n → m + 1 ≡ n → c - 1 ≡ m
-      fewer c n m e f = omega (arith, e, f)
-
-      less : (c n : ℕ) → c ≤ n → c - 1 ≤ n
-      less c n e = omega (arith, e)
+      counts
+      (IsSound-same (without_handle (record (state_of old) { streams = new.streams.items }) g handle) (state_of new) h.guests refl o.same.contexts
+      (IsSound-freed (record (state_of old) { streams = new.streams.items }) g handle ok owned)) i
 
 -- ## Handles that are given
 
@@ -157,20 +139,17 @@ module _ (old new : Inside) (s : ℕ) (side : Side) (end : NamedEnd) (to number 
 
   pub IsStore-moved : old.is_trapped ≡ false → refusal (state_of old) (OnEnd side end (Move to)) ≡ None → s ≡ stream_named (named (state_of old) end) → IsStore old → IsStore new
   IsStore-moved t e same i =
-      let sound = transfers-sound (state_of old) side end to s t e same i.sound in
-      IsStore-stream old new s _
+      let guests = seen old.guests.items in
+      let freed = without_handle_in guests end.guest end.handle in
+      IsStore-counted old new
       (record {
-        limit = rw (m.counter, o.same.limits) i.limit;
-        live = ap (λ (c : Counter). c.live) m.counter ∙ i.live ∙ sym m.live;
-        within = rw m.counter i.within;
-        sizes = ap sizes_of m.guests ∙ sizes_of-with_handles (without_handle_in (seen old.guests.items) end.guest end.handle) to _ ∙ sizes_of-with_table (seen old.guests.items) end.guest _ _;
+        handles = kept_counted old new o.same.limits m.counter m.live i;
+        sets = o.live_sets ∙ i.sets ∙ sym (ap sets_among m.guests ∙ sets-with_table freed to _ (sets_in freed to) refl ∙ sets-with_table guests end.guest _ (left (sets_in guests end.guest) end.handle) refl);
+        sizes = ap sizes_of m.guests ∙ sizes_of-with_handles freed to _ ∙ sizes_of-with_table guests end.guest _ _;
         bytes = o.bytes;
-        counted = o.counted;
-        sets = o.live_sets ∙ i.sets ∙ sym (ap sets_among m.guests ∙ sets-with_table (without_handle_in (seen old.guests.items) end.guest end.handle) to _ (sets_in (without_handle_in (seen old.guests.items) end.guest end.handle) to) refl ∙ sets-with_table (seen old.guests.items) end.guest _ (left (sets_in (seen old.guests.items) end.guest) end.handle) refl);
-        streams = o.streams;
-        served = rw (o.same.producers, o.streams) (AreServed-set old.producers old.streams.items i.served s (with_owner side (stream_at (state_of old) s) (Held to number)) (moved_made (state_of old) side end to s e same i.sound) (owned-comes side (stream_at (state_of old) s) (Held to number) refl));
       })
-      (subst (λ (r : Reaction). IsSound r.state) transfers-is sound) i
+      (counts old new s side (Held to number) (moved_made (state_of old) side end to s e same i.sound) refl o i)
+      (subst (λ (r : Reaction). IsSound r.state) transfers-is (transfers-sound (state_of old) side end to s t e same i.sound)) i
 
 -- ## Loose ends
 
@@ -192,18 +171,14 @@ module _ (old new : Inside) (s g : ℕ) (ty : TransmitIndex) (number : ℕ) (o :
 
   pub IsStore-lowered : old.is_trapped ≡ false → refusal (state_of old) (OnLoose s (Lower g ty)) ≡ None → IsStore old → IsStore new
   IsStore-lowered t e i =
+      let guests = seen old.guests.items in
       let fits = lower_fits (state_of old) s g ty e in
-      let sound = lowers-sound (state_of old) s g ty t e i.sound in
-      IsStore-stream old new s _
+      IsStore-counted old new
       (record {
-        limit = rw (m.counter, o.same.limits) i.limit;
-        live = omega (arith, ap (λ (c : Counter). c.live) m.counter, i.live, m.live);
-        within = rw m.counter (omega (arith, fits.handles, i.limit, i.live));
-        sizes = ap sizes_of m.guests ∙ sizes_of-with_handles (seen old.guests.items) g _;
+        handles = more_counted old new o.same.limits m.counter m.live (fits_below old i fits.handles) i;
+        sets = o.live_sets ∙ i.sets ∙ sym (ap sets_among m.guests ∙ sets-with_table guests g _ (sets_in guests g) refl);
+        sizes = ap sizes_of m.guests ∙ sizes_of-with_handles guests g _;
         bytes = o.bytes;
-        counted = o.counted;
-        sets = o.live_sets ∙ i.sets ∙ sym (ap sets_among m.guests ∙ sets-with_table (seen old.guests.items) g _ (sets_in (seen old.guests.items) g) refl);
-        streams = o.streams;
-        served = rw (o.same.producers, o.streams) (AreServed-set old.producers old.streams.items i.served s (with_owner Reading (stream_at (state_of old) s) (Held g number)) (lower_made (state_of old) s g ty e) (owned-comes Reading (stream_at (state_of old) s) (Held g number) refl));
       })
-      (subst (λ (r : Reaction). IsSound r.state) lowers-is sound) i
+      (counts old new s Reading (Held g number) (lower_made (state_of old) s g ty e) refl o i)
+      (subst (λ (r : Reaction). IsSound r.state) lowers-is (lowers-sound (state_of old) s g ty t e i.sound)) i

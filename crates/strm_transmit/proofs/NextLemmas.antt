@@ -6,9 +6,6 @@ use Rattle.std.proofs.lemmas.Bool.{cases_lt, true≢false}
 use Rattle.std.proofs.lemmas.Bool.Decides.{nat_tests}
 use Rattle.std.proofs.lemmas.List.{get_or_append_left, get_or_past, get_or_push, take_all, take_more}
 use Rattle.strm_codes.specs.Sameness.{same_payload}
-use Rattle.strm_codes.specs.declared.codes.TransmitKind.{TransmitKind}
-use Rattle.strm_codes.specs.declared.codes.TransmitKind.TheVariants.{Stream as AStream, Future}
-use Rattle.strm_codes.specs.declared.payloads.Payload.{Payload}
 use Rattle.strm_codes.proofs.SamenessLemmas.{Decides-same_payload}
 use Rattle.strm_buffers.specs.Tells.{Tells, told_by}
 use Rattle.strm_machine.specs.State.{State, host_limit, no_producer}
@@ -17,11 +14,13 @@ use Rattle.strm_machine.specs.declared.streams.Duty.TheVariants.{Unused, Serves,
 use Rattle.strm_machine.specs.declared.streams.Producer.{Producer}
 use Rattle.strm_machine.specs.declared.streams.Stream.{Stream}
 use Rattle.strm_machine.specs.Tests.{same_kind}
+use Rattle.strm_machine.proofs.RefusalLemmas.{same_kind_is}
+use Rattle.strm_machine.proofs.TableLemmas.{at_push}
 use Rattle.strm_world.specs.Does.{FitsWriter, Fits}
 use Rattle.strm_transmit.specs.Hosted.{FitsAt}
 use Rattle.strm_transmit.specs.Inside.{AreServed}
 use Rattle.strm_transmit.specs.Turning.{least_of, next_of, IsNextServed, NextServed}
-use Rattle.strm_transmit.proofs.ServedLemmas.{at_push, serving_kept, same_stream, ended_no}
+use Rattle.strm_transmit.proofs.ServedLemmas.{serving_kept, same_stream, ended_no}
 
 -- ## The next stream that is served
 
@@ -106,18 +105,12 @@ next_of_all ps from i o l h = subst (λ qs. NextServed qs from o) (take_all i ps
 
 -- ## The host writers that the store needs
 
-kind_is : (a b : TransmitKind) → same_kind a b ≡ true → a ≡ b
-kind_is AStream AStream e = refl
-kind_is AStream Future e = cc
-kind_is Future AStream e = cc
-kind_is Future Future e = refl
-
 -- one that is there and of the stream's kind fits where its payload does
-pub writes_by : (stream : Stream) (tells : Tells) (n : ℕ) (kind : TransmitKind) (payload : Payload) (is : Bool) → n < length tells.writers → kind ≡ (told_by tells n).kind → payload ≡ (told_by tells n).payload → true ≡ same_kind kind stream.kind → is ≡ same_payload payload stream.payload → (IsTrue is ↔ FitsWriter stream tells n)
-writes_by stream tells n kind payload is l k p s e =
-    let decides = Decides-same_payload payload stream.payload in (
-      λ t. record { there = l; kind = sym k ∙ kind_is kind stream.kind (sym s); payload = sym p ∙ decides.0 (sym e ∙ t) },
-      λ fits. e ∙ decides.1 (p ∙ fits.payload),
+pub writes_by : (stream : Stream) (tells : Tells) (n : ℕ) (is : Bool) → n < length tells.writers → true ≡ same_kind (told_by tells n).kind stream.kind → is ≡ same_payload (told_by tells n).payload stream.payload → (IsTrue is ↔ FitsWriter stream tells n)
+writes_by stream tells n is l s e =
+    let decides = Decides-same_payload (told_by tells n).payload stream.payload in (
+      λ t. record { there = l; kind = same_kind_is (told_by tells n).kind stream.kind (sym s); payload = decides.0 (sym e ∙ t) },
+      λ fits. e ∙ decides.1 fits.payload,
     )
 
 abbrev pub FitBelow : State → Tells → ℕ → Type 0

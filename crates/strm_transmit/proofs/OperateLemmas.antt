@@ -1,14 +1,13 @@
 -- A read or write with host ends: by what is on the other side.
 use Rattle.std.proofs.Common.{◌≡◌, ℕ, true, false, Option, Some, None, Result, Ok, Err, refl, sym, ap, subst, ◌∙◌}
 use Rattle.std.specs.Prelude.{IfErr}
+use Rattle.std.proofs.lemmas.Bool.{true≢false}
 use Rattle.strm_buffers.specs.Tells.{Tells}
 use Rattle.strm_machine.specs.State.{State, stream_at, is_host}
-use Rattle.strm_machine.specs.Meetings.{begun}
-use Rattle.strm_machine.specs.Sides.{opposite, end_of}
-use Rattle.strm_machine.specs.Tests.{named, stream_named, items_asked}
+use Rattle.strm_machine.specs.Sides.{opposite, end_of, with_operation}
+use Rattle.strm_machine.specs.Tests.{named, stream_named}
 use Rattle.strm_machine.specs.Refusals.{refusal}
 use Rattle.strm_machine.specs.declared.acts.Act.{Act}
-use Rattle.strm_machine.specs.declared.acts.Act.TheVariants.{OnEnd}
 use Rattle.strm_machine.specs.declared.acts.EndAct.TheVariants.{Operate}
 use Rattle.strm_machine.specs.declared.acts.NamedEnd.{NamedEnd}
 use Rattle.strm_machine.specs.declared.replies.Reply.{Reply}
@@ -17,44 +16,54 @@ use Rattle.strm_machine.specs.declared.streams.Owner.TheVariants.{Host}
 use Rattle.strm_machine.specs.declared.streams.Side.{Side}
 use Rattle.strm_machine.specs.declared.streams.Side.TheVariants.{Reading}
 use Rattle.strm_machine.specs.declared.streams.Operation.{Operation}
+use Rattle.strm_machine.proofs.Shapes.{operating, begun_on}
 use Rattle.strm_world.specs.World.{World}
-use Rattle.strm_world.specs.Steps.{operates_by, reads_from, performs_in, may_poll, touches}
-use Rattle.strm_world.specs.Does.{Logs, world_of, Fits, Does}
-use Rattle.strm_world.proofs.DoesLemmas.{Does-as}
+use Rattle.strm_world.specs.Steps.{operates_by, reads_from, performs_in, outcome, may_poll, touches}
+use Rattle.strm_world.specs.Does.{world_of, Fits, Does, Answered}
 use Rattle.strm_transmit.specs.Meets.{replied}
 use Rattle.strm_transmit.specs.Hosted.{answered, lone, Leaves, IsStop, MeetsHosted}
 use Rattle.strm_transmit.specs.declared.errors.StoreError.{StoreError}
 use Rattle.strm_transmit.specs.declared.errors.StoreError.TheVariants.{Refused, HostFailed, HostBroke, BadItem, StoreTrapped, OutOfMemory}
-use Rattle.std.specs.Prelude.{IfOk, IsTrue}
 use Rattle.strm_codes.specs.declared.codes.ReturnCode.{ReturnCode}
-use Rattle.strm_machine.specs.Plays.{is_settled}
 use Rattle.strm_machine.specs.Endings.{delivered}
 use Rattle.strm_machine.specs.Reactions.{Reaction, goes, tells as tells_end, with_stream_at}
-use Rattle.strm_machine.specs.Sides.{with_operation}
 use Rattle.strm_machine.specs.declared.replies.Reply.TheVariants as replies
 use Rattle.strm_machine.specs.declared.stops.Stop.{Stop}
 use Rattle.strm_machine.specs.declared.stops.Stop.TheVariants as stops
 use Rattle.strm_world.specs.Producing.{producer_turn}
 use Rattle.strm_world.specs.Settling.{answered as answers_read}
-use Rattle.strm_world.specs.Does.{Answered}
 use Rattle.strm_world.proofs.FitsLemmas.{Fits-stream}
 use Rattle.strm_world.proofs.ReadLemmas.{opened, Does-read, Does-read_stop}
 use Rattle.strm_transmit.proofs.DropLemmas.{refused-end}
-use Rattle.strm_transmit.proofs.HostStepLemmas.{does_admitted}
+use Rattle.strm_transmit.proofs.HostStepLemmas.{PerformsAs, does_admitted, Settles, unpolled}
 
--- ## Errors of a call that polled
+-- ## A call that polled a host end
 
-pub leaves_stop : (old new : State) (tells told : Tells) (act : Act) (error : StoreError) → may_poll (lone old) act ≡ true → IsStop error → new.trapped ≡ true → Leaves act old new tells told error
-leaves_stop old new tells told act (Refused r) p s t = absurd s
-leaves_stop old new tells told act (HostFailed end) p s t = t
-leaves_stop old new tells told act (HostBroke end) p s t = t
-leaves_stop old new tells told act (BadItem stream) p s t = t
-leaves_stop old new tells told act StoreTrapped p s t = absurd s
-leaves_stop old new tells told act OutOfMemory p s t = rw p t
+-- an error stops the call, and traps the store
+pub record Halts {T : Type 0} (result : Result T StoreError) (new : State) : Type 0 where
+  pub stop : IfErr result IsStop
+  pub trapped : IfErr result (λ _. new.trapped ≡ true)
 
-pub leaves_if : {T : Type 0} (old new : State) (tells told : Tells) (act : Act) (f : T → Reply) (result : Result T StoreError) → may_poll (lone old) act ≡ true → IfErr result IsStop → IfErr result (λ _. new.trapped ≡ true) → IfErr (replied f result) (Leaves act old new tells told)
-leaves_if old new tells told act f (Ok v) p s t = tt
-leaves_if old new tells told act f (Err error) p s t = leaves_stop old new tells told act error p s t
+module _ (old new : State) (tells told : Tells) (act : Act) (polls : may_poll (lone old) act ≡ true) where
+  leaves_stop : (error : StoreError) → IsStop error → new.trapped ≡ true → Leaves act old new tells told error
+  leaves_stop (Refused r) s t = absurd s
+  leaves_stop (HostFailed end) s t = t
+  leaves_stop (HostBroke end) s t = t
+  leaves_stop (BadItem stream) s t = t
+  leaves_stop StoreTrapped s t = absurd s
+  leaves_stop OutOfMemory s t = rw polls t
+
+  leaves_if : {T : Type 0} (f : T → Reply) (result : Result T StoreError) → Halts result new → IfErr (replied f result) (Leaves act old new tells told)
+  leaves_if f (Ok v) h = tt
+  leaves_if f (Err error) h = leaves_stop error h.stop h.trapped
+
+  pub hosted_polled : {T : Type 0} (f : T → Reply) (result : Result T StoreError) → Does old new tells told (answered (replied f result)) (λ w. outcome w act) → Fits new told → Halts result new → MeetsHosted old new tells told (replied f result) act
+  hosted_polled f result does fits halts = record {
+    does = does;
+    fits = fits;
+    alone = λ u. absurd (true≢false (sym polls ∙ unpolled (lone old) act u));
+    err = leaves_if f result halts;
+  }
 
 -- the cause of a stop; none for want of memory
 abbrev pub cause_of : StoreError → Option Stop
@@ -102,43 +111,51 @@ module _ (old mid new : State) (tells told : Tells) (s n : ℕ) (read : Operatio
 
 -- ## A read that a host writer serves
 
+-- a read of the named end that nothing refuses, on stream s, which host writer n serves
+pub record IsHostRead (state : State) (side : Side) (end : NamedEnd) (address count n s : ℕ) (read : Operation) : Type 0 where
+  pub untrapped : state.trapped ≡ false
+  pub none : refusal state (operating side end address count) ≡ None
+  pub stream : s ≡ stream_named (named state end)
+  pub operation : read ≡ begun_on end address count
+  pub reading : side ≡ Reading
+  pub owner : (stream_at state s).writer.owner ≡ Host n
+
 is_host_of : (owner : Owner) (n : ℕ) → owner ≡ Host n → is_host owner ≡ true
 is_host_of owner n e = rw e refl
 
-performs-read : (world : World) (end : NamedEnd) (address count n s : ℕ) (read : Operation) → s ≡ stream_named (named world.state end) → read ≡ begun end.guest address (items_asked end.ty count) → (stream_at world.state s).writer.owner ≡ Host n → performs_in world (OnEnd Reading end (Operate address count)) ≡ reads_from world s n read
+performs-read : (world : World) (end : NamedEnd) (address count n s : ℕ) → s ≡ stream_named (named world.state end) → (stream_at world.state s).writer.owner ≡ Host n → performs_in world (operating Reading end address count) ≡ reads_from world s n (begun_on end address count)
 unfolding performs_in
-performs-read world end address count n s read e r o =
+performs-read world end address count n s e o =
     ap (operates_by world Reading end address count) (ap (λ k. (stream_at world.state k).writer.owner) (sym e) ∙ o)
-    ∙ ap (λ k. reads_from world k n (begun end.guest address (items_asked end.ty count))) (sym e)
-    ∙ ap (reads_from world s n) (sym r)
+    ∙ ap (λ k. reads_from world k n (begun_on end address count)) (sym e)
 
-module _ (old new : State) (tells told : Tells) (side : Side) (end : NamedEnd) (address count n s : ℕ) (read : Operation)
-    (t : old.trapped ≡ false) (none : refusal old (OnEnd side end (Operate address count)) ≡ None) (e : s ≡ stream_named (named old end)) (r : read ≡ begun end.guest address (items_asked end.ty count))
-    (d : side ≡ Reading) (o : (stream_at old s).writer.owner ≡ Host n) where
-  across : may_poll (lone old) (OnEnd side end (Operate address count)) ≡ true
+module _ (old new : State) (tells told : Tells) (side : Side) (end : NamedEnd) (address count n s : ℕ) (read : Operation) (h : IsHostRead old side end address count n s read) where
+  abbrev act : Act
+  act = operating side end address count
+
+  across : may_poll (lone old) act ≡ true
   across =
-      ap (λ x. is_host (end_of (opposite x) (stream_at old (stream_named (named old end)))).owner) d
-      ∙ ap (λ k. is_host (stream_at old k).writer.owner) (sym e)
-      ∙ is_host_of (stream_at old s).writer.owner n o
+      ap (λ x. is_host (end_of (opposite x) (stream_at old (stream_named (named old end)))).owner) h.reading
+      ∙ ap (λ k. is_host (stream_at old k).writer.owner) (sym h.stream)
+      ∙ is_host_of (stream_at old s).writer.owner n h.owner
 
-  reads_by : (x : Side) → x ≡ Reading → (logs : Logs) → performs_in (world_of old tells logs) (OnEnd x end (Operate address count)) ≡ reads_from (world_of old tells logs) s n read
-  reads_by x f logs = subst (λ y. performs_in (world_of old tells logs) (OnEnd y end (Operate address count)) ≡ reads_from (world_of old tells logs) s n read) (sym f) (performs-read (world_of old tells logs) end address count n s read e r o)
+  reads : PerformsAs old tells act (λ w. reads_from w s n read)
+  reads logs =
+      ap (λ x. performs_in (world_of old tells logs) (operating x end address count)) h.reading
+      ∙ performs-read (world_of old tells logs) end address count n s h.stream h.owner
+      ∙ ap (reads_from (world_of old tells logs) s n) (sym h.operation)
 
-  pub hosted_read : {T : Type 0} (f : T → Reply) (result : Result T StoreError) → Does old new tells told (answered (replied f result)) (λ w. reads_from w s n read) → Fits new told → IfErr result IsStop → IfErr result (λ _. new.trapped ≡ true) → MeetsHosted old new tells told (replied f result) (OnEnd side end (Operate address count))
-  hosted_read f result does fits stop trapped = record {
-    does = does_admitted old new tells told (OnEnd side end (Operate address count)) (answered (replied f result)) t
-        (λ logs. refused-end (world_of old tells logs) side end (Operate address count) ∙ none)
-        (Does-as old new tells told (answered (replied f result)) (λ w. reads_from w s n read) (λ w. performs_in w (OnEnd side end (Operate address count))) (reads_by side d) does);
-    fits = fits;
-    alone = λ u. let no : true ≡ false = sym across ∙ u in cc;
-    err = leaves_if old new tells told (OnEnd side end (Operate address count)) f result across stop trapped;
-  }
+  pub hosted_read : {T : Type 0} (f : T → Reply) (result : Result T StoreError) → Does old new tells told (answered (replied f result)) (λ w. reads_from w s n read) → Fits new told → Halts result new → MeetsHosted old new tells told (replied f result) act
+  hosted_read f result does =
+      hosted_polled old new tells told act across f result
+      (does_admitted old new tells told act (answered (replied f result)) (λ w. reads_from w s n read)
+      (record { untrapped = h.untrapped; none = λ logs. refused-end (world_of old tells logs) side end (Operate address count) ∙ h.none }) reads does)
 
 -- ## A read or write with no host end across
 
-pub settled_code : (result : Result ReturnCode StoreError) → IfOk (replied replies.Code result) (λ reply. IsTrue (is_settled reply))
+pub settled_code : (result : Result ReturnCode StoreError) → Settles (replied replies.Code result)
 settled_code (Ok code) = refl
 settled_code (Err error) = tt
 
-pub operate-alone : (old : State) (side : Side) (end : NamedEnd) (address count s : ℕ) → s ≡ stream_named (named old end) → is_host (end_of (opposite side) (stream_at old s)).owner ≡ false → touches (lone old) (OnEnd side end (Operate address count)) ≡ false
+pub operate-alone : (old : State) (side : Side) (end : NamedEnd) (address count s : ℕ) → s ≡ stream_named (named old end) → is_host (end_of (opposite side) (stream_at old s)).owner ≡ false → touches (lone old) (operating side end address count) ≡ false
 operate-alone old side end address count s e none = ap (λ k. is_host (end_of (opposite side) (stream_at old k)).owner) (sym e) ∙ none

@@ -16,7 +16,7 @@ use Rattle.strm_machine.specs.declared.streams.Producer.{Producer}
 use Rattle.strm_machine.specs.declared.streams.Stream.{Stream}
 use Rattle.strm_world.specs.Producing.{producer_turn}
 use Rattle.strm_world.specs.Does.{Answered, Fits, Does}
-use Rattle.strm_world.proofs.CloseLemmas.{ended_in}
+use Rattle.strm_world.proofs.CloseLemmas.{ended_producer, ended_in}
 use Rattle.strm_world.proofs.PollLemmas.{IsServing}
 use Rattle.strm_world.proofs.SettleLemmas.{IsLeft}
 use Rattle.strm_world.proofs.TurnLemmas.{turned_but}
@@ -28,7 +28,8 @@ use Rattle.strm_transmit.specs.Inside.{AreServed}
 use Rattle.strm_transmit.specs.Hosted.{answered, IsStop}
 use Rattle.strm_transmit.specs.Turning.{TurnsStream, stops_by}
 use Rattle.strm_transmit.proofs.ServedLemmas.{at_set, serving_kept, ended_no}
-use Rattle.strm_transmit.proofs.FitsLemmas.{Fits-told, set-types}
+use Rattle.strm_transmit.proofs.FitsLemmas.{Fits-told, set-types, HasWriter, serving}
+use Rattle.strm_transmit.proofs.HostStepLemmas.{Does-after, Fits-after}
 use Rattle.strm_transmit.proofs.SceneLemmas.{SceneKeeps, turn_keeps}
 
 -- ## A turn that stops keeps what is kept of the writer
@@ -58,37 +59,23 @@ stop-stops OutOfMemory n = tt
 
 -- ## In a store
 
--- a read for which a host writer has its turn
+-- a read for which the host writer of its stream has its turn
 pub record IsServed (old : State) (tells : Tells) (n s : ℕ) (read : Operation) : Type 0 where
-  pub served : AreServed old.producers old.streams
-  pub made : s < length old.streams
-  pub owner : (stream_at old s).writer.owner ≡ Host n
-  pub fits : Fits old tells
+  pub writer : HasWriter old tells n s
   pub read_placed : IsPlaced (sizes_of old.guests) (stream_at old s).payload read
   pub placed : StreamIsPlaced (sizes_of old.guests) (stream_at old s)
 
-pub is_served : (old : State) (tells : Tells) (n s : ℕ) (read : Operation) → IsSound old → AreServed old.producers old.streams → s < length old.streams → (stream_at old s).writer.owner ≡ Host n → Fits old tells → IsPlaced (sizes_of old.guests) (stream_at old s).payload read → IsServed old tells n s read
-is_served old tells n s read sound served made owner fits placed = record {
-  served = served;
-  made = made;
-  owner = owner;
-  fits = fits;
-  read_placed = placed;
-  placed = placed_at old s made sound;
-}
+module _ (old : State) (tells : Tells) (n s : ℕ) (read : Operation) where
+  pub is_served : IsSound old → AreServed old.producers old.streams → s < length old.streams → (stream_at old s).writer.owner ≡ Host n → Fits old tells → IsPlaced (sizes_of old.guests) (stream_at old s).payload read → IsServed old tells n s read
+  is_served sound served made owner fits placed = record {
+    writer = record { served = served; made = made; owner = owner; fits = fits };
+    read_placed = placed;
+    placed = placed_at old s made sound;
+  }
 
 module _ (old : State) (tells : Tells) (n s : ℕ) (read : Operation) (h : IsServed old tells n s read) where
-  pub duty : (producer_at old n).duty ≡ Serves s
-  duty = h.served.serves n s h.owner
-
-  kept : n < length old.producers
-  kept = serving_kept old.producers n s duty
-
-  pub there : n < length tells.writers
-  there = (h.fits n s duty).there
-
-  serving : IsServing old tells n s
-  serving = record { there = there; kept = kept; duty = duty }
+  is_serving : IsServing old tells n s
+  is_serving = serving old tells n s h.writer
 
   module _ (mid : State) (told : Tells) (result : Result (Unit {0}) TurnError) (t : TurnsStream old mid tells told n s read result) where
     keeps : SceneKeeps (scene_in old tells n s) t.after
@@ -98,32 +85,32 @@ module _ (old : State) (tells : Tells) (n s : ℕ) (read : Operation) (h : IsSer
     turned-fits =
         Fits-told old (turned_in old n s t.after) tells n t.after.tells
         (record {
-          there = there;
-          kind = keeps.kind;
-          payload = keeps.payload;
-          duties = λ m k. at_set old.producers n t.after.producer no_producer m (λ q. q.duty ≡ Serves k → (producer_at old m).duty ≡ Serves k) kept
+          there = is_serving.there;
+          kind = keeps.tells.kind;
+          payload = keeps.tells.payload;
+          duties = λ m k. at_set old.producers n t.after.producer no_producer m (λ q. q.duty ≡ Serves k → (producer_at old m).duty ≡ Serves k) is_serving.kept
               (λ e f. rw e (sym keeps.duty ∙ f)) (λ _ f. f);
-          types = λ k. set-types old.streams s t.after.stream (record { kind = keeps.stream.kind; payload = keeps.stream.payload }) k h.made;
-        }) h.fits
+          types = λ k. set-types old.streams s t.after.stream (record { kind = keeps.stream.kind; payload = keeps.stream.payload }) k h.writer.made;
+        }) h.writer.fits
 
     pub mid-fits : Fits mid told
-    mid-fits = subst (λ (x : State). Fits x told) (sym t.state) (subst (λ (x : Tells). Fits (turned_in old n s t.after) x) (sym t.ends) turned-fits)
+    mid-fits = Fits-after (turned_in old n s t.after) mid (told_in tells n t.after) told t.state t.ends turned-fits
 
     pub mid-made : s < length mid.streams
-    mid-made = rw (ap (λ (x : State). length x.streams) t.state, length-set old.streams s t.after.stream) h.made
+    mid-made = rw (ap (λ (x : State). length x.streams) t.state, length-set old.streams s t.after.stream) h.writer.made
 
     -- the stream then
     pub mid-stream : stream_at mid s ≡ t.after.stream
-    mid-stream = ap (λ (x : State). stream_at x s) t.state ∙ get_or-set_same old.streams s t.after.stream no_stream h.made
+    mid-stream = ap (λ (x : State). stream_at x s) t.state ∙ get_or-set_same old.streams s t.after.stream no_stream h.writer.made
 
     pub mid-duty : (producer_at mid n).duty ≡ Serves s
     mid-duty =
         ap (λ (x : State). (producer_at x n).duty) t.state
-        ∙ ap (λ (p : Producer). p.duty) (get_or-set_same old.producers n t.after.producer no_producer kept)
-        ∙ keeps.duty ∙ duty
+        ∙ ap (λ (p : Producer). p.duty) (get_or-set_same old.producers n t.after.producer no_producer is_serving.kept)
+        ∙ keeps.duty ∙ is_serving.duty
 
     pub told-there : n < length told.writers
-    told-there = rw (ap (λ (x : Tells). length x.writers) t.ends, length-set tells.writers n t.after.tells) there
+    told-there = rw (ap (λ (x : Tells). length x.writers) t.ends, length-set tells.writers n t.after.tells) is_serving.there
 
   -- its writer stays
   by_done : (done : Bool) (after before : Owner) → after ≡ cond done Gone before → after ≢ Gone → after ≡ before
@@ -136,26 +123,22 @@ module _ (old : State) (tells : Tells) (n s : ℕ) (read : Operation) (h : IsSer
       let here = mid-stream mid told (Ok tt) t in
       let same = by_done k.stream.done t.after.stream.writer.owner (stream_at old s).writer.owner k.stream.writer
       (λ e. g (ap (λ (x : Stream). x.writer.owner) here ∙ e)) in
-      subst (λ (x : State). Does old x tells told (Ok replies.Done) (λ w. producer_turn w s n read)) (sym t.state)
-      (subst (λ (x : Tells). Does old (turned_in old n s t.after) tells x (Ok replies.Done) (λ w. producer_turn w s n read)) (sym t.ends)
-      (turn_stays old tells n s read serving t.after t.turns same))
+      Does-after t.state t.ends (turn_stays old tells n s read is_serving t.after t.turns same)
 
   -- its writer is gone, and was closed
   module _ (mid : State) (told : Tells) (t : TurnsStream old mid tells told n s read (Ok tt)) (g : (stream_at mid s).writer.owner ≡ Gone) (w : WriterTells) (c : ClosesWriter (told_by told n) w) where
     left : IsLeft (turned_but old n t.after.guests t.after.producer) (told_in tells n t.after) s n t.after.stream w
     left = record {
-      there = rw (length-set tells.writers n t.after.tells) there;
-      kept = rw (length-set old.producers n t.after.producer) kept;
-      owner = h.owner;
+      there = rw (length-set tells.writers n t.after.tells) is_serving.there;
+      kept = rw (length-set old.producers n t.after.producer) is_serving.kept;
+      owner = h.writer.owner;
       gone = sym (ap (λ (x : Stream). x.writer.owner) (mid-stream mid told (Ok tt) t)) ∙ g;
       closes = subst (λ (x : Tells). ClosesWriter (told_by x n) w) t.ends c;
     }
 
     pub produced-left : Does old (ended_in mid n) tells (with_told told n w) (Ok replies.Done) (λ v. producer_turn v s n read)
     produced-left =
-        subst (λ (x : State). Does old (ended_in x n) tells (with_told told n w) (Ok replies.Done) (λ v. producer_turn v s n read)) (sym t.state)
-        (subst (λ (x : Tells). Does old (ended_in (turned_in old n s t.after) n) tells (with_told x n w) (Ok replies.Done) (λ v. producer_turn v s n read)) (sym t.ends)
-        (turn_left old tells n s read serving t.after w t.turns left))
+        Does-after (ap (λ x. ended_in x n) t.state) (ap (λ x. with_told x n w) t.ends) (turn_left old tells n s read is_serving t.after w t.turns left)
 
     pub left-fits : Fits (ended_in mid n) (with_told told n w)
     left-fits =
@@ -165,7 +148,7 @@ module _ (old : State) (tells : Tells) (n s : ℕ) (read : Operation) (h : IsSer
           there = told-there mid told (Ok tt) t;
           kind = ap (λ (x : WriterTells). x.kind) c.same;
           payload = ap (λ (x : WriterTells). x.payload) c.same;
-          duties = λ m k. at_set mid.producers n (record (producer_at mid n) { duty = Ended }) no_producer m (λ q. q.duty ≡ Serves k → (producer_at mid m).duty ≡ Serves k) mid_kept
+          duties = λ m k. at_set mid.producers n (ended_producer mid n) no_producer m (λ q. q.duty ≡ Serves k → (producer_at mid m).duty ≡ Serves k) mid_kept
               (λ _ e. absurd (ended_no Ended k refl e)) (λ _ e. e);
           types = λ k. record { kind = refl; payload = refl };
         }) (mid-fits mid told (Ok tt) t)
@@ -176,8 +159,7 @@ module _ (old : State) (tells : Tells) (n s : ℕ) (read : Operation) (h : IsSer
       let same : t.after.producer ≡ producer_at old n = holding_producer (told_by tells n).holds e (scene_in old tells n s) t.after read t.turns in
       let producers : mid.producers ≡ old.producers =
       ap (λ (x : State). x.producers) t.state ∙ ap (set old.producers n) same ∙ set-get_or old.producers n no_producer in
-      subst (λ (x : Tells). Does old (record mid { trapped = true }) tells x (stop_of e n) (λ w. producer_turn w s n read)) (sym t.ends)
-      (turn_stops old tells n s read serving e t.after (record mid { trapped = true }) t.turns producers)
+      Does-after refl t.ends (turn_stops old tells n s read is_serving e t.after (record mid { trapped = true }) t.turns producers)
 
   -- ## By what the calls say
 
@@ -187,11 +169,11 @@ module _ (old : State) (tells : Tells) (n s : ℕ) (read : Operation) (h : IsSer
   module _ (mid new : State) (told : Tells) (e : TurnError) (t : TurnsStream old mid tells told n s read (Err e)) (is : new ≡ record mid { trapped = true }) where
     pub stops-does : Does old new tells told (answered (Err (stops_by e n))) (λ w. producer_turn w s n read)
     stops-does =
-        subst (λ (x : State). Does old x tells told (answered (Err (stops_by e n))) (λ w. producer_turn w s n read)) (sym is)
+        Does-after is refl
         (subst (λ (x : Answered). Does old (record mid { trapped = true }) tells told x (λ w. producer_turn w s n read)) (stop-is e n) (produced-stops mid told e t))
 
     pub stops-fits : Fits new told
-    stops-fits = subst (λ (x : State). Fits x told) (sym is) (mid-fits mid told (Err e) t)
+    stops-fits = Fits-after (record mid { trapped = true }) new told told is refl (mid-fits mid told (Err e) t)
 
     pub stops-length : length new.streams ≡ length old.streams
     stops-length = ap (λ (x : State). length x.streams) is ∙ mid-length mid told (Err e) t
@@ -199,14 +181,10 @@ module _ (old : State) (tells : Tells) (n s : ℕ) (read : Operation) (h : IsSer
   module _ (mid new : State) (told after : Tells) (t : TurnsStream old mid tells told n s read (Ok tt)) (g : (stream_at mid s).writer.owner ≡ Gone) (c : ClosesWriter (told_by told n) (told_by after n))
       (is : new ≡ ended_in mid n) (others : after ≡ with_told told n (told_by after n)) where
     pub left-does : Does old new tells after (Ok replies.Done) (λ v. producer_turn v s n read)
-    left-does =
-        subst (λ (x : State). Does old x tells after (Ok replies.Done) (λ v. producer_turn v s n read)) (sym is)
-        (subst (λ (x : Tells). Does old (ended_in mid n) tells x (Ok replies.Done) (λ v. producer_turn v s n read)) (sym others) (produced-left mid told t g (told_by after n) c))
+    left-does = Does-after is others (produced-left mid told t g (told_by after n) c)
 
     pub left-fits_as : Fits new after
-    left-fits_as =
-        subst (λ (x : State). Fits x after) (sym is)
-        (subst (λ (x : Tells). Fits (ended_in mid n) x) (sym others) (left-fits mid told t g (told_by after n) c))
+    left-fits_as = Fits-after (ended_in mid n) new (with_told told n (told_by after n)) after is others (left-fits mid told t g (told_by after n) c)
 
     pub left-length : length new.streams ≡ length old.streams
     left-length = ap (λ (x : State). length x.streams) is ∙ mid-length mid told (Ok tt) t

@@ -1,15 +1,12 @@
 -- What the turn of a host writer keeps: types, owners but that the writer may be gone, handles, and where
 -- operations lie.
-use Rattle.std.proofs.Common.{◌≡◌, ℕ, suc, zero, ◌+◌, ◌-◌, ◌*◌, ◌<◌, ◌≤◌, ◌==◌, Bool, true, false, cond, List, [], ◌∷◌, length, take, drop, length-take, length-append, length-drop, Option, Some, None, Result, Ok, Err, refl, sym, subst, arith}
-use Rattle.strm_codes.specs.Layout.{scalars_of, item_size}
+use Rattle.std.proofs.Common.{◌≡◌, ℕ, ◌≤◌, ◌==◌, Bool, true, false, cond, List, [], ◌∷◌, length, take, length-take, Option, Some, None, Result, Ok, Err, refl, sym, subst, arith}
+use Rattle.strm_codes.specs.Layout.{scalars_of}
 use Rattle.strm_codes.specs.declared.payloads.Payload.{Payload}
-use Rattle.strm_codes.specs.declared.scalars.Scalar.{Scalar}
 use Rattle.strm_codes.specs.declared.codes.StreamResult.{StreamResult}
 use Rattle.strm_codes.specs.declared.codes.StreamResult.TheVariants as results
-use Rattle.strm_memory.specs.Items.{stored_at}
-use Rattle.strm_memory.specs.Region.{is_out_of_bounds}
-use Rattle.strm_memory.proofs.RegionLemmas.{length-stored}
 use Rattle.strm_buffers.specs.Listing.{Item}
+use Rattle.strm_buffers.specs.Said.{WriterSaid}
 use Rattle.strm_buffers.specs.Tells.{WriterTells}
 use Rattle.strm_machine.specs.State.{Guest, memory_in}
 use Rattle.strm_machine.specs.Sides.{with_operation}
@@ -20,34 +17,23 @@ use Rattle.strm_machine.specs.declared.streams.Owner.TheVariants.{Gone}
 use Rattle.strm_machine.specs.declared.streams.Producer.{Producer}
 use Rattle.strm_machine.specs.declared.streams.Side.TheVariants.{Writing, Reading}
 use Rattle.strm_machine.specs.declared.streams.Stream.{Stream}
-use Rattle.strm_machine.proofs.BoundLemmas.{within, not_out-front}
+use Rattle.strm_machine.proofs.BoundLemmas.{length-stored_front}
 use Rattle.strm_machine.proofs.SideLemmas.{IsPlaced-advanced}
 use Rattle.strm_machine.proofs.TurnLemmas.{GuestsKeep, with_memory-keeps, size_in}
 use Rattle.strm_world.specs.Settling.{went, settled, let_go, moved_on}
 use Rattle.strm_world.specs.Producing.{lowered}
+use Rattle.strm_producing.specs.Polls.{IsPolled}
 use Rattle.strm_producing.specs.Turning.{Scene, received, Polled, TurnsEmpty, TurnsHolding, Turns}
 use Rattle.strm_producing.specs.declared.turns.TurnError.{TurnError}
 use Rattle.strm_producing.specs.declared.turns.TurnError.TheVariants.{Failed, OutOfMemory, Broke}
 
 -- ## Memories
 
-length-lowered : (ss : List Scalar) (memory : List ℕ) (to n : ℕ) (xs : List Item) → length xs ≤ n → is_out_of_bounds (length memory) ss to n ≡ false → length (stored_at ss memory to xs) ≡ length memory
-length-lowered ss memory to n xs l h =
-    let front = not_out-front (length memory) ss to n (length xs) l h in
-    let room : item_size ss * length xs ≤ length memory - to = fits (length memory) (item_size ss) to (length xs) (λ p q. within (length memory) ss to (length xs) front p q) in
-    let same = length-stored ss (drop to memory) xs (omega (arith, room, length-drop to memory)) in
-    rw (length-append, same) (omega (arith, length-take to memory, length-drop to memory))
-  where
-    fits : (size w to n : ℕ) → (0 < n → 0 < w → to + w * n ≤ size) → w * n ≤ size - to
-    fits size zero to n k = omega arith
-    fits size (suc w) to zero k = omega arith
-    fits size (suc w) to (suc n) k = omega (arith, k (omega arith) (omega arith))
-
 pub lowered-keeps : (guests : List Guest) (payload : Payload) (read : Operation) (items : List Item) → IsPlaced (sizes_of guests) payload read → length items ≤ read.left → GuestsKeep guests (lowered guests payload read items)
 lowered-keeps guests payload read items p l =
     let inside = p.inside in
     with_memory-keeps guests read.guest _
-    (length-lowered (scalars_of payload) (memory_in guests read.guest) read.address read.left items l (rw (size_in guests read.guest) at inside))
+    (length-stored_front (scalars_of payload) (memory_in guests read.guest) read.address read.left items l (rw (size_in guests read.guest) at inside))
 
 -- ## The stream
 
@@ -89,51 +75,60 @@ stays-moves sizes stream h = record { done = false; writer = refl; reader = refl
 
 -- ## The scene of a turn
 
+-- a host writer has the kind and the payload that it had
+pub record TellsKeep (old new : WriterTells) : Type 0 where
+  pub kind : new.kind ≡ old.kind
+  pub payload : new.payload ≡ old.payload
+
 pub record SceneKeeps (old after : Scene) : Type 0 where
   pub guests : GuestsKeep old.guests after.guests
   pub stream : StreamMoves (sizes_of old.guests) old.stream after.stream
   pub duty : after.producer.duty ≡ old.producer.duty
-  pub kind : after.tells.kind ≡ old.tells.kind
-  pub payload : after.tells.payload ≡ old.tells.payload
+  pub tells : TellsKeep old.tells after.tells
 
 module _ (old : Scene) (read : Operation) (p : IsPlaced (sizes_of old.guests) old.stream.payload read) (h : StreamIsPlaced (sizes_of old.guests) old.stream) where
-  received_keeps : (items : List Item) (result : Option StreamResult) (producer : Producer) (tells : WriterTells) → length items ≤ read.left → producer.duty ≡ old.producer.duty → tells.kind ≡ old.tells.kind → tells.payload ≡ old.tells.payload → SceneKeeps old (record (received old read items result) { producer = producer; tells = tells })
-  received_keeps items result producer tells l d k q = record {
+  -- the scene after the read received these items, and the host writer is this
+  abbrev after_items : List Item → Option StreamResult → Producer → WriterTells → Scene
+  after_items items result producer tells = record (received old read items result) { producer = producer; tells = tells }
+
+  received_keeps : (items : List Item) (result : Option StreamResult) (producer : Producer) (tells : WriterTells) → length items ≤ read.left → producer.duty ≡ old.producer.duty → TellsKeep old.tells tells → SceneKeeps old (after_items items result producer tells)
+  received_keeps items result producer tells l d k = record {
     guests = lowered-keeps old.guests old.stream.payload read items p l;
     stream = moved_on-moves (sizes_of old.guests) old.stream read (length items) result h p l;
     duty = d;
-    kind = k;
-    payload = q;
+    tells = k;
   }
 
-  stopped_keeps : (items : List Item) (tells : WriterTells) → length items ≤ read.left → tells.kind ≡ old.tells.kind → tells.payload ≡ old.tells.payload → SceneKeeps old (record old { guests = lowered old.guests old.stream.payload read items; tells = tells })
-  stopped_keeps items tells l k q = record {
+  stopped_keeps : (items : List Item) (tells : WriterTells) → length items ≤ read.left → TellsKeep old.tells tells → SceneKeeps old (record old { guests = lowered old.guests old.stream.payload read items; tells = tells })
+  stopped_keeps items tells l k = record {
     guests = lowered-keeps old.guests old.stream.payload read items p l;
     stream = stays-moves (sizes_of old.guests) old.stream h;
     duty = refl;
-    kind = k;
-    payload = q;
+    tells = k;
   }
+
+  polls_keep : (said : WriterSaid) (tells : WriterTells) → IsPolled old.tells tells read said → TellsKeep old.tells tells
+  polls_keep said tells t = record { kind = t.polls.kind; payload = t.polls.payload }
 
   few : (xs : List Item) → length (take read.left xs) ≤ read.left
   few xs = omega (arith, length-take read.left xs)
 
   polled_keeps : (result : Result (Unit {0}) TurnError) (after : Scene) → Polled result old after read → SceneKeeps old after
   polled_keeps (Ok v) after t =
-      subst (SceneKeeps old) (sym t.1.after) (received_keeps _ _ _ after.tells (few t.0.items) refl t.1.polled.polls.kind t.1.polled.polls.payload)
+      subst (SceneKeeps old) (sym t.1.after) (received_keeps _ _ _ after.tells (few t.0.items) refl (polls_keep t.0 after.tells t.1.polled))
   polled_keeps (Err Failed) after t =
-      subst (SceneKeeps old) (sym t.1.stopped.after) (stopped_keeps _ after.tells t.1.stopped.few t.1.polled.polls.kind t.1.polled.polls.payload)
+      subst (SceneKeeps old) (sym t.1.stopped.after) (stopped_keeps _ after.tells t.1.stopped.few (polls_keep t.0 after.tells t.1.polled))
   polled_keeps (Err Broke) after t =
-      subst (SceneKeeps old) (sym t.1.stopped.after) (stopped_keeps _ after.tells t.1.stopped.few t.1.polled.polls.kind t.1.polled.polls.payload)
+      subst (SceneKeeps old) (sym t.1.stopped.after) (stopped_keeps _ after.tells t.1.stopped.few (polls_keep t.0 after.tells t.1.polled))
   polled_keeps (Err OutOfMemory) after t =
-      subst (SceneKeeps old) (sym t.1.stopped.after) (stopped_keeps _ after.tells t.1.stopped.few t.1.tells.kind t.1.tells.payload)
+      subst (SceneKeeps old) (sym t.1.stopped.after) (stopped_keeps _ after.tells t.1.stopped.few (record { kind = t.1.tells.kind; payload = t.1.tells.payload }))
 
   empty_keeps : (over : Bool) (result : Result (Unit {0}) TurnError) (after : Scene) → TurnsEmpty over result old after read → SceneKeeps old after
-  empty_keeps true result after t = subst (SceneKeeps old) (sym t.1) (received_keeps [] (Some results.Dropped) old.producer old.tells (omega arith) refl refl refl)
+  empty_keeps true result after t = subst (SceneKeeps old) (sym t.1) (received_keeps [] (Some results.Dropped) old.producer old.tells (omega arith) refl (record { kind = refl; payload = refl }))
   empty_keeps false result after t = polled_keeps result after t
 
   holding_keeps : (held : List Item) (result : Result (Unit {0}) TurnError) (after : Scene) → TurnsHolding held result old after read → SceneKeeps old after
-  holding_keeps (item ∷ items) result after t = subst (SceneKeeps old) (sym t.1) (received_keeps _ (Some results.Completed) old.producer _ (few old.tells.holds) refl refl refl)
+  holding_keeps (item ∷ items) result after t = subst (SceneKeeps old) (sym t.1) (received_keeps _ (Some results.Completed) old.producer _ (few old.tells.holds) refl (record { kind = refl; payload = refl }))
   holding_keeps [] result after t = empty_keeps old.producer.over result after t
 
   -- whatever came of it

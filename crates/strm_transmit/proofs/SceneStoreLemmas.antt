@@ -1,47 +1,42 @@
 -- The store after a host writer had its turn.
 use mir.Val.{bool_byte}
-use Rattle.std.proofs.Common.{◌≡◌, ℕ, ◌+◌, ◌-◌, ◌<◌, Bool, true, false, cond, List, length, get_or, set, refl, sym, ap, ◌∙◌, subst, arith}
+use Rattle.std.proofs.Common.{◌≡◌, ℕ, ◌+◌, ◌-◌, ◌<◌, Bool, true, false, cond, List, length, get_or, set, sym, ap, ◌∙◌, subst, arith}
 use Rattle.std.specs.Prelude.{count_by}
-use Rattle.std.proofs.lemmas.List.{length-map, length-set, get_or_default}
-use Rattle.std.proofs.lemmas.List.Sums.{sum_by-set}
-use Rattle.strm_handles.specs.Counters.{Counter}
+use Rattle.std.proofs.lemmas.List.{length-set, get_or_default}
 use Rattle.strm_machine.specs.State.{State, no_stream, stream_at, producer_at, is_live, is_host}
-use Rattle.strm_machine.specs.Soundness.{IsSound, sizes_of, handles_of, type_of}
-use Rattle.strm_machine.proofs.TurnLemmas.{sets_of}
+use Rattle.strm_machine.specs.Soundness.{IsSound}
 use Rattle.strm_machine.specs.declared.streams.Owner.{Owner}
 use Rattle.strm_machine.specs.declared.streams.Owner.TheVariants.{Host, Gone}
 use Rattle.strm_machine.specs.declared.streams.Duty.TheVariants.{Serves}
 use Rattle.strm_machine.specs.declared.streams.Stream.{Stream}
-use Rattle.strm_machine.proofs.SoundLemmas.{IsSound-guests, IsSound-stream}
+use Rattle.strm_machine.proofs.SoundLemmas.{type_of-same, IsSound-guests, IsSound-stream}
 use Rattle.strm_buffers.specs.Tells.{WriterTells, Tells}
-use Rattle.strm_turns.specs.Guests.{seen, guest_of}
+use Rattle.strm_turns.specs.Guests.{seen}
 use Rattle.strm_producing.specs.Turning.{Scene, scene}
 use Rattle.strm_transmit.specs.Inside.{state_of, AreServed, IsStore}
 use Rattle.strm_transmit.specs.declared.store.Store.TheInside.{Inside}
 use Rattle.strm_world.specs.Does.{FitsWriter, Fits}
 use Rattle.strm_transmit.proofs.ServedLemmas.{AreServed-turned, same_stream, serving_kept}
 use Rattle.strm_transmit.proofs.SceneLemmas.{SceneKeeps}
-use Rattle.strm_transmit.proofs.StoreLemmas.{same_handles, same_sets, same_bytes, same_count}
+use Rattle.strm_transmit.proofs.StoreLemmas.{live_by, live_weight, live_sum, kept_tables, IsStore-counted, IsSound-same}
 
 -- how many streams have an end left, after one of them became another
-abbrev weight : Stream → ℕ
-weight stream = cond (is_live stream) 1 0
+byte_is : (b : Bool) → bool_byte b ≡ live_by b
+byte_is true = omega arith
+byte_is false = omega arith
 
-weight_is : (b : Bool) → bool_byte b ≡ cond b 1 0
-weight_is true = omega arith
-weight_is false = omega arith
+-- whether a stream has an end left, as a number
+abbrev live_byte : Stream → ℕ
+live_byte stream = bool_byte (is_live stream)
 
-pub live_counted : (streams : List Stream) (s : ℕ) (before after : Stream) (live was is : ℕ) → s < length streams → before ≡ get_or streams s before → live ≡ count_by is_live streams → was ≡ bool_byte (is_live before) → is ≡ bool_byte (is_live after) → (live - was) + is ≡ count_by is_live (set streams s after)
+pub live_counted : (streams : List Stream) (s : ℕ) (before after : Stream) (live was is : ℕ) → s < length streams → before ≡ get_or streams s before → live ≡ count_by is_live streams → was ≡ live_byte before → is ≡ live_byte after → (live - was) + is ≡ count_by is_live (set streams s after)
 live_counted streams s before after live was is l e n w k =
     let here : before ≡ get_or streams s no_stream = e ∙ sym (get_or_default streams s no_stream before l) in
-    let old : was ≡ weight (get_or streams s no_stream) = w ∙ weight_is (is_live before) ∙ ap weight here in
-    let new : is ≡ weight after = k ∙ weight_is (is_live after) in
-    let fewer = sum_by-set weight streams s no_stream no_stream l in
-    let sum = sum_by-set weight streams s after no_stream l in
+    let old : was ≡ live_weight (get_or streams s no_stream) = w ∙ byte_is (is_live before) ∙ ap live_weight here in
+    let new : is ≡ live_weight after = k ∙ byte_is (is_live after) in
+    let fewer = live_sum streams s no_stream l in
+    let sum = live_sum streams s after l in
     omega (arith, n, old, new, fewer, sum)
-
-same_type : (a b : Stream) → a.payload ≡ b.payload → a.kind ≡ b.kind → type_of a ≡ type_of b
-same_type a b e f = rw (e, f) refl
 
 -- what a turn left of a scene
 pub record TakesScene (old new : Inside) (s n : ℕ) (after : Scene) : Type 0 where
@@ -86,36 +81,17 @@ module _ (old new : Inside) (s n : ℕ) (tells : WriterTells) (after : Scene) (l
 
   sound : IsSound (state_of new)
   sound =
-      let type = same_type after.stream (stream_at (state_of old) s) k.stream.payload k.stream.kind in
+      let type = type_of-same after.stream (stream_at (state_of old) s) k.stream.payload k.stream.kind in
       let streams = IsSound-stream (state_of old) s after.stream type k.stream.placed i.sound in
-      let both = IsSound-guests (record (state_of old) { streams = set old.streams.items s after.stream }) after.guests k.guests streams in
-      record {
-        named = rw (h.guests, h.streams) both.named;
-        placed = rw (h.guests, h.streams) both.placed;
-        small = rw h.guests both.small;
-        sets = rw h.guests both.sets;
-        contexts = rw (h.guests, h.contexts) both.contexts;
-      }
+      let moved = record (state_of old) { streams = set old.streams.items s after.stream } in
+      IsSound-same (record moved { guests = after.guests }) (state_of new) h.guests h.streams h.contexts (IsSound-guests moved after.guests k.guests streams)
 
   pub IsStore-scene : IsStore new
   IsStore-scene =
-      let guests = seen old.guests.items in
-      let same : sizes_of (seen new.guests.items) ≡ sizes_of (seen old.guests.items) = rw h.guests k.guests.sizes in
-      let handles : handles_of (seen new.guests.items) ≡ handles_of (seen old.guests.items) = rw h.guests k.guests.handles in
-      let sets : sets_of (seen new.guests.items) ≡ sets_of (seen old.guests.items) = rw h.guests k.guests.sets in
-      let count = same_count guests (seen new.guests.items) same in
-      record {
-        sound = sound;
-        limit = rw (h.counter, h.limits) i.limit;
-        live = ap (λ (c : Counter). c.live) h.counter ∙ i.live ∙ sym (same_handles guests (seen new.guests.items) handles);
-        within = rw h.counter i.within;
-        streams = h.counted;
-        served = served;
-        sets = h.live_sets ∙ i.sets ∙ sym (same_sets guests (seen new.guests.items) sets);
-        bytes = h.bytes ∙ i.bytes ∙ sym (same_bytes guests (seen new.guests.items) same);
-        few_guests = omega (arith, count, i.few_guests, length-map old.guests.items guest_of, length-map new.guests.items guest_of);
-        few_streams = rw (h.streams, length-set old.streams.items s after.stream) i.few_streams;
-      }
+      IsStore-counted old new
+      (kept_tables old new (record { limits = h.limits; counter = h.counter; live_sets = h.live_sets; bytes = h.bytes; guests = rw h.guests k.guests }) i)
+      (record { live = h.counted; served = served; few = rw (h.streams, length-set old.streams.items s after.stream) i.few_streams })
+      sound i
 
 -- ## The host writer that serves a stream
 

@@ -6,9 +6,11 @@ use Rattle.strm_machine.specs.State.{is_host, host_limit, no_stream, no_producer
 use Rattle.strm_machine.specs.declared.streams.Duty.{Duty}
 use Rattle.strm_machine.specs.declared.streams.Duty.TheVariants.{Unused, Serves, Ended}
 use Rattle.strm_machine.specs.declared.streams.Owner.{Owner}
-use Rattle.strm_machine.specs.declared.streams.Owner.TheVariants.{Held, Loose, Host, Gone}
+use Rattle.strm_machine.specs.declared.streams.Owner.TheVariants.{Host, Gone}
 use Rattle.strm_machine.specs.declared.streams.Producer.{Producer}
 use Rattle.strm_machine.specs.declared.streams.Stream.{Stream}
+use Rattle.strm_machine.proofs.HostLemmas.{no_host}
+use Rattle.strm_machine.proofs.TableLemmas.{at_push}
 use Rattle.strm_transmit.specs.Inside.{AreServed}
 
 -- ## Places of a list
@@ -22,20 +24,7 @@ at_set (y ∷ ys) (suc i) x d zero P l f g = g (λ e. omega (arith, e))
 at_set (y ∷ ys) (suc i) x d (suc k) P l f g =
     at_set ys i x d k P (omega (arith, l)) (λ e. f (ap suc e)) (λ n. g (λ e. n (omega (arith, e))))
 
--- and of a list with one item more
-pub at_push : {A : Type 0} (xs : List A) (x d : A) (k : ℕ) (P : A → Type 0) → (k ≡ length xs → P x) → (k ≢ length xs → P (get_or xs k d)) → P (get_or (xs ++ x ∷ []) k d)
-at_push [] x d zero P f g = f refl
-at_push [] x d (suc k) P f g = g (λ e. omega (arith, e))
-at_push (y ∷ ys) x d zero P f g = g (λ e. omega (arith, e))
-at_push (y ∷ ys) x d (suc k) P f g = at_push ys x d k P (λ e. f (ap suc e)) (λ n. g (λ e. n (omega (arith, e))))
-
 -- ## Streams
-
-pub no_host : (owner : Owner) (n : ℕ) → is_host owner ≡ false → owner ≢ Host n
-no_host (Host m) n e f = cc
-no_host (Held g h) n e f = cc
-no_host Loose n e f = cc
-no_host Gone n e f = cc
 
 -- a stream that no host end came to
 pub record ComesNoHost (before after : Stream) : Type 0 where

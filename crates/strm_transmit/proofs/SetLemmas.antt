@@ -1,14 +1,13 @@
 -- The store after a waitable set was made, joined, left or dropped, and the member that a poll finds.
-use Rattle.std.proofs.Common.{◌≡◌, ◌≢◌, ℕ, ◌+◌, ◌-◌, ◌<◌, ◌≤◌, Bool, true, false, cond, List, [], ◌∷◌, length, Option, Some, None, Result, Ok, Err, refl, sym, ap, ◌∙◌, subst, arith}
+use Rattle.std.proofs.Common.{◌≡◌, ◌≢◌, ℕ, ◌+◌, ◌-◌, ◌<◌, Bool, true, false, cond, List, [], ◌∷◌, length, Option, Some, None, Result, Ok, Err, refl, sym, ap, ◌∙◌, subst, arith}
 use Rattle.std.specs.Prelude.{nat_eq, ◌==◌, OnOk, OnErr, IfSome, IfNone}
 use Rattle.std.specs.List.{list_any}
-use Rattle.std.proofs.lemmas.List.{length-map}
-use Rattle.strm_handles.specs.Counters.{Counter, counted, uncounted}
+use Rattle.strm_handles.specs.Counters.{counted, uncounted}
 use Rattle.strm_handles.specs.Handles.{entry_at}
 use Rattle.strm_sets.specs.Sets.{Sets, is_there, members, joined, left, HasNoMember, IsLeastReady, NoneReady}
 use Rattle.strm_sets.proofs.SetLemmas.{among_members}
 use Rattle.strm_sets.proofs.TieLemmas.{eq-other}
-use Rattle.strm_machine.specs.State.{Guest, State, guest_in, sets_in, with_sets, handles_in_use, sets_in_use}
+use Rattle.strm_machine.specs.State.{Guest, State, guest_in, sets_in, with_sets}
 use Rattle.strm_machine.specs.Tests.{end_named}
 use Rattle.strm_machine.specs.WaitableSets.{set_named, number_named, has_some, has_member, is_ready, ready_member, sets_changed}
 use Rattle.strm_machine.specs.Refusals.{slot_reasons, joined_reasons, first_of, refusal}
@@ -20,10 +19,10 @@ use Rattle.strm_machine.proofs.RefusalLemmas.{none_of_both}
 use Rattle.strm_machine.proofs.SoundLemmas.{sizes_of-with_table}
 use Rattle.strm_machine.proofs.SetStepLemmas.{set_fits, on_set_fits, set_found, set_drop_fits, ready_member-least, ready_member-none}
 use Rattle.strm_machine.proofs.SoundStepLemmas.{on_set-sound, with_set-sound}
-use Rattle.strm_turns.specs.Guests.{seen, guest_of, live_in, sets_among, with_set_in, without_set_in}
+use Rattle.strm_turns.specs.Guests.{seen, live_in, sets_among, with_set_in, without_set_in}
 use Rattle.strm_transmit.specs.Inside.{state_of, IsStore}
 use Rattle.strm_transmit.specs.declared.store.Store.TheInside.{Inside}
-use Rattle.strm_transmit.proofs.StoreLemmas.{SameBut, same_bytes, same_count, how_many, sets-with_table, live-with_sets}
+use Rattle.strm_transmit.proofs.StoreLemmas.{SameBut, how_many, sets-with_table, live-with_sets, kept_counted, more_counted, less_counted, fits_below, CountsTables, kept_streams, IsStore-counted}
 
 -- streams and memories stay
 pub record KeepsStreams (old new : Inside) : Type 0 where
@@ -32,29 +31,9 @@ pub record KeepsStreams (old new : Inside) : Type 0 where
   pub live_streams : new.live_streams ≡ old.live_streams
   pub bytes : new.bytes ≡ old.bytes
 
--- handles and sets are counted, and each memory has its length
-pub record CountsTables (old new : Inside) : Type 0 where
-  pub sizes : sizes_of (seen new.guests.items) ≡ sizes_of (seen old.guests.items)
-  pub limit : new.counter.limit ≡ new.limits.handles
-  pub live : new.counter.live ≡ handles_in_use (state_of new)
-  pub within : new.counter.live ≤ new.counter.limit
-  pub sets : new.live_sets ≡ sets_in_use (state_of new)
-
 IsStore-tables : (old new : Inside) → KeepsStreams old new → CountsTables old new → IsSound (state_of new) → IsStore old → IsStore new
-IsStore-tables old new k h sound i =
-    let count = same_count (seen old.guests.items) (seen new.guests.items) h.sizes in
-    record {
-      sound = sound;
-      limit = h.limit;
-      live = h.live;
-      within = h.within;
-      streams = rw (k.live_streams, k.streams) i.streams;
-      served = rw (k.same.producers, k.streams) i.served;
-      sets = h.sets;
-      bytes = k.bytes ∙ i.bytes ∙ sym (same_bytes (seen old.guests.items) (seen new.guests.items) h.sizes);
-      few_guests = omega (arith, count, i.few_guests, length-map old.guests.items guest_of, length-map new.guests.items guest_of);
-      few_streams = rw k.streams i.few_streams;
-    }
+IsStore-tables old new k tables sound i =
+    IsStore-counted old new tables (kept_streams old new k.streams k.live_streams k.same.producers i) sound i
 
 -- the state, where streams stay and guests are these
 state_with : (old new : Inside) → KeepsStreams old new → (guests : List Guest) → seen new.guests.items ≡ guests → state_of new ≡ record (state_of old) { guests = guests }
@@ -75,11 +54,10 @@ IsStore-made_set old new g k h e i =
     let fits = set_fits (state_of old) g e in
     IsStore-tables old new k
     (record {
-      sizes = ap sizes_of h.guests ∙ sizes_of-with_table (seen old.guests.items) g _ _;
-      limit = rw (h.counter, k.same.limits) i.limit;
-      live = omega (arith, ap (λ (c : Counter). c.live) h.counter, i.live, h.live);
-      within = rw h.counter (omega (arith, fits.handles, i.limit, i.live));
+      handles = more_counted old new k.same.limits h.counter h.live (fits_below old i fits.handles) i;
       sets = omega (arith, h.live_sets, i.sets, h.sets);
+      sizes = ap sizes_of h.guests ∙ sizes_of-with_table (seen old.guests.items) g _ _;
+      bytes = k.bytes;
     })
     (subst IsSound (sym (state_with old new k (with_set_in (seen old.guests.items) g) h.guests)) (with_set-sound (state_of old) g i.sound e)) i
 
@@ -95,11 +73,10 @@ module _ (old new : Inside) (k : KeepsStreams old new) (n : KeepsCounts old new)
   same_guests e =
       IsStore-tables old new k
       (record {
-        sizes = ap sizes_of e;
-        limit = rw (n.counter, k.same.limits) i.limit;
-        live = ap (λ (c : Counter). c.live) n.counter ∙ i.live ∙ sym (ap live_in e);
-        within = rw n.counter i.within;
+        handles = kept_counted old new k.same.limits n.counter (ap live_in e) i;
         sets = n.live_sets ∙ i.sets ∙ sym (ap sets_among e);
+        sizes = ap sizes_of e;
+        bytes = k.bytes;
       })
       (subst IsSound (sym (state_with old new k (seen old.guests.items) e)) i.sound) i
 
@@ -108,11 +85,10 @@ module _ (old new : Inside) (k : KeepsStreams old new) (n : KeepsCounts old new)
       let handles = (guest_in (seen old.guests.items) g).handles in
       IsStore-tables old new k
       (record {
-        sizes = ap sizes_of e ∙ sizes_of-with_table (seen old.guests.items) g handles sets;
-        limit = rw (n.counter, k.same.limits) i.limit;
-        live = ap (λ (c : Counter). c.live) n.counter ∙ i.live ∙ sym (ap live_in e ∙ live-with_sets (seen old.guests.items) g sets);
-        within = rw n.counter i.within;
+        handles = kept_counted old new k.same.limits n.counter (ap live_in e ∙ live-with_sets (seen old.guests.items) g sets) i;
         sets = n.live_sets ∙ i.sets ∙ sym (ap sets_among e ∙ sets-with_table (seen old.guests.items) g handles sets many);
+        sizes = ap sizes_of e ∙ sizes_of-with_table (seen old.guests.items) g handles sets;
+        bytes = k.bytes;
       })
       (subst IsSound (sym (state_with old new k (with_sets (seen old.guests.items) g sets) e)) sound) i
 
@@ -120,15 +96,19 @@ module _ (old new : Inside) (k : KeepsStreams old new) (n : KeepsCounts old new)
     abbrev sets : Sets
     sets = sets_in (seen old.guests.items) g
 
+    -- the guest's sets became these
+    abbrev SetsBecome : Sets → Type 0
+    SetsBecome after = seen new.guests.items ≡ with_sets (seen old.guests.items) g after
+
     joined_sound : (b : Bool) → (set == 0) ≡ b → IsSound (sets_changed (state_of old) g (cond b (left sets handle) (joined sets handle (number_named (set_named (state_of old) g set)))))
     joined_sound b e =
         subst (λ t. IsSound (sets_changed (state_of old) g (cond t (left sets handle) (joined sets handle (number_named (set_named (state_of old) g set)))))) e
         (on_set-sound (state_of old) g set (Join handle) i.sound may)
 
-    pub IsStore-left : set ≡ 0 → seen new.guests.items ≡ with_sets (seen old.guests.items) g (left sets handle) → IsStore new
+    pub IsStore-left : set ≡ 0 → SetsBecome (left sets handle) → IsStore new
     IsStore-left zero e = other_sets g (left sets handle) refl (joined_sound true (rw zero refl)) e
 
-    pub IsStore-joined : {A E : Type 0} (r : Result A E) (number : ℕ) → set ≢ 0 → number ≡ number_named (set_named (state_of old) g set) → OnOk r (seen new.guests.items ≡ with_sets (seen old.guests.items) g (joined sets handle number)) → OnErr r (seen new.guests.items ≡ seen old.guests.items) → IsStore new
+    pub IsStore-joined : {A E : Type 0} (r : Result A E) (number : ℕ) → set ≢ 0 → number ≡ number_named (set_named (state_of old) g set) → OnOk r (SetsBecome (joined sets handle number)) → OnErr r (seen new.guests.items ≡ seen old.guests.items) → IsStore new
     IsStore-joined (Ok v) number some is ok err =
         other_sets g (joined sets handle number) refl
         (subst (λ m. IsSound (sets_changed (state_of old) g (joined sets handle m))) (sym is) (joined_sound false (eq-other set 0 some))) ok
@@ -182,24 +162,21 @@ pub IsStore-dropped_set : (old new : Inside) (g set number : ℕ) → KeepsStrea
 IsStore-dropped_set old new g set number k h may is i =
     IsStore-tables old new k
     (record {
+      handles = less_counted old new k.same.limits h.counter h.live i;
+      sets = omega (arith, h.live_sets, i.sets, h.sets);
       sizes = ap sizes_of h.guests ∙ sizes_of-with_table (seen old.guests.items) g _ _;
-      limit = rw (h.counter, k.same.limits) i.limit;
-      live = ap (λ (c : Counter). c.live) h.counter ∙ fewer _ _ _ i.live h.live;
-      within = rw h.counter (less _ _ i.within);
-      sets = h.live_sets ∙ fewer _ _ _ i.sets h.sets;
+      bytes = k.bytes;
     })
     (subst IsSound (sym (state_with old new k (without_set_in (seen old.guests.items) g set (number_named (set_named (state_of old) g set))) (h.guests ∙ ap (without_set_in (seen old.guests.items) g set) is)))
     (on_set-sound (state_of old) g set Drop i.sound may)) i
-  where
-    fewer : (c n m : ℕ) → c ≡ n → m + 1 ≡ n → c - 1 ≡ m
-    fewer c n m e f = omega (arith, e, f)
-
-    less : (c n : ℕ) → c ≤ n → c - 1 ≤ n
-    less c n e = omega (arith, e)
 
 -- ## The member that a poll finds, by what a look at each member says
 
-pub found_by : (says : ℕ → Bool → Type 0) (state : State) (g number : ℕ) (there : Sets) (found : Option ℕ) → ((n : ℕ) (b : Bool) → says n b → is_ready state g n ≡ b) → there ≡ sets_in state.guests g → IfSome found (IsLeastReady says there number) → IfNone found (NoneReady says there number) → found ≡ ready_member state g number
+-- what is said of a member is whether it is ready
+abbrev pub SaysReady : (ℕ → Bool → Type 0) → State → ℕ → Type 0
+SaysReady says state g = (n : ℕ) (b : Bool) → says n b → is_ready state g n ≡ b
+
+pub found_by : (says : ℕ → Bool → Type 0) (state : State) (g number : ℕ) (there : Sets) (found : Option ℕ) → SaysReady says state g → there ≡ sets_in state.guests g → IfSome found (IsLeastReady says there number) → IfNone found (NoneReady says there number) → found ≡ ready_member state g number
 found_by says state g number there (Some handle) tells here some none =
     sym (ready_member-least state g number handle
     (subst (λ k. IsLeastReady (λ n ready. is_ready state g n ≡ ready) k number handle) here

@@ -12,44 +12,49 @@ use Rattle.strm_transmit.specs.Meets.{Meets, as_answer, admitted, or_found}
 use Rattle.strm_transmit.specs.declared.errors.StoreError.{StoreError}
 use Rattle.strm_transmit.specs.declared.errors.StoreError.TheVariants.{Refused, StoreTrapped}
 
--- why an act was not admitted, as the machine's answer
-pub meets_not_admitted : {V : Type 0} (state : State) (act : Act) (wanted : V) (found : Result V Refusal) (error : StoreError) → found ≡ or_found (refusal state act) wanted → Err error ≡ admitted state found → Meets state state (Err error) (reaction state act)
-meets_not_admitted {V = V} state act wanted found error e a =
-    trapped_or state.trapped refl (a ∙ ap (admitted state) e)
-  where
-    refused : (o : Option Refusal) → state.trapped ≡ false → refusal state act ≡ o → Err error ≡ as_answer {T = V} (or_found o wanted) → Meets state state (Err error) (reaction state act)
-    refused None t r k = cc
-    refused (Some q) t r k =
-        let same : Refused q ≡ error = cc in rw (← same) (reaction-refused state act q t r, refl)
+-- ## What was found, or what refused it
 
-    trapped_or : (b : Bool) → state.trapped ≡ b → Err error ≡ cond b (Err StoreTrapped) (as_answer {T = V} (or_found (refusal state act) wanted)) → Meets state state (Err error) (reaction state act)
-    trapped_or true t k = let same : StoreTrapped ≡ error = cc in rw (← same) (reaction-trapped state act t, refl)
-    trapped_or false t k = refused (refusal state act) t refl k
-
--- an act that was admitted: the store isn't trapped, nothing refuses the act, and what was found is
--- what was looked for
-pub record IsAdmitted {V : Type 0} (state : State) (act : Act) (wanted : V) (found : Result V Refusal) (value : V) : Type 0 where
+-- what was admitted: the store isn't trapped, nothing refused, and what was found is what was looked for
+pub record IsAdmitted {V : Type 0} (state : State) (o : Option Refusal) (wanted value : V) : Type 0 where
   pub untrapped : state.trapped ≡ false
-  pub none : refusal state act ≡ None
-  pub here : found ≡ Ok value
+  pub none : o ≡ None
   pub same : value ≡ wanted
 
-pub is_admitted : {V : Type 0} (state : State) (act : Act) (wanted : V) (found : Result V Refusal) (value : V) → found ≡ or_found (refusal state act) wanted → Ok value ≡ admitted state found → IsAdmitted state act wanted found value
-is_admitted {V = V} state act wanted found value e a = trapped_or state.trapped refl (a ∙ ap (admitted state) e)
-  where
-    passed : (o : Option Refusal) → state.trapped ≡ false → refusal state act ≡ o → Ok value ≡ as_answer (or_found o wanted) → IsAdmitted state act wanted found value
-    passed None t r k =
-        let same : value ≡ wanted = cc in
-        record { untrapped = t; none = r; here = e ∙ ap (λ o. or_found o wanted) r ∙ ap Ok (sym same); same = same }
-    passed (Some q) t r k = cc
+module _ {V : Type 0} (state : State) (o : Option Refusal) (wanted : V) (found : Result V Refusal) where
+  pub is_admitted : (value : V) → found ≡ or_found o wanted → Ok value ≡ admitted state found → IsAdmitted state o wanted value
+  is_admitted value e a = trapped_or state.trapped refl (a ∙ ap (admitted state) e)
+    where
+      passed_by : (q : Option Refusal) → state.trapped ≡ false → o ≡ q → Ok value ≡ as_answer (or_found q wanted) → IsAdmitted state o wanted value
+      passed_by None t r k = record { untrapped = t; none = r; same = cc }
+      passed_by (Some q) t r k = cc
 
-    trapped_or : (b : Bool) → state.trapped ≡ b → Ok value ≡ cond b (Err StoreTrapped) (as_answer (or_found (refusal state act) wanted)) → IsAdmitted state act wanted found value
-    trapped_or true t k = cc
-    trapped_or false t k = passed (refusal state act) t refl k
+      trapped_or : (b : Bool) → state.trapped ≡ b → Ok value ≡ cond b (Err StoreTrapped) (as_answer (or_found o wanted)) → IsAdmitted state o wanted value
+      trapped_or true t k = cc
+      trapped_or false t k = passed_by o t refl k
+
+  -- what was not admitted has what a trapped store's answer has, and what each refusal has
+  pub not_admitted : (P : StoreError → Type 0) (error : StoreError) → found ≡ or_found o wanted → Err error ≡ admitted state found → (state.trapped ≡ true → P StoreTrapped) → ((q : Refusal) → state.trapped ≡ false → o ≡ Some q → P (Refused q)) → P error
+  not_admitted P error e a f g = trapped_or state.trapped refl (a ∙ ap (admitted state) e)
+    where
+      refused : (q : Option Refusal) → state.trapped ≡ false → o ≡ q → Err error ≡ as_answer {T = V} (or_found q wanted) → P error
+      refused None t r k = cc
+      refused (Some q) t r k = let same : Refused q ≡ error = cc in subst P same (g q t r)
+
+      trapped_or : (b : Bool) → state.trapped ≡ b → Err error ≡ cond b (Err StoreTrapped) (as_answer {T = V} (or_found o wanted)) → P error
+      trapped_or true t k = let same : StoreTrapped ≡ error = cc in subst P same (f t)
+      trapped_or false t k = refused o t refl k
+
+-- ## An act
+
+-- why an act was not admitted, as the machine's answer
+pub meets_not_admitted : {V : Type 0} (state : State) (act : Act) (wanted : V) (found : Result V Refusal) (error : StoreError) → found ≡ or_found (refusal state act) wanted → Err error ≡ admitted state found → Meets state state (Err error) (reaction state act)
+meets_not_admitted state act wanted found error e a =
+    not_admitted state (refusal state act) wanted found (λ x. Meets state state (Err x) (reaction state act)) error e a
+    (λ t. (reaction-trapped state act t, refl)) (λ q t r. (reaction-refused state act q t r, refl))
 
 -- an act that was admitted does with what was found what the machine performs
-pub reacts : {V : Type 0} (state : State) (act : Act) (wanted : V) (found : Result V Refusal) (value : V) (does : V → Reaction) → IsAdmitted state act wanted found value → performs state act ≡ does wanted → reaction state act ≡ does value
-reacts state act wanted found value does a p =
+pub reacts : {V : Type 0} (state : State) (act : Act) (wanted value : V) (does : V → Reaction) → IsAdmitted state (refusal state act) wanted value → performs state act ≡ does wanted → reaction state act ≡ does value
+reacts state act wanted value does a p =
     reaction-performs state act a.untrapped a.none ∙ p ∙ ap does (sym a.same)
 
 -- so a doing that is what the machine performs is the call

@@ -3,11 +3,12 @@ use Rattle.std.proofs.Common.{◌≡◌, ℕ, Bool, cond, get_or, set, ◌+◌, 
 use Rattle.std.specs.Prelude.{sum, count_by, nat_lt, ◌*◌}
 use Rattle.std.proofs.Math.Seq.{map-set_same}
 use Rattle.std.proofs.lemmas.List.{map-append, length-map, length-replicate, length-set, get_or_default}
-use Rattle.std.proofs.lemmas.List.Sums.{sum_by-append, sum_by-set, sum-map}
+use Rattle.std.proofs.lemmas.List.Sums.{sum_by_push, sum_by-set, sum-map}
+use Rattle.std.proofs.lemmas.Simd.{map-map}
 use Rattle.strm_machine.specs.Turns.{Turn}
 use Rattle.strm_machine.specs.declared.streams.Producer.{Producer}
 use Rattle.strm_machine.specs.declared.streams.Stream.{Stream}
-use Rattle.strm_handles.specs.Counters.{Counter, counted}
+use Rattle.strm_handles.specs.Counters.{Counter, counted, uncounted}
 use Rattle.strm_handles.specs.Handles.{Handles, no_handles, live_of, next_index}
 use Rattle.strm_handles.proofs.HandleLemmas.{live_of-no_handles}
 use Rattle.strm_machine.specs.State as machine
@@ -26,7 +27,7 @@ use Rattle.strm_machine.specs.declared.replies.Reply.TheVariants as replies
 use Rattle.strm_machine.proofs.RefusalLemmas.{BytesFit, guest_fits, poke_fits, pair_fits}
 use Rattle.strm_machine.proofs.SoundLemmas.{IsSound-guest, IsSound-guests, IsSound-turn, IsSound-with_stream, sizes_of-with_handles}
 use Rattle.strm_machine.proofs.BoundLemmas.{length-poked}
-use Rattle.strm_machine.proofs.TurnLemmas.{GuestsKeep, TurnKeeps, with_memory-keeps, sets_of}
+use Rattle.strm_machine.proofs.TurnLemmas.{GuestsKeep, TurnKeeps, all_kept, with_memory-keeps, sets_of}
 use Rattle.strm_codes.specs.declared.codes.TransmitIndex.{TransmitIndex}
 use Rattle.strm_machine.specs.Making.{with_read_end, with_ends, made_stream, made_pair, with_stream}
 use Rattle.strm_machine.specs.declared.replies.Pair.{Pair}
@@ -47,8 +48,7 @@ pub record SameBut (old new : Inside) : Type 0 where
 seen-push : (guests : List ours.Guest) (g : ours.Guest) → seen (guests ++ g ∷ []) ≡ seen guests ++ guest_of g ∷ []
 seen-push guests g = map-append guest_of guests (g ∷ [])
 
-sum_by-push : {X : Type 0} (f : X → ℕ) (xs : List X) (x : X) → sum_by f (xs ++ x ∷ []) ≡ sum_by f xs + f x
-sum_by-push f xs x = let e = sum_by-append f xs (x ∷ []) in omega (arith, e)
+-- ## One guest more
 
 -- one guest more, of so many zero bytes
 pub record AddsGuest (old new : Inside) (g : ours.Guest) (size : ℕ) : Type 0 where
@@ -83,10 +83,10 @@ IsStore-guest old new g size h e s =
     let sound = IsSound-guest (state_of old) (guest_of g) h.handles h.sets (omega (arith, total, many, fits.bytes)) s.sound in
     let after = state_of-guest old new g size h in
     let none : live_of g.table.handles ≡ 0 = rw h.handles live_of-no_handles in
-    let live : handles_in_use (state_of old) ≡ handles_in_use (state_of new) = added _ _ _ (sum_by-push (λ k. live_of k.handles) (seen old.guests.items) (guest_of g)) none ∙ sym (ap handles_in_use after) in
+    let live : handles_in_use (state_of old) ≡ handles_in_use (state_of new) = added _ _ _ (sum_by_push (λ k. live_of k.handles) (seen old.guests.items) (guest_of g)) none ∙ sym (ap handles_in_use after) in
     let no_set : sets_held (guest_of g) ≡ 0 = ap how_many h.sets in
-    let sets : sets_in_use (state_of old) ≡ sets_in_use (state_of new) = added _ _ _ (sum_by-push sets_held (seen old.guests.items) (guest_of g)) no_set ∙ sym (ap sets_in_use after) in
-    let bytes : bytes_in_use (state_of old) + length g.memory ≡ bytes_in_use (state_of new) = sym (sum_by-push (λ k. length k.memory) (seen old.guests.items) (guest_of g)) ∙ sym (ap bytes_in_use after) in
+    let sets : sets_in_use (state_of old) ≡ sets_in_use (state_of new) = added _ _ _ (sum_by_push sets_held (seen old.guests.items) (guest_of g)) no_set ∙ sym (ap sets_in_use after) in
+    let bytes : bytes_in_use (state_of old) + length g.memory ≡ bytes_in_use (state_of new) = sym (sum_by_push (λ k. length k.memory) (seen old.guests.items) (guest_of g)) ∙ sym (ap bytes_in_use after) in
     record {
       sound = rw after sound;
       limit = rw (h.counter, h.same.limits) s.limit;
@@ -108,14 +108,11 @@ unfolding performs
 performs-guest old new g size n h e =
     rw (state_of-guest old new g size h, h.memory, h.handles, h.sets, e, length-map old.guests.items guest_of) refl
 
-map-map : {X : Type 0} (f : machine.Guest → X) (g : X → ℕ) (xs : List machine.Guest) → map g (map f xs) ≡ map (λ x. g (f x)) xs
-map-map f g [] = refl
-map-map f g (x ∷ xs) = ap (λ ys. g (f x) ∷ ys) (map-map f g xs)
-
 by_map : {X : Type 0} (f : machine.Guest → X) (g : X → ℕ) (xs : List machine.Guest) → sum_by g (map f xs) ≡ sum_by (λ x. g (f x)) xs
-by_map f g xs = sym (sum-map g (map f xs)) ∙ ap sum (map-map f g xs) ∙ sum-map (λ x. g (f x)) xs
+by_map f g xs = sym (sum-map g (map f xs)) ∙ ap sum (map-map g f xs) ∙ sum-map (λ x. g (f x)) xs
 
--- what is counted of guests with the memory lengths, the handles or the sets of others
+-- ## Guests with the memory lengths, the handles or the sets of others
+
 pub same_handles : (old new : List machine.Guest) → handles_of new ≡ handles_of old → sum_by (λ (g : machine.Guest). live_of g.handles) new ≡ sum_by (λ (g : machine.Guest). live_of g.handles) old
 same_handles old new e = sym (by_map (λ g. g.handles) live_of new) ∙ ap (sum_by live_of) e ∙ by_map (λ g. g.handles) live_of old
 
@@ -136,6 +133,107 @@ same_bytes old new e = sym (sum-map (λ (g : machine.Guest). length g.memory) ne
 pub same_count : (old new : List machine.Guest) → sizes_of new ≡ sizes_of old → length new ≡ length old
 same_count old new e = sym (length-map new (λ (g : machine.Guest). length g.memory)) ∙ ap length e ∙ length-map old (λ (g : machine.Guest). length g.memory)
 
+-- ## The parts of a store's invariant
+
+-- the handles' counter agrees with the handles
+pub record IsCounted (new : Inside) : Type 0 where
+  pub limit : new.counter.limit ≡ new.limits.handles
+  pub live : new.counter.live ≡ live_in (seen new.guests.items)
+  pub within : new.counter.live ≤ new.counter.limit
+
+module _ (old new : Inside) (limits : new.limits ≡ old.limits) where
+  -- as many handles
+  pub kept_counted : new.counter ≡ old.counter → live_in (seen new.guests.items) ≡ live_in (seen old.guests.items) → IsStore old → IsCounted new
+  kept_counted c live i = record {
+    limit = rw (c, limits) i.limit;
+    live = ap (λ (k : Counter). k.live) c ∙ i.live ∙ sym live;
+    within = rw c i.within;
+  }
+
+  -- one more, or one less, and counted
+  pub more_counted : new.counter ≡ counted old.counter → live_in (seen new.guests.items) ≡ live_in (seen old.guests.items) + 1 → old.counter.live < old.counter.limit → IsStore old → IsCounted new
+  more_counted c live below i = record {
+    limit = rw (c, limits) i.limit;
+    live = omega (arith, ap (λ (k : Counter). k.live) c, i.live, live);
+    within = rw c (omega (arith, below));
+  }
+
+  pub less_counted : new.counter ≡ uncounted old.counter → live_in (seen new.guests.items) + 1 ≡ live_in (seen old.guests.items) → IsStore old → IsCounted new
+  less_counted c live i = record {
+    limit = rw (c, limits) i.limit;
+    live = omega (arith, ap (λ (k : Counter). k.live) c, i.live, live);
+    within = rw c (omega (arith, i.within));
+  }
+
+-- a handle more is below the limit
+pub fits_below : (s : Inside) → IsStore s → live_in (seen s.guests.items) + 1 ≤ s.limits.handles → s.counter.live < s.counter.limit
+fits_below s i h = omega (arith, h, i.limit, i.live)
+
+-- handles and sets are counted, and each memory has its length
+pub record CountsTables (old new : Inside) : Type 0 where
+  pub handles : IsCounted new
+  pub sets : new.live_sets ≡ sets_in_use (state_of new)
+  pub sizes : sizes_of (seen new.guests.items) ≡ sizes_of (seen old.guests.items)
+  pub bytes : new.bytes ≡ old.bytes
+
+-- guests with the handles, the sets and the memory lengths of those before
+pub record KeepsGuests (old new : Inside) : Type 0 where
+  pub limits : new.limits ≡ old.limits
+  pub counter : new.counter ≡ old.counter
+  pub live_sets : new.live_sets ≡ old.live_sets
+  pub bytes : new.bytes ≡ old.bytes
+  pub guests : GuestsKeep (seen old.guests.items) (seen new.guests.items)
+
+pub kept_tables : (old new : Inside) → KeepsGuests old new → IsStore old → CountsTables old new
+kept_tables old new k i = record {
+  handles = kept_counted old new k.limits k.counter (same_handles (seen old.guests.items) (seen new.guests.items) k.guests.handles) i;
+  sets = k.live_sets ∙ i.sets ∙ sym (same_sets (seen old.guests.items) (seen new.guests.items) k.guests.sets);
+  sizes = k.guests.sizes;
+  bytes = k.bytes;
+}
+
+-- streams are counted, and agree with host writers
+pub record CountsStreams (new : Inside) : Type 0 where
+  pub live : new.live_streams ≡ count_by is_live new.streams.items
+  pub served : AreServed new.producers new.streams.items
+  pub few : length new.streams.items ≤ 4294967295
+
+pub kept_streams : (old new : Inside) → new.streams ≡ old.streams → new.live_streams ≡ old.live_streams → new.producers ≡ old.producers → IsStore old → CountsStreams new
+kept_streams old new streams live producers i = record {
+  live = rw (live, streams) i.streams;
+  served = rw (producers, streams) i.served;
+  few = rw streams i.few_streams;
+}
+
+-- the parts are the whole
+pub IsStore-counted : (old new : Inside) → CountsTables old new → CountsStreams new → IsSound (state_of new) → IsStore old → IsStore new
+IsStore-counted old new tables streams sound i =
+    let count = same_count (seen old.guests.items) (seen new.guests.items) tables.sizes in
+    record {
+      sound = sound;
+      limit = tables.handles.limit;
+      live = tables.handles.live;
+      within = tables.handles.within;
+      streams = streams.live;
+      served = streams.served;
+      sets = tables.sets;
+      bytes = tables.bytes ∙ i.bytes ∙ sym (same_bytes (seen old.guests.items) (seen new.guests.items) tables.sizes);
+      few_guests = omega (arith, count, i.few_guests, length-map old.guests.items guest_of, length-map new.guests.items guest_of);
+      few_streams = streams.few;
+    }
+
+-- whether a state is sound is seen of guests, streams and error contexts
+pub IsSound-same : (a b : State) → b.guests ≡ a.guests → b.streams ≡ a.streams → b.contexts ≡ a.contexts → IsSound a → IsSound b
+IsSound-same a b g s c h = record {
+  named = rw (g, s) h.named;
+  placed = rw (g, s) h.placed;
+  small = rw g h.small;
+  sets = rw g h.sets;
+  contexts = rw (g, c) h.contexts;
+}
+
+-- ## Bytes
+
 -- bytes put into a guest's memory
 pub record PutsBytes (old new : Inside) (g address : ℕ) (bytes : List ℕ) : Type 0 where
   pub same : SameBut old new
@@ -152,28 +250,21 @@ performs-poke old new g address bytes h =
     rw (h.same.tag, h.same.limits, h.same.producers, h.same.contexts, h.same.trapped, h.streams, h.guests) refl
 
 pub IsStore-put : (old new : Inside) (g address : ℕ) (bytes : List ℕ) → PutsBytes old new g address bytes → BytesFit (state_of old) g address (length bytes) → IsStore old → IsStore new
-IsStore-put old new g address bytes h fits s =
+IsStore-put old new g address bytes h fits i =
     let size = length-poked (memory_in (seen old.guests.items) g) address bytes fits.inside in
     let keeps = with_memory-keeps (seen old.guests.items) g (put_at (memory_in (seen old.guests.items) g) address bytes) size in
     let kept : GuestsKeep (seen old.guests.items) (seen new.guests.items) = rw h.guests keeps in
     let state : state_of new ≡ record (state_of old) { guests = seen new.guests.items } = rw (h.same.tag, h.same.limits, h.same.producers, h.same.contexts, h.same.trapped, h.streams) refl in
-    let count = same_count (seen old.guests.items) (seen new.guests.items) kept.sizes in
-    record {
-      sound = rw state (IsSound-guests (state_of old) (seen new.guests.items) kept s.sound);
-      limit = rw (h.counter, h.same.limits) s.limit;
-      live = ap (λ (c : Counter). c.live) h.counter ∙ s.live ∙ sym (same_handles (seen old.guests.items) (seen new.guests.items) kept.handles);
-      within = rw h.counter s.within;
-      streams = rw (h.live_streams, h.streams) s.streams;
-      served = rw (h.same.producers, h.streams) s.served;
-      sets = h.live_sets ∙ s.sets ∙ sym (same_sets (seen old.guests.items) (seen new.guests.items) kept.sets);
-      bytes = h.count ∙ s.bytes ∙ sym (same_bytes (seen old.guests.items) (seen new.guests.items) kept.sizes);
-      few_guests = omega (arith, count, s.few_guests, length-map old.guests.items guest_of, length-map new.guests.items guest_of);
-      few_streams = rw h.streams s.few_streams;
-    }
+    IsStore-counted old new
+    (kept_tables old new (record { limits = h.same.limits; counter = h.counter; live_sets = h.live_sets; bytes = h.count; guests = kept }) i)
+    (kept_streams old new h.streams h.live_streams h.same.producers i)
+    (rw state (IsSound-guests (state_of old) (seen new.guests.items) kept i.sound)) i
 
 pub IsStore-poke : (old new : Inside) (g address : ℕ) (bytes : List ℕ) → PutsBytes old new g address bytes → refusal (state_of old) (OnMemory g (Poke address bytes)) ≡ None → IsStore old → IsStore new
 IsStore-poke old new g address bytes h e s =
     IsStore-put old new g address bytes h (poke_fits (state_of old) g address bytes e) s
+
+-- ## One stream that is another, and guests
 
 -- guests and one stream as a turn left them
 pub record TakesTurn (old new : Inside) (s : ℕ) (t : Turn) : Type 0 where
@@ -188,94 +279,47 @@ pub record TakesTurn (old new : Inside) (s : ℕ) (t : Turn) : Type 0 where
   pub guests : seen new.guests.items ≡ t.guests
   pub streams : new.streams.items ≡ set old.streams.items s t.stream
 
-abbrev live_by : Bool → ℕ
+abbrev pub live_by : Bool → ℕ
 live_by b = cond b 1 0
 
-abbrev live_weight : Stream → ℕ
+-- how many streams have an end left, by each of them
+abbrev pub live_weight : Stream → ℕ
 live_weight stream = live_by (is_live stream)
 
-live_sum : (streams : List Stream) (s : ℕ) (stream : Stream) → s < length streams → count_by is_live (set streams s stream) + live_weight (get_or streams s no_stream) ≡ count_by is_live streams + live_weight stream
+pub live_sum : (streams : List Stream) (s : ℕ) (stream : Stream) → s < length streams → count_by is_live (set streams s stream) + live_weight (get_or streams s no_stream) ≡ count_by is_live streams + live_weight stream
 live_sum streams s stream l = sum_by-set live_weight streams s stream no_stream l
-
--- one stream set to another, and the memories with their lengths
-pub record SetsStream (old new : Inside) (s : ℕ) (stream : Stream) : Type 0 where
-  pub limit : new.counter.limit ≡ new.limits.handles
-  pub live : new.counter.live ≡ handles_in_use (state_of new)
-  pub within : new.counter.live ≤ new.counter.limit
-  pub sizes : sizes_of (seen new.guests.items) ≡ sizes_of (seen old.guests.items)
-  pub bytes : new.bytes ≡ old.bytes
-  pub counted : new.live_streams ≡ count_by is_live new.streams.items
-  pub sets : new.live_sets ≡ sets_in_use (state_of new)
-  pub streams : new.streams.items ≡ set old.streams.items s stream
-  pub served : AreServed new.producers new.streams.items
-
--- what is kept of host writers alone is another
-pub IsStore-producers : (s : Inside) (producers : List Producer) → AreServed producers s.streams.items → IsStore s → IsStore (record s { producers = producers })
-IsStore-producers s producers h i =
-    let sound = i.sound in
-    record {
-      sound = record { named = sound.named; placed = sound.placed; small = sound.small; sets = sound.sets; contexts = sound.contexts };
-      limit = i.limit;
-      live = i.live;
-      within = i.within;
-      streams = i.streams;
-      served = h;
-      sets = i.sets;
-      bytes = i.bytes;
-      few_guests = i.few_guests;
-      few_streams = i.few_streams;
-    }
-
--- a call that sets one stream keeps the store's invariant where the state stays sound
-pub IsStore-stream : (old new : Inside) (s : ℕ) (stream : Stream) → SetsStream old new s stream → IsSound (state_of new) → IsStore old → IsStore new
-IsStore-stream old new s stream h sound i =
-    let count = same_count (seen old.guests.items) (seen new.guests.items) h.sizes in
-    record {
-      sound = sound;
-      limit = h.limit;
-      live = h.live;
-      within = h.within;
-      streams = h.counted;
-      served = h.served;
-      sets = h.sets;
-      bytes = h.bytes ∙ i.bytes ∙ sym (same_bytes (seen old.guests.items) (seen new.guests.items) h.sizes);
-      few_guests = omega (arith, count, i.few_guests, length-map old.guests.items guest_of, length-map new.guests.items guest_of);
-      few_streams = rw (h.streams, length-set old.streams.items s stream) i.few_streams;
-    }
 
 -- guests and one stream as a turn left them, which keeps handles, memory lengths, type and owners
 pub IsStore-turn : (old new : Inside) (s : ℕ) (t : Turn) → s < length old.streams.items → TurnKeeps (seen old.guests.items) (stream_at (state_of old) s) t → TakesTurn old new s t → IsStore old → IsStore new
 IsStore-turn old new s t l keeps h i =
-    let sound = IsSound-turn (state_of old) s t keeps i.sound in
-    let owners : is_live t.stream ≡ is_live (stream_at (state_of old) s) = rw (keeps.stream.writer, keeps.stream.reader) refl in
-    let handles : handles_in_use (state_of new) ≡ handles_in_use (state_of old) =
-    same_handles (seen old.guests.items) (seen new.guests.items) (rw h.guests keeps.guests.handles) in
+    let before = stream_at (state_of old) s in
+    let owners : is_live t.stream ≡ is_live before = rw (keeps.stream.writer, keeps.stream.reader) refl in
     let there = live_sum old.streams.items s t.stream l in
-    IsStore-stream old new s t.stream
+    IsStore-counted old new
+    (kept_tables old new (record { limits = h.limits; counter = h.counter; live_sets = h.live_sets; bytes = h.bytes; guests = rw h.guests keeps.guests }) i)
     (record {
-      limit = rw (h.counter, h.limits) i.limit;
-      live = ap (λ (c : Counter). c.live) h.counter ∙ i.live ∙ sym handles;
-      within = rw h.counter i.within;
-      sizes = rw h.guests keeps.guests.sizes;
-      bytes = h.bytes;
-      counted = rw h.streams (as_many _ _ _ _ _ there (ap live_by owners) (h.live_streams ∙ i.streams));
-      sets = h.live_sets ∙ i.sets ∙ sym (same_sets (seen old.guests.items) (seen new.guests.items) (rw h.guests keeps.guests.sets));
-      streams = h.streams;
-      served = rw (h.producers, h.streams) (AreServed-set old.producers old.streams.items i.served s t.stream l (same_owners (stream_at (state_of old) s) t.stream keeps.stream.writer keeps.stream.reader));
+      live = rw h.streams (as_many _ _ _ _ _ there (ap live_by owners) (h.live_streams ∙ i.streams));
+      served = rw (h.producers, h.streams) (AreServed-set old.producers old.streams.items i.served s t.stream l (same_owners before t.stream keeps.stream.writer keeps.stream.reader));
+      few = rw (h.streams, length-set old.streams.items s t.stream) i.few_streams;
     })
-    (record {
-      named = rw (h.guests, h.streams) sound.named;
-      placed = rw (h.guests, h.streams) sound.placed;
-      small = rw h.guests sound.small;
-      sets = rw h.guests sound.sets;
-      contexts = rw (h.guests, h.contexts) sound.contexts;
-    }) i
+    (IsSound-same (record (state_of old) { guests = t.guests; streams = set old.streams.items s t.stream }) (state_of new) h.guests h.streams h.contexts (IsSound-turn (state_of old) s t keeps i.sound)) i
   where
     as_many : (a w b v n : ℕ) → a + w ≡ b + v → v ≡ w → n ≡ b → n ≡ a
     as_many a w b v n e f g = omega (arith, e, f, g)
 
+-- what is kept of host writers alone is another
+pub IsStore-producers : (s : Inside) (producers : List Producer) → AreServed producers s.streams.items → IsStore s → IsStore (record s { producers = producers })
+IsStore-producers s producers h i =
+    let new = record s { producers = producers } in
+    IsStore-counted s new
+    (kept_tables s new (record { limits = refl; counter = refl; live_sets = refl; bytes = refl; guests = all_kept (seen s.guests.items) }) i)
+    (record { live = i.streams; served = h; few = i.few_streams })
+    (IsSound-same (state_of s) (state_of new) refl refl refl i.sound) i
+
 pub stream_at-there : (s : Inside) (stream : ℕ) (x : Stream) → stream < length s.streams.items → x ≡ get_or s.streams.items stream x → stream_at (state_of s) stream ≡ x
 stream_at-there s stream x l e = get_or_default s.streams.items stream no_stream x l ∙ sym e
+
+-- ## One stream more
 
 -- the stream that is made
 abbrev pub stream_made : Inside → ℕ → ℕ → TransmitIndex → Stream
@@ -313,25 +357,28 @@ sets-made guests writer reader ty s =
     sets-with_table held writer _ (sets_in held writer) refl ∙ sets-with_table guests reader _ (sets_in guests reader) refl
 
 pub IsStore-made : (old new : Inside) (writer reader : ℕ) (ty : TransmitIndex) → MakesStream old new writer reader ty → refusal (state_of old) (Make (Between writer reader ty)) ≡ None → IsStore old → IsStore new
-IsStore-made old new writer reader ty h e s =
+IsStore-made old new writer reader ty h e i =
     let fits = pair_fits (state_of old) writer reader ty e in
-    let sizes : sizes_of (seen new.guests.items) ≡ sizes_of (seen old.guests.items) = ap sizes_of h.guests ∙ sizes-made (seen old.guests.items) writer reader ty (length old.streams.items) in
-    let bytes : bytes_in_use (state_of new) ≡ bytes_in_use (state_of old) = same_bytes (seen old.guests.items) (seen new.guests.items) sizes in
-    let count = same_count (seen old.guests.items) (seen new.guests.items) sizes in
+    let guests = seen old.guests.items in
     let stream = stream_made old writer reader ty in
-    let live : count_by is_live new.streams.items ≡ count_by is_live old.streams.items + 1 = ap (count_by is_live) h.streams ∙ sum_by-push live_weight old.streams.items stream in
-    record {
-      sound = subst IsSound (sym (state_of-made old new writer reader ty h)) (IsSound-with_stream (state_of old) writer reader ty fits.read fits.write s.sound);
-      limit = rw (h.counter, h.same.limits) s.limit;
-      live = omega (arith, ap (λ (c : Counter). c.live) h.counter, s.live, h.live);
-      within = rw h.counter (omega (arith, fits.handles, s.limit, s.live));
-      streams = omega (arith, h.live_streams, s.streams, live);
-      served = rw (h.same.producers, h.streams) (AreServed-push old.producers old.streams.items s.served stream refl refl);
-      sets = h.live_sets ∙ s.sets ∙ sym (ap sets_among h.guests ∙ sets-made (seen old.guests.items) writer reader ty (length old.streams.items));
-      bytes = h.bytes ∙ s.bytes ∙ sym bytes;
-      few_guests = omega (arith, count, s.few_guests, length-map old.guests.items guest_of, length-map new.guests.items guest_of);
-      few_streams = rw h.streams (omega (arith, fits.streams, length-append old.streams.items (stream ∷ [])));
-    }
+    let live : count_by is_live new.streams.items ≡ count_by is_live old.streams.items + 1 = ap (count_by is_live) h.streams ∙ sum_by_push live_weight old.streams.items stream in
+    IsStore-counted old new
+    (record {
+      handles = record {
+        limit = rw (h.counter, h.same.limits) i.limit;
+        live = omega (arith, ap (λ (c : Counter). c.live) h.counter, i.live, h.live);
+        within = rw h.counter (omega (arith, fits.handles, i.limit, i.live));
+      };
+      sets = h.live_sets ∙ i.sets ∙ sym (ap sets_among h.guests ∙ sets-made guests writer reader ty (length old.streams.items));
+      sizes = ap sizes_of h.guests ∙ sizes-made guests writer reader ty (length old.streams.items);
+      bytes = h.bytes;
+    })
+    (record {
+      live = omega (arith, h.live_streams, i.streams, live);
+      served = rw (h.same.producers, h.streams) (AreServed-push old.producers old.streams.items i.served stream refl refl);
+      few = rw h.streams (omega (arith, fits.streams, length-append old.streams.items (stream ∷ [])));
+    })
+    (subst IsSound (sym (state_of-made old new writer reader ty h)) (IsSound-with_stream (state_of old) writer reader ty fits.read fits.write i.sound)) i
 
 -- the numbers that the two handles got
 abbrev pub numbers_of : Inside → ℕ → ℕ → TransmitIndex → ℕ → ℕ × ℕ

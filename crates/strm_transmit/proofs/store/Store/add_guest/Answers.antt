@@ -9,12 +9,12 @@ use Rattle.strm_transmit.proofs.StillLemmas.{still_fits}
 use Rattle.strm_transmit.proofs.store.Store.add_guest.Goals as goal
 
 pub push_guest-requires : goal.push_guest-requires
-push_guest-requires c = (is_admitted _ _ _ _ _ c.guest_fits.ensures c.in-Ok.ensures.exact).none
+push_guest-requires c = (is_admitted c.args.self.now _ _ _ _ c.guest_fits.ensures c.in-Ok.ensures.exact).none
 
 pub returns-in-Ok-clause-meets : goal.returns-in-Ok-clause-meets
 returns-in-Ok-clause-meets c =
     meets_admitted c.args.self.now c.push_guest.new.self _ (replied replies.Number c.push_guest.result) _
-    (reacts _ _ _ _ _ (λ _. performs c.args.self.now (Make (Guest c.args.size))) (is_admitted _ _ _ _ _ c.guest_fits.ensures c.in-Ok.ensures.exact) refl)
+    (reacts _ _ _ _ (λ _. performs c.args.self.now (Make (Guest c.args.size))) (is_admitted c.args.self.now _ _ _ _ c.guest_fits.ensures c.in-Ok.ensures.exact) refl)
     c.push_guest.ensures
 
 pub returns-in-Err-clause-meets : goal.returns-in-Err-clause-meets

@@ -8,8 +8,8 @@ use Rattle.strm_transmit.proofs.store.Store.cancel_side.Goals as goal
 
 pub returns-in-Ok-clause-meets : goal.returns-in-Ok-clause-meets
 returns-in-Ok-clause-meets c =
-    reacts _ _ _ _ _ (λ s. cancels c.args.self.now s c.args.side)
-    (is_admitted _ _ _ _ _ c.cancel_found.ensures.exact c.in-Ok.ensures.exact)
+    reacts _ _ _ _ (λ s. cancels c.args.self.now s c.args.side)
+    (is_admitted c.args.self.now _ _ _ _ c.cancel_found.ensures.exact c.in-Ok.ensures.exact)
     (performs-on_end c.args.self.now c.args.side c.args.end.now Cancel)
     ∙ c.cancel_on.ensures
 

@@ -6,19 +6,19 @@ use Rattle.strm_transmit.proofs.MoveLemmas.{close_made}
 use Rattle.strm_transmit.proofs.store.Store.close.Goals as goal
 
 pub own-requires-clause-there : goal.own-requires-clause-there
-own-requires-clause-there g c = close_made c.args.self.now c.args.reader (is_admitted _ _ _ _ _ c.close_fits.ensures c.in-Ok.ensures.exact).none
+own-requires-clause-there g c = close_made c.args.self.now c.args.reader (is_admitted c.args.self.now _ _ _ _ c.close_fits.ensures c.in-Ok.ensures.exact).none
 
 pub forsake-requires-clause-fits : goal.forsake-requires-clause-fits
 forsake-requires-clause-fits g c =
-    let found = is_admitted _ _ _ _ _ c.close_fits.ensures c.in-Ok.ensures.exact in
+    let found = is_admitted c.args.self.now _ _ _ _ c.close_fits.ensures c.in-Ok.ensures.exact in
     dropped-fits _ _ _ _ _ _
-    (drops-loose c.args.self.now c.own.new.self _ c.args.reader _ (record { sound = c.sound.ensures; served = c.served.ensures; fits = c.requires.fits })
+    (drops-loose c.args.self.now c.own.new.self _ c.args.reader (record { sound = c.sound.ensures; served = c.served.ensures; fits = c.requires.fits })
     found (close_made c.args.self.now c.args.reader found.none) c.own.ensures)
 
 pub returns-in-Ok-clause-meets : goal.returns-in-Ok-clause-meets
 returns-in-Ok-clause-meets g c =
-    let found = is_admitted _ _ _ _ _ c.close_fits.ensures c.in-Ok.ensures.exact in
-    let drops = drops-loose c.args.self.now c.own.new.self _ c.args.reader _ (record { sound = c.sound.ensures; served = c.served.ensures; fits = c.requires.fits })
+    let found = is_admitted c.args.self.now _ _ _ _ c.close_fits.ensures c.in-Ok.ensures.exact in
+    let drops = drops-loose c.args.self.now c.own.new.self _ c.args.reader (record { sound = c.sound.ensures; served = c.served.ensures; fits = c.requires.fits })
     found (close_made c.args.self.now c.args.reader found.none) c.own.ensures in
     drops-hosted _ _ _ _ _ _ drops _ _ c.forsake.ensures.does c.forsake.ensures.fits
     (λ u. c.forsake.ensures.alone (drops-loose-alone _ _ _ c.args.reader drops u))
@@ -32,4 +32,4 @@ returns-in-Err-clause-meets g c =
 pub forsake-requires-clause-there : goal.forsake-requires-clause-there
 forsake-requires-clause-there g c =
     still_made c.args.self.now c.own.new.self c.args.reader _ c.own.ensures
-    (close_made c.args.self.now c.args.reader (is_admitted _ _ _ _ _ c.close_fits.ensures c.in-Ok.ensures.exact).none)
+    (close_made c.args.self.now c.args.reader (is_admitted c.args.self.now _ _ _ _ c.close_fits.ensures c.in-Ok.ensures.exact).none)

@@ -2,15 +2,15 @@ use Rattle.std.proofs.Common.{◌≡◌, true, false, None, Ok, refl}
 use Rattle.strm_machine.specs.declared.acts.Act.TheVariants.{Drive}
 use Rattle.strm_machine.specs.declared.replies.Reply.TheVariants as replies
 use Rattle.strm_world.proofs.OutcomeLemmas.{refusal_in-drive}
+use Rattle.strm_transmit.proofs.StepLemmas.{is_admitted}
 use Rattle.strm_transmit.proofs.HostStepLemmas.{hosted_not_admitted}
-use Rattle.strm_transmit.proofs.HostingLemmas.{is_passed}
 use Rattle.strm_transmit.proofs.DriveStoreLemmas.{hosted_drive}
 use Rattle.strm_transmit.proofs.store.Store.drive_once.Goals as goal
 
 pub returns-in-Ok : goal.returns-in-Ok
 returns-in-Ok g c = record {
-  meets = hosted_drive c.args.self.now _ _ _ (λ _. replies.Done) c.drive_all.result (is_passed c.args.self.now None tt (Ok tt) tt refl c.in-Ok.ensures.exact).untrapped
-      c.drive_all.ensures.does c.drive_all.ensures.fits c.drive_all.ensures.stop c.drive_all.ensures.trapped;
+  meets = hosted_drive c.args.self.now _ _ _ (λ _. replies.Done) c.drive_all.result (is_admitted c.args.self.now None tt (Ok tt) tt refl c.in-Ok.ensures.exact).untrapped
+      c.drive_all.ensures.does c.drive_all.ensures.fits (record { stop = c.drive_all.ensures.stop; trapped = c.drive_all.ensures.trapped });
 }
 
 pub returns-in-Err : goal.returns-in-Err

@@ -5,7 +5,8 @@ use Rattle.strm_machine.specs.declared.acts.ContextAct.TheVariants.{Drop}
 use Rattle.strm_machine.proofs.SoundStepLemmas.{on_context-sound}
 use Rattle.strm_turns.specs.Guests.{guest_of}
 use Rattle.strm_transmit.specs.Inside.{state_of}
-use Rattle.strm_transmit.proofs.ContextLemmas.{dropped_names, IsStore-contexts, less_counted}
+use Rattle.strm_transmit.proofs.StoreLemmas.{less_counted}
+use Rattle.strm_transmit.proofs.ContextLemmas.{dropped_names, IsStore-contexts}
 use Rattle.strm_transmit.proofs.store.Store.drop_context.Goals as goal
 
 pub remove_context-requires : goal.remove_context-requires

@@ -10,16 +10,16 @@ use Rattle.strm_transmit.proofs.store.Store.drop_side.Goals as goal
 pub release-requires-clause-fits : goal.release-requires-clause-fits
 release-requires-clause-fits g c =
     drop_fits c.args.self.now c.args.side c.args.end.now
-    (sym (refusal-on_end c.args.self.now c.args.side c.args.end.now Drop) ∙ (is_admitted _ _ _ _ _ c.drop_found.ensures.exact c.in-Ok.ensures.exact).none)
+    (sym (refusal-on_end c.args.self.now c.args.side c.args.end.now Drop) ∙ (is_admitted c.args.self.now _ _ _ _ c.drop_found.ensures.exact c.in-Ok.ensures.exact).none)
 
 pub release-requires-clause-stream : goal.release-requires-clause-stream
-release-requires-clause-stream g c = (is_admitted _ _ _ _ _ c.drop_found.ensures.exact c.in-Ok.ensures.exact).same
+release-requires-clause-stream g c = (is_admitted c.args.self.now _ _ _ _ c.drop_found.ensures.exact c.in-Ok.ensures.exact).same
 
 pub forsake-requires-clause-fits : goal.forsake-requires-clause-fits
 forsake-requires-clause-fits g c =
     dropped-fits _ _ _ _ _ _
-    (drops-end c.args.self.now c.release.new.self _ c.args.side c.args.end.now c.in-Ok.stream _ (record { sound = c.sound.ensures; served = c.served.ensures; fits = c.requires.fits })
-    (is_admitted _ _ _ _ _ c.drop_found.ensures.exact c.in-Ok.ensures.exact) (search rules) c.release.ensures)
+    (drops-end c.args.self.now c.release.new.self _ c.args.side c.args.end.now c.in-Ok.stream (record { sound = c.sound.ensures; served = c.served.ensures; fits = c.requires.fits })
+    (is_admitted c.args.self.now _ _ _ _ c.drop_found.ensures.exact c.in-Ok.ensures.exact) (search rules) c.release.ensures)
 
 pub returns-in-Err-clause-meets : goal.returns-in-Err-clause-meets
 returns-in-Err-clause-meets g c =
@@ -28,8 +28,8 @@ returns-in-Err-clause-meets g c =
 
 pub returns-in-Ok-clause-meets : goal.returns-in-Ok-clause-meets
 returns-in-Ok-clause-meets g c =
-    let found = is_admitted _ _ _ _ _ c.drop_found.ensures.exact c.in-Ok.ensures.exact in
-    let drops = drops-end c.args.self.now c.release.new.self _ c.args.side c.args.end.now c.in-Ok.stream _ (record { sound = c.sound.ensures; served = c.served.ensures; fits = c.requires.fits }) found (search rules) c.release.ensures in
+    let found = is_admitted c.args.self.now _ _ _ _ c.drop_found.ensures.exact c.in-Ok.ensures.exact in
+    let drops = drops-end c.args.self.now c.release.new.self _ c.args.side c.args.end.now c.in-Ok.stream (record { sound = c.sound.ensures; served = c.served.ensures; fits = c.requires.fits }) found (search rules) c.release.ensures in
     drops-hosted _ _ _ _ _ _ drops _ _ c.forsake.ensures.does c.forsake.ensures.fits
     (λ u. c.forsake.ensures.alone (drops-end-alone _ _ _ c.args.side c.args.end.now c.in-Ok.stream drops found.same u))
     (λ u. c.forsake.ensures.untold (drops-end-alone _ _ _ c.args.side c.args.end.now c.in-Ok.stream drops found.same u))

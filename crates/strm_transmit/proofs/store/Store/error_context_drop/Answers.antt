@@ -8,14 +8,14 @@ use Rattle.strm_transmit.proofs.store.Store.error_context_drop.Goals as goal
 
 pub drop_context-requires : goal.drop_context-requires
 drop_context-requires c =
-    let admitted = is_admitted _ _ _ _ _ c.context_drop_found.ensures c.in-Ok.ensures.exact in
+    let admitted = is_admitted c.args.self.now _ _ _ _ c.context_drop_found.ensures c.in-Ok.ensures.exact in
     record { may = admitted.none; context = admitted.same }
 
 pub returns-in-Ok-clause-meets : goal.returns-in-Ok-clause-meets
 unfolding performs
 returns-in-Ok-clause-meets c =
-    reacts _ _ _ _ _ (λ _. goes replies.Done (without_context_handle c.args.self.now c.args.guest c.args.handle))
-    (is_admitted _ _ _ _ _ c.context_drop_found.ensures c.in-Ok.ensures.exact) refl
+    reacts _ _ _ _ (λ _. goes replies.Done (without_context_handle c.args.self.now c.args.guest c.args.handle))
+    (is_admitted c.args.self.now _ _ _ _ c.context_drop_found.ensures c.in-Ok.ensures.exact) refl
     ∙ ap (goes replies.Done) (sym c.drop_context.ensures)
 
 pub returns-in-Err-clause-meets : goal.returns-in-Err-clause-meets

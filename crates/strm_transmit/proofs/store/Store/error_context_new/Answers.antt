@@ -9,12 +9,12 @@ use Rattle.strm_transmit.proofs.StillLemmas.{still_fits}
 use Rattle.strm_transmit.proofs.store.Store.error_context_new.Goals as goal
 
 pub make_context-requires : goal.make_context-requires
-make_context-requires c = (is_admitted _ _ _ _ _ c.context_fits.ensures c.in-Ok.ensures.exact).none
+make_context-requires c = (is_admitted c.args.self.now _ _ _ _ c.context_fits.ensures c.in-Ok.ensures.exact).none
 
 pub returns-in-Ok-clause-meets : goal.returns-in-Ok-clause-meets
 returns-in-Ok-clause-meets c =
     meets_admitted c.args.self.now c.make_context.new.self _ (replied replies.Number c.make_context.result) _
-    (reacts _ _ _ _ _ (λ _. performs c.args.self.now (Make (Context c.args.guest c.args.address c.args.len))) (is_admitted _ _ _ _ _ c.context_fits.ensures c.in-Ok.ensures.exact) refl)
+    (reacts _ _ _ _ (λ _. performs c.args.self.now (Make (Context c.args.guest c.args.address c.args.len))) (is_admitted c.args.self.now _ _ _ _ c.context_fits.ensures c.in-Ok.ensures.exact) refl)
     c.make_context.ensures
 
 pub returns-in-Err-clause-meets : goal.returns-in-Err-clause-meets

@@ -9,15 +9,15 @@ use Rattle.strm_transmit.proofs.store.Store.error_context_transfer.Goals as goal
 
 pub share-requires : goal.share-requires
 share-requires c =
-    let admitted = is_admitted _ _ _ _ _ c.transfer_found.ensures c.in-Ok.ensures.exact in
+    let admitted = is_admitted c.args.self.now _ _ _ _ c.transfer_found.ensures c.in-Ok.ensures.exact in
     rw admitted.same (transfer_fits c.args.self.now c.args.guest c.args.handle c.args.to c.sound.ensures admitted.none).share
 
 pub returns-in-Ok-clause-meets : goal.returns-in-Ok-clause-meets
 unfolding performs
 returns-in-Ok-clause-meets c =
     meets_admitted c.args.self.now c.share.new.self _ (replied replies.Number c.share.result) _
-    (reacts _ _ _ _ _ (λ number. shares c.args.self.now number c.args.to)
-    (is_admitted _ _ _ _ _ c.transfer_found.ensures c.in-Ok.ensures.exact) refl)
+    (reacts _ _ _ _ (λ number. shares c.args.self.now number c.args.to)
+    (is_admitted c.args.self.now _ _ _ _ c.transfer_found.ensures c.in-Ok.ensures.exact) refl)
     c.share.ensures
 
 pub returns-in-Err-clause-meets : goal.returns-in-Err-clause-meets

@@ -2,20 +2,18 @@ use Rattle.std.proofs.Common.{◌≡◌, true, false, refl}
 use Rattle.strm_machine.specs.declared.acts.HostAct.TheVariants.{Feed}
 use Rattle.strm_machine.specs.declared.acts.Act.TheVariants.{OnHost}
 use Rattle.strm_transmit.proofs.HostStepLemmas.{hosted_not_admitted}
-use Rattle.strm_transmit.proofs.HostingLemmas.{no_logs, host_refusal-same, feed_fits, is_passed, hosted_feed, hosted_wanting}
+use Rattle.strm_transmit.proofs.HostingLemmas.{no_logs, host_refusal-same, host_admitted, feed_fits, hosted_feed, hosted_wanting}
 use Rattle.strm_transmit.proofs.store.Store.feed.Goals as goal
 
 pub feed-requires : goal.feed-requires
 feed-requires g c =
-    feed_fits c.args.self.now _ c.args.host c.args.bytes.now no_logs (is_passed c.args.self.now _ _ _ _ (c.feed_fits.ensures no_logs) c.in-Ok.ensures.exact).none
+    feed_fits c.args.self.now _ c.args.host c.args.bytes.now (host_admitted _ _ _ (Feed c.args.bytes.now) _ c.feed_fits.ensures c.in-Ok.ensures.exact)
 
 pub returns-in-Ok-feed : goal.returns-in-Ok-feed
 returns-in-Ok-feed g c =
-    let passed = is_passed c.args.self.now _ _ _ _ (c.feed_fits.ensures no_logs) c.in-Ok.ensures.exact in
     record {
-      meets = hosted_feed c.args.self.now _ _ c.args.host c.args.bytes.now passed.untrapped
-          (λ logs. (is_passed c.args.self.now _ _ _ _ (c.feed_fits.ensures logs) c.in-Ok.ensures.exact).none)
-          (feed_fits c.args.self.now _ c.args.host c.args.bytes.now no_logs passed.none) c.requires.fits (rw c.as_slice.ensures.exact at c.in-Ok-feed.ensures.ok);
+      meets = hosted_feed c.args.self.now _ _ c.args.host c.args.bytes.now (host_admitted _ _ _ (Feed c.args.bytes.now) _ c.feed_fits.ensures c.in-Ok.ensures.exact)
+          c.requires.fits (rw c.as_slice.ensures.exact at c.in-Ok-feed.ensures.ok);
     }
 
 pub returns-in-Err-feed : goal.returns-in-Err-feed

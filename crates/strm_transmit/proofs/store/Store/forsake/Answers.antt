@@ -8,10 +8,7 @@ close_writer-requires g c = (c.requires.fits c.in-Host.number c.args.stream (c.s
 pub returns-in-Host-clause-does : goal.returns-in-Host-clause-does
 returns-in-Host-clause-does g c =
     forsakes-does _ _ _ _ _ _ _ (record {
-      served = c.served.ensures;
-      made = c.requires.there;
-      owner = search rules;
-      fits = c.requires.fits;
+      before = record { served = c.served.ensures; made = c.requires.there; owner = search rules; fits = c.requires.fits };
       gone = c.own.ensures;
       retired = c.retire.ensures;
       closes = c.close_writer.ensures.closes;
@@ -21,10 +18,7 @@ returns-in-Host-clause-does g c =
 pub returns-in-Host-clause-fits : goal.returns-in-Host-clause-fits
 returns-in-Host-clause-fits g c =
     forsakes-fits _ _ _ _ _ _ _ (record {
-      served = c.served.ensures;
-      made = c.requires.there;
-      owner = search rules;
-      fits = c.requires.fits;
+      before = record { served = c.served.ensures; made = c.requires.there; owner = search rules; fits = c.requires.fits };
       gone = c.own.ensures;
       retired = c.retire.ensures;
       closes = c.close_writer.ensures.closes;

@@ -2,37 +2,35 @@ use Rattle.std.proofs.Common.{◌≡◌, true, false}
 use Rattle.strm_machine.specs.declared.acts.HostAct.TheVariants.{New}
 use Rattle.strm_machine.specs.declared.acts.Act.TheVariants.{OnHost}
 use Rattle.strm_transmit.proofs.HostStepLemmas.{hosted_not_admitted}
-use Rattle.strm_transmit.proofs.HostingLemmas.{no_logs, host_refusal-same, host_fits, is_passed, hosted_made}
+use Rattle.strm_transmit.proofs.HostingLemmas.{no_logs, host_refusal-same, host_admitted, host_fits, hosted_made}
 use Rattle.strm_transmit.proofs.store.Store.host_new.Goals as goal
 
 pub writer_kind-requires : goal.writer_kind-requires
 writer_kind-requires g c =
-    (host_fits c.args.self.now _ c.args.writer no_logs (is_passed c.args.self.now _ _ _ _ (c.host_fits.ensures no_logs) c.in-Ok.ensures.exact).none).there
+    (host_fits c.args.self.now _ c.args.writer (host_admitted _ _ _ New _ c.host_fits.ensures c.in-Ok.ensures.exact)).there
 
 pub writer_payload-requires : goal.writer_payload-requires
 writer_payload-requires g c =
-    (host_fits c.args.self.now _ c.args.writer no_logs (is_passed c.args.self.now _ _ _ _ (c.host_fits.ensures no_logs) c.in-Ok.ensures.exact).none).there
+    (host_fits c.args.self.now _ c.args.writer (host_admitted _ _ _ New _ c.host_fits.ensures c.in-Ok.ensures.exact)).there
 
 pub host-requires-clause-there : goal.host-requires-clause-there
 host-requires-clause-there g c =
-    (host_fits c.args.self.now _ c.args.writer no_logs (is_passed c.args.self.now _ _ _ _ (c.host_fits.ensures no_logs) c.in-Ok.ensures.exact).none).few
+    (host_fits c.args.self.now _ c.args.writer (host_admitted _ _ _ New _ c.host_fits.ensures c.in-Ok.ensures.exact)).few
 
 pub host-requires-clause-unused : goal.host-requires-clause-unused
 host-requires-clause-unused g c =
-    (host_fits c.args.self.now _ c.args.writer no_logs (is_passed c.args.self.now _ _ _ _ (c.host_fits.ensures no_logs) c.in-Ok.ensures.exact).none).unused
+    (host_fits c.args.self.now _ c.args.writer (host_admitted _ _ _ New _ c.host_fits.ensures c.in-Ok.ensures.exact)).unused
 
 pub host-requires-clause-few : goal.host-requires-clause-few
 host-requires-clause-few g c =
-    (host_fits c.args.self.now _ c.args.writer no_logs (is_passed c.args.self.now _ _ _ _ (c.host_fits.ensures no_logs) c.in-Ok.ensures.exact).none).streams
+    (host_fits c.args.self.now _ c.args.writer (host_admitted _ _ _ New _ c.host_fits.ensures c.in-Ok.ensures.exact)).streams
 
 pub returns-in-Ok : goal.returns-in-Ok
 returns-in-Ok g c =
-    let passed = is_passed c.args.self.now _ _ _ _ (c.host_fits.ensures no_logs) c.in-Ok.ensures.exact in
     record {
-      meets = hosted_made c.args.self.now c.host.new.self _ c.args.writer c.host.result c.served.ensures.made c.served.ensures.all passed.untrapped
-          (λ logs. (is_passed c.args.self.now _ _ _ _ (c.host_fits.ensures logs) c.in-Ok.ensures.exact).none)
-          (host_fits c.args.self.now _ c.args.writer no_logs passed.none) c.requires.fits
-          c.host.ensures.number (rw (c.writer_kind.ensures, c.writer_payload.ensures) at c.host.ensures.ok) c.host.ensures.no_memory c.host.ensures.err;
+      meets = hosted_made c.args.self.now c.host.new.self _ c.args.writer
+          (record { served = c.served.ensures; may = host_admitted _ _ _ New _ c.host_fits.ensures c.in-Ok.ensures.exact; fits = c.requires.fits })
+          c.host.result c.host.ensures.number (rw (c.writer_kind.ensures, c.writer_payload.ensures) at c.host.ensures.ok) c.host.ensures.no_memory c.host.ensures.err;
     }
 
 pub returns-in-Err : goal.returns-in-Err

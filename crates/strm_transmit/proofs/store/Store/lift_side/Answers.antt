@@ -11,15 +11,15 @@ use Rattle.strm_transmit.proofs.store.Store.lift_side.Goals as goal
 pub release-requires-clause-fits : goal.release-requires-clause-fits
 release-requires-clause-fits c =
     lift_fits c.args.self.now c.args.side c.args.end.now
-    (sym (refusal-on_end c.args.self.now c.args.side c.args.end.now Lift) ∙ (is_admitted _ _ _ _ _ c.lift_found.ensures c.in-Ok.ensures.exact).none)
+    (sym (refusal-on_end c.args.self.now c.args.side c.args.end.now Lift) ∙ (is_admitted c.args.self.now _ _ _ _ c.lift_found.ensures c.in-Ok.ensures.exact).none)
 
 pub release-requires-clause-stream : goal.release-requires-clause-stream
-release-requires-clause-stream c = (is_admitted _ _ _ _ _ c.lift_found.ensures c.in-Ok.ensures.exact).same
+release-requires-clause-stream c = (is_admitted c.args.self.now _ _ _ _ c.lift_found.ensures c.in-Ok.ensures.exact).same
 
 pub returns-in-Ok-clause-meets : goal.returns-in-Ok-clause-meets
 returns-in-Ok-clause-meets c =
-    reacts _ _ _ _ _ (λ s. lifts c.args.self.now s c.args.side c.args.end.now)
-    (is_admitted _ _ _ _ _ c.lift_found.ensures c.in-Ok.ensures.exact)
+    reacts _ _ _ _ (λ s. lifts c.args.self.now s c.args.side c.args.end.now)
+    (is_admitted c.args.self.now _ _ _ _ c.lift_found.ensures c.in-Ok.ensures.exact)
     (performs-on_end c.args.self.now c.args.side c.args.end.now Lift)
     ∙ ap (goes (replies.Number c.in-Ok.stream)) (sym c.release.ensures)
 

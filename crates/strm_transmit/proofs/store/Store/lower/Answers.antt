@@ -7,17 +7,17 @@ use Rattle.strm_transmit.proofs.StillLemmas.{still_fits}
 use Rattle.strm_transmit.proofs.store.Store.lower.Goals as goal
 
 pub lower_loose-requires-clause-may : goal.lower_loose-requires-clause-may
-lower_loose-requires-clause-may c = (is_admitted _ _ _ _ _ c.lower_fits.ensures c.in-Ok.ensures.exact).none
+lower_loose-requires-clause-may c = (is_admitted c.args.self.now _ _ _ _ c.lower_fits.ensures c.in-Ok.ensures.exact).none
 
 pub lower_loose-requires-clause-untrapped : goal.lower_loose-requires-clause-untrapped
-lower_loose-requires-clause-untrapped c = (is_admitted _ _ _ _ _ c.lower_fits.ensures c.in-Ok.ensures.exact).untrapped
+lower_loose-requires-clause-untrapped c = (is_admitted c.args.self.now _ _ _ _ c.lower_fits.ensures c.in-Ok.ensures.exact).untrapped
 
 pub returns-in-Ok-clause-meets : goal.returns-in-Ok-clause-meets
 unfolding performs
 returns-in-Ok-clause-meets c =
     meets_admitted c.args.self.now c.lower_loose.new.self _ (replied replies.Number c.lower_loose.result) _
-    (reacts _ _ _ _ _ (λ _. lowers c.args.self.now c.args.reader c.args.guest c.args.ty)
-    (is_admitted _ _ _ _ _ c.lower_fits.ensures c.in-Ok.ensures.exact) refl)
+    (reacts _ _ _ _ (λ _. lowers c.args.self.now c.args.reader c.args.guest c.args.ty)
+    (is_admitted c.args.self.now _ _ _ _ c.lower_fits.ensures c.in-Ok.ensures.exact) refl)
     c.lower_loose.ensures
 
 pub returns-in-Err-clause-meets : goal.returns-in-Err-clause-meets

@@ -1,10 +1,9 @@
 use Rattle.std.proofs.Common.{◌≡◌, subst, ◌+◌, ◌<◌, ◌∷◌, [], ◌++◌, length, refl, sym, ap, ◌∙◌, arith}
 use Rattle.std.proofs.lemmas.List.{length-map}
 use Rattle.std.proofs.lemmas.List.Sums.{count_by-le-length}
-use Rattle.strm_machine.specs.State.{is_live}
+use Rattle.strm_machine.specs.State.{is_live, guest_in}
 use Rattle.strm_machine.proofs.RefusalLemmas.{pair_fits}
 use Rattle.strm_handles.specs.Handles.{next_index}
-use Rattle.strm_machine.specs.State.{guest_in}
 use Rattle.strm_machine.specs.Making.{with_read_end, with_ends}
 use Rattle.strm_machine.specs.declared.streams.Stream.{Stream}
 use Rattle.strm_turns.specs.Guests.{guest_of, seen}

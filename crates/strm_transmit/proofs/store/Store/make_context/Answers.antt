@@ -4,7 +4,8 @@ use Rattle.strm_machine.proofs.ContextStepLemmas.{context_fits}
 use Rattle.strm_machine.proofs.SoundStepLemmas.{with_context-sound}
 use Rattle.strm_turns.specs.Guests.{guest_of}
 use Rattle.strm_transmit.specs.Inside.{state_of}
-use Rattle.strm_transmit.proofs.ContextLemmas.{IsStore-gives, fits_below}
+use Rattle.strm_transmit.proofs.StoreLemmas.{fits_below}
+use Rattle.strm_transmit.proofs.ContextLemmas.{IsStore-gives}
 use Rattle.strm_transmit.proofs.store.Store.make_context.Goals as goal
 
 pub give_context-requires : goal.give_context-requires

@@ -8,19 +8,19 @@ use Rattle.strm_transmit.proofs.StillLemmas.{still_fits}
 use Rattle.strm_transmit.proofs.store.Store.move_side.Goals as goal
 
 pub move_named-requires-clause-may : goal.move_named-requires-clause-may
-move_named-requires-clause-may c = (is_admitted _ _ _ _ _ c.move_found.ensures c.in-Ok.ensures.exact).none
+move_named-requires-clause-may c = (is_admitted c.args.self.now _ _ _ _ c.move_found.ensures c.in-Ok.ensures.exact).none
 
 pub move_named-requires-clause-stream : goal.move_named-requires-clause-stream
-move_named-requires-clause-stream c = (is_admitted _ _ _ _ _ c.move_found.ensures c.in-Ok.ensures.exact).same
+move_named-requires-clause-stream c = (is_admitted c.args.self.now _ _ _ _ c.move_found.ensures c.in-Ok.ensures.exact).same
 
 pub move_named-requires-clause-untrapped : goal.move_named-requires-clause-untrapped
-move_named-requires-clause-untrapped c = (is_admitted _ _ _ _ _ c.move_found.ensures c.in-Ok.ensures.exact).untrapped
+move_named-requires-clause-untrapped c = (is_admitted c.args.self.now _ _ _ _ c.move_found.ensures c.in-Ok.ensures.exact).untrapped
 
 pub returns-in-Ok-clause-meets : goal.returns-in-Ok-clause-meets
 returns-in-Ok-clause-meets c =
     meets_admitted c.args.self.now c.move_named.new.self _ (replied replies.Number c.move_named.result) _
-    (reacts _ _ _ _ _ (λ s. transfers c.args.self.now s c.args.side c.args.end.now c.args.to)
-    (is_admitted _ _ _ _ _ c.move_found.ensures c.in-Ok.ensures.exact)
+    (reacts _ _ _ _ (λ s. transfers c.args.self.now s c.args.side c.args.end.now c.args.to)
+    (is_admitted c.args.self.now _ _ _ _ c.move_found.ensures c.in-Ok.ensures.exact)
     (performs-on_end c.args.self.now c.args.side c.args.end.now (Move c.args.to)))
     c.move_named.ensures
 

@@ -9,12 +9,12 @@ use Rattle.strm_transmit.proofs.StillLemmas.{still_fits}
 use Rattle.strm_transmit.proofs.store.Store.new_between.Goals as goal
 
 pub make-requires : goal.make-requires
-make-requires c = (is_admitted _ _ _ _ _ (c.pair_fits.ensures c.args.ty) c.in-Ok.ensures.exact).none
+make-requires c = (is_admitted c.args.self.now _ _ _ _ (c.pair_fits.ensures c.args.ty) c.in-Ok.ensures.exact).none
 
 pub returns-in-Ok-clause-meets : goal.returns-in-Ok-clause-meets
 returns-in-Ok-clause-meets c =
     meets_admitted c.args.self.now c.make.new.self _ (replied replies.Pair c.make.result) _
-    (reacts _ _ _ _ _ (λ _. performs c.args.self.now (Make (Between c.args.writer c.args.reader c.args.ty))) (is_admitted _ _ _ _ _ (c.pair_fits.ensures c.args.ty) c.in-Ok.ensures.exact) refl)
+    (reacts _ _ _ _ (λ _. performs c.args.self.now (Make (Between c.args.writer c.args.reader c.args.ty))) (is_admitted c.args.self.now _ _ _ _ (c.pair_fits.ensures c.args.ty) c.in-Ok.ensures.exact) refl)
     c.make.ensures
 
 pub returns-in-Err-clause-meets : goal.returns-in-Err-clause-meets

@@ -13,19 +13,27 @@ use Rattle.strm_transmit.proofs.store.Store.operate.Goals as goal
 
 pub returns-in-Some-clause-meets : goal.returns-in-Some-clause-meets
 returns-in-Some-clause-meets g c =
-    let found = is_admitted _ _ _ _ _ c.operation_found.ensures.exact c.in-Ok.ensures.exact in
-    hosted_read c.args.self.now _ _ _ c.args.side c.args.end.now c.args.address c.args.count c.in-Some.number _ _ found.untrapped found.none (ap (λ q. q.0) found.same)
-    (c.begin-mine.ensures ∙ ap (λ q. begun c.args.end.now.guest c.args.address q.1) found.same) c.in-Some.ensures.some.0 c.in-Some.ensures.some.1
-    replies.Code c.read_from.result c.read_from.ensures.does c.read_from.ensures.fits c.read_from.ensures.stop c.read_from.ensures.trapped
+    let found = is_admitted c.args.self.now _ _ _ _ c.operation_found.ensures.exact c.in-Ok.ensures.exact in
+    hosted_read c.args.self.now _ _ _ c.args.side c.args.end.now c.args.address c.args.count c.in-Some.number _ _
+    (record {
+      untrapped = found.untrapped;
+      none = found.none;
+      stream = ap (λ q. q.0) found.same;
+      operation = c.begin-mine.ensures ∙ ap (λ q. begun c.args.end.now.guest c.args.address q.1) found.same;
+      reading = c.in-Some.ensures.some.0;
+      owner = c.in-Some.ensures.some.1;
+    })
+    replies.Code c.read_from.result c.read_from.ensures.does c.read_from.ensures.fits
+    (record { stop = c.read_from.ensures.stop; trapped = c.read_from.ensures.trapped })
 
 pub returns-in-None-clause-meets : goal.returns-in-None-clause-meets
 returns-in-None-clause-meets g c =
-    let found = is_admitted _ _ _ _ _ c.operation_found.ensures.exact c.in-Ok.ensures.exact in
+    let found = is_admitted c.args.self.now _ _ _ _ c.operation_found.ensures.exact c.in-Ok.ensures.exact in
     hosted_alone c.args.self.now _ _ _ (replied replies.Code c.take.result) c.sound.ensures c.served.ensures.made
     (operate-alone c.args.self.now c.args.side c.args.end.now c.args.address c.args.count _ (ap (λ q. q.0) found.same) c.in-None.ensures.none)
     (settled_code c.take.result)
     (meets_admitted c.args.self.now c.take.new.self _ (replied replies.Code c.take.result) _
-    (reacts _ _ _ _ _ (λ q. on_stream c.args.self.now q.0 c.args.side (begun c.args.end.now.guest c.args.address q.1)) found
+    (reacts _ _ _ _ (λ q. on_stream c.args.self.now q.0 c.args.side (begun c.args.end.now.guest c.args.address q.1)) found
     (performs-on_end c.args.self.now c.args.side c.args.end.now (Operate c.args.address c.args.count)))
     (rw c.begin-mine.ensures at c.take.ensures.meets))
     c.requires.fits

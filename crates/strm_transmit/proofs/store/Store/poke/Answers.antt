@@ -7,12 +7,12 @@ use Rattle.strm_transmit.proofs.StillLemmas.{done_fits}
 use Rattle.strm_transmit.proofs.store.Store.poke.Goals as goal
 
 pub put_bytes-requires : goal.put_bytes-requires
-put_bytes-requires c = (is_admitted _ _ _ _ _ c.poke_fits.ensures c.in-Ok.ensures.exact).none
+put_bytes-requires c = (is_admitted c.args.self.now _ _ _ _ c.poke_fits.ensures c.in-Ok.ensures.exact).none
 
 pub returns-in-Ok-clause-meets : goal.returns-in-Ok-clause-meets
 returns-in-Ok-clause-meets c =
-    reacts _ _ _ _ _ (λ _. performs c.args.self.now (OnMemory c.args.guest (Poke c.args.address c.args.bytes.now)))
-    (is_admitted _ _ _ _ _ c.poke_fits.ensures c.in-Ok.ensures.exact) refl
+    reacts _ _ _ _ (λ _. performs c.args.self.now (OnMemory c.args.guest (Poke c.args.address c.args.bytes.now)))
+    (is_admitted c.args.self.now _ _ _ _ c.poke_fits.ensures c.in-Ok.ensures.exact) refl
     ∙ c.put_bytes.ensures
 
 pub returns-in-Err-clause-meets : goal.returns-in-Err-clause-meets

@@ -7,16 +7,16 @@ use Rattle.strm_transmit.proofs.StillLemmas.{done_fits}
 use Rattle.strm_transmit.proofs.store.Store.set_drop.Goals as goal
 
 pub drop_number-requires-clause-may : goal.drop_number-requires-clause-may
-drop_number-requires-clause-may c = (is_admitted _ _ _ _ _ c.set_drop_found.ensures c.in-Ok.ensures.exact).none
+drop_number-requires-clause-may c = (is_admitted c.args.self.now _ _ _ _ c.set_drop_found.ensures c.in-Ok.ensures.exact).none
 
 pub drop_number-requires-clause-number : goal.drop_number-requires-clause-number
-drop_number-requires-clause-number c = (is_admitted _ _ _ _ _ c.set_drop_found.ensures c.in-Ok.ensures.exact).same
+drop_number-requires-clause-number c = (is_admitted c.args.self.now _ _ _ _ c.set_drop_found.ensures c.in-Ok.ensures.exact).same
 
 pub returns-in-Ok-clause-meets : goal.returns-in-Ok-clause-meets
 unfolding performs
 returns-in-Ok-clause-meets c =
-    reacts _ _ _ _ _ (λ _. on_set c.args.self.now c.args.guest c.args.set Drop)
-    (is_admitted _ _ _ _ _ c.set_drop_found.ensures c.in-Ok.ensures.exact) refl
+    reacts _ _ _ _ (λ _. on_set c.args.self.now c.args.guest c.args.set Drop)
+    (is_admitted c.args.self.now _ _ _ _ c.set_drop_found.ensures c.in-Ok.ensures.exact) refl
     ∙ ap (goes replies.Done) (sym c.drop_number.ensures)
 
 pub returns-in-Err-clause-meets : goal.returns-in-Err-clause-meets

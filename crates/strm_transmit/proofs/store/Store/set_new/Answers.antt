@@ -9,12 +9,12 @@ use Rattle.strm_transmit.proofs.StillLemmas.{still_fits}
 use Rattle.strm_transmit.proofs.store.Store.set_new.Goals as goal
 
 pub make_set-requires : goal.make_set-requires
-make_set-requires c = (is_admitted _ _ _ _ _ c.set_fits.ensures c.in-Ok.ensures.exact).none
+make_set-requires c = (is_admitted c.args.self.now _ _ _ _ c.set_fits.ensures c.in-Ok.ensures.exact).none
 
 pub returns-in-Ok-clause-meets : goal.returns-in-Ok-clause-meets
 returns-in-Ok-clause-meets c =
     meets_admitted c.args.self.now c.make_set.new.self _ (replied replies.Number c.make_set.result) _
-    (reacts _ _ _ _ _ (λ _. performs c.args.self.now (Make (Set c.args.guest))) (is_admitted _ _ _ _ _ c.set_fits.ensures c.in-Ok.ensures.exact) refl)
+    (reacts _ _ _ _ (λ _. performs c.args.self.now (Make (Set c.args.guest))) (is_admitted c.args.self.now _ _ _ _ c.set_fits.ensures c.in-Ok.ensures.exact) refl)
     c.make_set.ensures
 
 pub returns-in-Err-clause-meets : goal.returns-in-Err-clause-meets

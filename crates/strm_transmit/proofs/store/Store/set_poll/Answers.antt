@@ -8,8 +8,8 @@ use Rattle.strm_transmit.proofs.store.Store.set_poll.Goals as goal
 pub returns-in-Ok-clause-meets : goal.returns-in-Ok-clause-meets
 unfolding performs
 returns-in-Ok-clause-meets c =
-    reacts _ _ _ _ _ (λ n. polls c.args.self.now c.args.guest (ready_member c.args.self.now c.args.guest n))
-    (is_admitted _ _ _ _ _ c.poll_found.ensures.exact c.in-Ok.ensures.exact) refl
+    reacts _ _ _ _ (λ n. polls c.args.self.now c.args.guest (ready_member c.args.self.now c.args.guest n))
+    (is_admitted c.args.self.now _ _ _ _ c.poll_found.ensures.exact c.in-Ok.ensures.exact) refl
     ∙ c.poll_number.ensures
 
 pub returns-in-Err-clause-meets : goal.returns-in-Err-clause-meets

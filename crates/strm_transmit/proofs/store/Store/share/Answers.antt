@@ -3,7 +3,8 @@ use Rattle.std.proofs.lemmas.List.{length-map}
 use Rattle.strm_machine.proofs.ContextStepLemmas.{with_context_handle-sound}
 use Rattle.strm_turns.specs.Guests.{guest_of}
 use Rattle.strm_transmit.specs.Inside.{state_of}
-use Rattle.strm_transmit.proofs.ContextLemmas.{IsStore-gives, fits_below, count_below}
+use Rattle.strm_transmit.proofs.StoreLemmas.{fits_below}
+use Rattle.strm_transmit.proofs.ContextLemmas.{IsStore-gives, count_below}
 use Rattle.strm_transmit.proofs.store.Store.share.Goals as goal
 
 pub share_context-requires : goal.share_context-requires

@@ -7,8 +7,8 @@ use Rattle.strm_transmit.proofs.store.Store.take_event.Goals as goal
 pub returns-in-Ok-clause-meets : goal.returns-in-Ok-clause-meets
 unfolding performs
 returns-in-Ok-clause-meets c =
-    reacts _ _ _ _ _ (λ q. tells c.args.self.now q.0 q.1)
-    (is_admitted _ _ _ _ _ c.event_found.ensures.exact c.in-Ok.ensures.exact) refl
+    reacts _ _ _ _ (λ q. tells c.args.self.now q.0 q.1)
+    (is_admitted c.args.self.now _ _ _ _ c.event_found.ensures.exact c.in-Ok.ensures.exact) refl
     ∙ c.tell.ensures
 
 pub returns-in-Err-clause-meets : goal.returns-in-Err-clause-meets
