@@ -1,6 +1,6 @@
 -- The store after an error context was made, told, shared or dropped; and the walk of the lowering of
 -- one, which is no step.
-use Rattle.std.proofs.Common.{◌≡◌, ℕ, ◌+◌, ◌<◌, ◌≤◌, true, false, cond, length, Option, Some, None, Result, Ok, Err, refl, sym, ap, subst, ◌∙◌, arith}
+use Rattle.std.proofs.Common.{◌≡◌, ℕ, ◌+◌, ◌<◌, ◌≤◌, length, Option, None, Result, Ok, Err, refl, sym, ap, subst, ◌∙◌, arith}
 use Rattle.std.specs.Prelude.{OnOk, OnErr}
 use Rattle.strm_codes.specs.declared.refusals.Refusal.{Refusal}
 use Rattle.strm_handles.specs.Counters.{counted}
@@ -9,11 +9,12 @@ use Rattle.strm_contexts.specs.Contexts.{Contexts, count_at, message_at}
 use Rattle.strm_machine.specs.State.{State, sets_in, with_handles}
 use Rattle.strm_machine.specs.ErrorContexts.{message_named, context_given, message_limit, bytes_of_message}
 use Rattle.strm_machine.specs.Refusals.{refusal, first_of, lower_context_reasons}
-use Rattle.strm_machine.specs.Reactions.{goes, texts, shares, shares_unless, lowers_context}
+use Rattle.strm_machine.specs.Reactions.{goes, texts, shares, lowers_context}
 use Rattle.strm_machine.specs.Soundness.{IsSound, sizes_of}
 use Rattle.strm_machine.specs.declared.acts.Act.TheVariants.{OnContext}
 use Rattle.strm_machine.specs.declared.acts.ContextAct.TheVariants.{Drop}
 use Rattle.strm_machine.specs.declared.replies.Reply.TheVariants as replies
+use Rattle.strm_machine.proofs.ReactionLemmas.{lowers_context-trapped, lowers_context-refused, lowers_context-performs}
 use Rattle.strm_machine.proofs.SoundLemmas.{sizes_of-with_handles}
 use Rattle.strm_machine.proofs.TurnLemmas.{all_kept}
 use Rattle.strm_machine.proofs.ErrorContextLemmas.{count-live}
@@ -110,21 +111,11 @@ module _ (state : State) (number g : ℕ) where
   abbrev lower_refusal : Option Refusal
   lower_refusal = first_of (lower_context_reasons state number g)
 
-  lowers-trapped : state.trapped ≡ true → lowers_context state number g ≡ goes replies.StoreTrapped state
-  unfolding lowers_context
-  lowers-trapped t = rw t refl
-
-  lowers-unless : (o : Option Refusal) → state.trapped ≡ false → lower_refusal ≡ o → lowers_context state number g ≡ shares_unless state number g o
-  unfolding lowers_context
-  lowers-unless o t e =
-      ap (λ b. cond b (goes replies.StoreTrapped state) (shares_unless state number g lower_refusal)) t
-      ∙ ap (shares_unless state number g) e
-
   -- why it was not admitted, as the machine's answer
   pub meets_not_lowered : {V : Type 0} (wanted : V) (found : Result V Refusal) (error : StoreError) → found ≡ or_found lower_refusal wanted → Err error ≡ admitted state found → Meets state state (Err error) (lowers_context state number g)
   meets_not_lowered wanted found error e a =
       not_admitted state lower_refusal wanted found (λ x. Meets state state (Err x) (lowers_context state number g)) error e a
-      (λ t. (lowers-trapped t, refl)) (λ q t r. (lowers-unless (Some q) t r, refl))
+      (λ t. (lowers_context-trapped state number g t, refl)) (λ q t r. (lowers_context-refused state number g q t r, refl))
 
   -- a lowering that was admitted: nothing refuses it, and it is a handle more
   pub record IsLowered : Type 0 where
@@ -134,4 +125,4 @@ module _ (state : State) (number g : ℕ) where
   pub is_lowered : {V : Type 0} (wanted : V) (found : Result V Refusal) (value : V) → found ≡ or_found lower_refusal wanted → Ok value ≡ admitted state found → IsLowered
   is_lowered wanted found value e a =
       let passed = is_admitted state lower_refusal wanted found value e a in
-      record { none = passed.none; shared = lowers-unless None passed.untrapped passed.none }
+      record { none = passed.none; shared = lowers_context-performs state number g passed.untrapped passed.none }

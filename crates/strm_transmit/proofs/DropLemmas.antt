@@ -13,9 +13,7 @@ use Rattle.strm_machine.specs.Reactions.{Reaction, goes, drops, closes, with_str
 use Rattle.strm_machine.specs.Soundness.{IsSound}
 use Rattle.strm_machine.specs.declared.acts.Act.{Act}
 use Rattle.strm_machine.specs.declared.acts.Act.TheVariants.{OnEnd, OnLoose}
-use Rattle.strm_machine.specs.declared.acts.EndAct.{EndAct}
 use Rattle.strm_machine.specs.declared.acts.EndAct.TheVariants.{Drop}
-use Rattle.strm_machine.specs.declared.acts.LooseAct.{LooseAct}
 use Rattle.strm_machine.specs.declared.acts.LooseAct.TheVariants.{Close}
 use Rattle.strm_machine.specs.declared.acts.NamedEnd.{NamedEnd}
 use Rattle.strm_machine.specs.declared.replies.Reply.TheVariants as replies
@@ -25,12 +23,12 @@ use Rattle.strm_machine.specs.declared.streams.Side.TheVariants.{Writing, Readin
 use Rattle.strm_machine.specs.declared.streams.Stream.{Stream}
 use Rattle.strm_machine.proofs.ReactionLemmas.{performs-on_end}
 use Rattle.strm_world.specs.World.{World, with_stream_in}
-use Rattle.strm_world.specs.HostRefusals.{refusal_in}
 use Rattle.strm_world.specs.Outcomes.{Goes, done, then_on, reacted}
 use Rattle.strm_world.specs.Attaching.{forsaken, forsakes}
 use Rattle.strm_world.specs.Steps.{reacts, drops_in, performs_in, touches}
 use Rattle.strm_world.specs.Does.{Logs, world_of, Fits, Does}
 use Rattle.strm_world.proofs.DoesLemmas.{Does-untold, Does-then}
+use Rattle.strm_world.proofs.OutcomeLemmas.{refusal_in-on_end, refusal_in-on_loose}
 use Rattle.strm_world.proofs.ReactedLemmas.{world_of-state}
 use Rattle.strm_transmit.specs.Inside.{AreServed}
 use Rattle.strm_transmit.specs.Hosted.{lone, forsaken_in, MeetsHosted}
@@ -114,14 +112,6 @@ module _ (old mid : State) (tells : Tells) (act : Act) (s : ℕ) (side : Side) (
 
 -- ## The two drops
 
-pub refused-end : (world : World) (side : Side) (end : NamedEnd) (act : EndAct) → refusal_in world (OnEnd side end act) ≡ refusal world.state (OnEnd side end act)
-unfolding refusal_in refusal
-refused-end world side end act = refl
-
-pub refused-loose : (world : World) (reader : ℕ) (act : LooseAct) → refusal_in world (OnLoose reader act) ≡ refusal world.state (OnLoose reader act)
-unfolding refusal_in refusal
-refused-loose world reader act = refl
-
 performs-drop : (world : World) (side : Side) (end : NamedEnd) (s : ℕ) → s ≡ stream_named (named world.state end) → performs_in world (OnEnd side end Drop) ≡ drops_in world s side (OnEnd side end Drop)
 unfolding performs_in
 performs-drop world side end s e = ap (λ k. drops_in world k side (OnEnd side end Drop)) (sym e)
@@ -140,7 +130,7 @@ module _ (old mid : State) (tells : Tells) where
   unfolding dropped
   drops-end side end s r a l e = record {
     ready = r;
-    may = record { untrapped = a.untrapped; none = λ logs. refused-end (world_of old tells logs) side end Drop ∙ a.none };
+    may = record { untrapped = a.untrapped; none = λ logs. refusal_in-on_end (world_of old tells logs) side end Drop ∙ a.none };
     reaction = reacts_to old (OnEnd side end Drop) (stream_named (named old end)) s (λ k. drops old k side end) a (performs-on_end old side end Drop) ∙ ap (goes replies.Done) (sym e);
     performs = λ logs. performs-drop (world_of old tells logs) side end s a.same;
     writer = subst (λ (m : State). WriterAfter side (stream_at old s) (stream_at m s)) (sym e) (writer_after side old.streams s l);
@@ -151,7 +141,7 @@ module _ (old mid : State) (tells : Tells) where
   unfolding dropped performs
   drops-loose s r a l e = record {
     ready = r;
-    may = record { untrapped = a.untrapped; none = λ logs. refused-loose (world_of old tells logs) s Close ∙ a.none };
+    may = record { untrapped = a.untrapped; none = λ logs. refusal_in-on_loose (world_of old tells logs) s Close ∙ a.none };
     reaction = reacts_to old (OnLoose s Close) tt tt (λ _. closes old s) a refl ∙ ap (goes replies.Done) (sym e);
     performs = λ logs. performs-close (world_of old tells logs) s;
     writer = subst (λ (m : State). WriterAfter Reading (stream_at old s) (stream_at m s)) (sym e) (writer_after Reading old.streams s l);

@@ -1,11 +1,10 @@
 -- A stream that lost its read end: the host writer on the other side is gone and closed, in one step.
 use Rattle.std.proofs.Common.{◌≡◌, ℕ, cond, Ok, refl, ap, ◌∙◌}
 use Rattle.strm_buffers.specs.Tells.{WriterTells, Tells, told_by, with_told, ClosesWriter}
-use Rattle.strm_machine.specs.State.{State, no_producer, producer_at, stream_at, is_host}
+use Rattle.strm_machine.specs.State.{State, stream_at, is_host}
 use Rattle.strm_machine.specs.Moves.{with_owner}
 use Rattle.strm_machine.specs.Reactions.{with_stream_at}
 use Rattle.strm_machine.specs.declared.replies.Reply.TheVariants as replies
-use Rattle.strm_machine.specs.declared.streams.Duty.TheVariants.{Serves, Ended}
 use Rattle.strm_machine.specs.declared.streams.Owner.TheVariants.{Gone}
 use Rattle.strm_machine.specs.declared.streams.Side.{Side}
 use Rattle.strm_machine.specs.declared.streams.Side.TheVariants.{Writing, Reading}
@@ -14,11 +13,11 @@ use Rattle.strm_world.specs.Outcomes.{Goes, done}
 use Rattle.strm_world.specs.Attaching.{forsaken}
 use Rattle.strm_world.specs.Does.{Logs, world_of, Fits, Does}
 use Rattle.strm_world.proofs.GrowLemmas.{grows-closed, Does-told}
-use Rattle.strm_world.proofs.CloseLemmas.{ended_producer, ended_in, without_writer-box}
+use Rattle.strm_world.proofs.CloseLemmas.{ended_in, without_writer-box}
+use Rattle.strm_world.proofs.FitsLemmas.{Fits-stream}
 use Rattle.strm_world.proofs.PollLemmas.{IsServing}
 use Rattle.strm_transmit.specs.Hosted.{forsaken_in}
-use Rattle.strm_transmit.proofs.ServedLemmas.{at_set, ended_no}
-use Rattle.strm_transmit.proofs.FitsLemmas.{Fits-told, set-types, HasWriter, serving}
+use Rattle.strm_transmit.proofs.FitsLemmas.{keeps-closed, Fits-told, Fits-ended, HasWriter, serving}
 use Rattle.strm_transmit.proofs.HostStepLemmas.{Does-after, Fits-after}
 
 -- the state without the end on a side of stream s
@@ -51,14 +50,9 @@ module _ (old : State) (tells : Tells) (s n : ℕ) (w : WriterTells) (h : HasWri
 
   pub forsaken-fits : Fits ended (with_told tells n w)
   forsaken-fits =
-      Fits-told old ended tells n w
-      (record {
-        there = is_serving.there;
-        kind = ap (λ (x : WriterTells). x.kind) c.same;
-        payload = ap (λ (x : WriterTells). x.payload) c.same;
-        duties = λ m k. at_set old.producers n (ended_producer old n) no_producer m (λ p. p.duty ≡ Serves k → (producer_at old m).duty ≡ Serves k) is_serving.kept (λ _ e. absurd (ended_no Ended k refl e)) (λ _ e. e);
-        types = λ k. set-types old.streams s (with_owner Writing (stream_at old s) Gone) (record { kind = refl; payload = refl }) k h.made;
-      }) h.fits
+      Fits-told ended tells n w (keeps-closed (told_by tells n) w c)
+      (Fits-ended gone tells n is_serving.kept
+      (Fits-stream old tells s (with_owner Writing (stream_at old s) Gone) (record { kind = refl; payload = refl }) h.fits))
 
 -- the same by the steps in which a store does it: the stream without its write end, what is kept of the
 -- host writer, and what that tells

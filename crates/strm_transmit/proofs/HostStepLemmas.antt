@@ -1,6 +1,6 @@
 -- The walk of every call with host ends: one that is not admitted, one that is, and one that touches no
 -- host end and so does what the machine does without them.
-use Rattle.std.proofs.Common.{◌≡◌, true, false, cond, [], Option, Some, None, Result, Ok, Err, refl, sym, ap, subst, ◌∙◌}
+use Rattle.std.proofs.Common.{◌≡◌, false, cond, [], Option, Some, None, Result, Ok, Err, refl, sym, ap, subst, ◌∙◌}
 use Rattle.std.specs.Prelude.{IfOk, IfErr, IsTrue}
 use Rattle.strm_codes.specs.declared.refusals.Refusal.{Refusal}
 use Rattle.strm_buffers.specs.Tells.{Tells}
@@ -16,11 +16,12 @@ use Rattle.strm_machine.specs.declared.replies.Reply.{Reply}
 use Rattle.strm_machine.specs.declared.replies.Reply.TheVariants as replies
 use Rattle.strm_machine.specs.declared.stops.Stop.TheVariants as stops
 use Rattle.strm_world.specs.World.{World}
-use Rattle.strm_world.specs.Outcomes.{Outcome, stops as stops_in}
+use Rattle.strm_world.specs.Outcomes.{Outcome, Goes, stops as stops_in}
 use Rattle.strm_world.specs.HostRefusals.{refusal_in}
 use Rattle.strm_world.specs.Steps.{performs_in, unless_refused_in, outcome, may_poll, touches}
 use Rattle.strm_world.specs.Does.{Logs, world_of, Answered, Fits, Does}
 use Rattle.strm_world.proofs.DoesLemmas.{Does-untold, Does-as}
+use Rattle.strm_world.proofs.OutcomeLemmas.{outcome-trapped, outcome-performs}
 use Rattle.strm_world.proofs.ReactedLemmas.{answer_of, lifted}
 use Rattle.strm_transmit.specs.Meets.{Meets, admitted, or_found}
 use Rattle.strm_transmit.specs.Hosted.{answered, lone, Stays, Leaves, MeetsHosted}
@@ -28,19 +29,6 @@ use Rattle.strm_transmit.specs.declared.errors.StoreError.{StoreError}
 use Rattle.strm_transmit.specs.declared.errors.StoreError.TheVariants.{Refused, HostFailed, HostBroke, BadItem, StoreTrapped, OutOfMemory}
 use Rattle.strm_transmit.proofs.StepLemmas.{not_admitted}
 use Rattle.strm_transmit.proofs.FitsLemmas.{AreMade, KeepsTypes, Fits-kept, same_streams, reaction-types}
-
--- ## What the machine does
-
-outcome-trapped : (world : World) (act : Act) → world.state.trapped ≡ true → outcome world act ≡ stops_in stops.StoreTrapped world
-unfolding outcome
-outcome-trapped world act t =
-    ap (λ b. cond b (stops_in stops.StoreTrapped world) (unless_refused_in world act (refusal_in world act))) t
-
-outcome-unless : (world : World) (act : Act) (o : Option Refusal) → world.state.trapped ≡ false → refusal_in world act ≡ o → outcome world act ≡ unless_refused_in world act o
-unfolding outcome
-outcome-unless world act o t e =
-    ap (λ b. cond b (stops_in stops.StoreTrapped world) (unless_refused_in world act (refusal_in world act))) t
-    ∙ ap (unless_refused_in world act) e
 
 -- ## What a call left
 
@@ -62,6 +50,12 @@ all_stays state tells = record { same = refl; ends = refl }
 -- what the machine refuses of an act on a store's state, whatever records are yet to come
 abbrev pub RefusedBy : State → Tells → Act → Option Refusal → Type 0
 RefusedBy state tells act o = (logs : Logs) → refusal_in (world_of state tells logs) act ≡ o
+
+outcome-refused : (world : World) (act : Act) (r : Refusal) → world.state.trapped ≡ false → refusal_in world act ≡ Some r → outcome world act ≡ Goes (replies.Refused r) world
+unfolding outcome
+outcome-refused world act r t e =
+    ap (λ b. cond b (stops_in stops.StoreTrapped world) (unless_refused_in world act (refusal_in world act))) t
+    ∙ ap (unless_refused_in world act) e
 
 module _ (state : State) (tells : Tells) (act : Act) where
   -- a call that answers this error changed nothing
@@ -87,7 +81,7 @@ module _ (state : State) (tells : Tells) (act : Act) where
       (λ t. unchanged StoreTrapped (all_stays state tells)
       (Does-untold state state tells (Err (Some stops.StoreTrapped)) (λ w. outcome w act) (λ logs. outcome-trapped (world_of state tells logs) act t) tt) fits)
       (λ q t f. unchanged (Refused q) (all_stays state tells)
-      (Does-untold state state tells (Ok (replies.Refused q)) (λ w. outcome w act) (λ logs. outcome-unless (world_of state tells logs) act (Some q) t (r logs ∙ f)) tt) fits)
+      (Does-untold state state tells (Ok (replies.Refused q)) (λ w. outcome w act) (λ logs. outcome-refused (world_of state tells logs) act q t (r logs ∙ f)) tt) fits)
 
 -- ## A call that is
 
@@ -105,7 +99,7 @@ PerformsAs state tells act machine =
 pub does_admitted : (old new : State) (tells told : Tells) (act : Act) (answer : Answered) (machine : World → Outcome) → MayBeDone old tells act → PerformsAs old tells act machine → Does old new tells told answer machine → Does old new tells told answer (λ w. outcome w act)
 does_admitted old new tells told act answer machine may performs =
     Does-as old new tells told answer machine (λ w. outcome w act)
-    (λ logs. outcome-unless (world_of old tells logs) act None may.untrapped (may.none logs) ∙ performs logs)
+    (λ logs. outcome-performs (world_of old tells logs) act may.untrapped (may.none logs) ∙ performs logs)
 
 -- ## A call that touches no host end
 

@@ -194,15 +194,13 @@ module _ (old new : State) (tells : Tells) (n : ℕ) (h : MayHost old tells n) w
 
 pub hosted_feed : (state : State) (tells told : Tells) (n : ℕ) (bytes : List ℕ) → MayBeDone state tells (OnHost n (Feed bytes)) → Fits state tells → told ≡ with_told tells n (fed (told_by tells n) bytes) → MeetsHosted state state tells told (Ok replies.Done) (OnHost n (Feed bytes))
 hosted_feed state tells told n bytes may fits is =
-    let there = feed_fits state tells n bytes may in
     let after = with_told tells n (fed (told_by tells n) bytes) in
     record {
       does = Does-after refl is
           (does_admitted state state tells after (OnHost n (Feed bytes)) (Ok replies.Done) (λ w. on_host w n (Feed bytes)) may
-          (λ logs. performs-feed (world_of state tells logs) n bytes) (Does-feed state tells n bytes there));
+          (λ logs. performs-feed (world_of state tells logs) n bytes) (Does-feed state tells n bytes (feed_fits state tells n bytes may)));
       fits = Fits-after state state after told refl is
-          (Fits-told state state tells n (fed (told_by tells n) bytes)
-          (record { there = there; kind = refl; payload = refl; duties = λ m s e. e; types = λ s. record { kind = refl; payload = refl } }) fits);
+          (Fits-told state tells n (fed (told_by tells n) bytes) (record { kind = refl; payload = refl }) fits);
       alone = λ u. cc u;
       err = tt;
     }

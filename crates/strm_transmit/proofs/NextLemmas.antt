@@ -20,15 +20,12 @@ use Rattle.strm_world.specs.Does.{FitsWriter, Fits}
 use Rattle.strm_transmit.specs.Hosted.{FitsAt}
 use Rattle.strm_transmit.specs.Inside.{AreServed}
 use Rattle.strm_transmit.specs.Turning.{least_of, next_of, IsNextServed, NextServed}
-use Rattle.strm_transmit.proofs.ServedLemmas.{serving_kept, same_stream, ended_no}
+use Rattle.strm_transmit.proofs.ServedLemmas.{serving_kept, same_stream, not_unused, ended_no}
 
 -- ## The next stream that is served
 
-unused_no : (d : Duty) (k : ℕ) → d ≡ Unused → d ≡ Serves k → ⊥
-unused_no d k e f = cc
-
 pub next_none : (from : ℕ) → NextServed [] from None
-next_none from = λ n k e l. unused_no (get_or [] n no_producer).duty k (ap (λ (p : Producer). p.duty) (get_or_past [] n no_producer (omega arith))) e
+next_none from = λ n k e l. not_unused (get_or [] n no_producer).duty k (ap (λ (p : Producer). p.duty) (get_or_past [] n no_producer (omega arith))) e
 
 -- a stream is not less than the least one, if there is one
 abbrev IsBehind : Option ℕ → ℕ → Type 0
@@ -88,7 +85,7 @@ module _ (ps : List Producer) (p : Producer) (from : ℕ) where
           past a b l e f = omega (arith, l, e, f)
 
       by_duty : (d : Duty) → p.duty ≡ d → NextServed more from (next_of d from o)
-      by_duty Unused e = kept_on o h (λ k d a. absurd (unused_no p.duty k e d))
+      by_duty Unused e = kept_on o h (λ k d a. absurd (not_unused p.duty k e d))
       by_duty Ended e = kept_on o h (λ k d a. absurd (ended_no p.duty k e d))
       by_duty (Serves s) e = by_test s (nat_le from s) e refl
 

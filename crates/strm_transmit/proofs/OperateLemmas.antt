@@ -34,7 +34,7 @@ use Rattle.strm_world.specs.Producing.{producer_turn}
 use Rattle.strm_world.specs.Settling.{answered as answers_read}
 use Rattle.strm_world.proofs.FitsLemmas.{Fits-stream}
 use Rattle.strm_world.proofs.ReadLemmas.{opened, Does-read, Does-read_stop}
-use Rattle.strm_transmit.proofs.DropLemmas.{refused-end}
+use Rattle.strm_world.proofs.OutcomeLemmas.{refusal_in-on_end}
 use Rattle.strm_transmit.proofs.HostStepLemmas.{PerformsAs, does_admitted, Settles, unpolled}
 
 -- ## A call that polled a host end
@@ -149,7 +149,7 @@ module _ (old new : State) (tells told : Tells) (side : Side) (end : NamedEnd) (
   hosted_read f result does =
       hosted_polled old new tells told act across f result
       (does_admitted old new tells told act (answered (replied f result)) (λ w. reads_from w s n read)
-      (record { untrapped = h.untrapped; none = λ logs. refused-end (world_of old tells logs) side end (Operate address count) ∙ h.none }) reads does)
+      (record { untrapped = h.untrapped; none = λ logs. refusal_in-on_end (world_of old tells logs) side end (Operate address count) ∙ h.none }) reads does)
 
 -- ## A read or write with no host end across
 

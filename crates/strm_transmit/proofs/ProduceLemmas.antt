@@ -6,9 +6,10 @@ use Rattle.strm_buffers.specs.Listing.{Item}
 use Rattle.strm_buffers.specs.Tells.{WriterTells, Tells, told_by, with_told, ClosesWriter}
 use Rattle.strm_machine.specs.State.{State, no_producer, no_stream, producer_at, stream_at}
 use Rattle.strm_machine.specs.Soundness.{IsSound, sizes_of, IsPlaced, StreamIsPlaced}
+use Rattle.strm_machine.specs.Reactions.{with_stream_at}
 use Rattle.strm_machine.proofs.SoundLemmas.{placed_at}
 use Rattle.strm_machine.specs.declared.replies.Reply.TheVariants as replies
-use Rattle.strm_machine.specs.declared.streams.Duty.TheVariants.{Serves, Ended}
+use Rattle.strm_machine.specs.declared.streams.Duty.TheVariants.{Serves}
 use Rattle.strm_machine.specs.declared.streams.Operation.{Operation}
 use Rattle.strm_machine.specs.declared.streams.Owner.{Owner}
 use Rattle.strm_machine.specs.declared.streams.Owner.TheVariants.{Host, Gone}
@@ -16,7 +17,8 @@ use Rattle.strm_machine.specs.declared.streams.Producer.{Producer}
 use Rattle.strm_machine.specs.declared.streams.Stream.{Stream}
 use Rattle.strm_world.specs.Producing.{producer_turn}
 use Rattle.strm_world.specs.Does.{Answered, Fits, Does}
-use Rattle.strm_world.proofs.CloseLemmas.{ended_producer, ended_in}
+use Rattle.strm_world.proofs.CloseLemmas.{ended_in}
+use Rattle.strm_world.proofs.FitsLemmas.{Fits-stream}
 use Rattle.strm_world.proofs.PollLemmas.{IsServing}
 use Rattle.strm_world.proofs.SettleLemmas.{IsLeft}
 use Rattle.strm_world.proofs.TurnLemmas.{turned_but}
@@ -27,8 +29,8 @@ use Rattle.strm_producing.proofs.StepLemmas.{scene_in, told_in, turned_in, stop_
 use Rattle.strm_transmit.specs.Inside.{AreServed}
 use Rattle.strm_transmit.specs.Hosted.{answered, IsStop}
 use Rattle.strm_transmit.specs.Turning.{TurnsStream, stops_by}
-use Rattle.strm_transmit.proofs.ServedLemmas.{at_set, serving_kept, ended_no}
-use Rattle.strm_transmit.proofs.FitsLemmas.{Fits-told, set-types, HasWriter, serving}
+use Rattle.strm_transmit.proofs.ServedLemmas.{serving_kept}
+use Rattle.strm_transmit.proofs.FitsLemmas.{keeps-closed, Fits-told, Fits-producer, Fits-ended, HasWriter, serving}
 use Rattle.strm_transmit.proofs.HostStepLemmas.{Does-after, Fits-after}
 use Rattle.strm_transmit.proofs.SceneLemmas.{SceneKeeps, turn_keeps}
 
@@ -83,15 +85,10 @@ module _ (old : State) (tells : Tells) (n s : ℕ) (read : Operation) (h : IsSer
 
     turned-fits : Fits (turned_in old n s t.after) (told_in tells n t.after)
     turned-fits =
-        Fits-told old (turned_in old n s t.after) tells n t.after.tells
-        (record {
-          there = is_serving.there;
-          kind = keeps.tells.kind;
-          payload = keeps.tells.payload;
-          duties = λ m k. at_set old.producers n t.after.producer no_producer m (λ q. q.duty ≡ Serves k → (producer_at old m).duty ≡ Serves k) is_serving.kept
-              (λ e f. rw e (sym keeps.duty ∙ f)) (λ _ f. f);
-          types = λ k. set-types old.streams s t.after.stream (record { kind = keeps.stream.kind; payload = keeps.stream.payload }) k h.writer.made;
-        }) h.writer.fits
+        let stream = with_stream_at old s t.after.stream in
+        Fits-told (turned_in old n s t.after) tells n t.after.tells keeps.tells
+        (Fits-producer stream tells n t.after.producer is_serving.kept (λ k e. sym keeps.duty ∙ e)
+        (Fits-stream old tells s t.after.stream (record { kind = keeps.stream.kind; payload = keeps.stream.payload }) h.writer.fits))
 
     pub mid-fits : Fits mid told
     mid-fits = Fits-after (turned_in old n s t.after) mid (told_in tells n t.after) told t.state t.ends turned-fits
@@ -142,16 +139,8 @@ module _ (old : State) (tells : Tells) (n s : ℕ) (read : Operation) (h : IsSer
 
     pub left-fits : Fits (ended_in mid n) (with_told told n w)
     left-fits =
-        let mid_kept = serving_kept mid.producers n s (mid-duty mid told (Ok tt) t) in
-        Fits-told mid (ended_in mid n) told n w
-        (record {
-          there = told-there mid told (Ok tt) t;
-          kind = ap (λ (x : WriterTells). x.kind) c.same;
-          payload = ap (λ (x : WriterTells). x.payload) c.same;
-          duties = λ m k. at_set mid.producers n (ended_producer mid n) no_producer m (λ q. q.duty ≡ Serves k → (producer_at mid m).duty ≡ Serves k) mid_kept
-              (λ _ e. absurd (ended_no Ended k refl e)) (λ _ e. e);
-          types = λ k. record { kind = refl; payload = refl };
-        }) (mid-fits mid told (Ok tt) t)
+        Fits-told (ended_in mid n) told n w (keeps-closed (told_by told n) w c)
+        (Fits-ended mid told n (serving_kept mid.producers n s (mid-duty mid told (Ok tt) t)) (mid-fits mid told (Ok tt) t))
 
   -- it stops, and the store is trapped
   pub produced-stops : (mid : State) (told : Tells) (e : TurnError) (t : TurnsStream old mid tells told n s read (Err e)) → Does old (record mid { trapped = true }) tells told (stop_of e n) (λ w. producer_turn w s n read)

@@ -1,14 +1,10 @@
 -- What the turn of a host writer keeps: types, owners but that the writer may be gone, handles, and where
 -- operations lie.
 use Rattle.std.proofs.Common.{◌≡◌, ℕ, ◌≤◌, ◌==◌, Bool, true, false, cond, List, [], ◌∷◌, length, take, length-take, Option, Some, None, Result, Ok, Err, refl, sym, subst, arith}
-use Rattle.strm_codes.specs.Layout.{scalars_of}
-use Rattle.strm_codes.specs.declared.payloads.Payload.{Payload}
 use Rattle.strm_codes.specs.declared.codes.StreamResult.{StreamResult}
 use Rattle.strm_codes.specs.declared.codes.StreamResult.TheVariants as results
 use Rattle.strm_buffers.specs.Listing.{Item}
-use Rattle.strm_buffers.specs.Said.{WriterSaid}
 use Rattle.strm_buffers.specs.Tells.{WriterTells}
-use Rattle.strm_machine.specs.State.{Guest, memory_in}
 use Rattle.strm_machine.specs.Sides.{with_operation}
 use Rattle.strm_machine.specs.Turns.{with_received}
 use Rattle.strm_machine.specs.Soundness.{sizes_of, IsPlaced, StreamIsPlaced}
@@ -17,34 +13,16 @@ use Rattle.strm_machine.specs.declared.streams.Owner.TheVariants.{Gone}
 use Rattle.strm_machine.specs.declared.streams.Producer.{Producer}
 use Rattle.strm_machine.specs.declared.streams.Side.TheVariants.{Writing, Reading}
 use Rattle.strm_machine.specs.declared.streams.Stream.{Stream}
-use Rattle.strm_machine.proofs.BoundLemmas.{length-stored_front}
-use Rattle.strm_machine.proofs.SideLemmas.{IsPlaced-advanced}
-use Rattle.strm_machine.proofs.TurnLemmas.{GuestsKeep, with_memory-keeps, size_in}
+use Rattle.strm_machine.proofs.TurnLemmas.{GuestsKeep}
 use Rattle.strm_world.specs.Settling.{went, settled, let_go, moved_on}
 use Rattle.strm_world.specs.Producing.{lowered}
-use Rattle.strm_producing.specs.Polls.{IsPolled}
+use Rattle.strm_transmit.proofs.FitsLemmas.{KeepsType, keeps-polled}
+use Rattle.strm_world.proofs.LoweredLemmas.{lowered-keeps, went-placed, settled-placed}
 use Rattle.strm_producing.specs.Turning.{Scene, received, Polled, TurnsEmpty, TurnsHolding, Turns}
 use Rattle.strm_producing.specs.declared.turns.TurnError.{TurnError}
 use Rattle.strm_producing.specs.declared.turns.TurnError.TheVariants.{Failed, OutOfMemory, Broke}
 
--- ## Memories
-
-pub lowered-keeps : (guests : List Guest) (payload : Payload) (read : Operation) (items : List Item) → IsPlaced (sizes_of guests) payload read → length items ≤ read.left → GuestsKeep guests (lowered guests payload read items)
-lowered-keeps guests payload read items p l =
-    let inside = p.inside in
-    with_memory-keeps guests read.guest _
-    (length-stored_front (scalars_of payload) (memory_in guests read.guest) read.address read.left items l (rw (size_in guests read.guest) at inside))
-
 -- ## The stream
-
-went-placed : (sizes : List ℕ) (payload : Payload) (read : Operation) (n : ℕ) → n ≤ read.left → IsPlaced sizes payload read → IsPlaced sizes payload (went payload read n)
-went-placed sizes payload read n l p =
-    let q = IsPlaced-advanced sizes payload read n l p in
-    record { there = q.there; inside = q.inside; counted = q.counted }
-
-settled-placed : (sizes : List ℕ) (payload : Payload) (operation : Operation) (result : Option StreamResult) → IsPlaced sizes payload operation → IsPlaced sizes payload (settled result operation)
-settled-placed sizes payload operation None p = p
-settled-placed sizes payload operation (Some result) p = record { there = p.there; inside = p.inside; counted = p.counted }
 
 -- a stream whose writer may be gone
 pub record StreamMoves (sizes : List ℕ) (old new : Stream) : Type 0 where
@@ -75,23 +53,18 @@ stays-moves sizes stream h = record { done = false; writer = refl; reader = refl
 
 -- ## The scene of a turn
 
--- a host writer has the kind and the payload that it had
-pub record TellsKeep (old new : WriterTells) : Type 0 where
-  pub kind : new.kind ≡ old.kind
-  pub payload : new.payload ≡ old.payload
-
 pub record SceneKeeps (old after : Scene) : Type 0 where
   pub guests : GuestsKeep old.guests after.guests
   pub stream : StreamMoves (sizes_of old.guests) old.stream after.stream
   pub duty : after.producer.duty ≡ old.producer.duty
-  pub tells : TellsKeep old.tells after.tells
+  pub tells : KeepsType old.tells after.tells
 
 module _ (old : Scene) (read : Operation) (p : IsPlaced (sizes_of old.guests) old.stream.payload read) (h : StreamIsPlaced (sizes_of old.guests) old.stream) where
   -- the scene after the read received these items, and the host writer is this
   abbrev after_items : List Item → Option StreamResult → Producer → WriterTells → Scene
   after_items items result producer tells = record (received old read items result) { producer = producer; tells = tells }
 
-  received_keeps : (items : List Item) (result : Option StreamResult) (producer : Producer) (tells : WriterTells) → length items ≤ read.left → producer.duty ≡ old.producer.duty → TellsKeep old.tells tells → SceneKeeps old (after_items items result producer tells)
+  received_keeps : (items : List Item) (result : Option StreamResult) (producer : Producer) (tells : WriterTells) → length items ≤ read.left → producer.duty ≡ old.producer.duty → KeepsType old.tells tells → SceneKeeps old (after_items items result producer tells)
   received_keeps items result producer tells l d k = record {
     guests = lowered-keeps old.guests old.stream.payload read items p l;
     stream = moved_on-moves (sizes_of old.guests) old.stream read (length items) result h p l;
@@ -99,7 +72,7 @@ module _ (old : Scene) (read : Operation) (p : IsPlaced (sizes_of old.guests) ol
     tells = k;
   }
 
-  stopped_keeps : (items : List Item) (tells : WriterTells) → length items ≤ read.left → TellsKeep old.tells tells → SceneKeeps old (record old { guests = lowered old.guests old.stream.payload read items; tells = tells })
+  stopped_keeps : (items : List Item) (tells : WriterTells) → length items ≤ read.left → KeepsType old.tells tells → SceneKeeps old (record old { guests = lowered old.guests old.stream.payload read items; tells = tells })
   stopped_keeps items tells l k = record {
     guests = lowered-keeps old.guests old.stream.payload read items p l;
     stream = stays-moves (sizes_of old.guests) old.stream h;
@@ -107,19 +80,16 @@ module _ (old : Scene) (read : Operation) (p : IsPlaced (sizes_of old.guests) ol
     tells = k;
   }
 
-  polls_keep : (said : WriterSaid) (tells : WriterTells) → IsPolled old.tells tells read said → TellsKeep old.tells tells
-  polls_keep said tells t = record { kind = t.polls.kind; payload = t.polls.payload }
-
   few : (xs : List Item) → length (take read.left xs) ≤ read.left
   few xs = omega (arith, length-take read.left xs)
 
   polled_keeps : (result : Result (Unit {0}) TurnError) (after : Scene) → Polled result old after read → SceneKeeps old after
   polled_keeps (Ok v) after t =
-      subst (SceneKeeps old) (sym t.1.after) (received_keeps _ _ _ after.tells (few t.0.items) refl (polls_keep t.0 after.tells t.1.polled))
+      subst (SceneKeeps old) (sym t.1.after) (received_keeps _ _ _ after.tells (few t.0.items) refl (keeps-polled old.tells after.tells t.1.polled.polls))
   polled_keeps (Err Failed) after t =
-      subst (SceneKeeps old) (sym t.1.stopped.after) (stopped_keeps _ after.tells t.1.stopped.few (polls_keep t.0 after.tells t.1.polled))
+      subst (SceneKeeps old) (sym t.1.stopped.after) (stopped_keeps _ after.tells t.1.stopped.few (keeps-polled old.tells after.tells t.1.polled.polls))
   polled_keeps (Err Broke) after t =
-      subst (SceneKeeps old) (sym t.1.stopped.after) (stopped_keeps _ after.tells t.1.stopped.few (polls_keep t.0 after.tells t.1.polled))
+      subst (SceneKeeps old) (sym t.1.stopped.after) (stopped_keeps _ after.tells t.1.stopped.few (keeps-polled old.tells after.tells t.1.polled.polls))
   polled_keeps (Err OutOfMemory) after t =
       subst (SceneKeeps old) (sym t.1.stopped.after) (stopped_keeps _ after.tells t.1.stopped.few (record { kind = t.1.tells.kind; payload = t.1.tells.payload }))
 

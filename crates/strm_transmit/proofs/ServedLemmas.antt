@@ -83,7 +83,7 @@ AreServed-none = record {
 pub same_stream : (a b : ℕ) (d : Duty) → d ≡ Serves a → d ≡ Serves b → a ≡ b
 same_stream a b d e f = cc
 
-not_unused : (d : Duty) (s : ℕ) → d ≡ Unused → d ≢ Serves s
+pub not_unused : (d : Duty) (s : ℕ) → d ≡ Unused → d ≢ Serves s
 not_unused d s e f = cc
 
 pub ended_no : (d : Duty) (s : ℕ) → d ≡ Ended → d ≢ Serves s

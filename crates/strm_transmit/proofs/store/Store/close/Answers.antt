@@ -1,7 +1,8 @@
 use Rattle.strm_machine.specs.declared.acts.LooseAct.TheVariants.{Close}
+use Rattle.strm_world.proofs.OutcomeLemmas.{refusal_in-on_loose}
 use Rattle.strm_transmit.proofs.StepLemmas.{is_admitted, meets_not_admitted}
 use Rattle.strm_transmit.proofs.HostStepLemmas.{hosted_not_admitted}
-use Rattle.strm_transmit.proofs.DropLemmas.{drops-loose, drops-loose-alone, dropped-fits, drops-hosted, refused-loose, still_made}
+use Rattle.strm_transmit.proofs.DropLemmas.{drops-loose, drops-loose-alone, dropped-fits, drops-hosted, still_made}
 use Rattle.strm_transmit.proofs.MoveLemmas.{close_made}
 use Rattle.strm_transmit.proofs.store.Store.close.Goals as goal
 
@@ -26,7 +27,7 @@ returns-in-Ok-clause-meets g c =
 
 pub returns-in-Err-clause-meets : goal.returns-in-Err-clause-meets
 returns-in-Err-clause-meets g c =
-    hosted_not_admitted c.args.self.now _ _ _ _ _ _ (λ logs. refused-loose _ c.args.reader Close) c.close_fits.ensures c.in-Err.ensures.exact c.requires.fits
+    hosted_not_admitted c.args.self.now _ _ _ _ _ _ (λ logs. refusal_in-on_loose _ c.args.reader Close) c.close_fits.ensures c.in-Err.ensures.exact c.requires.fits
     (λ u. meets_not_admitted _ _ _ _ _ c.close_fits.ensures c.in-Err.ensures.exact)
 
 pub forsake-requires-clause-there : goal.forsake-requires-clause-there

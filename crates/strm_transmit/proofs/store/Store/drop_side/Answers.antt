@@ -2,9 +2,10 @@ use Rattle.std.proofs.Common.{rules, sym, ◌∙◌}
 use Rattle.strm_machine.specs.declared.acts.EndAct.TheVariants.{Drop}
 use Rattle.strm_machine.proofs.ReactionLemmas.{refusal-on_end}
 use Rattle.strm_machine.proofs.RefusalLemmas.{drop_fits}
+use Rattle.strm_world.proofs.OutcomeLemmas.{refusal_in-on_end}
 use Rattle.strm_transmit.proofs.StepLemmas.{is_admitted, meets_not_admitted}
 use Rattle.strm_transmit.proofs.HostStepLemmas.{hosted_not_admitted}
-use Rattle.strm_transmit.proofs.DropLemmas.{drops-end, drops-end-alone, dropped-fits, drops-hosted, refused-end}
+use Rattle.strm_transmit.proofs.DropLemmas.{drops-end, drops-end-alone, dropped-fits, drops-hosted}
 use Rattle.strm_transmit.proofs.store.Store.drop_side.Goals as goal
 
 pub release-requires-clause-fits : goal.release-requires-clause-fits
@@ -23,7 +24,7 @@ forsake-requires-clause-fits g c =
 
 pub returns-in-Err-clause-meets : goal.returns-in-Err-clause-meets
 returns-in-Err-clause-meets g c =
-    hosted_not_admitted c.args.self.now _ _ _ _ _ _ (λ logs. refused-end _ c.args.side c.args.end.now Drop) c.drop_found.ensures.exact c.in-Err.ensures.exact c.requires.fits
+    hosted_not_admitted c.args.self.now _ _ _ _ _ _ (λ logs. refusal_in-on_end _ c.args.side c.args.end.now Drop) c.drop_found.ensures.exact c.in-Err.ensures.exact c.requires.fits
     (λ u. meets_not_admitted _ _ _ _ _ c.drop_found.ensures.exact c.in-Err.ensures.exact)
 
 pub returns-in-Ok-clause-meets : goal.returns-in-Ok-clause-meets

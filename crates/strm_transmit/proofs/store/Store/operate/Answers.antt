@@ -7,7 +7,7 @@ use Rattle.strm_machine.proofs.ReactionLemmas.{performs-on_end}
 use Rattle.strm_transmit.specs.Meets.{replied}
 use Rattle.strm_transmit.proofs.StepLemmas.{is_admitted, reacts, meets_admitted, meets_not_admitted}
 use Rattle.strm_transmit.proofs.HostStepLemmas.{hosted_alone, hosted_not_admitted}
-use Rattle.strm_transmit.proofs.DropLemmas.{refused-end}
+use Rattle.strm_world.proofs.OutcomeLemmas.{refusal_in-on_end}
 use Rattle.strm_transmit.proofs.OperateLemmas.{hosted_read, operate-alone, settled_code}
 use Rattle.strm_transmit.proofs.store.Store.operate.Goals as goal
 
@@ -40,5 +40,5 @@ returns-in-None-clause-meets g c =
 
 pub returns-in-Err-clause-meets : goal.returns-in-Err-clause-meets
 returns-in-Err-clause-meets g c =
-    hosted_not_admitted c.args.self.now _ _ _ _ _ _ (λ logs. refused-end _ c.args.side c.args.end.now (Operate c.args.address c.args.count)) c.operation_found.ensures.exact c.in-Err.ensures.exact c.requires.fits
+    hosted_not_admitted c.args.self.now _ _ _ _ _ _ (λ logs. refusal_in-on_end _ c.args.side c.args.end.now (Operate c.args.address c.args.count)) c.operation_found.ensures.exact c.in-Err.ensures.exact c.requires.fits
     (λ u. meets_not_admitted _ _ _ _ _ c.operation_found.ensures.exact c.in-Err.ensures.exact)

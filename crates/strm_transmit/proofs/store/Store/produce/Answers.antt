@@ -4,68 +4,66 @@ use Rattle.strm_transmit.proofs.store.Store.produce.Goals as goal
 
 pub stream-requires : goal.stream-requires
 stream-requires g c =
-    let h = is_served c.args.self.now _ c.args.number c.args.stream c.args.read.now c.sound.ensures c.served.ensures c.requires.there c.requires.owner c.requires.fits c.requires.placed in
-    mid-made c.args.self.now _ c.args.number c.args.stream c.args.read.now h _ _ _ c.in-Ok.ensures
+    let h = is_served _ _ _ _ _ c.sound.ensures c.served.ensures c.requires.there c.requires.owner c.requires.fits c.requires.placed in
+    mid-made _ _ _ _ _ h _ _ _ c.in-Ok.ensures
 
 pub retire-requires-clause-serves : goal.retire-requires-clause-serves
 retire-requires-clause-serves g c =
-    let h = is_served c.args.self.now _ c.args.number c.args.stream c.args.read.now c.sound.ensures c.served.ensures c.requires.there c.requires.owner c.requires.fits c.requires.placed in
-    mid-duty c.args.self.now _ c.args.number c.args.stream c.args.read.now h _ _ _ c.in-Ok.ensures
+    let h = is_served _ _ _ _ _ c.sound.ensures c.served.ensures c.requires.there c.requires.owner c.requires.fits c.requires.placed in
+    mid-duty _ _ _ _ _ h _ _ _ c.in-Ok.ensures
 
 pub retire-requires-clause-gone : goal.retire-requires-clause-gone
-retire-requires-clause-gone g c =
-    let h = is_served c.args.self.now _ c.args.number c.args.stream c.args.read.now c.sound.ensures c.served.ensures c.requires.there c.requires.owner c.requires.fits c.requires.placed in
-    search rules
+retire-requires-clause-gone g c = search rules
 
 pub close_writer-requires : goal.close_writer-requires
 close_writer-requires g c =
-    let h = is_served c.args.self.now _ c.args.number c.args.stream c.args.read.now c.sound.ensures c.served.ensures c.requires.there c.requires.owner c.requires.fits c.requires.placed in
-    told-there c.args.self.now _ c.args.number c.args.stream c.args.read.now h _ _ _ c.in-Ok.ensures
+    let h = is_served _ _ _ _ _ c.sound.ensures c.served.ensures c.requires.there c.requires.owner c.requires.fits c.requires.placed in
+    told-there _ _ _ _ _ h _ _ _ c.in-Ok.ensures
 
 pub returns-in-Err-clause-does : goal.returns-in-Err-clause-does
 returns-in-Err-clause-does g c =
-    let h = is_served c.args.self.now _ c.args.number c.args.stream c.args.read.now c.sound.ensures c.served.ensures c.requires.there c.requires.owner c.requires.fits c.requires.placed in
-    rw c.stop_of.ensures (stops-does c.args.self.now _ c.args.number c.args.stream c.args.read.now h _ _ _ c.in-Err.error c.in-Err.ensures c.trap.ensures)
+    let h = is_served _ _ _ _ _ c.sound.ensures c.served.ensures c.requires.there c.requires.owner c.requires.fits c.requires.placed in
+    rw c.stop_of.ensures (stops-does _ _ _ _ _ h _ _ _ c.in-Err.error c.in-Err.ensures c.trap.ensures)
 
 pub returns-in-Err-clause-fits : goal.returns-in-Err-clause-fits
 returns-in-Err-clause-fits g c =
-    let h = is_served c.args.self.now _ c.args.number c.args.stream c.args.read.now c.sound.ensures c.served.ensures c.requires.there c.requires.owner c.requires.fits c.requires.placed in
-    stops-fits c.args.self.now _ c.args.number c.args.stream c.args.read.now h _ _ _ c.in-Err.error c.in-Err.ensures c.trap.ensures
+    let h = is_served _ _ _ _ _ c.sound.ensures c.served.ensures c.requires.there c.requires.owner c.requires.fits c.requires.placed in
+    stops-fits _ _ _ _ _ h _ _ _ c.in-Err.error c.in-Err.ensures c.trap.ensures
 
 pub returns-in-Err-clause-there : goal.returns-in-Err-clause-there
 returns-in-Err-clause-there g c =
-    let h = is_served c.args.self.now _ c.args.number c.args.stream c.args.read.now c.sound.ensures c.served.ensures c.requires.there c.requires.owner c.requires.fits c.requires.placed in
-    stops-length c.args.self.now _ c.args.number c.args.stream c.args.read.now h _ _ _ c.in-Err.error c.in-Err.ensures c.trap.ensures
+    let h = is_served _ _ _ _ _ c.sound.ensures c.served.ensures c.requires.there c.requires.owner c.requires.fits c.requires.placed in
+    stops-length _ _ _ _ _ h _ _ _ c.in-Err.error c.in-Err.ensures c.trap.ensures
 
 pub returns-in-Err-clause-stop : goal.returns-in-Err-clause-stop
 returns-in-Err-clause-stop g c = rw c.stop_of.ensures (stop-stops c.in-Err.error c.args.number)
 
 pub returns-then-ne-clause-does : goal.returns-then-ne-clause-does
 returns-then-ne-clause-does g c =
-    let h = is_served c.args.self.now _ c.args.number c.args.stream c.args.read.now c.sound.ensures c.served.ensures c.requires.there c.requires.owner c.requires.fits c.requires.placed in
-    produced-stays c.args.self.now _ c.args.number c.args.stream c.args.read.now h _ _ c.in-Ok.ensures (search rules)
+    let h = is_served _ _ _ _ _ c.sound.ensures c.served.ensures c.requires.there c.requires.owner c.requires.fits c.requires.placed in
+    produced-stays _ _ _ _ _ h _ _ c.in-Ok.ensures (search rules)
 
 pub returns-then-ne-clause-fits : goal.returns-then-ne-clause-fits
 returns-then-ne-clause-fits g c =
-    let h = is_served c.args.self.now _ c.args.number c.args.stream c.args.read.now c.sound.ensures c.served.ensures c.requires.there c.requires.owner c.requires.fits c.requires.placed in
-    mid-fits c.args.self.now _ c.args.number c.args.stream c.args.read.now h _ _ _ c.in-Ok.ensures
+    let h = is_served _ _ _ _ _ c.sound.ensures c.served.ensures c.requires.there c.requires.owner c.requires.fits c.requires.placed in
+    mid-fits _ _ _ _ _ h _ _ _ c.in-Ok.ensures
 
 pub returns-then-ne-clause-there : goal.returns-then-ne-clause-there
 returns-then-ne-clause-there g c =
-    let h = is_served c.args.self.now _ c.args.number c.args.stream c.args.read.now c.sound.ensures c.served.ensures c.requires.there c.requires.owner c.requires.fits c.requires.placed in
-    mid-length c.args.self.now _ c.args.number c.args.stream c.args.read.now h _ _ _ c.in-Ok.ensures
+    let h = is_served _ _ _ _ _ c.sound.ensures c.served.ensures c.requires.there c.requires.owner c.requires.fits c.requires.placed in
+    mid-length _ _ _ _ _ h _ _ _ c.in-Ok.ensures
 
 pub returns-clause-does : goal.returns-clause-does
 returns-clause-does g c =
-    let h = is_served c.args.self.now _ c.args.number c.args.stream c.args.read.now c.sound.ensures c.served.ensures c.requires.there c.requires.owner c.requires.fits c.requires.placed in
-    left-does c.args.self.now _ c.args.number c.args.stream c.args.read.now h _ _ _ _ c.in-Ok.ensures (search rules) c.close_writer.ensures.closes c.retire.ensures c.close_writer.ensures.others
+    let h = is_served _ _ _ _ _ c.sound.ensures c.served.ensures c.requires.there c.requires.owner c.requires.fits c.requires.placed in
+    left-does _ _ _ _ _ h _ _ _ _ c.in-Ok.ensures (search rules) c.close_writer.ensures.closes c.retire.ensures c.close_writer.ensures.others
 
 pub returns-clause-fits : goal.returns-clause-fits
 returns-clause-fits g c =
-    let h = is_served c.args.self.now _ c.args.number c.args.stream c.args.read.now c.sound.ensures c.served.ensures c.requires.there c.requires.owner c.requires.fits c.requires.placed in
-    left-fits_as c.args.self.now _ c.args.number c.args.stream c.args.read.now h _ _ _ _ c.in-Ok.ensures (search rules) c.close_writer.ensures.closes c.retire.ensures c.close_writer.ensures.others
+    let h = is_served _ _ _ _ _ c.sound.ensures c.served.ensures c.requires.there c.requires.owner c.requires.fits c.requires.placed in
+    left-fits_as _ _ _ _ _ h _ _ _ _ c.in-Ok.ensures (search rules) c.close_writer.ensures.closes c.retire.ensures c.close_writer.ensures.others
 
 pub returns-clause-there : goal.returns-clause-there
 returns-clause-there g c =
-    let h = is_served c.args.self.now _ c.args.number c.args.stream c.args.read.now c.sound.ensures c.served.ensures c.requires.there c.requires.owner c.requires.fits c.requires.placed in
-    left-length c.args.self.now _ c.args.number c.args.stream c.args.read.now h _ _ _ _ c.in-Ok.ensures (search rules) c.close_writer.ensures.closes c.retire.ensures c.close_writer.ensures.others
+    let h = is_served _ _ _ _ _ c.sound.ensures c.served.ensures c.requires.there c.requires.owner c.requires.fits c.requires.placed in
+    left-length _ _ _ _ _ h _ _ _ _ c.in-Ok.ensures (search rules) c.close_writer.ensures.closes c.retire.ensures c.close_writer.ensures.others
