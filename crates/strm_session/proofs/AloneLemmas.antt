@@ -2,7 +2,7 @@
 use Rattle.std.proofs.Common.{◌≡◌, ℕ, ◌+◌, true, false, List, [], ◌∷◌, take, Some, refl, sym, ◌∙◌, subst, arith}
 use Rattle.std.proofs.lemmas.List.Elements.{All-pop, All-take, All-get_or}
 use Rattle.strm_buffers.specs.Tells.{Tells}
-use Rattle.strm_machine.specs.State.{State, producer_at}
+use Rattle.strm_machine.specs.State.{State}
 use Rattle.strm_machine.specs.Reactions.{react}
 use Rattle.strm_machine.specs.Plays.{play}
 use Rattle.strm_machine.specs.Acts.{act_of}
@@ -30,6 +30,10 @@ pub record LedAlone (old : Tells) (steps : List Step) (k : ℕ) (told : List Rep
   pub same : now ≡ old
   pub unhosted : Unhosted state
 
+-- the same, where those steps are of guests alone
+abbrev pub LedByGuests : Tells → List Step → ℕ → List Reply → State → Tells → Type 0
+LedByGuests old steps k told state now = AreOfGuests (take k steps) → LedAlone old steps k told state now
+
 pub alone_none : (old : Tells) (steps : List Step) → LedAlone old steps 0 [] start old
 alone_none old steps = record { so_far = λ more. refl; same = refl; unhosted = start-unhosted }
 
@@ -39,21 +43,22 @@ pub record StepAlone (told told' : List Reply) (state state' : State) (now after
   pub state_is : state' ≡ (react state step).state
   pub same : after ≡ now
 
--- one step more
-pub alone_more : (old now after : Tells) (steps : List Step) (k : ℕ) (step : Step) (told told' : List Reply) (state state' : State) → IsAt steps k step → (AreOfGuests (take k steps) → LedAlone old steps k told state now) → (touches (lone state) (act_of step) ≡ false → StepAlone told told' state state' now after step) → AreOfGuests (take (k + 1) steps) → LedAlone old steps (k + 1) told' state' after
-alone_more old now after steps k step told told' state state' h led one all =
-    let parts = All-pop IsOfGuests (take (k + 1) steps) (take k steps) (Some step) (take-at steps k step h) all in
-    let l = led parts.0 in
-    let x = one (touches-none state (act_of step) l.unhosted parts.1) in
-    record {
-      so_far = played_more steps k step told told' state state' h l.so_far x.goes_on;
-      same = x.same ∙ l.same;
-      unhosted = subst Unhosted (sym x.state_is) (reaction-unhosted state (act_of step) l.unhosted);
-    }
+module _ (old now : Tells) (steps : List Step) (k : ℕ) (told : List Reply) (state : State) (led : LedByGuests old steps k told state now) where
+  -- one step more
+  pub alone_more : (after : Tells) (step : Step) (told' : List Reply) (state' : State) → IsAt steps k step → (touches (lone state) (act_of step) ≡ false → StepAlone told told' state state' now after step) → LedByGuests old steps (k + 1) told' state' after
+  alone_more after step told' state' at one all =
+      let parts = All-pop IsOfGuests (take (k + 1) steps) (take k steps) (Some step) (take-at steps k step at) all in
+      let l = led parts.0 in
+      let x = one (touches-none state (act_of step) l.unhosted parts.1) in
+      record {
+        so_far = played_more steps k step told told' state state' at l.so_far x.goes_on;
+        same = x.same ∙ l.same;
+        unhosted = subst Unhosted (sym x.state_is) (reaction-unhosted state (act_of step) l.unhosted);
+      }
 
--- what holds of the steps before one
-pub alone_before : (old now : Tells) (steps : List Step) (k : ℕ) (told : List Reply) (state : State) → (AreOfGuests (take k steps) → LedAlone old steps k told state now) → AreOfGuests steps → LedAlone old steps k told state now
-alone_before old now steps k told state led all = led (All-take IsOfGuests k steps all)
+  -- what holds of the steps before one
+  pub alone_before : AreOfGuests steps → LedAlone old steps k told state now
+  alone_before all = led (All-take IsOfGuests k steps all)
 
 -- and a step among them touches no host end
 pub untouched_at : (steps : List Step) (k : ℕ) (step : Step) (state : State) → IsAt steps k step → Unhosted state → AreOfGuests steps → touches (lone state) (act_of step) ≡ false

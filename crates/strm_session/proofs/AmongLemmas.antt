@@ -1,19 +1,19 @@
 -- Plays among host ends, step by step, on whatever records are yet to come.
-use Rattle.std.proofs.Common.{◌≡◌, ℕ, ◌+◌, ◌≤◌, true, List, [], ◌∷◌, ◌++◌, length, take, drop, get_or, suc, Result, Ok, Err, Option, Some, None, refl, sym, ap, ◌∙◌, subst, append_assoc, arith}
+use Rattle.std.proofs.Common.{◌≡◌, ℕ, ◌+◌, ◌≤◌, List, [], ◌∷◌, ◌++◌, length, take, drop, suc, Ok, Err, Option, Some, None, refl, sym, ap, ◌∙◌, append_assoc, arith}
 use Rattle.std.proofs.Math.Seq.{split_at, drop-length}
 use Rattle.std.proofs.lemmas.List.{append-nil, take_all}
-use Rattle.std.proofs.lemmas.Bool.Decides.{nat_tests}
-use Rattle.strm_buffers.specs.Tells.{Tells, Rose}
+use Rattle.std.proofs.Math.Nat.{le_trans}
+use Rattle.strm_buffers.specs.Tells.{Tells}
 use Rattle.strm_machine.specs.State.{State}
 use Rattle.strm_machine.specs.declared.steps.Step.{Step}
 use Rattle.strm_machine.specs.declared.replies.Reply.{Reply}
 use Rattle.strm_machine.specs.declared.stops.Stop.{Stop}
 use Rattle.strm_machine.specs.declared.streams.HostEnd.{HostEnd}
-use Rattle.strm_world.specs.World.{World}
-use Rattle.strm_world.specs.Outcomes.{Outcome, Goes}
+use Rattle.strm_world.specs.Outcomes.{Outcome}
 use Rattle.strm_world.specs.Steps.{step_of}
-use Rattle.strm_world.specs.HostPlays.{play, after_step, Ends}
-use Rattle.strm_world.specs.Does.{Logs, Begins, AllBegin, saids, Extends, world_of, faults_of, Gives, Caused, Does, RunsTo, StopsWith, AreSupplied}
+use Rattle.strm_world.specs.HostPlays.{play, after_step}
+use Rattle.strm_world.specs.Does.{Logs, Begins, AllBegin, saids, Extends, world_of, faults_of, Caused, Does, RunsTo, AreSupplied}
+use Rattle.strm_world.proofs.DoesLemmas.{rose_more}
 use Rattle.strm_session.specs.Runs.{start, start_among, stop_of, HaltsBy, Raised, StopsAmong}
 use Rattle.strm_session.specs.declared.runs.RunCause.{RunCause}
 use Rattle.strm_session.specs.declared.runs.RunCause.TheVariants as causes
@@ -45,36 +45,23 @@ pub record LedAmong (old : Tells) (steps : List Step) (k : ℕ) (told : List Rep
 pub led_none : (old : Tells) (steps : List Step) → LedAmong old steps 0 [] start old
 led_none old steps = record { led = λ logs e. record { begins = e; goes_on = λ more. refl }; faults = λ end. omega arith; supplied = λ a. a }
 
--- a count that rose has risen since it was less
-rose_since : (a b c : ℕ) → a ≤ b → Rose b c → Rose a c
-rose_since a b c h r = grind (arith, nat_tests)
-
-at_most : (a b c : ℕ) → a ≤ b → b ≤ c → a ≤ c
-at_most a b c h k = omega (arith, h, k)
-
--- one step more
-pub led_more : (old now after : Tells) (steps : List Step) (k : ℕ) (step : Step) (told : List Reply) (reply : Reply) (state next : State) → IsAt steps k step → LedAmong old steps k told state now → Does state next now after (Ok reply) (λ w. step_of w step) → LedAmong old steps (k + 1) (told ++ reply ∷ []) next after
-led_more old now after steps k step told reply state next h l d = record {
-  led = λ logs e.
-      let before = l.led logs (d.begins logs e) in
-      record {
-        begins = before.begins;
-        goes_on = λ more.
-            let cut : take (k + 1) steps ++ more ≡ take k steps ++ step ∷ more = ap (λ t. t ++ more) (take-at steps k step h) ∙ append_assoc (take k steps) (step ∷ []) more in
-            ap (play [] (world_of start old logs)) cut ∙ before.goes_on (step ∷ more)
-            ∙ ap (λ (o : Outcome). after_step told o (λ told' world'. play told' world' more)) (d.gives logs e);
-      };
-  faults = λ end. at_most (faults_of old end) (faults_of now end) (faults_of after end) (l.faults end) (d.faults end);
-  supplied = λ a. d.supplied (l.supplied a);
-}
-
--- all steps are answered
-pub runs_to : (old new : Tells) (steps : List Step) (k : ℕ) (told : List Reply) (state : State) → length steps ≤ k → LedAmong old steps k told state new → RunsTo (start_among old new) steps told state new
-runs_to old new steps k told state n l =
-    let all : take k steps ++ [] ≡ steps = append-nil (take k steps) ∙ take_all k steps n in
-    ap (play [] (start_among old new)) (sym all) ∙ (l.led (saids new) (extends_self new)).goes_on []
-
+-- one step more, which is answered or stops the run
 module _ (old now new : Tells) (steps : List Step) (k : ℕ) (step : Step) (told : List Reply) (state next : State) (at : IsAt steps k step) (l : LedAmong old steps k told state now) where
+  pub led_more : (reply : Reply) → Does state next now new (Ok reply) (λ w. step_of w step) → LedAmong old steps (k + 1) (told ++ reply ∷ []) next new
+  led_more reply d = record {
+    led = λ logs e.
+        let before = l.led logs (d.begins logs e) in
+        record {
+          begins = before.begins;
+          goes_on = λ more.
+              let cut : take (k + 1) steps ++ more ≡ take k steps ++ step ∷ more = ap (λ t. t ++ more) (take-at steps k step at) ∙ append_assoc (take k steps) (step ∷ []) more in
+              ap (play [] (world_of start old logs)) cut ∙ before.goes_on (step ∷ more)
+              ∙ ap (λ (o : Outcome). after_step told o (λ told' world'. play told' world' more)) (d.gives logs e);
+        };
+    faults = λ end. le_trans (l.faults end) (d.faults end);
+    supplied = λ a. d.supplied (l.supplied a);
+  }
+
   halts_by : (stop : Option Stop) → Does state next now new (Err stop) (λ w. step_of w step) → HaltsBy (start_among old new) steps told new stop
   halts_by None d = tt
   halts_by (Some stop) d =
@@ -88,7 +75,7 @@ module _ (old now new : Tells) (steps : List Step) (k : ℕ) (step : Step) (told
       )
 
   raised_by : (cause : RunCause) → Caused (Err (stop_of cause)) now new → Raised old new cause
-  raised_by (causes.HostFailed end) c = rose_since (faults_of old end) (faults_of now end) (faults_of new end) (l.faults end) c
+  raised_by (causes.HostFailed end) c = rose_more (faults_of old end) (faults_of now end) (faults_of new end) (l.faults end) c
   raised_by _ c = tt
 
   -- a step that stops a run stops it so
@@ -104,6 +91,12 @@ module _ (old now new : Tells) (steps : List Step) (k : ℕ) (step : Step) (told
         halts = halts_by (stop_of cause) d;
         raised = raised_by cause d.cause;
       }
+
+-- all steps are answered
+pub runs_to : (old new : Tells) (steps : List Step) (k : ℕ) (told : List Reply) (state : State) → length steps ≤ k → LedAmong old steps k told state new → RunsTo (start_among old new) steps told state new
+runs_to old new steps k told state n l =
+    let all : take k steps ++ [] ≡ steps = append-nil (take k steps) ∙ take_all k steps n in
+    ap (play [] (start_among old new)) (sym all) ∙ (l.led (saids new) (extends_self new)).goes_on []
 
 -- a run whose counts find no memory stops behind its last step
 pub stops_behind : (old new : Tells) (steps : List Step) (told : List Reply) (state : State) → length told ≡ length steps → RunsTo (start_among old new) steps told state new → StopsAmong old new steps told causes.OutOfMemory

@@ -1,5 +1,5 @@
 -- Where no host end has an end of a stream, steps of guests touch none, and leave it so.
-use Rattle.std.proofs.Common.{◌≡◌, ℕ, ◌<◌, true, false, List, [], ◌∷◌, ◌++◌, length, set, get_or, Option, Some, None, refl, sym, ap, ◌∙◌, subst, inl, inr, arith}
+use Rattle.std.proofs.Common.{◌≡◌, ℕ, ◌<◌, true, false, List, [], length, set, Option, Some, None, refl, sym, ap, ◌∙◌, subst, inl, inr, arith}
 use Rattle.std.proofs.lemmas.Bool.{cases_eq}
 use Rattle.std.proofs.lemmas.List.{get_or-set_same, get_or-set_other, get_or_past}
 use Rattle.strm_machine.specs.Words.{ReturnCode, TransmitIndex, State, no_stream, stream_at, end_of, with_end, Turn, named, stream_named, Reaction, written_back, IsSound}
@@ -16,13 +16,13 @@ use Rattle.strm_machine.specs.declared.acts.Act.{Act}
 use Rattle.strm_machine.specs.declared.acts.Act.TheVariants.{OnEnd, OnLoose, OnHost, Drive}
 use Rattle.strm_machine.specs.declared.acts.EndAct.TheVariants.{Operate, Drop}
 use Rattle.strm_machine.specs.declared.acts.LooseAct.TheVariants.{Close}
+use Rattle.strm_machine.proofs.EmptyLemmas.{IsSound-empty}
 use Rattle.strm_machine.proofs.SeenSteps.{made_at}
 use Rattle.strm_machine.proofs.SoundStepLemmas.{operate-keeps, reaction-sound}
 use Rattle.strm_machine.proofs.TableLemmas.{OwnersStay, with_end-owners, owner_in}
 use Rattle.strm_machine.proofs.Shapes.{turn_on, Shape, ByTurn, BySetting, ByOwner, ByTable, ByPair, ByGuest, ByPut, ByRest}
 use Rattle.strm_machine.proofs.ShapeLemmas.{reaction-shape}
 use Rattle.strm_world.specs.Steps.{touches}
-use Rattle.strm_laws.proofs.LawfulRuns.{sound}
 use Rattle.strm_transmit.specs.Hosted.{lone}
 use Rattle.strm_session.specs.Runs.{start, is_of_guests}
 
@@ -104,7 +104,7 @@ no_stream-unhosted Reading = refl
 
 pub start-unhosted : Unhosted start
 start-unhosted = record {
-  sound = sound 0 _ [];
+  sound = IsSound-empty 0 _;
   none = λ s side. ap (λ st. is_host (end_of side st).owner) (get_or_past [] s no_stream (omega arith)) ∙ no_stream-unhosted side;
 }
 

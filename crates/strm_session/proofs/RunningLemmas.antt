@@ -35,11 +35,11 @@ use Rattle.strm_world.specs.Ends.{polled_writer}
 use Rattle.strm_world.specs.Outcomes.{Outcome, Goes, Stops, Stuck, stops, done, then_on, of_reply}
 use Rattle.strm_world.specs.Polls.{AfterWriter, is_failed, is_writer_poll, writer_judged, writer_says}
 use Rattle.strm_world.specs.Producing.{receives, with_over, produced_result, is_produced, produces, producer_turn}
-use Rattle.strm_world.specs.Settling.{answered_with, answered}
+use Rattle.strm_world.specs.Settling.{answered_with}
 use Rattle.strm_world.specs.Driving.{if_open, driven_by, drive_turn, driven}
 use Rattle.strm_world.specs.Attaching.{hosts_new, forsakes}
 use Rattle.strm_world.specs.HostRefusals.{refusal_in}
-use Rattle.strm_world.specs.Steps.{reacts, operates_by, drops_in, on_host, performs_in, unless_refused_in, outcome, step_of}
+use Rattle.strm_world.specs.Steps.{reacts, operates_by, drops_in, performs_in, unless_refused_in, outcome, step_of}
 use Rattle.strm_machine.specs.declared.steps.Step.{Step}
 use Rattle.strm_session.proofs.PlayLemmas.{RunsOn, reaction-runs}
 

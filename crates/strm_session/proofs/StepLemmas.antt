@@ -1,5 +1,5 @@
 -- One step of a run: how it goes on, and why it stops.
-use Rattle.std.proofs.Common.{◌≡◌, true, false, List, Result, Ok, Err, Some, None, refl, ap, subst}
+use Rattle.std.proofs.Common.{◌≡◌, false, List, Ok, Err, Some, None, refl, ap, subst}
 use Rattle.strm_buffers.specs.Tells.{Tells}
 use Rattle.strm_machine.specs.State.{State}
 use Rattle.strm_machine.specs.Reactions.{Reaction, react}

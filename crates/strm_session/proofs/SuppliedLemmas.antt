@@ -1,5 +1,5 @@
 -- What host writers hold and record in a run are items, if they were before.
-use Rattle.std.proofs.Common.{◌≡◌, ℕ, zero, suc, List, [], ◌∷◌, map, drop, length, get_or, refl, sym, ap, subst, ◌∙◌}
+use Rattle.std.proofs.Common.{◌≡◌, ℕ, zero, suc, List, [], ◌∷◌, map, drop, length, get_or, subst}
 use Rattle.std.specs.Prelude.{All}
 use Rattle.std.proofs.lemmas.List.Elements.{All-nil, All-drop, All-head, All-tail}
 use Rattle.strm_codes.specs.Layout.{scalars_of}
@@ -12,9 +12,8 @@ use Rattle.strm_machine.specs.State.{State}
 use Rattle.strm_machine.specs.declared.streams.Duty.{Duty}
 use Rattle.strm_machine.specs.declared.streams.Duty.TheVariants.{Unused, Serves, Ended}
 use Rattle.strm_machine.specs.declared.streams.Producer.{Producer}
-use Rattle.strm_machine.specs.declared.steps.Step.{Step}
 use Rattle.strm_world.specs.Ends.{Writer, no_writer}
-use Rattle.strm_world.specs.World.{World, writer_at}
+use Rattle.strm_world.specs.World.{writer_at}
 use Rattle.strm_world.specs.Does.{held_while, first_duty, writer_of, writers_from, SaidFits, IsSupplied, AreSupplied, spent}
 use Rattle.strm_host_laws.specs.HostLaws.{Supplies}
 use Rattle.strm_session.specs.Runs.{start_among, HoldsItems, AreOfItems}

@@ -81,8 +81,8 @@ loop-step-preserved g c =
     let step = c.step-item.result in
     let i = c.loop-step.invariant in
     record {
-      led = rw c.in_default.ensures.ok.1 (led_more _ _ _ c.args.steps.now k step c.loop-step.replies c.in_default.ensures.ok.0 c.loop-step.store c.step_once.new.store at i.led c.in_default.ensures.ok.2);
-      alone = alone_more _ _ _ c.args.steps.now k step c.loop-step.replies c.step_once.new.replies c.loop-step.store c.step_once.new.store at i.alone
+      led = rw c.in_default.ensures.ok.1 (led_more _ _ _ c.args.steps.now k step c.loop-step.replies c.loop-step.store c.step_once.new.store at i.led c.in_default.ensures.ok.0 c.in_default.ensures.ok.2);
+      alone = alone_more _ _ c.args.steps.now k c.loop-step.replies c.loop-step.store i.alone _ step c.step_once.new.replies c.step_once.new.store at
           (λ untouched. record { goes_on = c.in_default.ensures.alone untouched; state_is = c.in_default.ensures.state untouched; same = c.step_once.ensures.hosts untouched });
       fits = search rules;
       running = search rules;

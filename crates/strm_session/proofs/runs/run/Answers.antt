@@ -1,10 +1,10 @@
 use Rattle.std.proofs.Common.{◌≡◌, ◌+◌, [], Err, length, take, sym, subst, ap, ◌∙◌, arith}
-use Rattle.std.specs.Prelude.{All, IfOk, IfErr}
+use Rattle.std.specs.Prelude.{All}
 use Rattle.std.proofs.lemmas.List.{take_all, append-nil}
 use Rattle.std.proofs.lemmas.Result.{IfErr-weaker, IfOk-weaker}
 use Rattle.strm_laws.specs.Laws.{HasBytes, AreSteps}
 use Rattle.strm_machine.specs.Plays.{play, Ends}
-use Rattle.strm_session.specs.Runs.{start, AreOfGuests}
+use Rattle.strm_session.specs.Runs.{start}
 use Rattle.strm_session.proofs.AmongLemmas.{stops_behind}
 use Rattle.strm_session.proofs.KeptLemmas.{are_first, kept_among, stop_kept, delivers_each}
 use Rattle.strm_session.proofs.LawLemmas.{run_kept, front_kept}
