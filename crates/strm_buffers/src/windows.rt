@@ -52,6 +52,7 @@ impl Window {
     ghost use Rattle.strm_buffers.specs.Lending.{LendsUnmarked};
 
     /// Lends a memory from an address on, with room for so many items. Takes no memory.
+    #[inline(always)]
     pub fn over(memory: GuestMemory, payload: Payload, address: u32, room: u32) -> Window
         requires { address + item_size (scalars_of payload) * room ≤ length memory }
         ensures { result ≡ lent_memory payload memory address room }
@@ -86,6 +87,7 @@ impl Window {
 
     /// Takes the memory in which `unmarked` keeps what it lends: as much as the room of bytes in a
     /// guest's memory, else none. After `OutOfMemory` nothing has changed.
+    #[inline(always)]
     pub fn prepare(&mut self) -> Result<(), OutOfMemory>
         ensures ok { OnOk result (self.new ≡ record self.old { prepared = true }) }
         ensures err { OnErr result (self.new ≡ self.old) }
@@ -260,6 +262,7 @@ impl Window {
 
     /// Gives the memory back with the marked items in it, and their number. All its other bytes are
     /// as they were lent.
+    #[inline(always)]
     pub fn into_memory(self) -> (GuestMemory, u32)
         requires { self.place ≢ Between }
         ensures memory { result.0 ≡ memory_of self.place }

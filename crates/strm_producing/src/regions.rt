@@ -31,6 +31,7 @@ fn region_address(payload: &Payload, read: &Operation) -> u32
 
 /// Lends the region of a read's next items. The guest has no bytes until it is returned. Takes no
 /// memory.
+#[inline(always)]
 pub fn lend_region(
     alloc: Global,
     guests: &mut Vec<Guest>,
@@ -49,6 +50,7 @@ pub fn lend_region(
 }
 
 /// Gives a guest its memory back, with the marked items: their number.
+#[inline(always)]
 pub fn return_region(guests: &mut Vec<Guest>, guest: u32, window: Window) -> u32
     requires there { guest < length guests.old.items }
     requires memory { window.place ≢ Between }

@@ -93,6 +93,7 @@ fn perform(store: &mut Store, hosts: &mut Hosts, act: Act) -> Result<Reply, Stor
 }
 
 // What is made.
+#[inline(never)]
 fn make(store: &mut Store, making: Making) -> Result<Reply, StoreError>
     ensures meets { Meets store.old store.new result (reaction store.old (acts.Make making)) }
     ensures settled { IfOk result (λ reply. IsTrue (is_settled reply)) }
@@ -185,6 +186,7 @@ fn lower(store: &mut Store, reader: u32, guest: u32, ty: TransmitIndex) -> Resul
 }
 
 // What is done to the loose read end of a stream.
+#[inline(never)]
 fn on_loose(
     store: &mut Store,
     hosts: &mut Hosts,
@@ -207,6 +209,7 @@ fn on_loose(
 }
 
 // What is done to a host writer.
+#[inline(never)]
 fn on_host(
     store: &mut Store,
     hosts: &mut Hosts,
@@ -248,6 +251,7 @@ fn poll(store: &mut Store, guest: u32, set: u32) -> Result<Reply, StoreError>
 }
 
 // What is done to the waitable set that a handle names.
+#[inline(never)]
 fn on_set(store: &mut Store, guest: u32, set: u32, act: SetAct) -> Result<Reply, StoreError>
     ensures meets { Meets store.old store.new result
         (reaction store.old (acts.OnSet guest set act)) }
@@ -263,6 +267,7 @@ fn on_set(store: &mut Store, guest: u32, set: u32, act: SetAct) -> Result<Reply,
 }
 
 // What is done to the error context that a handle names, or to the handle.
+#[inline(never)]
 fn on_context(
     store: &mut Store,
     guest: u32,
