@@ -1,7 +1,7 @@
-//! The copies of `strm_bench`'s host writers in plain Rust: bytes that come from outside are kept, with
-//! a record of each feed and of each read, and copied from there to a guest's memory; and a list is
-//! kept once as the record of what was produced and once as what is left, and copied from there in
-//! pieces.
+//! The host writers of `strm_bench` in plain Rust: a boxed writer keeps the bytes that it is fed, with a
+//! record of each feed and of each poll, and gives them to a guest's reads, with the tests that each
+//! call makes; and a list is kept once as the record of what was produced and once as what is left,
+//! and copied from there in pieces.
 //!
 //! `bench/hosted` times both.
 
@@ -27,38 +27,173 @@ fn sum(memory: &[u8]) -> u64 {
     memory.iter().map(|byte| u64::from(*byte)).sum()
 }
 
-// Where the bytes of a feed lie, and behind how many reads it came.
+// Where the bytes of a feed lie, and behind how many polls it came.
+#[allow(dead_code)]
 struct Feed {
-    reads: usize,
-    bytes: std::ops::Range<usize>,
+    polls: usize,
+    start: usize,
+    len: usize,
 }
 
-// How much room a read had, and which bytes it got.
-struct Read {
+// How much room a poll had, whether it was asked to finish, which bytes it gave, and its answer.
+#[allow(dead_code)]
+struct Poll {
     room: usize,
-    bytes: std::ops::Range<usize>,
+    finish: bool,
+    start: usize,
+    len: usize,
+    answer: Answer,
+}
+
+#[derive(Clone, Copy, PartialEq, Eq)]
+#[allow(dead_code)]
+enum Answer {
+    Pending,
+    Completed,
+    Cancelled,
+    Dropped,
+    Failed,
+}
+
+// A host writer of bytes.
+trait Writer {
+    fn held(&self) -> usize;
+    fn poll(&mut self, room: &mut [u8], finish: bool) -> (Answer, usize);
+    fn feed(&mut self, bytes: &[u8]);
+}
+
+// It gives what it is fed.
+#[derive(Default)]
+struct Queue {
+    fed: Vec<u8>,
+    feeds: Vec<Feed>,
+    polls: Vec<Poll>,
+    given: usize,
+    is_ended: bool,
+}
+
+impl Writer for Queue {
+    fn held(&self) -> usize {
+        0
+    }
+
+    fn poll(&mut self, room: &mut [u8], finish: bool) -> (Answer, usize) {
+        let queued = self.fed.len() - self.given;
+        let len = queued.min(room.len());
+        room[..len].copy_from_slice(&self.fed[self.given..self.given + len]);
+        let answer = match (queued, queued - len) {
+            (_, 0) if self.is_ended => Answer::Dropped,
+            (0, _) if finish => Answer::Cancelled,
+            (0, _) => Answer::Pending,
+            _ => Answer::Completed,
+        };
+        self.polls.push(Poll { room: room.len(), finish, start: self.given, len, answer });
+        self.given += len;
+        (answer, len)
+    }
+
+    fn feed(&mut self, bytes: &[u8]) {
+        self.feeds.push(Feed { polls: self.polls.len(), start: self.fed.len(), len: bytes.len() });
+        self.fed.extend_from_slice(bytes);
+        self.is_ended |= bytes.is_empty();
+    }
+}
+
+struct Operation {
+    address: usize,
+    left: usize,
+    moved: usize,
+    outcome: Option<Answer>,
+}
+
+struct Stream {
+    writer: Option<usize>,
+    is_over: bool,
+    read: Option<Operation>,
+    received: u128,
+}
+
+// A guest that reads, and the writers of its streams.
+struct Store {
+    memory: Vec<u8>,
+    handles: Vec<Option<usize>>,
+    streams: Vec<Stream>,
+    writers: Vec<Box<dyn Writer>>,
+}
+
+#[derive(Debug)]
+enum Refusal {
+    TooBig,
+    OutOfBounds,
+    UnknownHandle,
+    Concurrent,
+    HostBroke,
+}
+
+impl Store {
+    fn read(&mut self, handle: u32, address: u32, count: u32) -> Result<u32, Refusal> {
+        if count >= 1 << 28 {
+            return Err(Refusal::TooBig);
+        }
+        let (address, left) = (address as usize, count as usize);
+        if left > 0 && self.memory.len() < address + left {
+            return Err(Refusal::OutOfBounds);
+        }
+        let Some(Some(number)) = self.handles.get((handle as usize).wrapping_sub(1)) else {
+            return Err(Refusal::UnknownHandle);
+        };
+        let stream = &mut self.streams[*number];
+        if stream.read.is_some() {
+            return Err(Refusal::Concurrent);
+        }
+        let mut read = Operation { address, left, moved: 0, outcome: None };
+        if let (Some(writer), false) = (stream.writer, stream.is_over) {
+            let writer = &mut self.writers[writer];
+            let (answer, marked) = writer.poll(&mut self.memory[address..address + left], false);
+            if answer == Answer::Failed || (answer == Answer::Pending && marked > 0) {
+                return Err(Refusal::HostBroke);
+            }
+            stream.is_over = answer == Answer::Dropped;
+            stream.received += marked as u128;
+            read.address += marked;
+            read.left -= marked;
+            read.moved += marked;
+            let last = answer == Answer::Dropped && writer.held() == 0;
+            read.outcome = match answer {
+                Answer::Pending => None,
+                Answer::Dropped if !last => Some(Answer::Completed),
+                answer => Some(answer),
+            };
+            if last {
+                stream.writer = None;
+            }
+        }
+        match read.outcome {
+            Some(Answer::Dropped) => Ok(16 * read.moved as u32 + 1),
+            Some(_) => Ok(16 * read.moved as u32),
+            None => {
+                stream.read = Some(read);
+                Ok(u32::MAX)
+            }
+        }
+    }
+
+    fn feed(&mut self, writer: usize, bytes: &[u8]) {
+        if let Some(writer) = self.writers.get_mut(writer) {
+            writer.feed(bytes);
+        }
+    }
 }
 
 #[inline(never)]
-fn feed_and_read(memory: &mut [u8], rounds: usize) -> usize {
+fn feed_and_read(store: &mut Store, rounds: u32) -> Result<u128, Refusal> {
     let bytes = [7; FEED];
-    let mut fed: Vec<u8> = Vec::new();
-    let mut feeds: Vec<Feed> = Vec::new();
-    let mut reads: Vec<Read> = Vec::new();
-    let mut given = 0;
     for round in 0..rounds {
-        let start = fed.len();
-        fed.extend_from_slice(black_box(&bytes));
-        feeds.push(Feed { reads: reads.len(), bytes: start..fed.len() });
-        let address = round % (FED / FEED) * FEED;
-        memory[address..address + FEED].copy_from_slice(&fed[given..given + FEED]);
-        reads.push(Read { room: FEED, bytes: given..given + FEED });
-        given += FEED;
+        store.feed(0, black_box(&bytes));
+        let address = round % (FED / FEED) as u32 * FEED as u32;
+        black_box(store.read(1, address, FEED as u32)?);
     }
-    let told: usize = feeds.iter().map(|feed| feed.reads + feed.bytes.len()).sum();
-    let got: usize = reads.iter().map(|read| read.room + read.bytes.len()).sum();
-    black_box(told + got);
-    given
+    Ok(store.streams[0].received)
 }
 
 #[inline(never)]
@@ -75,14 +210,19 @@ fn read_list(memory: &mut [u8], list: Vec<u8>) -> usize {
 }
 
 fn main() {
-    let turns: usize = std::env::args().nth(1).and_then(|word| word.parse().ok()).unwrap_or(2_000_000);
+    let turns: u32 = std::env::args().nth(1).and_then(|word| word.parse().ok()).unwrap_or(2_000_000);
     let rounds = turns / 8;
-    let mut memory = touched(FED);
+    let mut store = Store {
+        memory: touched(FED),
+        handles: vec![Some(0)],
+        streams: vec![Stream { writer: Some(0), is_over: false, read: None, received: 0 }],
+        writers: vec![Box::<Queue>::default()],
+    };
     let start = Instant::now();
-    let received = feed_and_read(&mut memory, rounds);
+    let received = feed_and_read(&mut store, rounds).expect("a read is refused");
     let spent = start.elapsed().as_nanos();
-    println!("fed {received}: {}", sum(&memory));
-    eprintln!("a feed and a read of 64 bytes: {} ns", spent / rounds.max(1) as u128);
+    println!("fed {received}: {}", sum(&store.memory));
+    eprintln!("a feed and a read of 64 bytes: {} ns", spent / u128::from(rounds.max(1)));
     let list = vec![7; LISTED];
     let mut memory = touched(LISTED);
     let start = Instant::now();
