@@ -83,16 +83,20 @@ stored_step ss m at k size xs x h e s less =
     let here : drop k xs ≡ x ∷ drop (k + 1) xs = drop_more xs k x h ∙ ap (λ y. y ∷ drop (k + 1) xs) (sym e) in
     rw (here, ← s) (sweep_more m at size (encode ss (drop at m) x) (λ b. stored ss b (drop (k + 1) xs)) less)
 
--- one item stored in its place, and the others behind it
-pub stored_next : (ss : List Scalar) (m new : List ℕ) (k size : ℕ) (xs : List (List ℤ)) (x : List ℤ) → k < length xs → x ≡ get_or xs k x → size ≡ item_size ss → size * length xs ≤ length m → new ≡ stored_at ss m (size * k) (x ∷ [])
-    → take (size * (k + 1)) new ++ stored ss (drop (size * (k + 1)) new) (drop (k + 1) xs) ≡ take (size * k) m ++ stored ss (drop (size * k) m) (drop k xs)
-unfolding stored
-stored_next ss m new k size xs x h e s room n =
-    let at = size * k in
-    let more : size * (k + 1) ≡ at + size = grind arith in
-    let less : at ≤ length m = omega (arith, item_fits k (length xs) size h, room) in
-    let is : new ≡ from_on (λ b. encode ss b x) at m = n ∙ ap (λ l. take at m ++ l) (take-append-drop (item_size ss) (encode ss (drop at m) x)) in
-    ap (λ j. from_on (stores ss (drop (k + 1) xs)) j new) more ∙ ap (from_on (stores ss (drop (k + 1) xs)) (at + size)) is ∙ stored_step ss m at k size xs x h e s less
+module _ (ss : List Scalar) (size : ℕ) (xs : List (List ℤ)) where
+  -- what becomes of bytes where the items from one on are stored in their places
+  abbrev pub stores_from : ℕ → List ℕ → List ℕ
+  stores_from k bytes = take (size * k) bytes ++ stored ss (drop (size * k) bytes) (drop k xs)
+
+  -- one of them is stored, and then the others behind it
+  pub stored_next : (m new : List ℕ) (k : ℕ) (x : List ℤ) → k < length xs → x ≡ get_or xs k x → size ≡ item_size ss → size * length xs ≤ length m → new ≡ stored_at ss m (size * k) (x ∷ []) → stores_from (k + 1) new ≡ stores_from k m
+  unfolding stored
+  stored_next m new k x h e s room n =
+      let at = size * k in
+      let more : size * (k + 1) ≡ at + size = grind arith in
+      let less : at ≤ length m = omega (arith, item_fits k (length xs) size h, room) in
+      let is : new ≡ from_on (λ b. encode ss b x) at m = n ∙ ap (λ l. take at m ++ l) (take-append-drop (item_size ss) (encode ss (drop at m) x)) in
+      ap (λ j. from_on (stores ss (drop (k + 1) xs)) j new) more ∙ ap (from_on (stores ss (drop (k + 1) xs)) (at + size)) is ∙ stored_step ss m at k size xs x h e s less
 
 pub stored_end : (ss : List Scalar) (m : List ℕ) (at k : ℕ) (xs : List (List ℤ)) → length xs ≤ k → take at m ++ stored ss (drop at m) (drop k xs) ≡ m
 unfolding stored

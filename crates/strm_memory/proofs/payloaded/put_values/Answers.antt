@@ -31,7 +31,7 @@ loop-k-preserved g c =
     let room : c.size-size.result * length xs ≤ length c.loop-k.bytes = rw (size, count) (omega (arith, c.requires, c.loop-k.auto.bytes)) in
     record {
       fit = subst (AreItems ss) (sym (take_more xs k x there ∙ ap (λ y. take k xs ++ y ∷ []) (sym is))) (AreItems-append ss (take k xs) (x ∷ []) c.loop-k.invariant.fit (c.put.ensures.fits, tt));
-      rest = stored_next ss c.loop-k.bytes c.put.new.bytes k c.size-size.result xs x there is size room c.put.ensures.stored ∙ c.loop-k.invariant.rest;
+      rest = stored_next ss c.size-size.result xs c.loop-k.bytes c.put.new.bytes k x there is size room c.put.ensures.stored ∙ c.loop-k.invariant.rest;
     }
 
 pub returns-clause-stored : goal.returns-clause-stored
