@@ -160,8 +160,12 @@ pub record Pushed (ss : List Scalar) (old new : List ℕ) (start n : ℕ) (xs : 
   pub lie : Lie ss new start (n + length xs) (items_in ss old start n ++ xs)
   pub all : length new ≡ start + item_size ss * (n + length xs)
 
+-- bytes cut off at a place, with so many behind it that are 0, and items stored there
+abbrev pub stored_past : List Scalar → List ℕ → ℕ → ℕ → List Item → List ℕ
+stored_past ss bytes at zeros xs = stored_at ss (take at bytes ++ replicate zeros 0) at xs
+
 pub pushed : (ss : List Scalar) (old new : List ℕ) (start n end zeros : ℕ) (xs : List Item) → LieIn ss old start n → AreItems ss xs → end ≡ start + item_size ss * n → end ≤ length old → zeros ≡ item_size ss * length xs
-    → new ≡ stored_at ss (take end old ++ replicate zeros 0) end xs → Pushed ss old new start n xs
+    → new ≡ stored_past ss old end zeros xs → Pushed ss old new start n xs
 pushed ss old new start n end zeros xs l f e h z s =
     let w = item_size ss in
     let front = take (start + w * n) old in
@@ -183,10 +187,17 @@ pushed ss old new start n end zeros xs l f e h z s =
       all = omega (arith, size, ml, more, z);
     }
 
+-- so many items lie in the bytes from a place on, and nothing behind them
+pub record LieLast (ss : List Scalar) (bytes : List ℕ) (from n : ℕ) : Type 0 where
+  pub lie : LieIn ss bytes from n
+  pub all : length bytes ≡ from + item_size ss * n
+
 -- the bytes of items behind those of others
-pub lie_more : (ss : List Scalar) (bytes given : List ℕ) (a len n : ℕ) (ys : List Item) → LieIn ss bytes a len → length bytes ≡ a + item_size ss * len → items ss given n ≡ Some ys → AreItems ss ys → item_size ss * n ≤ length given
+pub lie_more : (ss : List Scalar) (bytes given : List ℕ) (a len n : ℕ) (ys : List Item) → LieLast ss bytes a len → items ss given n ≡ Some ys → AreItems ss ys → item_size ss * n ≤ length given
     → Lie ss (bytes ++ take (item_size ss * n) given) a (len + n) (items_in ss bytes a len ++ ys)
-lie_more ss bytes given a len n ys l all e f h =
+lie_more ss bytes given a len n ys last e f h =
+    let l = last.lie in
+    let all = last.all in
     let w = item_size ss in
     let k = w * n in
     let new : List ℕ = take k given in
@@ -226,26 +237,31 @@ kept_again payload bytes new start len v k e n =
     let items = there.is in
     (record { all = omega (arith, size, k.all); lie = there.lie; few = k.few }, cc (items, e))
 
--- items kept behind those that are kept
-pub kept_append : (payload : Payload) (bytes given : List ℕ) (start len : ℕ) (v u : TypedItems) → AreKept payload bytes start len → kept_items payload bytes start len ≡ v → u.payload ≡ v.payload
-    → Lie (scalars_of u.payload) given 0 (length u.items) u.items → length given ≡ item_size (scalars_of u.payload) * length u.items → length v.items + length u.items < 4294967295
-    → AreKept payload (bytes ++ given) start (len + length u.items) × (items_in (scalars_of payload) (bytes ++ given) start (len + length u.items) ≡ v.items ++ u.items)
-kept_append payload bytes given start len v u k e p l s few =
-    let ss = scalars_of payload in
-    let w = item_size ss in
-    let n = length u.items in
-    let same : u.payload ≡ payload = p ∙ sym (ap (λ (x : TypedItems). x.payload) e) in
-    let there : Lie ss given 0 n u.items = subst (λ (q : Payload). Lie (scalars_of q) given 0 n u.items) same l in
-    let size : length given ≡ w * n = subst (λ (q : Payload). length given ≡ item_size (scalars_of q) * n) same s in
-    let more = lie_more ss bytes given start len n u.items k.lie k.all (lie_is ss given 0 n there.lie ∙ ap Some there.is) (subst (AreItems ss) there.is there.lie.fit) (omega (arith, size)) in
-    let all : Lie ss (bytes ++ given) start (len + n) (items_in ss bytes start len ++ u.items) =
-    subst (λ l. Lie ss (bytes ++ l) start (len + n) (items_in ss bytes start len ++ u.items)) (take_all (w * n) given (omega (arith, size))) more in
-    let sizes : w * (len + n) ≡ w * len + w * n = grind arith in
-    let count = length-items_in ss bytes start len k.lie in
-    let counted = ap (λ (x : TypedItems). length x.items) e in (
-      record { all = length-append bytes given ∙ omega (arith, k.all, size, sizes); lie = all.lie; few = omega (arith, few, count, counted) },
-      all.is ∙ ap (λ (x : TypedItems). x.items ++ u.items) e,
-    )
+-- what is kept with items behind those that were
+pub record KeptMore (payload : Payload) (bytes : List ℕ) (start len : ℕ) (v u : TypedItems) : Type 0 where
+  pub kept : AreKept payload bytes start (len + length u.items)
+  pub items : items_in (scalars_of payload) bytes start (len + length u.items) ≡ v.items ++ u.items
+
+module _ (payload : Payload) (bytes : List ℕ) (start len : ℕ) (v : TypedItems) (k : AreKept payload bytes start len) (e : kept_items payload bytes start len ≡ v) where
+  -- items kept behind those that are kept
+  pub kept_append : (given : List ℕ) (u : TypedItems) → let n = length u.items in u.payload ≡ v.payload → Lie (scalars_of u.payload) given 0 n u.items → length given ≡ item_size (scalars_of u.payload) * n → length v.items + n < 4294967295 → KeptMore payload (bytes ++ given) start len v u
+  kept_append given u p l s few =
+      let ss = scalars_of payload in
+      let w = item_size ss in
+      let n = length u.items in
+      let same : u.payload ≡ payload = p ∙ sym (ap (λ (x : TypedItems). x.payload) e) in
+      let there : Lie ss given 0 n u.items = subst (λ (q : Payload). Lie (scalars_of q) given 0 n u.items) same l in
+      let size : length given ≡ w * n = subst (λ (q : Payload). length given ≡ item_size (scalars_of q) * n) same s in
+      let more = lie_more ss bytes given start len n u.items (record { lie = k.lie; all = k.all }) (lie_is ss given 0 n there.lie ∙ ap Some there.is) (subst (AreItems ss) there.is there.lie.fit) (omega (arith, size)) in
+      let all : Lie ss (bytes ++ given) start (len + n) (items_in ss bytes start len ++ u.items) =
+      subst (λ l. Lie ss (bytes ++ l) start (len + n) (items_in ss bytes start len ++ u.items)) (take_all (w * n) given (omega (arith, size))) more in
+      let sizes : w * (len + n) ≡ w * len + w * n = grind arith in
+      let count = length-items_in ss bytes start len k.lie in
+      let counted = ap (λ (x : TypedItems). length x.items) e in
+      record {
+        kept = record { all = length-append bytes given ∙ omega (arith, k.all, size, sizes); lie = all.lie; few = omega (arith, few, count, counted) };
+        items = all.is ∙ ap (λ (x : TypedItems). x.items ++ u.items) e;
+      }
 
 -- the bytes of items are kept as they are
 pub kept_stored : (payload : Payload) (bytes : List ℕ) (xs : List Item) (n : ℕ) → AreStored (scalars_of payload) bytes xs → n ≡ length xs → n < 4294967295 → AreKept payload bytes 0 n × (items_in (scalars_of payload) bytes 0 n ≡ xs)

@@ -92,12 +92,16 @@ take_parts : {A : Type 0} (n : ℕ) (xs ys : List A) → n ≤ length xs → tak
 take_parts n xs ys h e = sym (take-take n (length xs) ys h) ∙ ap (take n) e
 
 module _ (payload : Payload) where
+  -- the place with items of this payload behind so many
+  abbrev stored_there : Place → ℕ → List Item → Place
+  stored_there place n xs = stored_in (scalars_of payload) place n xs
+
   -- a place with items, and with more behind them
-  stored_in-then : (place next : Place) (prepared : Bool) (n k : ℕ) (xs ys : List Item) → next ≡ stored_in (scalars_of payload) place n xs → IsSoundPlace payload place prepared → HasRoom next k 0 → k ≡ n + length xs → stored_in (scalars_of payload) next k ys ≡ stored_in (scalars_of payload) place n (xs ++ ys)
-  stored_in-then Between next prepared n k xs ys e s h j = ap (λ p. stored_in (scalars_of payload) p k ys) e
+  stored_in-then : (place next : Place) (prepared : Bool) (n k : ℕ) (xs ys : List Item) → next ≡ stored_there place n xs → IsSoundPlace payload place prepared → HasRoom next k 0 → k ≡ n + length xs → stored_there next k ys ≡ stored_there place n (xs ++ ys)
+  stored_in-then Between next prepared n k xs ys e s h j = ap (λ p. stored_there p k ys) e
   stored_in-then (Memory memory address room) next prepared n k xs ys e s h j =
       let r = subst (λ p. HasRoom p k 0) e h in
-      ap (λ p. stored_in (scalars_of payload) p k ys) e ∙ ap (λ i. stored_in (scalars_of payload) (stored_in (scalars_of payload) (Memory memory address room) n xs) i ys) j
+      ap (λ p. stored_there p k ys) e ∙ ap (λ i. stored_there (stored_there (Memory memory address room) n xs) i ys) j
       ∙ stored_in-behind payload (Memory memory address room) prepared n xs ys s (omega (arith, r, j))
 
 -- a window that is filled further

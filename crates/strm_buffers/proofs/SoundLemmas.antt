@@ -25,17 +25,18 @@ module _ (payload : Payload) (bytes kept : List ℕ) (space address marked : ℕ
           (omega (arith, size, i.1), i.2)
 
   -- a copy of the marked items, kept from its first byte on
-  pub marked_again : (new : List ℕ) (end : ℕ) (room : Option ℕ) (prepared : Bool) (v : Lent) → IsWindow payload bytes kept space address room marked prepared → window_kept payload bytes kept address room marked prepared ≡ v → length v.marked < 4294967295 → end ≡ address + item_size (scalars_of payload) * marked → new ≡ take (end - address) (drop address bytes) → Cut payload new marked v
-  marked_again new end room prepared v w e few at is =
-      let ss = scalars_of payload in
-      let all = ap (λ (x : Lent). length x.marked) e in
-      let count = length-items_in ss bytes address marked w.lie in
-      let n = item_size ss * marked in
-      let part : new ≡ take n (drop address bytes) = is ∙ ap (λ j. take j (drop address bytes)) (omega (arith, at)) in
-      let same : take n new ≡ take n (drop address bytes) = ap (take n) part ∙ take-take n n (drop address bytes) (omega arith) in
-      let size : length new ≡ n = ap length part ∙ length-take-le n (drop address bytes) (omega (arith, length-drop address bytes, w.lie.within)) in
-      let l = lie_same ss bytes new address 0 marked w.lie same (omega (arith, size)) in
-      record {
-        kept = record { all = omega (arith, size); lie = l.lie; few = omega (arith, all, count, few) };
-        items = l.is ∙ ap (λ (x : Lent). x.marked) e;
-      }
+  module _ (room : Option ℕ) (prepared : Bool) (v : Lent) (w : IsWindow payload bytes kept space address room marked prepared) (e : window_kept payload bytes kept address room marked prepared ≡ v) where
+    pub marked_again : (new : List ℕ) (end : ℕ) → length v.marked < 4294967295 → end ≡ address + item_size (scalars_of payload) * marked → new ≡ take (end - address) (drop address bytes) → Cut payload new marked v
+    marked_again new end few at is =
+        let ss = scalars_of payload in
+        let all = ap (λ (x : Lent). length x.marked) e in
+        let count = length-items_in ss bytes address marked w.lie in
+        let n = item_size ss * marked in
+        let part : new ≡ take n (drop address bytes) = is ∙ ap (λ j. take j (drop address bytes)) (omega (arith, at)) in
+        let same : take n new ≡ take n (drop address bytes) = ap (take n) part ∙ take-take n n (drop address bytes) (omega arith) in
+        let size : length new ≡ n = ap length part ∙ length-take-le n (drop address bytes) (omega (arith, length-drop address bytes, w.lie.within)) in
+        let l = lie_same ss bytes new address 0 marked w.lie same (omega (arith, size)) in
+        record {
+          kept = record { all = omega (arith, size); lie = l.lie; few = omega (arith, all, count, few) };
+          items = l.is ∙ ap (λ (x : Lent). x.marked) e;
+        }

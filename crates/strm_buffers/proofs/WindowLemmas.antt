@@ -1,5 +1,5 @@
 -- Items put into a window.
-use Rattle.std.proofs.Common.{◌≡◌, ℕ, zero, suc, ◌+◌, ◌-◌, ◌*◌, ◌<◌, ◌≤◌, inl, inr, Bool, pos, negsuc, List, [], ◌∷◌, ◌++◌, length, take, drop, replicate, Option, Some, None, refl, sym, ap, subst, ◌∙◌, arith, get_or}
+use Rattle.std.proofs.Common.{◌≡◌, ℕ, zero, suc, ◌+◌, ◌-◌, ◌*◌, ◌<◌, ◌≤◌, inl, inr, Bool, pos, negsuc, List, [], ◌∷◌, ◌++◌, length, take, drop, Option, Some, None, refl, sym, ap, subst, ◌∙◌, arith, get_or}
 use Rattle.std.proofs.lemmas.Int.{ints}
 use Rattle.std.proofs.lemmas.List.{drop-drop, drop-take, drop_all}
 use Rattle.std.proofs.Math.Nat.{mul-le-mul_left}
@@ -13,7 +13,7 @@ use Rattle.strm_memory.specs.Items.{stored_at, AreItems, byte_items}
 use Rattle.strm_memory.proofs.RegionLemmas.{length-stored_at, drop-stored_at}
 use Rattle.strm_buffers.specs.Listing.{Item, LieIn, items_in}
 use Rattle.strm_buffers.specs.Windows.{Lent, Between, HasRoom, with_items, last_of, place_kept, window_kept, KeepsRest, IsRoom, IsWindow}
-use Rattle.strm_buffers.proofs.ListingLemmas.{length-items_in, lie_put, pushed}
+use Rattle.strm_buffers.proofs.ListingLemmas.{length-items_in, lie_put, stored_past, pushed}
 use Rattle.strm_buffers.proofs.PutLemmas.{put_at-nil, put_at-kept, last_nil, stored_at-bytes, length-put_at, length-last}
 
 -- a window that is kept so, and is this
@@ -56,9 +56,13 @@ bytes_are (x ∷ xs) f =
     below b bs h f zero d l = h
     below b bs h f (suc k) d l = f k d (omega (arith, l))
 
+-- items of payload u8 stored
+abbrev stored_bytes : List ℕ → ℕ → List Item → List ℕ
+stored_bytes m at xs = stored_at (U8 ∷ []) m at xs
+
 -- the memory as it will be given back, with more items
 placed_bytes : (m kept : List ℕ) (at left : ℕ) (xs : List Item) → left ≤ length kept → length xs ≤ left → AreItems (U8 ∷ []) xs → at + left ≤ length m
-    → put_at (stored_at (U8 ∷ []) m at xs) (at + length xs) (last_of (left - length xs) kept) ≡ stored_at (U8 ∷ []) (put_at m at (last_of left kept)) at xs
+    → put_at (stored_bytes m at xs) (at + length xs) (last_of (left - length xs) kept) ≡ stored_bytes (put_at m at (last_of left kept)) at xs
 placed_bytes m kept at left xs k h f i =
     let b = bytes_are xs f in
     let n = b.size in
@@ -91,12 +95,11 @@ placed payload m kept at left xs (inr (u, k)) h f i =
     ∙ placed_bytes m kept at left xs k h g (omega (arith, b, j)) ∙ ap (λ n. stored_at (U8 ∷ []) (put_at m at (last_of n kept)) at xs) (sym b)) f i
 
 -- the bytes behind more items
-behind_more : (ss : List Scalar) (m : List ℕ) (at rest : ℕ) (xs : List Item) → at + item_size ss * length xs ≤ length m
-    → take (item_size ss * rest) (drop (at + item_size ss * length xs) (stored_at ss m at xs)) ≡ drop (item_size ss * length xs) (take (item_size ss * length xs + item_size ss * rest) (drop at m))
+behind_more : (ss : List Scalar) (m : List ℕ) (at rest : ℕ) (xs : List Item) → let k = item_size ss * length xs in
+    at + k ≤ length m → take rest (drop (at + k) (stored_at ss m at xs)) ≡ drop k (take (k + rest) (drop at m))
 behind_more ss m at rest xs h =
-    let w = item_size ss in
-    let k = w * length xs in
-    ap (take (w * rest)) (drop-stored_at ss m at xs h ∙ sym (drop-drop k at m)) ∙ sym (drop-take k (w * rest) (drop at m))
+    let k = item_size ss * length xs in
+    ap (take rest) (drop-stored_at ss m at xs h ∙ sym (drop-drop k at m)) ∙ sym (drop-take k rest (drop at m))
 
 -- fewer bytes than those that are left are kept too
 pub rest_less : (payload : Payload) (kept : List ℕ) (left less : ℕ) → less ≤ left → KeepsRest payload kept left → KeepsRest payload kept less
@@ -152,23 +155,24 @@ module _ (payload : Payload) (bytes kept : List ℕ) (space address marked : ℕ
       let behind : bytes_at new (address + w * (marked + k)) (w * (r - (marked + k))) ≡ drop (w * k) (bytes_at bytes at (w * left)) =
       ap (λ j. bytes_at new j (w * (r - (marked + k)))) more ∙ ap (λ j. bytes_at new (at + w * k) (w * j)) fewer
       ∙ ap (λ l. bytes_at l (at + w * k) (w * (left - k))) is
-      ∙ behind_more ss bytes at (left - k) xs inside
+      ∙ behind_more ss bytes at (w * (left - k)) xs inside
       ∙ ap (λ j. drop (w * k) (take j (drop at bytes))) (sym sizes) in
       record {
         is_window = record { lie = lie; inside = (h, omega (arith, size, win.inside.1), win.inside.2, rest_less payload kept left (r - (marked + k)) (omega arith) win.inside.3); enough = win.enough };
         is = cc (items, place, behind);
       }
 
-  -- bytes with so many behind them, which are 0
-  abbrev longer : ℕ → ℕ → List ℕ
-  longer at zeros = take at bytes ++ replicate zeros 0
+  -- the bytes cut off at a place, with so many behind it that were 0, and these items there
+  abbrev put_past : ℕ → ℕ → List Item → List ℕ
+  put_past at zeros xs = stored_past (scalars_of payload) bytes at zeros xs
 
-  pub put_between : (at zeros : ℕ) (new : List ℕ) (xs : List Item) → IsWindow payload bytes kept space address None marked prepared → AreItems (scalars_of payload) xs → marked + length xs < 4294967295 → at ≡ next_place → zeros ≡ item_size (scalars_of payload) * length xs
-      → new ≡ stored_at (scalars_of payload) (longer at zeros) at xs → MarksMore None new xs
-  put_between at zeros new xs w f h e z s =
+  pub put_between : (at zeros : ℕ) (xs : List Item) → IsWindow payload bytes kept space address None marked prepared → AreItems (scalars_of payload) xs → marked + length xs < 4294967295 → at ≡ next_place → zeros ≡ item_size (scalars_of payload) * length xs
+      → MarksMore None (put_past at zeros xs) xs
+  put_between at zeros xs w f h e z =
+      let new = put_past at zeros xs in
       let ss = scalars_of payload in
       let k = length xs in
-      let p = pushed ss bytes new address marked at zeros xs w.lie f e (omega (arith, e, w.lie.within)) z s in
+      let p = pushed ss bytes new address marked at zeros xs w.lie f e (omega (arith, e, w.lie.within)) z refl in
       let none : drop (item_size ss * (marked + k)) new ≡ [] = drop_all (item_size ss * (marked + k)) new (omega (arith, p.all, w.inside.0)) in
       let items = p.lie.is in
       record {
@@ -201,12 +205,12 @@ module _ (payload : Payload) (bytes kept : List ℕ) (space address marked : ℕ
         (record { is_window = k.is_window; is = k.is ∙ ap (λ (u : Lent). with_items u xs) e' })
 
     pub put_none : (zeros : ℕ) (new : List ℕ) → room ≡ None → AreItems (scalars_of v.payload) xs → zeros ≡ item_size (scalars_of payload) * length xs
-        → new ≡ stored_at (scalars_of payload) (longer at zeros) at xs → Kept payload new kept space address room (marked + length xs) prepared (with_items v xs)
+        → new ≡ put_past at zeros xs → Kept payload new kept space address room (marked + length xs) prepared (with_items v xs)
     put_none zeros new o f z s =
         let w' = subst (λ (q : Option ℕ). IsWindow payload bytes kept space address q marked prepared) o w in
         let e' = subst (λ (q : Option ℕ). window_kept payload bytes kept address q marked prepared ≡ v) o e in
         let f' = subst (λ (u : Lent). AreItems (scalars_of u.payload) xs) (sym e) f in
-        let k = put_between at zeros new xs w' f' (room_between (length xs) v w' e' h) n z s in
+        let k = subst (λ b. MarksMore None b xs) (sym s) (put_between at zeros xs w' f' (room_between (length xs) v w' e' h) n z) in
         subst (λ (q : Option ℕ). Kept payload new kept space address q (marked + length xs) prepared (with_items v xs)) (sym o)
         (record { is_window = k.is_window; is = k.is ∙ ap (λ (u : Lent). with_items u xs) e' })
 
@@ -232,26 +236,31 @@ module _ (payload : Payload) (bytes kept : List ℕ) (space address marked : ℕ
     abbrev MarksAll : List ℕ → Lent → Type 0
     MarksAll new v = Kept payload new kept space address room (marked + count) prepared (with_items v (items_in (scalars_of v.payload) source 0 count))
 
+    -- the items with which the source begins, and that a window is of their payload and has room for them
+    abbrev first : List Item
+    first = items_in (scalars_of payload) source 0 count
+
+    abbrev MayMark : Lent → Type 0
+    MayMark v = LieIn (scalars_of v.payload) source 0 count × HasRoom v.place (length v.marked) count
+
     counted : (v : Lent) → LieIn (scalars_of v.payload) source 0 count → HasRoom v.place (length v.marked) count → HasRoom v.place (length v.marked) (length (items_in (scalars_of v.payload) source 0 count))
     counted v l h = subst (HasRoom v.place (length v.marked)) (sym (length-items_in (scalars_of v.payload) source 0 count l)) h
 
-    pub all_some : (v : Lent) → window_kept payload bytes kept address room marked prepared ≡ v → LieIn (scalars_of v.payload) source 0 count → HasRoom v.place (length v.marked) count
-        → (r : ℕ) (new : List ℕ) → room ≡ Some r → new ≡ stored_at (scalars_of payload) bytes at (items_in (scalars_of payload) source 0 count) → MarksAll new v
-    all_some v e l h r new o s =
+    pub all_some : (v : Lent) → window_kept payload bytes kept address room marked prepared ≡ v → MayMark v → (r : ℕ) (new : List ℕ) → room ≡ Some r → new ≡ stored_at (scalars_of payload) bytes at first → MarksAll new v
+    all_some v e m r new o s =
         let u = window_kept payload bytes kept address room marked prepared in
-        let same = sym e in
-        let l' = subst (λ (x : Lent). LieIn (scalars_of x.payload) source 0 count) same l in
-        let h' = subst (λ (x : Lent). HasRoom x.place (length x.marked) count) same h in
+        let m' = subst MayMark (sym e) m in
+        let l' = m'.0 in
+        let h' = m'.1 in
         let k = put_some room u w refl (items_in (scalars_of payload) source 0 count) (counted u l' h') at n r new o l'.fit s in
         subst (MarksAll new) e (subst (λ j. Kept payload new kept space address room (marked + j) prepared (with_items u (items_in (scalars_of payload) source 0 count))) (length-items_in (scalars_of payload) source 0 count l') k)
 
-    pub all_none : (v : Lent) → window_kept payload bytes kept address room marked prepared ≡ v → LieIn (scalars_of v.payload) source 0 count → HasRoom v.place (length v.marked) count
-        → (new : List ℕ) → room ≡ None → new ≡ stored_at (scalars_of payload) (longer at (item_size (scalars_of payload) * count)) at (items_in (scalars_of payload) source 0 count) → MarksAll new v
-    all_none v e l h new o s =
+    pub all_none : (v : Lent) → window_kept payload bytes kept address room marked prepared ≡ v → MayMark v → (new : List ℕ) → room ≡ None → new ≡ put_past at (item_size (scalars_of payload) * count) first → MarksAll new v
+    all_none v e m new o s =
         let u = window_kept payload bytes kept address room marked prepared in
-        let same = sym e in
-        let l' = subst (λ (x : Lent). LieIn (scalars_of x.payload) source 0 count) same l in
-        let h' = subst (λ (x : Lent). HasRoom x.place (length x.marked) count) same h in
+        let m' = subst MayMark (sym e) m in
+        let l' = m'.0 in
+        let h' = m'.1 in
         let size = length-items_in (scalars_of payload) source 0 count l' in
         let k = put_none room u w refl (items_in (scalars_of payload) source 0 count) (counted u l' h') at n (item_size (scalars_of payload) * count) new o l'.fit (ap (λ j. item_size (scalars_of payload) * j) (sym size)) s in
         subst (MarksAll new) e (subst (λ j. Kept payload new kept space address room (marked + j) prepared (with_items u (items_in (scalars_of payload) source 0 count))) size k)

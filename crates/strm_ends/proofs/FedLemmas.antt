@@ -56,31 +56,43 @@ pub record FedMore (old : AllFed) (records : ℕ) (given : List ℕ) (payload : 
   pub is_fed : IsFed payload bytes len rest feeds
   pub is : fed_kept payload bytes len rest feeds ≡ more_fed old records given
 
-pub fed_more : (payload : Payload) (bytes rest given : List ℕ) (len n k records : ℕ) (feeds : List Feed) (old : AllFed) → IsFed payload bytes len rest feeds → fed_kept payload bytes len rest feeds ≡ old
-    → items (scalars_of payload) given n ≡ Some (items_fed payload given) → AreItems (scalars_of payload) (items_fed payload given) → k ≡ item_size (scalars_of payload) * n → k ≤ length given → n ≤ length given
-    → FedMore old records given payload (bytes ++ take k given) (len + n) (rest ++ drop k given) (feeds ++ feed_behind bytes rest records given k ∷ [])
-fed_more payload bytes rest given len n k records feeds old i v e f s h g =
-    let ss = scalars_of payload in
-    let w = item_size ss in
-    let feed = feed_behind bytes rest records given k in
-    let new : List ℕ = take k given in
-    let left : List ℕ = drop k given in
-    let size : length new ≡ k = length-take-le k given h in
-    let other : length left ≡ length given - k = length-drop k given in
-    let both = length-append bytes new in
-    let beside = length-append rest left in
-    let sizes : w * (len + n) ≡ w * len + w * n = grind arith in
-    let lie : Lie ss (bytes ++ new) 0 (len + n) (items_in ss bytes 0 len ++ items_fed payload given) =
-    subst (λ j. Lie ss (bytes ++ take j given) 0 (len + n) (items_in ss bytes 0 len ++ items_fed payload given)) (sym s) (lie_more ss bytes given 0 len n (items_fed payload given) i.lie (omega (arith, i.all)) e f (omega (arith, s, h))) in
-    let last : LiesThere (bytes ++ new) (rest ++ left) feed = (omega (arith, both, size), omega (arith, beside, other)) in
-    let heard : heard_kept (bytes ++ new) (rest ++ left) (feeds ++ feed ∷ []) ≡ heard_kept bytes rest feeds ++ (records, given) ∷ [] =
-    map-append (heard_of (bytes ++ new) (rest ++ left)) feeds (feed ∷ []) ∙ ap (λ l. l ++ heard_kept (bytes ++ new) (rest ++ left) (feed ∷ [])) (heard-more bytes rest new left feeds i.there) ∙ ap (λ b. heard_kept bytes rest feeds ++ (records, b) ∷ []) (bytes_behind bytes rest given records k h) in
-    record {
-      is_fed = record {
-        all = omega (arith, i.all, both, size, sizes, s);
-        lie = lie.lie;
-        counted = omega (arith, i.counted, both, beside, size, other, g, h);
-        there = All-push (LiesThere (bytes ++ new) (rest ++ left)) feeds feed (there-more bytes rest new left feeds i.there) last;
-      };
-      is = rw (lie.is, heard) (ap (λ (a : AllFed). more_fed a records given) v);
-    }
+-- so many items, of so many bytes, are what these bytes are to a queue
+pub record AreFed (payload : Payload) (given : List ℕ) (n k : ℕ) : Type 0 where
+  pub lie : items (scalars_of payload) given n ≡ Some (items_fed payload given)
+  pub fit : AreItems (scalars_of payload) (items_fed payload given)
+  pub size : k ≡ item_size (scalars_of payload) * n
+  pub within : k ≤ length given
+  pub few : n ≤ length given
+
+module _ (payload : Payload) (bytes rest : List ℕ) (len : ℕ) (feeds : List Feed) (old : AllFed) (i : IsFed payload bytes len rest feeds) (v : fed_kept payload bytes len rest feeds ≡ old) where
+  pub fed_more : (given : List ℕ) (n k records : ℕ) → AreFed payload given n k → FedMore old records given payload (bytes ++ take k given) (len + n) (rest ++ drop k given) (feeds ++ feed_behind bytes rest records given k ∷ [])
+  fed_more given n k records fed =
+      let e = fed.lie in
+      let f = fed.fit in
+      let s = fed.size in
+      let h = fed.within in
+      let g = fed.few in
+      let ss = scalars_of payload in
+      let w = item_size ss in
+      let feed = feed_behind bytes rest records given k in
+      let new : List ℕ = take k given in
+      let left : List ℕ = drop k given in
+      let size : length new ≡ k = length-take-le k given h in
+      let other : length left ≡ length given - k = length-drop k given in
+      let both = length-append bytes new in
+      let beside = length-append rest left in
+      let sizes : w * (len + n) ≡ w * len + w * n = grind arith in
+      let lie : Lie ss (bytes ++ new) 0 (len + n) (items_in ss bytes 0 len ++ items_fed payload given) =
+      subst (λ j. Lie ss (bytes ++ take j given) 0 (len + n) (items_in ss bytes 0 len ++ items_fed payload given)) (sym s) (lie_more ss bytes given 0 len n (items_fed payload given) (record { lie = i.lie; all = omega (arith, i.all) }) e f (omega (arith, s, h))) in
+      let last : LiesThere (bytes ++ new) (rest ++ left) feed = (omega (arith, both, size), omega (arith, beside, other)) in
+      let heard : heard_kept (bytes ++ new) (rest ++ left) (feeds ++ feed ∷ []) ≡ heard_kept bytes rest feeds ++ (records, given) ∷ [] =
+      map-append (heard_of (bytes ++ new) (rest ++ left)) feeds (feed ∷ []) ∙ ap (λ l. l ++ heard_kept (bytes ++ new) (rest ++ left) (feed ∷ [])) (heard-more bytes rest new left feeds i.there) ∙ ap (λ b. heard_kept bytes rest feeds ++ (records, b) ∷ []) (bytes_behind bytes rest given records k h) in
+      record {
+        is_fed = record {
+          all = omega (arith, i.all, both, size, sizes, s);
+          lie = lie.lie;
+          counted = omega (arith, i.counted, both, beside, size, other, g, h);
+          there = All-push (LiesThere (bytes ++ new) (rest ++ left)) feeds feed (there-more bytes rest new left feeds i.there) last;
+        };
+        is = rw (lie.is, heard) (ap (λ (a : AllFed). more_fed a records given) v);
+      }

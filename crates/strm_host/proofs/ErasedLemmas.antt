@@ -50,8 +50,12 @@ did_poll old new window after finish items a d =
       payload = d.payload;
     })
 
+-- what is answered is what was planned for a poll with this room that left these items
+abbrev pub KeepsPlan : Plan → Option ℕ → Bool → List Item → Turn StreamResult → Type 0
+KeepsPlan plan room finish items turn = IfSome plan (λ next. IfAnswered turn (λ answer. next room finish ≡ record { items = items; answer = answer }))
+
 -- and what was planned is done
-pub planned_poll : (plan : Plan) (turn : Turn StreamResult) (room : Option ℕ) (finish : Bool) (marked held items : List Item) (a : Answer) → turn ≡ turn_of a → marked ++ held ≡ items → IfSome plan (λ next. next room finish ≡ record { items = items; answer = a }) → IfSome plan (λ next. IfAnswered turn (λ answer. next room finish ≡ record { items = marked ++ held; answer = answer }))
-planned_poll None turn room finish marked held items a t e p = p
-planned_poll (Some next) turn room finish marked held items a t e p =
+pub planned_poll : (plan : Plan) (turn : Turn StreamResult) (room : Option ℕ) (finish : Bool) (all items : List Item) (a : Answer) → turn ≡ turn_of a → all ≡ items → IfSome plan (λ next. next room finish ≡ record { items = items; answer = a }) → KeepsPlan plan room finish all turn
+planned_poll None turn room finish all items a t e p = p
+planned_poll (Some next) turn room finish all items a t e p =
     rw (t, e) (IfAnswered-turn_of a (λ (answer : Answer). next room finish ≡ record { items = items; answer = answer }) p)

@@ -5,7 +5,7 @@ use Rattle.strm_buffers.specs.Buffers.{option_items}
 use Rattle.strm_buffers.specs.Listing.{Item}
 use Rattle.strm_buffers.specs.Said.{IfAnswered}
 use Rattle.strm_buffers.specs.declared.answers.Turn.{Turn}
-use Rattle.strm_host.specs.Producing.{polled}
+use Rattle.strm_host.specs.Producing.{Poll, polled}
 use Rattle.strm_host.specs.Futures.{FuturePlan, poll_of, stream_plan}
 
 module _ {A : Type 0} where
@@ -13,9 +13,12 @@ module _ {A : Type 0} where
   one_at_most None = omega arith
   one_at_most (Some value) = omega arith
 
-  -- a poll that is the future's plan is the stream's
-  pub stream_planned : (item : A → Item) (plan : Option (FuturePlan A)) (room : Option ℕ) (finish : Bool) (turn : Turn StreamResult) (buffer : Option A) →
-      IfSome plan (λ next. IfAnswered turn (λ answer. poll_of item (next finish) ≡ polled item [] (option_items buffer) answer)) →
-      IfSome (stream_plan item plan) (λ next. IfAnswered turn (λ answer. next room finish ≡ polled item [] (option_items buffer) answer))
-  stream_planned item None room finish turn buffer planned = tt
-  stream_planned item (Some next) room finish turn buffer planned = planned
+  module _ (item : A → Item) (turn : Turn StreamResult) (buffer : Option A) where
+    -- the turn and what it left in the buffer are this poll
+    abbrev pub IsPoll : Poll → Type 0
+    IsPoll poll = IfAnswered turn (λ answer. poll ≡ polled item [] (option_items buffer) answer)
+
+    -- a poll that is the future's plan is the stream's
+    pub stream_planned : (plan : Option (FuturePlan A)) (room : Option ℕ) (finish : Bool) → IfSome plan (λ next. IsPoll (poll_of item (next finish))) → IfSome (stream_plan item plan) (λ next. IsPoll (next room finish))
+    stream_planned None room finish planned = tt
+    stream_planned (Some next) room finish planned = planned

@@ -2,7 +2,7 @@ use Rattle.std.proofs.Common.{◌≡◌, ◌+◌, ◌*◌, ◌-◌, [], ◌∷�
 use Rattle.strm_codes.specs.Layout.{scalars_of, item_size}
 use Rattle.strm_ends.specs.Fed.{more_fed, fed_kept}
 use Rattle.strm_ends.specs.declared.feeds.Feed.{Feed}
-use Rattle.strm_ends.proofs.FedLemmas.{FedMore, fed_more, feed_behind}
+use Rattle.strm_ends.proofs.FedLemmas.{AreFed, FedMore, fed_more, feed_behind}
 use Rattle.strm_ends.proofs.feeds.Feeds.feed.Goals as goal
 
 pub invariant_of-self-2 : goal.invariant_of-self-2
@@ -12,8 +12,10 @@ invariant_of-self-2 c =
     let n = c.count_items-count.result in
     let k = c.size.result * n in
     let e : k ≡ item_size (scalars_of s.payload) * n = ap (λ w. w * n) c.size.ensures.exact in
+    let counted = c.count_items-count.ensures in
+    let fed : AreFed s.payload given n k = record { lie = counted.lie; fit = counted.fit; size = e; within = omega (arith, e, counted.within); few = counted.few } in
     let p : FedMore c.args.self.now c.args.records given s.payload (s.bytes.items ++ take k given) (s.len + n) (s.rest.items ++ drop k given) (s.feeds.items ++ feed_behind s.bytes.items s.rest.items c.args.records given k ∷ []) =
-    fed_more s.payload s.bytes.items s.rest.items given s.len n k c.args.records s.feeds.items c.args.self.now c.self.invariant c.self.view_is c.count_items-count.ensures.lie c.count_items-count.ensures.fit e (omega (arith, e, c.count_items-count.ensures.within)) c.count_items-count.ensures.few in
+    fed_more s.payload s.bytes.items s.rest.items s.len s.feeds.items c.args.self.now c.self.invariant c.self.view_is given n k c.args.records fed in
     let b : c.extend_from_slice.new.self.items ≡ s.bytes.items ++ take k given = c.in-Ok.ensures.items ∙ ap (λ l. s.bytes.items ++ l) c.split_at.ensures.front in
     let r : c.extend_from_slice-2.new.self.items ≡ s.rest.items ++ drop k given =
     c.in-Ok-extend_from_slice.ensures.items ∙ ap (λ l. l ++ c.split_at.result.1.now) c.reserve-else-is_err.ensures.items ∙ ap (λ l. s.rest.items ++ l) c.split_at.ensures.back in
@@ -34,8 +36,10 @@ returns-clause-ok c =
     let n = c.count_items-count.result in
     let k = c.size.result * n in
     let e : k ≡ item_size (scalars_of s.payload) * n = ap (λ w. w * n) c.size.ensures.exact in
+    let counted = c.count_items-count.ensures in
+    let fed : AreFed s.payload given n k = record { lie = counted.lie; fit = counted.fit; size = e; within = omega (arith, e, counted.within); few = counted.few } in
     let p : FedMore c.args.self.now c.args.records given s.payload (s.bytes.items ++ take k given) (s.len + n) (s.rest.items ++ drop k given) (s.feeds.items ++ feed_behind s.bytes.items s.rest.items c.args.records given k ∷ []) =
-    fed_more s.payload s.bytes.items s.rest.items given s.len n k c.args.records s.feeds.items c.args.self.now c.self.invariant c.self.view_is c.count_items-count.ensures.lie c.count_items-count.ensures.fit e (omega (arith, e, c.count_items-count.ensures.within)) c.count_items-count.ensures.few in
+    fed_more s.payload s.bytes.items s.rest.items s.len s.feeds.items c.args.self.now c.self.invariant c.self.view_is given n k c.args.records fed in
     let b : c.extend_from_slice.new.self.items ≡ s.bytes.items ++ take k given = c.in-Ok.ensures.items ∙ ap (λ l. s.bytes.items ++ l) c.split_at.ensures.front in
     let r : c.extend_from_slice-2.new.self.items ≡ s.rest.items ++ drop k given =
     c.in-Ok-extend_from_slice.ensures.items ∙ ap (λ l. l ++ c.split_at.result.1.now) c.reserve-else-is_err.ensures.items ∙ ap (λ l. s.rest.items ++ l) c.split_at.ensures.back in

@@ -26,4 +26,4 @@ returns-clause-plan g c =
     let room = room_of c.args.window.now.place in
     let items = c.in-Ok-fetch.fetched.items.items in
     let all : c.fetch.new.window.marked ++ c.in-Ok-fetch.fetched.held.items ≡ items = rw (c.in-Ok-fetch.ensures.marked, c.in-Ok-fetch.ensures.held) (room_parts room items) in
-    planned_poll _ _ room c.args.finish c.fetch.new.window.marked c.in-Ok-fetch.fetched.held.items items c.in-Ok-fetch.fetched.answer c.turn.ensures all c.in-Ok-fetch.ensures.plan
+    planned_poll _ _ room c.args.finish (c.fetch.new.window.marked ++ c.in-Ok-fetch.fetched.held.items) items c.in-Ok-fetch.fetched.answer c.turn.ensures all c.in-Ok-fetch.ensures.plan

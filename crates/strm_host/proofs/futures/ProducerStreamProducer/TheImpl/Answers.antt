@@ -12,5 +12,5 @@ poll_produce-tells g x x' c =
       failed = c.ensures.failed;
       faults = c.ensures.faults;
       plan = rw (c.ensures.window, c.requires.nothing_marked)
-          (stream_planned g.F.Item.Payloaded.item (g.F.FutureProducer.plan c.args.self.now.future) _ c.args.finish c.result buffer c.ensures.plan);
+          (stream_planned g.F.Item.Payloaded.item c.result buffer (g.F.FutureProducer.plan c.args.self.now.future) _ c.args.finish c.ensures.plan);
     }
