@@ -94,9 +94,12 @@ turned_over old ps new s n read d t = record {
   is = t.is;
 }
 
+-- the state with a stream, and with a host writer whose duty is done
+abbrev pub with_done : State → (s n : ℕ) → Stream → State
+with_done state s n stream = record state { streams = set state.streams s stream; producers = set state.producers n (record (producer_at state n) { duty = Ended }) }
+
 -- a stream written back whose host writer goes
-pub with_stream_in-gone : (w : World) (s n : ℕ) (stream : Stream) → (stream_in w s).writer.owner ≡ Host n → stream.writer.owner ≡ Gone
-    → (with_stream_in w s stream).state ≡ record w.state { streams = set w.state.streams s stream; producers = set w.state.producers n (record (producer_at w.state n) { duty = Ended }) }
+pub with_stream_in-gone : (w : World) (s n : ℕ) (stream : Stream) → (stream_in w s).writer.owner ≡ Host n → stream.writer.owner ≡ Gone → (with_stream_in w s stream).state ≡ with_done w.state s n stream
 unfolding with_stream_in
 with_stream_in-gone w s n stream e g =
     let after = with_state w (record w.state { streams = slice_set w.state.streams s stream }) in

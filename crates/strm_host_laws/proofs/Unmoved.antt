@@ -3,6 +3,7 @@ use Rattle.std.proofs.Common.{◌≡◌, ◌≢◌, ℕ, zero, suc, ◌<◌, tru
 use Rattle.std.proofs.lemmas.Bool.{cases_eq, cond_both}
 use Rattle.std.proofs.lemmas.List.{get_or-set_same, get_or-set_other}
 use Rattle.strm_codes.specs.declared.codes.ReturnCode.{ReturnCode}
+use Rattle.strm_machine.specs.Moves.{with_owner}
 use Rattle.strm_machine.specs.State.{State, Guest, no_stream, is_gone, is_loose, stream_at}
 use Rattle.strm_machine.specs.Sides.{end_of, with_end}
 use Rattle.strm_machine.specs.Making.{made_stream, made_pair, with_stream}
@@ -103,7 +104,7 @@ module _ (state : State) (s : ℕ) (held : StateIsHeld state) (q : IsQuiet (stre
       (set_stays x.stream _ o.made (λ same. by x.side (quiet_at x.stream same) x.freed o.freed))
     where
       by : (side : Side) → IsQuiet (stream_at state x.stream) → (f : Option (ℕ × ℕ)) → IsFreed state.guests x.stream side (end_of side (stream_at state x.stream)).owner f
-          → Unmoved (stream_at state x.stream) (with_end side (stream_at state x.stream) (record (end_of side (stream_at state x.stream)) { owner = x.owner }))
+          → Unmoved (stream_at state x.stream) (with_owner side (stream_at state x.stream) x.owner)
       by Reading quiet f g = record { received = refl; writer = refl }
       by Writing quiet None g = absurd (unloose (stream_at state x.stream) quiet g)
       by Writing quiet (Some f) g = absurd (unheld_by (stream_at state x.stream) f.0 f.1 quiet (held.agree.named f.0 f.1 x.stream Writing g.held))
