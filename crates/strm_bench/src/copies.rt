@@ -1,8 +1,11 @@
 //! Items copied from one slice to another, as they are between two guests.
 
-ghost use Rattle.std.specs.Prelude.{◌≡◌, ◌*◌, ◌≤◌, length, IfOk, vec_len};
+ghost use Rattle.std.specs.Prelude.{◌≡◌, ◌*◌, ◌%◌, ◌^◌, ◌≤◌, [], ◌∷◌, length, map, sum, IfOk, vec_len};
 ghost use Rattle.strm_codes.specs.Layout.{scalars_of, item_size};
+ghost use Rattle.strm_codes.specs.declared.payloads.Payload.TheVariants.{One, Tuple};
+ghost use Rattle.strm_codes.specs.declared.scalars.Scalar.TheVariants.{Bool as Flag, S8, U8, U16, U32, S64, U64, Char};
 
+use crate::sums::sum_of;
 use std::alloc::Global;
 use strm_codes::counts::{ItemCount, OutOfMemory};
 use strm_codes::payloads::{Payload, Shape};
@@ -13,7 +16,11 @@ use strm_memory::copies::copy_items;
 pub const COUNTS: [u32; 4] = [8, 64, 512, 4096];
 
 /// What is copied, and its name.
-pub fn layouts() -> [(&'static str, Payload); 6] {
+pub fn layouts() -> [(&'static str, Payload); 6]
+    ensures { map (λ layout. layout.1) result ≡ One Flag ∷ One Char ∷ Tuple (U8 ∷ U32 ∷ [])
+        ∷ Tuple (U8 ∷ U16 ∷ U8 ∷ []) ∷ Tuple (U64 ∷ U8 ∷ [])
+        ∷ Tuple (Flag ∷ U16 ∷ U8 ∷ U32 ∷ Char ∷ S8 ∷ S64 ∷ U8 ∷ []) ∷ [] }
+{
     let mixed = [
         Scalar::Bool,
         Scalar::U16,
@@ -34,11 +41,15 @@ pub fn layouts() -> [(&'static str, Payload); 6] {
     ]
 }
 
-// A tuple of one to eight fields; any other is nothing.
-fn tuple(fields: &[Scalar]) -> Payload {
+// A tuple of one to eight fields.
+fn tuple(fields: &[Scalar]) -> Payload
+    requires some { 1 ≤ length fields.now }
+    requires most { length fields.now ≤ 8 }
+    ensures { result ≡ Tuple fields.now }
+{
     match Shape::new(fields) {
         Some(shape) => Payload::Tuple(shape),
-        None => Payload::Nothing,
+        None => unreachable!(),
     }
 }
 
@@ -93,13 +104,11 @@ impl Copies {
         }
     }
 
-    /// The sum of the bytes that items were copied to.
-    pub fn sum(&self) -> u64 {
-        let mut sum = 0u64;
-        for byte in &self.destination {
-            sum = sum.wrapping_add(u64::from(*byte));
-        }
-        sum
+    /// The sum of the bytes that items were copied to, modulo 2^64.
+    pub fn sum(&self) -> u64
+        ensures { result ≡ sum self.now.destination.items % 2 ^ 64 }
+    {
+        sum_of(&self.destination)
     }
 }
 

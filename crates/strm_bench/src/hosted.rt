@@ -1,10 +1,12 @@
 //! Host writers on a store: feeds that a guest reads at once, and a long list that it reads in pieces.
 
-ghost use Rattle.std.specs.Prelude.{◌≡◌, IfOk, vec_len};
+ghost use Rattle.std.specs.Prelude.{◌≡◌, ◌%◌, ◌^◌, sum, IfOk, vec_len};
 ghost use Rattle.strm_buffers.specs.AllTells.{tells_of};
 ghost use Rattle.strm_buffers.specs.Tells.{Tells};
+ghost use Rattle.strm_machine.specs.State.{memory_in, stream_at};
 ghost use Rattle.strm_world.specs.Does.{Fits};
 
+use crate::sums::sum_of;
 use std::alloc::{AllocError, Global};
 use strm_buffers::hosts::Hosts;
 use strm_codes::codes::TransmitIndex;
@@ -133,18 +135,19 @@ impl Reading {
     }
 
     /// How many bytes were read.
-    pub fn received(&self) -> u128 {
+    pub fn received(&self) -> u128
+        ensures { result ≡ (stream_at self.now.store self.now.stream).received }
+    {
         self.store.moved(self.stream).unwrap_or(0)
     }
 
-    /// The sum of the guest's memory.
-    pub fn sum(&self) -> u64 {
-        let mut sum = 0u64;
-        if let Some(bytes) = self.store.memory(0) {
-            for byte in bytes {
-                sum = sum.wrapping_add(u64::from(*byte));
-            }
+    /// The sum of the guest's memory, modulo 2^64.
+    pub fn sum(&self) -> u64
+        ensures { result ≡ sum (memory_in self.now.store.guests 0) % 2 ^ 64 }
+    {
+        match self.store.memory(0) {
+            Some(bytes) => sum_of(bytes),
+            None => 0,
         }
-        sum
     }
 }

@@ -10,6 +10,7 @@ mod filled;
 mod guests;
 mod hosted;
 mod rounds;
+mod sums;
 mod tables;
 mod windows;
 

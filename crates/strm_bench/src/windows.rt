@@ -1,8 +1,10 @@
 //! Bytes and items that pass through a guest's memory as host ends pass them: by windows and offers.
 
-ghost use Rattle.std.specs.Prelude.{◌≡◌, IfOk};
+ghost use Rattle.std.specs.Prelude.{◌≡◌, ◌+◌, length, false, IfOk, IfSome, IsNone, None};
 ghost use Rattle.strm_codes.specs.Items.{FitsItem};
 ghost use Rattle.strm_codes.specs.Layout.{scalars_of};
+ghost use Rattle.strm_buffers.specs.Windows.{memory_of, room_of};
+ghost use Rattle.strm_buffers.specs.declared.sources.Source.TheVariants.{Region};
 
 use std::alloc::Global;
 use strm_buffers::offers::Offer;
@@ -96,7 +98,16 @@ fn put_one(window: &mut Window, item: &Value)
 }
 
 /// An offer of what was put into a window over a memory.
-pub fn offer_of(window: Window) -> Option<Offer> {
+pub fn offer_of(window: Window) -> Option<Offer>
+    ensures lent { IfSome result (λ offer. offer ≡ record {
+      payload = window.payload;
+      source = Region (memory_of window.place) 0 (length window.marked);
+      since = 0;
+      taken = 0;
+      bad = false;
+    }) }
+    ensures between { room_of window.place ≡ None → IsNone result }
+{
     if window.room().is_none() {
         return None;
     }
@@ -108,13 +119,17 @@ pub fn offer_of(window: Window) -> Option<Offer> {
     Some(Offer::of_memory(memory, payload, 0, marked, 0))
 }
 
-/// Takes all items: how many they are.
+/// Takes at most `ITEMS` items: how many they are.
 #[inline(never)]
-pub fn take_all(offer: &mut Offer) -> u32 {
+pub fn take_all(offer: &mut Offer) -> u32
+    ensures taken { offer.new.taken ≡ offer.old.taken + result }
+    ensures source { offer.new.source ≡ offer.old.source }
+{
     let mut count = 0u32;
     for _ in 0..ITEMS {
-        if offer.next().is_some() {
-            count = count.wrapping_add(1);
+        match offer.next() {
+            Some(_) => count = count.wrapping_add(1),
+            None => {}
         }
     }
     count
