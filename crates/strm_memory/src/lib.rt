@@ -6,6 +6,7 @@
 
 mod columns;
 pub mod copies;
+mod field_lists;
 mod fields;
 pub mod items;
 pub mod laws;
@@ -14,4 +15,5 @@ pub mod memories;
 pub mod moves;
 mod numbers;
 pub mod payloaded;
+mod tuples;
 pub mod typed_fields;

@@ -34,16 +34,12 @@ pub trait Field: Copy {
         ensures exact { result ≡ number self }
         ensures fits { FitsScalar scalar result };
 
-    /// The values taken out as the bytes that they are, where the scalar is u8; of another scalar they
-    /// stay. Takes no memory.
+    /// The values taken out as the bytes that they are, exactly where the scalar is u8; of another
+    /// scalar they stay. Takes no memory.
     fn take_bytes(values: &mut Vec<Self>) -> Option<Vec<u8>>
-        ensures scalar { IfSome result (λ _. scalar ≡ U8) }
+        ensures scalar { IsSome result ↔ scalar ≡ U8 }
         ensures bytes { IfSome result (λ bytes. map number values.old.items ≡ map (λ b. pos b) bytes.items) }
-        ensures others { IsNone result → values.new ≡ values.old }
-    {
-        let _ = values;
-        None
-    }
+        ensures others { IsNone result → values.new ≡ values.old };
 
     // No two values are one number.
     ghost apart: { (x y : Self) → number x ≡ number y → x ≡ y };
@@ -75,6 +71,10 @@ impl Field for bool {
     fn to_number(self) -> i128 {
         i128::from(self)
     }
+
+    fn take_bytes(_values: &mut Vec<bool>) -> Option<Vec<u8>> {
+        None
+    }
 }
 
 impl Field for i8 {
@@ -102,6 +102,10 @@ impl Field for i8 {
     fn to_number(self) -> i128 {
         i128::from(self)
     }
+
+    fn take_bytes(_values: &mut Vec<i8>) -> Option<Vec<u8>> {
+        None
+    }
 }
 
 impl Field for u8 {
@@ -119,11 +123,6 @@ impl Field for u8 {
         Scalar::U8
     }
 
-    fn take_bytes(values: &mut Vec<u8>) -> Option<Vec<u8>> {
-        let none = Vec::new(*values.allocator());
-        Some(mem::replace(values, none))
-    }
-
     fn from_number(of: i128) -> Option<u8> {
         if Scalar::U8.fits(of) {
             Some(of as u8)
@@ -134,6 +133,11 @@ impl Field for u8 {
 
     fn to_number(self) -> i128 {
         i128::from(self)
+    }
+
+    fn take_bytes(values: &mut Vec<u8>) -> Option<Vec<u8>> {
+        let none = Vec::new(*values.allocator());
+        Some(mem::replace(values, none))
     }
 }
 
@@ -161,6 +165,10 @@ impl Field for i16 {
 
     fn to_number(self) -> i128 {
         i128::from(self)
+    }
+
+    fn take_bytes(_values: &mut Vec<i16>) -> Option<Vec<u8>> {
+        None
     }
 }
 
@@ -190,6 +198,10 @@ impl Field for u16 {
     fn to_number(self) -> i128 {
         i128::from(self)
     }
+
+    fn take_bytes(_values: &mut Vec<u16>) -> Option<Vec<u8>> {
+        None
+    }
 }
 
 impl Field for i32 {
@@ -216,6 +228,10 @@ impl Field for i32 {
 
     fn to_number(self) -> i128 {
         i128::from(self)
+    }
+
+    fn take_bytes(_values: &mut Vec<i32>) -> Option<Vec<u8>> {
+        None
     }
 }
 
@@ -245,6 +261,10 @@ impl Field for u32 {
     fn to_number(self) -> i128 {
         i128::from(self)
     }
+
+    fn take_bytes(_values: &mut Vec<u32>) -> Option<Vec<u8>> {
+        None
+    }
 }
 
 impl Field for i64 {
@@ -271,6 +291,10 @@ impl Field for i64 {
 
     fn to_number(self) -> i128 {
         i128::from(self)
+    }
+
+    fn take_bytes(_values: &mut Vec<i64>) -> Option<Vec<u8>> {
+        None
     }
 }
 
@@ -300,6 +324,10 @@ impl Field for u64 {
     fn to_number(self) -> i128 {
         i128::from(self)
     }
+
+    fn take_bytes(_values: &mut Vec<u64>) -> Option<Vec<u8>> {
+        None
+    }
 }
 
 impl Field for char {
@@ -327,5 +355,9 @@ impl Field for char {
 
     fn to_number(self) -> i128 {
         i128::from(self as u32)
+    }
+
+    fn take_bytes(_values: &mut Vec<char>) -> Option<Vec<u8>> {
+        None
     }
 }

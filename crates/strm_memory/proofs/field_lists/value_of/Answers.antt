@@ -3,7 +3,7 @@ use Rattle.std.proofs.lemmas.List.{take_at}
 use Rattle.std.specs.Prelude.{All, IsSome}
 use Rattle.strm_codes.specs.Items.{IsNumber}
 use Rattle.strm_memory.proofs.FieldLemmas.{IsNumber-FitsItem, length-FitsItem}
-use Rattle.strm_memory.proofs.payloaded.value_of.Goals as goal
+use Rattle.strm_memory.proofs.field_lists.value_of.Goals as goal
 
 never_none : {A : Type 0} (out rest : List ℤ) (n : ℕ) (o : Option A) → length out ≡ n → n ≤ 8 → All IsNumber out → ((length (take n (out ++ rest)) ≤ 8) × All IsNumber (take n (out ++ rest)) → IsSome o) → o ≡ None → ⊥
 never_none out rest n o l m f some none =
