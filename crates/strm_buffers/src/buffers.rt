@@ -43,8 +43,8 @@ pub trait WriteBuffer<T> {
         ensures rest { items self.new ≡ drop count (items self.old) }
         ensures capacity { vec_capacity out.old ≤ vec_capacity out.new };
 
-    /// Moves all items out, into a vector of their own. The one call that may take memory: what holds
-    /// its items in such a vector gives that. After `OutOfMemory` nothing has changed.
+    /// Moves all items out, into a vector of their own. The one call that may take memory. After
+    /// `OutOfMemory` nothing has changed.
     fn take_all(&mut self, alloc: Global) -> Result<Vec<T>, OutOfMemory>
         ensures taken { IfOk result (λ all. all.items ≡ items self.old) }
         ensures rest { OnOk result (items self.new ≡ []) }

@@ -2,9 +2,11 @@
 //!
 //! Source: ours. Layout: Canonical ABI, "Loading" and "Storing".
 
-ghost use Rattle.std.specs.Prelude.{◌≡◌, ℕ, ◌+◌, ◌*◌, ◌^◌, ◌<◌, ◌≤◌, [], ◌∷◌, ◌++◌, length, take, drop, map, replicate, slice_get, Some, IfOk, OnOk, OnErr};
+ghost use Rattle.std.specs.Prelude.{◌≡◌, ℕ, ◌+◌, ◌*◌, ◌^◌, ◌<◌, ◌≤◌, [], ◌∷◌, ◌++◌, length, take, drop, map, replicate, slice_get, Some, IsOk, IfOk, OnOk, OnErr};
 ghost use Rattle.strm_codes.specs.Layout.{scalars_of, item_size};
 ghost use Rattle.strm_codes.specs.Items.{FitsItem};
+ghost use Rattle.strm_codes.specs.declared.payloads.Payload.TheVariants.{One};
+ghost use Rattle.strm_codes.specs.declared.scalars.Scalar.TheVariants.{U8};
 ghost use Rattle.strm_memory.specs.Items.{stored_at, AreItems};
 ghost use Rattle.strm_buffers.specs.Listing.{kept_items, items_in, AreKept, LieIn, AreStored};
 
@@ -68,12 +70,13 @@ impl Items {
         }
     }
 
-    /// The items that these values are. Takes no memory where the values are bytes. After `OutOfMemory`
-    /// nothing was kept.
+    /// The items that these values are. After `OutOfMemory`, which does not come where the values are
+    /// bytes, nothing was kept.
     pub fn of_values<T: Payloaded>(alloc: Global, values: Vec<T>) -> Result<Items, OutOfMemory>
         requires { length values.items < 4294967295 }
         ensures payload { IfOk result (λ items. items.payload ≡ T.payload) }
         ensures items { IfOk result (λ items. items.items ≡ map T.item values.items) }
+        ensures bytes { T.payload ≡ One U8 → IsOk result }
     {
         let count = values.len();
         match bytes_of_values(alloc, values) {
@@ -290,7 +293,8 @@ pub(crate) fn write_items(
 // The bytes of the items that these values are: their own, where they are bytes, else new ones.
 fn bytes_of_values<T: Payloaded>(alloc: Global, mut values: Vec<T>) -> Result<Vec<u8>, OutOfMemory>
     requires { length values.items < 4294967295 }
-    ensures { IfOk result (λ bytes. AreStored (scalars_of T.payload) bytes.items (map T.item values.items)) }
+    ensures stored { IfOk result (λ bytes. AreStored (scalars_of T.payload) bytes.items (map T.item values.items)) }
+    ensures bytes { T.payload ≡ One U8 → IsOk result }
 {
     match T::take_bytes(&mut values) {
         Some(bytes) => {

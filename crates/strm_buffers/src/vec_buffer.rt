@@ -2,7 +2,7 @@
 //!
 //! Source: wasmtime, `futures_and_streams/buffers.rs`, `VecBuffer`.
 
-ghost use Rattle.std.specs.Prelude.{◌≡◌, ◌≤◌, [], length, drop, IfOk, vec_len, vec_capacity};
+ghost use Rattle.std.specs.Prelude.{◌≡◌, ◌≤◌, [], length, drop, IsOk, IfOk, OnOk, OnErr, vec_capacity};
 
 use crate::buffers::WriteBuffer;
 use std::alloc::Global;
@@ -22,6 +22,7 @@ impl<T: Copy> VecBuffer<T> {
     pub fn with_capacity(alloc: Global, capacity: usize) -> Result<VecBuffer<T>, OutOfMemory>
         ensures empty { IfOk result (λ buffer. drop buffer.first buffer.buffer.items ≡ []) }
         ensures room { IfOk result (λ buffer. capacity ≤ vec_capacity buffer.buffer) }
+        ensures whole { IfOk result (λ buffer. buffer.first ≡ 0) }
     {
         match Vec::with_capacity(alloc, capacity) {
             Ok(buffer) => Ok(VecBuffer { buffer, first: 0 }),
@@ -31,7 +32,8 @@ impl<T: Copy> VecBuffer<T> {
 
     /// The items of this vector.
     pub fn from_vec(items: Vec<T>) -> VecBuffer<T>
-        ensures { drop result.first result.buffer.items ≡ items.items }
+        ensures items { drop result.first result.buffer.items ≡ items.items }
+        ensures whole { result.first ≡ 0 }
     {
         VecBuffer {
             buffer: items,
@@ -41,7 +43,8 @@ impl<T: Copy> VecBuffer<T> {
 
     /// Removes all items.
     pub fn reset(&mut self)
-        ensures { drop self.new.first self.new.buffer.items ≡ [] }
+        ensures items { drop self.new.first self.new.buffer.items ≡ [] }
+        ensures whole { self.new.first ≡ 0 }
     {
         self.buffer.clear();
         self.first = 0;
@@ -87,7 +90,15 @@ impl<T: Copy> WriteBuffer<T> for VecBuffer<T> {
         self.first += count;
     }
 
-    fn take_all(&mut self, alloc: Global) -> Result<Vec<T>, OutOfMemory> {
+    fn take_all(&mut self, alloc: Global) -> Result<Vec<T>, OutOfMemory>
+        ensures taken { IfOk result (λ all. all.items ≡ drop self.old.first self.old.buffer.items) }
+        ensures rest { OnOk result (drop self.new.first self.new.buffer.items ≡ []) }
+        ensures err { OnErr result (drop self.new.first self.new.buffer.items
+            ≡ drop self.old.first self.old.buffer.items) }
+
+        // From where nothing was taken off the front: that takes no memory.
+        ensures whole { self.old.first ≡ 0 → IsOk result }
+    {
         let none = Vec::new(alloc);
         if self.first == 0 {
             return Ok(mem::replace(&mut self.buffer, none));
