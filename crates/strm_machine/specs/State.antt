@@ -31,7 +31,7 @@ pub record State : Type 0 where
   pub limits : Limits
   pub guests : List Guest
   pub streams : List Stream
-  -- of each host writer, by its number, what is kept of it. Ours: the crate keeps its producers in
+  -- of each host writer, by its number, what is kept of it. Ours: wasmtime keeps its producers in
   -- the streams
   pub producers : List Producer
   pub contexts : Contexts
@@ -157,8 +157,8 @@ handles_in_use state = sum_by (λ g. live_of g.handles) state.guests
 abbrev pub sets_in_use : State → ℕ
 sets_in_use state = sum_by (λ g. count_by (λ there. there) g.sets.there) state.guests
 
--- a stream takes three places until both ends are gone, a set and an error context one each. Ours: the
--- crate's tables of transmits, of sets and of error contexts
+-- a stream takes three places until both ends are gone, a set and an error context one each. Ours:
+-- wasmtime has tables of transmits, of sets and of error contexts
 abbrev pub places_in_use : State → ℕ
 places_in_use state =
     3 * count_by is_live state.streams + sets_in_use state + contexts_there state.contexts

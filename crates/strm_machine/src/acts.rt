@@ -3,7 +3,10 @@
 //! Ours. Steps come in pairs, one for each end of a stream, and in groups that name the same things.
 
 ghost use Rattle.std.specs.Prelude.{◌≡◌};
-ghost use Rattle.strm_machine.specs.Acts.{act_of};
+ghost use Rattle.strm_machine.specs.Acts.{act_of, end_named_by};
+ghost use Rattle.strm_machine.specs.declared.acts.Act.TheVariants.{Make, OnEnd, OnLoose, OnSet, OnContext};
+ghost use Rattle.strm_machine.specs.declared.acts.Making.TheVariants.{Between};
+ghost use Rattle.strm_machine.specs.declared.streams.Side.TheVariants.{Writing, Reading};
 
 use crate::chunks::Chunk;
 use crate::steps::Step;
@@ -164,84 +167,36 @@ impl Act {
         ensures { result ≡ act_of step.now }
     {
         match *step {
-            Step::Guest { size } => Act::Make {
-                making: Making::Guest { size },
-            },
-            Step::New { guest, ty } => Act::Make {
-                making: Making::Between {
-                    writer: guest,
-                    reader: guest,
-                    ty,
-                },
-            },
-            Step::Between { writer, reader, ty } => Act::Make {
-                making: Making::Between { writer, reader, ty },
-            },
+            Step::Guest { size } => make(Making::Guest { size }),
+            Step::New { guest, ty } => make_between(guest, guest, ty),
+            Step::Between { writer, reader, ty } => make_between(writer, reader, ty),
             Step::Write {
                 guest,
                 ty,
                 handle,
                 address,
                 count,
-            } => Act::OnEnd {
-                side: Side::Writing,
-                end: NamedEnd { guest, ty, handle },
-                act: EndAct::Operate { address, count },
-            },
+            } => on_writer(guest, ty, handle, EndAct::Operate { address, count }),
             Step::Read {
                 guest,
                 ty,
                 handle,
                 address,
                 count,
-            } => Act::OnEnd {
-                side: Side::Reading,
-                end: NamedEnd { guest, ty, handle },
-                act: EndAct::Operate { address, count },
-            },
-            Step::DropWrite { guest, ty, handle } => Act::OnEnd {
-                side: Side::Writing,
-                end: NamedEnd { guest, ty, handle },
-                act: EndAct::Drop,
-            },
-            Step::DropRead { guest, ty, handle } => Act::OnEnd {
-                side: Side::Reading,
-                end: NamedEnd { guest, ty, handle },
-                act: EndAct::Drop,
-            },
-            Step::CancelWrite { guest, ty, handle } => Act::OnEnd {
-                side: Side::Writing,
-                end: NamedEnd { guest, ty, handle },
-                act: EndAct::Cancel,
-            },
-            Step::CancelRead { guest, ty, handle } => Act::OnEnd {
-                side: Side::Reading,
-                end: NamedEnd { guest, ty, handle },
-                act: EndAct::Cancel,
-            },
+            } => on_reader(guest, ty, handle, EndAct::Operate { address, count }),
+            Step::DropWrite { guest, ty, handle } => on_writer(guest, ty, handle, EndAct::Drop),
+            Step::DropRead { guest, ty, handle } => on_reader(guest, ty, handle, EndAct::Drop),
+            Step::CancelWrite { guest, ty, handle } => on_writer(guest, ty, handle, EndAct::Cancel),
+            Step::CancelRead { guest, ty, handle } => on_reader(guest, ty, handle, EndAct::Cancel),
             Step::Move {
                 guest,
                 ty,
                 handle,
                 to,
-            } => Act::OnEnd {
-                side: Side::Reading,
-                end: NamedEnd { guest, ty, handle },
-                act: EndAct::Move { to },
-            },
-            Step::Lift { guest, ty, handle } => Act::OnEnd {
-                side: Side::Reading,
-                end: NamedEnd { guest, ty, handle },
-                act: EndAct::Lift,
-            },
-            Step::Lower { reader, guest, ty } => Act::OnLoose {
-                reader,
-                act: LooseAct::Lower { guest, ty },
-            },
-            Step::Close { reader } => Act::OnLoose {
-                reader,
-                act: LooseAct::Close,
-            },
+            } => on_reader(guest, ty, handle, EndAct::Move { to }),
+            Step::Lift { guest, ty, handle } => on_reader(guest, ty, handle, EndAct::Lift),
+            Step::Lower { reader, guest, ty } => on_loose(reader, LooseAct::Lower { guest, ty }),
+            Step::Close { reader } => on_loose(reader, LooseAct::Close),
             Step::HostNew { host } => Act::OnHost {
                 host,
                 act: HostAct::New,
@@ -252,54 +207,30 @@ impl Act {
             },
             Step::Drive => Act::Drive,
             Step::Event { guest, handle } => Act::Event { guest, handle },
-            Step::SetNew { guest } => Act::Make {
-                making: Making::Set { guest },
-            },
-            Step::SetJoin { guest, set, handle } => Act::OnSet {
-                guest,
-                set,
-                act: SetAct::Join { handle },
-            },
-            Step::SetPoll { guest, set } => Act::OnSet {
-                guest,
-                set,
-                act: SetAct::Poll,
-            },
-            Step::SetDrop { guest, set } => Act::OnSet {
-                guest,
-                set,
-                act: SetAct::Drop,
-            },
+            Step::SetNew { guest } => make(Making::Set { guest }),
+            Step::SetJoin { guest, set, handle } => on_set(guest, set, SetAct::Join { handle }),
+            Step::SetPoll { guest, set } => on_set(guest, set, SetAct::Poll),
+            Step::SetDrop { guest, set } => on_set(guest, set, SetAct::Drop),
             Step::ErrNew {
                 guest,
                 address,
                 len,
-            } => Act::Make {
-                making: Making::Context {
-                    guest,
-                    address,
-                    len,
-                },
-            },
+            } => make(Making::Context {
+                guest,
+                address,
+                len,
+            }),
             Step::ErrText {
                 guest,
                 handle,
                 address,
-            } => Act::OnContext {
+            } => on_context(guest, handle, ContextAct::Text { address }),
+            Step::ErrMove { guest, handle, to } => on_context(
                 guest,
                 handle,
-                act: ContextAct::Text { address },
-            },
-            Step::ErrMove { guest, handle, to } => Act::OnContext {
-                guest,
-                handle,
-                act: ContextAct::Move { to },
-            },
-            Step::ErrDrop { guest, handle } => Act::OnContext {
-                guest,
-                handle,
-                act: ContextAct::Drop,
-            },
+                ContextAct::Move { to },
+            ),
+            Step::ErrDrop { guest, handle } => on_context(guest, handle, ContextAct::Drop),
             Step::Poke {
                 guest,
                 address,
@@ -318,4 +249,61 @@ impl Act {
             },
         }
     }
+}
+
+#[inline(always)]
+fn make(making: Making) -> Act
+    ensures { result ≡ Make making }
+{
+    Act::Make { making }
+}
+
+#[inline(always)]
+fn make_between(writer: u32, reader: u32, ty: TransmitIndex) -> Act
+    ensures { result ≡ Make (Between writer reader ty) }
+{
+    make(Making::Between { writer, reader, ty })
+}
+
+#[inline(always)]
+fn on_writer(guest: u32, ty: TransmitIndex, handle: u32, act: EndAct) -> Act
+    ensures { result ≡ OnEnd Writing (end_named_by guest ty handle) act }
+{
+    Act::OnEnd {
+        side: Side::Writing,
+        end: NamedEnd { guest, ty, handle },
+        act,
+    }
+}
+
+#[inline(always)]
+fn on_reader(guest: u32, ty: TransmitIndex, handle: u32, act: EndAct) -> Act
+    ensures { result ≡ OnEnd Reading (end_named_by guest ty handle) act }
+{
+    Act::OnEnd {
+        side: Side::Reading,
+        end: NamedEnd { guest, ty, handle },
+        act,
+    }
+}
+
+#[inline(always)]
+fn on_loose(reader: u32, act: LooseAct) -> Act
+    ensures { result ≡ OnLoose reader act }
+{
+    Act::OnLoose { reader, act }
+}
+
+#[inline(always)]
+fn on_set(guest: u32, set: u32, act: SetAct) -> Act
+    ensures { result ≡ OnSet guest set act }
+{
+    Act::OnSet { guest, set, act }
+}
+
+#[inline(always)]
+fn on_context(guest: u32, handle: u32, act: ContextAct) -> Act
+    ensures { result ≡ OnContext guest handle act }
+{
+    Act::OnContext { guest, handle, act }
 }
