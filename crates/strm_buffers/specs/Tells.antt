@@ -120,9 +120,10 @@ abbrev pub writer_record : Lent → Bool → List Item → List Item → Answer 
 writer_record window finish marked holds answer =
     record { room = room_of window.place; finish = finish; items = marked ++ holds; answer = answer }
 
--- a poll for which memory was wanting adds no record
+-- a poll for which memory was wanting adds no record, and holds what it held
 pub record KeepsWriter (old new : WriterTells) : Type 0 where
   pub said : new.said ≡ old.said
+  pub holds : new.holds ≡ old.holds
   pub faults : old.faults ≤ new.faults
   pub closed : new.closed ≡ old.closed
   pub heard : new.heard ≡ old.heard
@@ -171,9 +172,10 @@ reader_record old new finish answer =
       answer = answer;
     }
 
--- a poll for which memory was wanting adds no record
+-- a poll for which memory was wanting adds no record, and tells that it took what it took before
 pub record KeepsReader (old new : ReaderTells) : Type 0 where
   pub said : new.said ≡ old.said
+  pub holds : new.holds ≡ old.holds
   pub faults : old.faults ≤ new.faults
   pub closed : new.closed ≡ old.closed
   pub heard : new.heard ≡ old.heard

@@ -108,6 +108,7 @@ pub fn poll_reader(reader: &mut Box<dyn HostReader>, offer: &mut Offer, finish: 
         (reader_record offer.old offer.new finish answer)
         (first_lent (scalars_of offer.old.payload) offer.old.source offer.new.taken)) }
     ensures no_memory { IfNoMemory result (KeepsReader (reader_tells reader.old) (reader_tells reader.new)) }
+    ensures untaken { IfNoMemory result (offer.new.taken ≡ 0) }
     ensures same { SameOffer offer.old offer.new }
 {
     reader.poll(offer, finish)

@@ -37,6 +37,7 @@ pub trait HostReader: Drop {
             (reader_record offer.old offer.new finish answer)
             (first_lent (scalars_of offer.old.payload) offer.old.source offer.new.taken)) }
         ensures no_memory { IfNoMemory result (KeepsReader (reader_tells self.old) (reader_tells self.new)) }
+        ensures untaken { IfNoMemory result (offer.new.taken ≡ 0) }
         ensures same { SameOffer offer.old offer.new };
 
     /// Lets it take so many items more. `OutOfMemory` changes nothing.

@@ -79,6 +79,7 @@ impl HostReader for CreditReader {
             (reader_record offer.old offer.new finish answer)
             (first_lent (scalars_of offer.old.payload) offer.old.source offer.new.taken)) }
         ensures no_memory { IfNoMemory result (KeepsReader (credit_tells self.old) (credit_tells self.new)) }
+        ensures untaken { IfNoMemory result (offer.new.taken ≡ 0) }
         ensures same { SameOffer offer.old offer.new }
 
         // It takes what it has credit for, up to a bad item, and answers by what is left of it.
