@@ -2,12 +2,16 @@
 //!
 //! Source: ours.
 
-ghost use Rattle.std.specs.Prelude.{◌≡◌, ◌+◌, ◌≤◌, ◌++◌, length, take, replicate, vec_capacity, OnOk, OnErr};
+ghost use Rattle.std.specs.Prelude.{◌≡◌, ◌+◌, ◌≤◌, ◌++◌, length, take, replicate, OnOk, OnErr};
 ghost use Rattle.strm_memory.specs.Bytes.{put_at, IsBytes};
 ghost use Rattle.strm_buffers.specs.Windows.{last_of};
 ghost use Rattle.strm_buffers.specs.Keeping.{end_kept, kept_after, space_needed};
 
+use smallvec::SmallVec;
 use strm_codes::counts::OutOfMemory;
+
+// Bytes that a window keeps: up to 64 in the window itself.
+pub(crate) type Kept = SmallVec<u8, 64>;
 
 // Where the bytes of a room end: at the room's end, or at that of all bytes.
 pub(crate) fn end_of(address: usize, room: Option<u32>, len: usize) -> usize
@@ -21,10 +25,10 @@ pub(crate) fn end_of(address: usize, room: Option<u32>, len: usize) -> usize
 }
 
 // Keeps the bytes of a stated room, where none are kept yet.
-pub(crate) fn keep(kept: &mut Vec<u8>, room: Option<u32>, bytes: &[u8])
-    requires { space_needed room (length bytes.now) ≤ vec_capacity kept.old }
+pub(crate) fn keep(kept: &mut Kept, room: Option<u32>, bytes: &[u8])
+    requires { space_needed room (length bytes.now) ≤ kept.old.capacity }
     ensures kept { kept.new.items ≡ kept_after room kept.old.items bytes.now }
-    ensures space { vec_capacity kept.old ≤ vec_capacity kept.new }
+    ensures space { kept.old.capacity ≤ kept.new.capacity }
 {
     if room.is_none() || !kept.is_empty() {
         return;

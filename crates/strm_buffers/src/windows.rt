@@ -13,7 +13,8 @@ ghost use Rattle.strm_buffers.specs.Listing.{LieIn, items_in};
 ghost use Rattle.strm_buffers.specs.Windows.{Between, room_of, HasRoom, CanCount, IsBehind, lent_memory, lent_between, with_items, with_marked, with_direct, memory_of, standing, IsSoundPlace};
 
 use crate::items::{Items, append_item, append_items, item_place, write_item, write_items};
-use crate::kept_bytes::{append_zeros, are_bytes, end_of, keep, last_of, put_back};
+use crate::kept_bytes::{Kept, append_zeros, are_bytes, end_of, keep, last_of, put_back};
+use smallvec::SmallVec;
 use std::alloc::Global;
 use std::marker::Model;
 use strm_codes::counts::OutOfMemory;
@@ -33,18 +34,17 @@ pub struct Window {
     marked: u32,
     is_prepared: bool,
     // Once bytes of a memory were lent: the last ones of the room as they were before.
-    kept: Vec<u8>,
+    kept: Kept,
 }
 
 impl Model for Window {
-    ghost use Rattle.std.specs.Prelude.{vec_capacity};
     ghost use Rattle.strm_buffers.specs.Windows.{Lent, window_kept, IsWindow};
 
     ghost Value = { Lent };
 
     ghost view = { λ w. window_kept w.payload w.bytes.items w.kept.items w.address w.room w.marked w.is_prepared };
 
-    ghost invariant = { λ w. IsWindow w.payload w.bytes.items w.kept.items (vec_capacity w.kept) w.address w.room w.marked w.is_prepared };
+    ghost invariant = { λ w. IsWindow w.payload w.bytes.items w.kept.items w.kept.capacity w.address w.room w.marked w.is_prepared };
 }
 
 impl Window {
@@ -66,7 +66,7 @@ impl Window {
             room: Some(room),
             marked: 0,
             is_prepared: false,
-            kept: Vec::new(alloc),
+            kept: SmallVec::new(alloc),
         }
     }
 
@@ -81,12 +81,12 @@ impl Window {
             room: None,
             marked: 0,
             is_prepared: true,
-            kept: Vec::new(alloc),
+            kept: SmallVec::new(alloc),
         }
     }
 
     /// Takes the memory in which `unmarked` keeps what it lends: as much as the room of bytes in a
-    /// guest's memory, else none. After `OutOfMemory` nothing has changed.
+    /// guest's memory, where that is more than 64, else none. After `OutOfMemory` nothing has changed.
     #[inline(always)]
     pub fn prepare(&mut self) -> Result<(), OutOfMemory>
         ensures ok { OnOk result (self.new ≡ record self.old { prepared = true }) }
@@ -96,7 +96,7 @@ impl Window {
             (Payload::One(Scalar::U8), Some(room)) => room as usize,
             _ => 0,
         };
-        match self.kept.reserve(most) {
+        match self.kept.reserve_exact(most) {
             Ok(()) => {
                 self.is_prepared = true;
                 Ok(())
@@ -281,7 +281,7 @@ impl Window {
             Some(room) => {
                 let left = payload.size() as usize * (room - marked) as usize;
                 let from = item_place(address, payload, marked);
-                put_back(&mut bytes, from, last_of(&kept, left));
+                put_back(&mut bytes, from, last_of(kept.as_slice(), left));
                 (GuestMemory::of_bytes(bytes), marked)
             }
             None => unreachable!(),
