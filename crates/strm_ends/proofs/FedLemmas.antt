@@ -1,7 +1,7 @@
 -- Some of the items that lie in bytes, and one feed more behind all others.
 use Rattle.std.proofs.Common.{◌≡◌, ℕ, ◌+◌, ◌*◌, ◌-◌, ◌≤◌, List, [], ◌∷◌, ◌++◌, length, take, drop, map, Some, refl, sym, ap, subst, ◌∙◌, arith, length-append, length-drop}
-use Rattle.std.proofs.lemmas.List.{drop_at, take_all, drop-append-le, take-append-le, take-append-drop, length-take-le, map-append}
-use Rattle.std.proofs.lemmas.List.Elements.{All-head, All-tail, All-weaker, All-push}
+use Rattle.std.proofs.lemmas.List.{nil_from_length, take_all, drop-append-le, take-append-le, take-append-drop, length-take-le}
+use Rattle.std.proofs.lemmas.List.Elements.{All-head, All-tail}
 use Rattle.std.specs.Prelude.{All}
 use Rattle.strm_codes.specs.Layout.{scalars_of, item_size}
 use Rattle.strm_codes.specs.declared.payloads.Payload.{Payload}
@@ -9,7 +9,7 @@ use Rattle.strm_memory.specs.Items.{items, AreItems}
 use Rattle.strm_buffers.specs.Listing.{items_in}
 use Rattle.strm_buffers.proofs.ListingLemmas.{Lie, lie_more}
 use Rattle.strm_ends.specs.Queues.{items_fed}
-use Rattle.strm_ends.specs.Fed.{AllFed, more_fed, bytes_of_feed, heard_of, heard_kept, fed_kept, LiesThere, IsFed}
+use Rattle.strm_ends.specs.Fed.{AllFed, more_fed, heard_kept, fed_kept, item_bytes, other_bytes, IsFed}
 use Rattle.strm_ends.specs.declared.feeds.Feed.{Feed}
 
 -- a part of a list stays where it is when more comes behind all
@@ -25,31 +25,43 @@ map_same f g (x ∷ xs) a =
     let others : map f xs ≡ map g xs = map_same f g xs (All-tail (λ y. f y ≡ g y) x xs a) in
     cc
 
-module _ (bytes rest more left : List ℕ) (feeds : List Feed) (f : All (LiesThere bytes rest) feeds) where
-  heard-more : heard_kept (bytes ++ more) (rest ++ left) feeds ≡ heard_kept bytes rest feeds
-  heard-more =
-      map_same (heard_of (bytes ++ more) (rest ++ left)) (heard_of bytes rest) feeds (All-weaker (LiesThere bytes rest) (λ (feed : Feed). heard_of (bytes ++ more) (rest ++ left) feed ≡ heard_of bytes rest feed)
-      (λ (feed : Feed) h. rw (part-more bytes more feed.start feed.len h.0, part-more rest left feed.rest_start feed.rest_len h.1) refl) feeds f)
+-- a feed of these bytes
+abbrev pub feed_of : ℕ → List ℕ → List ℕ → Feed
+feed_of records given left = record { records = records; len = length given; rest_len = length left }
 
-  there-more : All (LiesThere (bytes ++ more) (rest ++ left)) feeds
-  there-more =
-      All-weaker (LiesThere bytes rest) (LiesThere (bytes ++ more) (rest ++ left))
-      (λ (feed : Feed) h. (omega (arith, h.0, length-append bytes more), omega (arith, h.1, length-append rest left))) feeds f
+item_bytes-more : (feeds : List Feed) (feed : Feed) → item_bytes (feeds ++ feed ∷ []) ≡ item_bytes feeds + feed.len
+item_bytes-more [] feed = omega arith
+item_bytes-more (f ∷ feeds) feed = omega (arith, item_bytes-more feeds feed)
 
--- the place of a feed behind all others, of which so many bytes are those of items
-abbrev pub feed_behind : List ℕ → List ℕ → ℕ → List ℕ → ℕ → Feed
-feed_behind bytes rest records given k =
-    record { records = records; start = length bytes; len = k; rest_start = length rest; rest_len = length given - k }
+other_bytes-more : (feeds : List Feed) (feed : Feed) → other_bytes (feeds ++ feed ∷ []) ≡ other_bytes feeds + feed.rest_len
+other_bytes-more [] feed = omega arith
+other_bytes-more (f ∷ feeds) feed = omega (arith, other_bytes-more feeds feed)
 
-bytes_behind : (bytes rest given : List ℕ) (records k : ℕ) → k ≤ length given → bytes_of_feed (bytes ++ take k given) (rest ++ drop k given) (feed_behind bytes rest records given k) ≡ given
-bytes_behind bytes rest given records k h =
-    let n = length-take-le k given h in
-    let m = length-drop k given in
-    ap (λ l. take k l ++ take (length given - k) (drop (length rest) (rest ++ drop k given))) (drop_at bytes (take k given) (length bytes) refl)
-    ∙ ap (λ l. take k (take k given) ++ take (length given - k) l) (drop_at rest (drop k given) (length rest) refl)
-    ∙ ap (λ l. l ++ take (length given - k) (drop k given)) (take_all k (take k given) (omega (arith, n)))
-    ∙ ap (λ l. take k given ++ l) (take_all (length given - k) (drop k given) (omega (arith, m)))
-    ∙ take-append-drop k given
+-- all that are there are the last
+all_last : (bytes more : List ℕ) → length bytes ≡ 0 → take (length more) (bytes ++ more) ≡ more
+all_last bytes more none =
+    ap (λ l. take (length more) (l ++ more)) (nil_from_length bytes none) ∙ take_all (length more) more (omega arith)
+
+-- what was heard before stays when more comes behind all bytes, and the last feed has what came
+heard-more : (records : ℕ) (bytes rest given left : List ℕ) (feeds : List Feed) → length bytes ≡ item_bytes feeds → length rest ≡ other_bytes feeds → heard_kept (bytes ++ given) (rest ++ left) (feeds ++ feed_of records given left ∷ []) ≡ heard_kept bytes rest feeds ++ (records, given ++ left) ∷ []
+heard-more records bytes rest given left [] h g =
+    let both : take (length given) (bytes ++ given) ++ take (length left) (rest ++ left) ≡ given ++ left =
+    ap (λ l. l ++ take (length left) (rest ++ left)) (all_last bytes given h) ∙ ap (λ l. given ++ l) (all_last rest left g) in
+    ap (λ b. (records, b) ∷ []) both
+heard-more records bytes rest given left (f ∷ feeds) h g =
+    let in_bytes : f.len ≤ length bytes = omega (arith, h) in
+    let in_rest : f.rest_len ≤ length rest = omega (arith, g) in
+    let fewer : length (drop f.len bytes) ≡ item_bytes feeds = omega (arith, h, length-drop f.len bytes) in
+    let others : length (drop f.rest_len rest) ≡ other_bytes feeds = omega (arith, g, length-drop f.rest_len rest) in
+    let all = feeds ++ feed_of records given left ∷ [] in
+    let first : take f.len (bytes ++ given) ++ take f.rest_len (rest ++ left) ≡ take f.len bytes ++ take f.rest_len rest =
+    ap (λ l. l ++ take f.rest_len (rest ++ left)) (take-append-le f.len bytes given in_bytes) ∙ ap (λ l. take f.len bytes ++ l) (take-append-le f.rest_len rest left in_rest) in
+    let behind : heard_kept (drop f.len (bytes ++ given)) (drop f.rest_len (rest ++ left)) all ≡ heard_kept (drop f.len bytes) (drop f.rest_len rest) feeds ++ (records, given ++ left) ∷ [] =
+    ap (λ l. heard_kept l (drop f.rest_len (rest ++ left)) all) (drop-append-le f.len bytes given in_bytes)
+    ∙ ap (λ l. heard_kept (drop f.len bytes ++ given) l all) (drop-append-le f.rest_len rest left in_rest)
+    ∙ heard-more records (drop f.len bytes) (drop f.rest_len rest) given left feeds fewer others in
+    ap (λ b. (f.records, b) ∷ heard_kept (drop f.len (bytes ++ given)) (drop f.rest_len (rest ++ left)) all) first
+    ∙ ap (λ l. (f.records, take f.len bytes ++ take f.rest_len rest) ∷ l) behind
 
 -- what is kept after a feed
 pub record FedMore (old : AllFed) (records : ℕ) (given : List ℕ) (payload : Payload) (bytes : List ℕ) (len : ℕ) (rest : List ℕ) (feeds : List Feed) : Type 0 where
@@ -65,7 +77,7 @@ pub record AreFed (payload : Payload) (given : List ℕ) (n k : ℕ) : Type 0 wh
   pub few : n ≤ length given
 
 module _ (payload : Payload) (bytes rest : List ℕ) (len : ℕ) (feeds : List Feed) (old : AllFed) (i : IsFed payload bytes len rest feeds) (v : fed_kept payload bytes len rest feeds ≡ old) where
-  pub fed_more : (given : List ℕ) (n k records : ℕ) → AreFed payload given n k → FedMore old records given payload (bytes ++ take k given) (len + n) (rest ++ drop k given) (feeds ++ feed_behind bytes rest records given k ∷ [])
+  pub fed_more : (given : List ℕ) (n k records : ℕ) → AreFed payload given n k → FedMore old records given payload (bytes ++ take k given) (len + n) (rest ++ drop k given) (feeds ++ feed_of records (take k given) (drop k given) ∷ [])
   fed_more given n k records fed =
       let e = fed.lie in
       let f = fed.fit in
@@ -74,9 +86,9 @@ module _ (payload : Payload) (bytes rest : List ℕ) (len : ℕ) (feeds : List F
       let g = fed.few in
       let ss = scalars_of payload in
       let w = item_size ss in
-      let feed = feed_behind bytes rest records given k in
       let new : List ℕ = take k given in
       let left : List ℕ = drop k given in
+      let feed = feed_of records new left in
       let size : length new ≡ k = length-take-le k given h in
       let other : length left ≡ length given - k = length-drop k given in
       let both = length-append bytes new in
@@ -84,15 +96,15 @@ module _ (payload : Payload) (bytes rest : List ℕ) (len : ℕ) (feeds : List F
       let sizes : w * (len + n) ≡ w * len + w * n = grind arith in
       let lie : Lie ss (bytes ++ new) 0 (len + n) (items_in ss bytes 0 len ++ items_fed payload given) =
       subst (λ j. Lie ss (bytes ++ take j given) 0 (len + n) (items_in ss bytes 0 len ++ items_fed payload given)) (sym s) (lie_more ss bytes given 0 len n (items_fed payload given) (record { lie = i.lie; all = omega (arith, i.all) }) e f (omega (arith, s, h))) in
-      let last : LiesThere (bytes ++ new) (rest ++ left) feed = (omega (arith, both, size), omega (arith, beside, other)) in
       let heard : heard_kept (bytes ++ new) (rest ++ left) (feeds ++ feed ∷ []) ≡ heard_kept bytes rest feeds ++ (records, given) ∷ [] =
-      map-append (heard_of (bytes ++ new) (rest ++ left)) feeds (feed ∷ []) ∙ ap (λ l. l ++ heard_kept (bytes ++ new) (rest ++ left) (feed ∷ [])) (heard-more bytes rest new left feeds i.there) ∙ ap (λ b. heard_kept bytes rest feeds ++ (records, b) ∷ []) (bytes_behind bytes rest given records k h) in
+      heard-more records bytes rest new left feeds i.fed i.others ∙ ap (λ b. heard_kept bytes rest feeds ++ (records, b) ∷ []) (take-append-drop k given) in
       record {
         is_fed = record {
           all = omega (arith, i.all, both, size, sizes, s);
           lie = lie.lie;
           counted = omega (arith, i.counted, both, beside, size, other, g, h);
-          there = All-push (LiesThere (bytes ++ new) (rest ++ left)) feeds feed (there-more bytes rest new left feeds i.there) last;
+          fed = omega (arith, i.fed, both, item_bytes-more feeds feed);
+          others = omega (arith, i.others, beside, other_bytes-more feeds feed);
         };
         is = rw (lie.is, heard) (ap (λ (a : AllFed). more_fed a records given) v);
       }

@@ -1,8 +1,7 @@
 -- What a host writer keeps of all that it was fed. Ours.
-use Rattle.std.specs.Prelude.{◌≡◌, ℕ, ◌+◌, ◌*◌, ◌≤◌, All, List, [], ◌∷◌, ◌++◌, length, map}
+use Rattle.std.specs.Prelude.{◌≡◌, ℕ, ◌+◌, ◌*◌, ◌≤◌, List, [], ◌∷◌, ◌++◌, length, take, drop}
 use Rattle.strm_codes.specs.Layout.{scalars_of, item_size}
 use Rattle.strm_codes.specs.declared.payloads.Payload.{Payload}
-use Rattle.strm_memory.specs.Bytes.{bytes_at}
 use Rattle.strm_buffers.specs.Listing.{Item, LieIn, items_in}
 use Rattle.strm_ends.specs.Queues.{items_fed}
 use Rattle.strm_ends.specs.declared.feeds.Feed.{Feed}
@@ -25,20 +24,17 @@ more_fed fed records bytes =
       heard = fed.heard ++ (records, bytes) ∷ [];
     }
 
--- the bytes of a feed: those of its items, and the others
+-- the bytes of the first feed: those of its items, and the others
 abbrev pub bytes_of_feed : List ℕ → List ℕ → Feed → List ℕ
-bytes_of_feed bytes rest feed =
-    bytes_at bytes feed.start feed.len ++ bytes_at rest feed.rest_start feed.rest_len
+bytes_of_feed bytes rest feed = take feed.len bytes ++ take feed.rest_len rest
 
--- what was heard of a feed
-abbrev pub heard_of : List ℕ → List ℕ → Feed → ℕ × List ℕ
-heard_of bytes rest feed = (feed.records, bytes_of_feed bytes rest feed)
-
--- and of all of them
+-- what was heard in each feed: its bytes lie behind those of the feeds before it
 abbrev pub heard_kept : List ℕ → List ℕ → List Feed → List (ℕ × List ℕ)
-heard_kept bytes rest feeds = map (heard_of bytes rest) feeds
+heard_kept bytes rest [] = []
+heard_kept bytes rest (feed ∷ feeds) =
+    (feed.records, bytes_of_feed bytes rest feed) ∷ heard_kept (drop feed.len bytes) (drop feed.rest_len rest) feeds
 
--- how it is kept: the bytes of so many items, all other bytes, and where those of each feed lie
+-- how it is kept: the bytes of so many items, all other bytes, and how many of both each feed has
 abbrev pub fed_kept : Payload → List ℕ → ℕ → List ℕ → List Feed → AllFed
 fed_kept payload bytes len rest feeds =
     record {
@@ -47,14 +43,20 @@ fed_kept payload bytes len rest feeds =
       heard = heard_kept bytes rest feeds;
     }
 
--- the bytes of a feed lie there
-abbrev pub LiesThere : List ℕ → List ℕ → Feed → Type 0
-LiesThere bytes rest feed =
-    (feed.start + feed.len ≤ length bytes) × (feed.rest_start + feed.rest_len ≤ length rest)
+-- how many bytes of all feeds are those of items
+abbrev pub item_bytes : List Feed → ℕ
+item_bytes [] = 0
+item_bytes (feed ∷ feeds) = feed.len + item_bytes feeds
+
+-- and how many are others
+abbrev pub other_bytes : List Feed → ℕ
+other_bytes [] = 0
+other_bytes (feed ∷ feeds) = feed.rest_len + other_bytes feeds
 
 -- what is kept so is what was fed
 pub record IsFed (payload : Payload) (bytes : List ℕ) (len : ℕ) (rest : List ℕ) (feeds : List Feed) : Type 0 where
   pub all : length bytes ≡ item_size (scalars_of payload) * len
   pub lie : LieIn (scalars_of payload) bytes 0 len
   pub counted : len ≤ length bytes + length rest
-  pub there : All (LiesThere bytes rest) feeds
+  pub fed : length bytes ≡ item_bytes feeds
+  pub others : length rest ≡ other_bytes feeds

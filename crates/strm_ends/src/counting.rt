@@ -32,7 +32,10 @@ fn most_items(len: usize, size: usize) -> usize
     ensures within { size * result ≤ len }
     ensures few { result ≤ len }
 {
-    if size == 0 { len } else { len / size }
+    match size {
+        0 | 1 => len,
+        _ => len / size,
+    }
 }
 
 // Whether any bytes are items of this payload.

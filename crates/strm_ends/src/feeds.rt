@@ -3,7 +3,7 @@
 //! The bytes of all items lie one after the other, so that those of a poll are copied at once, and
 //! the others apart from them: each byte is kept once. Source: ours.
 
-ghost use Rattle.std.specs.Prelude.{◌≡◌, ◌+◌, ◌*◌, ◌<◌, ◌≤◌, [], length, take, drop, IfOk, OnOk, OnErr};
+ghost use Rattle.std.specs.Prelude.{◌≡◌, ◌+◌, ◌*◌, ◌<◌, ◌≤◌, [], ◌++◌, length, take, drop, IfOk, OnOk, OnErr};
 ghost use Rattle.strm_codes.specs.Layout.{scalars_of};
 ghost use Rattle.strm_memory.specs.Items.{AreItems};
 ghost use Rattle.strm_buffers.specs.Windows.{HasRoom};
@@ -18,13 +18,12 @@ use strm_buffers::windows::Window;
 use strm_codes::counts::OutOfMemory;
 use strm_codes::payloads::Payload;
 
-// A feed: how many records there were, where the bytes of its items lie, and where the others do.
+// A feed: how many records there were, and how many bytes are those of its items and how many are
+// others. Its bytes lie behind those of the feeds before it.
 #[derive(Clone, Copy, Debug)]
 pub(crate) struct Feed {
     records: usize,
-    start: usize,
     len: usize,
-    rest_start: usize,
     rest_len: usize,
 }
 
@@ -92,25 +91,26 @@ impl Feeds {
     {
         let count = count_items(bytes, &self.payload);
         let (items, rest) = bytes.split_at(self.payload.size() as usize * count);
-        let feed = Feed {
-            records,
-            start: self.bytes.len(),
-            len: items.len(),
-            rest_start: self.rest.len(),
-            rest_len: rest.len(),
-        };
-        if self.feeds.reserve(1).is_err() || self.rest.reserve(rest.len()).is_err() {
+        if self.feeds.reserve(1).is_err() {
             return Err(OutOfMemory);
+        }
+        let rest_before = self.rest.len();
+        match append(&mut self.rest, rest) {
+            Ok(()) => {}
+            Err(error) => return Err(error),
         }
         match self.bytes.extend_from_slice(items) {
             Ok(()) => {}
-            Err(_) => return Err(OutOfMemory),
+            Err(_) => {
+                self.rest.truncate(rest_before);
+                return Err(OutOfMemory);
+            }
         }
-        match self.rest.extend_from_slice(rest) {
-            Ok(()) => {}
-            Err(_) => unreachable!(),
-        }
-        self.feeds.push_reserved(feed);
+        self.feeds.push_reserved(Feed {
+            records,
+            len: items.len(),
+            rest_len: rest.len(),
+        });
         self.len += count;
         Ok(())
     }
@@ -161,5 +161,19 @@ impl Feeds {
         let size = self.payload.size() as usize;
         let (_, behind) = self.bytes.as_slice().split_at(size * start);
         behind.split_at(size * count as usize).0
+    }
+}
+
+// Puts bytes behind others. After `OutOfMemory` nothing has changed.
+fn append(bytes: &mut Vec<u8>, more: &[u8]) -> Result<(), OutOfMemory>
+    ensures ok { OnOk result (bytes.new.items ≡ bytes.old.items ++ more.now) }
+    ensures err { OnErr result (bytes.new.items ≡ bytes.old.items) }
+{
+    if more.is_empty() {
+        return Ok(());
+    }
+    match bytes.extend_from_slice(more) {
+        Ok(()) => Ok(()),
+        Err(_) => Err(OutOfMemory),
     }
 }

@@ -2,13 +2,13 @@
 
 use strm_buffers::answers::Answer;
 
-// A poll: its room, whether it was asked to finish, where its items begin among all that were fed, how
-// many they are, and its answer.
+// A poll: where its items begin among all that were fed, its room, how many they are, whether it was
+// asked to finish, and its answer. In this order it takes the fewest bytes.
 #[derive(Clone, Copy, Debug)]
 pub(crate) struct Poll {
-    pub(crate) room: Option<u32>,
-    pub(crate) finish: bool,
     pub(crate) start: usize,
+    pub(crate) room: Option<u32>,
     pub(crate) count: u32,
+    pub(crate) finish: bool,
     pub(crate) answer: Answer,
 }

@@ -1,8 +1,8 @@
-use Rattle.std.proofs.Common.{◌≡◌, ◌+◌, ◌*◌, ◌-◌, [], ◌∷◌, ◌++◌, length, take, drop, refl, ap, ◌∙◌, arith, length-drop}
+use Rattle.std.proofs.Common.{◌≡◌, ◌+◌, ◌*◌, [], ◌∷◌, ◌++◌, take, drop, refl, ap, ◌∙◌, arith}
 use Rattle.strm_codes.specs.Layout.{scalars_of, item_size}
 use Rattle.strm_ends.specs.Fed.{more_fed, fed_kept}
 use Rattle.strm_ends.specs.declared.feeds.Feed.{Feed}
-use Rattle.strm_ends.proofs.FedLemmas.{AreFed, FedMore, fed_more, feed_behind}
+use Rattle.strm_ends.proofs.FedLemmas.{AreFed, FedMore, fed_more, feed_of}
 use Rattle.strm_ends.proofs.feeds.Feeds.feed.Goals as goal
 
 pub invariant_of-self-2 : goal.invariant_of-self-2
@@ -11,22 +11,16 @@ invariant_of-self-2 c =
     let given = c.args.bytes.now in
     let n = c.count_items-count.result in
     let k = c.size.result * n in
-    let e : k ≡ item_size (scalars_of s.payload) * n = ap (λ w. w * n) c.size.ensures.exact in
     let counted = c.count_items-count.ensures in
+    let e : k ≡ item_size (scalars_of s.payload) * n = ap (λ w. w * n) c.size.ensures.exact in
     let fed : AreFed s.payload given n k = record { lie = counted.lie; fit = counted.fit; size = e; within = omega (arith, e, counted.within); few = counted.few } in
-    let p : FedMore c.args.self.now c.args.records given s.payload (s.bytes.items ++ take k given) (s.len + n) (s.rest.items ++ drop k given) (s.feeds.items ++ feed_behind s.bytes.items s.rest.items c.args.records given k ∷ []) =
+    let p : FedMore c.args.self.now c.args.records given s.payload (s.bytes.items ++ take k given) (s.len + n) (s.rest.items ++ drop k given) (s.feeds.items ++ feed_of c.args.records (take k given) (drop k given) ∷ []) =
     fed_more s.payload s.bytes.items s.rest.items s.len s.feeds.items c.args.self.now c.self.invariant c.self.view_is given n k c.args.records fed in
-    let b : c.extend_from_slice.new.self.items ≡ s.bytes.items ++ take k given = c.in-Ok.ensures.items ∙ ap (λ l. s.bytes.items ++ l) c.split_at.ensures.front in
-    let r : c.extend_from_slice-2.new.self.items ≡ s.rest.items ++ drop k given =
-    c.in-Ok-extend_from_slice.ensures.items ∙ ap (λ l. l ++ c.split_at.result.1.now) c.reserve-else-is_err.ensures.items ∙ ap (λ l. s.rest.items ++ l) c.split_at.ensures.back in
-    let at : c.len.result ≡ length s.bytes.items = omega (arith, c.len.ensures, s.bytes.ok.0) in
-    let beside : c.len-2.result ≡ length s.rest.items = omega (arith, c.len-2.ensures, s.rest.ok.0) in
-    let feed : Feed = record { records = c.args.records; start = c.len.result; len = length c.split_at.result.0.now; rest_start = c.len-2.result; rest_len = length c.split_at.result.1.now } in
-    let front : length c.split_at.result.0.now ≡ k = c.split_at.ensures.front_len in
-    let back : length c.split_at.result.1.now ≡ length given - k = ap length c.split_at.ensures.back ∙ length-drop k given in
-    let same : feed ≡ feed_behind s.bytes.items s.rest.items c.args.records given k = rw (at, beside, front, back) refl in
-    let f : c.push_reserved.new.self.items ≡ s.feeds.items ++ feed_behind s.bytes.items s.rest.items c.args.records given k ∷ [] =
-    c.push_reserved.ensures.items ∙ ap (λ l. l ++ feed ∷ []) c.reserve.ensures.items ∙ ap (λ (x : Feed). s.feeds.items ++ x ∷ []) same in
+    let b : c.extend_from_slice.new.self.items ≡ s.bytes.items ++ take k given = c.in-Ok-extend_from_slice.ensures.items ∙ ap (λ l. s.bytes.items ++ l) c.split_at.ensures.front in
+    let r : c.append.new.bytes.items ≡ s.rest.items ++ drop k given = c.in-Ok.ensures.ok ∙ ap (λ l. s.rest.items ++ l) c.split_at.ensures.back in
+    let feed : feed_of c.args.records c.split_at.result.0.now c.split_at.result.1.now ≡ feed_of c.args.records (take k given) (drop k given) = rw (c.split_at.ensures.front, c.split_at.ensures.back) refl in
+    let f : c.push_reserved.new.self.items ≡ s.feeds.items ++ feed_of c.args.records (take k given) (drop k given) ∷ [] =
+    c.push_reserved.ensures.items ∙ ap (λ l. l ++ feed_of c.args.records c.split_at.result.0.now c.split_at.result.1.now ∷ []) c.reserve.ensures.items ∙ ap (λ (x : Feed). s.feeds.items ++ x ∷ []) feed in
     rw (b, r, f) p.is_fed
 
 pub returns-clause-ok : goal.returns-clause-ok
@@ -35,21 +29,15 @@ returns-clause-ok c =
     let given = c.args.bytes.now in
     let n = c.count_items-count.result in
     let k = c.size.result * n in
-    let e : k ≡ item_size (scalars_of s.payload) * n = ap (λ w. w * n) c.size.ensures.exact in
     let counted = c.count_items-count.ensures in
+    let e : k ≡ item_size (scalars_of s.payload) * n = ap (λ w. w * n) c.size.ensures.exact in
     let fed : AreFed s.payload given n k = record { lie = counted.lie; fit = counted.fit; size = e; within = omega (arith, e, counted.within); few = counted.few } in
-    let p : FedMore c.args.self.now c.args.records given s.payload (s.bytes.items ++ take k given) (s.len + n) (s.rest.items ++ drop k given) (s.feeds.items ++ feed_behind s.bytes.items s.rest.items c.args.records given k ∷ []) =
+    let p : FedMore c.args.self.now c.args.records given s.payload (s.bytes.items ++ take k given) (s.len + n) (s.rest.items ++ drop k given) (s.feeds.items ++ feed_of c.args.records (take k given) (drop k given) ∷ []) =
     fed_more s.payload s.bytes.items s.rest.items s.len s.feeds.items c.args.self.now c.self.invariant c.self.view_is given n k c.args.records fed in
-    let b : c.extend_from_slice.new.self.items ≡ s.bytes.items ++ take k given = c.in-Ok.ensures.items ∙ ap (λ l. s.bytes.items ++ l) c.split_at.ensures.front in
-    let r : c.extend_from_slice-2.new.self.items ≡ s.rest.items ++ drop k given =
-    c.in-Ok-extend_from_slice.ensures.items ∙ ap (λ l. l ++ c.split_at.result.1.now) c.reserve-else-is_err.ensures.items ∙ ap (λ l. s.rest.items ++ l) c.split_at.ensures.back in
-    let at : c.len.result ≡ length s.bytes.items = omega (arith, c.len.ensures, s.bytes.ok.0) in
-    let beside : c.len-2.result ≡ length s.rest.items = omega (arith, c.len-2.ensures, s.rest.ok.0) in
-    let feed : Feed = record { records = c.args.records; start = c.len.result; len = length c.split_at.result.0.now; rest_start = c.len-2.result; rest_len = length c.split_at.result.1.now } in
-    let front : length c.split_at.result.0.now ≡ k = c.split_at.ensures.front_len in
-    let back : length c.split_at.result.1.now ≡ length given - k = ap length c.split_at.ensures.back ∙ length-drop k given in
-    let same : feed ≡ feed_behind s.bytes.items s.rest.items c.args.records given k = rw (at, beside, front, back) refl in
-    let f : c.push_reserved.new.self.items ≡ s.feeds.items ++ feed_behind s.bytes.items s.rest.items c.args.records given k ∷ [] =
-    c.push_reserved.ensures.items ∙ ap (λ l. l ++ feed ∷ []) c.reserve.ensures.items ∙ ap (λ (x : Feed). s.feeds.items ++ x ∷ []) same in
-    let is : fed_kept s.payload c.extend_from_slice.new.self.items (s.len + n) c.extend_from_slice-2.new.self.items c.push_reserved.new.self.items ≡ more_fed c.args.self.now c.args.records given = rw (b, r, f) p.is in
+    let b : c.extend_from_slice.new.self.items ≡ s.bytes.items ++ take k given = c.in-Ok-extend_from_slice.ensures.items ∙ ap (λ l. s.bytes.items ++ l) c.split_at.ensures.front in
+    let r : c.append.new.bytes.items ≡ s.rest.items ++ drop k given = c.in-Ok.ensures.ok ∙ ap (λ l. s.rest.items ++ l) c.split_at.ensures.back in
+    let feed : feed_of c.args.records c.split_at.result.0.now c.split_at.result.1.now ≡ feed_of c.args.records (take k given) (drop k given) = rw (c.split_at.ensures.front, c.split_at.ensures.back) refl in
+    let f : c.push_reserved.new.self.items ≡ s.feeds.items ++ feed_of c.args.records (take k given) (drop k given) ∷ [] =
+    c.push_reserved.ensures.items ∙ ap (λ l. l ++ feed_of c.args.records c.split_at.result.0.now c.split_at.result.1.now ∷ []) c.reserve.ensures.items ∙ ap (λ (x : Feed). s.feeds.items ++ x ∷ []) feed in
+    let is : fed_kept s.payload c.extend_from_slice.new.self.items (s.len + n) c.append.new.bytes.items c.push_reserved.new.self.items ≡ more_fed c.args.self.now c.args.records given = rw (b, r, f) p.is in
     is

@@ -1,8 +1,7 @@
-use Rattle.std.proofs.Common.{◌≡◌, [], length, ap, arith, refl}
-use Rattle.std.proofs.lemmas.List.Elements.{All-nil, All-same}
+use Rattle.std.proofs.Common.{◌≡◌, length, sym, ap, ◌∙◌, arith, refl}
 use Rattle.strm_codes.specs.Layout.{scalars_of}
 use Rattle.strm_buffers.proofs.ListingLemmas.{lie_none}
-use Rattle.strm_ends.specs.Fed.{nothing_fed, fed_kept, LiesThere}
+use Rattle.strm_ends.specs.Fed.{nothing_fed, fed_kept, item_bytes, other_bytes}
 use Rattle.strm_ends.proofs.feeds.Feeds.new.Goals as goal
 
 pub invariant_of-result : goal.invariant_of-result
@@ -10,7 +9,8 @@ invariant_of-result c = record {
   all = omega (arith, ap length c.new.ensures.items);
   lie = (lie_none (scalars_of c.args.payload) c.new.result.items 0 (omega arith)).lie;
   counted = omega arith;
-  there = All-same (LiesThere c.new.result.items c.new-2.result.items) c.new-3.result.items [] c.new-3.ensures.items (All-nil (LiesThere c.new.result.items c.new-2.result.items));
+  fed = ap length c.new.ensures.items ∙ sym (ap item_bytes c.new-3.ensures.items);
+  others = ap length c.new-2.ensures.items ∙ sym (ap other_bytes c.new-3.ensures.items);
 }
 
 pub returns : goal.returns
