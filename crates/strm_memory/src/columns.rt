@@ -19,7 +19,7 @@ pub(crate) struct Column {
     pub(crate) count: usize,
 }
 
-// Whether each of the field's bytes stand for a number.
+// Whether this field's bytes stand for a number in each item.
 pub(crate) fn is_good_column(source: &[u8], from: usize, scalar: Scalar, column: Column) -> bool
     requires inside { column.start + size_of scalar ≤ column.size }
     requires holds { from + column.size * column.count ≤ length source.now }

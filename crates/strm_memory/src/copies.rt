@@ -78,7 +78,7 @@ pub fn copy_region(
     }
 }
 
-// The same, item by item.
+// The same where items have characters, flags or padding: all are tested first, then copied.
 fn copy_fields(
     source: &[u8],
     from: usize,
@@ -104,8 +104,7 @@ fn copy_fields(
     Ok(())
 }
 
-// The items of a block, whose fields are gone through one after the other: as many as 8192 bytes
-// hold, or nearly so, since these stay near.
+// How many items are tested at once, field by field: at most 8,192 bytes of them, which stay near.
 fn items_in_block(size: usize) -> usize
     ensures { 0 < result }
 {

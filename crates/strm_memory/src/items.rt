@@ -120,7 +120,7 @@ pub fn lower_item_at(item: &Value, payload: Payload, bytes: &mut [u8], to: usize
     lower_item(payload.scalars(), item, bytes, to);
 }
 
-// The same from the item's fields. Each number is written once.
+// Lifts an item into an empty one, field by field: whether there is one. Each number is written once.
 fn lift_fields_into(fields: &[Scalar], bytes: &[u8], from: usize, item: &mut Value) -> bool
     requires few { length fields.now ≤ 8 }
     requires holds { from + end_offset 0 fields.now ≤ length bytes.now }
