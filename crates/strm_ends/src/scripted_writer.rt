@@ -188,6 +188,7 @@ impl ScriptedWriter {
         ensures turns { OnOk result (self.new.turns.items ≡ drop 1 self.old.turns.items) }
         ensures err { OnErr result (self.new.said.items ≡ self.old.said.items) }
         ensures same_turns { OnErr result (self.new.turns.items ≡ self.old.turns.items) }
+        ensures same_held { OnErr result (self.new.held.items ≡ self.old.held.items) }
         ensures kind { self.new.kind ≡ self.old.kind }
         ensures same_payload { self.new.payload ≡ self.old.payload }
         ensures closed { self.new.closed ≡ self.old.closed }
