@@ -1,7 +1,8 @@
 -- Items put into a window.
-use Rattle.std.proofs.Common.{◌≡◌, ℕ, zero, suc, ◌+◌, ◌-◌, ◌*◌, ◌<◌, ◌≤◌, inl, inr, Bool, pos, negsuc, List, [], ◌∷◌, ◌++◌, length, take, drop, Option, Some, None, refl, sym, ap, subst, ◌∙◌, arith, get_or}
+use Rattle.std.proofs.Common.{◌≡◌, ℕ, zero, suc, ◌+◌, ◌-◌, ◌*◌, ◌<◌, ◌≤◌, inl, inr, Bool, pos, negsuc, List, [], ◌∷◌, ◌++◌, length, take, drop, Option, Some, None, refl, sym, ap, subst, ◌∙◌, arith, length-append, get_or}
 use Rattle.std.proofs.lemmas.Int.{ints}
-use Rattle.std.proofs.lemmas.List.{drop-drop, drop-take, drop_all}
+use Rattle.std.proofs.lemmas.List.{drop-drop, drop-take, drop_all, length-take-le, length-replicate}
+use Rattle.std.specs.Prelude.{replicate}
 use Rattle.std.proofs.Math.Nat.{mul-le-mul_left}
 use Rattle.strm_codes.specs.Layout.{scalars_of, item_size}
 use Rattle.strm_codes.specs.Items.{FitsItem}
@@ -11,6 +12,7 @@ use Rattle.strm_codes.specs.declared.payloads.Payload.{Payload}
 use Rattle.strm_memory.specs.Bytes.{put_at, bytes_at}
 use Rattle.strm_memory.specs.Items.{stored_at, AreItems, byte_items}
 use Rattle.strm_memory.proofs.RegionLemmas.{length-stored_at, drop-stored_at}
+use Rattle.strm_buffers.specs.Keeping.{with_space}
 use Rattle.strm_buffers.specs.Listing.{Item, LieIn, items_in}
 use Rattle.strm_buffers.specs.Windows.{Lent, Between, HasRoom, with_items, last_of, place_kept, window_kept, KeepsRest, IsRoom, IsWindow}
 use Rattle.strm_buffers.proofs.ListingLemmas.{length-items_in, lie_put, stored_past, pushed}
@@ -194,8 +196,11 @@ module _ (payload : Payload) (bytes kept : List ℕ) (space address marked : ℕ
 
   -- more items of a window, whichever its room
   module _ (room : Option ℕ) (v : Lent) (w : IsWindow payload bytes kept space address room marked prepared) (e : window_kept payload bytes kept address room marked prepared ≡ v) (xs : List Item) (h : HasRoom v.place (length v.marked) (length xs)) (at : ℕ) (n : at ≡ next_place) where
-    pub put_some : (r : ℕ) (new : List ℕ) → room ≡ Some r → AreItems (scalars_of v.payload) xs
-        → new ≡ stored_at (scalars_of payload) bytes at xs → Kept payload new kept space address room (marked + length xs) prepared (with_items v xs)
+    abbrev AreMarked : List ℕ → Type 0
+    AreMarked new = Kept payload new kept space address room (marked + length xs) prepared (with_items v xs)
+
+    put_some : (r : ℕ) (new : List ℕ) → room ≡ Some r → AreItems (scalars_of v.payload) xs
+        → new ≡ stored_at (scalars_of payload) bytes at xs → AreMarked new
     put_some r new o f s =
         let w' = subst (λ (q : Option ℕ). IsWindow payload bytes kept space address q marked prepared) o w in
         let e' = subst (λ (q : Option ℕ). window_kept payload bytes kept address q marked prepared ≡ v) o e in
@@ -204,8 +209,8 @@ module _ (payload : Payload) (bytes kept : List ℕ) (space address marked : ℕ
         subst (λ (q : Option ℕ). Kept payload new kept space address q (marked + length xs) prepared (with_items v xs)) (sym o)
         (record { is_window = k.is_window; is = k.is ∙ ap (λ (u : Lent). with_items u xs) e' })
 
-    pub put_none : (zeros : ℕ) (new : List ℕ) → room ≡ None → AreItems (scalars_of v.payload) xs → zeros ≡ item_size (scalars_of payload) * length xs
-        → new ≡ put_past at zeros xs → Kept payload new kept space address room (marked + length xs) prepared (with_items v xs)
+    put_none : (zeros : ℕ) (new : List ℕ) → room ≡ None → AreItems (scalars_of v.payload) xs → zeros ≡ item_size (scalars_of payload) * length xs
+        → new ≡ put_past at zeros xs → AreMarked new
     put_none zeros new o f z s =
         let w' = subst (λ (q : Option ℕ). IsWindow payload bytes kept space address q marked prepared) o w in
         let e' = subst (λ (q : Option ℕ). window_kept payload bytes kept address q marked prepared ≡ v) o e in
@@ -213,6 +218,12 @@ module _ (payload : Payload) (bytes kept : List ℕ) (space address marked : ℕ
         let k = subst (λ b. MarksMore None b xs) (sym s) (put_between at zeros xs w' f' (room_between (length xs) v w' e' h) n z) in
         subst (λ (q : Option ℕ). Kept payload new kept space address q (marked + length xs) prepared (with_items v xs)) (sym o)
         (record { is_window = k.is_window; is = k.is ∙ ap (λ (u : Lent). with_items u xs) e' })
+
+    -- whichever its room, with space for them
+    pub put_any : (q : Option ℕ) (zeros : ℕ) (new : List ℕ) → room ≡ q → AreItems (scalars_of v.payload) xs → zeros ≡ item_size (scalars_of payload) * length xs
+        → new ≡ stored_at (scalars_of payload) (with_space q bytes at zeros) at xs → AreMarked new
+    put_any None made new o f z s = put_none made new o f z s
+    put_any (Some r) made new o f z s = put_some r new o f s
 
   -- so many more, of a window of any room
   module _ (room : Option ℕ) (v : Lent) (w : IsWindow payload bytes kept space address room marked prepared) (e : window_kept payload bytes kept address room marked prepared ≡ v) (k : ℕ) (h : HasRoom v.place (length v.marked) k) where
@@ -223,13 +234,20 @@ module _ (payload : Payload) (bytes kept : List ℕ) (space address marked : ℕ
     kept_of q o = subst (λ (q : Option ℕ). window_kept payload bytes kept address q marked prepared ≡ v) o e
 
     -- where they go, and that the marked ones can be counted
-    pub some_inside : (at : ℕ) → at ≡ next_place → (r : ℕ) → room ≡ Some r → (marked + k < 4294967296) × (at + item_size (scalars_of payload) * k ≤ length bytes)
+    some_inside : (at : ℕ) → at ≡ next_place → (r : ℕ) → room ≡ Some r → (marked + k < 4294967296) × (at + item_size (scalars_of payload) * k ≤ length bytes)
     some_inside at n r o =
         let r' = room_memory r k v (window_of (Some r) o) (kept_of (Some r) o) h in
         (omega (arith, r', (window_of (Some r) o).inside.2), put_inside r at k (window_of (Some r) o) r' n)
 
-    pub none_counted : room ≡ None → marked + k < 4294967295
+    none_counted : room ≡ None → marked + k < 4294967295
     none_counted o = room_between k v (window_of None o) (kept_of None o) h
+
+    -- and the same with space for them
+    pub any_inside : (at zeros : ℕ) (q : Option ℕ) → at ≡ next_place → zeros ≡ item_size (scalars_of payload) * k → room ≡ q → (marked + k < 4294967296) × (at + zeros ≤ length (with_space q bytes at zeros))
+    any_inside at made None n z o =
+        let before = length-take-le at bytes (omega (arith, n, w.lie.within)) in
+        (omega (arith, none_counted o), omega (arith, before, length-append (take at bytes) (replicate made 0), length-replicate {A = ℕ} made 0))
+    any_inside at made (Some r) n z o = let inside = some_inside at n r o in (inside.0, omega (arith, z, inside.1))
 
   -- the items with which a source begins, all at once
   module _ (room : Option ℕ) (w : IsWindow payload bytes kept space address room marked prepared) (source : List ℕ) (count at : ℕ) (n : at ≡ next_place) where
@@ -246,7 +264,7 @@ module _ (payload : Payload) (bytes kept : List ℕ) (space address marked : ℕ
     counted : (v : Lent) → LieIn (scalars_of v.payload) source 0 count → HasRoom v.place (length v.marked) count → HasRoom v.place (length v.marked) (length (items_in (scalars_of v.payload) source 0 count))
     counted v l h = subst (HasRoom v.place (length v.marked)) (sym (length-items_in (scalars_of v.payload) source 0 count l)) h
 
-    pub all_some : (v : Lent) → window_kept payload bytes kept address room marked prepared ≡ v → MayMark v → (r : ℕ) (new : List ℕ) → room ≡ Some r → new ≡ stored_at (scalars_of payload) bytes at first → MarksAll new v
+    all_some : (v : Lent) → window_kept payload bytes kept address room marked prepared ≡ v → MayMark v → (r : ℕ) (new : List ℕ) → room ≡ Some r → new ≡ stored_at (scalars_of payload) bytes at first → MarksAll new v
     all_some v e m r new o s =
         let u = window_kept payload bytes kept address room marked prepared in
         let m' = subst MayMark (sym e) m in
@@ -255,7 +273,7 @@ module _ (payload : Payload) (bytes kept : List ℕ) (space address marked : ℕ
         let k = put_some room u w refl (items_in (scalars_of payload) source 0 count) (counted u l' h') at n r new o l'.fit s in
         subst (MarksAll new) e (subst (λ j. Kept payload new kept space address room (marked + j) prepared (with_items u (items_in (scalars_of payload) source 0 count))) (length-items_in (scalars_of payload) source 0 count l') k)
 
-    pub all_none : (v : Lent) → window_kept payload bytes kept address room marked prepared ≡ v → MayMark v → (new : List ℕ) → room ≡ None → new ≡ put_past at (item_size (scalars_of payload) * count) first → MarksAll new v
+    all_none : (v : Lent) → window_kept payload bytes kept address room marked prepared ≡ v → MayMark v → (new : List ℕ) → room ≡ None → new ≡ put_past at (item_size (scalars_of payload) * count) first → MarksAll new v
     all_none v e m new o s =
         let u = window_kept payload bytes kept address room marked prepared in
         let m' = subst MayMark (sym e) m in
@@ -264,3 +282,7 @@ module _ (payload : Payload) (bytes kept : List ℕ) (space address marked : ℕ
         let size = length-items_in (scalars_of payload) source 0 count l' in
         let k = put_none room u w refl (items_in (scalars_of payload) source 0 count) (counted u l' h') at n (item_size (scalars_of payload) * count) new o l'.fit (ap (λ j. item_size (scalars_of payload) * j) (sym size)) s in
         subst (MarksAll new) e (subst (λ j. Kept payload new kept space address room (marked + j) prepared (with_items u (items_in (scalars_of payload) source 0 count))) size k)
+
+    pub all_any : (v : Lent) → window_kept payload bytes kept address room marked prepared ≡ v → MayMark v → (q : Option ℕ) (new : List ℕ) → room ≡ q → new ≡ stored_at (scalars_of payload) (with_space q bytes at (item_size (scalars_of payload) * count)) at first → MarksAll new v
+    all_any v e m None new o s = all_none v e m new o s
+    all_any v e m (Some r) new o s = all_some v e m r new o s

@@ -1,5 +1,5 @@
 -- What a window keeps of the bytes that it lends. Ours.
-use Rattle.std.specs.Prelude.{ℕ, ◌+◌, List, [], ◌∷◌, Option, Some, None}
+use Rattle.std.specs.Prelude.{ℕ, ◌+◌, List, [], ◌∷◌, ◌++◌, take, replicate, Option, Some, None}
 
 -- where the bytes of a room end, of so many
 abbrev pub end_kept : ℕ → Option ℕ → ℕ → ℕ
@@ -16,3 +16,9 @@ kept_after (Some room) (k ∷ kept) bytes = k ∷ kept
 abbrev pub space_needed : Option ℕ → ℕ → ℕ
 space_needed None len = 0
 space_needed (Some room) len = len
+
+-- the bytes with space for so many at a place: those of a stated room have it, else it is made behind
+-- what stands before the place
+abbrev pub with_space : Option ℕ → List ℕ → ℕ → ℕ → List ℕ
+with_space None bytes at count = take at bytes ++ replicate count 0
+with_space (Some room) bytes at count = bytes

@@ -2,12 +2,13 @@
 //!
 //! Source: ours. Layout: Canonical ABI, "Loading" and "Storing".
 
-ghost use Rattle.std.specs.Prelude.{◌≡◌, ℕ, ◌+◌, ◌*◌, ◌^◌, ◌<◌, ◌≤◌, [], ◌∷◌, ◌++◌, length, take, drop, map, replicate, slice_get, Some, IsOk, IfOk, OnOk, OnErr};
+ghost use Rattle.std.specs.Prelude.{◌≡◌, ℕ, ◌+◌, ◌*◌, ◌^◌, ◌<◌, ◌≤◌, [], ◌∷◌, ◌++◌, length, take, drop, map, replicate, slice_get, Some, None, IsOk, IfOk, OnOk, OnErr};
 ghost use Rattle.strm_codes.specs.Layout.{scalars_of, item_size};
 ghost use Rattle.strm_codes.specs.Items.{FitsItem};
 ghost use Rattle.strm_codes.specs.declared.payloads.Payload.TheVariants.{One};
 ghost use Rattle.strm_codes.specs.declared.scalars.Scalar.TheVariants.{U8};
 ghost use Rattle.strm_memory.specs.Items.{stored_at, AreItems};
+ghost use Rattle.strm_buffers.specs.Keeping.{with_space};
 ghost use Rattle.strm_buffers.specs.Listing.{kept_items, items_in, AreKept, LieIn, AreStored};
 
 use crate::kept_bytes::{append_zeros, are_bytes};
@@ -238,6 +239,28 @@ pub(crate) fn append_item(
     Ok(())
 }
 
+// Space for so many items at a place: a stated room has it, else it is made, and the bytes behind the
+// place are given up. After `OutOfMemory`, which comes only where no room is stated, nothing has
+// changed.
+#[inline(always)]
+pub(crate) fn make_space(
+    bytes: &mut Vec<u8>,
+    room: Option<u32>,
+    at: usize,
+    payload: Payload,
+    count: u32,
+) -> Result<(), OutOfMemory>
+    requires { at ≤ length bytes.old.items }
+    ensures ok { OnOk result (bytes.new.items ≡ with_space room bytes.old.items at (item_size (scalars_of payload) * count)) }
+    ensures err { OnErr result (bytes.new.items ≡ bytes.old.items) }
+    ensures out_of_memory { OnErr result (room ≡ None) }
+{
+    match room {
+        Some(_) => Ok(()),
+        None => append_zeros(bytes, at, payload.size() as usize * count as usize),
+    }
+}
+
 // Writes an item at a place.
 pub(crate) fn write_item(bytes: &mut Vec<u8>, at: usize, item: &Value, payload: Payload)
     requires fits { FitsItem (scalars_of payload) item.now }
@@ -245,30 +268,6 @@ pub(crate) fn write_item(bytes: &mut Vec<u8>, at: usize, item: &Value, payload: 
     ensures { bytes.new.items ≡ stored_at (scalars_of payload) bytes.old.items at (item.now ∷ []) }
 {
     lower_item_at(item, payload, bytes.as_mut_slice(), at);
-}
-
-// Cuts bytes off at a place, and puts so many items there with which a source begins. After
-// `OutOfMemory` nothing has changed.
-pub(crate) fn append_items(
-    bytes: &mut Vec<u8>,
-    at: usize,
-    source: &[u8],
-    payload: Payload,
-    count: u32,
-) -> Result<(), OutOfMemory>
-    requires lie { LieIn (scalars_of payload) source.now 0 count }
-    requires inside { at ≤ length bytes.old.items }
-    ensures ok { OnOk result (bytes.new.items ≡ stored_at (scalars_of payload)
-        (take at bytes.old.items ++ replicate (item_size (scalars_of payload) * count) 0) at
-        (items_in (scalars_of payload) source.now 0 count)) }
-    ensures err { OnErr result (bytes.new.items ≡ bytes.old.items) }
-{
-    match append_zeros(bytes, at, payload.size() as usize * count as usize) {
-        Ok(()) => {}
-        Err(error) => return Err(error),
-    }
-    write_items(bytes, at, source, payload, count);
-    Ok(())
 }
 
 // Writes so many items at a place with which a source begins.

@@ -12,7 +12,7 @@ ghost use Rattle.strm_codes.specs.declared.scalars.Scalar.TheVariants.{U8};
 ghost use Rattle.strm_buffers.specs.Listing.{LieIn, items_in};
 ghost use Rattle.strm_buffers.specs.Windows.{Between, room_of, HasRoom, CanCount, IsBehind, lent_memory, lent_between, with_items, with_marked, with_direct, memory_of, standing, IsSoundPlace};
 
-use crate::items::{Items, append_item, append_items, item_place, write_item, write_items};
+use crate::items::{Items, item_place, make_space, write_item, write_items};
 use crate::kept_bytes::{Kept, append_zeros, are_bytes, end_of, keep, last_of, put_back};
 use smallvec::SmallVec;
 use std::alloc::Global;
@@ -159,21 +159,13 @@ impl Window {
         ensures out_of_memory { OnErr result (self.old.place ≡ Between) }
     {
         let at = item_place(self.address, self.payload, self.marked);
-        match self.room {
-            Some(_) => {
-                write_item(&mut self.bytes, at, item, self.payload);
-                self.marked += 1;
-                Ok(())
-            }
-            None => {
-                match append_item(&mut self.bytes, at, item, self.payload) {
-                    Ok(()) => {}
-                    Err(error) => return Err(error),
-                }
-                self.marked += 1;
-                Ok(())
-            }
+        match make_space(&mut self.bytes, self.room, at, self.payload, 1) {
+            Ok(()) => {}
+            Err(error) => return Err(error),
         }
+        write_item(&mut self.bytes, at, item, self.payload);
+        self.marked += 1;
+        Ok(())
     }
 
     /// Marks so many items more, which these bytes begin with, all at once; between host ends the
@@ -187,21 +179,13 @@ impl Window {
         ensures out_of_memory { OnErr result (self.old.place ≡ Between) }
     {
         let at = item_place(self.address, self.payload, self.marked);
-        match self.room {
-            Some(_) => {
-                write_items(&mut self.bytes, at, bytes, self.payload, count);
-                self.marked += count;
-                Ok(())
-            }
-            None => {
-                match append_items(&mut self.bytes, at, bytes, self.payload, count) {
-                    Ok(()) => {}
-                    Err(error) => return Err(error),
-                }
-                self.marked += count;
-                Ok(())
-            }
+        match make_space(&mut self.bytes, self.room, at, self.payload, count) {
+            Ok(()) => {}
+            Err(error) => return Err(error),
         }
+        write_items(&mut self.bytes, at, bytes, self.payload, count);
+        self.marked += count;
+        Ok(())
     }
 
     /// Between host ends gives up the unmarked bytes, and makes so many that are 0; a memory's room
