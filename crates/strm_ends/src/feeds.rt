@@ -27,6 +27,8 @@ pub(crate) struct Feed {
     rest_len: usize,
 }
 
+const _: () = prove!(size_of::<Feed>() <= 24);
+
 // All feeds of a writer.
 #[derive(Drop)]
 pub(crate) struct Feeds {

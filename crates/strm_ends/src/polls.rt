@@ -12,3 +12,5 @@ pub(crate) struct Poll {
     pub(crate) finish: bool,
     pub(crate) answer: Answer,
 }
+
+const _: () = prove!(size_of::<Poll>() <= 24);
