@@ -93,6 +93,7 @@ struct End {
     operation: Option<Operation>,
 }
 
+#[allow(dead_code)]
 struct Stream {
     kind: Kind,
     payload: Payload,
