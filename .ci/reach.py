@@ -361,8 +361,13 @@ def read_body(text, at, item):
     return close + 1
 
 
+def bare(path):
+    """The last word of a type's path, without its type parameters."""
+    return re.sub(r"<.*", "", path, flags=re.S).split("::")[-1].strip("& \n")
+
+
 def owner_of(head):
-    """The trait and the type of an `impl` line."""
+    """The trait, if any, and the type of an `impl`, of which this is what stands behind that word."""
     head = re.sub(r"\bwhere\b.*", "", head, flags=re.S).strip()
     if head.startswith("<"):
         depth = 0
@@ -372,7 +377,6 @@ def owner_of(head):
                 head = head[at + 1:].strip()
                 break
     trait, found, owner = head.partition(" for ")
-    bare = lambda path: re.sub(r"<.*", "", path, flags=re.S).split("::")[-1].strip("& \n")
     return (bare(trait), bare(owner)) if found else (None, bare(head))
 
 
