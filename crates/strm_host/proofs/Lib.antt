@@ -1,3 +1,4 @@
+pub mod AnswerLemmas
 pub mod ErasedLemmas
 pub mod DirectLemmas
 pub mod FutureLemmas

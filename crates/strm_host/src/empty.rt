@@ -37,6 +37,8 @@ impl<T: Payloaded> StreamProducer for Empty<T> {
 
     ghost plan = { λ _. Some (λ room finish. record { items = []; answer = answer.Dropped }) };
 
+    ghost leaves = { λ old room finish new. new ≡ old };
+
     fn poll_produce(
         &mut self,
         destination: Destination<'_, T, Option<T>>,
@@ -44,6 +46,7 @@ impl<T: Payloaded> StreamProducer for Empty<T> {
     ) -> HostTurn
         ensures turn { result ≡ Ready Dropped }
         ensures nothing { destination.exit.0.now ≡ destination.entry.produced.now }
+        ensures same { self.new ≡ self.old }
     {
         let Destination {
             produced: _,

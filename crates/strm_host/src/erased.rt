@@ -104,6 +104,10 @@ impl<P: StreamProducer> HostWriter for Erased<P> {
         ensures plan { IfSome (P.plan self.old.producer) (λ next. IfAnswered result (λ answer.
             next (room_of window.old.place) finish
             ≡ record { items = window.new.marked ++ self.new.held.items; answer = answer })) }
+
+        // And its producer was polled once.
+        ensures leaves { IfAnswered result (λ _.
+            P.leaves self.old.producer (room_of window.old.place) finish self.new.producer) }
     {
         match self.said.reserve(1) {
             Ok(()) => {}

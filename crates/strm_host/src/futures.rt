@@ -1,9 +1,9 @@
 //! Where the value of a future comes from.
 //!
-//! Source: wasmtime, `futures_and_streams.rs`, `FutureProducer`. `faults` and `plan` are ours.
+//! Source: wasmtime, `futures_and_streams.rs`, `FutureProducer`. `faults`, `plan` and `leaves` are ours.
 
 ghost use Rattle.std.specs.Prelude.{◌≡◌, ◌≤◌, [], IfSome};
-ghost use Rattle.strm_host.specs.Futures.{IfFailed, IsPlanned};
+ghost use Rattle.strm_host.specs.Futures.{IfFailed, IfPolled, IsPlanned};
 ghost use Rattle.strm_buffers.specs.Tells.{Rose};
 
 use crate::destinations::Destination;
@@ -13,7 +13,7 @@ use strm_memory::payloaded::Payloaded;
 
 /// A source of one value, which is polled until it gives it.
 pub trait FutureProducer: Drop {
-    ghost use Rattle.std.specs.Prelude.{ℕ, Option, None};
+    ghost use Rattle.std.specs.Prelude.{ℕ, Bool, Option, None, ⊤};
     ghost use Rattle.strm_host.specs.Futures.{FuturePlan};
 
     /// The type of the value.
@@ -25,11 +25,15 @@ pub trait FutureProducer: Drop {
     // What its next poll answers, asked to finish or not, where it tells.
     ghost plan: { Self → Option (FuturePlan Self.Item) } = { λ _. None };
 
+    // What one poll leaves of it, asked to finish or not.
+    ghost leaves: { Self → Bool → Self → Type 0 } = { λ _ _ _. ⊤ };
+
     /// The value, `Pending` while there is none yet, or none where it was asked to finish and gave up.
     fn poll_produce(&mut self, finish: bool) -> Turn<Option<Self::Item>>
         ensures later { faults self.old ≤ faults self.new }
         ensures failed { IfFailed result (Rose (faults self.old) (faults self.new)) }
-        ensures planned { IsPlanned (plan self.old) finish result };
+        ensures planned { IsPlanned (plan self.old) finish result }
+        ensures leaves { IfPolled result (leaves self.old finish self.new) };
 }
 
 /// A producer of a future as one of a stream: it gives the value as its one item.
@@ -62,6 +66,8 @@ impl<F: FutureProducer> StreamProducer for Producer<F> {
 
     ghost plan = { λ producer. stream_plan F.Item.item (F.plan producer.future) };
 
+    ghost leaves = { λ old room finish new. F.leaves old.future finish new.future };
+
     fn poll_produce(
         &mut self,
         destination: Destination<'_, F::Item, Option<F::Item>>,
@@ -74,6 +80,9 @@ impl<F: FutureProducer> StreamProducer for Producer<F> {
         ensures faults { F.faults self.old.future ≤ F.faults self.new.future }
         ensures plan { IfSome (F.plan self.old.future) (λ next. IfAnswered result (λ answer.
             poll_of F.Item.item (next finish) ≡ polled F.Item.item [] (option_items destination.exit.0.now.buffer) answer)) }
+
+        // The future was polled once.
+        ensures leaves { IfAnswered result (λ _. F.leaves self.old.future finish self.new.future) }
     {
         let Destination { produced, items: _ } = destination;
         match self.future.poll_produce(finish) {

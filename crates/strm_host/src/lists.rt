@@ -25,6 +25,8 @@ impl<T: Payloaded> StreamProducer for Vec<T> {
 
     ghost plan = { λ list. list_plan T.item list.items };
 
+    ghost leaves = { λ old room finish new. new.items ≡ list_keeps old.items };
+
     fn poll_produce(
         &mut self,
         destination: Destination<'_, T, VecBuffer<T>>,
@@ -60,6 +62,8 @@ impl<T: Payloaded> StreamProducer for BoxedSlice<T> {
     ghost faults = { λ list. list_faults (boxed_slice_items list) };
 
     ghost plan = { λ list. list_plan T.item (boxed_slice_items list) };
+
+    ghost leaves = { λ old room finish new. boxed_slice_items new ≡ list_keeps (boxed_slice_items old) };
 
     fn poll_produce(
         &mut self,

@@ -1,6 +1,6 @@
 //! What a typed source of a stream's items is.
 //!
-//! Source: wasmtime, `futures_and_streams.rs`, `StreamProducer`. `faults` and `plan` are ours.
+//! Source: wasmtime, `futures_and_streams.rs`, `StreamProducer`. `faults`, `plan` and `leaves` are ours.
 
 ghost use Rattle.std.specs.Prelude.{◌≡◌, ◌+◌, ◌<◌, ◌≤◌, [], true, length, IfSome};
 
@@ -11,7 +11,7 @@ use strm_memory::payloaded::Payloaded;
 
 /// A source of items, polled for as many as there is room for, or more.
 pub trait StreamProducer: Drop {
-    ghost use Rattle.std.specs.Prelude.{ℕ, Option, None};
+    ghost use Rattle.std.specs.Prelude.{ℕ, Bool, Option, None, ⊤};
     ghost use Rattle.strm_buffers.specs.Said.{IfAnswered};
     ghost use Rattle.strm_buffers.specs.Windows.{room_of};
     ghost use Rattle.strm_buffers.specs.Tells.{Fills, Rises};
@@ -28,6 +28,9 @@ pub trait StreamProducer: Drop {
 
     // Its next poll, where it tells that.
     ghost plan: { Self → Plan } = { λ _. None };
+
+    // What one poll leaves of it, by how many items there is room for and whether it is asked to finish.
+    ghost leaves: { Self → Option ℕ → Bool → Self → Type 0 } = { λ _ _ _ _. ⊤ };
 
     /// Produces items: those marked in the window, and behind them those of the buffer, both of which
     /// are empty before.
@@ -48,5 +51,7 @@ pub trait StreamProducer: Drop {
         ensures plan { IfSome (plan self.old) (λ next. IfAnswered result (λ answer.
             next (room_of destination.entry.produced.now.window.place) finish
             ≡ polled Self.Item.item destination.exit.0.now.window.marked
-            (Self.Buffer.items destination.exit.0.now.buffer) answer)) };
+            (Self.Buffer.items destination.exit.0.now.buffer) answer)) }
+        ensures leaves { IfAnswered result (λ _.
+            leaves self.old (room_of destination.entry.produced.now.window.place) finish self.new) };
 }

@@ -49,6 +49,7 @@ pub(crate) fn fetch<P: StreamProducer>(
     ensures fills { Fills window.old window.new }
     ensures plan { IfSome (P.plan producer.old) (λ next. IfOk result (λ f.
         next (room_of window.old.place) finish ≡ record { items = f.items.items; answer = f.answer })) }
+    ensures leaves { IfOk result (λ _. P.leaves producer.old (room_of window.old.place) finish producer.new) }
 {
     window.sound();
     let (answer, items) = match produce(alloc, producer, window, finish) {
@@ -106,6 +107,7 @@ fn produce<P: StreamProducer>(
     ensures fills { Fills window.old window.new }
     ensures plan { IfSome (P.plan producer.old) (λ next. IfOk result (λ done.
         next (room_of window.old.place) finish ≡ record { items = done.1.items; answer = done.0 })) }
+    ensures leaves { IfOk result (λ _. P.leaves producer.old (room_of window.old.place) finish producer.new) }
 {
     let lent = mem::replace(window, Window::unbounded(alloc, P::Item::payload()));
     let mut produced = Produced {

@@ -86,6 +86,8 @@ impl<T: Payloaded> FutureProducer for Turning<T> {
 
     ghost plan = { λ turning. Some (answer_of turning.progress) };
 
+    ghost leaves = { λ old finish new. new ≡ after_poll old.progress old.faults };
+
     fn poll_produce(&mut self, finish: bool) -> Turn<Option<T>>
         ensures later { self.old.faults ≤ self.new.faults }
         ensures failed { IfFailed result (Rose self.old.faults self.new.faults) }

@@ -23,6 +23,8 @@ impl StreamProducer for Countdown {
 
     ghost plan = { λ c. countdown_plan c.left };
 
+    ghost leaves = { λ old room finish new. new.left ≡ old.left - 1 };
+
     fn poll_produce(
         &mut self,
         destination: Destination<'_, u32, Option<u32>>,

@@ -1,5 +1,6 @@
 use Rattle.std.proofs.Common.{refl, arith}
 use Rattle.strm_buffers.proofs.EndLemmas.{Fills-same}
+use Rattle.strm_host.proofs.AnswerLemmas.{whatever_answered}
 use Rattle.strm_host.proofs.empty.EmptyStreamProducer.TheImpl.Goals as goal
 
 pub poll_produce-tells : goal.poll_produce-tells
@@ -10,4 +11,5 @@ poll_produce-tells g x x' c =
       failed = rw c.ensures.turn (omega arith);
       faults = omega arith;
       plan = rw (c.ensures.turn, c.ensures.nothing, c.requires.nothing_marked, c.requires.nothing_buffered) refl;
+      leaves = whatever_answered c.result c.ensures.same;
     }

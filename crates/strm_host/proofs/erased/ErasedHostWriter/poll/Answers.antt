@@ -27,3 +27,6 @@ returns-clause-plan g c =
     let items = c.in-Ok-fetch.fetched.items.items in
     let all : c.fetch.new.window.marked ++ c.in-Ok-fetch.fetched.held.items ≡ items = rw (c.in-Ok-fetch.ensures.marked, c.in-Ok-fetch.ensures.held) (room_parts room items) in
     planned_poll _ _ room c.args.finish (c.fetch.new.window.marked ++ c.in-Ok-fetch.fetched.held.items) items c.in-Ok-fetch.fetched.answer c.turn.ensures all c.in-Ok-fetch.ensures.plan
+
+pub returns-clause-leaves : goal.returns-clause-leaves
+returns-clause-leaves g c = rw c.turn.ensures (IfAnswered-turn_of c.in-Ok-fetch.fetched.answer _ c.in-Ok-fetch.ensures.leaves)

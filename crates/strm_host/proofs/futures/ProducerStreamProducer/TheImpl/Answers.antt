@@ -13,4 +13,5 @@ poll_produce-tells g x x' c =
       faults = c.ensures.faults;
       plan = rw (c.ensures.window, c.requires.nothing_marked)
           (stream_planned g.F.Item.Payloaded.item c.result buffer (g.F.FutureProducer.plan c.args.self.now.future) _ c.args.finish c.ensures.plan);
+      leaves = c.ensures.leaves;
     }

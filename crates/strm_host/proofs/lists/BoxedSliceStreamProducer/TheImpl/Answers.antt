@@ -1,6 +1,7 @@
 use Rattle.std.proofs.Common.{arith}
 use Rattle.std.specs.Box.{boxed_slice_items}
 use Rattle.strm_buffers.proofs.EndLemmas.{Fills-same}
+use Rattle.strm_host.proofs.AnswerLemmas.{whatever_answered}
 use Rattle.strm_host.proofs.ListLemmas.{few_given, failed_aloud, more_faults, as_planned}
 use Rattle.strm_host.proofs.lists.BoxedSliceStreamProducer.TheImpl.Goals as goal
 
@@ -13,4 +14,5 @@ poll_produce-tells g x x' c =
       failed = rw (c.ensures.turn, c.ensures.kept) (failed_aloud items);
       faults = rw c.ensures.kept (more_faults items);
       plan = rw (c.ensures.turn, c.ensures.window, c.requires.nothing_marked, c.ensures.given) (as_planned items g.T.Payloaded.item);
+      leaves = whatever_answered c.result c.ensures.kept;
     }

@@ -1,5 +1,6 @@
 use Rattle.std.proofs.Common.{arith}
 use Rattle.strm_buffers.proofs.EndLemmas.{Fills-same}
+use Rattle.strm_host.proofs.AnswerLemmas.{whatever_answered}
 use Rattle.strm_host_tests.proofs.CountdownLemmas.{few_given, never_failed, as_planned}
 use Rattle.strm_host_tests.proofs.countdown.CountdownStreamProducer.TheImpl.Goals as goal
 
@@ -11,4 +12,5 @@ poll_produce-tells x x' c =
       failed = rw c.ensures.turn (never_failed c.args.self.now.left);
       faults = omega arith;
       plan = rw (c.ensures.turn, c.ensures.window, c.requires.nothing_marked, c.ensures.buffer) (as_planned c.args.self.now.left);
+      leaves = whatever_answered c.result c.ensures.left;
     }

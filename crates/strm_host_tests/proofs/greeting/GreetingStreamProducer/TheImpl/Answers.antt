@@ -1,4 +1,5 @@
 use Rattle.std.proofs.Common.{arith}
+use Rattle.strm_host.proofs.AnswerLemmas.{whatever_answered}
 use Rattle.strm_host_tests.proofs.GreetingLemmas.{greets_fills, few_greeted, never_failed}
 use Rattle.strm_host_tests.proofs.greeting.GreetingStreamProducer.TheImpl.Goals as goal
 
@@ -12,4 +13,5 @@ poll_produce-tells x x' c =
       failed = never_failed c.result c.ensures.turn;
       faults = omega arith;
       plan = tt;
+      leaves = whatever_answered c.result tt;
     }
