@@ -26,8 +26,7 @@ IfPolled turn P = P
 -- a poll answers what was planned, or memory was wanting
 abbrev pub IsPlanned : {A : Type 0} → Option (FuturePlan A) → Bool → Turn (Option A) → Type 0
 IsPlanned None finish turn = Unit {0}
-IsPlanned (Some plan) finish NoMemory = Unit {0}
-IsPlanned (Some plan) finish turn = turn ≡ plan finish
+IsPlanned (Some plan) finish turn = IfPolled turn (turn ≡ plan finish)
 
 -- AS A STREAM
 

@@ -25,7 +25,8 @@ pub trait FutureProducer: Drop {
     // What its next poll answers, asked to finish or not, where it tells.
     ghost plan: { Self → Option (FuturePlan Self.Item) } = { λ _. None };
 
-    // What one poll leaves of it, asked to finish or not.
+    // What a poll leaves of it, unless memory was wanting: the producer before, whether it is asked to
+    // finish, and the producer after.
     ghost leaves: { Self → Bool → Self → Type 0 } = { λ _ _ _. ⊤ };
 
     /// The value, `Pending` while there is none yet, or none where it was asked to finish and gave up.

@@ -29,7 +29,8 @@ pub trait StreamProducer: Drop {
     // Its next poll, where it tells that.
     ghost plan: { Self → Plan } = { λ _. None };
 
-    // What one poll leaves of it, by how many items there is room for and whether it is asked to finish.
+    // What a poll that answers leaves of it: the producer before, how many items there is room for,
+    // whether it is asked to finish, and the producer after.
     ghost leaves: { Self → Option ℕ → Bool → Self → Type 0 } = { λ _ _ _ _. ⊤ };
 
     /// Produces items: those marked in the window, and behind them those of the buffer, both of which

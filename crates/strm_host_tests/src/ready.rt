@@ -1,7 +1,8 @@
-//! Each ready producer once, boxed.
+//! Each ready producer once, boxed, and one that a user would write.
 
 #[cfg(test)]
 mod tests {
+    use crate::countdown::Countdown;
     use std::alloc::Global;
     use std::test::Fail;
     use strm_buffers::answers::{HostTurn, StreamResult, Turn};
@@ -82,6 +83,24 @@ mod tests {
         let empty: Empty<u8> = Empty::new();
         let mut writer: Box<dyn HostWriter> = Box::new(alloc, Erased::stream(alloc, empty))?;
         assert_eq!(rt; writer_kind(&writer), TransmitKind::Stream);
+        let (turn, items) = polled(alloc, &mut writer, false)?;
+        assert_eq!(rt; turn, Turn::Ready(StreamResult::Dropped));
+        assert_eq!(rt; items.len(), 0);
+        Ok(())
+    }
+
+    #[test]
+    fn a_countdown_gives_each_number(rt: HostRuntime) -> Result<(), Fail> {
+        let alloc = rt.alloc();
+        let erased = Erased::stream(alloc, Countdown { left: 2 });
+        let mut writer: Box<dyn HostWriter> = Box::new(alloc, erased)?;
+        let (turn, items) = polled(alloc, &mut writer, false)?;
+        assert_eq!(rt; turn, Turn::Ready(StreamResult::Completed));
+        assert_eq!(rt; items.len(), 1);
+        assert_eq!(rt; items.get(0).as_slice(), [2].as_slice());
+        let (_, items) = polled(alloc, &mut writer, false)?;
+        assert_eq!(rt; items.len(), 1);
+        assert_eq!(rt; items.get(0).as_slice(), [1].as_slice());
         let (turn, items) = polled(alloc, &mut writer, false)?;
         assert_eq!(rt; turn, Turn::Ready(StreamResult::Dropped));
         assert_eq!(rt; items.len(), 0);
