@@ -59,6 +59,7 @@ pub fn return_region(guests: &mut Vec<Guest>, guest: u32, window: Window) -> u32
     ensures guests { seen guests.new.items ≡
         with_memory (seen guests.old.items) guest (memory_of window.place) }
 {
+    // For the clause `room`: the marked items are within the room.
     let _ = window.marked();
     let (memory, marked) = window.into_memory();
     put_memory(guests, guest as usize, memory);

@@ -8,14 +8,14 @@ ghost use Rattle.strm_codes.specs.Layout.{scalars_of, item_size};
 ghost use Rattle.strm_buffers.specs.Listing.{Item};
 ghost use Rattle.strm_machine.specs.Sides.{opposite};
 ghost use Rattle.strm_world.specs.Producing.{produced_result};
-ghost use Rattle.strm_world.specs.Settling.{result_of, went, settled, with_some_received, let_go, moved_on};
+ghost use Rattle.strm_world.specs.Settling.{result_of, settled, with_some_received, let_go, moved_on};
 
 use strm_buffers::answers::Answer;
-use strm_codes::codes::{StreamResult, TransmitKind};
+use strm_codes::codes::StreamResult;
 use strm_codes::counts::ItemCount;
-use strm_codes::payloads::Payload;
 use strm_machine::streams::{Operation, Owner, Side, Stream};
 use strm_turns::sides::{opposite, set_operation};
+use strm_turns::turns::{go_on, receive};
 
 // How an answer settles an operation.
 fn result_of(answer: Answer) -> Option<StreamResult>
@@ -39,20 +39,6 @@ pub fn produced_result(answer: Answer, held: usize) -> Option<StreamResult>
     }
 }
 
-// An operation after so many of its items came from a host end, or went to it.
-fn go(payload: Payload, operation: &Operation, count: ItemCount) -> Operation
-    requires left { count ≤ operation.now.left }
-    requires counted { operation.now.moved + operation.now.left < 2 ^ 28 }
-    requires room { operation.now.address + item_size (scalars_of payload) * count < 2 ^ 32 }
-    ensures { result ≡ went payload operation.now count }
-{
-    let mut next = *operation;
-    next.address += payload.size() * count.as_u32();
-    next.left = operation.left.sub(count);
-    next.moved = operation.moved.add(count);
-    next
-}
-
 // An operation that is settled so, if it is.
 fn settle(operation: Operation, outcome: Option<StreamResult>) -> Operation
     ensures { result ≡ settled outcome operation }
@@ -66,13 +52,12 @@ fn settle(operation: Operation, outcome: Option<StreamResult>) -> Operation
     next
 }
 
-// So many items more were received.
-fn receive(stream: &mut Stream, count: ItemCount)
+// So many items more were received, if any.
+fn receive_some(stream: &mut Stream, count: ItemCount)
     ensures { stream.new ≡ with_some_received stream.old count }
 {
     if count.as_u32() > 0 {
-        stream.passed = stream.passed || stream.kind == TransmitKind::Future;
-        stream.received = stream.received.saturating_add(u128::from(count.as_u32()));
+        receive(stream, count);
     }
 }
 
@@ -103,8 +88,8 @@ pub fn move_on(
     requires room { operation.now.address + item_size (scalars_of stream.old.payload) * count < 2 ^ 32 }
     ensures { stream.new ≡ moved_on side stream.old operation.now count outcome }
 {
-    let gone = go(stream.payload, operation, count);
-    receive(stream, count);
+    let gone = go_on(stream.payload, operation, count);
+    receive_some(stream, count);
     set_operation(stream, side, settle(gone, outcome));
     let_go(stream, opposite(side), outcome);
 }

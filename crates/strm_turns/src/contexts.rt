@@ -111,14 +111,9 @@ pub fn give_context(
     ensures kept { OnErr result (counter.new ≡ counter.old) }
     ensures count { length guests.new.items ≡ length guests.old.items }
 {
-    match reserve(guests, guest, 1) {
-        Ok(()) => {}
-        Err(error) => return Err(error),
-    }
-    match keep_message(guests, contexts, guest, address, len) {
-        Ok(context) => Ok(insert_context(guests, counter, guest, context)),
-        Err(error) => Err(error),
-    }
+    reserve(guests, guest, 1)?;
+    let context = keep_message(guests, contexts, guest, address, len)?;
+    Ok(insert_context(guests, counter, guest, context))
 }
 
 // Counts a handle more to a context that has fewer than a limit.
@@ -127,6 +122,7 @@ fn count_handle(contexts: &mut ErrorContexts, context: u32, limit: usize)
     requires fits { count_at contexts.old context < limit }
     ensures { contexts.new ≡ raised contexts.old context }
 {
+    // For the contract: a count below a word rises within one.
     let _ = limit;
     contexts.add_handle(context);
 }
@@ -158,13 +154,9 @@ pub fn share_context(
     ensures kept { OnErr result (counter.new ≡ counter.old) }
     ensures count { length guests.new.items ≡ length guests.old.items }
 {
-    match reserve(guests, guest, 1) {
-        Ok(()) => {
-            count_handle(contexts, context, counter.limit());
-            Ok(insert_context(guests, counter, guest, context))
-        }
-        Err(error) => Err(error),
-    }
+    reserve(guests, guest, 1)?;
+    count_handle(contexts, context, counter.limit());
+    Ok(insert_context(guests, counter, guest, context))
 }
 
 /// Frees a guest's handle to an error context, by the handle and the context's number; the context

@@ -4,7 +4,7 @@
 //! `canon stream.new`, `lift_stream` and `lower_stream`; the room that is taken before the first
 //! insert is ours.
 
-ghost use Rattle.std.specs.Prelude.{◌≡◌, Ok, ◌+◌, ◌^◌, ◌<◌, ◌≤◌, ℕ, length, IfOk, OnOk, OnErr};
+ghost use Rattle.std.specs.Prelude.{◌≡◌, ◌≢◌, Ok, ◌+◌, ◌^◌, ◌<◌, ◌≤◌, ℕ, length, IsOk, IfOk, OnOk, OnErr};
 ghost use Rattle.strm_handles.specs.Handles.{next_index, inserted, live_of};
 ghost use Rattle.strm_handles.specs.Changes.{Inserts, Removes};
 ghost use Rattle.strm_handles.specs.Counters.{counted, uncounted};
@@ -134,15 +134,10 @@ pub fn insert_ends(
     ensures kept { OnErr result (counter.new ≡ counter.old) }
     ensures count { length guests.new.items ≡ length guests.old.items }
 {
+    // The borrow checker takes a type but once.
     let same = ty;
-    match reserve(guests, reader, 2) {
-        Ok(()) => {}
-        Err(error) => return Err(error),
-    }
-    match reserve(guests, writer, 2) {
-        Ok(()) => {}
-        Err(error) => return Err(error),
-    }
+    reserve(guests, reader, 2)?;
+    reserve(guests, writer, 2)?;
     let read = insert_end(guests, counter, reader, Side::Reading, ty, stream);
     let write = insert_end(guests, counter, writer, Side::Writing, same, stream);
     Ok((read, write))
@@ -186,6 +181,7 @@ pub fn remove_end(guests: &mut Vec<Guest>, counter: &mut HandleCounter, side: Si
     ensures guests { seen guests.new.items
         ≡ without_handle_in (seen guests.old.items) end.now.guest end.now.handle }
     ensures counter { counter.new ≡ uncounted counter.old }
+    ensures room { 0 < room_in guests.new.items end.now.guest }
     ensures rooms { (n : ℕ) → room_in guests.old.items n ≤ room_in guests.new.items n }
     ensures live { live_in (seen guests.new.items) + 1 ≡ live_in (seen guests.old.items) }
     ensures count { length guests.new.items ≡ length guests.old.items }
@@ -219,15 +215,28 @@ pub fn give_end(
     ensures kept { OnErr result (counter.new ≡ counter.old) }
     ensures count { length guests.new.items ≡ length guests.old.items }
 {
-    match reserve(guests, guest, 1) {
-        Ok(()) => Ok(insert_end(guests, counter, guest, side, ty, stream)),
-        Err(error) => Err(error),
+    reserve(guests, guest, 1)?;
+    Ok(insert_end(guests, counter, guest, side, ty, stream))
+}
+
+// Room for a handle that one guest gives up and another gets; within one guest the room that is given
+// up serves.
+fn reserve_move(guests: &mut Vec<Guest>, from: usize, to: usize) -> Result<(), OutOfMemory>
+    requires { to < length guests.old.items }
+    ensures seen { seen guests.new.items ≡ seen guests.old.items }
+    ensures count { length guests.new.items ≡ length guests.old.items }
+    ensures room { OnOk result (from ≢ to → 0 < room_in guests.new.items to) }
+    ensures within { from ≡ to → result ≡ Ok tt }
+{
+    if from == to {
+        return Ok(());
     }
+    reserve(guests, to, 1)
 }
 
 /// Frees the handle of an end that its guest's table shows idle, and gives the end one in another
 /// guest's table, or in the same: answers its number. As many handles are live as before. After want
-/// of memory nothing has changed.
+/// of memory, of which there is none within one guest, nothing has changed.
 pub fn move_end(
     guests: &mut Vec<Guest>,
     counter: &mut HandleCounter,
@@ -251,12 +260,10 @@ pub fn move_end(
     ensures counter { counter.new ≡ counter.old }
     ensures live { live_in (seen guests.new.items) ≡ live_in (seen guests.old.items) }
     ensures err { OnErr result (seen guests.new.items ≡ seen guests.old.items) }
+    ensures within { end.now.guest ≡ to → IsOk result }
     ensures count { length guests.new.items ≡ length guests.old.items }
 {
-    match reserve(guests, to, 1) {
-        Ok(()) => {}
-        Err(error) => return Err(error),
-    }
+    reserve_move(guests, end.guest as usize, to)?;
     remove_end(guests, counter, side, end);
     Ok(insert_end(guests, counter, to, side, end.ty, stream))
 }

@@ -62,7 +62,7 @@ pub fn write_bytes(guests: &mut Vec<Guest>, guest: usize, address: u32, bytes: &
     ensures count { length guests.new.items ≡ length guests.old.items }
 {
     let memory = &mut guests[guest].memory;
-    let _ = memory.store(address, bytes);
+    memory.store(address, bytes).unwrap();
 }
 
 /// So many bytes of a guest's memory.

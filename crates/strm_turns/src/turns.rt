@@ -3,7 +3,7 @@
 //! Meaning: `Turns.antt` and `Meetings.antt` of `strm_machine`. Source: Component Model, "Stream
 //! Readiness"; wasmtime, `guest_write` and `guest_read`, which are one function here.
 
-ghost use Rattle.std.specs.Prelude.{◌≡◌, ◌≢◌, ◌+◌, ◌*◌, ◌^◌, ◌<◌, ◌≤◌, List, true, sum, length, min, Some, None, Ok, OnOk, OnErr};
+ghost use Rattle.std.specs.Prelude.{◌≡◌, ◌≢◌, ◌+◌, ◌-◌, ◌*◌, ◌^◌, ◌<◌, ◌≤◌, List, true, sum, length, min, Some, None, Ok, OnOk, OnErr};
 ghost use Rattle.strm_codes.specs.Layout.{scalars_of, item_size};
 ghost use Rattle.strm_machine.specs.Sides.{opposite, end_of, with_end, write_of, read_of};
 ghost use Rattle.strm_machine.specs.Tests.{is_open_of};
@@ -47,7 +47,26 @@ pub fn begin(guest: u32, address: u32, count: ItemCount) -> Operation
     }
 }
 
-// A waiting operation of which so many items more were moved.
+/// An operation of which so many items more were moved.
+#[inline(always)]
+pub fn go_on(payload: Payload, operation: &Operation, count: ItemCount) -> Operation
+    requires left { count ≤ operation.now.left }
+    requires counted { operation.now.moved + count < 2 ^ 28 }
+    requires room { operation.now.address + item_size (scalars_of payload) * count < 2 ^ 32 }
+    ensures { result ≡ record operation.now {
+      address = operation.now.address + item_size (scalars_of payload) * count;
+      left = operation.now.left - count;
+      moved = operation.now.moved + count;
+    } }
+{
+    let mut next = *operation;
+    next.address += payload.size() * count.as_u32();
+    next.left = operation.left.sub(count);
+    next.moved = operation.moved.add(count);
+    next
+}
+
+// A waiting operation of which so many items more were moved: it has met.
 #[inline(always)]
 fn advance(payload: Payload, operation: &Operation, count: ItemCount) -> Operation
     requires left { count ≤ operation.now.left }
@@ -55,10 +74,7 @@ fn advance(payload: Payload, operation: &Operation, count: ItemCount) -> Operati
     requires room { operation.now.address + item_size (scalars_of payload) * count < 2 ^ 32 }
     ensures { result ≡ advanced payload operation.now count }
 {
-    let mut next = *operation;
-    next.address += payload.size() * count.as_u32();
-    next.left = operation.left.sub(count);
-    next.moved = operation.moved.add(count);
+    let mut next = go_on(payload, operation, count);
     next.is_open = next.left.as_u32() > 0;
     next.met = true;
     next.outcome = StreamResult::Completed;
@@ -78,9 +94,9 @@ fn meeting(write: ItemCount, read: ItemCount) -> Meeting
     }
 }
 
-// So many items more were received.
+/// So many items more were received; a future's value has passed then.
 #[inline(always)]
-fn receive(stream: &mut Stream, count: ItemCount)
+pub fn receive(stream: &mut Stream, count: ItemCount)
     ensures { stream.new ≡ with_received stream.old count }
 {
     stream.passed = stream.passed || stream.kind == TransmitKind::Future;
@@ -287,15 +303,11 @@ fn exchange(
         ≡ taken result guests.new.items stream.new }
 {
     let count = lesser(mine.left, theirs.left);
-    match carry_from(alloc, guests, stream.payload, side, mine, theirs, count) {
-        Ok(()) => {
-            receive(stream, count);
-            let met = advance(stream.payload, theirs, count);
-            set_operation(stream, opposite(side), met);
-            Ok(ReturnCode::completed(stream.kind, count))
-        }
-        Err(bad_item) => Err(bad_item),
-    }
+    carry_from(alloc, guests, stream.payload, side, mine, theirs, count)?;
+    receive(stream, count);
+    let met = advance(stream.payload, theirs, count);
+    set_operation(stream, opposite(side), met);
+    Ok(ReturnCode::completed(stream.kind, count))
 }
 
 // Mine is called where theirs is open.

@@ -7,7 +7,7 @@ use Rattle.strm_machine.specs.State as machine
 use Rattle.strm_machine.specs.State.{with_table, guest_in}
 use Rattle.strm_turns.specs.Guests.{seen, guest_of, live_in}
 use Rattle.strm_turns.proofs.GuestLemmas.{guest_in-seen, seen-with_table, was_ok}
-use Rattle.strm_turns.proofs.EndLemmas.{rooms_after, live_less, removable_live}
+use Rattle.strm_turns.proofs.EndLemmas.{rooms_after, room_after, live_less, removable_live}
 use Rattle.strm_turns.proofs.ends.remove_end.Goals as goal
 
 pub returns-clause-guests : goal.returns-clause-guests
@@ -30,6 +30,16 @@ returns-clause-rooms c = λ n.
     let idle = rw read at c.requires.idle in
     let more = was_ok c.try_remove.result _ (ap is_err (c.try_remove.ensures.answer ∙ idle)) c.try_remove.ensures.removes.room in
     omega (arith, rooms_after guests end.guest x (record x { table = c.try_remove.new.table; sets = c.leave.new.self }) 0 n c.requires.there c.index_mut-guest.ensures.value (omega (arith, more)))
+
+pub returns-clause-room : goal.returns-clause-room
+returns-clause-room c =
+    let guests = c.args.guests.now.items in
+    let end = c.args.end.now in
+    let x = c.index_mut-guest.result.now in
+    let read = guest_in-seen guests end.guest x c.requires.there c.index_mut-guest.ensures.value in
+    let idle = rw read at c.requires.idle in
+    let more = was_ok c.try_remove.result _ (ap is_err (c.try_remove.ensures.answer ∙ idle)) c.try_remove.ensures.removes.room in
+    omega (arith, more, room_after guests end.guest (record x { table = c.try_remove.new.table; sets = c.leave.new.self }) c.requires.there)
 
 pub returns-clause-live : goal.returns-clause-live
 returns-clause-live c =
