@@ -7,7 +7,7 @@ use Rattle.strm_machine.specs.Reactions.{Reaction}
 use Rattle.strm_machine.specs.declared.acts.Act.{Act}
 use Rattle.strm_machine.specs.declared.replies.Reply.{Reply}
 use Rattle.strm_transmit.specs.Meets.{Meets, refused_too}
-use Rattle.strm_transmit.specs.Hosted.{answered, Leaves, MeetsAlone}
+use Rattle.strm_transmit.specs.Hosted.{answered, MayBeDone, Leaves, MeetsAlone}
 use Rattle.strm_transmit.specs.declared.errors.StoreError.{StoreError}
 use Rattle.strm_transmit.specs.declared.errors.StoreError.TheVariants.{Refused, HostFailed, HostBroke, BadItem, StoreTrapped, OutOfMemory}
 use Rattle.strm_transmit.proofs.HostStepLemmas.{Settles}
@@ -42,6 +42,15 @@ refused-leaves old new tells told act (Err (HostBroke end)) l = l
 refused-leaves old new tells told act (Err (BadItem stream)) l = l
 refused-leaves old new tells told act (Err StoreTrapped) l = l
 refused-leaves old new tells told act (Err OutOfMemory) l = l
+
+pub refused-wanting : (old : State) (tells : Tells) (act : Act) (result : Result Reply StoreError) → (result ≡ Err OutOfMemory → MayBeDone old tells act) → refused_too result ≡ Err OutOfMemory → MayBeDone old tells act
+refused-wanting old tells act (Ok reply) m w = cc w
+refused-wanting old tells act (Err (Refused refusal)) m w = cc w
+refused-wanting old tells act (Err (HostFailed end)) m w = cc w
+refused-wanting old tells act (Err (HostBroke end)) m w = cc w
+refused-wanting old tells act (Err (BadItem stream)) m w = cc w
+refused-wanting old tells act (Err StoreTrapped) m w = cc w
+refused-wanting old tells act (Err OutOfMemory) m w = m refl
 
 pub refused-settled : (result : Result Reply StoreError) → Settles result → Settles (refused_too result)
 refused-settled (Ok reply) s = s

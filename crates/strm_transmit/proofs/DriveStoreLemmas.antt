@@ -141,3 +141,4 @@ module _ (old new : State) (tells told : Tells) where
   hosted_drive f result t does =
       hosted_polled old new tells told Drive refl f result
       (Does-as old new tells told (answered (replied f result)) (λ w. driven w (round_of w)) (λ w. outcome w Drive) (λ logs. drive-is (world_of old tells logs) t) does)
+      (record { untrapped = t; none = λ logs. refusal_in-drive (world_of old tells logs) })

@@ -31,11 +31,11 @@ use Rattle.strm_world.proofs.DoesLemmas.{Does-untold, Does-then}
 use Rattle.strm_world.proofs.OutcomeLemmas.{refusal_in-on_end, refusal_in-on_loose}
 use Rattle.strm_world.proofs.ReactedLemmas.{world_of-state}
 use Rattle.strm_transmit.specs.Inside.{AreServed}
-use Rattle.strm_transmit.specs.Hosted.{lone, forsaken_in, MeetsHosted}
+use Rattle.strm_transmit.specs.Hosted.{lone, forsaken_in, MeetsHosted, MayBeDone}
 use Rattle.strm_transmit.proofs.StepLemmas.{IsAdmitted, reacts as reacts_to}
 use Rattle.strm_transmit.proofs.ForsakeLemmas.{without_end}
 use Rattle.strm_transmit.proofs.FitsLemmas.{KeepsTypes, Fits-kept, reaction-types}
-use Rattle.strm_transmit.proofs.HostStepLemmas.{MayBeDone, PerformsAs, does_admitted}
+use Rattle.strm_transmit.proofs.HostStepLemmas.{PerformsAs, does_admitted}
 
 -- the write end of a stream of which the end on a side was dropped
 abbrev pub WriterAfter : Side → Stream → Stream → Type 0
@@ -108,6 +108,7 @@ module _ (old mid : State) (tells : Tells) (act : Act) (s : ℕ) (side : Side) (
     fits = fits;
     alone = λ u. record { meets = d.reaction ∙ ap (goes replies.Done) (sym (same u)); ends = untold u };
     err = tt;
+    wanting = λ w. cc;
   }
 
 -- ## The two drops

@@ -1,12 +1,14 @@
 -- The walk of every call with host ends: one that is not admitted, one that is, and one that touches no
 -- host end and so does what the machine does without them.
-use Rattle.std.proofs.Common.{◌≡◌, false, cond, [], Option, Some, None, Result, Ok, Err, refl, sym, ap, subst, ◌∙◌}
+use Rattle.std.proofs.Common.{◌≡◌, Bool, true, false, cond, [], Option, Some, None, Result, Ok, Err, refl, sym, ap, subst, ◌∙◌}
 use Rattle.std.specs.Prelude.{IfOk, IfErr, IsTrue}
+use Rattle.std.proofs.lemmas.Bool.{true≢false}
 use Rattle.strm_codes.specs.declared.refusals.Refusal.{Refusal}
 use Rattle.strm_buffers.specs.Tells.{Tells}
 use Rattle.strm_machine.specs.State.{State}
 use Rattle.strm_machine.specs.Plays.{is_settled}
 use Rattle.strm_machine.specs.Soundness.{IsSound}
+use Rattle.strm_machine.specs.Refusals.{refusal}
 use Rattle.strm_machine.specs.Reactions.{Reaction, goes, reaction}
 use Rattle.strm_machine.specs.declared.acts.Act.{Act}
 use Rattle.strm_machine.specs.declared.acts.Act.TheVariants.{OnEnd, OnLoose, OnHost}
@@ -15,6 +17,7 @@ use Rattle.strm_machine.specs.declared.acts.LooseAct.TheVariants.{Close}
 use Rattle.strm_machine.specs.declared.replies.Reply.{Reply}
 use Rattle.strm_machine.specs.declared.replies.Reply.TheVariants as replies
 use Rattle.strm_machine.specs.declared.stops.Stop.TheVariants as stops
+use Rattle.strm_machine.proofs.ReactionLemmas.{reaction-trapped, reaction-refused}
 use Rattle.strm_world.specs.World.{World}
 use Rattle.strm_world.specs.Outcomes.{Outcome, Goes, stops as stops_in}
 use Rattle.strm_world.specs.HostRefusals.{refusal_in}
@@ -22,9 +25,9 @@ use Rattle.strm_world.specs.Steps.{performs_in, unless_refused_in, outcome, may_
 use Rattle.strm_world.specs.Does.{Logs, world_of, Answered, Fits, Does}
 use Rattle.strm_world.proofs.DoesLemmas.{Does-untold, Does-as}
 use Rattle.strm_world.proofs.OutcomeLemmas.{outcome-trapped, outcome-performs}
-use Rattle.strm_world.proofs.ReactedLemmas.{answer_of, lifted}
-use Rattle.strm_transmit.specs.Meets.{Meets, admitted, or_found}
-use Rattle.strm_transmit.specs.Hosted.{answered, lone, Stays, Leaves, MeetsHosted}
+use Rattle.strm_world.proofs.ReactedLemmas.{refusal-reacted, touches-state, answer_of, lifted}
+use Rattle.strm_transmit.specs.Meets.{is_done, Meets, admitted, or_found}
+use Rattle.strm_transmit.specs.Hosted.{answered, lone, MayBeDone, Stays, Leaves, MeetsHosted}
 use Rattle.strm_transmit.specs.declared.errors.StoreError.{StoreError}
 use Rattle.strm_transmit.specs.declared.errors.StoreError.TheVariants.{Refused, HostFailed, HostBroke, BadItem, StoreTrapped, OutOfMemory}
 use Rattle.strm_transmit.proofs.StepLemmas.{not_admitted}
@@ -66,12 +69,17 @@ module _ (state : State) (tells : Tells) (act : Act) where
   abbrev IsAlone : StoreError → Type 0
   IsAlone error = touches (lone state) act ≡ false → Meets state state (Err error) (reaction state act)
 
-  pub unchanged : (error : StoreError) → Leaves act state state tells tells error → Does state state tells tells (answered (Err error)) (λ w. outcome w act) → Fits state tells → IsAlone error → Unchanged error
-  unchanged error leaves does fits alone = record {
+  -- where it wants memory, its act may be done
+  abbrev IsCaused : StoreError → Type 0
+  IsCaused error = ◌≡◌ {A = Result Reply StoreError} (Err error) (Err OutOfMemory) → MayBeDone state tells act
+
+  pub unchanged : (error : StoreError) → Leaves act state state tells tells error → Does state state tells tells (answered (Err error)) (λ w. outcome w act) → Fits state tells → IsCaused error → IsAlone error → Unchanged error
+  unchanged error leaves does fits caused alone = record {
     does = does;
     fits = fits;
     alone = λ u. record { meets = alone u; ends = refl };
     err = leaves;
+    wanting = caused;
   }
 
   -- why an act was not admitted, as what the machine does
@@ -79,16 +87,11 @@ module _ (state : State) (tells : Tells) (act : Act) where
   hosted_not_admitted o wanted found error r e a fits =
       not_admitted state o wanted found (λ x. IsAlone x → Unchanged x) error e a
       (λ t. unchanged StoreTrapped (all_stays state tells)
-      (Does-untold state state tells (Err (Some stops.StoreTrapped)) (λ w. outcome w act) (λ logs. outcome-trapped (world_of state tells logs) act t) tt) fits)
+      (Does-untold state state tells (Err (Some stops.StoreTrapped)) (λ w. outcome w act) (λ logs. outcome-trapped (world_of state tells logs) act t) tt) fits (λ w. cc))
       (λ q t f. unchanged (Refused q) (all_stays state tells)
-      (Does-untold state state tells (Ok (replies.Refused q)) (λ w. outcome w act) (λ logs. outcome-refused (world_of state tells logs) act q t (r logs ∙ f)) tt) fits)
+      (Does-untold state state tells (Ok (replies.Refused q)) (λ w. outcome w act) (λ logs. outcome-refused (world_of state tells logs) act q t (r logs ∙ f)) tt) fits (λ w. cc))
 
 -- ## A call that is
-
--- an act that may be done: the store isn't trapped, and nothing refuses the act
-pub record MayBeDone (state : State) (tells : Tells) (act : Act) : Type 0 where
-  pub untrapped : state.trapped ≡ false
-  pub none : RefusedBy state tells act None
 
 -- what the machine performs of it, on a store's state
 abbrev pub PerformsAs : State → Tells → Act → (World → Outcome) → Type 0
@@ -102,6 +105,24 @@ does_admitted old new tells told act answer machine may performs =
     (λ logs. outcome-performs (world_of old tells logs) act may.untrapped (may.none logs) ∙ performs logs)
 
 -- ## A call that touches no host end
+
+-- a step that is done wasn't refused
+module _ (state : State) (tells : Tells) (act : Act) (alone : touches (lone state) act ≡ false) where
+  -- the refusal of the machine without host ends is that of the machine with them
+  unrefused : refusal state act ≡ None → RefusedBy state tells act None
+  unrefused e logs =
+      refusal-reacted (world_of state tells logs) act (touches-state (lone state) (world_of state tells logs).writers (world_of state tells logs).readers act ∙ alone) ∙ e
+
+  done_unless : (o : Option Refusal) → state.trapped ≡ false → refusal state act ≡ o → is_done (reaction state act).reply ≡ true → MayBeDone state tells act
+  done_unless None t e d = record { untrapped = t; none = unrefused e }
+  done_unless (Some r) t e d = absurd (true≢false (sym d ∙ ap (λ (x : Reaction). is_done x.reply) (reaction-refused state act r t e)))
+
+  done_by : (b : Bool) → state.trapped ≡ b → is_done (reaction state act).reply ≡ true → MayBeDone state tells act
+  done_by true t d = absurd (true≢false (sym d ∙ ap (λ (x : Reaction). is_done x.reply) (reaction-trapped state act t)))
+  done_by false t d = done_unless (refusal state act) t refl d
+
+  done_may : is_done (reaction state act).reply ≡ true → MayBeDone state tells act
+  done_may d = done_by state.trapped refl d
 
 -- an answer is settled, if there is one
 abbrev pub Settles : Result Reply StoreError → Type 0
@@ -154,6 +175,10 @@ module _ (old new : State) (tells : Tells) (act : Act) where
   meets-leaves (Err StoreTrapped) u m = record { same = m.1; ends = refl }
   meets-leaves (Err OutOfMemory) u m = rw (unpolled (lone old) act u) (record { same = m.1; ends = refl })
 
+  meets-wanting : (result : Result Reply StoreError) → touches (lone old) act ≡ false → Meets old new result (reaction old act) → result ≡ Err OutOfMemory → MayBeDone old tells act
+  meets-wanting result u m w =
+      done_may old tells act u (subst (λ (x : Result Reply StoreError). Meets old new x (reaction old act)) w m).0
+
   pub hosted_alone : (result : Result Reply StoreError) → IsSound old → AreMade old → touches (lone old) act ≡ false → Settles result → Meets old new result (reaction old act) → Fits old tells → MeetsHosted old new tells tells result act
   hosted_alone result h made u s m fits =
       let types = reaction-types old act h in
@@ -162,4 +187,5 @@ module _ (old new : State) (tells : Tells) (act : Act) where
         fits = Fits-kept old new tells made (meets-types old new result (reaction old act) m types) fits;
         alone = λ _. record { meets = m; ends = refl };
         err = meets-leaves result u m;
+        wanting = meets-wanting result u m;
       }

@@ -24,13 +24,13 @@ use Rattle.strm_world.proofs.DoesLemmas.{Does-untold}
 use Rattle.strm_world.proofs.WorldLemmas.{length-writers_from}
 use Rattle.strm_world.proofs.AttachLemmas.{hosted_by, hosted_in, Does-hosts_new, Does-feed}
 use Rattle.strm_transmit.specs.Meets.{admitted, replied, or_found}
-use Rattle.strm_transmit.specs.Hosted.{MeetsHosted}
+use Rattle.strm_transmit.specs.Hosted.{MayBeDone, MeetsHosted}
 use Rattle.strm_transmit.specs.declared.errors.StoreError.{StoreError}
 use Rattle.strm_transmit.specs.declared.errors.StoreError.TheVariants.{OutOfMemory}
 use Rattle.strm_transmit.proofs.ServedLemmas.{at_set, AreServed-hosted}
 use Rattle.strm_transmit.proofs.FitsLemmas.{AreMade, Fits-told}
 use Rattle.strm_transmit.proofs.StepLemmas.{is_admitted}
-use Rattle.strm_transmit.proofs.HostStepLemmas.{MayBeDone, does_admitted, Does-after, Fits-after, all_stays, unchanged}
+use Rattle.strm_transmit.proofs.HostStepLemmas.{does_admitted, Does-after, Fits-after, all_stays, unchanged}
 use Rattle.strm_transmit.proofs.StoreLemmas.{live_by, live_weight, kept_tables, IsStore-counted}
 use Rattle.std.proofs.lemmas.List.{map-append}
 use Rattle.std.proofs.lemmas.List.Elements.{All-push, All-weaker}
@@ -157,12 +157,12 @@ hosted-fits old tells n made h kept fits m s e =
         (λ f g. absurd (other (serves_last s g))) (λ f g. g) e
 
 -- want of memory that changed nothing
-pub hosted_wanting : (old new : State) (tells told : Tells) (n : ℕ) (act : HostAct) → Fits old tells → new ≡ old → told ≡ tells → MeetsHosted old new tells told (Err OutOfMemory) (OnHost n act)
-hosted_wanting old new tells told n act fits same untold =
+pub hosted_wanting : (old new : State) (tells told : Tells) (n : ℕ) (act : HostAct) → MayBeDone old tells (OnHost n act) → Fits old tells → new ≡ old → told ≡ tells → MeetsHosted old new tells told (Err OutOfMemory) (OnHost n act)
+hosted_wanting old new tells told n act may fits same untold =
     subst (λ (x : State). MeetsHosted old x tells told (Err OutOfMemory) (OnHost n act)) (sym same)
     (subst (λ (x : Tells). MeetsHosted old old tells x (Err OutOfMemory) (OnHost n act)) (sym untold)
     (unchanged old tells (OnHost n act) OutOfMemory (all_stays old tells)
-    (Does-untold old old tells (Err None) (λ w. outcome w (OnHost n act)) (λ logs. tt) tt) fits (λ u. cc u)))
+    (Does-untold old old tells (Err None) (λ w. outcome w (OnHost n act)) (λ logs. tt) tt) fits (λ w. may) (λ u. cc u)))
 
 -- a stream may be made for host writer n, in a store that its host ends fit
 pub record MayHost (old : State) (tells : Tells) (n : ℕ) : Type 0 where
@@ -181,6 +181,7 @@ module _ (old new : State) (tells : Tells) (n : ℕ) (h : MayHost old tells n) w
         fits = Fits-after (hosted_in old tells n) new tells tells is refl (hosted-fits old tells n h.served.made writer (omega (arith, h.served.all, writer.few)) h.fits);
         alone = λ u. cc u;
         err = tt;
+        wanting = λ w. cc;
       }
 
   -- by what the making of the stream answered
@@ -188,7 +189,7 @@ module _ (old new : State) (tells : Tells) (n : ℕ) (h : MayHost old tells n) w
   hosted_made (Ok s) number is memory same = hosted_new s number is
   hosted_made (Err error) number is memory same =
       subst (λ (x : Result ℕ StoreError). MeetsHosted old new tells tells (replied replies.Number x) (OnHost n New)) (sym memory)
-      (hosted_wanting old new tells tells n New h.fits same refl)
+      (hosted_wanting old new tells tells n New h.may h.fits same refl)
 
 -- ## Bytes from outside
 
@@ -203,6 +204,7 @@ hosted_feed state tells told n bytes may fits is =
           (Fits-told state tells n (fed (told_by tells n) bytes) (record { kind = refl; payload = refl }) fits);
       alone = λ u. cc u;
       err = tt;
+      wanting = λ w. cc;
     }
 
 -- ## The store with a stream of a host writer more

@@ -1,8 +1,8 @@
 -- A read or write with host ends: by what is on the other side.
-use Rattle.std.proofs.Common.{◌≡◌, ℕ, true, false, Option, Some, None, Result, Ok, Err, refl, sym, ap, subst, ◌∙◌}
-use Rattle.std.specs.Prelude.{IfErr}
+use Rattle.std.proofs.Common.{◌≡◌, ◌≢◌, ℕ, true, false, [], Option, Some, None, Result, Ok, Err, refl, sym, ap, subst, ◌∙◌}
+use Rattle.std.specs.Prelude.{IsOk, IfErr}
 use Rattle.std.proofs.lemmas.Bool.{true≢false}
-use Rattle.strm_buffers.specs.Tells.{Tells}
+use Rattle.strm_buffers.specs.Tells.{Tells, told_by}
 use Rattle.strm_machine.specs.State.{State, stream_at, is_host}
 use Rattle.strm_machine.specs.Sides.{opposite, end_of, with_operation}
 use Rattle.strm_machine.specs.Tests.{named, stream_named}
@@ -21,7 +21,7 @@ use Rattle.strm_world.specs.World.{World}
 use Rattle.strm_world.specs.Steps.{operates_by, reads_from, performs_in, outcome, may_poll, touches}
 use Rattle.strm_world.specs.Does.{world_of, Fits, Does, Answered}
 use Rattle.strm_transmit.specs.Meets.{replied}
-use Rattle.strm_transmit.specs.Hosted.{answered, lone, Leaves, IsStop, MeetsHosted}
+use Rattle.strm_transmit.specs.Hosted.{answered, lone, MayBeDone, Leaves, HasHeld, IsStop, MeetsHosted}
 use Rattle.strm_transmit.specs.declared.errors.StoreError.{StoreError}
 use Rattle.strm_transmit.specs.declared.errors.StoreError.TheVariants.{Refused, HostFailed, HostBroke, BadItem, StoreTrapped, OutOfMemory}
 use Rattle.strm_codes.specs.declared.codes.ReturnCode.{ReturnCode}
@@ -57,12 +57,13 @@ module _ (old new : State) (tells told : Tells) (act : Act) (polls : may_poll (l
   leaves_if f (Ok v) h = tt
   leaves_if f (Err error) h = leaves_stop error h.stop h.trapped
 
-  pub hosted_polled : {T : Type 0} (f : T → Reply) (result : Result T StoreError) → Does old new tells told (answered (replied f result)) (λ w. outcome w act) → Fits new told → Halts result new → MeetsHosted old new tells told (replied f result) act
-  hosted_polled f result does fits halts = record {
+  pub hosted_polled : {T : Type 0} (f : T → Reply) (result : Result T StoreError) → Does old new tells told (answered (replied f result)) (λ w. outcome w act) → MayBeDone old tells act → Fits new told → Halts result new → MeetsHosted old new tells told (replied f result) act
+  hosted_polled f result does may fits halts = record {
     does = does;
     fits = fits;
     alone = λ u. absurd (true≢false (sym polls ∙ unpolled (lone old) act u));
     err = leaves_if f result halts;
+    wanting = λ w. may;
   }
 
 -- the cause of a stop; none for want of memory
@@ -145,11 +146,25 @@ module _ (old new : State) (tells told : Tells) (side : Side) (end : NamedEnd) (
       ∙ performs-read (world_of old tells logs) end address count n s h.stream h.owner
       ∙ ap (reads_from (world_of old tells logs) s n) (sym h.operation)
 
+  may : MayBeDone old tells act
+  may = record { untrapped = h.untrapped; none = λ logs. refusal_in-on_end (world_of old tells logs) side end (Operate address count) ∙ h.none }
+
   pub hosted_read : {T : Type 0} (f : T → Reply) (result : Result T StoreError) → Does old new tells told (answered (replied f result)) (λ w. reads_from w s n read) → Fits new told → Halts result new → MeetsHosted old new tells told (replied f result) act
   hosted_read f result does =
       hosted_polled old new tells told act across f result
-      (does_admitted old new tells told act (answered (replied f result)) (λ w. reads_from w s n read)
-      (record { untrapped = h.untrapped; none = λ logs. refusal_in-on_end (world_of old tells logs) side end (Operate address count) ∙ h.none }) reads does)
+      (does_admitted old new tells told act (answered (replied f result)) (λ w. reads_from w s n read) may reads does) may
+
+-- items that the writer holds are those that are held for the read
+pub held_there : (state : State) (tells : Tells) (side : Side) (end : NamedEnd) (address count n s : ℕ) (read : Operation) → IsHostRead state side end address count n s read → HasHeld state tells (stream_named (named state end)) → (told_by tells n).holds ≢ []
+held_there state tells side end address count n s read h held =
+    let same : Host held.writer ≡ Host n = sym held.owner ∙ ap (λ k. (stream_at state k).writer.owner) (sym h.stream) ∙ h.owner in
+    let number : held.writer ≡ n = cc in
+    subst (λ k. (told_by tells k).holds ≢ []) number held.some
+
+-- where it is answered, no memory was wanting
+pub ok_wants_none : {T : Type 0} (result : Result T StoreError) → IsOk result → result ≢ Err OutOfMemory
+ok_wants_none (Ok v) k = λ e. cc e
+ok_wants_none (Err error) k = cc k
 
 -- ## A read or write with no host end across
 

@@ -49,6 +49,15 @@ holding_producer : (held : List Item) (e : TurnError) (old after : Scene) (read 
 holding_producer (item ∷ items) e old after read t = cc (t.0)
 holding_producer [] e old after read t = empty_producer old.producer.over e old after read t
 
+-- ## A turn of a writer that holds items doesn't stop
+
+held_goes : (held : List Item) (e : TurnError) (old after : Scene) (read : Operation) → TurnsHolding held (Err e) old after read → held ≢ [] → ⊥
+held_goes (item ∷ items) e old after read t some = cc (t.0)
+held_goes [] e old after read t some = some refl
+
+pub stream_goes : (old new : State) (tells told : Tells) (n s : ℕ) (read : Operation) (e : TurnError) → TurnsStream old new tells told n s read (Err e) → (told_by tells n).holds ≢ [] → ⊥
+stream_goes old new tells told n s read e t some = held_goes (told_by tells n).holds e _ t.after read t.turns some
+
 stop-is : (e : TurnError) (n : ℕ) → stop_of e n ≡ answered (Err (stops_by e n))
 stop-is Failed n = refl
 stop-is Broke n = refl

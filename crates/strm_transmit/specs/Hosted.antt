@@ -1,18 +1,23 @@
 -- How a call of the store with host ends is a step of the machine among them. Ours.
-use Rattle.std.specs.Prelude.{◌≡◌, ℕ, Bool, true, false, if◌then◌else◌, [], Result, Ok, Err, IfErr, Some, None}
-use Rattle.strm_buffers.specs.Tells.{Tells}
+use Rattle.std.specs.Prelude.{◌≡◌, ◌≢◌, ℕ, Bool, true, false, if◌then◌else◌, [], Result, Ok, Err, IfErr, Some, None}
+use Rattle.strm_buffers.specs.Tells.{Tells, told_by}
 use Rattle.strm_machine.specs.State.{State, producer_at, stream_at, is_host}
 use Rattle.strm_machine.specs.Reactions.{reaction}
+use Rattle.strm_machine.specs.Tests.{named, stream_named}
 use Rattle.strm_machine.specs.declared.acts.Act.{Act}
+use Rattle.strm_machine.specs.declared.acts.Act.TheVariants.{OnEnd}
+use Rattle.strm_machine.specs.declared.acts.EndAct.TheVariants.{Operate}
 use Rattle.strm_machine.specs.declared.replies.Reply.{Reply}
 use Rattle.strm_machine.specs.declared.replies.Reply.TheVariants as replies
 use Rattle.strm_machine.specs.declared.streams.Duty.TheVariants.{Serves}
+use Rattle.strm_machine.specs.declared.streams.Owner.TheVariants.{Host}
 use Rattle.strm_machine.specs.declared.streams.Side.TheVariants.{Reading}
 use Rattle.strm_machine.specs.declared.stops.Stop.TheVariants as stops
 use Rattle.strm_world.specs.World.{World, stream_in, with_stream_in}
 use Rattle.strm_world.specs.Attaching.{forsaken}
+use Rattle.strm_world.specs.HostRefusals.{refusal_in}
 use Rattle.strm_world.specs.Steps.{outcome, may_poll, touches}
-use Rattle.strm_world.specs.Does.{Answered, FitsWriter, Fits, Does}
+use Rattle.strm_world.specs.Does.{Logs, world_of, Answered, FitsWriter, Fits, Does}
 use Rattle.strm_transmit.specs.Meets.{Meets}
 use Rattle.strm_transmit.specs.declared.errors.StoreError.{StoreError}
 use Rattle.strm_transmit.specs.declared.errors.StoreError.TheVariants.{Refused, HostFailed, HostBroke, BadItem, StoreTrapped, OutOfMemory}
@@ -45,6 +50,12 @@ forsaken_in world s =
 abbrev pub lone : State → World
 lone state = record { state = state; writers = []; readers = [] }
 
+-- an act that may be done: the store isn't trapped, and nothing refuses the act, whatever records are
+-- yet to come
+pub record MayBeDone (state : State) (tells : Tells) (act : Act) : Type 0 where
+  pub untrapped : state.trapped ≡ false
+  pub none : (logs : Logs) → refusal_in (world_of state tells logs) act ≡ None
+
 -- store and host ends are as they were
 pub record Stays (old new : State) (tells told : Tells) : Type 0 where
   pub same : new ≡ old
@@ -64,6 +75,17 @@ Leaves act old new tells told StoreTrapped = Stays old new tells told
 Leaves act old new tells told OutOfMemory = Wanting (may_poll (lone old) act) old new tells told
 Leaves act old new tells told _ = new.trapped ≡ true
 
+-- a host writer has the write end of stream s, and holds items
+pub record HasHeld (state : State) (tells : Tells) (s : ℕ) : Type 0 where
+  pub writer : ℕ
+  pub owner : (stream_at state s).writer.owner ≡ Host writer
+  pub some : (told_by tells writer).holds ≢ []
+
+-- a read for which a host writer holds items: they are handed over, and it is not polled
+abbrev pub IsHandedOver : State → Tells → Act → Type 0
+IsHandedOver state tells (OnEnd side end (Operate address count)) = HasHeld state tells (stream_named (named state end))
+IsHandedOver state tells act = ⊥
+
 -- an error of a call that polled a host end
 abbrev pub IsStop : StoreError → Type 0
 IsStop (Refused refusal) = ⊥
@@ -75,9 +97,11 @@ pub record MeetsAlone (old new : State) (tells told : Tells) (result : Result Re
   pub meets : Meets old new result (reaction old act)
   pub ends : told ≡ tells
 
--- a call is a step of the machine among host ends, which stay those that the store needs
+-- a call is a step of the machine among host ends, which stay those that the store needs; memory is
+-- wanting only where the step may be done, so never in place of a refusal
 pub record MeetsHosted (old new : State) (tells told : Tells) (result : Result Reply StoreError) (act : Act) : Type 0 where
   pub does : Does old new tells told (answered result) (λ world. outcome world act)
   pub fits : Fits new told
   pub alone : touches (lone old) act ≡ false → MeetsAlone old new tells told result act
   pub err : IfErr result (Leaves act old new tells told)
+  pub wanting : result ≡ Err OutOfMemory → MayBeDone old tells act

@@ -1,5 +1,5 @@
 -- How a call of the store is a step of the machine. Ours.
-use Rattle.std.specs.Prelude.{Bool, false, ◌≡◌, true, Option, Some, None, Result, Ok, Err, if◌then◌else◌}
+use Rattle.std.specs.Prelude.{Bool, not, ◌==◌, false, ◌≡◌, true, Option, Some, None, Result, Ok, Err, if◌then◌else◌}
 use Rattle.strm_codes.specs.declared.refusals.Refusal.{Refusal}
 pub use Rattle.strm_machine.specs.Plays.{is_settled}
 use Rattle.strm_machine.specs.Acts.{act_of}
@@ -65,11 +65,11 @@ refused_too (Err StoreTrapped) = Err StoreTrapped
 refused_too (Err OutOfMemory) = Err OutOfMemory
 refused_too (Ok reply) = Ok reply
 
--- an act that takes memory: it makes something, gives a guest a handle or a set a member, or calls a
--- host writer
+-- an act that takes memory: it makes something, gives a guest a handle that it has not given up in the
+-- same act, gives a set a member, or acts on a host writer
 abbrev pub act_takes_memory : Act → Bool
 act_takes_memory (Make making) = true
-act_takes_memory (OnEnd side end (Move to)) = true
+act_takes_memory (OnEnd side end (Move to)) = not (end.guest == to)
 act_takes_memory (OnLoose reader (Lower guest ty)) = true
 act_takes_memory (OnHost host act) = true
 act_takes_memory (OnSet guest set (Join handle)) = true

@@ -16,7 +16,7 @@ ghost use Rattle.strm_machine.specs.declared.acts.LooseAct.TheVariants as loose_
 ghost use Rattle.strm_world.specs.Steps.{step_of, may_poll, touches};
 ghost use Rattle.strm_world.specs.Does.{Fits, Does};
 ghost use Rattle.strm_transmit.specs.Meets.{Meets, replied, refused_too, is_settled, act_takes_memory, takes_memory};
-ghost use Rattle.strm_transmit.specs.Hosted.{answered, lone, Leaves, MeetsAlone, MeetsHosted};
+ghost use Rattle.strm_transmit.specs.Hosted.{answered, lone, MayBeDone, Leaves, IsHandedOver, MeetsAlone, MeetsHosted};
 
 use crate::errors::StoreError;
 use crate::store::Store;
@@ -41,12 +41,16 @@ pub fn apply(store: &mut Store, hosts: &mut Hosts, step: &Step) -> Result<Reply,
         (tells_of writer_tells reader_tells hosts.new) result (act_of step.now) }
     ensures err { IfErr result (Leaves (act_of step.now) store.old store.new
         (tells_of writer_tells reader_tells hosts.old) (tells_of writer_tells reader_tells hosts.new)) }
+    ensures wanting { result ≡ Err StoreError.OutOfMemory
+        → MayBeDone store.old (tells_of writer_tells reader_tells hosts.old) (act_of step.now) }
     ensures settled { IfOk result (λ reply. IsTrue (is_settled reply)) }
     ensures refused { (refusal : Refusal) → result ≢ Err (StoreError.Refused refusal) }
-    ensures takes_no_memory { takes_memory step.now ≡ false → touches (lone store.old) (act_of step.now) ≡ false
+    ensures takes_no_memory { takes_memory step.now ≡ false → may_poll (lone store.old) (act_of step.now) ≡ false
+        → result ≢ Err StoreError.OutOfMemory }
+    ensures held { IsHandedOver store.old (tells_of writer_tells reader_tells hosts.old) (act_of step.now)
         → result ≢ Err StoreError.OutOfMemory }
 {
-    reply(perform(store, hosts, Act::of(step)))
+    reply(perform(store, hosts, &Act::of(step)))
 }
 
 // A refusal is a reply.
@@ -67,28 +71,31 @@ fn done(_nothing: ()) -> Reply
     Reply::Done
 }
 
-// The one call that an act names.
+// The one call that an act names. Acts are not moved, since one may hold the bytes of a feed; and those
+// groups of calls that are not inlined write their replies in place.
 #[inline(always)]
-fn perform(store: &mut Store, hosts: &mut Hosts, act: Act) -> Result<Reply, StoreError>
+fn perform(store: &mut Store, hosts: &mut Hosts, act: &Act) -> Result<Reply, StoreError>
     requires fits { Fits store.old (tells_of writer_tells reader_tells hosts.old) }
     ensures meets { MeetsHosted store.old store.new (tells_of writer_tells reader_tells hosts.old)
-        (tells_of writer_tells reader_tells hosts.new) result act }
+        (tells_of writer_tells reader_tells hosts.new) result act.now }
     ensures settled { IfOk result (λ reply. IsTrue (is_settled reply)) }
-    ensures takes_no_memory { act_takes_memory act ≡ false → touches (lone store.old) act ≡ false
+    ensures takes_no_memory { act_takes_memory act.now ≡ false → may_poll (lone store.old) act.now ≡ false
+        → result ≢ Err StoreError.OutOfMemory }
+    ensures held { IsHandedOver store.old (tells_of writer_tells reader_tells hosts.old) act.now
         → result ≢ Err StoreError.OutOfMemory }
 {
     store.sound();
     store.served();
     match act {
-        Act::Make { making } => make(store, making),
-        Act::OnEnd { side, end, act } => on_end(store, hosts, side, &end, act),
-        Act::OnLoose { reader, act } => on_loose(store, hosts, reader, act),
-        Act::OnHost { host, act } => on_host(store, hosts, host, act),
+        Act::Make { making } => make(store, *making),
+        Act::OnEnd { side, end, act } => on_end(store, hosts, *side, end, *act),
+        Act::OnLoose { reader, act } => on_loose(store, hosts, *reader, *act),
+        Act::OnHost { host, act } => on_host(store, hosts, *host, act),
         Act::Drive => store.drive_once(hosts).map(done),
-        Act::Event { guest, handle } => event(store, guest, handle),
-        Act::OnSet { guest, set, act } => on_set(store, guest, set, act),
-        Act::OnContext { guest, handle, act } => on_context(store, guest, handle, act),
-        Act::OnMemory { guest, act } => on_memory(store, guest, act),
+        Act::Event { guest, handle } => event(store, *guest, *handle),
+        Act::OnSet { guest, set, act } => on_set(store, *guest, *set, *act),
+        Act::OnContext { guest, handle, act } => on_context(store, *guest, *handle, *act),
+        Act::OnMemory { guest, act } => on_memory(store, *guest, act),
     }
 }
 
@@ -131,6 +138,7 @@ fn transfer(store: &mut Store, side: Side, end: &NamedEnd, to: u32) -> Result<Re
     ensures meets { Meets store.old store.new result
         (reaction store.old (acts.OnEnd side end.now (end_acts.Move to))) }
     ensures settled { IfOk result (λ reply. IsTrue (is_settled reply)) }
+    ensures takes_no_memory { end.now.guest ≡ to → result ≢ Err StoreError.OutOfMemory }
 {
     store.move_side(side, end, to).map(Reply::Number)
 }
@@ -158,7 +166,9 @@ fn on_end(
     ensures meets { MeetsHosted store.old store.new (tells_of writer_tells reader_tells hosts.old)
         (tells_of writer_tells reader_tells hosts.new) result (acts.OnEnd side end.now act) }
     ensures settled { IfOk result (λ reply. IsTrue (is_settled reply)) }
-    ensures takes_no_memory { act_takes_memory (acts.OnEnd side end.now act) ≡ false → touches (lone store.old) (acts.OnEnd side end.now act) ≡ false
+    ensures takes_no_memory { act_takes_memory (acts.OnEnd side end.now act) ≡ false → may_poll (lone store.old) (acts.OnEnd side end.now act) ≡ false
+        → result ≢ Err StoreError.OutOfMemory }
+    ensures held { IsHandedOver store.old (tells_of writer_tells reader_tells hosts.old) (acts.OnEnd side end.now act)
         → result ≢ Err StoreError.OutOfMemory }
 {
     store.sound();
@@ -197,7 +207,7 @@ fn on_loose(
     ensures meets { MeetsHosted store.old store.new (tells_of writer_tells reader_tells hosts.old)
         (tells_of writer_tells reader_tells hosts.new) result (acts.OnLoose reader act) }
     ensures settled { IfOk result (λ reply. IsTrue (is_settled reply)) }
-    ensures takes_no_memory { act_takes_memory (acts.OnLoose reader act) ≡ false → touches (lone store.old) (acts.OnLoose reader act) ≡ false
+    ensures takes_no_memory { act_takes_memory (acts.OnLoose reader act) ≡ false
         → result ≢ Err StoreError.OutOfMemory }
 {
     store.sound();
@@ -214,16 +224,16 @@ fn on_host(
     store: &mut Store,
     hosts: &mut Hosts,
     host: u32,
-    act: HostAct,
+    act: &HostAct,
 ) -> Result<Reply, StoreError>
     requires fits { Fits store.old (tells_of writer_tells reader_tells hosts.old) }
     ensures meets { MeetsHosted store.old store.new (tells_of writer_tells reader_tells hosts.old)
-        (tells_of writer_tells reader_tells hosts.new) result (acts.OnHost host act) }
+        (tells_of writer_tells reader_tells hosts.new) result (acts.OnHost host act.now) }
     ensures settled { IfOk result (λ reply. IsTrue (is_settled reply)) }
 {
     match act {
         HostAct::New => store.host_new(hosts, host).map(Reply::Number),
-        HostAct::Feed { bytes } => store.feed(hosts, host, &bytes).map(done),
+        HostAct::Feed { bytes } => store.feed(hosts, host, bytes).map(done),
     }
 }
 
@@ -297,15 +307,15 @@ fn on_context(
 
 // What is done to a guest's memory.
 #[inline(always)]
-fn on_memory(store: &mut Store, guest: u32, act: MemoryAct) -> Result<Reply, StoreError>
+fn on_memory(store: &mut Store, guest: u32, act: &MemoryAct) -> Result<Reply, StoreError>
     ensures meets { Meets store.old store.new result
-        (reaction store.old (acts.OnMemory guest act)) }
+        (reaction store.old (acts.OnMemory guest act.now)) }
     ensures settled { IfOk result (λ reply. IsTrue (is_settled reply)) }
     ensures takes_no_memory { result ≢ Err StoreError.OutOfMemory }
 {
     match act {
-        MemoryAct::Poke { address, bytes } => store.poke(guest, address, &bytes).map(done),
-        MemoryAct::Dump { address, len } => dump(store, guest, address, len),
+        MemoryAct::Poke { address, bytes } => store.poke(guest, *address, bytes).map(done),
+        MemoryAct::Dump { address, len } => dump(store, guest, *address, *len),
     }
 }
 

@@ -3,7 +3,7 @@
 //! Meaning: `Producing.antt`, `Driving.antt` and `Settling.antt` of `strm_world`. Source: wasmtime,
 //! `guest_read` with `WriteState::HostReady`; a drive round is ours.
 
-ghost use Rattle.std.specs.Prelude.{◌≡◌, ◌≢◌, ◌<◌, ◌≤◌, true, false, length, sum, Ok, IfOk, IfErr};
+ghost use Rattle.std.specs.Prelude.{◌≡◌, ◌≢◌, ◌<◌, ◌≤◌, [], true, false, length, sum, Ok, IsOk, IfOk, IfErr};
 ghost use Rattle.strm_buffers.specs.AllTells.{tells_of};
 ghost use Rattle.strm_buffers.specs.Tells.{Tells, told_by, with_told};
 ghost use Rattle.strm_machine.specs.State.{producer_at, stream_at};
@@ -176,6 +176,8 @@ impl Store {
         ensures untrapped { IfOk result (λ _. self.new.trapped ≡ self.old.trapped) }
         ensures stop { IfErr result IsStop }
         ensures trapped { IfErr result (λ _. self.new.trapped ≡ true) }
+        ensures held { (told_by (tells_of writer_tells reader_tells hosts.old) number).holds ≢ []
+            → IsOk result }
     {
         self.sound();
         self.served();
@@ -225,6 +227,8 @@ impl Store {
         ensures fits { Fits self.new (tells_of writer_tells reader_tells hosts.new) }
         ensures stop { IfErr result IsStop }
         ensures trapped { IfErr result (λ _. self.new.trapped ≡ true) }
+        ensures held { (told_by (tells_of writer_tells reader_tells hosts.old) number).holds ≢ []
+            → IsOk result }
     {
         self.open_read(stream, read);
         match self.produce(hosts, stream, number, &read) {

@@ -139,8 +139,9 @@ impl Store {
         requires may { refusal self.old (OnEnd side end.now (Move to)) ≡ None }
         requires stream { stream ≡ stream_named (named self.old end.now) }
         requires untrapped { self.old.trapped ≡ false }
-        ensures { Meets self.old self.new (replied replies.Number result)
+        ensures meets { Meets self.old self.new (replied replies.Number result)
             (transfers self.old stream side end.now to) }
+        ensures takes_no_memory { end.now.guest ≡ to → result ≢ Err StoreError.OutOfMemory }
     {
         let (guests, counter) = (&mut self.guests, &mut self.counter);
         match move_end(guests, counter, side, end, to as usize, stream) {
@@ -165,6 +166,7 @@ impl Store {
         ensures meets { Meets self.old self.new (replied replies.Number result)
             (reaction self.old (OnEnd side end.now (Move to))) }
         ensures fits { StillFits self.old self.new }
+        ensures takes_no_memory { end.now.guest ≡ to → result ≢ Err StoreError.OutOfMemory }
     {
         match self.admit(self.move_found(side, end, to)) {
             Ok(stream) => self.move_named(side, end, to, stream),
@@ -186,6 +188,7 @@ impl Store {
         ensures meets { Meets self.old self.new (replied replies.Number result)
             (react self.old (steps.Move guest (index.Stream payload) handle to)) }
         ensures fits { StillFits self.old self.new }
+        ensures takes_no_memory { guest ≡ to → result ≢ Err StoreError.OutOfMemory }
     {
         let ty = TransmitIndex::Stream(payload);
         let end = NamedEnd { guest, ty, handle };
@@ -204,6 +207,7 @@ impl Store {
         ensures meets { Meets self.old self.new (replied replies.Number result)
             (react self.old (steps.Move guest (index.Future payload) handle to)) }
         ensures fits { StillFits self.old self.new }
+        ensures takes_no_memory { guest ≡ to → result ≢ Err StoreError.OutOfMemory }
     {
         let ty = TransmitIndex::Future(payload);
         let end = NamedEnd { guest, ty, handle };

@@ -22,10 +22,10 @@ ghost use Rattle.strm_machine.specs.declared.replies.Reply.TheVariants as replie
 ghost use Rattle.strm_machine.specs.declared.steps.Step.TheVariants as steps;
 ghost use Rattle.strm_machine.specs.declared.streams.Owner.TheVariants.{Host};
 ghost use Rattle.strm_machine.specs.declared.streams.Side.TheVariants.{Writing, Reading};
-ghost use Rattle.strm_world.specs.Steps.{touches};
+ghost use Rattle.strm_world.specs.Steps.{may_poll};
 ghost use Rattle.strm_world.specs.Does.{Fits};
 ghost use Rattle.strm_transmit.specs.Meets.{Meets, replied, or_found};
-ghost use Rattle.strm_transmit.specs.Hosted.{lone, MeetsHosted};
+ghost use Rattle.strm_transmit.specs.Hosted.{lone, IsHandedOver, MeetsHosted};
 
 use crate::errors::StoreError;
 use crate::store::Store;
@@ -156,8 +156,10 @@ impl Store {
             (tells_of writer_tells reader_tells hosts.new) (replied replies.Code result)
             (OnEnd side end.now (Operate address count)) }
         ensures writes { side ≡ Writing → result ≢ Err StoreError.OutOfMemory }
-        ensures takes_no_memory { touches (lone self.old) (OnEnd side end.now (Operate address count)) ≡ false
+        ensures takes_no_memory { may_poll (lone self.old) (OnEnd side end.now (Operate address count)) ≡ false
             → result ≢ Err StoreError.OutOfMemory }
+        ensures held { IsHandedOver self.old (tells_of writer_tells reader_tells hosts.old)
+            (OnEnd side end.now (Operate address count)) → result ≢ Err StoreError.OutOfMemory }
     {
         self.sound();
         self.served();
@@ -187,7 +189,10 @@ impl Store {
         ensures meets { MeetsHosted self.old self.new (tells_of writer_tells reader_tells hosts.old)
             (tells_of writer_tells reader_tells hosts.new) (replied replies.Code result)
             (act_of (steps.Read guest (index.Stream payload) handle address count)) }
-        ensures takes_no_memory { touches (lone self.old) (act_of (steps.Read guest (index.Stream payload) handle address count)) ≡ false
+        ensures takes_no_memory { may_poll (lone self.old) (act_of (steps.Read guest (index.Stream payload) handle address count)) ≡ false
+            → result ≢ Err StoreError.OutOfMemory }
+        ensures held { IsHandedOver self.old (tells_of writer_tells reader_tells hosts.old)
+            (act_of (steps.Read guest (index.Stream payload) handle address count))
             → result ≢ Err StoreError.OutOfMemory }
     {
         let ty = TransmitIndex::Stream(payload);
@@ -229,7 +234,10 @@ impl Store {
         ensures meets { MeetsHosted self.old self.new (tells_of writer_tells reader_tells hosts.old)
             (tells_of writer_tells reader_tells hosts.new) (replied replies.Code result)
             (act_of (steps.Read guest (index.Future payload) handle address 1)) }
-        ensures takes_no_memory { touches (lone self.old) (act_of (steps.Read guest (index.Future payload) handle address 1)) ≡ false
+        ensures takes_no_memory { may_poll (lone self.old) (act_of (steps.Read guest (index.Future payload) handle address 1)) ≡ false
+            → result ≢ Err StoreError.OutOfMemory }
+        ensures held { IsHandedOver self.old (tells_of writer_tells reader_tells hosts.old)
+            (act_of (steps.Read guest (index.Future payload) handle address 1))
             → result ≢ Err StoreError.OutOfMemory }
     {
         let ty = TransmitIndex::Future(payload);

@@ -1,4 +1,4 @@
-use Rattle.strm_transmit.proofs.ApplyLemmas.{refused-answered, refused-alone, refused-leaves, refused-settled}
+use Rattle.strm_transmit.proofs.ApplyLemmas.{refused-answered, refused-alone, refused-leaves, refused-wanting, refused-settled}
 use Rattle.strm_transmit.proofs.steps.apply.Goals as goal
 
 pub returns-clause-does : goal.returns-clause-does
@@ -15,6 +15,10 @@ returns-clause-alone g c = λ u.
 pub returns-clause-err : goal.returns-clause-err
 returns-clause-err g c =
     rw c.reply.ensures (refused-leaves c.args.store.now _ _ _ _ c.perform.result (rw c.of.ensures at c.perform.ensures.meets.err))
+
+pub returns-clause-wanting : goal.returns-clause-wanting
+returns-clause-wanting g c = λ w.
+    refused-wanting c.args.store.now _ _ c.perform.result (rw c.of.ensures at c.perform.ensures.meets.wanting) (rw c.reply.ensures at w)
 
 pub returns-clause-settled : goal.returns-clause-settled
 returns-clause-settled g c = rw c.reply.ensures (refused-settled c.perform.result c.perform.ensures.settled)

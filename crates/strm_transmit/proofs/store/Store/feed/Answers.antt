@@ -18,7 +18,10 @@ returns-in-Ok-feed g c =
 
 pub returns-in-Err-feed : goal.returns-in-Err-feed
 returns-in-Err-feed g c =
-    record { meets = hosted_wanting c.args.self.now c.args.self.now _ _ c.args.host (Feed c.args.bytes.now) c.requires.fits refl c.in-Err-feed.ensures.err }
+    record {
+      meets = hosted_wanting c.args.self.now c.args.self.now _ _ c.args.host (Feed c.args.bytes.now) (host_admitted _ _ _ (Feed c.args.bytes.now) _ c.feed_fits.ensures c.in-Ok.ensures.exact)
+          c.requires.fits refl c.in-Err-feed.ensures.err;
+    }
 
 pub returns-in-Err : goal.returns-in-Err
 returns-in-Err g c =

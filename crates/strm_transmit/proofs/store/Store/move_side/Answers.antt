@@ -22,7 +22,7 @@ returns-in-Ok-clause-meets c =
     (reacts _ _ _ _ (λ s. transfers c.args.self.now s c.args.side c.args.end.now c.args.to)
     (is_admitted c.args.self.now _ _ _ _ c.move_found.ensures c.in-Ok.ensures.exact)
     (performs-on_end c.args.self.now c.args.side c.args.end.now (Move c.args.to)))
-    c.move_named.ensures
+    c.move_named.ensures.meets
 
 pub returns-in-Err-clause-meets : goal.returns-in-Err-clause-meets
 returns-in-Err-clause-meets c =

@@ -1,5 +1,5 @@
 use Rattle.std.proofs.Common.{rules}
-use Rattle.strm_transmit.proofs.ProduceLemmas.{is_served, mid-made, mid-length, mid-fits, mid-duty, told-there, produced-stays, stop-stops, stops-does, stops-fits, stops-length, left-does, left-fits_as, left-length}
+use Rattle.strm_transmit.proofs.ProduceLemmas.{stream_goes, is_served, mid-made, mid-length, mid-fits, mid-duty, told-there, produced-stays, stop-stops, stops-does, stops-fits, stops-length, left-does, left-fits_as, left-length}
 use Rattle.strm_transmit.proofs.store.Store.produce.Goals as goal
 
 pub stream-requires : goal.stream-requires
@@ -37,6 +37,9 @@ returns-in-Err-clause-there g c =
 
 pub returns-in-Err-clause-stop : goal.returns-in-Err-clause-stop
 returns-in-Err-clause-stop g c = rw c.stop_of.ensures (stop-stops c.in-Err.error c.args.number)
+
+pub returns-in-Err-clause-held : goal.returns-in-Err-clause-held
+returns-in-Err-clause-held g c = λ some. absurd (stream_goes _ _ _ _ _ _ _ c.in-Err.error c.in-Err.ensures some)
 
 pub returns-then-ne-clause-does : goal.returns-then-ne-clause-does
 returns-then-ne-clause-does g c =
