@@ -5,11 +5,11 @@
 ghost use Rattle.std.specs.Prelude.{◌≡◌, ◌≢◌, ◌∷◌, ◌≤◌, ◌<◌, ◌↔◌, ℕ, List, length, All, IfOk, MatchResult, Err};
 ghost use Rattle.strm_machine.specs.declared.steps.Step.{Step};
 ghost use Rattle.strm_lines.specs.Lines.{lines_of, feeds, Spells, IsFirstBad, IsTooLong};
-ghost use Rattle.strm_lines.specs.declared.parsing.ParseError.TheVariants.{OutOfMemory as WantOfMemory};
+ghost use Rattle.strm_lines.specs.declared.parsing.ParseError.TheVariants.{OutOfMemory as NoMemory};
 
 use crate::lines::keep_line;
 use crate::lists::Steps;
-use memchr::memchr;
+use crate::words::cut;
 use std::alloc::{AllocError, Global};
 use thiserror::Error;
 
@@ -34,7 +34,7 @@ pub enum ParseError {
 }
 
 impl From<AllocError> for ParseError {
-    ghost from_gives = { λ _ e. e ≡ WantOfMemory };
+    ghost from_gives = { λ _ e. e ≡ NoMemory };
 
     fn from(_error: AllocError) -> ParseError {
         ParseError::OutOfMemory
@@ -140,16 +140,9 @@ fn first_line(bytes: &[u8]) -> (&[u8], &[u8])
     ensures lines { lines_of bytes.now ≡ result.0.now ∷ lines_of result.1.now }
     ensures less { length result.1.now < length bytes.now }
 {
-    match memchr(b'\n', bytes) {
-        Some(at) => {
-            let (line, _) = bytes.split_at(at);
-            let (_, after) = bytes.split_at(at + 1);
-            (line, after)
-        }
-        None => {
-            let (_, nothing) = bytes.split_at(bytes.len());
-            (bytes, nothing)
-        }
+    match cut(b'\n', bytes) {
+        Some(parts) => parts,
+        None => bytes.split_at(bytes.len()),
     }
 }
 

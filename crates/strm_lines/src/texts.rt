@@ -30,10 +30,7 @@ fn hex_digit(nibble: u8) -> u8
 fn hex_line(word: u32) -> [u8; 9]
     ensures { result ≡ ended (hex_word word) }
 {
-    let first = (word / 0x100_0000) as u8;
-    let second = (word / 0x1_0000 % 0x100) as u8;
-    let third = (word / 0x100 % 0x100) as u8;
-    let fourth = (word % 0x100) as u8;
+    let [first, second, third, fourth] = word.to_be_bytes();
     [
         hex_digit(first / 16),
         hex_digit(first % 16),

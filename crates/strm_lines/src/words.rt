@@ -2,7 +2,7 @@
 //!
 //! Source: ours.
 
-ghost use Rattle.std.specs.Prelude.{◌≡◌, ◌%◌, ◌≤◌, ◌<◌, false, IsTrue, length, drop, slice_index_or, Some, None};
+ghost use Rattle.std.specs.Prelude.{◌≡◌, ◌+◌, ◌-◌, ◌*◌, ◌%◌, ◌^◌, ◌≤◌, ◌<◌, true, false, IsTrue, length, drop, slice_index_or, SomeIff, Some, None};
 ghost use Rattle.std.specs.Option.{option_map};
 ghost use Rattle.strm_lines.specs.Reading.{behind, cut_at, early, late, named_among, scalar_read, fields_read, shape_read, payload_read, leading, is_digit, number, read_to, number_within, nibble, pairs_from, hex, type_read};
 
@@ -18,9 +18,21 @@ use strm_machine::chunks::Chunk;
 pub(crate) fn behind<'a, const N: usize>(line: &'a [u8], front: &[u8; N]) -> Option<&'a [u8]>
     ensures { option_map (λ rest. rest.now) result ≡ behind front.now line.now }
 {
-    match line.split_first_chunk::<N>() {
-        Some((first, rest)) => { if *first == *front { Some(rest) } else { None } }
-        None => None,
+    let (first, rest) = line.split_first_chunk::<N>()?;
+    if *first == *front { Some(rest) } else { None }
+}
+
+// A number with one more digit behind it, where that is below 2^32.
+#[inline(always)]
+fn with_digit(number: u32, digit: u8) -> Option<u32>
+    requires { is_digit digit ≡ true }
+    ensures { SomeIff result (10 * number + (digit - 48) < 2 ^ 32) (10 * number + (digit - 48)) }
+{
+    let next = 10 * u64::from(number) + u64::from(digit - b'0');
+    if next < 1 << 32 {
+        Some(next as u32)
+    } else {
+        None
     }
 }
 
@@ -37,11 +49,10 @@ pub(crate) fn number(word: &[u8]) -> Option<u32>
         if !byte.is_ascii_digit() {
             return None;
         }
-        let next = 10 * u64::from(number) + u64::from(*byte - b'0');
-        if next >= 1 << 32 {
+        let Some(next) = with_digit(number, *byte) else {
             return None;
-        }
-        number = next as u32;
+        };
+        number = next;
     }
     Some(number)
 }
@@ -86,11 +97,10 @@ pub(crate) fn leading_number(line: &[u8]) -> Option<(u32, &[u8])>
         if !byte.is_ascii_digit() {
             return behind_number(number, line, k);
         }
-        let next = 10 * u64::from(number) + u64::from(byte - b'0');
-        if next >= 1 << 32 {
+        let Some(next) = with_digit(number, byte) else {
             return None;
-        }
-        number = next as u32;
+        };
+        number = next;
     }
     None
 }
@@ -110,17 +120,13 @@ fn behind_number(number: u32, line: &[u8], at: usize) -> Option<(u32, &[u8])>
 }
 
 // What comes before and after the first such byte.
-fn cut(byte: u8, bytes: &[u8]) -> Option<(&[u8], &[u8])>
+pub(crate) fn cut(byte: u8, bytes: &[u8]) -> Option<(&[u8], &[u8])>
     ensures { option_map (λ p. (p.0.now, p.1.now)) result ≡ cut_at byte bytes.now }
 {
-    match memchr(byte, bytes) {
-        Some(at) => {
-            let (front, _) = bytes.split_at(at);
-            let (_, rest) = bytes.split_at(at + 1);
-            Some((front, rest))
-        }
-        None => None,
-    }
+    let at = memchr(byte, bytes)?;
+    let (front, _) = bytes.split_at(at);
+    let (_, rest) = bytes.split_at(at + 1);
+    Some((front, rest))
 }
 
 // A scalar of the first half, by its name.
