@@ -33,7 +33,7 @@ writer_breaks kind Failed room finish produced = false
 abbrev pub is_untouched : ℕ → ℕ → Bool
 is_untouched taken since = (taken == 0) && (since == 0)
 
--- a reader end breaks its rules by this answer, in a poll that offered so many items, of which it
+-- a host reader breaks its rules by this answer, in a poll that offered so many items, of which it
 -- took so many after those that it had taken since
 abbrev pub reader_breaks : TransmitKind → Answer → ℕ → ℕ → Bool → ℕ → Bool
 reader_breaks kind Pending offered since finish taken = false
@@ -54,6 +54,6 @@ reader_breaks kind Failed offered since finish taken = false
 abbrev pub breaks_as_writer : TransmitKind → WriterSaid → Bool
 breaks_as_writer kind said = writer_breaks kind said.answer said.room said.finish (length said.items)
 
--- and of a reader end
+-- and of a host reader
 abbrev pub breaks_as_reader : TransmitKind → ReaderSaid → Bool
 breaks_as_reader kind said = reader_breaks kind said.answer said.offered said.since said.finish said.taken

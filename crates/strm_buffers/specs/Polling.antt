@@ -1,4 +1,4 @@
--- What a host reader end that takes items one by one does to the offer that it is lent. Ours.
+-- What a host reader that takes items one by one does to the offer that it is lent. Ours.
 use Rattle.std.specs.Prelude.{◌≡◌, ℕ, ◌<◌, ◌≤◌, true, false, List, length, min, IsSome, None}
 use Rattle.strm_codes.specs.Layout.{scalars_of}
 use Rattle.strm_codes.specs.declared.scalars.Scalar.{Scalar}

@@ -34,7 +34,7 @@ pub record WriterTells : Type 0 where
   pub closed : Bool
   pub heard : Heard (List ℕ)
 
--- a host reader end: the same, but that it holds the items that it took, where it tells them
+-- a host reader: the same, but that it holds the items that it took, where it tells them
 pub record ReaderTells : Type 0 where
   pub kind : TransmitKind
   pub payload : Payload
@@ -61,7 +61,7 @@ no_tells = record {
   heard = None;
 }
 
--- and past the last reader end
+-- and past the last host reader
 abbrev pub no_reader_tells : ReaderTells
 no_reader_tells = record {
   kind = Stream;

@@ -1,4 +1,4 @@
-//! What a host end answers to a poll, and what a reader end records of it.
+//! What a host end answers to a poll, and what a host reader records of it.
 //!
 //! Source: wasmtime, `futures_and_streams.rs`, `StreamResult` behind a `Poll` of a `Result`. The
 //! record is ours.
@@ -106,7 +106,7 @@ fn is_for_two(room: Option<u32>) -> bool
     }
 }
 
-/// One poll of a host reader end. Counts are in items.
+/// One poll of a host reader. Counts are in items.
 #[derive(Clone, Copy, Debug, PartialEq, Eq)]
 pub struct ReaderSaid {
     /// How many it was offered.
@@ -123,7 +123,7 @@ pub struct ReaderSaid {
 }
 
 impl ReaderSaid {
-    /// Whether a host reader end of this kind broke the rules in this poll.
+    /// Whether a host reader of this kind broke the rules in this poll.
     pub fn breaks_rules(&self, kind: TransmitKind) -> bool
         ensures { result ≡ breaks_as_reader kind self.now }
     {

@@ -11,7 +11,7 @@ use strm_codes::codes::TransmitKind;
 use strm_codes::counts::OutOfMemory;
 use strm_codes::payloads::Payload;
 
-/// Host writers and host reader ends, each named by its place.
+/// Host writers and host readers, each named by its place.
 #[derive(Drop)]
 pub struct Hosts {
     pub writers: Vec<Box<dyn HostWriter>>,

@@ -1,5 +1,5 @@
 //! What host ends are made of: buffers of typed items, items as their bytes, the window that a poll
-//! fills and the offer that a poll takes from; and what a host writer and a host reader end are.
+//! fills and the offer that a poll takes from; and what a host writer and a host reader are.
 #![tactic(auto)]
 
 pub mod answers;

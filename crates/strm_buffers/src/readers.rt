@@ -1,4 +1,4 @@
-//! What a host reader end is: a sink of items that is polled.
+//! What a host reader is: a sink of items that is polled.
 //!
 //! Source: wasmtime, `futures_and_streams.rs`, `StreamConsumer`. `grant`, `records` and what an end
 //! tells are ours.

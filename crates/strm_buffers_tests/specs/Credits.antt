@@ -1,4 +1,4 @@
--- What a host reader end with a credit tells, and what it answers. Ours.
+-- What a host reader with a credit tells, and what it answers. Ours.
 use Rattle.std.specs.Prelude.{ℕ, ◌==◌, Bool, true, false, ◌&&◌, ◌||◌, nat_lt, if◌then◌else◌, [], map, Some, None}
 use Rattle.strm_codes.specs.declared.codes.TransmitKind.{TransmitKind}
 use Rattle.strm_codes.specs.declared.codes.TransmitKind.TheVariants.{Stream, Future}

@@ -1,4 +1,4 @@
-//! A host reader end that takes what it has credit for.
+//! A host reader that takes what it has credit for.
 
 ghost use Rattle.std.specs.Prelude.{◌≡◌};
 
@@ -18,7 +18,7 @@ pub struct Grant {
     pub count: u32,
 }
 
-/// A reader end that takes items as long as it has credit. A grant adds to that; one of 0 ends it.
+/// A host reader that takes items as long as it has credit. A grant adds to that; one of 0 ends it.
 #[derive(Drop)]
 pub struct CreditReader {
     kind: TransmitKind,
@@ -35,7 +35,7 @@ pub struct CreditReader {
 impl CreditReader {
     ghost use Rattle.strm_buffers_tests.specs.Credits.{credit_tells, unpolled_reader};
 
-    /// A reader end without credit. Takes no memory.
+    /// A host reader without credit. Takes no memory.
     pub fn new(alloc: Global, kind: TransmitKind, payload: Payload) -> CreditReader
         ensures credit { result.credit ≡ 0 }
         ensures tells { credit_tells result ≡ unpolled_reader kind payload }

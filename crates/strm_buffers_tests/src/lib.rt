@@ -1,5 +1,5 @@
 //! Tests of `strm_buffers` and of typed items, by public calls alone, and small host ends that meet
-//! its traits: a writer that never has items, and a reader end with a credit.
+//! its traits: a writer that never has items, and a host reader with a credit.
 #![tactic(auto)]
 
 mod buffers;

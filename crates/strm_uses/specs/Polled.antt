@@ -1,4 +1,4 @@
--- What a caller knows after it polled a host writer, or a host reader end. Ours.
+-- What a caller knows after it polled a host writer, or a host reader. Ours.
 use Rattle.std.specs.Prelude.{◌≡◌, ℕ, Bool, List, ◌∷◌, [], ◌++◌, take, drop, Some}
 use Rattle.std.specs.Option.{option_map}
 use Rattle.strm_codes.specs.Layout.{scalars_of}
@@ -20,7 +20,7 @@ pub record Fetches (old new : WriterTells) (memory after : List ℕ) (address ro
   pub stored : after ≡ stored_at (scalars_of old.payload) memory address (take room said.items)
   pub held : new.holds ≡ drop room said.items
 
--- the reader end told one poll more, of so many items of the memory, of which it took so many from
+-- the host reader told one poll more, of so many items of the memory, of which it took so many from
 -- the first on; where it tells what it took, those are added
 pub record Delivers (old new : ReaderTells) (memory : List ℕ) (address offered : ℕ) (finish : Bool) (taken : ℕ) (answer : Answer) : Type 0 where
   pub said : ReaderSaid

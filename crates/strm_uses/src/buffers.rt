@@ -1,4 +1,4 @@
-//! A boxed host writer fills a guest's memory, and a boxed host reader end takes from one.
+//! A boxed host writer fills a guest's memory, and a boxed host reader takes from one.
 
 ghost use Rattle.std.specs.Prelude.{◌≡◌, ℕ, ◌+◌, ◌*◌, ◌≤◌, [], length};
 ghost use Rattle.strm_codes.specs.Layout.{scalars_of, item_size};
@@ -49,7 +49,7 @@ pub fn fetch(
     turn
 }
 
-/// Offers a host reader end so many items of a guest, from an address of its memory on, which stays
+/// Offers a host reader so many items of a guest, from an address of its memory on, which stays
 /// as it was; and how many it took.
 pub fn deliver(
     alloc: Global,

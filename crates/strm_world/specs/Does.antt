@@ -73,7 +73,7 @@ writer_of duty tells log = record {
   heard = tells.heard;
 }
 
--- and of a reader end
+-- and of a host reader
 abbrev pub reader_of : ReaderTells → List ReaderSaid → Reader
 reader_of tells log = record {
   kind = tells.kind;
@@ -102,7 +102,7 @@ writers_from producers (tells ∷ more) logs =
     writer_of (first_duty producers) tells (first_log logs)
     ∷ writers_from (drop 1 producers) more (drop 1 logs)
 
--- all reader ends
+-- all host readers
 abbrev pub readers_from : List ReaderTells → List (List ReaderSaid) → List Reader
 readers_from [] logs = []
 readers_from (tells ∷ more) logs = reader_of tells (first_log logs) ∷ readers_from more (drop 1 logs)

@@ -22,7 +22,7 @@ pub record Writer : Type 0 where
   pub closed : Bool
   pub heard : Heard (List ℕ)
 
--- a host reader end
+-- a host reader
 pub record Reader : Type 0 where
   pub kind : TransmitKind
   pub payload : Payload
