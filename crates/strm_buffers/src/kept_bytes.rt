@@ -2,16 +2,33 @@
 //!
 //! Source: ours.
 
-ghost use Rattle.std.specs.Prelude.{◌≡◌, ◌+◌, ◌≤◌, ◌++◌, length, take, replicate, OnOk, OnErr};
+ghost use Rattle.std.specs.Prelude.{◌≡◌, ◌+◌, ◌<◌, ◌≤◌, ◌++◌, length, take, replicate, OnOk, OnErr};
 ghost use Rattle.strm_memory.specs.Bytes.{put_at, IsBytes};
-ghost use Rattle.strm_buffers.specs.Windows.{last_of};
+ghost use Rattle.strm_codes.specs.declared.payloads.Payload.TheVariants.{One};
+ghost use Rattle.strm_codes.specs.declared.scalars.Scalar.TheVariants.{U8};
+ghost use Rattle.strm_buffers.specs.Windows.{last_of, to_keep};
 ghost use Rattle.strm_buffers.specs.Keeping.{end_kept, kept_after, space_needed};
 
 use smallvec::SmallVec;
 use strm_codes::counts::OutOfMemory;
+use strm_codes::payloads::Payload;
+use strm_codes::scalars::Scalar;
 
 // Bytes that a window keeps: up to 64 in the window itself.
 pub(crate) type Kept = SmallVec<u8, 64>;
+
+// How many bytes of a room may have to be kept: of another payload than u8 none.
+#[inline(always)]
+pub(crate) fn most_to_keep(payload: Payload, room: Option<u32>) -> usize
+    ensures bytes { payload ≡ One U8 → result ≡ to_keep room }
+    ensures others { 0 < result → payload ≡ One U8 }
+    ensures room { result ≤ to_keep room }
+{
+    match (payload, room) {
+        (Payload::One(Scalar::U8), Some(room)) => room as usize,
+        _ => 0,
+    }
+}
 
 // Where the bytes of a room end: at the room's end, or at that of all bytes.
 pub(crate) fn end_of(address: usize, room: Option<u32>, len: usize) -> usize

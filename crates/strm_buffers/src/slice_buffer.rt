@@ -2,7 +2,7 @@
 //!
 //! Source: wasmtime, `futures_and_streams/buffers.rs`, `SliceBuffer`.
 
-ghost use Rattle.std.specs.Prelude.{◌≡◌, ◌≤◌, length, slice_range};
+ghost use Rattle.std.specs.Prelude.{◌≡◌, ◌+◌, ◌<◌, ◌≤◌, ◌∷◌, ◌++◌, length, take, drop, slice_range, vec_len, vec_capacity};
 
 use crate::buffers::WriteBuffer;
 use std::alloc::Global;
@@ -67,11 +67,33 @@ impl WriteBuffer<u8> for SliceBuffer {
         self.limit - self.offset
     }
 
-    fn skip(&mut self, count: usize) {
+    fn skip(&mut self, count: usize)
+        requires { count ≤ length (slice_range self.old.buffer.items self.old.offset self.old.limit) }
+        ensures rest { slice_range self.new.buffer.items self.new.offset self.new.limit
+            ≡ drop count (slice_range self.old.buffer.items self.old.offset self.old.limit) }
+
+        // The vector and where its bytes end stay.
+        ensures buffer { self.new.buffer ≡ self.old.buffer }
+        ensures offset { self.new.offset ≡ self.old.offset + count }
+        ensures limit { self.new.limit ≡ self.old.limit }
+    {
         self.offset += count;
     }
 
-    fn take(&mut self, count: usize, out: &mut Vec<u8>) {
+    fn take(&mut self, count: usize, out: &mut Vec<u8>)
+        requires items { count ≤ length (slice_range self.old.buffer.items self.old.offset self.old.limit) }
+        requires room { vec_len out.old + count ≤ vec_capacity out.old }
+        ensures moved { out.new.items ≡ out.old.items
+            ++ take count (slice_range self.old.buffer.items self.old.offset self.old.limit) }
+        ensures rest { slice_range self.new.buffer.items self.new.offset self.new.limit
+            ≡ drop count (slice_range self.old.buffer.items self.old.offset self.old.limit) }
+        ensures capacity { vec_capacity out.old ≤ vec_capacity out.new }
+
+        // The vector and where its bytes end stay.
+        ensures buffer { self.new.buffer ≡ self.old.buffer }
+        ensures offset { self.new.offset ≡ self.old.offset + count }
+        ensures limit { self.new.limit ≡ self.old.limit }
+    {
         match out.extend_from_slice(&self.buffer[self.offset..self.offset + count]) {
             Ok(()) => {}
             Err(_) => unreachable!(),
@@ -79,7 +101,16 @@ impl WriteBuffer<u8> for SliceBuffer {
         self.offset += count;
     }
 
-    fn take_first(&mut self) -> u8 {
+    fn take_first(&mut self) -> u8
+        requires { 0 < length (slice_range self.old.buffer.items self.old.offset self.old.limit) }
+        ensures first { slice_range self.old.buffer.items self.old.offset self.old.limit
+            ≡ result ∷ slice_range self.new.buffer.items self.new.offset self.new.limit }
+
+        // The vector and where its bytes end stay.
+        ensures buffer { self.new.buffer ≡ self.old.buffer }
+        ensures offset { self.new.offset ≡ self.old.offset + 1 }
+        ensures limit { self.new.limit ≡ self.old.limit }
+    {
         let item = self.buffer[self.offset];
         self.offset += 1;
         item

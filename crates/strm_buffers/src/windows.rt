@@ -10,16 +10,17 @@ ghost use Rattle.strm_codes.specs.Items.{FitsItem};
 ghost use Rattle.strm_codes.specs.declared.payloads.Payload.TheVariants.{One};
 ghost use Rattle.strm_codes.specs.declared.scalars.Scalar.TheVariants.{U8};
 ghost use Rattle.strm_buffers.specs.Listing.{LieIn, items_in};
-ghost use Rattle.strm_buffers.specs.Windows.{Between, room_of, HasRoom, CanCount, IsBehind, lent_memory, lent_between, with_items, with_marked, with_direct, memory_of, standing, IsSoundPlace};
+ghost use Rattle.strm_buffers.specs.Windows.{Between, room_of, HasRoom, CanCount, IsBehind, to_keep, lent_memory, lent_between, with_items, with_marked, with_direct, memory_of, standing, IsSoundPlace};
 
 use crate::items::{Items, item_place, make_space, write_item, write_items};
-use crate::kept_bytes::{Kept, append_zeros, are_bytes, end_of, keep, last_of, put_back};
+use crate::kept_bytes::{
+    Kept, append_zeros, are_bytes, end_of, keep, last_of, most_to_keep, put_back,
+};
 use smallvec::SmallVec;
 use std::alloc::Global;
 use std::marker::Model;
 use strm_codes::counts::OutOfMemory;
 use strm_codes::payloads::Payload;
-use strm_codes::scalars::Scalar;
 use strm_codes::values::Value;
 use strm_memory::memories::GuestMemory;
 
@@ -91,18 +92,18 @@ impl Window {
     pub fn prepare(&mut self) -> Result<(), OutOfMemory>
         ensures ok { OnOk result (self.new ≡ record self.old { prepared = true }) }
         ensures err { OnErr result (self.new ≡ self.old) }
+        ensures out_of_memory { OnErr result ((self.old.payload ≡ One U8)
+            × (64 < to_keep (room_of self.old.place))) }
     {
-        let most = match (self.payload, self.room) {
-            (Payload::One(Scalar::U8), Some(room)) => room as usize,
-            _ => 0,
-        };
-        match self.kept.reserve_exact(most) {
-            Ok(()) => {
-                self.is_prepared = true;
-                Ok(())
+        let most = most_to_keep(self.payload, self.room);
+        if most > self.kept.capacity() {
+            match self.kept.reserve_exact(most - self.kept.len()) {
+                Ok(()) => {}
+                Err(_) => return Err(OutOfMemory),
             }
-            Err(_) => Err(OutOfMemory),
         }
+        self.is_prepared = true;
+        Ok(())
     }
 
     /// The room lies in the memory, and between host ends nothing is to be prepared: what a host end
