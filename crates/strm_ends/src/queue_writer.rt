@@ -55,9 +55,9 @@ impl QueueWriter {
 
 impl HostWriter for QueueWriter {
     ghost use Rattle.std.specs.Prelude.{[], true, OnOk, OnErr};
-    ghost use Rattle.strm_buffers.specs.Windows.{room_of};
-    ghost use Rattle.strm_buffers.specs.Said.{IfAnswered, IfNoMemory};
-    ghost use Rattle.strm_buffers.specs.Tells.{PollsWriter, KeepsWriter, Fills, writer_record, fed};
+    ghost use Rattle.strm_buffers.specs.Windows.{Between, room_of};
+    ghost use Rattle.strm_buffers.specs.Said.{in_room, IfAnswered, IfNoMemory};
+    ghost use Rattle.strm_buffers.specs.Tells.{PollsWriter, KeepsWriter, ClosesWriter, Fills, writer_record, given, fed};
     ghost use Rattle.strm_ends.specs.Queues.{items_given, queue_left, answer_given, queue_fed};
     ghost use Rattle.strm_ends.specs.QueueTells.{queue_tells, queue_of};
 
@@ -100,7 +100,22 @@ impl HostWriter for QueueWriter {
         0
     }
 
-    fn give(&mut self, _window: &mut Window) -> Result<(), OutOfMemory> {
+    fn give(&mut self, _window: &mut Window) -> Result<(), OutOfMemory>
+        requires payload { _window.old.payload ≡ (queue_tells self.old).payload }
+        requires nothing_marked { _window.old.marked ≡ [] }
+        ensures marked { OnOk result (_window.new.marked ≡
+            in_room (room_of _window.old.place) (queue_tells self.old).holds) }
+        ensures ok { OnOk result (queue_tells self.new ≡
+            given (queue_tells self.old) (room_of _window.old.place)) }
+        ensures unmarked { OnErr result (_window.new.marked ≡ []) }
+        ensures err { OnErr result (queue_tells self.new ≡ queue_tells self.old) }
+        ensures out_of_memory { OnErr result (_window.old.place ≡ Between) }
+        ensures fills { Fills _window.old _window.new }
+
+        // Its queue stays.
+        ensures same_queue { queue_of self.new ≡ queue_of self.old }
+    {
+        // There is never anything held.
         Ok(())
     }
 
@@ -122,7 +137,12 @@ impl HostWriter for QueueWriter {
         }
     }
 
-    fn close(&mut self) {
+    fn close(&mut self)
+        ensures closes { ClosesWriter (queue_tells self.old) (queue_tells self.new) }
+
+        // Its queue stays.
+        ensures same_queue { queue_of self.new ≡ queue_of self.old }
+    {
         self.closed = true;
     }
 

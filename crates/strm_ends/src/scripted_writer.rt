@@ -64,9 +64,10 @@ impl ScriptedWriter {
 }
 
 impl HostWriter for ScriptedWriter {
-    ghost use Rattle.std.specs.Prelude.{[], ◌++◌, drop, true};
-    ghost use Rattle.strm_buffers.specs.Said.{IfAnswered, IfNoMemory};
-    ghost use Rattle.strm_buffers.specs.Tells.{PollsWriter, KeepsWriter, Fills, writer_record};
+    ghost use Rattle.std.specs.Prelude.{[], ◌++◌, drop, true, OnOk, OnErr};
+    ghost use Rattle.strm_buffers.specs.Windows.{Between, room_of};
+    ghost use Rattle.strm_buffers.specs.Said.{in_room, IfAnswered, IfNoMemory};
+    ghost use Rattle.strm_buffers.specs.Tells.{PollsWriter, KeepsWriter, ClosesWriter, Fills, writer_record, given, fed};
     ghost use Rattle.strm_ends.specs.Scripts.{scripted_tells, next_items, next_answer};
 
     ghost writer_tells = { scripted_tells };
@@ -113,7 +114,21 @@ impl HostWriter for ScriptedWriter {
         self.held.len()
     }
 
-    fn give(&mut self, window: &mut Window) -> Result<(), OutOfMemory> {
+    fn give(&mut self, window: &mut Window) -> Result<(), OutOfMemory>
+        requires payload { window.old.payload ≡ self.old.payload }
+        requires nothing_marked { window.old.marked ≡ [] }
+        ensures marked { OnOk result (window.new.marked ≡
+            in_room (room_of window.old.place) self.old.held.items) }
+        ensures ok { OnOk result (scripted_tells self.new ≡
+            given (scripted_tells self.old) (room_of window.old.place)) }
+        ensures unmarked { OnErr result (window.new.marked ≡ []) }
+        ensures err { OnErr result (scripted_tells self.new ≡ scripted_tells self.old) }
+        ensures out_of_memory { OnErr result (window.old.place ≡ Between) }
+        ensures fills { Fills window.old window.new }
+
+        // Its turns stay.
+        ensures turns { self.new.turns.items ≡ self.old.turns.items }
+    {
         match mark_in_room(self.alloc, window, &self.held) {
             Ok(count) => {
                 self.held.skip(count);
@@ -123,11 +138,23 @@ impl HostWriter for ScriptedWriter {
         }
     }
 
-    fn feed(&mut self, _bytes: &[u8]) -> Result<(), OutOfMemory> {
+    fn feed(&mut self, _bytes: &[u8]) -> Result<(), OutOfMemory>
+        ensures ok { OnOk result (scripted_tells self.new ≡ fed (scripted_tells self.old) _bytes.now) }
+        ensures err { OnErr result (scripted_tells self.new ≡ scripted_tells self.old) }
+
+        // Its turns stay.
+        ensures turns { self.new.turns.items ≡ self.old.turns.items }
+    {
+        // What it is fed is ignored.
         Ok(())
     }
 
-    fn close(&mut self) {
+    fn close(&mut self)
+        ensures closes { ClosesWriter (scripted_tells self.old) (scripted_tells self.new) }
+
+        // Its turns stay.
+        ensures turns { self.new.turns.items ≡ self.old.turns.items }
+    {
         self.closed = true;
     }
 
