@@ -57,6 +57,7 @@ pub(crate) fn fetch<P: StreamProducer>(
         Err(error) => return Err(error),
     };
     items.sound();
+    // For its clause: what is marked is within the room.
     let _ = window.marked();
     let count = match mark_rest(window, &items) {
         Ok(count) => count,
