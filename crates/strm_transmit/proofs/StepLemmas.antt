@@ -2,11 +2,16 @@
 -- what may be done is what the machine performs. A call gives its test and its doing.
 use Rattle.std.proofs.Common.{◌≡◌, ap, Bool, true, false, cond, Option, Some, None, Result, Ok, Err, refl, sym, subst, ◌∙◌}
 use Rattle.strm_codes.specs.declared.refusals.Refusal.{Refusal}
+use Rattle.strm_codes.specs.declared.refusals.Refusal.TheVariants as refusals
+use Rattle.strm_handles.specs.declared.errors.HandleError.{HandleError}
+use Rattle.strm_handles.specs.declared.errors.HandleError.TheVariants as errors
 use Rattle.strm_machine.specs.State.{State}
-use Rattle.strm_machine.specs.Refusals.{refusal}
+use Rattle.strm_machine.specs.Refusals.{refusal, first_of, slot_reasons, handle_reasons}
+use Rattle.strm_machine.specs.Tests.{Name}
 use Rattle.strm_machine.specs.Reactions.{Reaction, performs, reaction}
 use Rattle.strm_machine.specs.declared.acts.Act.{Act}
 use Rattle.strm_machine.specs.declared.replies.Reply.{Reply}
+use Rattle.strm_machine.proofs.NameLemmas.{IsEndError, IsNameError}
 use Rattle.strm_machine.proofs.ReactionLemmas.{reaction-trapped, reaction-refused, reaction-performs}
 use Rattle.strm_transmit.specs.Meets.{Meets, as_answer, admitted, or_found}
 use Rattle.strm_transmit.specs.declared.errors.StoreError.{StoreError}
@@ -43,6 +48,38 @@ module _ {V : Type 0} (state : State) (o : Option Refusal) (wanted : V) (found :
       trapped_or : (b : Bool) → state.trapped ≡ b → Err error ≡ cond b (Err StoreTrapped) (as_answer {T = V} (or_found o wanted)) → P error
       trapped_or true t k = let same : StoreTrapped ≡ error = cc in subst P same (f t)
       trapped_or false t k = refused o t refl k
+
+-- ## What a look-up of a handle came to
+
+-- a look-up that asks for no type comes to a refusal of those that one of an end has
+pub end_is_name : (error : HandleError) → IsEndError error → IsNameError error
+end_is_name errors.UnknownHandle h = tt
+end_is_name errors.WrongKind h = tt
+end_is_name _ h = absurd h
+
+-- the refusal that it comes to
+pub record Refuses (error : HandleError) (q : Refusal) : Type 0 where
+  pub unknown : error ≡ errors.UnknownHandle → q ≡ refusals.UnknownHandle
+  pub kind : error ≡ errors.WrongKind → q ≡ refusals.WrongKind
+  pub ty : error ≡ errors.WrongType → q ≡ refusals.WrongType
+
+slot_first : (A : Type 0) (error : HandleError) (q : Refusal) → IsEndError error → Refuses error q → first_of (slot_reasons {A = A} (Err error)) ≡ Some q
+slot_first A errors.UnknownHandle q h r = ap Some (sym (r.unknown refl))
+slot_first A errors.WrongKind q h r = ap Some (sym (r.kind refl))
+slot_first A _ q h r = absurd h
+
+name_first : (error : HandleError) (q : Refusal) → IsNameError error → Refuses error q → first_of (handle_reasons (Err error)) ≡ Some q
+name_first errors.UnknownHandle q h r = ap Some (sym (r.unknown refl))
+name_first errors.WrongKind q h r = ap Some (sym (r.kind refl))
+name_first errors.WrongType q h r = ap Some (sym (r.ty refl))
+name_first _ q h r = absurd h
+
+-- a handle that was not found is refused so
+pub slot_refused : {A V : Type 0} (name : Result A HandleError) (error : HandleError) (q : Refusal) (v : V) → Err error ≡ name → IsEndError error → Refuses error q → Err q ≡ or_found (first_of (slot_reasons name)) v
+slot_refused {A = A} name error q v is h r = sym (ap (λ o. or_found o v) (ap (λ x. first_of (slot_reasons x)) (sym is) ∙ slot_first A error q h r))
+
+pub name_refused : {V : Type 0} (name : Name) (error : HandleError) (q : Refusal) (v : V) → Err error ≡ name → IsNameError error → Refuses error q → Err q ≡ or_found (first_of (handle_reasons name)) v
+name_refused name error q v is h r = sym (ap (λ o. or_found o v) (ap (λ x. first_of (handle_reasons x)) (sym is) ∙ name_first error q h r))
 
 -- ## An act
 

@@ -3,9 +3,10 @@
 //! Meaning: `State.antt` of `strm_machine`. Source: wasmtime, `futures_and_streams.rs`,
 //! `ConcurrentState`; the tag and the limits but those on handles are ours.
 
-ghost use Rattle.std.specs.Prelude.{◌≡◌, ◌≢◌, Err, ◌<◌, ◌↔◌, length, Some, None, IsSome, IfSome, IsTrue};
+ghost use Rattle.std.specs.Prelude.{◌≡◌, ◌≢◌, Err, ◌<◌, ◌↔◌, false, length, Some, None, IsSome, IfSome, IsTrue};
 ghost use Rattle.strm_codes.specs.Types.{kind_of, payload_of};
 ghost use Rattle.strm_machine.specs.State.{empty, is_live, stream_at, memory_in};
+ghost use Rattle.strm_machine.specs.Tests.{is_unknown_guest};
 
 mod contexts;
 mod driving;
@@ -165,6 +166,15 @@ impl Store {
         }
     }
 
+    // Whether no guest has this number.
+    #[inline(always)]
+    fn is_unknown_guest(&self, guest: u32) -> bool
+        ensures exact { result ≡ is_unknown_guest self.now guest }
+        ensures there { result ≡ false → guest < length self.now.guests }
+    {
+        guest as usize >= self.guests.len()
+    }
+
     // A stream.
     #[inline(always)]
     pub(crate) fn stream(&self, stream: u32) -> &Stream
@@ -186,9 +196,6 @@ impl Store {
         if self.is_trapped {
             return Err(StoreError::StoreTrapped);
         }
-        match found {
-            Ok(value) => Ok(value),
-            Err(refusal) => Err(StoreError::Refused(refusal)),
-        }
+        Ok(found?)
     }
 }

@@ -24,6 +24,7 @@ ghost use Rattle.strm_transmit.specs.Hosted.{StillFits};
 
 use crate::errors::StoreError;
 use crate::store::Store;
+use crate::store::refusals::refusal_of;
 use strm_codes::refusals::Refusal;
 use strm_contexts::messages::message_of;
 use strm_handles::entries::MAX_HANDLE;
@@ -52,9 +53,7 @@ impl Store {
     {
         match self.context_name(guest, handle) {
             Ok(context) => Ok(context),
-            Err(HandleError::UnknownHandle) => Err(Refusal::UnknownHandle),
-            Err(HandleError::WrongKind) => Err(Refusal::WrongKind),
-            Err(_) => unreachable!(),
+            Err(error) => Err(refusal_of(error)),
         }
     }
 
@@ -64,14 +63,14 @@ impl Store {
             (context_number self.now guest handle) }
         ensures there { IfOk result (λ _. guest < length self.now.guests) }
     {
-        if guest as usize >= self.guests.len() {
+        if self.is_unknown_guest(guest) {
             return Err(Refusal::UnknownGuest);
         }
         self.slot_found(guest, handle)
     }
 
     // Why a guest may not have a handle more.
-    fn handle_more_refusal(&self, guest: u32) -> Option<Refusal>
+    pub(crate) fn handle_more_refusal(&self, guest: u32) -> Option<Refusal>
         requires { guest < length self.now.guests }
         ensures { result ≡ first_of (handle_more_reasons self.now guest) }
     {
@@ -85,7 +84,7 @@ impl Store {
     }
 
     // Whether so many bytes pass the end of a guest's memory.
-    fn is_outside(&self, guest: u32, address: u32, count: u32) -> bool
+    pub(crate) fn is_outside(&self, guest: u32, address: u32, count: u32) -> bool
         requires { guest < length self.now.guests }
         ensures { result ≡ are_bytes_out_of_bounds self.now guest address count }
     {
@@ -128,7 +127,7 @@ impl Store {
     fn context_fits(&self, guest: u32, address: u32, len: u32) -> Result<(), Refusal>
         ensures { result ≡ or_found (refusal self.now (Make (Context guest address len))) tt }
     {
-        if guest as usize >= self.guests.len() {
+        if self.is_unknown_guest(guest) {
             return Err(Refusal::UnknownGuest);
         }
         if let Some(refusal) = self.message_refusal(guest, address, len) {
@@ -151,10 +150,7 @@ impl Store {
             (performs self.old (Make (Context guest address len))) }
     {
         let (guests, contexts, counter) = (&mut self.guests, &mut self.contexts, &mut self.counter);
-        match give_context(guests, contexts, counter, guest as usize, address, len) {
-            Ok(handle) => Ok(handle),
-            Err(_) => Err(StoreError::OutOfMemory),
-        }
+        Ok(give_context(guests, contexts, counter, guest as usize, address, len)?)
     }
 
     /// An error context of a guest, whose message is so many bytes of its memory from `address` on:
@@ -244,8 +240,7 @@ impl Store {
         ensures { result ≡ or_found (refusal self.now (OnContext guest handle (Move to)))
             (context_number self.now guest handle) }
     {
-        let guests = self.guests.len();
-        if guest as usize >= guests || to as usize >= guests {
+        if self.is_unknown_guest(guest) || self.is_unknown_guest(to) {
             return Err(Refusal::UnknownGuest);
         }
         match self.slot_found(guest, handle) {
@@ -272,10 +267,7 @@ impl Store {
             (shares self.old context guest) }
     {
         let (guests, contexts, counter) = (&mut self.guests, &mut self.contexts, &mut self.counter);
-        match share_context(guests, contexts, counter, guest as usize, context) {
-            Ok(handle) => Ok(handle),
-            Err(_) => Err(StoreError::OutOfMemory),
-        }
+        Ok(share_context(guests, contexts, counter, guest as usize, context)?)
     }
 
     /// Gives another guest, or the same, a handle to the error context that a handle names, which
@@ -349,7 +341,7 @@ impl Store {
     fn lower_context_fits(&self, context: u32, guest: u32) -> Result<(), Refusal>
         ensures { result ≡ or_found (first_of (lower_context_reasons self.now context guest)) tt }
     {
-        if guest as usize >= self.guests.len() {
+        if self.is_unknown_guest(guest) {
             return Err(Refusal::UnknownGuest);
         }
         if !self.contexts.is_there(context) {

@@ -23,7 +23,7 @@ ghost use Rattle.strm_transmit.specs.Hosted.{StillFits, MeetsHosted};
 
 use crate::errors::StoreError;
 use crate::store::Store;
-use crate::store::refusals::side_of;
+use crate::store::refusals::{refusal_of, side_of};
 use strm_buffers::hosts::Hosts;
 use strm_codes::codes::{ReturnCode, TransmitIndex};
 use strm_codes::payloads::Payload;
@@ -60,9 +60,7 @@ impl Store {
     {
         match self.end_name(guest, handle) {
             Ok(name) => Ok((name.0, side_of(name.1))),
-            Err(HandleError::UnknownHandle) => Err(Refusal::UnknownHandle),
-            Err(HandleError::WrongKind) => Err(Refusal::WrongKind),
-            Err(_) => unreachable!(),
+            Err(error) => Err(refusal_of(error)),
         }
     }
 
@@ -74,7 +72,7 @@ impl Store {
             (stream_named (end_named self.now guest handle), side_named (end_named self.now guest handle)) }
         ensures there { IfOk result (λ found. found.0 < length self.now.streams) }
     {
-        if guest as usize >= self.guests.len() {
+        if self.is_unknown_guest(guest) {
             return Err(Refusal::UnknownGuest);
         }
         self.end_found(guest, handle)
@@ -110,7 +108,7 @@ impl Store {
             (stream_named (named self.now end.now)) }
         ensures there { IfOk result (λ stream. stream < length self.now.streams) }
     {
-        if end.guest as usize >= self.guests.len() {
+        if self.is_unknown_guest(end.guest) {
             return Err(Refusal::UnknownGuest);
         }
         self.found(side, end, EndAct::Drop)
@@ -226,7 +224,7 @@ impl Store {
             (stream_named (named self.now end.now)) }
         ensures there { IfOk result (λ stream. stream < length self.now.streams) }
     {
-        if end.guest as usize >= self.guests.len() {
+        if self.is_unknown_guest(end.guest) {
             return Err(Refusal::UnknownGuest);
         }
         self.found(side, end, EndAct::Cancel)

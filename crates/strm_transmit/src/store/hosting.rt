@@ -22,48 +22,17 @@ ghost use Rattle.strm_transmit.specs.Hosted.{FitsAt, forsaken_in, MeetsHosted};
 
 use crate::errors::StoreError;
 use crate::store::Store;
-use crate::store::making::place;
+use crate::store::making::{new_stream, place};
 use crate::store::moves::same_kind;
 use strm_buffers::hosts::Hosts;
 use strm_codes::codes::TransmitKind;
 use strm_codes::payloads::Payload;
 use strm_codes::refusals::Refusal;
 use strm_machine::chunks::Chunk;
-use strm_machine::streams::{Duty, End, Owner, Producer, Side, Stream};
+use strm_machine::streams::{Duty, Owner, Producer, Side, Stream};
 
 /// Host writers are numbered from 0 to 63.
 pub(crate) const MOST_HOSTS: usize = 64;
-
-fn idle_end(owner: Owner) -> End
-    ensures { result ≡ idle_end owner }
-{
-    End {
-        owner,
-        told: false,
-        operation: None,
-    }
-}
-
-// A stream that a host writer writes, its read end loose.
-fn hosted_stream(kind: TransmitKind, payload: Payload, number: u32) -> Stream
-    ensures { result ≡ record {
-      kind = kind;
-      payload = payload;
-      passed = false;
-      writer = idle_end (Host number);
-      reader = idle_end Loose;
-      received = 0;
-    } }
-{
-    Stream {
-        kind,
-        payload,
-        passed: false,
-        writer: idle_end(Owner::Host { number }),
-        reader: idle_end(Owner::Loose),
-        received: 0,
-    }
-}
 
 // Whether a number is none of the host writers.
 fn is_unknown_host(hosts: &Hosts, host: u32) -> bool
@@ -156,11 +125,8 @@ impl Store {
         ensures err { OnErr result (self.new ≡ self.old) }
     {
         let stream = self.streams.len() as u32;
-        match self.streams.reserve(1) {
-            Ok(()) => {}
-            Err(_) => return Err(StoreError::OutOfMemory),
-        }
-        let hosted = hosted_stream(kind, payload, number);
+        self.streams.reserve(1)?;
+        let hosted = new_stream(kind, payload, Owner::Host { number }, Owner::Loose);
         place(&mut self.streams, &hosted);
         self.live_streams += 1;
         self.producers[number as usize] = Producer {

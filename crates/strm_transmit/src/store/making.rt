@@ -5,7 +5,6 @@
 
 ghost use Rattle.std.specs.Prelude.{◌≡◌, ◌<◌, ◌+◌, ◌*◌, nat_lt, ◌||◌, ◌++◌, ◌∷◌, [], false, length, vec_len, Err, None};
 ghost use Rattle.std.specs.Vec.{vec_capacity};
-ghost use Rattle.strm_codes.specs.Types.{kind_of, payload_of};
 ghost use Rattle.strm_codes.specs.declared.codes.TransmitIndex.{TransmitIndex};
 ghost use Rattle.strm_codes.specs.declared.codes.TransmitIndex.TheVariants as index;
 ghost use Rattle.strm_handles.specs.Handles.{next_index};
@@ -18,13 +17,12 @@ ghost use Rattle.strm_machine.specs.declared.acts.Act.TheVariants.{Make};
 ghost use Rattle.strm_machine.specs.declared.acts.Making.TheVariants.{Between};
 ghost use Rattle.strm_machine.specs.declared.replies.Reply.TheVariants as replies;
 ghost use Rattle.strm_machine.specs.declared.steps.Step.TheVariants as steps;
-ghost use Rattle.strm_machine.specs.declared.streams.Owner.TheVariants.{Held};
 ghost use Rattle.strm_transmit.specs.Meets.{Meets, replied, or_found};
 ghost use Rattle.strm_transmit.specs.Hosted.{StillFits};
 
 use crate::errors::StoreError;
 use crate::store::Store;
-use strm_codes::codes::TransmitIndex;
+use strm_codes::codes::{TransmitIndex, TransmitKind};
 use strm_codes::payloads::Payload;
 use strm_codes::refusals::Refusal;
 use strm_handles::entries::MAX_HANDLE;
@@ -35,33 +33,38 @@ use strm_turns::ends::insert_ends;
 /// The streams of a store, at most.
 const MOST_STREAMS: usize = 4_294_967_295;
 
-fn idle_end(guest: u32, handle: u32) -> End
-    ensures { result ≡ idle_end (Held guest handle) }
+fn idle_end(owner: Owner) -> End
+    ensures { result ≡ idle_end owner }
 {
     End {
-        owner: Owner::Held { guest, handle },
+        owner,
         told: false,
         operation: None,
     }
 }
 
-// A stream whose ends two guests hold.
-fn made_stream(ty: TransmitIndex, writer: End, reader: End) -> Stream
+// A stream whose ends these have.
+pub(crate) fn new_stream(
+    kind: TransmitKind,
+    payload: Payload,
+    writer: Owner,
+    reader: Owner,
+) -> Stream
     ensures { result ≡ record {
-      kind = kind_of ty;
-      payload = payload_of ty;
+      kind = kind;
+      payload = payload;
       passed = false;
-      writer = writer;
-      reader = reader;
+      writer = idle_end writer;
+      reader = idle_end reader;
       received = 0;
     } }
 {
     Stream {
-        kind: ty.kind(),
-        payload: ty.payload(),
+        kind,
+        payload,
         passed: false,
-        writer,
-        reader,
+        writer: idle_end(writer),
+        reader: idle_end(reader),
         received: 0,
     }
 }
@@ -143,8 +146,7 @@ impl Store {
         ensures { (ty : TransmitIndex) → result
             ≡ or_found (refusal self.now (Make (Between writer reader ty))) tt }
     {
-        let guests = self.guests.len();
-        if writer as usize >= guests || reader as usize >= guests {
+        if self.is_unknown_guest(writer) || self.is_unknown_guest(reader) {
             return Err(Refusal::UnknownGuest);
         }
         if self.is_number_missing(writer, reader) {
@@ -167,34 +169,37 @@ impl Store {
             (performs self.old (Make (Between writer reader ty))) }
     {
         let stream = self.streams.len() as u32;
-        let made = ty;
-        match self.streams.reserve(1) {
-            Ok(()) => {}
-            Err(_) => return Err(StoreError::OutOfMemory),
-        }
+        let (kind, payload) = (ty.kind(), ty.payload());
+        self.streams.reserve(1)?;
         let (guests, counter) = (&mut self.guests, &mut self.counter);
-        match insert_ends(
+        let numbers = insert_ends(
             guests,
             counter,
             writer as usize,
             reader as usize,
             ty,
             stream,
-        ) {
-            Ok(numbers) => {
-                let (read, write) = numbers;
-                let ends = (idle_end(writer, write), idle_end(reader, read));
-                let joined = made_stream(made, ends.0, ends.1);
-                place(&mut self.streams, &joined);
-                self.live_streams += 1;
-                Ok(Pair {
-                    read,
-                    write,
-                    stream,
-                })
-            }
-            Err(_) => Err(StoreError::OutOfMemory),
-        }
+        )?;
+        let (read, write) = numbers;
+        let joined = new_stream(
+            kind,
+            payload,
+            Owner::Held {
+                guest: writer,
+                handle: write,
+            },
+            Owner::Held {
+                guest: reader,
+                handle: read,
+            },
+        );
+        place(&mut self.streams, &joined);
+        self.live_streams += 1;
+        Ok(Pair {
+            read,
+            write,
+            stream,
+        })
     }
 
     /// A stream or future between two guests, which may be one: the read end's handle goes into the

@@ -51,14 +51,8 @@ impl Store {
             (performs self.old (Make (NewGuest size))) }
     {
         let number = self.guests.len() as u32;
-        let memory = match GuestMemory::new(self.alloc, size) {
-            Ok(memory) => memory,
-            Err(_) => return Err(StoreError::OutOfMemory),
-        };
-        match self.guests.reserve(1) {
-            Ok(()) => {}
-            Err(_) => return Err(StoreError::OutOfMemory),
-        }
+        let memory = GuestMemory::new(self.alloc, size)?;
+        self.guests.reserve(1)?;
         self.guests.push_reserved(Guest {
             memory,
             table: HandleTable::new(self.alloc),
@@ -81,14 +75,13 @@ impl Store {
     }
 
     // Whether so many bytes of a guest's memory may be looked at.
-    fn bytes_fit(&self, guest: u32, address: u32, count: usize) -> Result<(), Refusal>
-        requires { count ≤ 64 }
+    fn bytes_fit(&self, guest: u32, address: u32, count: u32) -> Result<(), Refusal>
         ensures { result ≡ or_found (first_of (bytes_reasons self.now guest address count)) tt }
     {
-        let Some(memory) = self.memory(guest) else {
+        if self.is_unknown_guest(guest) {
             return Err(Refusal::UnknownGuest);
-        };
-        if count > 0 && memory.len() < address as usize + count {
+        }
+        if self.is_outside(guest, address, count) {
             return Err(Refusal::OutOfBounds);
         }
         Ok(())
@@ -99,7 +92,7 @@ impl Store {
         ensures { result
             ≡ or_found (refusal self.now (OnMemory guest (Poke address bytes.now))) tt }
     {
-        self.bytes_fit(guest, address, bytes.as_slice().len())
+        self.bytes_fit(guest, address, bytes.as_slice().len() as u32)
     }
 
     // Bytes put into a guest's memory.
@@ -132,7 +125,7 @@ impl Store {
         requires { len ≤ 64 }
         ensures { result ≡ or_found (refusal self.now (OnMemory guest (Dump address len))) tt }
     {
-        self.bytes_fit(guest, address, len as usize)
+        self.bytes_fit(guest, address, len)
     }
 
     // So many bytes of a guest's memory.

@@ -115,8 +115,7 @@ impl Store {
         ensures { result ≡ or_found (refusal self.now (OnEnd side end.now (Move to)))
             (stream_named (named self.now end.now)) }
     {
-        let guests = self.guests.len();
-        if end.guest as usize >= guests || to as usize >= guests {
+        if self.is_unknown_guest(end.guest) || self.is_unknown_guest(to) {
             return Err(Refusal::UnknownGuest);
         }
         match self.found(side, end, EndAct::Move { to }) {
@@ -144,15 +143,11 @@ impl Store {
         ensures takes_no_memory { end.now.guest ≡ to → result ≢ Err StoreError.OutOfMemory }
     {
         let (guests, counter) = (&mut self.guests, &mut self.counter);
-        match move_end(guests, counter, side, end, to as usize, stream) {
-            Ok(handle) => {
-                let owner = Owner::Held { guest: to, handle };
-                let (streams, live_streams) = (&mut self.streams, &mut self.live_streams);
-                set_owner(streams, live_streams, stream as usize, side, owner);
-                Ok(handle)
-            }
-            Err(_) => Err(StoreError::OutOfMemory),
-        }
+        let handle = move_end(guests, counter, side, end, to as usize, stream)?;
+        let owner = Owner::Held { guest: to, handle };
+        let (streams, live_streams) = (&mut self.streams, &mut self.live_streams);
+        set_owner(streams, live_streams, stream as usize, side, owner);
+        Ok(handle)
     }
 
     /// The end that a handle names goes to another guest, or to the same: its handle is freed, and
@@ -220,7 +215,7 @@ impl Store {
         ensures { result ≡ or_found (refusal self.now (OnEnd side end.now Lift))
             (stream_named (named self.now end.now)) }
     {
-        if end.guest as usize >= self.guests.len() {
+        if self.is_unknown_guest(end.guest) {
             return Err(Refusal::UnknownGuest);
         }
         match self.found(side, end, EndAct::Lift) {
@@ -273,7 +268,7 @@ impl Store {
     fn lower_fits(&self, reader: u32, guest: u32, ty: &TransmitIndex) -> Result<(), Refusal>
         ensures { result ≡ or_found (refusal self.now (OnLoose reader (Lower guest ty.now))) tt }
     {
-        if guest as usize >= self.guests.len() {
+        if self.is_unknown_guest(guest) {
             return Err(Refusal::UnknownGuest);
         }
         if self.is_unknown_reader(reader) {
@@ -285,13 +280,10 @@ impl Store {
         if self.stream(reader).payload != ty.payload() {
             return Err(Refusal::WrongType);
         }
-        if self.guests[guest as usize].table.next_index() >= MAX_HANDLE {
-            return Err(Refusal::IndexOverflow);
+        match self.handle_more_refusal(guest) {
+            Some(refusal) => Err(refusal),
+            None => Ok(()),
         }
-        if self.are_handles_full(1) {
-            return Err(Refusal::HandleLimit);
-        }
-        Ok(())
     }
 
     // The loose read end of a stream comes into a guest. After want of memory nothing has changed.
@@ -302,15 +294,11 @@ impl Store {
             (lowers self.old reader guest ty) }
     {
         let (guests, counter) = (&mut self.guests, &mut self.counter);
-        match give_end(guests, counter, guest as usize, Side::Reading, ty, reader) {
-            Ok(handle) => {
-                let owner = Owner::Held { guest, handle };
-                let (streams, live_streams) = (&mut self.streams, &mut self.live_streams);
-                set_owner(streams, live_streams, reader as usize, Side::Reading, owner);
-                Ok(handle)
-            }
-            Err(_) => Err(StoreError::OutOfMemory),
-        }
+        let handle = give_end(guests, counter, guest as usize, Side::Reading, ty, reader)?;
+        let owner = Owner::Held { guest, handle };
+        let (streams, live_streams) = (&mut self.streams, &mut self.live_streams);
+        set_owner(streams, live_streams, reader as usize, Side::Reading, owner);
+        Ok(handle)
     }
 
     /// Gives a guest the loose read end of a stream or future, by the stream's number: the answer is

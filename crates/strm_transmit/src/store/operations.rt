@@ -62,7 +62,7 @@ impl Store {
             (items_asked end.now.ty count) }
         ensures there { OnOk result (end.now.guest < length self.now.guests) }
     {
-        if end.guest as usize >= self.guests.len() {
+        if self.is_unknown_guest(end.guest) {
             return Err(Refusal::UnknownGuest);
         }
         let Ok(items) = items_asked(end.ty, count) else {

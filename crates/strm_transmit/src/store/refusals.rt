@@ -5,6 +5,7 @@
 
 ghost use Rattle.std.specs.Prelude.{◌≡◌, ◌<◌, ◌++◌, length, IfOk, IfErr};
 ghost use Rattle.strm_codes.specs.Types.{payload_of};
+ghost use Rattle.strm_codes.specs.declared.refusals.Refusal.TheVariants as refusals;
 ghost use Rattle.strm_memory.specs.Items.{is_number_or_none};
 ghost use Rattle.strm_machine.specs.State.{stream_at};
 ghost use Rattle.strm_machine.specs.Tests.{named, stream_named, side_named, side_of, has_ended, owes_value, is_cancel_under_way, is_spent, is_within_one_guest};
@@ -21,6 +22,22 @@ use strm_handles::errors::HandleError;
 use strm_machine::acts::{EndAct, NamedEnd};
 use strm_machine::streams::{Side, Stream};
 use strm_turns::sides::{end_of, is_busy, opposite, same_side};
+
+// What a look-up of a handle came to, as a refusal.
+#[inline(always)]
+pub(crate) fn refusal_of(error: HandleError) -> Refusal
+    requires { IsNameError error }
+    ensures unknown { error ≡ HandleError.UnknownHandle → result ≡ refusals.UnknownHandle }
+    ensures kind { error ≡ HandleError.WrongKind → result ≡ refusals.WrongKind }
+    ensures ty { error ≡ HandleError.WrongType → result ≡ refusals.WrongType }
+{
+    match error {
+        HandleError::UnknownHandle => Refusal::UnknownHandle,
+        HandleError::WrongKind => Refusal::WrongKind,
+        HandleError::WrongType => Refusal::WrongType,
+        _ => unreachable!(),
+    }
+}
 
 // The side of an end, by a table's state of it.
 #[inline(always)]
@@ -189,10 +206,7 @@ impl Store {
     {
         match self.name(end) {
             Ok(name) => Ok((name.0, side_of(name.1))),
-            Err(HandleError::UnknownHandle) => Err(Refusal::UnknownHandle),
-            Err(HandleError::WrongKind) => Err(Refusal::WrongKind),
-            Err(HandleError::WrongType) => Err(Refusal::WrongType),
-            Err(_) => unreachable!(),
+            Err(error) => Err(refusal_of(error)),
         }
     }
 

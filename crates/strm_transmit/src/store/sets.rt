@@ -22,15 +22,14 @@ ghost use Rattle.strm_transmit.specs.Hosted.{StillFits};
 
 use crate::errors::StoreError;
 use crate::store::Store;
-use crate::store::refusals::side_of;
+use crate::store::refusals::{refusal_of, side_of};
 use strm_codes::refusals::Refusal;
-use strm_handles::entries::MAX_HANDLE;
 use strm_handles::errors::HandleError;
 use strm_machine::replies::Member;
 use strm_turns::endings::report_on;
 use strm_turns::sets::{give_set, has_member, join_set, leave_set, remove_set};
 
-// One more than a count that is below a limit.
+// One more than a count that is below a limit, which is there for the contract alone.
 fn one_more(count: u32, limit: u32) -> u32
     requires { count < limit }
     ensures { result ≡ count + 1 }
@@ -60,9 +59,7 @@ impl Store {
     {
         match self.set_name(guest, set) {
             Ok(number) => Ok(number),
-            Err(HandleError::UnknownHandle) => Err(Refusal::UnknownHandle),
-            Err(HandleError::WrongKind) => Err(Refusal::WrongKind),
-            Err(_) => unreachable!(),
+            Err(error) => Err(refusal_of(error)),
         }
     }
 
@@ -71,14 +68,11 @@ impl Store {
     fn set_fits(&self, guest: u32) -> Result<(), Refusal>
         ensures { result ≡ or_found (refusal self.now (Make (Set guest))) tt }
     {
-        if guest as usize >= self.guests.len() {
+        if self.is_unknown_guest(guest) {
             return Err(Refusal::UnknownGuest);
         }
-        if self.guests[guest as usize].table.next_index() >= MAX_HANDLE {
-            return Err(Refusal::IndexOverflow);
-        }
-        if self.are_handles_full(1) {
-            return Err(Refusal::HandleLimit);
+        if let Some(refusal) = self.handle_more_refusal(guest) {
+            return Err(refusal);
         }
         if self.are_places_full(1) {
             return Err(Refusal::Full);
@@ -94,13 +88,9 @@ impl Store {
             (performs self.old (Make (Set guest))) }
     {
         let (guests, counter) = (&mut self.guests, &mut self.counter);
-        match give_set(guests, counter, guest as usize) {
-            Ok(handle) => {
-                self.live_sets = one_more(self.live_sets, self.limits.places);
-                Ok(handle)
-            }
-            Err(_) => Err(StoreError::OutOfMemory),
-        }
+        let handle = give_set(guests, counter, guest as usize)?;
+        self.live_sets = one_more(self.live_sets, self.limits.places);
+        Ok(handle)
     }
 
     /// A waitable set of a guest, without members: the answer is its handle. Refused, in this order,
@@ -136,7 +126,7 @@ impl Store {
         ensures { result ≡ or_found (refusal self.now (OnSet guest set (Join handle)))
             (number_named (set_named self.now guest set)) }
     {
-        if guest as usize >= self.guests.len() {
+        if self.is_unknown_guest(guest) {
             return Err(Refusal::UnknownGuest);
         }
         match self.joined_found(guest, set) {
@@ -165,10 +155,8 @@ impl Store {
             leave_set(&mut self.guests, guest as usize, handle);
             return Ok(());
         }
-        match join_set(&mut self.guests, guest as usize, number, handle) {
-            Ok(()) => Ok(()),
-            Err(_) => Err(StoreError::OutOfMemory),
-        }
+        join_set(&mut self.guests, guest as usize, number, handle)?;
+        Ok(())
     }
 
     /// The end that a handle names joins a waitable set of its guest, and leaves the one that it was
@@ -244,7 +232,7 @@ impl Store {
         ensures there { IfOk result (λ number.
             is_there (sets_in self.now.guests guest) number ≡ true) }
     {
-        if guest as usize >= self.guests.len() {
+        if self.is_unknown_guest(guest) {
             return Err(Refusal::UnknownGuest);
         }
         self.set_found(guest, set)
@@ -283,7 +271,7 @@ impl Store {
         ensures { result ≡ or_found (refusal self.now (OnSet guest set Drop))
             (number_named (set_named self.now guest set)) }
     {
-        if guest as usize >= self.guests.len() {
+        if self.is_unknown_guest(guest) {
             return Err(Refusal::UnknownGuest);
         }
         match self.set_found(guest, set) {

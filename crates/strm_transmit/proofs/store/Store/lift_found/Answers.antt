@@ -1,10 +1,8 @@
-use Rattle.std.proofs.Common.{◌<◌, ◌++◌, length, sym, ◌∙◌, arith}
-use Rattle.std.proofs.lemmas.List.{length-map}
+use Rattle.std.proofs.Common.{◌++◌, sym, ◌∙◌}
 use Rattle.strm_codes.specs.declared.refusals.Refusal.TheVariants.{UnknownGuest}
 use Rattle.strm_machine.specs.Tests.{named, stream_named, is_unknown_guest}
 use Rattle.strm_machine.specs.Refusals.{handle_reasons, own_reasons, last_reasons, refusal}
 use Rattle.strm_machine.specs.declared.acts.EndAct.TheVariants.{Lift}
-use Rattle.strm_turns.specs.Guests.{guest_of}
 use Rattle.strm_transmit.proofs.OperationLemmas.{first_refused, then_refused, behind, known}
 use Rattle.strm_transmit.proofs.store.Store.lift_found.Goals as goal
 
@@ -14,7 +12,7 @@ returns-in-Some c =
     let state = c.args.self.now in
     let end = c.args.end.now in
     let name = named state end in
-    let there : end.guest < length state.guests = rw (← c.self.view_is) (omega (arith, c.if-end-len.false, c.len.ensures, c.self.inside.guests.ok, length-map c.self.inside.guests.items guest_of)) in
+    let there = c.is_unknown_guest.ensures.there c.if-is_unknown_guest.false in
     behind (is_unknown_guest state end.guest) UnknownGuest
     ((handle_reasons name ++ own_reasons state c.args.side end Lift) ++ last_reasons state end Lift) _ (stream_named name) (known state end.guest there)
     (then_refused (handle_reasons name ++ own_reasons state c.args.side end Lift) (last_reasons state end Lift)
@@ -26,7 +24,7 @@ returns-in-Err c =
     let state = c.args.self.now in
     let end = c.args.end.now in
     let name = named state end in
-    let there : end.guest < length state.guests = rw (← c.self.view_is) (omega (arith, c.if-end-len.false, c.len.ensures, c.self.inside.guests.ok, length-map c.self.inside.guests.items guest_of)) in
+    let there = c.is_unknown_guest.ensures.there c.if-is_unknown_guest.false in
     behind (is_unknown_guest state end.guest) UnknownGuest
     ((handle_reasons name ++ own_reasons state c.args.side end Lift) ++ last_reasons state end Lift) _ (stream_named name) (known state end.guest there)
     (first_refused (handle_reasons name ++ own_reasons state c.args.side end Lift) (last_reasons state end Lift) c.in-Err.refusal

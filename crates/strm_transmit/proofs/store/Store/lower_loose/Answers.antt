@@ -23,9 +23,9 @@ give_end-requires-clause-below c =
 pub set_owner-requires-clause-there : goal.set_owner-requires-clause-there
 set_owner-requires-clause-there c = lower_made (state_of c.self.inside) c.args.reader c.args.guest c.args.ty (rw (← c.self.view_is) at c.requires.may)
 
-pub invariant_of-self : goal.invariant_of-self
-invariant_of-self c =
-    IsStore-lowered c.self.inside _ c.args.reader c.args.guest c.args.ty c.in-Ok.handle
+pub invariant_of-self-2 : goal.invariant_of-self-2
+invariant_of-self-2 c =
+    IsStore-lowered c.self.inside _ c.args.reader c.args.guest c.args.ty c.in_ok-handle.handle
     (record {
       same = record { tag = refl; limits = refl; producers = refl; contexts = refl; trapped = refl };
       bytes = refl;
@@ -33,7 +33,7 @@ invariant_of-self c =
       counted = c.set_owner.ensures.counted;
       streams = c.set_owner.ensures.streams;
     })
-    (record { counter = c.in-Ok.ensures.counter; live = c.in-Ok.ensures.live; guests = c.in-Ok.ensures.guests })
-    c.in-Ok.ensures.number
+    (record { counter = c.in_ok-handle.ensures.counter; live = c.in_ok-handle.ensures.live; guests = c.in_ok-handle.ensures.guests })
+    c.in_ok-handle.ensures.number
     (rw (← c.self.view_is) at c.requires.untrapped) (rw (← c.self.view_is) at c.requires.may)
     c.self.invariant

@@ -42,42 +42,42 @@ overflow_add-self c =
     let fits = pair_fits (state_of c.self.inside) c.args.writer c.args.reader c.args.ty (rw (← c.self.view_is) at c.requires) in
     omega (arith, fits.streams, c.self.invariant.streams, count_by-le-length is_live c.self.inside.streams.items)
 
-pub invariant_of-self-in-Ok-insert_ends : goal.invariant_of-self-in-Ok-insert_ends
-invariant_of-self-in-Ok-insert_ends c =
+pub invariant_of-self-2 : goal.invariant_of-self-2
+invariant_of-self-2 c =
     let old = c.self.inside in
     let number : c.len-stream.result ≡ length old.streams.items = omega (arith, c.len-stream.ensures, old.streams.ok) in
-    let joined = joined_is old c.args.writer c.args.reader c.args.ty c.in-Ok-insert_ends.numbers c.made_stream-joined.result
-    (c.in-Ok-insert_ends.ensures.numbers ∙ ap (numbers_of old c.args.writer c.args.reader c.args.ty) number)
-    (rw (c.made_stream-joined.ensures, c.idle_end.ensures, c.idle_end-in-Ok-insert_ends.ensures) refl) in
+    let joined = joined_is old c.args.writer c.args.reader c.args.ty c.in_ok-numbers.numbers c.new_stream-joined.result
+    (c.in_ok-numbers.ensures.numbers ∙ ap (numbers_of old c.args.writer c.args.reader c.args.ty) number)
+    (rw (c.new_stream-joined.ensures, c.kind-kind.ensures, c.payload-payload.ensures) refl) in
     let made : MakesStream c.self.inside (record c.self.inside { counter = c.insert_ends.new.counter; guests = c.insert_ends.new.guests; streams = c.place.new.items; live_streams = c.self.inside.live_streams + 1 }) c.args.writer c.args.reader c.args.ty = record {
       same = record { tag = refl; limits = refl; producers = refl; contexts = refl; trapped = refl };
-      counter = c.in-Ok-insert_ends.ensures.counter;
-      live = c.in-Ok-insert_ends.ensures.live;
+      counter = c.in_ok-numbers.ensures.counter;
+      live = c.in_ok-numbers.ensures.live;
       live_streams = refl;
       live_sets = refl;
       bytes = refl;
-      guests = c.in-Ok-insert_ends.ensures.guests ∙ ap (with_ends (seen old.guests.items) c.args.writer c.args.reader c.args.ty) number;
-      streams = c.place.ensures ∙ rw c.in-Ok.ensures.items (ap (λ (s : Stream). old.streams.items ++ s ∷ []) joined);
+      guests = c.in_ok-numbers.ensures.guests ∙ ap (with_ends (seen old.guests.items) c.args.writer c.args.reader c.args.ty) number;
+      streams = c.place.ensures ∙ rw c.in_ok-reserve.ensures.items (ap (λ (s : Stream). old.streams.items ++ s ∷ []) joined);
     } in
     IsStore-made old _ c.args.writer c.args.reader c.args.ty made (rw (← c.self.view_is) at c.requires) c.self.invariant
 
-pub returns-in-Ok-insert_ends : goal.returns-in-Ok-insert_ends
-returns-in-Ok-insert_ends c =
+pub returns : goal.returns
+returns c =
     let old = c.self.inside in
     let number : c.len-stream.result ≡ length old.streams.items = omega (arith, c.len-stream.ensures, old.streams.ok) in
-    let joined = joined_is old c.args.writer c.args.reader c.args.ty c.in-Ok-insert_ends.numbers c.made_stream-joined.result
-    (c.in-Ok-insert_ends.ensures.numbers ∙ ap (numbers_of old c.args.writer c.args.reader c.args.ty) number)
-    (rw (c.made_stream-joined.ensures, c.idle_end.ensures, c.idle_end-in-Ok-insert_ends.ensures) refl) in
+    let joined = joined_is old c.args.writer c.args.reader c.args.ty c.in_ok-numbers.numbers c.new_stream-joined.result
+    (c.in_ok-numbers.ensures.numbers ∙ ap (numbers_of old c.args.writer c.args.reader c.args.ty) number)
+    (rw (c.new_stream-joined.ensures, c.kind-kind.ensures, c.payload-payload.ensures) refl) in
     let made : MakesStream c.self.inside (record c.self.inside { counter = c.insert_ends.new.counter; guests = c.insert_ends.new.guests; streams = c.place.new.items; live_streams = c.self.inside.live_streams + 1 }) c.args.writer c.args.reader c.args.ty = record {
       same = record { tag = refl; limits = refl; producers = refl; contexts = refl; trapped = refl };
-      counter = c.in-Ok-insert_ends.ensures.counter;
-      live = c.in-Ok-insert_ends.ensures.live;
+      counter = c.in_ok-numbers.ensures.counter;
+      live = c.in_ok-numbers.ensures.live;
       live_streams = refl;
       live_sets = refl;
       bytes = refl;
-      guests = c.in-Ok-insert_ends.ensures.guests ∙ ap (with_ends (seen old.guests.items) c.args.writer c.args.reader c.args.ty) number;
-      streams = c.place.ensures ∙ rw c.in-Ok.ensures.items (ap (λ (s : Stream). old.streams.items ++ s ∷ []) joined);
+      guests = c.in_ok-numbers.ensures.guests ∙ ap (with_ends (seen old.guests.items) c.args.writer c.args.reader c.args.ty) number;
+      streams = c.place.ensures ∙ rw c.in_ok-reserve.ensures.items (ap (λ (s : Stream). old.streams.items ++ s ∷ []) joined);
     } in
     rw (← c.self.view_is)
     (performs-made old _ c.args.writer c.args.reader c.args.ty _ made
-    (pair_is old c.args.writer c.args.reader c.args.ty c.len-stream.result c.in-Ok-insert_ends.numbers number c.in-Ok-insert_ends.ensures.numbers))
+    (pair_is old c.args.writer c.args.reader c.args.ty c.len-stream.result c.in_ok-numbers.numbers number c.in_ok-numbers.ensures.numbers))

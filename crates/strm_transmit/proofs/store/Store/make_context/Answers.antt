@@ -31,3 +31,16 @@ invariant_of-self c =
     (fits_below c.self.inside c.self.invariant fits.handle.handles)
     (with_context-sound (state_of c.self.inside) c.args.guest c.args.address c.args.len c.self.invariant.sound may)
     c.self.invariant
+
+pub invariant_of-self-2 : goal.invariant_of-self-2
+invariant_of-self-2 c =
+    let may = rw (← c.self.view_is) at c.requires in
+    let fits = context_fits (state_of c.self.inside) c.args.guest c.args.address c.args.len may in
+    let did = c.give_context.ensures in
+    IsStore-gives c.self.inside _ c.args.guest _ _
+    (record { tag = refl; limits = refl; trapped = refl; streams = refl; producers = refl; live_streams = refl; live_sets = refl; bytes = refl })
+    c.give_context.result
+    (record { guests = did.guests; others = did.contexts; counter = did.counter; live = did.live; err = did.err; same = did.same; kept = did.kept })
+    (fits_below c.self.inside c.self.invariant fits.handle.handles)
+    (with_context-sound (state_of c.self.inside) c.args.guest c.args.address c.args.len c.self.invariant.sound may)
+    c.self.invariant

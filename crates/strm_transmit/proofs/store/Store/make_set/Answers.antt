@@ -24,15 +24,15 @@ one_more-self-inside-requires c =
     let fits = set_fits (state_of c.self.inside) c.args.guest (rw (← c.self.view_is) at c.requires) in
     omega (arith, fits.places, c.self.invariant.sets)
 
-pub invariant_of-self : goal.invariant_of-self
-invariant_of-self c =
+pub invariant_of-self-2 : goal.invariant_of-self-2
+invariant_of-self-2 c =
     IsStore-made_set c.self.inside _ c.args.guest
     (record { same = record { tag = refl; limits = refl; producers = refl; contexts = refl; trapped = refl }; streams = refl; live_streams = refl; bytes = refl })
     (record {
-      counter = c.in-Ok.ensures.counter;
-      live = c.in-Ok.ensures.live;
-      sets = c.in-Ok.ensures.sets;
+      counter = c.in_ok-handle.ensures.counter;
+      live = c.in_ok-handle.ensures.live;
+      sets = c.in_ok-handle.ensures.sets;
       live_sets = c.one_more-self-inside.ensures;
-      guests = c.in-Ok.ensures.guests;
+      guests = c.in_ok-handle.ensures.guests;
     })
     (rw (← c.self.view_is) at c.requires) c.self.invariant

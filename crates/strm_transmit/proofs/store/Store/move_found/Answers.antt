@@ -1,11 +1,9 @@
-use Rattle.std.proofs.Common.{◌<◌, ◌++◌, length, sym, ◌∙◌, arith}
+use Rattle.std.proofs.Common.{◌++◌, sym, ◌∙◌}
 use Rattle.std.specs.Prelude.{◌||◌}
-use Rattle.std.proofs.lemmas.List.{length-map}
 use Rattle.strm_codes.specs.declared.refusals.Refusal.TheVariants.{UnknownGuest}
 use Rattle.strm_machine.specs.Tests.{named, stream_named, is_unknown_guest}
 use Rattle.strm_machine.specs.Refusals.{handle_reasons, own_reasons, last_reasons, refusal}
 use Rattle.strm_machine.specs.declared.acts.EndAct.TheVariants.{Move}
-use Rattle.strm_turns.specs.Guests.{guest_of}
 use Rattle.strm_transmit.proofs.OperationLemmas.{first_refused, then_refused, both_none, behind, both_known}
 use Rattle.strm_transmit.proofs.store.Store.move_found.Goals as goal
 
@@ -15,8 +13,8 @@ returns-in-Some c =
     let state = c.args.self.now in
     let end = c.args.end.now in
     let name = named state end in
-    let from : end.guest < length state.guests = rw (← c.self.view_is) (omega (arith, c.if-end-guests.false, c.len-guests.ensures, c.self.inside.guests.ok, length-map c.self.inside.guests.items guest_of)) in
-    let to : c.args.to < length state.guests = rw (← c.self.view_is) (omega (arith, c.if-to-guests.false, c.len-guests.ensures, c.self.inside.guests.ok, length-map c.self.inside.guests.items guest_of)) in
+    let from = c.is_unknown_guest.ensures.there c.if-is_unknown_guest.false in
+    let to = c.is_unknown_guest-else-is_unknown_guest.ensures.there c.if-is_unknown_guest-2.false in
     behind (is_unknown_guest state end.guest || is_unknown_guest state c.args.to) UnknownGuest
     ((handle_reasons name ++ own_reasons state c.args.side end (Move c.args.to)) ++ last_reasons state end (Move c.args.to)) _ (stream_named name) (both_known state end.guest c.args.to from to)
     (then_refused (handle_reasons name ++ own_reasons state c.args.side end (Move c.args.to)) (last_reasons state end (Move c.args.to))
@@ -28,8 +26,8 @@ returns-in-None c =
     let state = c.args.self.now in
     let end = c.args.end.now in
     let name = named state end in
-    let from : end.guest < length state.guests = rw (← c.self.view_is) (omega (arith, c.if-end-guests.false, c.len-guests.ensures, c.self.inside.guests.ok, length-map c.self.inside.guests.items guest_of)) in
-    let to : c.args.to < length state.guests = rw (← c.self.view_is) (omega (arith, c.if-to-guests.false, c.len-guests.ensures, c.self.inside.guests.ok, length-map c.self.inside.guests.items guest_of)) in
+    let from = c.is_unknown_guest.ensures.there c.if-is_unknown_guest.false in
+    let to = c.is_unknown_guest-else-is_unknown_guest.ensures.there c.if-is_unknown_guest-2.false in
     behind (is_unknown_guest state end.guest || is_unknown_guest state c.args.to) UnknownGuest
     ((handle_reasons name ++ own_reasons state c.args.side end (Move c.args.to)) ++ last_reasons state end (Move c.args.to)) _ (stream_named name) (both_known state end.guest c.args.to from to)
     (both_none (handle_reasons name ++ own_reasons state c.args.side end (Move c.args.to)) (last_reasons state end (Move c.args.to))
@@ -41,8 +39,8 @@ returns-in-Err c =
     let state = c.args.self.now in
     let end = c.args.end.now in
     let name = named state end in
-    let from : end.guest < length state.guests = rw (← c.self.view_is) (omega (arith, c.if-end-guests.false, c.len-guests.ensures, c.self.inside.guests.ok, length-map c.self.inside.guests.items guest_of)) in
-    let to : c.args.to < length state.guests = rw (← c.self.view_is) (omega (arith, c.if-to-guests.false, c.len-guests.ensures, c.self.inside.guests.ok, length-map c.self.inside.guests.items guest_of)) in
+    let from = c.is_unknown_guest.ensures.there c.if-is_unknown_guest.false in
+    let to = c.is_unknown_guest-else-is_unknown_guest.ensures.there c.if-is_unknown_guest-2.false in
     behind (is_unknown_guest state end.guest || is_unknown_guest state c.args.to) UnknownGuest
     ((handle_reasons name ++ own_reasons state c.args.side end (Move c.args.to)) ++ last_reasons state end (Move c.args.to)) _ (stream_named name) (both_known state end.guest c.args.to from to)
     (first_refused (handle_reasons name ++ own_reasons state c.args.side end (Move c.args.to)) (last_reasons state end (Move c.args.to)) c.in-Err.refusal

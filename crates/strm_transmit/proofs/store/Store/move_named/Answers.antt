@@ -40,9 +40,9 @@ set_owner-requires-clause-there c =
     named_made (state_of c.self.inside) c.args.side c.args.end.now c.args.stream c.self.invariant.sound fits.leaves
     (rw (← c.self.view_is) at c.requires.stream)
 
-pub invariant_of-self : goal.invariant_of-self
-invariant_of-self c =
-    IsStore-moved c.self.inside _ c.args.stream c.args.side c.args.end.now c.args.to c.in-Ok.handle
+pub invariant_of-self-2 : goal.invariant_of-self-2
+invariant_of-self-2 c =
+    IsStore-moved c.self.inside _ c.args.stream c.args.side c.args.end.now c.args.to c.in_ok-handle.handle
     (record {
       same = record { tag = refl; limits = refl; producers = refl; contexts = refl; trapped = refl };
       bytes = refl;
@@ -50,7 +50,7 @@ invariant_of-self c =
       counted = c.set_owner.ensures.counted;
       streams = c.set_owner.ensures.streams;
     })
-    (record { counter = c.in-Ok.ensures.counter; live = c.in-Ok.ensures.live; guests = c.in-Ok.ensures.guests })
-    c.in-Ok.ensures.number
+    (record { counter = c.in_ok-handle.ensures.counter; live = c.in_ok-handle.ensures.live; guests = c.in_ok-handle.ensures.guests })
+    c.in_ok-handle.ensures.number
     (rw (← c.self.view_is) at c.requires.untrapped) (rw (← c.self.view_is) at c.requires.may) (rw (← c.self.view_is) at c.requires.stream)
     c.self.invariant

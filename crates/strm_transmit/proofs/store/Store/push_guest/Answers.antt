@@ -11,16 +11,16 @@ overflow_add-self c =
 
 pub invariant_of-self-2 : goal.invariant_of-self-2
 invariant_of-self-2 c =
-    IsStore-guest c.self.inside _ (record { memory = c.in-Ok.memory; table = c.new-2.result; sets = c.new-3.result }) c.args.size
+    IsStore-guest c.self.inside _ (record { memory = c.in_ok-memory.memory; table = c.new-2.result; sets = c.new-3.result }) c.args.size
     (record {
       same = record { tag = refl; limits = refl; producers = refl; contexts = refl; trapped = refl };
       counter = refl;
       streams = refl;
       live_streams = refl;
       live_sets = refl;
-      guests = c.push_reserved.ensures.items ∙ rw c.in-Ok-reserve.ensures.items refl;
+      guests = c.push_reserved.ensures.items ∙ rw c.in_ok-reserve.ensures.items refl;
       bytes = refl;
-      memory = c.in-Ok.ensures;
+      memory = c.in_ok-memory.ensures;
       handles = c.new-2.ensures.empty;
       sets = c.new-3.ensures;
     })
@@ -29,16 +29,16 @@ invariant_of-self-2 c =
 pub returns : goal.returns
 returns c =
     rw (← c.self.view_is)
-    (performs-guest c.self.inside (record c.self.inside { guests = c.push_reserved.new.self; bytes = c.self.inside.bytes + c.args.size }) (record { memory = c.in-Ok.memory; table = c.new-2.result; sets = c.new-3.result }) c.args.size c.len-number.result
+    (performs-guest c.self.inside (record c.self.inside { guests = c.push_reserved.new.self; bytes = c.self.inside.bytes + c.args.size }) (record { memory = c.in_ok-memory.memory; table = c.new-2.result; sets = c.new-3.result }) c.args.size c.len-number.result
     (record {
       same = record { tag = refl; limits = refl; producers = refl; contexts = refl; trapped = refl };
       counter = refl;
       streams = refl;
       live_streams = refl;
       live_sets = refl;
-      guests = c.push_reserved.ensures.items ∙ rw c.in-Ok-reserve.ensures.items refl;
+      guests = c.push_reserved.ensures.items ∙ rw c.in_ok-reserve.ensures.items refl;
       bytes = refl;
-      memory = c.in-Ok.ensures;
+      memory = c.in_ok-memory.ensures;
       handles = c.new-2.ensures.empty;
       sets = c.new-3.ensures;
     })

@@ -30,3 +30,15 @@ invariant_of-self c =
     (fits_below c.self.inside c.self.invariant fits.handle.handles)
     (with_context_handle-sound (state_of c.self.inside) c.args.context c.args.guest c.self.invariant.sound fits)
     c.self.invariant
+
+pub invariant_of-self-2 : goal.invariant_of-self-2
+invariant_of-self-2 c =
+    let fits = rw (← c.self.view_is) at c.requires in
+    let did = c.share_context.ensures in
+    IsStore-gives c.self.inside _ c.args.guest c.args.context _
+    (record { tag = refl; limits = refl; trapped = refl; streams = refl; producers = refl; live_streams = refl; live_sets = refl; bytes = refl })
+    c.share_context.result
+    (record { guests = did.guests; others = did.contexts; counter = did.counter; live = did.live; err = did.err; same = did.same; kept = did.kept })
+    (fits_below c.self.inside c.self.invariant fits.handle.handles)
+    (with_context_handle-sound (state_of c.self.inside) c.args.context c.args.guest c.self.invariant.sound fits)
+    c.self.invariant
