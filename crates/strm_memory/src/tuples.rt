@@ -2,8 +2,6 @@
 //!
 //! Source: ours; wasmtime has `Lift` and `Lower`, which read and write a guest's memory.
 
-ghost use Rattle.std.specs.Prelude.{◌≡◌};
-
 use crate::field_lists::{Fields, tuple_of, value_of};
 use crate::payloaded::Payloaded;
 use crate::typed_fields::Field;
