@@ -12,12 +12,11 @@ ghost use Rattle.strm_buffers.specs.Polling.{TakesUpTo};
 use crate::items::Items;
 use crate::offers::Offer;
 use crate::windows::Window;
-use std::alloc::Global;
 use strm_codes::counts::OutOfMemory;
 
-/// Marks the first of these items, as many as there is room for: their number. `OutOfMemory` comes
-/// only between host ends, and then none is marked.
-pub fn mark_in_room(alloc: Global, window: &mut Window, items: &Items) -> Result<usize, OutOfMemory>
+/// Marks the first of these items, as many as there is room for: their number. After `OutOfMemory`,
+/// which comes only between host ends, nothing has changed.
+pub fn mark_in_room(window: &mut Window, items: &Items) -> Result<usize, OutOfMemory>
     requires payload { items.now.payload ≡ window.old.payload }
     requires nothing_marked { window.old.marked ≡ [] }
     ensures marked { OnOk result (window.new.marked ≡
@@ -25,23 +24,16 @@ pub fn mark_in_room(alloc: Global, window: &mut Window, items: &Items) -> Result
     ensures count { IfOk result (λ count. count ≤ length items.now.items) }
     ensures behind { IfOk result (λ count. drop count items.now.items ≡
         past_room (room_of window.old.place) items.now.items) }
-    ensures unmarked { OnErr result (window.new.marked ≡ []) }
+    ensures err { OnErr result (window.new ≡ window.old) }
     ensures out_of_memory { OnErr result (window.old.place ≡ Between) }
     ensures fills { Fills window.old window.new }
 {
-    match mark_rest(window, items) {
-        Ok(count) => Ok(count),
-        // Only between host ends, where a new window is the same with none marked.
-        Err(error) => {
-            let payload = window.payload();
-            *window = Window::unbounded(alloc, payload);
-            Err(error)
-        }
-    }
+    mark_rest(window, items)
 }
 
 /// Marks the first of these items, as many as there is room for, where some of them are marked
-/// already: the number of all of them. `OutOfMemory` comes only between host ends.
+/// already: the number of all of them. After `OutOfMemory`, which comes only between host ends,
+/// nothing has changed.
 pub fn mark_rest(window: &mut Window, items: &Items) -> Result<usize, OutOfMemory>
     requires payload { items.now.payload ≡ window.old.payload }
     requires begun { window.old.marked ≡ take (length window.old.marked) items.now.items }
@@ -50,6 +42,7 @@ pub fn mark_rest(window: &mut Window, items: &Items) -> Result<usize, OutOfMemor
     ensures count { IfOk result (λ count. count ≤ length items.now.items) }
     ensures behind { IfOk result (λ count. drop count items.now.items ≡
         past_room (room_of window.old.place) items.now.items) }
+    ensures err { OnErr result (window.new ≡ window.old) }
     ensures out_of_memory { OnErr result (window.old.place ≡ Between) }
     ensures fills { Fills window.old window.new }
 {
@@ -85,6 +78,7 @@ fn mark_first(window: &mut Window, items: &Items, count: usize) -> Result<(), Ou
     requires least { length window.old.marked ≤ count }
     requires room { HasRoom window.old.place 0 count }
     ensures ok { OnOk result (window.new.marked ≡ take count items.now.items) }
+    ensures err { OnErr result (window.new ≡ window.old) }
     ensures fills { Fills window.old window.new }
     ensures out_of_memory { OnErr result (window.old.place ≡ Between) }
 {

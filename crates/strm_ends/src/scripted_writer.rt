@@ -129,7 +129,7 @@ impl HostWriter for ScriptedWriter {
         // Its turns stay.
         ensures turns { self.new.turns.items ≡ self.old.turns.items }
     {
-        match mark_in_room(self.alloc, window, &self.held) {
+        match mark_in_room(window, &self.held) {
             Ok(count) => {
                 self.held.skip(count);
                 Ok(())
@@ -228,7 +228,7 @@ impl ScriptedWriter {
         }
         let next = &self.turns[0].items;
         next.sound();
-        let count = match mark_in_room(self.alloc, window, next) {
+        let count = match mark_in_room(window, next) {
             Ok(count) => count,
             Err(error) => return Err(error),
         };
