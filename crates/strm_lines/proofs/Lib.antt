@@ -6,3 +6,4 @@ pub mod ReadingLemmas
 pub mod TypeLemmas
 pub mod StepLemmas
 pub mod LineLemmas
+pub mod PartLemmas

@@ -1,5 +1,5 @@
 -- The text of replies, and of a whole run. Ours.
-use Rattle.std.specs.Prelude.{ℕ, ◌+◌, ◌/◌, ◌%◌, List, [], ◌∷◌, ◌++◌, length, codes, decimal, Option, Some, None}
+use Rattle.std.specs.Prelude.{◌≡◌, ℕ, ◌+◌, ◌/◌, ◌%◌, List, [], ◌∷◌, ◌++◌, length, codes, decimal, Option, Some, None}
 use Rattle.std.specs.List.{flat_map}
 use Rattle.strm_codes.specs.Codes.{word_of}
 use Rattle.strm_codes.specs.declared.codes.ReturnCode.{ReturnCode}
@@ -17,6 +17,10 @@ use Rattle.strm_lines.specs.Grammar.{words}
 -- a text as a line, ended by its line feed
 abbrev pub ended : List ℕ → List ℕ
 ended text = text ++ 10 ∷ []
+
+-- a text has more, from the front of these bytes
+abbrev pub HasPart : List ℕ → List ℕ → List ℕ → Type 0
+HasPart old new bytes = (front : List ℕ) × (back : List ℕ) × (bytes ≡ front ++ back) × (new ≡ old ++ front)
 
 -- a word of 32 bits as eight hexadecimal digits, the highest first
 abbrev pub hex_word : ℕ → List ℕ

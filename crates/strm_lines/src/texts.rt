@@ -2,9 +2,10 @@
 //!
 //! Source: ours.
 
-ghost use Rattle.std.specs.Prelude.{◌≡◌, ◌++◌, ◌≤◌, ◌<◌, length, codes, decimal, Some, IfOk, OnOk};
+ghost use Rattle.std.specs.Prelude.{◌≡◌, ◌++◌, ◌≤◌, ◌<◌, length, codes, decimal, Some, IfOk, OnOk, OnErr};
+ghost use Rattle.std.specs.List.{flat_map};
 ghost use Rattle.strm_lines.specs.Words.{hex_digit, hex_pairs};
-ghost use Rattle.strm_lines.specs.Text.{ended, hex_word, reply_text, reply_lines, stream_text, stream_lines, done_text, transcript_text, host_end_text, stop_text, stopped_text, usage_text, bad_line_text, too_long_text, read_fault_text};
+ghost use Rattle.strm_lines.specs.Text.{HasPart, ended, hex_word, reply_text, reply_lines, stream_text, stream_lines, done_text, transcript_text, host_end_text, stop_text, stopped_text, usage_text, bad_line_text, too_long_text, read_fault_text};
 
 use crate::lists::TextBytes;
 use itoa::{Buffer, Integer};
@@ -55,7 +56,8 @@ fn push_number<I: Integer>(out: &mut TextBytes, number: I) -> Result<(), OutOfMe
 // Adds bytes as pairs of digits, and a line feed.
 fn push_hex(out: &mut TextBytes, bytes: &[u8]) -> Result<(), OutOfMemory>
     requires { length bytes.now ≤ 64 }
-    ensures { OnOk result (out.new ≡ out.old ++ ended (hex_pairs bytes.now)) }
+    ensures ok { OnOk result (out.new ≡ out.old ++ ended (hex_pairs bytes.now)) }
+    ensures err { OnErr result (out.new ≡ out.old) }
 {
     let mut digits = [b'\n'; 129];
     for k in 0..bytes.len() {
@@ -66,65 +68,117 @@ fn push_hex(out: &mut TextBytes, bytes: &[u8]) -> Result<(), OutOfMemory>
     out.push_slice(&digits[..2 * bytes.len() + 1])
 }
 
+// Adds parts, one behind the other.
+fn push_parts(out: &mut TextBytes, parts: &[&[u8]]) -> Result<(), OutOfMemory>
+    ensures ok { OnOk result (out.new ≡ out.old ++ flat_map (λ part. part.now) parts.now) }
+    ensures err { OnErr result (HasPart out.old out.new (flat_map (λ part. part.now) parts.now)) }
+{
+    for part in parts {
+        out.push_slice(*part)?;
+    }
+    Ok(())
+}
+
+// Adds the line of a number.
+fn push_number_line(out: &mut TextBytes, number: u32) -> Result<(), OutOfMemory>
+    ensures ok { OnOk result (out.new ≡ out.old ++ ended (decimal number)) }
+    ensures err { OnErr result (HasPart out.old out.new (ended (decimal number))) }
+{
+    let mut digits = Buffer::new();
+    push_parts(out, &[digits.format(number).as_bytes(), b"\n".as_slice()])
+}
+
 // Adds the line of a new stream.
 fn push_pair(out: &mut TextBytes, pair: &Pair) -> Result<(), OutOfMemory>
-    ensures { OnOk result (out.new ≡ out.old ++ ended (reply_text (Reply.Pair pair.now))) }
+    ensures ok { OnOk result (out.new ≡ out.old ++ ended (reply_text (Reply.Pair pair.now))) }
+    ensures err { OnErr result (HasPart out.old out.new (ended (reply_text (Reply.Pair pair.now)))) }
 {
-    out.push_slice(b"read ")?;
-    push_number(out, pair.read)?;
-    out.push_slice(b" write ")?;
-    push_number(out, pair.write)?;
-    out.push_slice(b" stream ")?;
-    push_number(out, pair.stream)?;
-    out.push(b'\n')
+    let (mut read, mut write, mut stream) = (Buffer::new(), Buffer::new(), Buffer::new());
+    push_parts(
+        out,
+        &[
+            b"read ".as_slice(),
+            read.format(pair.read).as_bytes(),
+            b" write ".as_slice(),
+            write.format(pair.write).as_bytes(),
+            b" stream ".as_slice(),
+            stream.format(pair.stream).as_bytes(),
+            b"\n".as_slice(),
+        ],
+    )
 }
 
 // Adds the line of a member of a set and of what it was told.
 fn push_member(out: &mut TextBytes, member: &Member) -> Result<(), OutOfMemory>
-    ensures { OnOk result (out.new ≡ out.old ++ ended (reply_text (Reply.Member (Some member.now)))) }
+    ensures ok { OnOk result (out.new ≡ out.old ++ ended (reply_text (Reply.Member (Some member.now)))) }
+    ensures err { OnErr result (HasPart out.old out.new (ended (reply_text (Reply.Member (Some member.now))))) }
 {
-    push_number(out, member.handle)?;
-    out.push(b' ')?;
-    out.push_slice(&hex_line(member.code.encode()))
+    let mut handle = Buffer::new();
+    let code = hex_line(member.code.encode());
+    push_parts(
+        out,
+        &[
+            handle.format(member.handle).as_bytes(),
+            b" ".as_slice(),
+            code.as_slice(),
+        ],
+    )
 }
 
 // Adds the line of a refusal.
 fn push_refusal(out: &mut TextBytes, refusal: Refusal) -> Result<(), OutOfMemory>
-    ensures { OnOk result (out.new ≡ out.old ++ ended (reply_text (Reply.Refused refusal))) }
+    ensures ok { OnOk result (out.new ≡ out.old ++ ended (reply_text (Reply.Refused refusal))) }
+    ensures err { OnErr result (HasPart out.old out.new (ended (reply_text (Reply.Refused refusal)))) }
 {
-    out.push_slice(b"refused ")?;
-    out.push_slice(refusal.name().as_bytes())?;
-    out.push(b'\n')
+    push_parts(
+        out,
+        &[
+            b"refused ".as_slice(),
+            refusal.name().as_bytes(),
+            b"\n".as_slice(),
+        ],
+    )
+}
+
+// Adds the line of a bad item.
+fn push_bad_item(out: &mut TextBytes, stream: u32) -> Result<(), OutOfMemory>
+    ensures ok { OnOk result (out.new ≡ out.old ++ ended (reply_text (Reply.BadItem stream))) }
+    ensures err { OnErr result (HasPart out.old out.new (ended (reply_text (Reply.BadItem stream)))) }
+{
+    let mut digits = Buffer::new();
+    push_parts(
+        out,
+        &[
+            b"bad-item stream ".as_slice(),
+            digits.format(stream).as_bytes(),
+            b"\n".as_slice(),
+        ],
+    )
 }
 
 // Adds the line of a reply.
 fn push_reply(out: &mut TextBytes, reply: &Reply) -> Result<(), OutOfMemory>
-    ensures { OnOk result (out.new ≡ out.old ++ ended (reply_text reply.now)) }
+    ensures ok { OnOk result (out.new ≡ out.old ++ ended (reply_text reply.now)) }
+    ensures err { OnErr result (HasPart out.old out.new (ended (reply_text reply.now))) }
 {
     match reply {
         Reply::Code(code) | Reply::Event(Some(code)) => out.push_slice(&hex_line(code.encode())),
         Reply::Event(None) | Reply::Member(None) => out.push_slice(b"none\n"),
         Reply::Done => out.push_slice(b"ok\n"),
         Reply::Bytes(bytes) => push_hex(out, bytes.as_slice()),
-        Reply::Number(number) => {
-            push_number(out, *number)?;
-            out.push(b'\n')
-        }
+        Reply::Number(number) => push_number_line(out, *number),
         Reply::Pair(pair) => push_pair(out, pair),
         Reply::Member(Some(member)) => push_member(out, member),
         Reply::Refused(refusal) => push_refusal(out, *refusal),
-        Reply::BadItem { stream } => {
-            out.push_slice(b"bad-item stream ")?;
-            push_number(out, *stream)?;
-            out.push(b'\n')
-        }
+        Reply::BadItem { stream } => push_bad_item(out, *stream),
         Reply::StoreTrapped => out.push_slice(b"store-trapped\n"),
     }
 }
 
-/// Adds one line per reply. On an error the text holds some of it.
+/// Adds one line per reply.
 pub fn push_replies(out: &mut TextBytes, replies: &[Reply]) -> Result<(), OutOfMemory>
     ensures ok { OnOk result (out.new ≡ out.old ++ reply_lines replies.now) }
+    ensures err { OnErr result (HasPart out.old out.new (reply_lines replies.now)) }
 {
     // Most lines are a code's. Where there is no room for all, each asks for its own.
     let _room = out.reserve(replies.len().saturating_mul(9));
@@ -136,19 +190,26 @@ pub fn push_replies(out: &mut TextBytes, replies: &[Reply]) -> Result<(), OutOfM
 
 // Adds the line of a stream.
 fn push_stream(out: &mut TextBytes, stream: usize, moved: u128) -> Result<(), OutOfMemory>
-    ensures { OnOk result (out.new ≡ out.old ++ ended (stream_text stream moved)) }
+    ensures ok { OnOk result (out.new ≡ out.old ++ ended (stream_text stream moved)) }
+    ensures err { OnErr result (HasPart out.old out.new (ended (stream_text stream moved))) }
 {
-    out.push_slice(b"stream ")?;
-    push_number(out, stream)?;
-    out.push_slice(b" moved ")?;
-    push_number(out, moved)?;
-    out.push(b'\n')
+    let (mut digits, mut count) = (Buffer::new(), Buffer::new());
+    push_parts(
+        out,
+        &[
+            b"stream ".as_slice(),
+            digits.format(stream).as_bytes(),
+            b" moved ".as_slice(),
+            count.format(moved).as_bytes(),
+            b"\n".as_slice(),
+        ],
+    )
 }
 
-/// Adds one line per stream, by number from 0: how many items were received on it. On an error the
-/// text holds some of it.
+/// Adds one line per stream, by number from 0: how many items were received on it.
 pub fn push_streams(out: &mut TextBytes, moved: &[u128]) -> Result<(), OutOfMemory>
     ensures ok { OnOk result (out.new ≡ out.old ++ stream_lines 0 moved.now) }
+    ensures err { OnErr result (HasPart out.old out.new (stream_lines 0 moved.now)) }
 {
     for stream in 0..moved.len() {
         push_stream(out, stream, moved[stream])?;
@@ -156,13 +217,20 @@ pub fn push_streams(out: &mut TextBytes, moved: &[u128]) -> Result<(), OutOfMemo
     Ok(())
 }
 
-/// Adds the line of how many steps were done. On an error the text holds some of it.
+/// Adds the line of how many steps were done.
 pub fn push_done(out: &mut TextBytes, steps: usize) -> Result<(), OutOfMemory>
     ensures ok { OnOk result (out.new ≡ out.old ++ ended (done_text steps)) }
+    ensures err { OnErr result (HasPart out.old out.new (ended (done_text steps))) }
 {
-    out.push_slice(b"done ")?;
-    push_number(out, steps)?;
-    out.push(b'\n')
+    let mut digits = Buffer::new();
+    push_parts(
+        out,
+        &[
+            b"done ".as_slice(),
+            digits.format(steps).as_bytes(),
+            b"\n".as_slice(),
+        ],
+    )
 }
 
 /// The text of a run, from its replies and from how many items were received on each stream.
@@ -211,11 +279,7 @@ fn push_stop(out: &mut TextBytes, stop: Stop) -> Result<(), OutOfMemory>
             push_host_end(out, end)?;
             out.push(b'\n')
         }
-        Stop::BadItem { stream } => {
-            out.push_slice(b"bad-item stream ")?;
-            push_number(out, stream)?;
-            out.push(b'\n')
-        }
+        Stop::BadItem { stream } => push_bad_item(out, stream),
         Stop::StoreTrapped => out.push_slice(b"store-trapped\n"),
     }
 }

@@ -1,7 +1,9 @@
 -- Bytes that leave the front of what a source has left, and that a sink appends, in pieces.
-use Rattle.std.proofs.Common.{None, Some, Option, append_assoc, ◌≡◌, ℕ, ◌+◌, ◌≤◌, List, ◌++◌, length, take, drop, sym, ◌∙◌, ap, arith, length-drop, length-take-le, drop-drop}
+use Rattle.std.proofs.Common.{None, Some, Option, append_assoc, ◌≡◌, ℕ, ◌+◌, ◌<◌, ◌≤◌, List, [], ◌++◌, length, length-append, take, drop, refl, sym, ◌∙◌, ap, arith, length-drop, length-take-le, drop-drop}
 use Rattle.std.proofs.Math.Seq.{take-add}
-use Rattle.std.specs.Io.KnownBytes.{Appends, Consumes}
+use Rattle.std.specs.Prelude.{Result, Ok, Err, IfOk, IfSome, ◌↔◌}
+use Rattle.std.specs.Io.{ReadsAtMost}
+use Rattle.std.specs.Io.KnownBytes.{Appends, Consumes, ReadConsumes}
 use Rattle.std.proofs.lemmas.List.{take_at, take-append-drop}
 
 -- the first n of the bytes from a place on stand at the front of out, and the others are left
@@ -29,3 +31,15 @@ Consumes-append None b c xs ys p q = tt
 Consumes-append (Some old) None c xs ys p q = absurd p
 Consumes-append (Some old) (Some mid) None xs ys p q = absurd q
 Consumes-append (Some old) (Some mid) (Some new) xs ys p q = rw (p, q, append_assoc)
+
+-- a read gives nothing exactly where nothing is left, also where its answer is handed on
+pub ends_handed : {E F : Type 0} (old new : Option (List ℕ)) (given : Result ℕ E) (result : Result ℕ F) (out : List ℕ) → 0 < length out → ReadsAtMost given out → ReadConsumes old new given out → IfOk result (λ n. given ≡ Ok n) → IfOk result (λ n. IfSome old (λ bytes. (n ≡ 0) ↔ (bytes ≡ [])))
+ends_handed old new given (Err error) out some most bytes e = tt
+ends_handed None new given (Ok n) out some most bytes e = tt
+ends_handed (Some left) None given (Ok n) out some most bytes e = absurd (rw e at bytes).0
+ends_handed (Some left) (Some rest) given (Ok n) out some most bytes e =
+    let took : (left ≡ take n out ++ rest) × (n ≡ 0 → 0 < length out → rest ≡ []) = rw e at bytes in
+    let within : (n ≤ length out) × (n ≡ length (take n out)) = rw e at most in (
+      (λ z. took.0 ∙ rw (z, took.1 z some) refl),
+      (λ q. omega (arith, ap length (sym took.0 ∙ q), length-append (take n out) rest, within.1)),
+    )

@@ -2,13 +2,30 @@
 //!
 //! Source: ours, over std's `Read` and `Write`.
 
-ghost use Rattle.std.specs.Prelude.{◌≡◌, ◌<◌, ◌≤◌, ◌↔◌, [], length, IsOk, IfOk, IfSome, OnErr};
+ghost use Rattle.std.specs.Prelude.{◌≡◌, ◌<◌, ◌≤◌, ◌↔◌, [], length, IsOk, IfOk, IfSome, IsErr, Ok, OnOk, OnErr};
 ghost use Rattle.std.specs.Io.{ReadsAtMost, WritesAtMost};
 ghost use Rattle.std.specs.Io.KnownBytes.{ReadConsumes, WriteAppends};
 ghost use Rattle.strm_ports.specs.Faults.{Rose, one_more};
 
 use crate::ports::{Failed, Sink, Source};
-use std::io::{Read, Stdin, Stdout, Write};
+use std::io::{self, Read, Stdin, Stdout, Write};
+
+// What a read or a write answered; a failure of it is counted, and nothing else is one.
+fn counted(given: io::Result<usize>, faults: &mut u64) -> Result<usize, Failed>
+    ensures given { IfOk result (λ n. given ≡ Ok n) }
+    ensures failed { IsErr result ↔ IsErr given }
+    ensures later { faults.old ≤ faults.new }
+    ensures stays { OnOk result (faults.new ≡ faults.old) }
+    ensures rises { OnErr result (faults.new ≡ one_more faults.old) }
+{
+    match given {
+        Ok(count) => Ok(count),
+        Err(_) => {
+            *faults = faults.saturating_add(1);
+            Err(Failed)
+        }
+    }
+}
 
 /// A reader as a source. Each error is a fault.
 #[derive(Drop)]
@@ -50,13 +67,7 @@ impl<R: Read> Source for StdinSource<R> {
         ensures rises { OnErr result (⟦<StdinSource<R> as Source>⟧.faults self.new
             ≡ one_more (⟦<StdinSource<R> as Source>⟧.faults self.old)) }
     {
-        match self.inner.read(out) {
-            Ok(given) => Ok(given),
-            Err(_) => {
-                self.faults = self.faults.saturating_add(1);
-                Err(Failed)
-            }
-        }
+        counted(self.inner.read(out), &mut self.faults)
     }
 }
 
@@ -102,16 +113,10 @@ impl<W: Write> Sink for StdoutSink<W> {
         ensures rises { OnErr result (⟦<StdoutSink<W> as Sink>⟧.faults self.new
             ≡ one_more (⟦<StdoutSink<W> as Sink>⟧.faults self.old)) }
     {
-        match self.inner.write(bytes) {
-            Ok(0) => {
-                self.faults = self.faults.saturating_add(1);
-                Ok(0)
-            }
-            Ok(count) => Ok(count),
-            Err(_) => {
-                self.faults = self.faults.saturating_add(1);
-                Err(Failed)
-            }
+        let count = counted(self.inner.write(bytes), &mut self.faults)?;
+        if count == 0 {
+            self.faults = self.faults.saturating_add(1);
         }
+        Ok(count)
     }
 }

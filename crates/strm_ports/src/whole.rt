@@ -6,7 +6,7 @@ ghost use Rattle.std.specs.Prelude.{◌≡◌, ◌+◌, ◌<◌, ◌≤◌, ℕ,
 ghost use Rattle.std.specs.Io.{ReadsAtMost};
 ghost use Rattle.std.specs.Io.KnownBytes.{Appends, Consumes, IsAtEnd, ReadConsumes};
 ghost use Rattle.strm_ports.specs.Faults.{Rose, TakesPart};
-ghost use Rattle.strm_ports.specs.declared.whole.InputError.TheVariants.{Fault, OutOfMemory as WantOfMemory};
+ghost use Rattle.strm_ports.specs.declared.whole.InputError.TheVariants.{Fault, OutOfMemory as NoMemory};
 
 use crate::ports::{Failed, Sink, Source};
 use std::alloc::{AllocError, Global};
@@ -41,7 +41,7 @@ impl From<Failed> for InputError {
 }
 
 impl From<OutOfMemory> for InputError {
-    ghost from_gives = { λ _ e. e ≡ WantOfMemory };
+    ghost from_gives = { λ _ e. e ≡ NoMemory };
 
     fn from(_error: OutOfMemory) -> InputError {
         InputError::OutOfMemory
@@ -49,7 +49,7 @@ impl From<OutOfMemory> for InputError {
 }
 
 impl From<AllocError> for InputError {
-    ghost from_gives = { λ _ e. e ≡ WantOfMemory };
+    ghost from_gives = { λ _ e. e ≡ NoMemory };
 
     fn from(_error: AllocError) -> InputError {
         InputError::OutOfMemory
