@@ -92,6 +92,10 @@ module _ (old now new : Tells) (steps : List Step) (k : ℕ) (step : Step) (told
         raised = raised_by cause d.cause;
       }
 
+-- the records of before stay in front
+pub begins_among : (old new : Tells) (steps : List Step) (k : ℕ) (told : List Reply) (state : State) (now : Tells) → LedAmong old steps k told state now → Extends now (saids new) → Extends old (saids new)
+begins_among old new steps k told state now l e = (l.led (saids new) e).begins
+
 -- all steps are answered
 pub runs_to : (old new : Tells) (steps : List Step) (k : ℕ) (told : List Reply) (state : State) → length steps ≤ k → LedAmong old steps k told state new → RunsTo (start_among old new) steps told state new
 runs_to old new steps k told state n l =

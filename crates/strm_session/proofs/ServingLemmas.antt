@@ -6,7 +6,7 @@ use Rattle.std.specs.Prelude.{codes}
 use Rattle.strm_machine.specs.declared.steps.Step.{Step}
 use Rattle.strm_ports.specs.Faults.{Rose}
 use Rattle.strm_lines.specs.Lines.{lines_of, Spells, IsFirstBad, IsTooLong}
-use Rattle.strm_session.specs.Serving.{IsRun, IsStop, IsStatusOf, PlaysOn, HaltsWith, StandsFor, IsAnswer}
+use Rattle.strm_session.specs.Serving.{IsRun, IsStop, IsStatusOf, PlaysOn, HaltsWith, StandsFor, IsOutput}
 use Rattle.strm_world.specs.Ends.{Writer, Reader}
 use Rattle.strm_world.specs.World.{World}
 use Rattle.strm_world.specs.HostPlays.{Played, play, Ends, Halts}
@@ -94,7 +94,7 @@ one_of status n = ⊎_elim (λ e. e) (λ e. absurd (n e)) (cases_eq status 1)
 
 module _ {words : List (List ℕ)} {rest : Option (List ℕ)} {old new : Tells} {before after status : ℕ} {text : List ℕ} where
   -- what is told of an input that was read is told of its source, which is at its end then
-  pub told_of_source : (left : Option (List ℕ)) (input : List ℕ) → IsRun words → IfSome left (λ bytes. input ≡ bytes) → IsAtEnd rest → IsAnswer (codes "run" ∷ []) (Some input) (Some []) old new before after status text → IsAnswer words left rest old new before after status text
+  pub told_of_source : (left : Option (List ℕ)) (input : List ℕ) → IsRun words → IfSome left (λ bytes. input ≡ bytes) → IsAtEnd rest → IsOutput (codes "run" ∷ []) (Some input) (Some []) old new before after status text → IsOutput words left rest old new before after status text
   told_of_source None input r e end h = record {
     known = h.known;
     runs = λ _. r;
@@ -110,7 +110,7 @@ module _ {words : List (List ℕ)} {rest : Option (List ℕ)} {old new : Tells} 
     whole_lines = λ _ _ _ _. end;
   }
   told_of_source (Some bytes) input r e end h =
-      let k = subst (λ b. IsAnswer (codes "run" ∷ []) (Some b) (Some []) old new before after status text) e h in
+      let k = subst (λ b. IsOutput (codes "run" ∷ []) (Some b) (Some []) old new before after status text) e h in
       record {
         known = k.known;
         runs = λ _. r;
@@ -126,7 +126,7 @@ module _ {words : List (List ℕ)} {rest : Option (List ℕ)} {old new : Tells} 
         whole_lines = λ _ _ _ _. end;
       }
 
-  module _ (input : List ℕ) (h : IsAnswer words (Some input) rest old new before after status text) (r : IsRun words) (calm : Rose before after → ⊥) where
+  module _ (input : List ℕ) (h : IsOutput words (Some input) rest old new before after status text) (r : IsRun words) (calm : Rose before after → ⊥) where
     not_usage : status ≢ 1
     not_usage q = (h.usage q).0 r
 
@@ -196,10 +196,10 @@ module _ {words : List (List ℕ)} {rest : Option (List ℕ)} {old new : Tells} 
     too_long_of : IsTooLong input → status ≡ 3
     too_long_of long = three_of status not_usage not_fault (λ q. h.within not_usage q not_fault long)
 
-  module _ (left : Option (List ℕ)) (input : List ℕ) (h : IsAnswer words left rest old new before after status text) where
+  module _ (left : Option (List ℕ)) (input : List ℕ) (h : IsOutput words left rest old new before after status text) where
     -- of a source that has this input left, where nothing fails
-    told_input : left ≡ Some input → IsAnswer words (Some input) rest old new before after status text
-    told_input e = subst (λ l. IsAnswer words l rest old new before after status text) e h
+    told_input : left ≡ Some input → IsOutput words (Some input) rest old new before after status text
+    told_input e = subst (λ l. IsOutput words l rest old new before after status text) e h
 
     pub told_done : IsRun words → left ≡ Some input → (Rose before after → ⊥) → (IsTooLong input → ⊥) → (steps : List Step) → Spells (lines_of input) steps → AreOfGuests steps → AsksItems steps → status ≡ 0
     told_done r e calm = done_of input (told_input e) r calm
@@ -220,5 +220,5 @@ module _ {words : List (List ℕ)} {rest : Option (List ℕ)} {old new : Tells} 
     told_too_long r e calm = too_long_of input (told_input e) r calm
 
   -- other words are told how to call the program
-  pub told_usage : (left : Option (List ℕ)) → IsAnswer words left rest old new before after status text → (IsRun words → ⊥) → status ≡ 1
+  pub told_usage : (left : Option (List ℕ)) → IsOutput words left rest old new before after status text → (IsRun words → ⊥) → status ≡ 1
   told_usage left h r = one_of status (λ q. r (h.runs q))

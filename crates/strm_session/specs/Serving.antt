@@ -87,7 +87,7 @@ IsStop status = (6 ≤ status) × (status ≤ 8)
 -- a status but 5 and 9, and its text, by why they come: from the program's words, the bytes that the
 -- source had left before and has left after, where these are told, what the host ends told before and
 -- tell after, and the source's faults before and after
-pub record IsAnswer (words : List (List ℕ)) (left rest : Option (List ℕ)) (old new : Tells)
+pub record IsOutput (words : List (List ℕ)) (left rest : Option (List ℕ)) (old new : Tells)
     (before after status : ℕ) (text : List ℕ) : Type 0 where
   pub known : (status ≤ 4) ⊎ IsStop status
   pub runs : status ≢ 1 → IsRun words

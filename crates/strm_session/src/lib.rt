@@ -4,6 +4,7 @@
 //! replies are written as lines, by `strm_lines`.
 #![tactic(auto)]
 
+mod laws;
 pub mod runs;
 pub mod serving;
 pub mod texts;

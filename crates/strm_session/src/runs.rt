@@ -4,36 +4,24 @@
 
 ghost use Rattle.std.specs.Prelude.{◌≡◌, ◌≢◌, ◌≤◌, ◌∷◌, ◌++◌, ◌+◌, [], List, ℕ, true, false, length, take, All, IfOk, IfErr, IsErr, OnOk, OnErr, Ok, Err};
 ghost use Rattle.strm_codes.specs.declared.refusals.Refusal.{Refusal};
-ghost use Rattle.strm_machine.specs.State.{State, stream_at};
+ghost use Rattle.strm_machine.specs.State.{State};
 ghost use Rattle.strm_machine.specs.Reactions.{react};
 ghost use Rattle.strm_machine.specs.Plays.{play, Ends};
-ghost use Rattle.strm_machine.specs.declared.streams.Side.{Side};
+ghost use Rattle.strm_machine.specs.declared.streams.HostEnd.{HostEnd};
 ghost use Rattle.strm_machine.specs.declared.steps.Step.{Step};
 ghost use Rattle.strm_machine.specs.declared.replies.Reply.{Reply};
-ghost use Rattle.strm_machine.specs.Moments.{moment_of};
-ghost use Rattle.strm_laws.specs.Conservation.{moments, last};
-ghost use Rattle.strm_laws.specs.Laws.{HasBytes, AreSteps};
-ghost use Rattle.strm_machine.specs.Untouched.{StaysAside, LieThere};
+ghost use Rattle.strm_laws.specs.Laws.{HasBytes};
 ghost use Rattle.strm_machine.specs.Acts.{act_of};
 ghost use Rattle.strm_world.specs.Steps.{step_of, touches};
-ghost use Rattle.strm_world.specs.World.{World};
-ghost use Rattle.strm_world.specs.HostPlays.{play as play_among, Ends as EndsAmong};
-ghost use Rattle.strm_world.specs.Does.{Fits, Does, AreSupplied, RunsTo, spent};
-ghost use Rattle.strm_host_laws.specs.HostMoments.{host_moments, last_of};
-ghost use Rattle.strm_buffers.specs.Tells.{Tells};
+ghost use Rattle.strm_world.specs.Does.{Fits, Extends, saids, faults_of, Does, AreSupplied, RunsTo, spent};
 ghost use Rattle.strm_transmit.specs.Hosted.{answered, lone};
 ghost use Rattle.strm_buffers.specs.AllTells.{tells_of};
-ghost use Rattle.strm_session.specs.Runs.{start, start_among, AreOfGuests, counts_of, next_step, HasLaws, IsKept, HasLawsAmong, IsKeptAmong, IsKeptBefore, AreOfItems, DeliversEach, stop_of, StopsAmong, AsksBad, AsksItems, StopsAt, StopsStep, StopsBy, StopsIn};
+ghost use Rattle.strm_session.specs.Runs.{start, start_among, AreOfGuests, counts_of, next_step, IsKept, IsKeptAmong, IsKeptBefore, AreOfItems, DeliversEach, stop_of, StopsAmong, AsksBad, AsksItems, StopsAt, StopsStep, StopsBy, StopsIn};
 
+use crate::laws::{laws_hold, laws_hold_among};
 use std::alloc::Global;
 use strm_buffers::hosts::Hosts;
 use strm_codes::counts::OutOfMemory;
-use strm_host_laws::{guests, runs};
-use strm_laws::laws::{
-    bytes_are_put, conservation, contexts_count_their_handles, futures_pass_one,
-    handles_hold_their_ends, members_are_live, never_two_open, other_bytes_stay, states_are_sound,
-    totals_are_counts, unmet_has_moved_none,
-};
 use strm_lines::lists::{Counts, Replies};
 use strm_machine::limits::Limits;
 use strm_machine::replies::Reply;
@@ -98,6 +86,13 @@ pub fn run(alloc: Global, steps: &[Step], hosts: &mut Hosts) -> Result<Transcrip
     ensures stop { IfErr result (λ stop. StopsAmong (tells_of writer_tells reader_tells hosts.old) (tells_of writer_tells reader_tells hosts.new) steps.now stop.replies stop.cause) }
     ensures at { IfErr result (λ stop. stop.at ≡ next_step stop.replies) }
 
+    // The host ends have their records of before, in front of those that are added, and their counts of
+    // faults have not fallen.
+    ensures begins { Extends (tells_of writer_tells reader_tells hosts.old)
+        (saids (tells_of writer_tells reader_tells hosts.new)) }
+    ensures faults { (end : HostEnd) → faults_of (tells_of writer_tells reader_tells hosts.old) end
+        ≤ faults_of (tells_of writer_tells reader_tells hosts.new) end }
+
     // After each step, among whichever host writers: exactly those that became gone were closed, each
     // used its records in order, and what it produced is received, held, or given up at its end. On each
     // stream that no host writer made, what was received is, in order, the first k items of each accepted
@@ -140,55 +135,6 @@ pub fn run(alloc: Global, steps: &[Step], hosts: &mut Hosts) -> Result<Transcrip
         Ok(()) => finished(alloc, store, replies),
         Err(cause) => Err(stopped(cause, replies)),
     }
-}
-
-// What the laws say of every run. It does nothing.
-fn laws_hold()
-    ensures laws { (steps : List Step) → AreSteps steps →
-        HasLaws (moments start steps) (last start steps) }
-    ensures aside { (steps : List Step) (step : Step) → AreSteps (steps ++ step ∷ []) →
-        StaysAside (moment_of (last start steps) step) }
-    ensures put { (steps : List Step) (step : Step) → AreSteps (steps ++ step ∷ []) →
-        LieThere (moment_of (last start steps) step) }
-{
-    conservation();
-    futures_pass_one();
-    never_two_open();
-    unmet_has_moved_none();
-    totals_are_counts();
-    states_are_sound();
-    handles_hold_their_ends();
-    members_are_live();
-    contexts_count_their_handles();
-    other_bytes_stay();
-    bytes_are_put();
-}
-
-// What the laws say of every run among host ends. It does nothing.
-fn laws_hold_among()
-    ensures laws { (old new : Tells) (steps : List Step) → AreSteps steps → HasLawsAmong (start_among old new)
-        (host_moments (start_among old new) steps)
-        (last_of (start_among old new) (host_moments (start_among old new) steps)) }
-    ensures leads { (old new : Tells) (steps : List Step) (replies : List Reply) (end : World) →
-        play_among [] (start_among old new) steps ≡ EndsAmong replies end →
-        last_of (start_among old new) (host_moments (start_among old new) steps) ≡ end }
-{
-    runs::moments_lead_to_the_end();
-    runs::ends_close_exactly();
-    runs::writers_are_fed_exactly();
-    runs::producers_deliver_in_order();
-    guests::conservation();
-    guests::futures_pass_one();
-    guests::never_two_open();
-    guests::unmet_has_moved_none();
-    guests::unmet_moves_by_host_writers();
-    guests::totals_are_counts();
-    guests::other_bytes_stay();
-    guests::bytes_are_put();
-    guests::states_are_sound();
-    guests::handles_hold_their_ends();
-    guests::members_are_live();
-    guests::contexts_count_their_handles();
 }
 
 // A run that stopped behind these replies.
@@ -254,6 +200,10 @@ fn play_steps(
         × (play [] start (take (length replies.new) steps.now) ≡ Ends replies.new state)
         × StopsAt steps.now replies.new state cause) }
     ensures hosts { AreOfGuests steps.now → (tells_of writer_tells reader_tells hosts.new) ≡ (tells_of writer_tells reader_tells hosts.old) }
+    ensures begins { Extends (tells_of writer_tells reader_tells hosts.old)
+        (saids (tells_of writer_tells reader_tells hosts.new)) }
+    ensures faults { (end : HostEnd) → faults_of (tells_of writer_tells reader_tells hosts.old) end
+        ≤ faults_of (tells_of writer_tells reader_tells hosts.new) end }
     ensures supplied { AreSupplied (tells_of writer_tells reader_tells hosts.old)
         → AreSupplied (tells_of writer_tells reader_tells hosts.new) }
     ensures all { OnOk result (length replies.new ≡ length steps.now) }
@@ -262,9 +212,7 @@ fn play_steps(
 {
     for step in steps {
         sound(step);
-        if let Err(cause) = step_once(store, hosts, replies, step) {
-            return Err(cause);
-        }
+        step_once(store, hosts, replies, step)?;
     }
     Ok(())
 }

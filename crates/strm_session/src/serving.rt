@@ -12,7 +12,7 @@ ghost use Rattle.strm_machine.specs.declared.stops.Stop.{Stop};
 ghost use Rattle.strm_session.specs.Runs.{start_among, AreOfGuests, AsksBad, AsksItems};
 ghost use Rattle.strm_ports.specs.Faults.{Rose, TakesPart};
 ghost use Rattle.strm_lines.specs.Lines.{lines_of, Spells, IsFirstBad, IsTooLong};
-ghost use Rattle.strm_session.specs.Serving.{IsRun, IsStop, IsAnswer, IsStatus, IsFaultless, IsTranscript, IsStopped, PlaysOn, HaltsWith, StandsFor};
+ghost use Rattle.strm_session.specs.Serving.{IsRun, IsStop, IsOutput, IsStatus, IsFaultless, IsTranscript, IsStopped, PlaysOn, HaltsWith, StandsFor};
 
 use crate::runs::{RunCause, run};
 use crate::texts::{bad_line_text, read_fault_text, stopped_text, text, too_long_text, usage_text};
@@ -26,30 +26,39 @@ use strm_machine::stops::Stop;
 use strm_ports::ports::{Sink, Source};
 use strm_ports::whole::{InputError, read_all, write_whole};
 
-/// The statuses of the program.
+/// The run came to its end.
 pub const DONE: u8 = 0;
 
+/// The words are not the one word `run`.
 pub const USAGE: u8 = 1;
 
+/// A line is not in the grammar.
 pub const BAD_LINE: u8 = 2;
 
+/// The input has too many bytes or lines.
 pub const TOO_LONG: u8 = 3;
 
+/// The source failed.
 pub const READ_FAULT: u8 = 4;
 
+/// The sink failed, or took nothing.
 pub const WRITE_FAULT: u8 = 5;
 
+/// A host end failed.
 pub const HOST_FAILED: u8 = 6;
 
+/// A host end broke its rules.
 pub const HOST_BROKE: u8 = 7;
 
+/// A step asked for an item that is no Unicode scalar value.
 pub const BAD_ITEM: u8 = 8;
 
+/// An allocation was refused. Nothing is written.
 pub const OUT_OF_MEMORY: u8 = 9;
 
 // A status, and the text that is written with it.
 #[derive(Drop)]
-struct Answer {
+struct Output {
     status: u8,
     text: TextBytes,
 }
@@ -68,11 +77,11 @@ pub fn serve<S: Source, K: Sink>(
     requires readers { length (tells_of writer_tells reader_tells hosts.old).readers ≤ 64 }
     ensures known { IsStatus result }
     ensures told { result ≢ WRITE_FAULT → result ≢ OUT_OF_MEMORY → (text : List ℕ)
-        × IsAnswer (map string_bytes words.now.items) (S.left source.old) (S.left source.new)
+        × IsOutput (map string_bytes words.now.items) (S.left source.old) (S.left source.new)
         (tells_of writer_tells reader_tells hosts.old) (tells_of writer_tells reader_tells hosts.new) (S.faults source.old) (S.faults source.new) result text
         × Appends (K.taken sink.old) (K.taken sink.new) text }
     ensures part { result ≡ WRITE_FAULT → (status : ℕ) × (text : List ℕ)
-        × IsAnswer (map string_bytes words.now.items) (S.left source.old) (S.left source.new)
+        × IsOutput (map string_bytes words.now.items) (S.left source.old) (S.left source.new)
         (tells_of writer_tells reader_tells hosts.old) (tells_of writer_tells reader_tells hosts.new) (S.faults source.old) (S.faults source.new) status text
         × TakesPart (K.taken sink.old) (K.taken sink.new) text }
     ensures write_fault { result ≡ WRITE_FAULT → Rose (K.faults sink.old) (K.faults sink.new) }
@@ -80,6 +89,8 @@ pub fn serve<S: Source, K: Sink>(
     ensures read { (front : List ℕ) × Consumes (S.left source.old) (S.left source.new) front
         × (length front ≤ MAX_BYTES + 1) }
     ensures unread { ¬ IsRun (map string_bytes words.now.items) → source.new ≡ source.old }
+    ensures unrun { ¬ IsRun (map string_bytes words.now.items) →
+        tells_of writer_tells reader_tells hosts.new ≡ tells_of writer_tells reader_tells hosts.old }
 
     // An input in the grammar and the limits is run to its end, but for faults and want of memory, where
     // the machine plays it to its end on the records that host ends add; and where the machine halts, the
@@ -125,8 +136,8 @@ pub fn serve<S: Source, K: Sink>(
         (result ≡ USAGE) ⊎ (result ≡ OUT_OF_MEMORY) }
 {
     match answer_words(alloc, words, source, hosts) {
-        Ok(answer) => match write_whole(sink, answer.text.as_slice()) {
-            Ok(()) => answer.status,
+        Ok(output) => match write_whole(sink, output.text.as_slice()) {
+            Ok(()) => output.status,
             Err(_) => WRITE_FAULT,
         },
         Err(_) => OUT_OF_MEMORY,
@@ -139,15 +150,17 @@ fn answer_words<S: Source>(
     words: &Vec<String>,
     source: &mut S,
     hosts: &mut Hosts,
-) -> Result<Answer, OutOfMemory>
+) -> Result<Output, OutOfMemory>
     requires writers { length (tells_of writer_tells reader_tells hosts.old).writers ≤ 64 }
     requires readers { length (tells_of writer_tells reader_tells hosts.old).readers ≤ 64 }
     ensures told { IfOk result (λ a.
-        IsAnswer (map string_bytes words.now.items) (S.left source.old) (S.left source.new)
+        IsOutput (map string_bytes words.now.items) (S.left source.old) (S.left source.new)
         (tells_of writer_tells reader_tells hosts.old) (tells_of writer_tells reader_tells hosts.new) (S.faults source.old) (S.faults source.new) a.status a.text) }
     ensures read { (front : List ℕ) × Consumes (S.left source.old) (S.left source.new) front
         × (length front ≤ MAX_BYTES + 1) }
     ensures unread { ¬ IsRun (map string_bytes words.now.items) → source.new ≡ source.old }
+    ensures unrun { ¬ IsRun (map string_bytes words.now.items) →
+        tells_of writer_tells reader_tells hosts.new ≡ tells_of writer_tells reader_tells hosts.old }
 {
     if !is_run(words) {
         return fixed(alloc, USAGE, usage_text());
@@ -169,27 +182,27 @@ fn is_run(words: &Vec<String>) -> bool
 }
 
 // A status with a text that is always the same.
-fn fixed(alloc: Global, status: u8, text: &[u8]) -> Result<Answer, OutOfMemory>
+fn fixed(alloc: Global, status: u8, text: &[u8]) -> Result<Output, OutOfMemory>
     ensures { IfOk result (λ a. (a.status ≡ status) × (a.text ≡ text.now)) }
 {
     let mut copy = TextBytes::new(alloc);
     copy.push_slice(text)?;
-    Ok(Answer { status, text: copy })
+    Ok(Output { status, text: copy })
 }
 
 // What is to be written for an input that was read.
-fn answer_input(alloc: Global, input: &[u8], hosts: &mut Hosts) -> Result<Answer, OutOfMemory>
+fn answer_input(alloc: Global, input: &[u8], hosts: &mut Hosts) -> Result<Output, OutOfMemory>
     requires writers { length (tells_of writer_tells reader_tells hosts.old).writers ≤ 64 }
     requires readers { length (tells_of writer_tells reader_tells hosts.old).readers ≤ 64 }
     ensures { (before after : ℕ) → IfOk result (λ a.
-        IsAnswer (codes "run" ∷ []) (Some input.now) (Some []) (tells_of writer_tells reader_tells hosts.old) (tells_of writer_tells reader_tells hosts.new) before after a.status a.text) }
+        IsOutput (codes "run" ∷ []) (Some input.now) (Some []) (tells_of writer_tells reader_tells hosts.old) (tells_of writer_tells reader_tells hosts.new) before after a.status a.text) }
 {
     match parse(alloc, input) {
         Ok(steps) => answer_steps(alloc, steps.as_slice(), hosts),
         Err(ParseError::TooLong) => fixed(alloc, TOO_LONG, too_long_text()),
         Err(ParseError::BadLine { line }) => {
             let text = bad_line_text(alloc, line)?;
-            Ok(Answer {
+            Ok(Output {
                 status: BAD_LINE,
                 text,
             })
@@ -199,7 +212,7 @@ fn answer_input(alloc: Global, input: &[u8], hosts: &mut Hosts) -> Result<Answer
 }
 
 // What is to be written for a list of steps.
-fn answer_steps(alloc: Global, steps: &[Step], hosts: &mut Hosts) -> Result<Answer, OutOfMemory>
+fn answer_steps(alloc: Global, steps: &[Step], hosts: &mut Hosts) -> Result<Output, OutOfMemory>
     requires few { length steps.now ≤ 4294967295 }
     requires writers { length (tells_of writer_tells reader_tells hosts.old).writers ≤ 64 }
     requires readers { length (tells_of writer_tells reader_tells hosts.old).readers ≤ 64 }
@@ -212,7 +225,7 @@ fn answer_steps(alloc: Global, steps: &[Step], hosts: &mut Hosts) -> Result<Answ
     match run(alloc, steps, hosts) {
         Ok(transcript) => {
             let text = text(alloc, &transcript)?;
-            Ok(Answer { status: DONE, text })
+            Ok(Output { status: DONE, text })
         }
         Err(stop) => {
             let (status, why) = match stop.cause {
@@ -222,7 +235,7 @@ fn answer_steps(alloc: Global, steps: &[Step], hosts: &mut Hosts) -> Result<Answ
                 RunCause::OutOfMemory => return Err(OutOfMemory),
             };
             let text = stopped_text(alloc, stop.replies.as_slice(), why)?;
-            Ok(Answer { status, text })
+            Ok(Output { status, text })
         }
     }
 }

@@ -1,4 +1,4 @@
-use Rattle.strm_session.proofs.runs.laws_hold.Goals as goal
+use Rattle.strm_session.proofs.laws.laws_hold.Goals as goal
 
 pub returns-clause-laws : goal.returns-clause-laws
 returns-clause-laws c = λ steps a. record {

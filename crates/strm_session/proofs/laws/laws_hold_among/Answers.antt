@@ -1,4 +1,4 @@
-use Rattle.strm_session.proofs.runs.laws_hold_among.Goals as goal
+use Rattle.strm_session.proofs.laws.laws_hold_among.Goals as goal
 
 pub returns-clause-laws : goal.returns-clause-laws
 returns-clause-laws c = λ old new steps a. record {

@@ -1,0 +1,72 @@
+//! What the laws of `strm_laws` and `strm_host_laws` say of every run of a list of steps.
+//!
+//! Source: ours.
+
+ghost use Rattle.std.specs.Prelude.{◌≡◌, ◌∷◌, ◌++◌, [], List};
+ghost use Rattle.strm_machine.specs.declared.steps.Step.{Step};
+ghost use Rattle.strm_machine.specs.declared.replies.Reply.{Reply};
+ghost use Rattle.strm_machine.specs.Moments.{moment_of};
+ghost use Rattle.strm_machine.specs.Untouched.{StaysAside, LieThere};
+ghost use Rattle.strm_laws.specs.Conservation.{moments, last};
+ghost use Rattle.strm_laws.specs.Laws.{AreSteps};
+ghost use Rattle.strm_world.specs.World.{World};
+ghost use Rattle.strm_world.specs.HostPlays.{play as play_among, Ends as EndsAmong};
+ghost use Rattle.strm_host_laws.specs.HostMoments.{host_moments, last_of};
+ghost use Rattle.strm_buffers.specs.Tells.{Tells};
+ghost use Rattle.strm_session.specs.Runs.{start, start_among, HasLaws, HasLawsAmong};
+
+use strm_host_laws::{guests, runs};
+use strm_laws::laws::{
+    bytes_are_put, conservation, contexts_count_their_handles, futures_pass_one,
+    handles_hold_their_ends, members_are_live, never_two_open, other_bytes_stay, states_are_sound,
+    totals_are_counts, unmet_has_moved_none,
+};
+
+// What the laws say of every run. It does nothing.
+pub(crate) fn laws_hold()
+    ensures laws { (steps : List Step) → AreSteps steps →
+        HasLaws (moments start steps) (last start steps) }
+    ensures aside { (steps : List Step) (step : Step) → AreSteps (steps ++ step ∷ []) →
+        StaysAside (moment_of (last start steps) step) }
+    ensures put { (steps : List Step) (step : Step) → AreSteps (steps ++ step ∷ []) →
+        LieThere (moment_of (last start steps) step) }
+{
+    conservation();
+    futures_pass_one();
+    never_two_open();
+    unmet_has_moved_none();
+    totals_are_counts();
+    states_are_sound();
+    handles_hold_their_ends();
+    members_are_live();
+    contexts_count_their_handles();
+    other_bytes_stay();
+    bytes_are_put();
+}
+
+// What the laws say of every run among host ends. It does nothing.
+pub(crate) fn laws_hold_among()
+    ensures laws { (old new : Tells) (steps : List Step) → AreSteps steps → HasLawsAmong (start_among old new)
+        (host_moments (start_among old new) steps)
+        (last_of (start_among old new) (host_moments (start_among old new) steps)) }
+    ensures leads { (old new : Tells) (steps : List Step) (replies : List Reply) (end : World) →
+        play_among [] (start_among old new) steps ≡ EndsAmong replies end →
+        last_of (start_among old new) (host_moments (start_among old new) steps) ≡ end }
+{
+    runs::moments_lead_to_the_end();
+    runs::ends_close_exactly();
+    runs::writers_are_fed_exactly();
+    runs::producers_deliver_in_order();
+    guests::conservation();
+    guests::futures_pass_one();
+    guests::never_two_open();
+    guests::unmet_has_moved_none();
+    guests::unmet_moves_by_host_writers();
+    guests::totals_are_counts();
+    guests::other_bytes_stay();
+    guests::bytes_are_put();
+    guests::states_are_sound();
+    guests::handles_hold_their_ends();
+    guests::members_are_live();
+    guests::contexts_count_their_handles();
+}
