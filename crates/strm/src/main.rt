@@ -4,7 +4,7 @@
 ghost use Rattle.std.specs.Prelude.{◌≡◌, ◌≢◌, ◌≤◌, ℕ, List, Option, length, map, string_bytes};
 ghost use Rattle.std.specs.Process.{exit_status};
 ghost use Rattle.strm_buffers.specs.AllTells.{tells_of};
-ghost use Rattle.strm_session.specs.Serving.{IsAnswer, IsStatus};
+ghost use Rattle.strm_session.specs.Serving.{IsOutput, IsStatus};
 
 use std::alloc::{AllocError, Global};
 use std::io::{Read, Write};
@@ -35,7 +35,7 @@ fn served<R: Read + Drop, W: Write + Drop>(
     ensures known { IsStatus (exit_status result) }
     ensures told { exit_status result ≢ WRITE_FAULT → exit_status result ≢ OUT_OF_MEMORY →
         (rest : Option (List ℕ)) × (faults : ℕ) × (text : List ℕ)
-        × IsAnswer (map string_bytes words.now.items) (R.remaining input) rest
+        × IsOutput (map string_bytes words.now.items) (R.remaining input) rest
         (tells_of writer_tells reader_tells hosts.old) (tells_of writer_tells reader_tells hosts.new)
         0 faults (exit_status result) text }
 {
@@ -51,27 +51,32 @@ const WORD: Payload = Payload::One(Scalar::U32);
 
 const CHAR: Payload = Payload::One(Scalar::Char);
 
-// Serves among the program's eight host writers.
+// The kinds and payloads of the program's queues.
+const QUEUES: [(TransmitKind, Payload); 5] = [
+    (TransmitKind::Stream, BYTE),
+    (TransmitKind::Stream, WORD),
+    (TransmitKind::Stream, Payload::Nothing),
+    (TransmitKind::Stream, CHAR),
+    (TransmitKind::Future, WORD),
+];
+
+// Serves among the program's eight host writers: its queues, two streams of five bytes each, and one of
+// none.
 fn served_among_ends<R: Read + Drop, W: Write + Drop>(
     alloc: Global,
     words: &Vec<String>,
     input: R,
     output: W,
 ) -> Result<ExitCode, AllocError> {
-    let (stream, future) = (TransmitKind::Stream, TransmitKind::Future);
-    let items = [1u8, 2, 3, 4, 5];
-    let none: Empty<u8> = Empty::new();
     let mut writers: Vec<Box<dyn HostWriter>> = Vec::new(alloc);
-    writers.push(Box::new(alloc, QueueWriter::new(alloc, stream, BYTE))?)?;
-    writers.push(Box::new(alloc, QueueWriter::new(alloc, stream, WORD))?)?;
-    let nothing = QueueWriter::new(alloc, stream, Payload::Nothing);
-    writers.push(Box::new(alloc, nothing)?)?;
-    writers.push(Box::new(alloc, QueueWriter::new(alloc, stream, CHAR))?)?;
-    writers.push(Box::new(alloc, QueueWriter::new(alloc, future, WORD))?)?;
-    let five = Erased::stream(alloc, items.to_vec(alloc)?);
-    writers.push(Box::new(alloc, five)?)?;
-    let five = Erased::stream(alloc, items.to_vec(alloc)?);
-    writers.push(Box::new(alloc, five)?)?;
+    for (kind, payload) in QUEUES {
+        writers.push(Box::new(alloc, QueueWriter::new(alloc, kind, payload))?)?;
+    }
+    for _ in 0..2usize {
+        let five = [1u8, 2, 3, 4, 5].to_vec(alloc)?;
+        writers.push(Box::new(alloc, Erased::stream(alloc, five))?)?;
+    }
+    let none: Empty<u8> = Empty::new();
     writers.push(Box::new(alloc, Erased::stream(alloc, none))?)?;
     let mut hosts = Hosts {
         writers,
