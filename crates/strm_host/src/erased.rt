@@ -138,7 +138,7 @@ impl<P: StreamProducer> HostWriter for Erased<P> {
     }
 
     fn give(&mut self, window: &mut Window) -> Result<(), OutOfMemory> {
-        match mark_in_room(self.alloc, window, &self.held) {
+        match mark_in_room(window, &self.held) {
             Ok(count) => {
                 self.held.skip(count);
                 Ok(())
