@@ -2,7 +2,7 @@
 //!
 //! Source: ours. Layout: Canonical ABI, "Loading" and "Storing".
 
-ghost use Rattle.std.specs.Prelude.{◌≡◌, ℕ, ◌+◌, ◌*◌, ◌^◌, ◌<◌, ◌≤◌, [], ◌∷◌, ◌++◌, length, take, drop, map, replicate, slice_get, Some, None, IsOk, IfOk, OnOk, OnErr};
+ghost use Rattle.std.specs.Prelude.{◌≡◌, ◌+◌, ◌*◌, ◌^◌, ◌<◌, ◌≤◌, [], ◌∷◌, ◌++◌, length, take, drop, map, replicate, slice_get, Some, None, IsOk, IfOk, OnOk, OnErr};
 ghost use Rattle.strm_codes.specs.Layout.{scalars_of, item_size};
 ghost use Rattle.strm_codes.specs.Items.{FitsItem};
 ghost use Rattle.strm_codes.specs.declared.payloads.Payload.TheVariants.{One};

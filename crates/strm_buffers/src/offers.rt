@@ -3,10 +3,9 @@
 //! Source: wasmtime, `futures_and_streams.rs`, `Source` and `DirectSource`. Ours: the offer owns the
 //! items while the poll lasts, and gives them back unchanged.
 
-ghost use Rattle.std.specs.Prelude.{◌≡◌, ◌+◌, ◌*◌, ◌-◌, ◌≤◌, [], length, false, IsSomeAnd, OnSome, None, IsTrue};
+ghost use Rattle.std.specs.Prelude.{◌≡◌, ◌+◌, ◌*◌, ◌-◌, ◌≤◌, [], length, false, None, IsTrue};
 ghost use Rattle.std.specs.Bool.{then_some};
 ghost use Rattle.strm_codes.specs.Layout.{scalars_of, item_size};
-ghost use Rattle.strm_codes.specs.Items.{FitsItem};
 ghost use Rattle.strm_codes.specs.declared.payloads.Payload.TheVariants.{One};
 ghost use Rattle.strm_codes.specs.declared.scalars.Scalar.TheVariants.{U8};
 ghost use Rattle.strm_buffers.specs.declared.sources.Source.TheVariants.{Region, Listed};

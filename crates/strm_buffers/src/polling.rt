@@ -2,7 +2,7 @@
 //!
 //! Source: ours.
 
-ghost use Rattle.std.specs.Prelude.{◌≡◌, ◌+◌, ◌≤◌, false, [], length, take, drop, IfOk, OnOk, OnErr};
+ghost use Rattle.std.specs.Prelude.{◌≡◌, ◌≤◌, false, [], length, take, drop, IfOk, OnOk, OnErr};
 ghost use Rattle.strm_codes.specs.Layout.{scalars_of};
 ghost use Rattle.strm_buffers.specs.Windows.{Between, room_of, HasRoom};
 ghost use Rattle.strm_buffers.specs.Said.{in_room, past_room};

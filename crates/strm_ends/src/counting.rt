@@ -2,7 +2,7 @@
 //!
 //! Meaning: `Queues.antt`. Source: ours.
 
-ghost use Rattle.std.specs.Prelude.{◌≡◌, ◌*◌, ◌≤◌, length, Some, IsTrue};
+ghost use Rattle.std.specs.Prelude.{◌≡◌, ◌*◌, ◌≤◌, length, Some};
 ghost use Rattle.strm_codes.specs.Layout.{scalars_of, item_size};
 ghost use Rattle.strm_memory.specs.Bytes.{IsBytes};
 ghost use Rattle.strm_memory.specs.Items.{items, AreItems, is_number_or_none};

@@ -165,7 +165,7 @@ impl HostWriter for QueueWriter {
 }
 
 impl QueueWriter {
-    ghost use Rattle.std.specs.Prelude.{◌+◌, [], ◌∷◌, ◌++◌, true, drop, IfOk, OnOk, OnErr};
+    ghost use Rattle.std.specs.Prelude.{◌+◌, [], ◌∷◌, ◌++◌, true, IfOk, OnOk, OnErr};
     ghost use Rattle.strm_codes.specs.Layout.{scalars_of};
     ghost use Rattle.strm_memory.specs.Items.{AreItems};
     ghost use Rattle.strm_buffers.specs.Windows.{room_of};

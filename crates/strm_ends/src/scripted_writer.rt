@@ -168,7 +168,7 @@ impl HostWriter for ScriptedWriter {
 }
 
 impl ScriptedWriter {
-    ghost use Rattle.std.specs.Prelude.{◌≤◌, ◌<◌, [], ◌∷◌, ◌++◌, true, length, drop, vec_len, IfOk, OnOk, OnErr};
+    ghost use Rattle.std.specs.Prelude.{◌<◌, [], ◌∷◌, ◌++◌, true, drop, vec_len, IfOk, OnOk, OnErr};
     ghost use Rattle.strm_codes.specs.Layout.{scalars_of};
     ghost use Rattle.strm_memory.specs.Items.{AreItems};
     ghost use Rattle.strm_buffers.specs.Windows.{room_of};

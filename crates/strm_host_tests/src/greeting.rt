@@ -1,7 +1,6 @@
 //! A producer that writes bytes straight to where they are read, and leaves more in a buffer.
 
-ghost use Rattle.std.specs.Prelude.{◌≡◌, ◌+◌, ◌<◌, [], true, length, drop};
-ghost use Rattle.strm_buffers.specs.Tells.{Fills};
+ghost use Rattle.std.specs.Prelude.{◌≡◌, ◌<◌, [], true, length, drop};
 ghost use Rattle.strm_codes.specs.declared.payloads.Payload.TheVariants.{One};
 ghost use Rattle.strm_codes.specs.declared.scalars.Scalar.TheVariants.{U8};
 ghost use Rattle.strm_host_tests.specs.Greetings.{Greets, NeverFails};

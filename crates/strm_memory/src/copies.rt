@@ -4,7 +4,7 @@
 //! lifted and then lowered; wasmtime, `futures_and_streams.rs`, `copy`. That numbers move as bytes,
 //! and that a bad item is found before any item moves, are ours.
 
-ghost use Rattle.std.specs.Prelude.{◌≡◌, ◌+◌, ◌*◌, ◌<◌, ◌≤◌, ◌++◌, ◌↔◌, length, take, drop, is_some, IsTrue, IsNone, IsSomeAnd, IsOk, IsErr, OnOk, OnErr};
+ghost use Rattle.std.specs.Prelude.{◌≡◌, ◌+◌, ◌*◌, ◌<◌, ◌≤◌, ◌↔◌, length, is_some, IsTrue, IsNone, IsSomeAnd, IsOk, IsErr, OnOk, OnErr};
 ghost use Rattle.strm_codes.specs.Layout.{scalars_of, item_size};
 ghost use Rattle.strm_memory.specs.Bytes.{put_at, bytes_at};
 ghost use Rattle.strm_memory.specs.Items.{items, stored, items_at, stored_at, is_number_or_none};

@@ -2,7 +2,7 @@
 //!
 //! Source: ours, over std's `Read` and `Write`.
 
-ghost use Rattle.std.specs.Prelude.{◌≡◌, ◌<◌, ◌≤◌, ◌↔◌, [], length, IsOk, IfOk, IfSome, IsErr, Ok, OnOk, OnErr};
+ghost use Rattle.std.specs.Prelude.{◌≡◌, ◌<◌, ◌≤◌, ◌↔◌, [], length, IfOk, IfSome, IsErr, Ok, OnOk, OnErr};
 ghost use Rattle.std.specs.Io.{ReadsAtMost, WritesAtMost};
 ghost use Rattle.std.specs.Io.KnownBytes.{ReadConsumes, WriteAppends};
 ghost use Rattle.strm_ports.specs.Faults.{Rose, one_more};

@@ -2,10 +2,9 @@
 //!
 //! Source: wasmtime, `futures_and_streams.rs`, `poll_produce` of a guest's read.
 
-ghost use Rattle.std.specs.Prelude.{◌≡◌, ◌≤◌, [], length, take, IfOk, OnErr};
+ghost use Rattle.std.specs.Prelude.{◌≡◌, [], IfOk, OnErr};
 ghost use Rattle.strm_machine.specs.Soundness.{sizes_of, IsPlaced};
 ghost use Rattle.strm_buffers.specs.Tells.{KeepsWriter};
-ghost use Rattle.strm_world.specs.Producing.{lowered};
 ghost use Rattle.strm_turns.specs.Guests.{seen};
 ghost use Rattle.strm_producing.specs.Polls.{PollsInto, Lowers};
 

@@ -4,8 +4,7 @@
 //! Source: wasmtime, `futures_and_streams.rs`, `Destination` of a guest's read. Ours: the window owns
 //! the guest's memory meanwhile; nothing is copied.
 
-ghost use Rattle.std.specs.Prelude.{◌≡◌, ◌≢◌, ◌+◌, ◌*◌, ◌<◌, ◌≤◌, [], length};
-ghost use Rattle.strm_codes.specs.Layout.{scalars_of, item_size};
+ghost use Rattle.std.specs.Prelude.{◌≡◌, ◌≢◌, ◌*◌, ◌<◌, [], length};
 ghost use Rattle.strm_machine.specs.State.{with_memory, memory_in};
 ghost use Rattle.strm_machine.specs.Soundness.{sizes_of, IsPlaced};
 ghost use Rattle.strm_buffers.specs.Windows.{Between, HasRoom, lent_memory, memory_of};

@@ -15,7 +15,7 @@ ghost use Rattle.strm_machine.specs.declared.acts.EndAct.TheVariants as end_acts
 ghost use Rattle.strm_machine.specs.declared.acts.LooseAct.TheVariants as loose_acts;
 ghost use Rattle.strm_world.specs.Steps.{step_of, may_poll, touches};
 ghost use Rattle.strm_world.specs.Does.{Fits, Does};
-ghost use Rattle.strm_transmit.specs.Meets.{Meets, replied, refused_too, is_settled, act_takes_memory, takes_memory};
+ghost use Rattle.strm_transmit.specs.Meets.{Meets, refused_too, is_settled, act_takes_memory, takes_memory};
 ghost use Rattle.strm_transmit.specs.Hosted.{answered, lone, MayBeDone, Leaves, IsHandedOver, MeetsAlone, MeetsHosted};
 
 use crate::errors::StoreError;

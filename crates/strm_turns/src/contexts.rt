@@ -4,10 +4,9 @@
 //! Canonical ABI, `canon error-context.{new,debug-message,drop}`; wasmtime,
 //! `error_context_transfer`; the room that is taken before a context changes is ours.
 
-ghost use Rattle.std.specs.Prelude.{◌≡◌, Ok, ◌+◌, ◌^◌, ◌<◌, ◌≤◌, ℕ, true, false, length, IfOk, OnOk, OnErr};
+ghost use Rattle.std.specs.Prelude.{◌≡◌, Ok, ◌+◌, ◌^◌, ◌<◌, ◌≤◌, true, false, length, IfOk, OnOk, OnErr};
 ghost use Rattle.std.specs.Str.{is_utf8};
 ghost use Rattle.strm_handles.specs.Handles.{next_index, inserted, live_of};
-ghost use Rattle.strm_handles.specs.Changes.{Inserts};
 ghost use Rattle.strm_handles.specs.Counters.{counted, uncounted};
 ghost use Rattle.strm_handles.specs.Lookups.{error_context_rep_of};
 ghost use Rattle.strm_handles.specs.declared.entries.Entry.TheVariants.{ErrorContext};

@@ -6,7 +6,6 @@
 
 ghost use Rattle.std.specs.Prelude.{◌≡◌, Ok, ◌+◌, ◌^◌, ◌<◌, ◌≤◌, true, length, is_some, IfOk, OnOk, OnErr};
 ghost use Rattle.strm_handles.specs.Handles.{next_index, inserted, live_of};
-ghost use Rattle.strm_handles.specs.Changes.{Inserts};
 ghost use Rattle.strm_handles.specs.Counters.{counted, uncounted};
 ghost use Rattle.strm_handles.specs.Lookups.{waitable_set_rep_of};
 ghost use Rattle.strm_handles.specs.declared.entries.Entry.TheVariants.{WaitableSet};

@@ -3,10 +3,10 @@
 //! Meaning: `Producing.antt`, `Driving.antt` and `Settling.antt` of `strm_world`. Source: wasmtime,
 //! `guest_read` with `WriteState::HostReady`; a drive round is ours.
 
-ghost use Rattle.std.specs.Prelude.{◌≡◌, ◌≢◌, ◌<◌, ◌≤◌, [], true, false, length, sum, Ok, IsOk, IfOk, IfErr};
+ghost use Rattle.std.specs.Prelude.{◌≡◌, ◌≢◌, ◌<◌, ◌≤◌, [], true, length, sum, Ok, IsOk, IfOk, IfErr};
 ghost use Rattle.strm_buffers.specs.AllTells.{tells_of};
 ghost use Rattle.strm_buffers.specs.Tells.{Tells, told_by, with_told};
-ghost use Rattle.strm_machine.specs.State.{producer_at, stream_at};
+ghost use Rattle.strm_machine.specs.State.{stream_at};
 ghost use Rattle.strm_machine.specs.Sides.{with_operation};
 ghost use Rattle.strm_machine.specs.Reactions.{with_stream_at};
 ghost use Rattle.strm_machine.specs.Soundness.{sizes_of, IsPlaced};

@@ -3,9 +3,8 @@
 //! Meaning: `Attaching.antt` and `HostRefusals.antt` of `strm_world`. Source: wasmtime,
 //! `StreamReader::new`, `FutureReader::new`, and the drops of ends; `feed` is ours.
 
-ghost use Rattle.std.specs.Prelude.{◌≡◌, ◌≢◌, ◌<◌, ◌↔◌, ◌++◌, ◌∷◌, [], false, length, slice_set, Ok, Err, IsTrue, OnOk, OnErr, IfOk};
+ghost use Rattle.std.specs.Prelude.{◌≡◌, ◌<◌, ◌↔◌, ◌++◌, ◌∷◌, [], false, length, slice_set, Ok, Err, IsTrue, OnOk, OnErr, IfOk};
 ghost use Rattle.strm_buffers.specs.AllTells.{tells_of};
-ghost use Rattle.strm_buffers.specs.Tells.{told_by, with_told, fed};
 ghost use Rattle.strm_machine.specs.State.{host_limit, stream_limit, idle_end, producer_at, no_producer, stream_at, is_host};
 ghost use Rattle.strm_machine.specs.declared.acts.Act.TheVariants.{OnHost};
 ghost use Rattle.strm_machine.specs.declared.acts.HostAct.TheVariants as host_acts;

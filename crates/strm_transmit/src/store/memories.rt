@@ -4,7 +4,7 @@
 
 ghost use Rattle.std.specs.Prelude.{◌≡◌, ◌≢◌, ◌≤◌, Err, None};
 ghost use Rattle.strm_machine.specs.Refusals.{refusal, first_of, bytes_reasons};
-ghost use Rattle.strm_machine.specs.Reactions.{react, reaction, performs, goes};
+ghost use Rattle.strm_machine.specs.Reactions.{react, performs, goes};
 ghost use Rattle.strm_machine.specs.declared.acts.Act.TheVariants.{Make, OnMemory};
 ghost use Rattle.strm_machine.specs.declared.acts.Making.TheVariants.{Guest as NewGuest};
 ghost use Rattle.strm_machine.specs.declared.acts.MemoryAct.TheVariants.{Poke, Dump};
