@@ -77,6 +77,7 @@ pub fn new_window(alloc: Global, payload: Payload) -> Result<Window, OutOfMemory
 #[inline(never)]
 pub fn put_all(window: &mut Window, item: &Value)
     requires { FitsItem (scalars_of window.old.payload) item.now }
+    ensures { window.new.payload ≡ window.old.payload }
 {
     for _ in 0..ITEMS {
         put_one(window, item);

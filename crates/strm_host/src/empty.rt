@@ -19,8 +19,10 @@ pub struct Empty<T> {
 }
 
 impl<T> Empty<T> {
-    /// No items.
-    pub fn new() -> Empty<T> {
+    /// No items. There is one such producer of a type.
+    pub fn new() -> Empty<T>
+        ensures { (other : Empty T) → other ≡ result }
+    {
         Empty { items: PhantomData }
     }
 }
