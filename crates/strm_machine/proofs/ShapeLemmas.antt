@@ -20,11 +20,11 @@ use Rattle.strm_machine.specs.declared.acts.LooseAct.{LooseAct}
 use Rattle.strm_machine.specs.declared.acts.LooseAct.TheVariants.{Lower, Close}
 use Rattle.strm_machine.specs.declared.acts.MemoryAct.{MemoryAct}
 use Rattle.strm_machine.specs.declared.acts.MemoryAct.TheVariants.{Dump}
-use Rattle.strm_machine.specs.declared.acts.Act.TheVariants.{OnHost, Drive, Event}
+use Rattle.strm_machine.specs.declared.acts.Act.TheVariants.{OnHost, Drive, Event, OnSet, OnContext}
 use Rattle.strm_machine.specs.Moments.{code_told}
 use Rattle.strm_machine.specs.Soundness.{type_with, type_of}
 use Rattle.strm_machine.specs.declared.replies.Reply.TheVariants as replies
-use Rattle.strm_machine.proofs.ReactionLemmas.{reaction-by, performs-by}
+use Rattle.strm_machine.proofs.ReactionLemmas.{reaction-by}
 use Rattle.strm_machine.proofs.RefusalLemmas.{named_fits, not_refused, none_of_both, NamedFits, LeaveFits, named_ok, region_fits, placed_begun, event_fits, drop_fits, lift_fits, move_fits, lower_fits, close_fits, pair_fits, guest_fits, poke_fits}
 use Rattle.strm_machine.proofs.NamedEndLemmas.{IsFound, end_fits, found_payload, found_kind, found_type, on_end-found, event-found}
 use Rattle.strm_machine.proofs.SetStepLemmas.{set_fits, set_new-shape, set-known}
@@ -241,19 +241,16 @@ rest-known state act = record { way = SetsNone refl refl; shape = λ h e. ByRest
 -- ## Every step
 
 pub performs-known : (state : State) (act : Act) → Known state act (performs state act)
-performs-known state =
-    performs-by (Known state) state
-    (record {
-      made = make-known state;
-      ended = on_end-known state;
-      loosed = loose-known state;
-      hosted = λ host act. rest-known state (OnHost host act);
-      driven = rest-known state Drive;
-      told = event-known state;
-      grouped = set-known state;
-      shared = context-known state;
-      moved = memory-known state;
-    })
+unfolding performs
+performs-known state (Make making) = make-known state making
+performs-known state (OnEnd side end act) = on_end-known state side end act
+performs-known state (OnLoose reader act) = loose-known state reader act
+performs-known state (OnHost host act) = rest-known state (OnHost host act)
+performs-known state Drive = rest-known state Drive
+performs-known state (Event g handle) = event-known state g handle
+performs-known state (OnSet g set act) = set-known state g set act
+performs-known state (OnContext g handle act) = context-known state g handle act
+performs-known state (OnMemory g act) = memory-known state g act
 
 pub reaction-shape : (state : State) (act : Act) → IsSound state → Shape state act (reaction state act)
 reaction-shape state act h =
