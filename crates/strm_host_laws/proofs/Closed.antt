@@ -26,12 +26,12 @@ use Rattle.strm_world.specs.HostPlays.{Ends, Halts, play}
 use Rattle.strm_world.specs.World.{World, stream_in, writer_at, with_writer, without_writer, leaves_writer, with_stream_in}
 use Rattle.strm_world.specs.HostRefusals.{is_unknown_host, is_used, refusal_in}
 use Rattle.strm_world.specs.Does.{start}
-use Rattle.strm_world.proofs.ReactedLemmas.{reaction-producers}
 use Rattle.strm_host_laws.specs.HostMoments.{Part, Acts, HostMoment, part_on, host_moments, last_of}
 use Rattle.strm_host_laws.specs.HostLaws.{is_ended, ClosesExactly}
 use Rattle.strm_host_laws.proofs.Chains.{is_part, Chain, moments-chain, StopsAt, play-ends, play-halts}
 use Rattle.strm_host_laws.proofs.Goings.{with_state, Begins, hosted, Rules, Halted, Comes, with_stream_in-same, part-comes, feed-comes}
-use Rattle.strm_host_laws.proofs.Owners.{HostsFrom, HostsFromIn, same_writer, set-from, reaction-from}
+use Rattle.strm_machine.proofs.Ways.{HostsFrom, HostsFromIn, same_writer, set-from}
+use Rattle.strm_machine.proofs.ShapeLemmas.{reaction-producers, reaction-from}
 use Rattle.strm_machine.proofs.TableLemmas.{set-keeps}
 use Rattle.strm_machine.proofs.RefusalLemmas.{not_refused, not_le}
 

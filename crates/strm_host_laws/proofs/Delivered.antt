@@ -33,7 +33,8 @@ use Rattle.strm_host_laws.proofs.Forms.{opened, called, reacted_to, stream_of, i
 use Rattle.strm_host_laws.proofs.Goings.{hosted}
 use Rattle.strm_host_laws.proofs.Lives.{AllSupply, Lives, owned_made, owned_quiet, drive_can, read_can, goes_form, follows_lives}
 use Rattle.strm_host_laws.proofs.Moments.{holds_before, touch_delivers}
-use Rattle.strm_host_laws.proofs.Owners.{HostsFrom, set-from, reaction-from}
+use Rattle.strm_machine.proofs.Ways.{HostsFrom, set-from}
+use Rattle.strm_machine.proofs.ShapeLemmas.{reaction-from}
 use Rattle.strm_host_laws.proofs.Standing.{Holds-empty}
 use Rattle.strm_host_laws.proofs.Touched.{reaction-made, Touch, NotTouched, IsLost, HasTurn, HasRead, form_touch}
 use Rattle.strm_host_laws.proofs.Unmoved.{push-other, WriterGone}

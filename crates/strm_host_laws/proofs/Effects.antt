@@ -1,5 +1,5 @@
 -- What a part of a run does to the state: the few ways, and what is known of each.
-use Rattle.std.proofs.Common.{◌≡◌, ◌≢◌, ℕ, ◌<◌, Bool, true, false, cond, [], ◌∷◌, ◌++◌, length, set, Option, Some, None, refl, sym, ap, subst, ◌∙◌, inl, inr}
+use Rattle.std.proofs.Common.{◌≡◌, ◌≢◌, ℕ, ◌<◌, Bool, true, false, cond, [], ◌∷◌, ◌++◌, length, get_or, set, Option, Some, None, refl, sym, ap, subst, ◌∙◌, inl, inr}
 use Rattle.std.proofs.lemmas.Bool.{cond_both, cases_lt}
 use Rattle.std.proofs.lemmas.List.{get_or-set_same, get_or-set_other, get_or_past}
 use Rattle.strm_codes.specs.declared.codes.ReturnCode.{ReturnCode}
@@ -12,11 +12,11 @@ use Rattle.strm_host_laws.specs.HostLaws.{is_made_by}
 use Rattle.strm_machine.specs.Endings.{report_on, delivered, dropped}
 use Rattle.strm_machine.specs.Tests.{named, stream_named, items_asked}
 use Rattle.strm_machine.specs.Refusals.{refusal}
-use Rattle.strm_machine.specs.Reactions.{Reaction, with_stream_at, told, drops, closes, performs, reaction}
+use Rattle.strm_machine.specs.Reactions.{Reaction, with_stream_at, told, reaction}
 use Rattle.strm_machine.specs.declared.acts.Act.{Act}
-use Rattle.strm_machine.specs.declared.acts.Act.TheVariants.{OnEnd, OnLoose, OnHost, Drive}
-use Rattle.strm_machine.specs.declared.acts.EndAct.TheVariants.{Operate, Drop}
-use Rattle.strm_machine.specs.declared.acts.LooseAct.TheVariants.{Close}
+use Rattle.strm_machine.specs.declared.acts.Act.TheVariants.{OnEnd, OnHost}
+use Rattle.strm_machine.specs.declared.acts.EndAct.TheVariants.{Operate}
+use Rattle.strm_machine.specs.declared.acts.HostAct.{HostAct}
 use Rattle.strm_machine.specs.declared.acts.HostAct.TheVariants.{New, Feed}
 use Rattle.strm_machine.specs.declared.acts.NamedEnd.{NamedEnd}
 use Rattle.strm_machine.specs.declared.streams.Duty.TheVariants.{Serves, Ended}
@@ -36,9 +36,10 @@ use Rattle.strm_world.specs.Producing.{producer_turn}
 use Rattle.strm_world.specs.Attaching.{hosted_stream, hosts_new, forsaken, forsakes}
 use Rattle.strm_world.specs.Driving.{if_open, driven_by, drive_turn}
 use Rattle.strm_world.specs.HostRefusals.{is_used, refusal_in}
-use Rattle.strm_world.specs.Steps.{reacts, reads_from, operates_by, drops_in, performs_in, unless_refused_in, outcome}
+use Rattle.strm_world.specs.Steps.{reacts, reads_from, operates_by, drops_in, on_host, performs_by, performs_in, unless_refused_in, outcome}
 use Rattle.strm_world.proofs.SettleLemmas.{delivered-owner, code_told as code_answered, told-nothing}
-use Rattle.strm_world.proofs.OutcomeLemmas.{refusal_in-on_end, refusal_in-on_loose}
+use Rattle.strm_world.proofs.TouchLemmas.{names_none, refusal-none, IsDrop, touch-by}
+use Rattle.strm_world.proofs.OutcomeLemmas.{refusal_in-on_end}
 use Rattle.strm_host_laws.specs.HostMoments.{Part, Acts, Turns, HostMoment, part_on}
 use Rattle.strm_host_laws.proofs.Chains.{is_part, Follows}
 use Rattle.strm_host_laws.proofs.Goings.{with_state}
@@ -280,32 +281,25 @@ host_made state s e =
       | inr l ↦ absurd (let none : is_host (stream_at state s).writer.owner ≡ false = ap (λ (st : Stream). is_host st.writer.owner) (get_or_past state.streams s no_stream l) in cc)
     ]
 
-end_dropped : (state : State) (end : NamedEnd) → state.trapped ≡ false → refusal state (OnEnd Reading end Drop) ≡ None → is_host (stream_at state (stream_named (named state end))).writer.owner ≡ true
-    → DropsRead state (OnEnd Reading end Drop) (stream_named (named state end))
-unfolding performs dropped
-end_dropped state end t e h =
-    let s = stream_named (named state end) in
-    let is : reaction state (OnEnd Reading end Drop) ≡ drops state s Reading end = reaction-performs state (OnEnd Reading end Drop) t e in
-    let new = dropped Reading (stream_at state s) in
-    record {
-      gone = ap (λ (r : Reaction). is_gone (stream_at r.state s).reader.owner) is ∙ ap (λ (x : Stream). is_gone x.reader.owner) (get_or-set_same state.streams s new no_stream (host_made state s h));
-      owner = ap (λ (r : Reaction). (stream_at r.state s).writer.owner) is ∙ set-keeps (λ (x : Stream). x.writer.owner) state.streams s s new no_stream refl;
-      others = λ k ne. ap (λ (r : Reaction). stream_at r.state k) is ∙ get_or-set_other state.streams s k new no_stream ne;
-      done = ap (λ (r : Reaction). r.reply) is;
-      drops = refl;
-    }
+-- a part that names no host end
+part_busy : (act : Act) → names_none act ≡ true → is_idle (Acts act) ≡ false
+part_busy (OnHost n act) e = cc
+part_busy _ e = refl
 
-loose_closed : (state : State) (s : ℕ) → state.trapped ≡ false → refusal state (OnLoose s Close) ≡ None → is_host (stream_at state s).writer.owner ≡ true → DropsRead state (OnLoose s Close) s
-unfolding performs dropped
-loose_closed state s t e h =
-    let is : reaction state (OnLoose s Close) ≡ closes state s = reaction-performs state (OnLoose s Close) t e in
+-- where nothing refuses it, an act that drops an end of stream s does so
+drops_read : (w : World) (act : Act) (s : ℕ) → IsDrop w.state act s Reading → w.state.trapped ≡ false → refusal_in w act ≡ None → is_host (stream_in w s).writer.owner ≡ true → DropsRead w.state act s
+unfolding dropped
+drops_read w act s d t e h =
+    let state = w.state in
+    let is = reaction-performs state act t (sym (refusal-none w act d.hostless) ∙ e) in
+    let streams : (reaction state act).state.streams ≡ set state.streams s (dropped Reading (stream_at state s)) = ap (λ (r : Reaction). r.state.streams) is ∙ d.streams in
     let new = dropped Reading (stream_at state s) in
     record {
-      gone = ap (λ (r : Reaction). is_gone (stream_at r.state s).reader.owner) is ∙ ap (λ (x : Stream). is_gone x.reader.owner) (get_or-set_same state.streams s new no_stream (host_made state s h));
-      owner = ap (λ (r : Reaction). (stream_at r.state s).writer.owner) is ∙ set-keeps (λ (x : Stream). x.writer.owner) state.streams s s new no_stream refl;
-      others = λ k ne. ap (λ (r : Reaction). stream_at r.state k) is ∙ get_or-set_other state.streams s k new no_stream ne;
-      done = ap (λ (r : Reaction). r.reply) is;
-      drops = refl;
+      gone = ap (λ xs. is_gone (get_or xs s no_stream).reader.owner) streams ∙ ap (λ (x : Stream). is_gone x.reader.owner) (get_or-set_same state.streams s new no_stream (host_made state s h));
+      owner = ap (λ xs. (get_or xs s no_stream).writer.owner) streams ∙ set-keeps (λ (x : Stream). x.writer.owner) state.streams s s new no_stream refl;
+      others = λ k ne. ap (λ xs. get_or xs k no_stream) streams ∙ get_or-set_other state.streams s k new no_stream ne;
+      done = ap (λ (r : Reaction). r.reply) is ∙ d.done;
+      drops = part_busy act d.hostless;
     }
 
 -- ## Every part
@@ -326,29 +320,31 @@ hosts_effect w n e =
     })
 
 module _ (w : World) (unpiped : (s : ℕ) → is_host (stream_in w s).reader.owner ≡ false) (t : w.state.trapped ≡ false) where
+  on_host_effect : (n : ℕ) (act : HostAct) → refusal_in w (OnHost n act) ≡ None → Going (EffectIn w (Acts (OnHost n act))) (on_host w n act)
+  on_host_effect n New e = hosts_effect w n e
+  on_host_effect n (Feed bytes) e = ByRest (record { idle = refl; untold = refl; unmade = λ k. refl }) refl
+
   performs_effect : (act : Act) → is_part (Acts act) ≡ true → refusal_in w act ≡ None → Going (EffectIn w (Acts act)) (performs_in w act)
   unfolding performs_in
-  performs_effect (OnEnd side end (Operate address count)) p e =
-      operates_effect w end address count side _ (sym (refusal_in-on_end w side end (Operate address count)) ∙ e) refl
-  performs_effect (OnEnd side end Drop) p e =
-      let s = stream_named (named w.state end) in
-      drops_effect w s side (OnEnd side end Drop) refl (unpiped s)
-      (λ r h. subst (λ d. DropsRead w.state (OnEnd d end Drop) s) (sym r)
-      (end_dropped w.state end t (sym (refusal_in-on_end w Reading end Drop) ∙ subst (λ d. refusal_in w (OnEnd d end Drop) ≡ None) r e) h))
-  performs_effect (OnLoose reader Close) p e =
-      drops_effect w reader Reading (OnLoose reader Close) refl (unpiped reader) (λ r h. loose_closed w.state reader t (sym (refusal_in-on_loose w reader Close) ∙ e) h)
-  performs_effect (OnHost n New) p e = hosts_effect w n e
-  performs_effect (OnHost n (Feed bytes)) p e = ByRest (record { idle = refl; untold = refl; unmade = λ k. refl }) refl
-  performs_effect Drive p e = cc
-  performs_effect act p e = reacts_effect w act refl
+  performs_effect =
+      touch-by (λ act touch. is_part (Acts act) ≡ true → refusal_in w act ≡ None → Going (EffectIn w (Acts act)) (performs_by w act touch)) w.state
+      (record {
+        operated = λ side end address count p e.
+            operates_effect w end address count side _ (sym (refusal_in-on_end w side end (Operate address count)) ∙ e) refl;
+        dropped = λ act s side d p e.
+            drops_effect w s side act (part_busy act d.hostless) (unpiped s)
+            (λ r h. drops_read w act s (subst (IsDrop w.state act s) r d) t e h);
+        hosted = λ n act p e. on_host_effect n act e;
+        driven = λ p e. cc;
+        alone = λ act n p e. reacts_effect w act (part_busy act n);
+      })
 
   -- one that is refused
   refused_effect : (act : Act) (r : Refusal) → refusal_in w act ≡ Some r → EffectIn w (Acts act) (replies.Refused r) w
-  unfolding refusal_in refusal
   refused_effect (OnHost n New) r e = ByRest (record { idle = refl; untold = refl; unmade = λ k. refl }) refl
   refused_effect (OnHost n (Feed bytes)) r e = ByRest (record { idle = refl; untold = refl; unmade = λ k. refl }) refl
   refused_effect act r e =
-      let is = reaction-refused w.state act r t e in
+      let is = reaction-refused w.state act r t (sym (refusal-none w act refl) ∙ e) in
       ByReaction act refl refl (ap (λ (x : Reaction). x.reply) (sym is)) (ap (λ (x : Reaction). x.state) (sym is))
 
   unless_effect : (act : Act) (o : Option Refusal) → is_part (Acts act) ≡ true → refusal_in w act ≡ o → Going (EffectIn w (Acts act)) (unless_refused_in w act o)

@@ -10,9 +10,9 @@ use Rattle.strm_machine.specs.Endings.{report_on, delivered}
 use Rattle.strm_machine.specs.Tests.{named, stream_named, items_asked}
 use Rattle.strm_machine.specs.Reactions.{reaction}
 use Rattle.strm_machine.specs.declared.acts.Act.{Act}
-use Rattle.strm_machine.specs.declared.acts.Act.TheVariants.{OnEnd, OnLoose, OnHost, Drive}
-use Rattle.strm_machine.specs.declared.acts.EndAct.TheVariants.{Operate, Drop}
-use Rattle.strm_machine.specs.declared.acts.LooseAct.TheVariants.{Close}
+use Rattle.strm_machine.specs.declared.acts.Act.TheVariants.{OnEnd, OnHost}
+use Rattle.strm_machine.specs.declared.acts.EndAct.TheVariants.{Operate}
+use Rattle.strm_machine.specs.declared.acts.HostAct.{HostAct}
 use Rattle.strm_machine.specs.declared.acts.HostAct.TheVariants.{New, Feed}
 use Rattle.strm_machine.specs.declared.acts.NamedEnd.{NamedEnd}
 use Rattle.strm_machine.specs.declared.streams.Owner.{Owner}
@@ -29,8 +29,9 @@ use Rattle.strm_world.specs.Settling.{answered_with, answered}
 use Rattle.strm_world.specs.Producing.{producer_turn}
 use Rattle.strm_world.specs.Attaching.{hosts_new, forsaken, forsakes}
 use Rattle.strm_world.specs.Driving.{if_open, driven_by, drive_turn}
+use Rattle.strm_world.proofs.TouchLemmas.{names_none, touch-by}
 use Rattle.strm_world.specs.HostRefusals.{refusal_in}
-use Rattle.strm_world.specs.Steps.{reacts, reads_from, operates_by, drops_in, performs_in, unless_refused_in, outcome}
+use Rattle.strm_world.specs.Steps.{reacts, reads_from, operates_by, drops_in, on_host, performs_by, performs_in, unless_refused_in, outcome}
 use Rattle.strm_world.proofs.OutcomeLemmas.{refusal_in-on_end}
 use Rattle.strm_host_laws.specs.HostMoments.{Part, Acts, Turns, part_on}
 use Rattle.strm_host_laws.proofs.Chains.{is_part}
@@ -184,17 +185,25 @@ module _ (w : World) (h : Holds w.state) where
   unfolding hosts_new
   hosts-formed n e = ByHosting n refl refl e refl
 
+  makes_none : (act : Act) → names_none act ≡ true → MakesNone act
+  makes_none (OnHost n act) e = cc
+  makes_none _ e = λ reply. refl
+
+  on_host-formed : (n : ℕ) (act : HostAct) → refusal_in w (OnHost n act) ≡ None → Formed (Acts (OnHost n act)) (on_host w n act)
+  on_host-formed n New e = hosts-formed n e
+  on_host-formed n (Feed bytes) e = ByFeeding n bytes refl refl
+
   performs-formed : (act : Act) → is_part (Acts act) ≡ true → refusal_in w act ≡ None → Formed (Acts act) (performs_in w act)
   unfolding performs_in
-  performs-formed (OnEnd side end (Operate address count)) p e =
-      operates-formed end address count side _ e refl
-  performs-formed (OnEnd side end Drop) p e =
-      drops-formed (stream_of w end) side (OnEnd side end Drop) (λ reply. refl)
-  performs-formed (OnLoose reader Close) p e = drops-formed reader Reading (OnLoose reader Close) (λ reply. refl)
-  performs-formed (OnHost n New) p e = hosts-formed n e
-  performs-formed (OnHost n (Feed bytes)) p e = ByFeeding n bytes refl refl
-  performs-formed Drive p e = cc
-  performs-formed act p e = reacts-formed act (λ reply. refl)
+  performs-formed =
+      touch-by (λ act touch. is_part (Acts act) ≡ true → refusal_in w act ≡ None → Formed (Acts act) (performs_by w act touch)) w.state
+      (record {
+        operated = λ side end address count p e. operates-formed end address count side _ e refl;
+        dropped = λ act s side d p e. drops-formed s side act (makes_none act d.hostless);
+        hosted = λ n act p e. on_host-formed n act e;
+        driven = λ p e. cc;
+        alone = λ act n p e. reacts-formed act (makes_none act n);
+      })
 
   refused_none : (act : Act) (r : Refusal) → is_making (Acts act) (replies.Refused r) ≡ false
   refused_none (OnHost n New) r = refl

@@ -18,9 +18,9 @@ use Rattle.strm_machine.specs.Endings.{report_on, delivered}
 use Rattle.strm_machine.specs.Tests.{named, stream_named, items_asked}
 use Rattle.strm_machine.specs.Reactions.{reaction}
 use Rattle.strm_machine.specs.declared.acts.Act.{Act}
-use Rattle.strm_machine.specs.declared.acts.Act.TheVariants.{OnEnd, OnLoose, OnHost, Drive}
-use Rattle.strm_machine.specs.declared.acts.EndAct.TheVariants.{Operate, Drop}
-use Rattle.strm_machine.specs.declared.acts.LooseAct.TheVariants.{Close}
+use Rattle.strm_machine.specs.declared.acts.Act.TheVariants.{OnEnd, OnHost}
+use Rattle.strm_machine.specs.declared.acts.EndAct.TheVariants.{Operate}
+use Rattle.strm_machine.specs.declared.acts.HostAct.{HostAct}
 use Rattle.strm_machine.specs.declared.acts.HostAct.TheVariants.{New, Feed}
 use Rattle.strm_machine.specs.declared.acts.NamedEnd.{NamedEnd}
 use Rattle.strm_machine.specs.declared.streams.Duty.TheVariants.{Serves}
@@ -40,13 +40,14 @@ use Rattle.strm_world.specs.Settling.{moved_on, answered_with, answered}
 use Rattle.strm_world.specs.Producing.{lowered, receives, with_over, produced_result, hands_over, produces, producer_turn}
 use Rattle.strm_world.specs.Attaching.{hosted_stream, with_new_stream, hosts_new, forsaken, forsakes}
 use Rattle.strm_world.specs.Driving.{if_open, driven_by, drive_turn}
+use Rattle.strm_world.proofs.TouchLemmas.{touch-by}
 use Rattle.strm_world.specs.HostRefusals.{refusal_in}
-use Rattle.strm_world.specs.Steps.{reacts, reads_from, operates_by, drops_in, performs_in, unless_refused_in, outcome}
+use Rattle.strm_world.specs.Steps.{reacts, reads_from, operates_by, drops_in, on_host, performs_by, performs_in, unless_refused_in, outcome}
 use Rattle.strm_machine.specs.Turns.{with_received}
 use Rattle.strm_world.proofs.SettleLemmas.{is_done_with, moved_on-owner, leaves_writer-stays}
 use Rattle.strm_host_laws.specs.HostMoments.{Part, Acts, Turns, part_on}
 use Rattle.strm_host_laws.proofs.Chains.{is_part}
-use Rattle.strm_host_laws.proofs.Owners.{WriterStays, with_operation-stays}
+use Rattle.strm_machine.proofs.Ways.{WriterStays, with_operation-stays}
 
 -- CHANGES
 
@@ -265,16 +266,21 @@ module _ (R K : World → World → Type 0) (rules : Rules R) (begins : Begins K
   unfolding hosts_new
   hosts-comes w n e = rules.hosts w n e
 
+  on_host-comes : (w : World) (n : ℕ) (act : HostAct) → is_feed (Acts (OnHost n act)) ≡ false → refusal_in w (OnHost n act) ≡ None → Is w (on_host w n act)
+  on_host-comes w n New f e = hosts-comes w n e
+  on_host-comes w n (Feed bytes) f e = cc
+
   performs-comes : (w : World) (act : Act) → is_part (Acts act) ≡ true → is_feed (Acts act) ≡ false → refusal_in w act ≡ None → Is w (performs_in w act)
   unfolding performs_in
-  performs-comes w (OnEnd side end (Operate address count)) p f e = operates-comes w side end address count _
-  performs-comes w (OnEnd side end Drop) p f e =
-      drops-comes w (stream_named (named w.state end)) side (OnEnd side end Drop)
-  performs-comes w (OnLoose reader Close) p f e = drops-comes w reader Reading (OnLoose reader Close)
-  performs-comes w (OnHost n New) p f e = hosts-comes w n e
-  performs-comes w (OnHost n (Feed bytes)) p f e = cc
-  performs-comes w Drive p f e = cc
-  performs-comes w act p f e = reacts-comes w act
+  performs-comes w =
+      touch-by (λ act touch. is_part (Acts act) ≡ true → is_feed (Acts act) ≡ false → refusal_in w act ≡ None → Is w (performs_by w act touch)) w.state
+      (record {
+        operated = λ side end address count p f e. operates-comes w side end address count _;
+        dropped = λ act s side d p f e. drops-comes w s side act;
+        hosted = λ n act p f e. on_host-comes w n act f e;
+        driven = λ p f e. cc;
+        alone = λ act n p f e. reacts-comes w act;
+      })
 
   unless-comes : (w : World) (act : Act) (o : Option Refusal) → is_part (Acts act) ≡ true → is_feed (Acts act) ≡ false → refusal_in w act ≡ o → Is w (unless_refused_in w act o)
   unless-comes w act (Some r) p f e = rules.begins.stays w

@@ -32,7 +32,7 @@ use Rattle.strm_machine.proofs.TallyLemmas.{Tallies}
 use Rattle.strm_world.specs.Attaching.{forsaken}
 use Rattle.strm_host_laws.specs.HostMoments.{Part, Acts, Turns}
 use Rattle.strm_host_laws.specs.HostLaws.{act_in, is_made_by}
-use Rattle.strm_host_laws.proofs.Owners.{reaction-from}
+use Rattle.strm_machine.proofs.ShapeLemmas.{reaction-from}
 use Rattle.strm_machine.proofs.TableLemmas.{at_push}
 use Rattle.strm_host_laws.proofs.HostTurns.{Turned, turned_stream}
 use Rattle.strm_host_laws.proofs.Effects.{opened_by, Driven, Reads, Hosts, Forsakes, Rests, Effect, ByReaction, ByRest, ByHosting, ByDriving, ByReading, ByForsaking, is_idle}

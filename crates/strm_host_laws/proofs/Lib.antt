@@ -1,5 +1,4 @@
 pub mod Chains
-pub mod Owners
 pub mod Goings
 pub mod Closed
 pub mod Fed

@@ -31,34 +31,41 @@ pub record Answer : Type 0 where
   pub ready : Option ℕ
   pub text : Bool
 
--- the sets and bytes of a state answer an act so
+-- what an act asks of the sets and bytes of a state, if it asks anything
+pub data Question : Type 0 where
+  InSet : ℕ → ℕ → Question
+  HasMember : ℕ → ℕ → Question
+  Ready : ℕ → ℕ → Question
+  IsText : ℕ → ℕ → ℕ → Question
+  AsksNothing : Question
+
+abbrev pub question_of : Act → Question
+question_of (OnEnd side end (Move to)) = InSet end.guest end.handle
+question_of (OnEnd side end Lift) = InSet end.guest end.handle
+question_of (OnSet g set set_acts.Drop) = HasMember g set
+question_of (OnSet g set set_acts.Poll) = Ready g set
+question_of (Make (Context g address len)) = IsText g address len
+question_of act = AsksNothing
+
+-- they answer it so
+abbrev pub Answers : State → Question → Answer → Type 0
+Answers state (InSet g handle) a = is_in_set state g handle ≡ a.in_set
+Answers state (HasMember g set) a = has_member state g (number_named (set_named state g set)) ≡ a.has_member
+Answers state (Ready g set) a = ready_in state g set ≡ a.ready
+Answers state (IsText g address len) a = is_utf8 (message_in state g address len) ≡ a.text
+Answers state AsksNothing a = Unit {0}
+
 abbrev pub Gives : State → Act → Answer → Type 0
-Gives state (OnEnd side end (Move to)) a = is_in_set state end.guest end.handle ≡ a.in_set
-Gives state (OnEnd side end Lift) a = is_in_set state end.guest end.handle ≡ a.in_set
-Gives state (OnSet g set set_acts.Drop) a = has_member state g (number_named (set_named state g set)) ≡ a.has_member
-Gives state (OnSet g set set_acts.Poll) a = ready_in state g set ≡ a.ready
-Gives state (Make (Context g address len)) a = is_utf8 (message_in state g address len) ≡ a.text
-Gives state _ a = Unit {0}
+Gives state act a = Answers state (question_of act) a
 
 -- they do, where they are asked; and then this
-abbrev pub GivesThen : State → Act → Answer → Type 0 → Type 0
-GivesThen state (OnEnd side end (Move to)) a more = (is_in_set state end.guest end.handle ≡ a.in_set) × more
-GivesThen state (OnEnd side end Lift) a more = (is_in_set state end.guest end.handle ≡ a.in_set) × more
-GivesThen state (OnSet g set set_acts.Drop) a more = (has_member state g (number_named (set_named state g set)) ≡ a.has_member) × more
-GivesThen state (OnSet g set set_acts.Poll) a more = (ready_in state g set ≡ a.ready) × more
-GivesThen state (Make (Context g address len)) a more = (is_utf8 (message_in state g address len) ≡ a.text) × more
-GivesThen state _ a more = more
+abbrev pub AnswersThen : State → Question → Answer → Type 0 → Type 0
+AnswersThen state AsksNothing a more = more
+AnswersThen state question a more = Answers state question a × more
 
-gives_then : (state : State) (act : Act) (a : Answer) (more : Type 0) → GivesThen state act a more → Gives state act a × more
-gives_then state (OnEnd side end (Move to)) a more h = h
-gives_then state (OnEnd side end Lift) a more h = h
-gives_then state (OnEnd side end _) a more h = (tt, h)
-gives_then state (OnSet g set set_acts.Drop) a more h = h
-gives_then state (OnSet g set set_acts.Poll) a more h = h
-gives_then state (OnSet g set (set_acts.Join handle)) a more h = (tt, h)
-gives_then state (Make (Context g address len)) a more h = h
-gives_then state (Make _) a more h = (tt, h)
-gives_then state _ a more h = (tt, h)
+answers_then : (state : State) (question : Question) (a : Answer) (more : Type 0) → AnswersThen state question a more → Answers state question a × more
+answers_then state AsksNothing a more h = (tt, h)
+answers_then state _ a more h = h
 
 -- ## A step by its answer
 
@@ -108,22 +115,17 @@ reasons-by state (OnEnd side end act) a e =
     ap (λ more. front_reasons state end act ++ ((handle_reasons (named state end) ++ own_reasons state side end act) ++ more)) (last-by state side end act a e)
 reasons-by state (OnSet g set set_acts.Drop) a e =
     ap (λ b. where_ (is_unknown_guest state g) refusals.UnknownGuest ∷ (slot_reasons (set_named state g set) ++ where_ b refusals.SetNotEmpty ∷ [])) e
-reasons-by state (OnSet g set (set_acts.Join handle)) a e = refl
-reasons-by state (OnSet g set set_acts.Poll) a e = refl
 reasons-by state (Make (Context g address len)) a e =
     ap (λ b. where_ (is_unknown_guest state g) refusals.UnknownGuest
     ∷ where_ (is_message_too_long len) refusals.MessageTooLong
     ∷ where_ (are_bytes_out_of_bounds state g address len) refusals.OutOfBounds
     ∷ where_ (not b) refusals.BadText
     ∷ (handle_more_reasons state g ++ where_ (are_places_full state 1) refusals.Full ∷ [])) e
-reasons-by state (Make _) a e = refl
 reasons-by state _ a e = refl
 
 performs-by : (state : State) (act : Act) (a : Answer) → Gives state act a → performs state act ≡ performs_by a state act
 unfolding performs
 performs-by state (OnSet g set set_acts.Poll) a e = ap (polls state g) e
-performs-by state (OnSet g set (set_acts.Join handle)) a e = refl
-performs-by state (OnSet g set set_acts.Drop) a e = refl
 performs-by state _ a e = refl
 
 unless-by : (state : State) (act : Act) (a : Answer) (o : Option Refusal) → performs state act ≡ performs_by a state act → unless_refused state act o ≡ unless_by a state act o
@@ -157,7 +159,7 @@ last_state state (x ∷ more) = last_state (reaction_by x.answer state (act_of x
 abbrev pub AllGive : State → List Answered → Type 0
 AllGive state [] = Unit {0}
 AllGive state (x ∷ more) =
-    GivesThen state (act_of x.step) x.answer (AllGive (reaction_by x.answer state (act_of x.step)).state more)
+    AnswersThen state (question_of (act_of x.step)) x.answer (AllGive (reaction_by x.answer state (act_of x.step)).state more)
 
 abbrev pub steps_of : List Answered → List Step
 steps_of run = map (λ x. x.step) run
@@ -165,13 +167,13 @@ steps_of run = map (λ x. x.step) run
 pub moments-by : (state : State) (run : List Answered) → AllGive state run → moments state (steps_of run) ≡ moments_by state run
 moments-by state [] all = refl
 moments-by state (x ∷ more) all =
-    let both = gives_then state (act_of x.step) x.answer (AllGive (reaction_by x.answer state (act_of x.step)).state more) all in
+    let both = answers_then state (question_of (act_of x.step)) x.answer (AllGive (reaction_by x.answer state (act_of x.step)).state more) all in
     ap (λ (r : Reaction). record { act = act_of x.step; before = state; reply = r.reply; after = r.state } ∷ moments r.state (steps_of more)) (reaction-by state (act_of x.step) x.answer both.0)
     ∙ ap (λ ms. record { act = act_of x.step; before = state; reply = (reaction_by x.answer state (act_of x.step)).reply; after = (reaction_by x.answer state (act_of x.step)).state } ∷ ms) (moments-by (reaction_by x.answer state (act_of x.step)).state more both.1)
 
 pub last-state : (state : State) (run : List Answered) → AllGive state run → last state (steps_of run) ≡ last_state state run
 last-state state [] all = refl
 last-state state (x ∷ more) all =
-    let both = gives_then state (act_of x.step) x.answer (AllGive (reaction_by x.answer state (act_of x.step)).state more) all in
+    let both = answers_then state (question_of (act_of x.step)) x.answer (AllGive (reaction_by x.answer state (act_of x.step)).state more) all in
     ap (λ (r : Reaction). last r.state (steps_of more)) (reaction-by state (act_of x.step) x.answer both.0)
     ∙ last-state (reaction_by x.answer state (act_of x.step)).state more both.1

@@ -6,34 +6,23 @@ use Rattle.std.proofs.lemmas.Bool.Decides.{eqb_tells}
 use Rattle.std.proofs.lemmas.List.{set-get_or}
 use Rattle.std.specs.Option.{option_map}
 use Rattle.strm_codes.specs.declared.codes.ReturnCode.{ReturnCode}
-use Rattle.strm_machine.specs.Words.{Guest, Payload, scalars_of, items_at, memory_in, with_memory, stored_at, no_stream, act_of, State, stream_at, end_of, opposite, same_side, carried, Turn, named, stream_named, Reaction, goes, operates, react, NamedEnd, Operate, Poke, OnEnd, Side, Writing, Reading, Operation, Stream, Step}
+use Rattle.strm_machine.specs.Words.{Guest, Payload, scalars_of, items_at, memory_in, with_memory, stored_at, no_stream, act_of, State, stream_at, end_of, opposite, same_side, carried, Turn, named, stream_named, Reaction, goes, operates, react, NamedEnd, Operate, OnEnd, Side, Writing, Reading, Operation, Stream, Step}
 use Rattle.strm_machine.specs.State.{is_gone}
 use Rattle.strm_machine.specs.Sides.{write_of, read_of}
 use Rattle.strm_machine.specs.Meetings.{meeting_of, begun}
 use Rattle.strm_machine.specs.Turns.{learns, waits, moves, completes_alone, rendezvous, rendezvous_by, finds, turn}
 use Rattle.strm_machine.specs.Tests.{items_asked}
 use Rattle.strm_machine.specs.Refusals.{refusal}
-use Rattle.strm_machine.specs.Making.{with_stream}
-use Rattle.strm_machine.specs.Reactions.{written_back, on_stream, on_end, on_loose, makes, polls, on_set, on_context, on_memory, performs}
-use Rattle.strm_machine.specs.WaitableSets.{ready_in}
+use Rattle.strm_machine.specs.Reactions.{written_back, on_stream, performs}
 use Rattle.strm_machine.specs.Plays.{is_settled}
 use Rattle.strm_machine.specs.Asked.{HasBadItem}
 use Rattle.strm_machine.specs.declared.streams.Meeting.{Meeting}
 use Rattle.strm_machine.specs.declared.streams.Meeting.TheVariants.{BothComplete, WriteCompletes, ReadCompletes}
-use Rattle.strm_machine.specs.declared.acts.Making.{Making}
-use Rattle.strm_machine.specs.declared.acts.Making.TheVariants.{Guest as MakeGuest, Between, Set, Context}
-use Rattle.strm_machine.specs.declared.acts.EndAct.{EndAct}
-use Rattle.strm_machine.specs.declared.acts.LooseAct.{LooseAct}
-use Rattle.strm_machine.specs.declared.acts.LooseAct.TheVariants.{Lower, Close}
-use Rattle.strm_machine.specs.declared.acts.SetAct.{SetAct}
-use Rattle.strm_machine.specs.declared.acts.SetAct.TheVariants as set_acts
-use Rattle.strm_machine.specs.declared.acts.ContextAct.{ContextAct}
-use Rattle.strm_machine.specs.declared.acts.ContextAct.TheVariants as context_acts
-use Rattle.strm_machine.specs.declared.acts.MemoryAct.{MemoryAct}
-use Rattle.strm_machine.specs.declared.acts.MemoryAct.TheVariants.{Dump}
 use Rattle.strm_machine.specs.declared.replies.Reply.TheVariants as replies
 use Rattle.strm_machine.proofs.CarryLemmas.{carried_none}
-use Rattle.strm_machine.proofs.ReactionLemmas.{reaction-by, reaction-trapped, reaction-performs, performs-on_end, performs-by}
+use Rattle.strm_machine.proofs.ReactionLemmas.{reaction-by, reaction-trapped, reaction-performs, performs-on_end}
+use Rattle.strm_machine.proofs.Ways.{Standing, IsDone, Way, Turns, SetsOne, AddsOne, SetsNone}
+use Rattle.strm_machine.proofs.ShapeLemmas.{performs-known}
 
 -- ## Who completes
 
@@ -134,35 +123,8 @@ pub record Proceeds (state : State) (r : Reaction) : Type 0 where
   pub settled : is_settled r.reply ≡ true
   pub trapped : r.state.trapped ≡ state.trapped
 
--- what is made, and what is done to a loose end, to a set, to an error context or to a memory
-makes-goes : (state : State) (making : Making) → Proceeds state (makes state making)
-unfolding with_stream
-makes-goes state (MakeGuest size) = record { settled = refl; trapped = refl }
-makes-goes state (Between writer reader ty) = record { settled = refl; trapped = refl }
-makes-goes state (Set g) = record { settled = refl; trapped = refl }
-makes-goes state (Context g address len) = record { settled = refl; trapped = refl }
-
-loose-goes : (state : State) (reader : ℕ) (act : LooseAct) → Proceeds state (on_loose state reader act)
-loose-goes state reader (Lower g ty) = record { settled = refl; trapped = refl }
-loose-goes state reader Close = record { settled = refl; trapped = refl }
-
-polls-goes : (state : State) (g : ℕ) (o : Option ℕ) → Proceeds state (polls state g o)
-polls-goes state g None = record { settled = refl; trapped = refl }
-polls-goes state g (Some handle) = record { settled = refl; trapped = refl }
-
-set-goes : (state : State) (g set : ℕ) (act : SetAct) → Proceeds state (on_set state g set act)
-set-goes state g set (set_acts.Join handle) = record { settled = refl; trapped = refl }
-set-goes state g set set_acts.Poll = polls-goes state g (ready_in state g set)
-set-goes state g set set_acts.Drop = record { settled = refl; trapped = refl }
-
-context-goes : (state : State) (g handle : ℕ) (act : ContextAct) → Proceeds state (on_context state g handle act)
-context-goes state g handle (context_acts.Text address) = record { settled = refl; trapped = refl }
-context-goes state g handle (context_acts.Move to) = record { settled = refl; trapped = refl }
-context-goes state g handle context_acts.Drop = record { settled = refl; trapped = refl }
-
-memory-goes : (state : State) (g : ℕ) (act : MemoryAct) → Proceeds state (on_memory state g act)
-memory-goes state g (Poke address bytes) = record { settled = refl; trapped = refl }
-memory-goes state g (Dump address len) = record { settled = refl; trapped = refl }
+stands : (state : State) (r : Reaction) → IsDone state r → Proceeds state r
+stands state r e = record { settled = ap (λ (k : Standing). k.settled) e; trapped = ap (λ (k : Standing). k.trapped) e }
 
 -- ## A read or write
 
@@ -211,9 +173,11 @@ module _ (P : Reaction → Type 0) (state : State) (step : Step) (bad : (s : ℕ
     operates-by : P (operates state side end address count)
     operates-by = by_code t.code refl
 
-  end-by : (side : Side) (end : NamedEnd) (act : EndAct) → act_of step ≡ OnEnd side end act → refusal state (act_of step) ≡ None → P (on_end state side end act)
-  end-by side end (Operate address count) does e = operates-by side end address count does e
-  end-by side end _ does e = done _ (record { settled = refl; trapped = refl })
+  way-by : (r : Reaction) → Way state (act_of step) r → refusal state (act_of step) ≡ None → P r
+  way-by r (Turns side end address count does e) u = subst P (sym e) (operates-by side end address count does u)
+  way-by r (SetsOne s x d e h) u = done r (stands state r d)
+  way-by r (AddsOne x d e h) u = done r (stands state r d)
+  way-by r (SetsNone d e) u = done r (stands state r d)
 
   -- a store that is not trapped goes on, or a bad item is asked for
   pub react-by : state.trapped ≡ false → P (react state step)
@@ -221,20 +185,7 @@ module _ (P : Reaction → Type 0) (state : State) (step : Step) (bad : (s : ℕ
       reaction-by P state (act_of step)
       (λ e. absurd (let wrong : true ≡ false = sym e ∙ untrapped in cc))
       (λ r e. done _ (record { settled = refl; trapped = refl }))
-      (λ e.
-      performs-by (λ act r. act_of step ≡ act → P r) state
-      (record {
-        made = λ making does. done _ (makes-goes state making);
-        ended = λ side end act does. end-by side end act does e;
-        loosed = λ reader act does. done _ (loose-goes state reader act);
-        hosted = λ host act does. done _ (record { settled = refl; trapped = refl });
-        driven = λ does. done _ (record { settled = refl; trapped = refl });
-        told = λ g handle does. done _ (record { settled = refl; trapped = refl });
-        grouped = λ g set act does. done _ (set-goes state g set act);
-        shared = λ g handle act does. done _ (context-goes state g handle act);
-        moved = λ g act does. done _ (memory-goes state g act);
-      })
-      (act_of step) refl)
+      (way-by (performs state (act_of step)) (performs-known state (act_of step)).way)
 
 -- ## Both ways
 

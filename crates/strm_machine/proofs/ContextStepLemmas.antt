@@ -31,7 +31,8 @@ use Rattle.strm_machine.proofs.WaitableSetLemmas.{context_is_other, HoldsSets-gi
 use Rattle.strm_machine.proofs.MessageLemmas.{IsBytes-text}
 use Rattle.strm_machine.proofs.ErrorContextLemmas.{HoldsContexts-new, HoldsContexts-shared, HoldsContexts-dropped, named_is_there}
 use Rattle.strm_machine.proofs.SetStepLemmas.{ends_stay}
-use Rattle.strm_machine.proofs.Shapes.{Tabling, Tables, Shape, ByTable, ByPut}
+use Rattle.strm_machine.proofs.Shapes.{Tabling, Tables, Shape, ByTable, ByPut, Known}
+use Rattle.strm_machine.proofs.Ways.{SetsNone}
 
 -- ## What nothing refuses
 
@@ -218,18 +219,27 @@ share-shape state act number g h fits =
     ByTable (replies.Number (next_in state g)) (given state g h fits.there number (raised state.contexts number)) refl
     (share-tables state g h fits.there number fits.known fits.handle.number)
 
-pub context-shape : (state : State) (g handle : ℕ) (act : ContextAct) → IsSound state → refusal state (OnContext g handle act) ≡ None → Shape state (OnContext g handle act) (on_context state g handle act)
+pub context-known : (state : State) (g handle : ℕ) (act : ContextAct) → Known state (OnContext g handle act) (on_context state g handle act)
 unfolding refusal
-context-shape state g handle (Text address) h e =
-    let fits = text_fits state g handle address h e in
-    let message = message_named state g handle in
-    ByPut (replies.Number (length message)) g address message refl
-    (record { fits = fits.bytes; where_ = refl; bytes_put = λ b. IsBytes-text message (h.contexts.messages (context_number state g handle)).text; untold = refl })
-context-shape state g handle (Move to) h e =
-    share-shape state (OnContext g handle (Move to)) (context_number state g handle) to h (transfer_fits state g handle to h e).share
-context-shape state g handle Drop h e =
-    let names = context_names state g handle h e in
-    ByTable replies.Done (freed state g h names.there handle) refl (drop-tables state g h names.there handle names)
+context-known state g handle (Text address) = record {
+  way = SetsNone refl refl;
+  shape = λ h e.
+      let fits = text_fits state g handle address h e in
+      let message = message_named state g handle in
+      ByPut (replies.Number (length message)) g address message refl
+      (record { fits = fits.bytes; where_ = refl; bytes_put = λ b. IsBytes-text message (h.contexts.messages (context_number state g handle)).text; untold = refl });
+}
+context-known state g handle (Move to) = record {
+  way = SetsNone refl refl;
+  shape = λ h e.
+      share-shape state (OnContext g handle (Move to)) (context_number state g handle) to h (transfer_fits state g handle to h e).share;
+}
+context-known state g handle Drop = record {
+  way = SetsNone refl refl;
+  shape = λ h e.
+      let names = context_names state g handle h e in
+      ByTable replies.Done (freed state g h names.there handle) refl (drop-tables state g h names.there handle names);
+}
 
 -- ## What is no step
 

@@ -20,6 +20,7 @@ pub mod EndingLemmas
 pub mod TurnChangeLemmas
 pub mod Lawful
 pub mod MomentLemmas
+pub mod Ways
 pub mod Shapes
 pub mod MoveLemmas
 pub mod SetStepLemmas

@@ -3,25 +3,20 @@ use Rattle.std.proofs.Common.{◌≡◌, ℕ, ◌+◌, ◌≤◌, false, suc, Li
 use Rattle.std.proofs.Math.Seq.{drop-append_seam, take-append_seam}
 use Rattle.std.proofs.lemmas.Bool.Decides.{nat_tests}
 use Rattle.std.proofs.lemmas.List.{append_assoc}
-use Rattle.strm_codes.specs.declared.refusals.Refusal.{Refusal}
 use Rattle.strm_memory.specs.Bytes.{bytes_at}
 use Rattle.strm_memory.specs.Region.{bytes_out_of_bounds}
-use Rattle.strm_machine.specs.Words.{State, memory_in, put_at, goes, IsSound, Act, OnMemory, Poke}
+use Rattle.strm_machine.specs.Words.{State, memory_in, put_at, IsSound, Act, OnMemory, Poke}
 use Rattle.strm_machine.specs.State.{with_bytes}
 use Rattle.strm_machine.specs.ErrorContexts.{message_named}
 use Rattle.strm_machine.specs.Refusals.{refusal}
-use Rattle.strm_machine.specs.Reactions.{on_context, on_memory, reaction}
+use Rattle.strm_machine.specs.Reactions.{texts, on_memory, performs, reaction}
 use Rattle.strm_machine.specs.Untouched.{bytes_of, LieThere}
-use Rattle.strm_machine.specs.declared.acts.ContextAct.{ContextAct}
-use Rattle.strm_machine.specs.declared.acts.ContextAct.TheVariants as context_acts
-use Rattle.strm_machine.specs.declared.acts.MemoryAct.{MemoryAct}
-use Rattle.strm_machine.specs.declared.acts.MemoryAct.TheVariants.{Dump}
+use Rattle.strm_machine.specs.declared.acts.ContextAct.TheVariants.{Text}
 use Rattle.strm_machine.specs.declared.acts.Act.TheVariants.{OnContext}
-use Rattle.strm_machine.specs.declared.replies.Reply.TheVariants as replies
 use Rattle.strm_machine.proofs.StateLemmas.{memory_in-with_memory}
 use Rattle.strm_machine.proofs.RefusalLemmas.{BytesFit, poke_fits}
 use Rattle.strm_machine.proofs.ContextStepLemmas.{text_fits}
-use Rattle.strm_machine.proofs.ReactionLemmas.{reaction-by, performs-by}
+use Rattle.strm_machine.proofs.ReactionLemmas.{reaction-by}
 use Rattle.strm_machine.proofs.Lawful.{as_moment}
 
 -- ## Bytes
@@ -51,42 +46,21 @@ bytes_there state g address bytes fits =
 
 -- ## Steps
 
--- one that isn't done puts none
-refused_there : (state : State) (act : Act) (r : Refusal) → LieThere (as_moment state act (goes (replies.Refused r) state))
-refused_there state (OnContext g handle (context_acts.Text address)) r = refl
-refused_there state (OnMemory g (Poke address bytes)) r = refl
-refused_there state _ r = refl
-
-trapped_there : (state : State) (act : Act) → LieThere (as_moment state act (goes replies.StoreTrapped state))
-trapped_there state (OnContext g handle (context_acts.Text address)) = refl
-trapped_there state (OnMemory g (Poke address bytes)) = refl
-trapped_there state _ = refl
-
-context_there : (state : State) → IsSound state → (g handle : ℕ) (act : ContextAct) → refusal state (OnContext g handle act) ≡ None → LieThere (as_moment state (OnContext g handle act) (on_context state g handle act))
-context_there state h g handle (context_acts.Text address) e =
+-- a message and the bytes of a poke lie there, where they are put
+text_there : (state : State) (g handle address : ℕ) → IsSound state → refusal state (OnContext g handle (Text address)) ≡ None → LieThere (as_moment state (OnContext g handle (Text address)) (texts state g handle address))
+text_there state g handle address h e =
     bytes_there state g address (message_named state g handle) (text_fits state g handle address h e).bytes
-context_there state h g handle (context_acts.Move to) e = refl
-context_there state h g handle context_acts.Drop e = refl
 
-memory_there : (state : State) (g : ℕ) (act : MemoryAct) → refusal state (OnMemory g act) ≡ None → LieThere (as_moment state (OnMemory g act) (on_memory state g act))
-memory_there state g (Poke address bytes) e = bytes_there state g address bytes (poke_fits state g address bytes e)
-memory_there state g (Dump address len) e = refl
+poke_there : (state : State) (g address : ℕ) (bytes : List ℕ) → refusal state (OnMemory g (Poke address bytes)) ≡ None → LieThere (as_moment state (OnMemory g (Poke address bytes)) (on_memory state g (Poke address bytes)))
+poke_there state g address bytes e = bytes_there state g address bytes (poke_fits state g address bytes e)
 
+-- nothing else puts bytes, nor does one of them that isn't done
 pub reaction-there : (state : State) (act : Act) → IsSound state → LieThere (as_moment state act (reaction state act))
-reaction-there state act h =
-    reaction-by (λ r. LieThere (as_moment state act r)) state act
-    (λ e. trapped_there state act)
-    (λ r e. refused_there state act r)
-    (performs-by (λ a r. refusal state a ≡ None → LieThere (as_moment state a r)) state
-    (record {
-      made = λ making e. refl;
-      ended = λ side end act e. refl;
-      loosed = λ reader act e. refl;
-      hosted = λ host act e. refl;
-      driven = λ e. refl;
-      told = λ g handle e. refl;
-      grouped = λ g set act e. refl;
-      shared = context_there state h;
-      moved = memory_there state;
-    })
-    act)
+unfolding performs
+reaction-there state (OnContext g handle (Text address)) h =
+    reaction-by (λ r. LieThere (as_moment state (OnContext g handle (Text address)) r)) state (OnContext g handle (Text address))
+    (λ t. refl) (λ r e. refl) (text_there state g handle address h)
+reaction-there state (OnMemory g (Poke address bytes)) h =
+    reaction-by (λ r. LieThere (as_moment state (OnMemory g (Poke address bytes)) r)) state (OnMemory g (Poke address bytes))
+    (λ t. refl) (λ r e. refl) (poke_there state g address bytes)
+reaction-there state _ h = refl

@@ -3,18 +3,10 @@ use Rattle.std.proofs.Common.{◌≡◌, ℕ, min, take, drop, arith, Bool, true
 use Rattle.std.proofs.lemmas.Bool.{cond_both}
 use Rattle.std.specs.Option.{option_or}
 use Rattle.strm_codes.specs.declared.refusals.Refusal.{Refusal}
-use Rattle.strm_machine.specs.Words.{State, memory_in, end_named, stream_named, Side, first_of, Reaction, goes, NamedEnd, Act, Make, OnEnd, OnMemory}
-use Rattle.strm_machine.specs.Tests.{side_named}
+use Rattle.strm_machine.specs.Words.{State, memory_in, Side, first_of, Reaction, goes, NamedEnd, Act, OnEnd, OnMemory}
 use Rattle.strm_machine.specs.Refusals.{Reason, on_end_reasons, lower_context_reasons, bytes_reasons, refusal}
-use Rattle.strm_machine.specs.Reactions.{makes, on_end, on_loose, tells, on_set, on_context, on_memory, shares, shares_unless, lowers_context, performs, unless_refused, reaction}
-use Rattle.strm_machine.specs.declared.acts.Making.{Making}
+use Rattle.strm_machine.specs.Reactions.{on_end, shares, shares_unless, lowers_context, performs, unless_refused, reaction}
 use Rattle.strm_machine.specs.declared.acts.EndAct.{EndAct}
-use Rattle.strm_machine.specs.declared.acts.LooseAct.{LooseAct}
-use Rattle.strm_machine.specs.declared.acts.HostAct.{HostAct}
-use Rattle.strm_machine.specs.declared.acts.SetAct.{SetAct}
-use Rattle.strm_machine.specs.declared.acts.ContextAct.{ContextAct}
-use Rattle.strm_machine.specs.declared.acts.MemoryAct.{MemoryAct}
-use Rattle.strm_machine.specs.declared.acts.Act.TheVariants.{OnLoose, OnHost, Drive, Event, OnSet, OnContext}
 use Rattle.strm_machine.specs.declared.acts.MemoryAct.TheVariants.{Dump}
 use Rattle.strm_machine.specs.declared.replies.Reply.TheVariants as replies
 
@@ -78,31 +70,6 @@ unfolding lowers_context
 lowers_context-performs state number g t e =
     ap (λ b. cond b (goes replies.StoreTrapped state) (shares_unless state number g (first_of (lower_context_reasons state number g)))) t
     ∙ ap (shares_unless state number g) e
-
--- what holds of each of the nine ways that an act can go
-pub record EachWay (P : Act → Reaction → Type 0) (state : State) : Type 0 where
-  pub made : (making : Making) → P (Make making) (makes state making)
-  pub ended : (side : Side) (end : NamedEnd) (act : EndAct) → P (OnEnd side end act) (on_end state side end act)
-  pub loosed : (reader : ℕ) (act : LooseAct) → P (OnLoose reader act) (on_loose state reader act)
-  pub hosted : (host : ℕ) (act : HostAct) → P (OnHost host act) (goes replies.Done state)
-  pub driven : P Drive (goes replies.Done state)
-  pub told : (g handle : ℕ) → P (Event g handle) (tells state (stream_named (end_named state g handle)) (side_named (end_named state g handle)))
-  pub grouped : (g set : ℕ) (act : SetAct) → P (OnSet g set act) (on_set state g set act)
-  pub shared : (g handle : ℕ) (act : ContextAct) → P (OnContext g handle act) (on_context state g handle act)
-  pub moved : (g : ℕ) (act : MemoryAct) → P (OnMemory g act) (on_memory state g act)
-
--- holds of each act
-pub performs-by : (P : Act → Reaction → Type 0) (state : State) → EachWay P state → (act : Act) → P act (performs state act)
-unfolding performs
-performs-by P state w (Make making) = w.made making
-performs-by P state w (OnEnd side end act) = w.ended side end act
-performs-by P state w (OnLoose reader act) = w.loosed reader act
-performs-by P state w (OnHost host act) = w.hosted host act
-performs-by P state w Drive = w.driven
-performs-by P state w (Event g handle) = w.told g handle
-performs-by P state w (OnSet g set act) = w.grouped g set act
-performs-by P state w (OnContext g handle act) = w.shared g handle act
-performs-by P state w (OnMemory g act) = w.moved g act
 
 least : (len : ℕ) → min (min len 64) 64 ≡ min len 64
 least len = omega arith

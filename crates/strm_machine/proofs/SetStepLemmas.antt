@@ -32,7 +32,8 @@ use Rattle.strm_machine.proofs.SoundLemmas.{AreNamed-at, AreNamed-removed, AreNa
 use Rattle.strm_machine.proofs.WaitableSetLemmas.{set_some, HoldsSets-left, HoldsSets-joined, HoldsSets-without, HoldsSets-given_set}
 use Rattle.strm_machine.proofs.ErrorContextLemmas.{set_leads_nowhere, HoldsContexts-table, HoldsContexts-given, HoldsContexts-freed}
 use Rattle.strm_machine.proofs.EndingLemmas.{Becomes, told-becomes}
-use Rattle.strm_machine.proofs.Shapes.{Shape, BySetting, ByTable, ByRest}
+use Rattle.strm_machine.proofs.Shapes.{Shape, BySetting, ByTable, ByRest, Known}
+use Rattle.strm_machine.proofs.Ways.{delivered-from, Way, SetsOne, SetsNone}
 
 -- ## What nothing refuses
 
@@ -258,9 +259,23 @@ module _ (state : State) (g number : ℕ) where
 
 -- ## All that is done to a set
 
-pub set-shape : (state : State) (g set : ℕ) (act : SetAct) → IsSound state → refusal state (OnSet g set act) ≡ None → Shape state (OnSet g set act) (on_set state g set act)
-set-shape state g set (set_acts.Join handle) h e =
-    let fits = on_set_fits state g set (set_acts.Join handle) e in join-shape state g set handle h fits.0 fits.1
-set-shape state g set set_acts.Poll h e = polls-shape state g set (ready_in state g set) h refl
-set-shape state g set set_acts.Drop h e =
-    let fits = on_set_fits state g set set_acts.Drop e in set_drop-shape state g h set fits.0 (set_drop_fits state g set fits.1)
+polls-way : (state : State) (g set : ℕ) (o : Option ℕ) → Way state (OnSet g set set_acts.Poll) (polls state g o)
+polls-way state g set None = SetsNone refl refl
+polls-way state g set (Some handle) =
+    let name = end_named state g handle in
+    let stream = stream_at state (stream_named name) in
+    SetsOne (stream_named name) (delivered (side_named name) stream) refl refl (delivered-from (side_named name) stream)
+
+pub set-known : (state : State) (g set : ℕ) (act : SetAct) → Known state (OnSet g set act) (on_set state g set act)
+set-known state g set (set_acts.Join handle) = record {
+  way = SetsNone refl refl;
+  shape = λ h e. let fits = on_set_fits state g set (set_acts.Join handle) e in join-shape state g set handle h fits.0 fits.1;
+}
+set-known state g set set_acts.Poll = record {
+  way = polls-way state g set (ready_in state g set);
+  shape = λ h e. polls-shape state g set (ready_in state g set) h refl;
+}
+set-known state g set set_acts.Drop = record {
+  way = SetsNone refl refl;
+  shape = λ h e. let fits = on_set_fits state g set set_acts.Drop e in set_drop-shape state g h set fits.0 (set_drop_fits state g set fits.1);
+}

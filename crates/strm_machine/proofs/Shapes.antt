@@ -1,6 +1,6 @@
 -- What a step does by its shape: the few ways in which steps change a state, and what is known of each.
 use Rattle.std.proofs.Common.{◌≡◌, ℕ, ◌<◌, true, false, List, [], length, set, Option, Some, None}
-use Rattle.strm_machine.specs.Words.{Guest, kind_of, ReturnCode, TransmitIndex, Handles, Entry, removed, Sets, State, guest_in, sets_in, with_handles, with_table, end_named, HoldsSets, stream_at, is_end, end_of, with_end, Turn, named, stream_named, has_ended, Reaction, goes, operates, sizes_of, IsPlaced, StreamIsPlaced, accepted, NamedEnd, Operate, Act, Make, OnEnd, Reply, Side, Operation, End, Stream, Owner, Held, is_held, is_loose, with_owner}
+use Rattle.strm_machine.specs.Words.{Guest, kind_of, ReturnCode, TransmitIndex, Handles, Entry, removed, Sets, State, guest_in, sets_in, with_handles, with_table, end_named, HoldsSets, stream_at, is_end, end_of, with_end, Turn, named, stream_named, has_ended, Reaction, goes, operates, sizes_of, IsSound, IsPlaced, StreamIsPlaced, accepted, NamedEnd, Operate, Act, Make, OnEnd, Reply, Side, Operation, End, Stream, Owner, Held, is_held, is_loose, with_owner}
 use Rattle.strm_handles.specs.Handles.{handle_limit, next_index, inserted}
 use Rattle.strm_handles.specs.Lookups.{end_rep_of}
 use Rattle.strm_machine.specs.Meetings.{begun}
@@ -12,6 +12,7 @@ use Rattle.strm_machine.specs.State.{is_host, with_bytes}
 use Rattle.strm_machine.specs.Soundness.{type_of, types_of, AreNamed, HoldsContexts}
 use Rattle.strm_machine.specs.Turns.{turn}
 use Rattle.strm_machine.specs.Tests.{items_asked}
+use Rattle.strm_machine.specs.Refusals.{refusal}
 use Rattle.strm_machine.specs.Reactions.{makes}
 use Rattle.strm_machine.specs.Moments.{code_told, PutsBytes}
 use Rattle.strm_machine.specs.Untouched.{put_by}
@@ -19,6 +20,7 @@ use Rattle.strm_machine.specs.declared.acts.Making.TheVariants as makings
 use Rattle.strm_machine.proofs.RefusalLemmas.{GuestFits, BytesFit, PairFits}
 use Rattle.strm_machine.proofs.NamedEndLemmas.{IsFound, NamesEnd}
 use Rattle.strm_machine.proofs.EndingLemmas.{Becomes}
+use Rattle.strm_machine.proofs.Ways.{Way}
 
 -- ## A read or write
 
@@ -161,3 +163,10 @@ pub data Shape (state : State) (act : Act) (r : Reaction) : Type 0 where
   ByGuest : (size : ℕ) → act ≡ Make (makings.Guest size) → r ≡ makes state (makings.Guest size) → GuestFits state size → Shape state act r
   ByPut : (reply : Reply) (g address : ℕ) (bytes : List ℕ) → r ≡ goes reply (with_bytes state g address bytes) → Puts state act reply g address bytes → Shape state act r
   ByRest : (reply : Reply) → r ≡ goes reply state → code_told reply ≡ None → Shape state act r
+
+-- ## What is known of a step
+
+-- how it changes the streams, whatever the state; and its shape, where the state is sound and nothing refuses it
+pub record Known (state : State) (act : Act) (r : Reaction) : Type 0 where
+  pub way : Way state act r
+  pub shape : IsSound state → refusal state act ≡ None → Shape state act r

@@ -19,8 +19,8 @@ use Rattle.strm_machine.proofs.SoundLemmas.{IsSound-guest, IsSound-guests, IsSou
 use Rattle.strm_machine.proofs.MoveLemmas.{IsSound-owned}
 use Rattle.strm_machine.proofs.TurnLemmas.{GuestsKeep, TurnKeeps, turn-keeps, with_memory-keeps}
 use Rattle.strm_machine.proofs.Shapes.{stream_on, begun_on, turn_on, Operates, Shape, ByTurn, BySetting, ByOwner, ByTable, ByPair, ByGuest, ByPut, ByRest}
-use Rattle.strm_machine.proofs.SetStepLemmas.{set_fits, set_new-shape, set-shape}
-use Rattle.strm_machine.proofs.ContextStepLemmas.{context_fits, context_new-shape, context-shape}
+use Rattle.strm_machine.proofs.SetStepLemmas.{set_fits, set_new-shape, set-known}
+use Rattle.strm_machine.proofs.ContextStepLemmas.{context_fits, context_new-shape, context-known}
 use Rattle.strm_machine.proofs.ShapeLemmas.{reaction-shape}
 
 pub operate-keeps : (state : State) (side : Side) (end : NamedEnd) (address count : ℕ) → Operates state side end address count → TurnKeeps state.guests (stream_on state end) (turn_on state side end address count)
@@ -63,14 +63,14 @@ reaction-sound state act h = shape-sound state act (reaction state act) h (react
 
 -- what is done to a set, and a set more
 pub on_set-sound : (state : State) (g set : ℕ) (act : SetAct) → IsSound state → refusal state (OnSet g set act) ≡ None → IsSound (on_set state g set act).state
-on_set-sound state g set act h e = shape-sound state (OnSet g set act) (on_set state g set act) h (set-shape state g set act h e)
+on_set-sound state g set act h e = shape-sound state (OnSet g set act) (on_set state g set act) h ((set-known state g set act).shape h e)
 
 pub with_set-sound : (state : State) (g : ℕ) → IsSound state → refusal state (Make (Set g)) ≡ None → IsSound (with_set state g)
 with_set-sound state g h e = shape-sound state (Make (Set g)) (makes state (Set g)) h (set_new-shape state g h (set_fits state g e))
 
 -- what is done to an error context, and one more
 pub on_context-sound : (state : State) (g handle : ℕ) (act : ContextAct) → IsSound state → refusal state (OnContext g handle act) ≡ None → IsSound (on_context state g handle act).state
-on_context-sound state g handle act h e = shape-sound state (OnContext g handle act) (on_context state g handle act) h (context-shape state g handle act h e)
+on_context-sound state g handle act h e = shape-sound state (OnContext g handle act) (on_context state g handle act) h ((context-known state g handle act).shape h e)
 
 pub with_context-sound : (state : State) (g address len : ℕ) → IsSound state → refusal state (Make (Context g address len)) ≡ None → IsSound (with_context state g (message_in state g address len))
 with_context-sound state g address len h e =

@@ -13,16 +13,14 @@ use Rattle.strm_machine.specs.declared.streams.Side.TheVariants.{Writing, Readin
 use Rattle.strm_machine.specs.declared.streams.Stream.{Stream}
 use Rattle.strm_machine.specs.declared.streams.Owner.{Owner}
 use Rattle.strm_machine.specs.declared.acts.Act.{Act}
-use Rattle.strm_machine.specs.declared.acts.Act.TheVariants.{OnEnd, OnLoose, OnHost, Drive}
-use Rattle.strm_machine.specs.declared.acts.EndAct.TheVariants.{Operate, Drop}
-use Rattle.strm_machine.specs.declared.acts.LooseAct.TheVariants.{Close}
 use Rattle.strm_machine.proofs.EmptyLemmas.{IsSound-empty}
 use Rattle.strm_machine.proofs.SeenSteps.{made_at}
 use Rattle.strm_machine.proofs.SoundStepLemmas.{operate-keeps, reaction-sound}
 use Rattle.strm_machine.proofs.TableLemmas.{OwnersStay, with_end-owners, owner_in}
 use Rattle.strm_machine.proofs.Shapes.{turn_on, Shape, ByTurn, BySetting, ByOwner, ByTable, ByPair, ByGuest, ByPut, ByRest}
 use Rattle.strm_machine.proofs.ShapeLemmas.{reaction-shape}
-use Rattle.strm_world.specs.Steps.{touches}
+use Rattle.strm_world.specs.Steps.{touches_by, touches}
+use Rattle.strm_world.proofs.TouchLemmas.{touch-by}
 use Rattle.strm_transmit.specs.Hosted.{lone}
 use Rattle.strm_session.specs.Runs.{start, is_of_guests}
 
@@ -110,9 +108,13 @@ start-unhosted = record {
 
 -- a step of guests touches no host end there
 pub touches-none : (state : State) (act : Act) → Unhosted state → is_of_guests act ≡ true → touches (lone state) act ≡ false
-touches-none state (OnEnd side end (Operate address count)) u e = u.none (stream_named (named state end)) (opposite side)
-touches-none state (OnEnd side end Drop) u e = u.none (stream_named (named state end)) (opposite side)
-touches-none state (OnLoose reader Close) u e = u.none reader Writing
-touches-none state (OnHost n act) u e = cc
-touches-none state Drive u e = cc
-touches-none state _ u e = refl
+touches-none state act u =
+    touch-by (λ act touch. is_of_guests act ≡ true → touches_by state touch ≡ false) state
+    (record {
+      operated = λ side end address count e. u.none (stream_named (named state end)) (opposite side);
+      dropped = λ act s side d e. u.none s (opposite side);
+      hosted = λ n act e. cc;
+      driven = λ e. cc;
+      alone = λ act n e. refl;
+    })
+    act

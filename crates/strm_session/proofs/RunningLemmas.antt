@@ -13,10 +13,10 @@ use Rattle.strm_machine.specs.Plays.{is_settled}
 use Rattle.strm_machine.specs.Reactions.{reaction}
 use Rattle.strm_machine.specs.Sides.{opposite, end_of}
 use Rattle.strm_machine.specs.declared.acts.Act.{Act}
-use Rattle.strm_machine.specs.declared.acts.Act.TheVariants.{OnEnd, OnLoose, OnHost, Drive}
-use Rattle.strm_machine.specs.declared.acts.EndAct.TheVariants.{Operate, Drop}
+use Rattle.strm_machine.specs.declared.acts.Act.TheVariants.{OnEnd}
+use Rattle.strm_machine.specs.declared.acts.EndAct.TheVariants.{Operate}
+use Rattle.strm_machine.specs.declared.acts.HostAct.{HostAct}
 use Rattle.strm_machine.specs.declared.acts.HostAct.TheVariants.{New, Feed}
-use Rattle.strm_machine.specs.declared.acts.LooseAct.TheVariants.{Close}
 use Rattle.strm_machine.specs.declared.acts.NamedEnd.{NamedEnd}
 use Rattle.strm_machine.specs.declared.replies.Reply.{Reply}
 use Rattle.strm_machine.specs.declared.replies.Reply.TheVariants as replies
@@ -39,7 +39,8 @@ use Rattle.strm_world.specs.Settling.{answered_with}
 use Rattle.strm_world.specs.Driving.{if_open, driven_by, drive_turn, driven}
 use Rattle.strm_world.specs.Attaching.{hosts_new, forsakes}
 use Rattle.strm_world.specs.HostRefusals.{refusal_in}
-use Rattle.strm_world.specs.Steps.{reacts, operates_by, drops_in, performs_in, unless_refused_in, outcome, step_of}
+use Rattle.strm_world.specs.Steps.{reacts, operates_by, drops_in, on_host, performs_by, performs_in, unless_refused_in, outcome, step_of}
+use Rattle.strm_world.proofs.TouchLemmas.{touch-by}
 use Rattle.strm_machine.specs.declared.steps.Step.{Step}
 use Rattle.strm_session.proofs.PlayLemmas.{RunsOn, reaction-runs}
 
@@ -148,15 +149,23 @@ drops-runs world s side act r =
     cond_both (is_host (end_of (opposite side) (stream_in world s)).owner) (forsakes (reacts world act) s side) (reacts world act) Running
     (λ h. forsakes-runs (reacts world act) s side (reacts-runs world act r)) (λ h. reacts-runs world act r)
 
+on_host-runs : (world : World) (n : ℕ) (act : HostAct) → IsRunning world → Running (on_host world n act)
+unfolding hosts_new
+on_host-runs world n New t = t
+on_host-runs world n (Feed bytes) t = t
+
 performs-runs : (world : World) (act : Act) → IsRunning world → RunsOn (reaction world.state act) → Running (performs_in world act)
-unfolding performs_in hosts_new
-performs-runs world (OnEnd side end (Operate address count)) t r = operates-runs world side end address count _ t r
-performs-runs world (OnEnd side end Drop) t r = drops-runs world _ side (OnEnd side end Drop) r
-performs-runs world (OnLoose reader Close) t r = drops-runs world reader Reading (OnLoose reader Close) r
-performs-runs world (OnHost n New) t r = t
-performs-runs world (OnHost n (Feed bytes)) t r = t
-performs-runs world Drive t r = driven-runs world _ t
-performs-runs world act t r = reacts-runs world act r
+unfolding performs_in
+performs-runs world act t =
+    touch-by (λ act touch. RunsOn (reaction world.state act) → Running (performs_by world act touch)) world.state
+    (record {
+      operated = λ side end address count r. operates-runs world side end address count _ t r;
+      dropped = λ act s side d r. drops-runs world s side act r;
+      hosted = λ n act r. on_host-runs world n act t;
+      driven = λ r. driven-runs world _ t;
+      alone = λ act n r. reacts-runs world act r;
+    })
+    act
 
 unless-runs : (world : World) (act : Act) (o : Option Refusal) → IsRunning world → RunsOn (reaction world.state act) → Running (unless_refused_in world act o)
 unless-runs world act (Some refusal) t r = t

@@ -19,7 +19,7 @@ use Rattle.strm_world.specs.Does.{Fits}
 use Rattle.strm_world.proofs.CloseLemmas.{ended_producer, ended_in}
 use Rattle.strm_world.proofs.FitsLemmas.{KeepsKind}
 use Rattle.strm_world.proofs.PollLemmas.{IsServing}
-use Rattle.strm_world.proofs.ReactedLemmas.{reaction-producers}
+use Rattle.strm_machine.proofs.ShapeLemmas.{reaction-producers}
 use Rattle.strm_transmit.specs.Inside.{AreServed}
 use Rattle.strm_transmit.proofs.ServedLemmas.{at_set, serving_kept, ended_no}
 

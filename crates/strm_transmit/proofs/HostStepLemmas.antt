@@ -11,9 +11,6 @@ use Rattle.strm_machine.specs.Soundness.{IsSound}
 use Rattle.strm_machine.specs.Refusals.{refusal}
 use Rattle.strm_machine.specs.Reactions.{Reaction, goes, reaction}
 use Rattle.strm_machine.specs.declared.acts.Act.{Act}
-use Rattle.strm_machine.specs.declared.acts.Act.TheVariants.{OnEnd, OnLoose, OnHost}
-use Rattle.strm_machine.specs.declared.acts.EndAct.TheVariants.{Drop}
-use Rattle.strm_machine.specs.declared.acts.LooseAct.TheVariants.{Close}
 use Rattle.strm_machine.specs.declared.replies.Reply.{Reply}
 use Rattle.strm_machine.specs.declared.replies.Reply.TheVariants as replies
 use Rattle.strm_machine.specs.declared.stops.Stop.TheVariants as stops
@@ -21,7 +18,7 @@ use Rattle.strm_machine.proofs.ReactionLemmas.{reaction-trapped, reaction-refuse
 use Rattle.strm_world.specs.World.{World}
 use Rattle.strm_world.specs.Outcomes.{Outcome, Goes, stops as stops_in}
 use Rattle.strm_world.specs.HostRefusals.{refusal_in}
-use Rattle.strm_world.specs.Steps.{performs_in, unless_refused_in, outcome, may_poll, touches}
+use Rattle.strm_world.specs.Steps.{Touch, Drops, Hosts, touch_of, performs_in, unless_refused_in, outcome, polls_by, may_poll, touches_by, touches}
 use Rattle.strm_world.specs.Does.{Logs, world_of, Answered, Fits, Does}
 use Rattle.strm_world.proofs.DoesLemmas.{Does-untold, Does-as}
 use Rattle.strm_world.proofs.OutcomeLemmas.{outcome-trapped, outcome-performs}
@@ -143,11 +140,13 @@ meets-types old new (Err StoreTrapped) r m k = subst (λ (x : Reaction). KeepsTy
 meets-types old new (Err OutOfMemory) r m k = same_streams old new (ap (λ (s : State). s.producers) m.1) (ap (λ (s : State). s.streams) m.1)
 
 -- an act that touches no host end polls none
+unpolled_by : (state : State) (touch : Touch) → touches_by state touch ≡ false → polls_by state touch ≡ false
+unpolled_by state (Drops s side) u = refl
+unpolled_by state (Hosts n act) u = refl
+unpolled_by state _ u = u
+
 pub unpolled : (world : World) (act : Act) → touches world act ≡ false → may_poll world act ≡ false
-unpolled world (OnEnd side end Drop) u = refl
-unpolled world (OnLoose reader Close) u = refl
-unpolled world (OnHost n act) u = refl
-unpolled world _ u = u
+unpolled world act u = unpolled_by world.state (touch_of world.state act) u
 
 module _ (old new : State) (tells : Tells) (act : Act) where
   meets-does : (result : Result Reply StoreError) → touches (lone old) act ≡ false → (reaction old act).state.producers ≡ old.producers → Settles result → Meets old new result (reaction old act) → Does old new tells tells (answered result) (λ w. outcome w act)

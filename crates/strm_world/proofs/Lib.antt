@@ -1,6 +1,7 @@
 pub mod WorldLemmas
 pub mod GrowLemmas
 pub mod DoesLemmas
+pub mod TouchLemmas
 pub mod ReactedLemmas
 pub mod DriveLemmas
 pub mod PollLemmas

@@ -1,80 +1,32 @@
--- A step that touches no host end is the machine's without them, and what is kept of host writers stays.
+-- A step that touches no host end is the machine's without them.
 use Rattle.std.proofs.Common.{◌≡◌, ℕ, Bool, true, false, cond, List, Option, Some, None, Ok, Err, refl, sym, ap, subst, ◌∙◌}
-use Rattle.strm_codes.specs.declared.codes.ReturnCode.{ReturnCode}
 use Rattle.strm_codes.specs.declared.refusals.Refusal.{Refusal}
 use Rattle.strm_buffers.specs.Tells.{Tells}
-use Rattle.strm_machine.specs.State.{State, is_host, stream_at}
-use Rattle.strm_machine.specs.Turns.{Turn, turn}
-use Rattle.strm_machine.specs.Meetings.{begun}
-use Rattle.strm_machine.specs.Making.{with_stream}
-use Rattle.strm_machine.specs.WaitableSets.{ready_in}
+use Rattle.strm_machine.specs.State.{State, is_host}
 use Rattle.strm_machine.specs.Sides.{opposite, end_of}
-use Rattle.strm_machine.specs.Tests.{named, stream_named, items_asked}
 use Rattle.strm_machine.specs.Refusals.{refusal}
-use Rattle.strm_machine.specs.Reactions.{written_back, on_stream, polls, performs, reaction}
+use Rattle.strm_machine.specs.Reactions.{reaction}
 use Rattle.strm_machine.specs.declared.acts.Act.{Act}
-use Rattle.strm_machine.specs.declared.acts.Act.TheVariants.{Make, OnEnd, OnLoose, OnHost, Drive, OnSet, OnContext, OnMemory}
-use Rattle.strm_machine.specs.declared.acts.Making.TheVariants.{Guest, Between}
-use Rattle.strm_machine.specs.declared.acts.EndAct.TheVariants.{Operate, Drop}
-use Rattle.strm_machine.specs.declared.acts.LooseAct.TheVariants.{Close}
-use Rattle.strm_machine.specs.declared.acts.SetAct.TheVariants.{Poll}
-use Rattle.strm_machine.specs.declared.acts.ContextAct.TheVariants as context_acts
-use Rattle.strm_machine.specs.declared.acts.MemoryAct.TheVariants.{Dump}
+use Rattle.strm_machine.specs.declared.acts.Act.TheVariants.{OnEnd, OnHost}
+use Rattle.strm_machine.specs.declared.acts.EndAct.TheVariants.{Operate}
 use Rattle.strm_machine.specs.declared.acts.NamedEnd.{NamedEnd}
 use Rattle.strm_machine.specs.declared.streams.Side.{Side}
 use Rattle.strm_machine.specs.declared.streams.Side.TheVariants.{Reading}
 use Rattle.strm_machine.specs.declared.streams.Owner.{Owner}
 use Rattle.strm_machine.specs.declared.streams.Owner.TheVariants.{Host}
-use Rattle.strm_machine.specs.declared.streams.Operation.{Operation}
 use Rattle.strm_machine.specs.declared.stops.Stop.TheVariants.{BadItem, StoreTrapped}
 use Rattle.strm_machine.specs.declared.replies.Reply.{Reply}
 use Rattle.strm_machine.specs.declared.replies.Reply.TheVariants as replies
-use Rattle.strm_machine.proofs.ReactionLemmas.{reaction-by, reaction-trapped, reaction-refused}
+use Rattle.strm_machine.proofs.ReactionLemmas.{reaction-trapped, reaction-refused}
 use Rattle.strm_world.specs.Ends.{Writer, Reader}
 use Rattle.strm_world.specs.World.{World, stream_in}
 use Rattle.strm_world.specs.Outcomes.{stops, of_reply, reacted}
 use Rattle.strm_world.specs.HostRefusals.{refusal_in}
-use Rattle.strm_world.specs.Steps.{reacts, operates_by, drops_in, touches, performs_in, unless_refused_in, outcome}
+use Rattle.strm_world.specs.Steps.{reacts, operates_by, drops_in, touches_by, touches, performs_by, performs_in, unless_refused_in, outcome}
 use Rattle.strm_world.specs.Attaching.{forsakes}
 use Rattle.strm_world.specs.Does.{Logs, writers_from, readers_from, world_of, Answered, Gives, Caused, Does}
+use Rattle.strm_world.proofs.TouchLemmas.{refusal-none, touch-by}
 use Rattle.strm_world.proofs.DoesLemmas.{Does-untold}
-
--- WHAT IS KEPT OF HOST WRITERS
-
-written_back-producers : (state : State) (s : ℕ) (t : Turn) (code : Option ReturnCode) → (written_back state s t code).state.producers ≡ state.producers
-written_back-producers state s t (Some code) = refl
-written_back-producers state s t None = refl
-
-operates-producers : (state : State) (s : ℕ) (side : Side) (mine : Operation) → (on_stream state s side mine).state.producers ≡ state.producers
-operates-producers state s side mine =
-    let t = turn side state.guests (stream_at state s) mine in written_back-producers state s t t.code
-
-polls-producers : (state : State) (g : ℕ) (member : Option ℕ) → (polls state g member).state.producers ≡ state.producers
-polls-producers state g (Some handle) = refl
-polls-producers state g None = refl
-
-performs-producers : (state : State) (act : Act) → (performs state act).state.producers ≡ state.producers
-unfolding performs with_stream
-performs-producers state (Make (Guest size)) = refl
-performs-producers state (Make (Between writer reader ty)) = refl
-performs-producers state (Make _) = refl
-performs-producers state (OnEnd side end (Operate address count)) =
-    operates-producers state (stream_named (named state end)) side (begun end.guest address (items_asked end.ty count))
-performs-producers state (OnEnd side end _) = refl
-performs-producers state (OnLoose reader Close) = refl
-performs-producers state (OnLoose reader _) = refl
-performs-producers state (OnSet g set Poll) = polls-producers state g (ready_in state g set)
-performs-producers state (OnSet g set _) = refl
-performs-producers state (OnContext g handle context_acts.Drop) = refl
-performs-producers state (OnContext g handle _) = refl
-performs-producers state (OnMemory g (Dump address len)) = refl
-performs-producers state (OnMemory g _) = refl
-performs-producers state _ = refl
-
--- they stay where no host end is touched
-pub reaction-producers : (state : State) (act : Act) → (reaction state act).state.producers ≡ state.producers
-reaction-producers state act =
-    reaction-by (λ r. r.state.producers ≡ state.producers) state act (λ t. refl) (λ r e. refl) (λ e. performs-producers state act)
 
 -- STEPS THAT TOUCH NO HOST END
 
@@ -89,19 +41,20 @@ drops-reacted world s side act e = ap (λ b. cond b (forsakes (reacts world act)
 
 performs-reacted : (world : World) (act : Act) → touches world act ≡ false → performs_in world act ≡ reacts world act
 unfolding performs_in
-performs-reacted world (OnEnd side end (Operate address count)) e = operates-reacted world side end address count _ e
-performs-reacted world (OnEnd side end Drop) e =
-    drops-reacted world (stream_named (named world.state end)) side (OnEnd side end Drop) e
-performs-reacted world (OnLoose reader Close) e = drops-reacted world reader Reading (OnLoose reader Close) e
-performs-reacted world (OnHost n act) e = cc
-performs-reacted world Drive e = cc
-performs-reacted world _ e = refl
+performs-reacted world =
+    touch-by (λ act touch. touches_by world.state touch ≡ false → performs_by world act touch ≡ reacts world act) world.state
+    (record {
+      operated = λ side end address count. operates-reacted world side end address count _;
+      dropped = λ act s side d. drops-reacted world s side act;
+      hosted = λ n act e. cc;
+      driven = λ e. cc;
+      alone = λ act n e. refl;
+    })
 
 -- what is done to no host writer is refused as the machine without them refuses it
 pub refusal-reacted : (world : World) (act : Act) → touches world act ≡ false → refusal_in world act ≡ refusal world.state act
-unfolding refusal_in refusal
 refusal-reacted world (OnHost n act) e = cc
-refusal-reacted world _ e = refl
+refusal-reacted world act e = refusal-none world act refl
 
 unless-reacted : (world : World) (act : Act) (o : Option Refusal) → touches world act ≡ false → world.state.trapped ≡ false → refusal world.state act ≡ o
     → unless_refused_in world act o ≡ reacts world act
@@ -130,9 +83,7 @@ world_of-state old new tells logs e =
 -- whether a step touches a host end is a fact of the state
 pub touches-state : (world : World) (writers : List Writer) (readers : List Reader) (act : Act)
     → touches (record world { writers = writers; readers = readers }) act ≡ touches world act
-touches-state world writers readers (OnEnd side end _) = refl
-touches-state world writers readers (OnLoose reader _) = refl
-touches-state world writers readers _ = refl
+touches-state world writers readers act = refl
 
 -- the answer that a reply of the machine without host ends is
 abbrev pub answer_of : Reply → Answered

@@ -2,7 +2,7 @@
 -- Canonical ABI, the built-ins; wasmtime, futures_and_streams.rs, where they find a host end.
 use Rattle.std.specs.Prelude.{ℕ, Bool, true, false, if◌then◌else◌, Option, Some, None}
 use Rattle.strm_codes.specs.declared.refusals.Refusal.{Refusal}
-use Rattle.strm_machine.specs.State.{is_host}
+use Rattle.strm_machine.specs.State.{State, stream_at, is_host}
 use Rattle.strm_machine.specs.Sides.{opposite, end_of, with_operation}
 use Rattle.strm_machine.specs.Meetings.{begun}
 use Rattle.strm_machine.specs.Tests.{named, stream_named, items_asked}
@@ -31,6 +31,28 @@ use Rattle.strm_world.specs.Producing.{producer_turn}
 use Rattle.strm_world.specs.Driving.{driven, round_of}
 use Rattle.strm_world.specs.Attaching.{hosts_new, forsakes}
 use Rattle.strm_world.specs.HostRefusals.{refusal_in}
+
+-- HOW A STEP MAY TOUCH A HOST END
+
+-- by a read or write of the end that is named, by the drop of the end on a side of a stream, by what is
+-- done to a host writer, or by a drive round
+pub data Touch : Type 0 where
+  Operates : Side → NamedEnd → ℕ → ℕ → Touch
+  Drops : ℕ → Side → Touch
+  Hosts : ℕ → HostAct → Touch
+  Drives : Touch
+  TouchesNone : Touch
+
+-- how an act may
+abbrev pub touch_of : State → Act → Touch
+touch_of state (OnEnd side end (Operate address count)) = Operates side end address count
+touch_of state (OnEnd side end Drop) = Drops (stream_named (named state end)) side
+touch_of state (OnLoose reader Close) = Drops reader Reading
+touch_of state (OnHost n act) = Hosts n act
+touch_of state Drive = Drives
+touch_of state act = TouchesNone
+
+-- WHAT A STEP DOES
 
 -- what the machine does where no host end is touched
 abbrev pub reacts : World → Act → Outcome
@@ -66,16 +88,17 @@ abbrev pub on_host : World → ℕ → HostAct → Outcome
 on_host world n New = hosts_new world n
 on_host world n (Feed bytes) = done (with_writer world n (fed_writer (writer_at world n) bytes))
 
--- what a step does where nothing refuses it: one that touches no host end does what it does without
--- them
+-- what a step does, by how it may touch a host end: else it does what it does without them
+abbrev pub performs_by : World → Act → Touch → Outcome
+performs_by world act (Operates side end address count) = operates_in world side end address count
+performs_by world act (Drops s side) = drops_in world s side act
+performs_by world act (Hosts n host_act) = on_host world n host_act
+performs_by world act Drives = driven world (round_of world)
+performs_by world act TouchesNone = reacts world act
+
+-- what a step does where nothing refuses it
 unfoldable pub performs_in : World → Act → Outcome
-performs_in world (OnEnd side end (Operate address count)) = operates_in world side end address count
-performs_in world (OnEnd side end Drop) =
-    drops_in world (stream_named (named world.state end)) side (OnEnd side end Drop)
-performs_in world (OnLoose reader Close) = drops_in world reader Reading (OnLoose reader Close)
-performs_in world (OnHost n act) = on_host world n act
-performs_in world Drive = driven world (round_of world)
-performs_in world act = reacts world act
+performs_in world act = performs_by world act (touch_of world.state act)
 
 -- a refused step changes nothing, and uses no record
 abbrev pub unless_refused_in : World → Act → Option Refusal → Outcome
@@ -95,21 +118,27 @@ step_of world step = outcome world (act_of step)
 
 -- WHICH STEPS TOUCH A HOST END
 
--- the end on the other side of the end that is named belongs to a host end
-abbrev pub is_host_across : World → Side → NamedEnd → Bool
-is_host_across world side end =
-    is_host (end_of (opposite side) (stream_in world (stream_named (named world.state end)))).owner
+-- the end on the other side of the end on a side of stream s belongs to a host end
+abbrev pub is_host_across : State → ℕ → Side → Bool
+is_host_across state s side = is_host (end_of (opposite side) (stream_at state s)).owner
 
--- a step that may poll a host end: a read or write whose other end is one, and a drive round. Want of
--- memory in it traps the store; in any other step it changes nothing
+-- a read or write polls the host end on the other side, and a drive round those that it drives
+abbrev pub polls_by : State → Touch → Bool
+polls_by state (Operates side end address count) = is_host_across state (stream_named (named state end)) side
+polls_by state Drives = true
+polls_by state touch = false
+
+-- a step that may poll a host end. Want of memory in it traps the store; in any other step it changes
+-- nothing
 abbrev pub may_poll : World → Act → Bool
-may_poll world (OnEnd side end (Operate address count)) = is_host_across world side end
-may_poll world Drive = true
-may_poll world act = false
+may_poll world act = polls_by world.state (touch_of world.state act)
 
--- a step that touches a host end: it may poll one, it names one, or it drops the end on the other side
+-- one is touched that is polled or named, or whose other end is dropped
+abbrev pub touches_by : State → Touch → Bool
+touches_by state (Drops s side) = is_host_across state s side
+touches_by state (Hosts n act) = true
+touches_by state touch = polls_by state touch
+
+-- a step that touches a host end
 abbrev pub touches : World → Act → Bool
-touches world (OnEnd side end Drop) = is_host_across world side end
-touches world (OnLoose reader Close) = is_host (stream_in world reader).writer.owner
-touches world (OnHost n act) = true
-touches world act = may_poll world act
+touches world act = touches_by world.state (touch_of world.state act)

@@ -1,35 +1,32 @@
--- A step that touches no host end gives no host writer the write end of a stream.
-use Rattle.std.proofs.Common.{◌≡◌, ℕ, zero, suc, Bool, true, false, List, [], ◌∷◌, ◌++◌, get_or, set, Option, Some, None, refl, sym, ◌∙◌}
+-- The few ways in which a step changes the streams, whatever the state; in none of them a host writer gets
+-- the write end of a stream.
+use Rattle.std.proofs.Common.{◌≡◌, ℕ, zero, suc, Bool, true, false, List, [], ◌∷◌, ◌++◌, get_or, set, Option, Some, None, refl, sym, ap, subst, ◌∙◌}
 use Rattle.std.proofs.lemmas.Bool.{cond_both}
 use Rattle.strm_codes.specs.declared.codes.ReturnCode.{ReturnCode}
 use Rattle.strm_machine.specs.State.{State, Guest, no_stream, stream_at, is_gone}
 use Rattle.strm_machine.specs.Sides.{opposite, same_side, end_of, with_operation}
 use Rattle.strm_machine.specs.Meetings.{begun, advanced}
-use Rattle.strm_machine.specs.Making.{made_stream, made_pair, with_stream}
-use Rattle.strm_machine.specs.Moves.{without_handle, next_in, with_owner}
+use Rattle.strm_machine.specs.Moves.{with_owner}
 use Rattle.strm_machine.specs.Turns.{Turn, with_received, moves, completes_alone, rendezvous_by, learns, finds, turn}
 use Rattle.strm_machine.specs.Endings.{delivered, dropped, cancelled, cancelled_end, waits_for_host, code_of_cancel}
-use Rattle.strm_machine.specs.Tests.{named, end_named, stream_named, side_named, items_asked}
-use Rattle.strm_machine.specs.WaitableSets.{ready_in}
-use Rattle.strm_machine.specs.Reactions.{written_back, on_stream, polls, performs, reaction}
+use Rattle.strm_machine.specs.Tests.{named, stream_named, items_asked}
+use Rattle.strm_machine.specs.Reactions.{Reaction, goes, written_back, on_stream, operates}
+use Rattle.strm_machine.specs.Plays.{is_settled}
 use Rattle.strm_machine.specs.declared.acts.Act.{Act}
-use Rattle.strm_machine.specs.declared.acts.Act.TheVariants.{Make, OnEnd, OnLoose, Event, OnSet, OnContext, OnMemory}
-use Rattle.strm_machine.specs.declared.acts.Making.TheVariants.{Between}
-use Rattle.strm_machine.specs.declared.acts.EndAct.TheVariants.{Operate, Drop, Cancel, Move, Lift}
-use Rattle.strm_machine.specs.declared.acts.LooseAct.TheVariants.{Lower, Close}
-use Rattle.strm_machine.specs.declared.acts.SetAct.TheVariants.{Poll}
-use Rattle.strm_machine.specs.declared.acts.ContextAct.TheVariants as context_acts
-use Rattle.strm_machine.specs.declared.acts.MemoryAct.TheVariants.{Dump}
+use Rattle.strm_machine.specs.declared.acts.Act.TheVariants.{OnEnd}
+use Rattle.strm_machine.specs.declared.acts.EndAct.TheVariants.{Operate}
+use Rattle.strm_machine.specs.declared.acts.NamedEnd.{NamedEnd}
 use Rattle.strm_machine.specs.declared.streams.Meeting.{Meeting}
 use Rattle.strm_machine.specs.declared.streams.Meeting.TheVariants.{BothComplete, WriteCompletes, ReadCompletes}
 use Rattle.strm_machine.specs.declared.streams.Owner.TheVariants.{Held, Loose, Host}
+use Rattle.strm_machine.specs.declared.streams.Producer.{Producer}
 use Rattle.strm_machine.specs.declared.streams.Side.{Side}
 use Rattle.strm_machine.specs.declared.streams.Side.TheVariants.{Writing, Reading}
 use Rattle.strm_machine.specs.declared.streams.Operation.{Operation}
 use Rattle.strm_machine.specs.declared.streams.Stream.{Stream}
-use Rattle.strm_machine.proofs.ReactionLemmas.{reaction-by}
+use Rattle.strm_machine.specs.declared.replies.Reply.TheVariants as replies
 
--- A STREAM THAT CHANGES
+-- ## A stream that changes
 
 -- a host writer that has the write end of the new stream had that of the old one, of the same payload
 abbrev pub HostsFrom : Stream → Stream → Type 0
@@ -95,12 +92,12 @@ module _ (side : Side) (guests : List Guest) (stream : Stream) (mine : Operation
       (λ e. learns-stays side guests stream)
       (λ e. finds-stays _)
 
-delivered-from : (side : Side) (stream : Stream) → HostsFrom stream (delivered side stream)
+pub delivered-from : (side : Side) (stream : Stream) → HostsFrom stream (delivered side stream)
 unfolding delivered
 delivered-from Writing stream n e = (e, refl)
 delivered-from Reading stream n e = (e, refl)
 
-dropped-from : (side : Side) (stream : Stream) → HostsFrom stream (dropped side stream)
+pub dropped-from : (side : Side) (stream : Stream) → HostsFrom stream (dropped side stream)
 unfolding dropped
 dropped-from Writing stream n e = cc
 dropped-from Reading stream n e = (e, refl)
@@ -109,21 +106,21 @@ cancelled_end-owner : (b : Bool) (code : ReturnCode) (stream : Stream) → (canc
 cancelled_end-owner true code stream = refl
 cancelled_end-owner false code stream = refl
 
-cancelled-from : (side : Side) (stream : Stream) → HostsFrom stream (cancelled side stream)
+pub cancelled-from : (side : Side) (stream : Stream) → HostsFrom stream (cancelled side stream)
 unfolding cancelled
 cancelled-from Writing stream n e =
     (sym (cancelled_end-owner (waits_for_host Writing stream) (code_of_cancel Writing stream) stream) ∙ e, refl)
 cancelled-from Reading stream n e = (e, refl)
 
-held-from : (side : Side) (stream : Stream) (g handle : ℕ) → HostsFrom stream (with_owner side stream (Held g handle))
+pub held-from : (side : Side) (stream : Stream) (g handle : ℕ) → HostsFrom stream (with_owner side stream (Held g handle))
 held-from Writing stream g handle n e = cc
 held-from Reading stream g handle n e = (e, refl)
 
-loose-from : (side : Side) (stream : Stream) → HostsFrom stream (with_owner side stream Loose)
+pub loose-from : (side : Side) (stream : Stream) → HostsFrom stream (with_owner side stream Loose)
 loose-from Writing stream n e = cc
 loose-from Reading stream n e = (e, refl)
 
--- ALL STREAMS
+-- ## All streams
 
 -- the same of the streams of a number
 abbrev pub HostsFromIn : List Stream → List Stream → Type 0
@@ -137,7 +134,7 @@ set-from (y ∷ ys) (suc s) x h zero n e = (e, refl)
 set-from (y ∷ ys) (suc s) x h (suc k) n e = set-from ys s x h k n e
 
 -- a stream more that no host writer writes
-push-from : (xs : List Stream) (x : Stream) → ((n : ℕ) → x.writer.owner ≡ Host n → ⊥) → HostsFromIn xs (xs ++ x ∷ [])
+pub push-from : (xs : List Stream) (x : Stream) → ((n : ℕ) → x.writer.owner ≡ Host n → ⊥) → HostsFromIn xs (xs ++ x ∷ [])
 push-from [] x h zero n e = absurd (h n e)
 push-from [] x h (suc k) n e = (e, refl)
 push-from (y ∷ ys) x h zero n e = (e, refl)
@@ -152,43 +149,50 @@ on_stream-from state s side mine =
     let t = turn side state.guests (stream_at state s) mine in
     written_back-from state s t t.code (same_writer (stream_at state s) t.stream (turn-stays side state.guests (stream_at state s) mine))
 
-polls-from : (state : State) (g : ℕ) (member : Option ℕ) → HostsFromIn state.streams (polls state g member).state.streams
-polls-from state g None = λ k n e. (e, refl)
-polls-from state g (Some handle) =
-    set-from state.streams (stream_named (end_named state g handle)) _
-    (delivered-from (side_named (end_named state g handle)) (stream_at state (stream_named (end_named state g handle))))
+-- ## All ways
 
-performs-from : (state : State) (act : Act) → HostsFromIn state.streams (performs state act).state.streams
-unfolding performs with_stream
-performs-from state (Make (Between writer reader ty)) =
-    let pair = made_pair state writer reader ty in
-    push-from state.streams (made_stream ty writer pair.write reader pair.read) (λ n e. cc)
-performs-from state (Make _) = λ k n e. (e, refl)
-performs-from state (OnEnd side end (Operate address count)) =
-    on_stream-from state (stream_named (named state end)) side (begun end.guest address (items_asked end.ty count))
-performs-from state (OnEnd side end Drop) =
-    let s = stream_named (named state end) in set-from state.streams s _ (dropped-from side (stream_at state s))
-performs-from state (OnEnd side end Cancel) =
-    let s = stream_named (named state end) in set-from state.streams s _ (cancelled-from side (stream_at state s))
-performs-from state (OnEnd side end (Move to)) =
-    let s = stream_named (named state end) in set-from state.streams s _ (held-from side (stream_at state s) to (next_in (without_handle state end.guest end.handle) to))
-performs-from state (OnEnd side end Lift) =
-    let s = stream_named (named state end) in set-from state.streams s _ (loose-from side (stream_at state s))
-performs-from state (OnLoose reader (Lower g ty)) =
-    set-from state.streams reader _ (held-from Reading (stream_at state reader) g (next_in state g))
-performs-from state (OnLoose reader Close) =
-    set-from state.streams reader _ (dropped-from Reading (stream_at state reader))
-performs-from state (Event g handle) =
-    let s = stream_named (end_named state g handle) in
-    set-from state.streams s _ (delivered-from (side_named (end_named state g handle)) (stream_at state s))
-performs-from state (OnSet g handle Poll) = polls-from state g (ready_in state g handle)
-performs-from state (OnSet g handle _) = λ k n e. (e, refl)
-performs-from state (OnContext g handle context_acts.Drop) = λ k n e. (e, refl)
-performs-from state (OnContext g handle _) = λ k n e. (e, refl)
-performs-from state (OnMemory g (Dump address len)) = λ k n e. (e, refl)
-performs-from state (OnMemory g _) = λ k n e. (e, refl)
-performs-from state _ = λ k n e. (e, refl)
+-- what is kept beside guests, streams and error contexts, and whether the reply lets a run go on
+pub record Standing : Type 0 where
+  pub settled : Bool
+  pub trapped : Bool
+  pub producers : List Producer
 
-pub reaction-from : (state : State) (act : Act) → HostsFromIn state.streams (reaction state act).state.streams
-reaction-from state act =
-    reaction-by (λ r. HostsFromIn state.streams r.state.streams) state act (λ t k n e. (e, refl)) (λ r f k n e. (e, refl)) (λ e. performs-from state act)
+abbrev pub standing : Reaction → Standing
+standing r = record { settled = is_settled r.reply; trapped = r.state.trapped; producers = r.state.producers }
+
+-- a run goes on, and all that stays
+abbrev pub IsDone : State → Reaction → Type 0
+IsDone state r = standing r ≡ standing (goes replies.Done state)
+
+-- a read or write, or it proceeds: one stream becomes another, one stands behind the others, or they stay
+pub data Way (state : State) (act : Act) (r : Reaction) : Type 0 where
+  Turns : (side : Side) (end : NamedEnd) (address count : ℕ) → act ≡ OnEnd side end (Operate address count) → r ≡ operates state side end address count → Way state act r
+  SetsOne : (s : ℕ) (x : Stream) → IsDone state r → r.state.streams ≡ set state.streams s x → HostsFrom (stream_at state s) x → Way state act r
+  AddsOne : (x : Stream) → IsDone state r → r.state.streams ≡ state.streams ++ x ∷ [] → ((n : ℕ) → x.writer.owner ≡ Host n → ⊥) → Way state act r
+  SetsNone : IsDone state r → r.state.streams ≡ state.streams → Way state act r
+
+written_back-producers : (state : State) (s : ℕ) (t : Turn) (code : Option ReturnCode) → (written_back state s t code).state.producers ≡ state.producers
+written_back-producers state s t (Some code) = refl
+written_back-producers state s t None = refl
+
+operates-producers : (state : State) (s : ℕ) (side : Side) (mine : Operation) → (on_stream state s side mine).state.producers ≡ state.producers
+operates-producers state s side mine =
+    let t = turn side state.guests (stream_at state s) mine in written_back-producers state s t t.code
+
+-- what is kept of host writers stays
+pub way-producers : (state : State) (act : Act) (r : Reaction) → Way state act r → r.state.producers ≡ state.producers
+way-producers state act r (Turns side end address count a e) =
+    ap (λ (x : Reaction). x.state.producers) e
+    ∙ operates-producers state (stream_named (named state end)) side (begun end.guest address (items_asked end.ty count))
+way-producers state act r (SetsOne s x p e h) = ap (λ (k : Standing). k.producers) p
+way-producers state act r (AddsOne x p e h) = ap (λ (k : Standing). k.producers) p
+way-producers state act r (SetsNone p e) = ap (λ (k : Standing). k.producers) p
+
+-- no host writer gets the write end of a stream
+pub way-from : (state : State) (act : Act) (r : Reaction) → Way state act r → HostsFromIn state.streams r.state.streams
+way-from state act r (Turns side end address count a e) =
+    subst (λ (x : Reaction). HostsFromIn state.streams x.state.streams) (sym e)
+    (on_stream-from state (stream_named (named state end)) side (begun end.guest address (items_asked end.ty count)))
+way-from state act r (SetsOne s x p e h) = subst (HostsFromIn state.streams) (sym e) (set-from state.streams s x h)
+way-from state act r (AddsOne x p e h) = subst (HostsFromIn state.streams) (sym e) (push-from state.streams x h)
+way-from state act r (SetsNone p e) = subst (HostsFromIn state.streams) (sym e) (λ k n f. (f, refl))
