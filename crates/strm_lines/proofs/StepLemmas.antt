@@ -5,7 +5,7 @@ use Rattle.std.proofs.lemmas.Option.{none-some}
 use Rattle.strm_machine.specs.declared.steps.Step.{Step}
 use Rattle.strm_machine.specs.declared.steps.Step.TheVariants.{Guest, New, Between, Write, Read, DropWrite, DropRead, CancelWrite, CancelRead, Move, Lift, Lower, Close, HostNew, Feed, Drive, Event, SetNew, SetJoin, SetPoll, SetDrop, ErrNew, ErrText, ErrMove, ErrDrop, Poke, Dump}
 use Rattle.strm_lines.specs.Grammar.{Argument, line_of, spelling, HasLine}
-use Rattle.strm_lines.specs.Reading.{Command, command, behind, read_by, often, seldom, moving, hosting, gathering, explaining, step_of}
+use Rattle.strm_lines.specs.Reading.{Command, command, behind, read_by, explaining, gathering, hosting, moving, ending, making, touching, often, step_of}
 use Rattle.strm_lines.proofs.CutLemmas.{option_map_some}
 use Rattle.strm_lines.proofs.ReadingLemmas.{behind_sound}
 use Rattle.strm_lines.proofs.ArgumentLemmas.{text, AreArguments, AreArguments-from_all, All-from_arguments, AreRead, AreRead-nothing, AreRead-number, AreRead-two_numbers, AreRead-three_numbers, AreRead-number_and_type, AreRead-two_numbers_and_type, AreRead-named_end, AreRead-end_and_guest, AreRead-operands, AreRead-number_and_fed, AreRead-place_and_bytes, AreRead-place_and_len}
@@ -30,80 +30,8 @@ abbrev AreSound : List Command → Type 0
 AreSound [] = Unit {0}
 AreSound (c ∷ commands) = IsSound c × AreSound commands
 
-AreSound-append : (commands more : List Command) → AreSound commands → AreSound more → AreSound (commands ++ more)
-AreSound-append [] more h i = i
-AreSound-append (c ∷ commands) more h i = (h.0, AreSound-append commands more h.1 i)
-
-often_sound : AreSound often
-often_sound = (
-  made _ _ AreRead-operands (λ v. refl) (λ v. refl),
-  (
-    made _ _ AreRead-operands (λ v. refl) (λ v. refl),
-    (
-      made _ _ AreRead-two_numbers (λ v. refl) (λ v. refl),
-      (
-        made _ _ AreRead-place_and_bytes (λ v. refl) (λ v. refl),
-        (made _ _ AreRead-place_and_len (λ v. refl) (λ v. refl), tt),
-      ),
-    ),
-  ),
-)
-
-seldom_sound : AreSound seldom
-seldom_sound = (
-  made _ _ AreRead-number (λ v. refl) (λ v. refl),
-  (
-    made _ _ AreRead-number_and_type (λ v. refl) (λ v. refl),
-    (
-      made _ _ AreRead-two_numbers_and_type (λ v. refl) (λ v. refl),
-      (
-        made _ _ AreRead-named_end (λ v. refl) (λ v. refl),
-        (
-          made _ _ AreRead-named_end (λ v. refl) (λ v. refl),
-          (
-            made _ _ AreRead-named_end (λ v. refl) (λ v. refl),
-            (made _ _ AreRead-named_end (λ v. refl) (λ v. refl), tt),
-          ),
-        ),
-      ),
-    ),
-  ),
-)
-
-moving_sound : AreSound moving
-moving_sound = (
-  made _ _ AreRead-end_and_guest (λ v. refl) (λ v. refl),
-  (
-    made _ _ AreRead-named_end (λ v. refl) (λ v. refl),
-    (
-      made _ _ AreRead-two_numbers_and_type (λ v. refl) (λ v. refl),
-      (made _ _ AreRead-number (λ v. refl) (λ v. refl), tt),
-    ),
-  ),
-)
-
-hosting_sound : AreSound hosting
-hosting_sound = (
-  made _ _ AreRead-number (λ v. refl) (λ v. refl),
-  (
-    made _ _ AreRead-number_and_fed (λ v. refl) (λ v. refl),
-    (made _ _ AreRead-nothing (λ v. refl) (λ v. refl), tt),
-  ),
-)
-
-gathering_sound : AreSound gathering
-gathering_sound = (
-  made _ _ AreRead-number (λ v. refl) (λ v. refl),
-  (
-    made _ _ AreRead-three_numbers (λ v. refl) (λ v. refl),
-    (
-      made _ _ AreRead-two_numbers (λ v. refl) (λ v. refl),
-      (made _ _ AreRead-two_numbers (λ v. refl) (λ v. refl), tt),
-    ),
-  ),
-)
-
 explaining_sound : AreSound explaining
+unfolding explaining
 explaining_sound = (
   made _ _ AreRead-three_numbers (λ v. refl) (λ v. refl),
   (
@@ -115,13 +43,81 @@ explaining_sound = (
   ),
 )
 
-all_sound : AreSound (often ++ (seldom ++ (moving ++ (hosting ++ (gathering ++ explaining)))))
-all_sound =
-    AreSound-append often (seldom ++ (moving ++ (hosting ++ (gathering ++ explaining)))) often_sound
-    (AreSound-append seldom (moving ++ (hosting ++ (gathering ++ explaining))) seldom_sound
-    (AreSound-append moving (hosting ++ (gathering ++ explaining)) moving_sound
-    (AreSound-append hosting (gathering ++ explaining) hosting_sound
-    (AreSound-append gathering explaining gathering_sound explaining_sound))))
+gathering_sound : AreSound gathering
+unfolding gathering
+gathering_sound = (
+  made _ _ AreRead-number (λ v. refl) (λ v. refl),
+  (
+    made _ _ AreRead-three_numbers (λ v. refl) (λ v. refl),
+    (
+      made _ _ AreRead-two_numbers (λ v. refl) (λ v. refl),
+      (made _ _ AreRead-two_numbers (λ v. refl) (λ v. refl), explaining_sound),
+    ),
+  ),
+)
+
+hosting_sound : AreSound hosting
+unfolding hosting
+hosting_sound = (
+  made _ _ AreRead-number (λ v. refl) (λ v. refl),
+  (
+    made _ _ AreRead-number_and_fed (λ v. refl) (λ v. refl),
+    (made _ _ AreRead-nothing (λ v. refl) (λ v. refl), gathering_sound),
+  ),
+)
+
+moving_sound : AreSound moving
+unfolding moving
+moving_sound = (
+  made _ _ AreRead-end_and_guest (λ v. refl) (λ v. refl),
+  (
+    made _ _ AreRead-named_end (λ v. refl) (λ v. refl),
+    (made _ _ AreRead-two_numbers_and_type (λ v. refl) (λ v. refl), hosting_sound),
+  ),
+)
+
+ending_sound : AreSound ending
+unfolding ending
+ending_sound = (
+  made _ _ AreRead-named_end (λ v. refl) (λ v. refl),
+  (
+    made _ _ AreRead-named_end (λ v. refl) (λ v. refl),
+    (
+      made _ _ AreRead-named_end (λ v. refl) (λ v. refl),
+      (
+        made _ _ AreRead-named_end (λ v. refl) (λ v. refl),
+        (made _ _ AreRead-number (λ v. refl) (λ v. refl), moving_sound),
+      ),
+    ),
+  ),
+)
+
+making_sound : AreSound making
+unfolding making
+making_sound = (
+  made _ _ AreRead-number (λ v. refl) (λ v. refl),
+  (
+    made _ _ AreRead-number_and_type (λ v. refl) (λ v. refl),
+    (made _ _ AreRead-two_numbers_and_type (λ v. refl) (λ v. refl), ending_sound),
+  ),
+)
+
+touching_sound : AreSound touching
+unfolding touching
+touching_sound = (
+  made _ _ AreRead-place_and_bytes (λ v. refl) (λ v. refl),
+  (made _ _ AreRead-place_and_len (λ v. refl) (λ v. refl), making_sound),
+)
+
+often_sound : AreSound often
+unfolding often
+often_sound = (
+  made _ _ AreRead-operands (λ v. refl) (λ v. refl),
+  (
+    made _ _ AreRead-operands (λ v. refl) (λ v. refl),
+    (made _ _ AreRead-two_numbers (λ v. refl) (λ v. refl), touching_sound),
+  ),
+)
 
 -- by the first command that a line begins with
 read_by_sound : (commands : List Command) (line : List ℕ) (s : Step) → AreSound commands → read_by commands line ≡ Some s → (spelling s ≡ line) × HasLine s
@@ -134,12 +130,12 @@ read_by_sound (c ∷ commands) line s h e = by_front (behind c.front line) refl 
 
 pub step_sound : (line : List ℕ) (s : Step) → step_of line ≡ Some s → (spelling s ≡ line) × HasLine s
 unfolding step_of
-step_sound line s e = read_by_sound (often ++ (seldom ++ (moving ++ (hosting ++ (gathering ++ explaining))))) line s all_sound e
+step_sound line s e = read_by_sound often line s often_sound e
 
 -- what is spelled is read as the step
 
 step_read : (s : Step) → AreArguments (line_of s).arguments → step_of (spelling s) ≡ Some s
-unfolding step_of behind
+unfolding step_of behind often touching making ending moving hosting gathering explaining
 step_read (Guest size) h = rw (AreRead-number.reading.complete size h) refl
 step_read (New guest ty) h = rw (AreRead-number_and_type.reading.complete (guest, ty) h) refl
 step_read (Between writer reader ty) h = rw (AreRead-two_numbers_and_type.reading.complete (writer, reader, ty) h) refl

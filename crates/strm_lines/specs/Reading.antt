@@ -229,56 +229,66 @@ abbrev pub command : {V : Type 0} → List ℕ → (List ℕ → Option V) → (
 command front arguments make =
     record { front = front; read = λ rest. option_map make (arguments rest) }
 
--- the commands that most lines are made of
-abbrev pub often : List Command
-often =
-    command (codes "write ") operands_of (λ v. Write v.0.guest v.0.ty v.0.handle v.1 v.2)
-    ∷ command (codes "read ") operands_of (λ v. Read v.0.guest v.0.ty v.0.handle v.1 v.2)
-    ∷ command (codes "event ") two_numbers (λ v. Event v.0 v.1)
-    ∷ command (codes "poke ") place_and_bytes (λ v. Poke v.0 v.1 v.2)
-    ∷ command (codes "dump ") place_and_len (λ v. Dump v.0 v.1 v.2) ∷ []
-
--- those that make something or end it
-abbrev pub seldom : List Command
-seldom =
-    command (codes "guest ") number Guest
-    ∷ command (codes "new ") number_and_type (λ v. New v.0 v.1)
-    ∷ command (codes "pair ") two_numbers_and_type (λ v. Between v.0 v.1 v.2)
-    ∷ command (codes "drop-write ") named_end_of (λ e. DropWrite e.guest e.ty e.handle)
-    ∷ command (codes "drop-read ") named_end_of (λ e. DropRead e.guest e.ty e.handle)
-    ∷ command (codes "cancel-write ") named_end_of (λ e. CancelWrite e.guest e.ty e.handle)
-    ∷ command (codes "cancel-read ") named_end_of (λ e. CancelRead e.guest e.ty e.handle) ∷ []
-
--- those of read ends that change their owner
-abbrev pub moving : List Command
-moving =
-    command (codes "move ") end_and_guest (λ v. Move v.0.guest v.0.ty v.0.handle v.1)
-    ∷ command (codes "lift ") named_end_of (λ e. Lift e.guest e.ty e.handle)
-    ∷ command (codes "lower ") two_numbers_and_type (λ v. Lower v.0 v.1 v.2)
-    ∷ command (codes "close ") number Close ∷ []
-
--- those of host ends
-abbrev pub hosting : List Command
-hosting =
-    command (codes "host ") number HostNew
-    ∷ command (codes "feed ") number_and_fed (λ v. Feed v.0 v.1)
-    ∷ command (codes "drive") nothing (λ v. Drive) ∷ []
-
--- those of waitable sets
-abbrev pub gathering : List Command
-gathering =
-    command (codes "set-new ") number SetNew
-    ∷ command (codes "set-join ") three_numbers (λ v. SetJoin v.0 v.1 v.2)
-    ∷ command (codes "set-poll ") two_numbers (λ v. SetPoll v.0 v.1)
-    ∷ command (codes "set-drop ") two_numbers (λ v. SetDrop v.0 v.1) ∷ []
+-- the commands, each group with those after it
 
 -- those of error contexts
-abbrev pub explaining : List Command
+unfoldable pub explaining : List Command
 explaining =
     command (codes "err-new ") three_numbers (λ v. ErrNew v.0 v.1 v.2)
     ∷ command (codes "err-text ") three_numbers (λ v. ErrText v.0 v.1 v.2)
     ∷ command (codes "err-move ") three_numbers (λ v. ErrMove v.0 v.1 v.2)
     ∷ command (codes "err-drop ") two_numbers (λ v. ErrDrop v.0 v.1) ∷ []
+
+-- those of waitable sets
+unfoldable pub gathering : List Command
+gathering =
+    command (codes "set-new ") number SetNew
+    ∷ command (codes "set-join ") three_numbers (λ v. SetJoin v.0 v.1 v.2)
+    ∷ command (codes "set-poll ") two_numbers (λ v. SetPoll v.0 v.1)
+    ∷ command (codes "set-drop ") two_numbers (λ v. SetDrop v.0 v.1) ∷ explaining
+
+-- those of host ends
+unfoldable pub hosting : List Command
+hosting =
+    command (codes "host ") number HostNew
+    ∷ command (codes "feed ") number_and_fed (λ v. Feed v.0 v.1)
+    ∷ command (codes "drive") nothing (λ v. Drive) ∷ gathering
+
+-- those of read ends that change their owner
+unfoldable pub moving : List Command
+moving =
+    command (codes "move ") end_and_guest (λ v. Move v.0.guest v.0.ty v.0.handle v.1)
+    ∷ command (codes "lift ") named_end_of (λ e. Lift e.guest e.ty e.handle)
+    ∷ command (codes "lower ") two_numbers_and_type (λ v. Lower v.0 v.1 v.2) ∷ hosting
+
+-- those that end an end, or what it waits for
+unfoldable pub ending : List Command
+ending =
+    command (codes "drop-write ") named_end_of (λ e. DropWrite e.guest e.ty e.handle)
+    ∷ command (codes "drop-read ") named_end_of (λ e. DropRead e.guest e.ty e.handle)
+    ∷ command (codes "cancel-write ") named_end_of (λ e. CancelWrite e.guest e.ty e.handle)
+    ∷ command (codes "cancel-read ") named_end_of (λ e. CancelRead e.guest e.ty e.handle)
+    ∷ command (codes "close ") number Close ∷ moving
+
+-- those that make guests and streams
+unfoldable pub making : List Command
+making =
+    command (codes "guest ") number Guest
+    ∷ command (codes "new ") number_and_type (λ v. New v.0 v.1)
+    ∷ command (codes "pair ") two_numbers_and_type (λ v. Between v.0 v.1 v.2) ∷ ending
+
+-- those of a guest's memory
+unfoldable pub touching : List Command
+touching =
+    command (codes "poke ") place_and_bytes (λ v. Poke v.0 v.1 v.2)
+    ∷ command (codes "dump ") place_and_len (λ v. Dump v.0 v.1 v.2) ∷ making
+
+-- those that most lines are made of
+unfoldable pub often : List Command
+often =
+    command (codes "write ") operands_of (λ v. Write v.0.guest v.0.ty v.0.handle v.1 v.2)
+    ∷ command (codes "read ") operands_of (λ v. Read v.0.guest v.0.ty v.0.handle v.1 v.2)
+    ∷ command (codes "event ") two_numbers (λ v. Event v.0 v.1) ∷ touching
 
 -- the step of the first of these commands that a line begins with
 abbrev pub read_by : List Command → List ℕ → Option Step
@@ -287,4 +297,4 @@ read_by (c ∷ commands) line = option_map_or c.read (behind c.front line) (read
 
 -- the step that a line spells, where it spells one
 unfoldable pub step_of : List ℕ → Option Step
-step_of line = read_by (often ++ (seldom ++ (moving ++ (hosting ++ (gathering ++ explaining))))) line
+step_of line = read_by often line
