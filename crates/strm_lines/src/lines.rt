@@ -113,7 +113,7 @@ fn keep_touching(steps: &mut Vec<Step>, line: &[u8]) -> bool
 }
 
 // The same of what makes guests and streams.
-#[tactic(auto, unfolding(crate::specs::Reading::making))]
+#[tactic(auto, unfolding(crate::specs::Reading::making, crate::specs::Reading::behind))]
 fn keep_making(steps: &mut Vec<Step>, line: &[u8]) -> bool
     requires room { vec_len steps.old < vec_capacity steps.old }
     ensures items { steps.new.items ≡ steps.old.items ++ option_to_list (read_by making line.now) }
@@ -276,7 +276,7 @@ fn keep_gathering(steps: &mut Vec<Step>, line: &[u8]) -> bool
 }
 
 // The same of error contexts.
-#[tactic(auto, unfolding(crate::specs::Reading::explaining))]
+#[tactic(auto, unfolding(crate::specs::Reading::explaining, crate::specs::Reading::behind))]
 fn keep_explaining(steps: &mut Vec<Step>, line: &[u8]) -> bool
     requires room { vec_len steps.old < vec_capacity steps.old }
     ensures items { steps.new.items ≡ steps.old.items ++ option_to_list (read_by explaining line.now) }
