@@ -4,6 +4,7 @@ pub mod NumberLemmas
 pub mod HexLemmas
 pub mod ReadingLemmas
 pub mod TypeLemmas
+pub mod ArgumentLemmas
 pub mod StepLemmas
 pub mod LineLemmas
 pub mod PartLemmas

@@ -1,6 +1,6 @@
 -- The grammar of the lines: which steps have a line, and how each is spelled. Ours.
 use Rattle.std.specs.Prelude.{◌≡◌, ℕ, ◌^◌, ◌<◌, ◌≤◌, List, [], ◌∷◌, length, All, codes, decimal}
-use Rattle.std.specs.List.{join_with_byte}
+use Rattle.std.specs.List.{flat_map, join_with_byte}
 use Rattle.strm_codes.specs.Types.{payload_of}
 use Rattle.strm_codes.specs.declared.payloads.Payload.{Payload}
 use Rattle.strm_codes.specs.declared.payloads.Payload.TheVariants.{Tuple}
@@ -10,69 +10,105 @@ use Rattle.strm_machine.specs.declared.steps.Step.{Step}
 use Rattle.strm_machine.specs.declared.steps.Step.TheVariants.{Guest, New, Between, Write, Read, DropWrite, DropRead, CancelWrite, CancelRead, Move, Lift, Lower, Close, HostNew, Feed, Drive, Event, SetNew, SetJoin, SetPoll, SetDrop, ErrNew, ErrText, ErrMove, ErrDrop, Poke, Dump}
 use Rattle.strm_lines.specs.Words.{hex_pairs, type_word}
 
--- words in a row, exactly one space between each two
-abbrev pub words : List (List ℕ) → List ℕ
-words = join_with_byte 32
+-- an argument of a line: a number; a number from low to high; a type; the count of a read or write
+-- of this type; bytes; bytes that are fed, or none where no more will come
+pub data Argument : Type 0 where
+  Number : ℕ → Argument
+  Within : ℕ → ℕ → ℕ → Argument
+  Typed : TransmitIndex → Argument
+  Count : TransmitIndex → ℕ → Argument
+  Bytes : List ℕ → Argument
+  Fed : List ℕ → Argument
+
+-- a line, without its line feed: a command and its arguments
+pub record Line : Type 0 where
+  pub command : List ℕ
+  pub arguments : List Argument
+
+-- a line by its command and its arguments
+abbrev pub line : List ℕ → List Argument → Line
+line command arguments = record { command = command; arguments = arguments }
+
+-- what `write` and `read` name
+abbrev pub operands : ℕ → TransmitIndex → ℕ → ℕ → ℕ → List Argument
+operands guest ty handle address count =
+    Number guest ∷ Typed ty ∷ Number handle ∷ Number address ∷ Count ty count ∷ []
+
+-- what the drops, the cancels and `lift` name
+abbrev pub named_end : ℕ → TransmitIndex → ℕ → List Argument
+named_end guest ty handle = Number guest ∷ Typed ty ∷ Number handle ∷ []
+
+-- the line of a step
+abbrev pub line_of : Step → Line
+line_of (Guest size) = line (codes "guest") (Number size ∷ [])
+line_of (New guest ty) = line (codes "new") (Number guest ∷ Typed ty ∷ [])
+line_of (Between writer reader ty) =
+    line (codes "pair") (Number writer ∷ Number reader ∷ Typed ty ∷ [])
+line_of (Write guest ty handle address count) =
+    line (codes "write") (operands guest ty handle address count)
+line_of (Read guest ty handle address count) =
+    line (codes "read") (operands guest ty handle address count)
+line_of (DropWrite guest ty handle) = line (codes "drop-write") (named_end guest ty handle)
+line_of (DropRead guest ty handle) = line (codes "drop-read") (named_end guest ty handle)
+line_of (CancelWrite guest ty handle) = line (codes "cancel-write") (named_end guest ty handle)
+line_of (CancelRead guest ty handle) = line (codes "cancel-read") (named_end guest ty handle)
+line_of (Move guest ty handle to) =
+    line (codes "move") (Number guest ∷ Typed ty ∷ Number handle ∷ Number to ∷ [])
+line_of (Lift guest ty handle) = line (codes "lift") (named_end guest ty handle)
+line_of (Lower reader guest ty) =
+    line (codes "lower") (Number reader ∷ Number guest ∷ Typed ty ∷ [])
+line_of (Close reader) = line (codes "close") (Number reader ∷ [])
+line_of (HostNew host) = line (codes "host") (Number host ∷ [])
+line_of (Feed host bytes) = line (codes "feed") (Number host ∷ Fed bytes ∷ [])
+line_of Drive = line (codes "drive") []
+line_of (Event guest handle) = line (codes "event") (Number guest ∷ Number handle ∷ [])
+line_of (SetNew guest) = line (codes "set-new") (Number guest ∷ [])
+line_of (SetJoin guest set handle) =
+    line (codes "set-join") (Number guest ∷ Number set ∷ Number handle ∷ [])
+line_of (SetPoll guest set) = line (codes "set-poll") (Number guest ∷ Number set ∷ [])
+line_of (SetDrop guest set) = line (codes "set-drop") (Number guest ∷ Number set ∷ [])
+line_of (ErrNew guest address len) =
+    line (codes "err-new") (Number guest ∷ Number address ∷ Number len ∷ [])
+line_of (ErrText guest handle address) =
+    line (codes "err-text") (Number guest ∷ Number handle ∷ Number address ∷ [])
+line_of (ErrMove guest handle to) =
+    line (codes "err-move") (Number guest ∷ Number handle ∷ Number to ∷ [])
+line_of (ErrDrop guest handle) = line (codes "err-drop") (Number guest ∷ Number handle ∷ [])
+line_of (Poke guest address bytes) =
+    line (codes "poke") (Number guest ∷ Number address ∷ Bytes bytes ∷ [])
+line_of (Dump guest address len) =
+    line (codes "dump") (Number guest ∷ Number address ∷ Within 1 64 len ∷ [])
+
+-- how a line is spelled
 
 -- the count of a stream's read or write; a future's is not written
 abbrev pub counted : TransmitIndex → ℕ → List (List ℕ)
 counted (Stream payload) count = decimal count ∷ []
 counted (Future payload) count = []
 
--- the words behind `write` and `read`
-abbrev pub operands : ℕ → TransmitIndex → ℕ → ℕ → ℕ → List (List ℕ)
-operands guest ty handle address count =
-    decimal guest ∷ type_word ty ∷ decimal handle ∷ decimal address ∷ counted ty count
-
--- the words behind the drops, the cancels and `lift`
-abbrev pub named_end : ℕ → TransmitIndex → ℕ → List (List ℕ)
-named_end guest ty handle = decimal guest ∷ type_word ty ∷ decimal handle ∷ []
-
 -- the word for what is fed: its bytes, or that no more will come
 abbrev pub fed_word : List ℕ → List ℕ
 fed_word [] = codes "end"
 fed_word (b ∷ bytes) = hex_pairs (b ∷ bytes)
 
--- the line of a step, without its line feed; numbers are decimal, without leading zeros
+-- the words of an argument: one, or none; numbers are decimal, without leading zeros
+abbrev pub written : Argument → List (List ℕ)
+written (Number n) = decimal n ∷ []
+written (Within low high n) = decimal n ∷ []
+written (Typed ty) = type_word ty ∷ []
+written (Count ty count) = counted ty count
+written (Bytes bytes) = hex_pairs bytes ∷ []
+written (Fed bytes) = fed_word bytes ∷ []
+
+-- words in a row, exactly one space between each two
+abbrev pub words : List (List ℕ) → List ℕ
+words = join_with_byte 32
+
+-- the line of a step, as its bytes
 abbrev pub spelling : Step → List ℕ
-spelling (Guest size) = words (codes "guest" ∷ decimal size ∷ [])
-spelling (New guest ty) = words (codes "new" ∷ decimal guest ∷ type_word ty ∷ [])
-spelling (Between writer reader ty) =
-    words (codes "pair" ∷ decimal writer ∷ decimal reader ∷ type_word ty ∷ [])
-spelling (Write guest ty handle address count) =
-    words (codes "write" ∷ operands guest ty handle address count)
-spelling (Read guest ty handle address count) =
-    words (codes "read" ∷ operands guest ty handle address count)
-spelling (DropWrite guest ty handle) = words (codes "drop-write" ∷ named_end guest ty handle)
-spelling (DropRead guest ty handle) = words (codes "drop-read" ∷ named_end guest ty handle)
-spelling (CancelWrite guest ty handle) = words (codes "cancel-write" ∷ named_end guest ty handle)
-spelling (CancelRead guest ty handle) = words (codes "cancel-read" ∷ named_end guest ty handle)
-spelling (Move guest ty handle to) =
-    words (codes "move" ∷ decimal guest ∷ type_word ty ∷ decimal handle ∷ decimal to ∷ [])
-spelling (Lift guest ty handle) = words (codes "lift" ∷ named_end guest ty handle)
-spelling (Lower reader guest ty) =
-    words (codes "lower" ∷ decimal reader ∷ decimal guest ∷ type_word ty ∷ [])
-spelling (Close reader) = words (codes "close" ∷ decimal reader ∷ [])
-spelling (HostNew host) = words (codes "host" ∷ decimal host ∷ [])
-spelling (Feed host bytes) = words (codes "feed" ∷ decimal host ∷ fed_word bytes ∷ [])
-spelling Drive = codes "drive"
-spelling (Event guest handle) = words (codes "event" ∷ decimal guest ∷ decimal handle ∷ [])
-spelling (SetNew guest) = words (codes "set-new" ∷ decimal guest ∷ [])
-spelling (SetJoin guest set handle) =
-    words (codes "set-join" ∷ decimal guest ∷ decimal set ∷ decimal handle ∷ [])
-spelling (SetPoll guest set) = words (codes "set-poll" ∷ decimal guest ∷ decimal set ∷ [])
-spelling (SetDrop guest set) = words (codes "set-drop" ∷ decimal guest ∷ decimal set ∷ [])
-spelling (ErrNew guest address len) =
-    words (codes "err-new" ∷ decimal guest ∷ decimal address ∷ decimal len ∷ [])
-spelling (ErrText guest handle address) =
-    words (codes "err-text" ∷ decimal guest ∷ decimal handle ∷ decimal address ∷ [])
-spelling (ErrMove guest handle to) =
-    words (codes "err-move" ∷ decimal guest ∷ decimal handle ∷ decimal to ∷ [])
-spelling (ErrDrop guest handle) = words (codes "err-drop" ∷ decimal guest ∷ decimal handle ∷ [])
-spelling (Poke guest address bytes) =
-    words (codes "poke" ∷ decimal guest ∷ decimal address ∷ hex_pairs bytes ∷ [])
-spelling (Dump guest address len) =
-    words (codes "dump" ∷ decimal guest ∷ decimal address ∷ decimal len ∷ [])
+spelling step = words ((line_of step).command ∷ flat_map written (line_of step).arguments)
+
+-- which steps have a line
 
 -- what a number of a line can be
 abbrev pub IsU32 : ℕ → Type 0
@@ -107,41 +143,15 @@ abbrev pub IsCount : TransmitIndex → ℕ → Type 0
 IsCount (Stream payload) count = IsU32 count
 IsCount (Future payload) count = count ≡ 1
 
--- what `write` and `read` can name
-abbrev pub AreOperands : ℕ → TransmitIndex → ℕ → ℕ → ℕ → Type 0
-AreOperands guest ty handle address count =
-    IsU32 guest × (IsType ty × (IsU32 handle × (IsU32 address × IsCount ty count)))
-
--- what the drops, the cancels and `lift` can name
-abbrev pub IsNamedEnd : ℕ → TransmitIndex → ℕ → Type 0
-IsNamedEnd guest ty handle = IsU32 guest × (IsType ty × IsU32 handle)
+-- what an argument can be
+abbrev pub IsArgument : Argument → Type 0
+IsArgument (Number n) = IsU32 n
+IsArgument (Within low high n) = IsBetween low high n
+IsArgument (Typed ty) = IsType ty
+IsArgument (Count ty count) = IsCount ty count
+IsArgument (Bytes bytes) = IsLineBytes bytes
+IsArgument (Fed bytes) = AreFed bytes
 
 -- the steps that have a line
 abbrev pub HasLine : Step → Type 0
-HasLine (Guest size) = IsU32 size
-HasLine (New guest ty) = IsU32 guest × IsType ty
-HasLine (Between writer reader ty) = IsU32 writer × (IsU32 reader × IsType ty)
-HasLine (Write guest ty handle address count) = AreOperands guest ty handle address count
-HasLine (Read guest ty handle address count) = AreOperands guest ty handle address count
-HasLine (DropWrite guest ty handle) = IsNamedEnd guest ty handle
-HasLine (DropRead guest ty handle) = IsNamedEnd guest ty handle
-HasLine (CancelWrite guest ty handle) = IsNamedEnd guest ty handle
-HasLine (CancelRead guest ty handle) = IsNamedEnd guest ty handle
-HasLine (Move guest ty handle to) = IsU32 guest × (IsType ty × (IsU32 handle × IsU32 to))
-HasLine (Lift guest ty handle) = IsNamedEnd guest ty handle
-HasLine (Lower reader guest ty) = IsU32 reader × (IsU32 guest × IsType ty)
-HasLine (Close reader) = IsU32 reader
-HasLine (HostNew host) = IsU32 host
-HasLine (Feed host bytes) = IsU32 host × AreFed bytes
-HasLine Drive = Unit {0}
-HasLine (Event guest handle) = IsU32 guest × IsU32 handle
-HasLine (SetNew guest) = IsU32 guest
-HasLine (SetJoin guest set handle) = IsU32 guest × (IsU32 set × IsU32 handle)
-HasLine (SetPoll guest set) = IsU32 guest × IsU32 set
-HasLine (SetDrop guest set) = IsU32 guest × IsU32 set
-HasLine (ErrNew guest address len) = IsU32 guest × (IsU32 address × IsU32 len)
-HasLine (ErrText guest handle address) = IsU32 guest × (IsU32 handle × IsU32 address)
-HasLine (ErrMove guest handle to) = IsU32 guest × (IsU32 handle × IsU32 to)
-HasLine (ErrDrop guest handle) = IsU32 guest × IsU32 handle
-HasLine (Poke guest address bytes) = IsU32 guest × (IsU32 address × IsLineBytes bytes)
-HasLine (Dump guest address len) = IsU32 guest × (IsU32 address × IsBetween 1 64 len)
+HasLine step = All IsArgument (line_of step).arguments

@@ -8,6 +8,7 @@ use Rattle.strm_codes.specs.declared.payloads.Payload.{Payload}
 use Rattle.strm_codes.specs.declared.payloads.Payload.TheVariants.{Nothing, One, Tuple}
 use Rattle.strm_codes.specs.declared.codes.TransmitIndex.{TransmitIndex}
 use Rattle.strm_codes.specs.declared.codes.TransmitIndex.TheVariants.{Stream, Future}
+use Rattle.strm_machine.specs.declared.acts.NamedEnd.{NamedEnd}
 use Rattle.strm_machine.specs.declared.steps.Step.{Step}
 use Rattle.strm_machine.specs.declared.steps.Step.TheVariants.{Guest, New, Between, Write, Read, DropWrite, DropRead, CancelWrite, CancelRead, Move, Lift, Lower, Close, HostNew, Feed, Drive, Event, SetNew, SetJoin, SetPoll, SetDrop, ErrNew, ErrText, ErrMove, ErrDrop, Poke, Dump}
 use Rattle.strm_lines.specs.Words.{scalar_word}
@@ -155,141 +156,67 @@ type_read word =
     (option_map_or (λ rest. option_map Future (payload_read rest)) (behind (codes "future:") word)
     None)
 
--- the words behind the type in `write` and `read`: handle, address and, of a stream, count; that of
--- a future is 1
-unfoldable pub place_of : TransmitIndex → List ℕ → Option (ℕ × (ℕ × ℕ))
-place_of (Stream payload) rest = followed_by number (followed_by number number) rest
-place_of (Future payload) rest =
-    option_map (λ p. (p.0, (p.1, 1))) (followed_by number number rest)
+-- the arguments behind a command
 
--- the words behind `write` and `read`: guest, type, handle, address and count
-unfoldable pub operands_of : List ℕ → Option (ℕ × (TransmitIndex × (ℕ × (ℕ × ℕ))))
-operands_of rest = followed_by number (followed_by_its type_read place_of) rest
+-- nothing
+unfoldable pub nothing : List ℕ → Option Unit
+nothing [] = Some tt
+nothing (c ∷ rest) = None
 
--- the words behind the drops, the cancels and `lift`: guest, type and handle
-unfoldable pub named_end_of : List ℕ → Option (ℕ × (TransmitIndex × ℕ))
-named_end_of rest = followed_by number (followed_by type_read number) rest
+-- G H
+unfoldable pub two_numbers : List ℕ → Option (ℕ × ℕ)
+two_numbers rest = followed_by number number rest
 
--- the step behind each command, from its arguments
+-- G N H
+unfoldable pub three_numbers : List ℕ → Option (ℕ × ℕ × ℕ)
+three_numbers rest =
+    option_map (λ v. (v.0, v.1.0, v.1.1)) (followed_by number (followed_by number number) rest)
 
--- guest N
-unfoldable pub guest_of : List ℕ → Option Step
-guest_of rest = option_map Guest (number rest)
+-- G T
+unfoldable pub number_and_type : List ℕ → Option (ℕ × TransmitIndex)
+number_and_type rest = followed_by number type_read rest
 
--- new G T
-unfoldable pub new_of : List ℕ → Option Step
-new_of rest = option_map (λ v. New v.0 v.1) (followed_by number type_read rest)
+-- W R T
+unfoldable pub two_numbers_and_type : List ℕ → Option (ℕ × ℕ × TransmitIndex)
+two_numbers_and_type rest =
+    option_map (λ v. (v.0, v.1.0, v.1.1)) (followed_by number (followed_by number type_read) rest)
 
--- pair W R T
-unfoldable pub pair_of : List ℕ → Option Step
-pair_of rest =
-    option_map (λ v. Between v.0 v.1.0 v.1.1) (followed_by number (followed_by number type_read) rest)
+-- an end: G T H
+unfoldable pub named_end_of : List ℕ → Option NamedEnd
+named_end_of rest =
+    option_map (λ v. record { guest = v.0; ty = v.1.0; handle = v.1.1 })
+    (followed_by number (followed_by type_read number) rest)
 
--- write G T H A N, or without N
-unfoldable pub write_of : List ℕ → Option Step
-write_of rest = option_map (λ v. Write v.0 v.1.0 v.1.1.0 v.1.1.1.0 v.1.1.1.1) (operands_of rest)
-
--- read G T H A N, or without N
-unfoldable pub read_of : List ℕ → Option Step
-read_of rest = option_map (λ v. Read v.0 v.1.0 v.1.1.0 v.1.1.1.0 v.1.1.1.1) (operands_of rest)
-
--- drop-write G T H
-unfoldable pub drop_write_of : List ℕ → Option Step
-drop_write_of rest = option_map (λ v. DropWrite v.0 v.1.0 v.1.1) (named_end_of rest)
-
--- drop-read G T H
-unfoldable pub drop_read_of : List ℕ → Option Step
-drop_read_of rest = option_map (λ v. DropRead v.0 v.1.0 v.1.1) (named_end_of rest)
-
--- cancel-write G T H
-unfoldable pub cancel_write_of : List ℕ → Option Step
-cancel_write_of rest = option_map (λ v. CancelWrite v.0 v.1.0 v.1.1) (named_end_of rest)
-
--- cancel-read G T H
-unfoldable pub cancel_read_of : List ℕ → Option Step
-cancel_read_of rest = option_map (λ v. CancelRead v.0 v.1.0 v.1.1) (named_end_of rest)
-
--- move G T H R
-unfoldable pub move_of : List ℕ → Option Step
-move_of rest =
-    option_map (λ v. Move v.0 v.1.0 v.1.1.0 v.1.1.1)
+-- an end and a guest: G T H R
+unfoldable pub end_and_guest : List ℕ → Option (NamedEnd × ℕ)
+end_and_guest rest =
+    option_map (λ v. (record { guest = v.0; ty = v.1.0; handle = v.1.1.0 }, v.1.1.1))
     (followed_by number (followed_by type_read (followed_by number number)) rest)
 
--- lift G T H
-unfoldable pub lift_of : List ℕ → Option Step
-lift_of rest = option_map (λ v. Lift v.0 v.1.0 v.1.1) (named_end_of rest)
+-- handle, address and, of a stream, count; that of a future is 1
+unfoldable pub place_of : TransmitIndex → List ℕ → Option (ℕ × ℕ × ℕ)
+place_of (Stream payload) rest = three_numbers rest
+place_of (Future payload) rest = option_map (λ v. (v.0, v.1, 1)) (two_numbers rest)
 
--- lower R G T
-unfoldable pub lower_of : List ℕ → Option Step
-lower_of rest =
-    option_map (λ v. Lower v.0 v.1.0 v.1.1) (followed_by number (followed_by number type_read) rest)
+-- an end, address and count: G T H A N, or without N
+unfoldable pub operands_of : List ℕ → Option (NamedEnd × ℕ × ℕ)
+operands_of rest =
+    option_map (λ v. (record { guest = v.0; ty = v.1.0; handle = v.1.1.0 }, v.1.1.1, v.1.1.2))
+    (followed_by number (followed_by_its type_read place_of) rest)
 
--- close R
-unfoldable pub close_of : List ℕ → Option Step
-close_of rest = option_map Close (number rest)
+-- N HEX, N end
+unfoldable pub number_and_fed : List ℕ → Option (ℕ × List ℕ)
+number_and_fed rest = followed_by number fed rest
 
--- host N
-unfoldable pub host_of : List ℕ → Option Step
-host_of rest = option_map HostNew (number rest)
+-- G A HEX
+unfoldable pub place_and_bytes : List ℕ → Option (ℕ × ℕ × List ℕ)
+place_and_bytes rest =
+    option_map (λ v. (v.0, v.1.0, v.1.1)) (followed_by number (followed_by number hex) rest)
 
--- feed N HEX, feed N end
-unfoldable pub feed_of : List ℕ → Option Step
-feed_of rest = option_map (λ v. Feed v.0 v.1) (followed_by number fed rest)
-
--- drive, and nothing behind it
-unfoldable pub drive_of : List ℕ → Option Step
-drive_of [] = Some Drive
-drive_of (c ∷ rest) = None
-
--- set-new G
-unfoldable pub set_new_of : List ℕ → Option Step
-set_new_of rest = option_map SetNew (number rest)
-
--- set-join G N H
-unfoldable pub set_join_of : List ℕ → Option Step
-set_join_of rest =
-    option_map (λ v. SetJoin v.0 v.1.0 v.1.1) (followed_by number (followed_by number number) rest)
-
--- set-poll G N
-unfoldable pub set_poll_of : List ℕ → Option Step
-set_poll_of rest = option_map (λ v. SetPoll v.0 v.1) (followed_by number number rest)
-
--- set-drop G N
-unfoldable pub set_drop_of : List ℕ → Option Step
-set_drop_of rest = option_map (λ v. SetDrop v.0 v.1) (followed_by number number rest)
-
--- event G H
-unfoldable pub event_of : List ℕ → Option Step
-event_of rest = option_map (λ v. Event v.0 v.1) (followed_by number number rest)
-
--- err-new G A N
-unfoldable pub err_new_of : List ℕ → Option Step
-err_new_of rest =
-    option_map (λ v. ErrNew v.0 v.1.0 v.1.1) (followed_by number (followed_by number number) rest)
-
--- err-text G H A
-unfoldable pub err_text_of : List ℕ → Option Step
-err_text_of rest =
-    option_map (λ v. ErrText v.0 v.1.0 v.1.1) (followed_by number (followed_by number number) rest)
-
--- err-move G H R
-unfoldable pub err_move_of : List ℕ → Option Step
-err_move_of rest =
-    option_map (λ v. ErrMove v.0 v.1.0 v.1.1) (followed_by number (followed_by number number) rest)
-
--- err-drop G H
-unfoldable pub err_drop_of : List ℕ → Option Step
-err_drop_of rest = option_map (λ v. ErrDrop v.0 v.1) (followed_by number number rest)
-
--- poke G A HEX
-unfoldable pub poke_of : List ℕ → Option Step
-poke_of rest =
-    option_map (λ v. Poke v.0 v.1.0 v.1.1) (followed_by number (followed_by number hex) rest)
-
--- dump G A N
-unfoldable pub dump_of : List ℕ → Option Step
-dump_of rest =
-    option_map (λ v. Dump v.0 v.1.0 v.1.1)
+-- G A N, of 1 to 64 bytes
+unfoldable pub place_and_len : List ℕ → Option (ℕ × ℕ × ℕ)
+place_and_len rest =
+    option_map (λ v. (v.0, v.1.0, v.1.1))
     (followed_by number (followed_by number (number_within 1 64)) rest)
 
 -- a command: what its lines begin with, and the step behind its arguments
@@ -297,45 +224,71 @@ pub record Command : Type 0 where
   pub front : List ℕ
   pub read : List ℕ → Option Step
 
--- a command by what its lines begin with, the space before its arguments included
-abbrev pub command : List ℕ → (List ℕ → Option Step) → Command
-command front read = record { front = front; read = read }
+-- a command by what its lines begin with, how its arguments are read, and the step that they make
+abbrev pub command : {V : Type 0} → List ℕ → (List ℕ → Option V) → (V → Step) → Command
+command front arguments make =
+    record { front = front; read = λ rest. option_map make (arguments rest) }
 
--- the commands that most lines are made of
-abbrev pub often : List Command
-often =
-    command (codes "write ") write_of ∷ command (codes "read ") read_of ∷ command (codes "event ") event_of
-    ∷ command (codes "poke ") poke_of ∷ command (codes "dump ") dump_of ∷ []
-
--- those that make something or end it
-abbrev pub seldom : List Command
-seldom =
-    command (codes "guest ") guest_of ∷ command (codes "new ") new_of ∷ command (codes "pair ") pair_of
-    ∷ command (codes "drop-write ") drop_write_of ∷ command (codes "drop-read ") drop_read_of
-    ∷ command (codes "cancel-write ") cancel_write_of ∷ command (codes "cancel-read ") cancel_read_of ∷ []
-
--- those of read ends that change their owner
-abbrev pub moving : List Command
-moving =
-    command (codes "move ") move_of ∷ command (codes "lift ") lift_of ∷ command (codes "lower ") lower_of
-    ∷ command (codes "close ") close_of ∷ []
-
--- those of host ends
-abbrev pub hosting : List Command
-hosting =
-    command (codes "host ") host_of ∷ command (codes "feed ") feed_of ∷ command (codes "drive") drive_of ∷ []
-
--- those of waitable sets
-abbrev pub gathering : List Command
-gathering =
-    command (codes "set-new ") set_new_of ∷ command (codes "set-join ") set_join_of
-    ∷ command (codes "set-poll ") set_poll_of ∷ command (codes "set-drop ") set_drop_of ∷ []
+-- the commands, each group with those after it
 
 -- those of error contexts
-abbrev pub explaining : List Command
+unfoldable pub explaining : List Command
 explaining =
-    command (codes "err-new ") err_new_of ∷ command (codes "err-text ") err_text_of
-    ∷ command (codes "err-move ") err_move_of ∷ command (codes "err-drop ") err_drop_of ∷ []
+    command (codes "err-new ") three_numbers (λ v. ErrNew v.0 v.1 v.2)
+    ∷ command (codes "err-text ") three_numbers (λ v. ErrText v.0 v.1 v.2)
+    ∷ command (codes "err-move ") three_numbers (λ v. ErrMove v.0 v.1 v.2)
+    ∷ command (codes "err-drop ") two_numbers (λ v. ErrDrop v.0 v.1) ∷ []
+
+-- those of waitable sets
+unfoldable pub gathering : List Command
+gathering =
+    command (codes "set-new ") number SetNew
+    ∷ command (codes "set-join ") three_numbers (λ v. SetJoin v.0 v.1 v.2)
+    ∷ command (codes "set-poll ") two_numbers (λ v. SetPoll v.0 v.1)
+    ∷ command (codes "set-drop ") two_numbers (λ v. SetDrop v.0 v.1) ∷ explaining
+
+-- those of host ends
+unfoldable pub hosting : List Command
+hosting =
+    command (codes "host ") number HostNew
+    ∷ command (codes "feed ") number_and_fed (λ v. Feed v.0 v.1)
+    ∷ command (codes "drive") nothing (λ v. Drive) ∷ gathering
+
+-- those of read ends that change their owner
+unfoldable pub moving : List Command
+moving =
+    command (codes "move ") end_and_guest (λ v. Move v.0.guest v.0.ty v.0.handle v.1)
+    ∷ command (codes "lift ") named_end_of (λ e. Lift e.guest e.ty e.handle)
+    ∷ command (codes "lower ") two_numbers_and_type (λ v. Lower v.0 v.1 v.2) ∷ hosting
+
+-- those that end an end, or what it waits for
+unfoldable pub ending : List Command
+ending =
+    command (codes "drop-write ") named_end_of (λ e. DropWrite e.guest e.ty e.handle)
+    ∷ command (codes "drop-read ") named_end_of (λ e. DropRead e.guest e.ty e.handle)
+    ∷ command (codes "cancel-write ") named_end_of (λ e. CancelWrite e.guest e.ty e.handle)
+    ∷ command (codes "cancel-read ") named_end_of (λ e. CancelRead e.guest e.ty e.handle)
+    ∷ command (codes "close ") number Close ∷ moving
+
+-- those that make guests and streams
+unfoldable pub making : List Command
+making =
+    command (codes "guest ") number Guest
+    ∷ command (codes "new ") number_and_type (λ v. New v.0 v.1)
+    ∷ command (codes "pair ") two_numbers_and_type (λ v. Between v.0 v.1 v.2) ∷ ending
+
+-- those of a guest's memory
+unfoldable pub touching : List Command
+touching =
+    command (codes "poke ") place_and_bytes (λ v. Poke v.0 v.1 v.2)
+    ∷ command (codes "dump ") place_and_len (λ v. Dump v.0 v.1 v.2) ∷ making
+
+-- those that most lines are made of
+unfoldable pub often : List Command
+often =
+    command (codes "write ") operands_of (λ v. Write v.0.guest v.0.ty v.0.handle v.1 v.2)
+    ∷ command (codes "read ") operands_of (λ v. Read v.0.guest v.0.ty v.0.handle v.1 v.2)
+    ∷ command (codes "event ") two_numbers (λ v. Event v.0 v.1) ∷ touching
 
 -- the step of the first of these commands that a line begins with
 abbrev pub read_by : List Command → List ℕ → Option Step
@@ -344,4 +297,4 @@ read_by (c ∷ commands) line = option_map_or c.read (behind c.front line) (read
 
 -- the step that a line spells, where it spells one
 unfoldable pub step_of : List ℕ → Option Step
-step_of line = read_by (often ++ (seldom ++ (moving ++ (hosting ++ (gathering ++ explaining))))) line
+step_of line = read_by often line
