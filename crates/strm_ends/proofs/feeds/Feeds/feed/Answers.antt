@@ -1,9 +1,26 @@
-use Rattle.std.proofs.Common.{◌≡◌, ◌+◌, ◌*◌, [], ◌∷◌, ◌++◌, take, drop, refl, ap, ◌∙◌, arith}
+use Rattle.std.proofs.Common.{◌≡◌, ℕ, ◌+◌, ◌*◌, List, [], ◌∷◌, ◌++◌, length, take, drop, refl, ap, ◌∙◌, arith}
+use Rattle.std.proofs.lemmas.List.{take_all, take-append-le}
 use Rattle.strm_codes.specs.Layout.{scalars_of, item_size}
 use Rattle.strm_ends.specs.Fed.{more_fed, fed_kept}
 use Rattle.strm_ends.specs.declared.feeds.Feed.{Feed}
 use Rattle.strm_ends.proofs.FedLemmas.{AreFed, FedMore, fed_more, feed_of}
 use Rattle.strm_ends.proofs.feeds.Feeds.feed.Goals as goal
+
+-- without what was put behind them
+cut_back : (xs more : List ℕ) (n : ℕ) → n ≡ length xs → take n (xs ++ more) ≡ xs
+cut_back xs more n e = take-append-le n xs more (omega (arith, e)) ∙ take_all n xs (omega (arith, e))
+
+pub invariant_of-self-in-Err-extend_from_slice : goal.invariant_of-self-in-Err-extend_from_slice
+invariant_of-self-in-Err-extend_from_slice c =
+    let s = c.self.inside in
+    let rest : c.truncate.new.self.items ≡ s.rest.items = rw (c.truncate.ensures.items, c.in-Ok.ensures.ok) (cut_back s.rest.items c.split_at.result.1.now c.len-rest_before.result (omega (arith, c.len-rest_before.ensures, s.rest.ok.0))) in
+    rw (c.in-Err-extend_from_slice.ensures.items, rest, c.reserve.ensures.items) c.self.invariant
+
+pub returns-in-Err-extend_from_slice-clause-err : goal.returns-in-Err-extend_from_slice-clause-err
+returns-in-Err-extend_from_slice-clause-err c =
+    let s = c.self.inside in
+    let rest : c.truncate.new.self.items ≡ s.rest.items = rw (c.truncate.ensures.items, c.in-Ok.ensures.ok) (cut_back s.rest.items c.split_at.result.1.now c.len-rest_before.result (omega (arith, c.len-rest_before.ensures, s.rest.ok.0))) in
+    rw (c.in-Err-extend_from_slice.ensures.items, rest, c.reserve.ensures.items) c.self.view_is
 
 pub invariant_of-self-2 : goal.invariant_of-self-2
 invariant_of-self-2 c =
