@@ -1,5 +1,5 @@
 use Rattle.std.proofs.Common.{◌≡◌, ℕ, ◌+◌, ◌*◌, List, [], ◌∷◌, ◌++◌, length, take, drop, refl, ap, ◌∙◌, arith}
-use Rattle.std.proofs.lemmas.List.{take_all, take-append-le}
+use Rattle.std.proofs.Math.Seq.{take-append_seam}
 use Rattle.strm_codes.specs.Layout.{scalars_of, item_size}
 use Rattle.strm_ends.specs.Fed.{more_fed, fed_kept}
 use Rattle.strm_ends.specs.declared.feeds.Feed.{Feed}
@@ -8,7 +8,7 @@ use Rattle.strm_ends.proofs.feeds.Feeds.feed.Goals as goal
 
 -- without what was put behind them
 cut_back : (xs more : List ℕ) (n : ℕ) → n ≡ length xs → take n (xs ++ more) ≡ xs
-cut_back xs more n e = take-append-le n xs more (omega (arith, e)) ∙ take_all n xs (omega (arith, e))
+cut_back xs more n e = ap (λ k. take k (xs ++ more)) e ∙ take-append_seam xs more
 
 pub invariant_of-self-in-Err-extend_from_slice : goal.invariant_of-self-in-Err-extend_from_slice
 invariant_of-self-in-Err-extend_from_slice c =
