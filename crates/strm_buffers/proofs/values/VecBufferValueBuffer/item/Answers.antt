@@ -18,5 +18,5 @@ returns g c =
     let within = simp length-map at c.requires in
     let read : c.index-as_slice-index.result ≡ get_or left c.args.index c.index-as_slice-index.result = rw (← c.as_slice.ensures) c.index-as_slice-index.is in
     slice_get-map g.T.Payloaded.item left c.args.index
-        ∙ ap (option_map g.T.Payloaded.item) (slice_get_read left (length left) c.args.index c.index-as_slice-index.result refl within read)
-        ∙ ap Some (sym c.lower.ensures.exact)
+    ∙ ap (option_map g.T.Payloaded.item) (slice_get_read left (length left) c.args.index c.index-as_slice-index.result refl within read)
+    ∙ ap Some (sym c.lower.ensures.exact)

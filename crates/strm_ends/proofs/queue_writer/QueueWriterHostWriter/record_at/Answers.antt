@@ -22,5 +22,5 @@ returns-in-Ok c =
     let s = c.args.self.now in
     let within : c.args.index < length s.polls.items = omega (arith, c.requires, length-map s.polls.items (said_of s.fed.items)) in
     slice_get-map (said_of s.fed.items) s.polls.items c.args.index
-        ∙ ap (option_map (said_of s.fed.items)) (slice_get_read s.polls.items (length s.polls.items) c.args.index c.index-poll.result.now refl within c.index-poll.ensures)
-        ∙ rw c.in-Ok.ensures refl
+    ∙ ap (option_map (said_of s.fed.items)) (slice_get_read s.polls.items (length s.polls.items) c.args.index c.index-poll.result.now refl within c.index-poll.ensures)
+    ∙ rw c.in-Ok.ensures refl
