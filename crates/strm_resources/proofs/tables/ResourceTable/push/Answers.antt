@@ -1,7 +1,27 @@
 use Rattle.std.proofs.Common.{◌≡◌, None, length, vec_capacity, ap, ◌∙◌, arith}
 use Rattle.strm_resources.specs.Nodes.{new_node, next_of, filled}
-use Rattle.strm_resources.proofs.TableLemmas.{alike_length, alike-filled, put-filled, room-filled}
+use Rattle.strm_resources.proofs.TableLemmas.{alike_length, alike-filled, put-filled, room-filled, next_fits}
 use Rattle.strm_resources.proofs.tables.ResourceTable.push.Goals as goal
+
+pub insert-number-requires : goal.insert-number-requires
+insert-number-requires g c =
+    let room = rw (← c.self.view_is) at c.in_ok-reserve.ensures.ok in
+    record {
+      room = omega (arith, room);
+      small = rw (← c.in_ok-reserve.ensures.entries, ← c.self.view_is) at c.in_ok-reserve.ensures.small;
+    }
+
+pub put-requires : goal.put-requires
+put-requires g c =
+    let t = c.self.inside in
+    let long = alike_length t.values.items t.links.nodes c.self.invariant in
+    let room = rw (← c.self.view_is) at c.in_ok-reserve.ensures.ok in
+    let next : c.insert-number.result ≡ next_of t.links.freed (length t.values.items) = rw long c.insert-number.ensures.number in
+    let fits = next_fits t.links.freed c.insert-number.result (length t.values.items) (vec_capacity t.values) next (λ some. rw long (c.insert-number.ensures.inside some)) (omega (arith, room, t.values.ok.0)) in
+    record {
+      bound = omega (arith, fits.0, t.values.ok.0);
+      room = λ last. omega (arith, fits.1 (omega (arith, last, t.values.ok.0)), t.values.ok.0);
+    }
 
 pub invariant_of-self : goal.invariant_of-self
 invariant_of-self g c =
