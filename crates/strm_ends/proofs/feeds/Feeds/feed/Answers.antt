@@ -1,4 +1,4 @@
-use Rattle.std.proofs.Common.{◌≡◌, ℕ, ◌+◌, ◌*◌, List, [], ◌∷◌, ◌++◌, length, take, drop, refl, ap, ◌∙◌, arith}
+use Rattle.std.proofs.Common.{◌≡◌, ℕ, ◌+◌, ◌*◌, List, [], ◌∷◌, ◌++◌, length, take, drop, refl, ap, ◌∙◌, arith, length-append}
 use Rattle.std.proofs.Math.Seq.{take-append_seam}
 use Rattle.strm_codes.specs.Layout.{scalars_of, item_size}
 use Rattle.strm_ends.specs.Fed.{more_fed, fed_kept}
@@ -58,3 +58,11 @@ returns-clause-ok c =
     c.push_reserved.ensures.items ∙ ap (λ l. l ++ feed_of c.args.records c.split_at.result.0.now c.split_at.result.1.now ∷ []) c.reserve.ensures.items ∙ ap (λ (x : Feed). s.feeds.items ++ x ∷ []) feed in
     let is : fed_kept s.payload c.extend_from_slice.new.self.items (s.len + n) c.append.new.bytes.items c.push_reserved.new.self.items ≡ more_fed c.args.self.now c.args.records given = rw (b, r, f) p.is in
     is
+
+-- as many items as there are bytes at most
+pub overflow_add-self : goal.overflow_add-self
+overflow_add-self c =
+    let s = c.self.inside in
+    let bytes = ap length c.in-Ok-extend_from_slice.ensures.items in
+    let rest = ap length c.in-Ok.ensures.ok in
+    omega (arith, c.self.invariant.counted, c.count_items-count.ensures.few, bytes, rest, length-append s.bytes.items c.split_at.result.0.now, length-append s.rest.items c.split_at.result.1.now, c.split_at.ensures.front_len, c.split_at.ensures.back_len, c.extend_from_slice.new.self.ok, c.append.new.bytes.ok, c.extend_from_slice.new.self.small, c.append.new.bytes.small)
