@@ -103,7 +103,7 @@ module _ {E : Type 0} where
   first_freed slots (suc m) first some s =
       All-head (IsFreed (map entry_of slots)) (suc first) (chain slots m (before (slot_at slots first))) s.free
 
-  first_inside : (slots : List (Slot E)) (free first : ℕ) → 0 < free → IsTable (handles_in slots free first) → first < length slots
+  pub first_inside : (slots : List (Slot E)) (free first : ℕ) → 0 < free → IsTable (handles_in slots free first) → first < length slots
   first_inside slots free first some s =
       omega (arith, (first_freed slots free first some s).given, length-map slots entry_of)
 

@@ -74,3 +74,10 @@ room-filled [] number len capacity is inside =
 room-filled (first ∷ freed) number len capacity is inside =
     let below = inside (λ e. cc) in
     rw (eq-other number len (λ e. omega arith)) (omega arith)
+
+-- the next place is one of those that there are, or the one behind them where there is room for it
+pub next_fits : (freed : List ℕ) (number len capacity : ℕ) → number ≡ next_of freed len → (freed ≢ [] → number < len) → 0 < capacity - len + length freed → (number ≤ len) × (number ≡ len → len < capacity)
+next_fits [] number len capacity is inside room = (omega arith, λ last. omega arith)
+next_fits (first ∷ freed) number len capacity is inside room =
+    let below = inside (λ e. cc) in
+    (omega arith, λ last. absurd (omega arith))

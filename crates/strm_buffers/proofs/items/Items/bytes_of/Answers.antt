@@ -4,6 +4,30 @@ use Rattle.strm_buffers.specs.Listing.{TypedItems}
 use Rattle.strm_buffers.proofs.ListingLemmas.{lie_part, part_inside}
 use Rattle.strm_buffers.proofs.items.Items.bytes_of.Goals as goal
 
+pub overflow_mul-size : goal.overflow_mul-size
+overflow_mul-size c =
+    let m = c.bytes.result.now in
+    let n = length c.args.self.now.items in
+    let size = c.size-size.ensures.exact ∙ ap (λ (v : TypedItems). item_size (scalars_of v.payload)) c.self.view_is in
+    let all : length m ≡ c.size-size.result * n = c.bytes.ensures.all ∙ ap (λ w. w * n) (sym size) in
+    omega (arith, part_inside c.size-size.result c.args.start c.args.count n (length m) c.requires all)
+
+pub split_at-requires : goal.split_at-requires
+split_at-requires c =
+    let m = c.bytes.result.now in
+    let n = length c.args.self.now.items in
+    let size = c.size-size.ensures.exact ∙ ap (λ (v : TypedItems). item_size (scalars_of v.payload)) c.self.view_is in
+    let all : length m ≡ c.size-size.result * n = c.bytes.ensures.all ∙ ap (λ w. w * n) (sym size) in
+    omega (arith, part_inside c.size-size.result c.args.start c.args.count n (length m) c.requires all)
+
+pub overflow_mul-size-2 : goal.overflow_mul-size-2
+overflow_mul-size-2 c =
+    let m = c.bytes.result.now in
+    let n = length c.args.self.now.items in
+    let size = c.size-size.ensures.exact ∙ ap (λ (v : TypedItems). item_size (scalars_of v.payload)) c.self.view_is in
+    let all : length m ≡ c.size-size.result * n = c.bytes.ensures.all ∙ ap (λ w. w * n) (sym size) in
+    omega (arith, part_inside c.size-size.result c.args.start c.args.count n (length m) c.requires all)
+
 pub split_at-requires-2 : goal.split_at-requires-2
 split_at-requires-2 c =
     let m = c.bytes.result.now in

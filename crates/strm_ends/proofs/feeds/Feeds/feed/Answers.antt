@@ -1,9 +1,26 @@
-use Rattle.std.proofs.Common.{◌≡◌, ◌+◌, ◌*◌, [], ◌∷◌, ◌++◌, take, drop, refl, ap, ◌∙◌, arith}
+use Rattle.std.proofs.Common.{◌≡◌, ℕ, ◌+◌, ◌*◌, List, [], ◌∷◌, ◌++◌, length, take, drop, refl, ap, ◌∙◌, arith, length-append}
+use Rattle.std.proofs.Math.Seq.{take-append_seam}
 use Rattle.strm_codes.specs.Layout.{scalars_of, item_size}
 use Rattle.strm_ends.specs.Fed.{more_fed, fed_kept}
 use Rattle.strm_ends.specs.declared.feeds.Feed.{Feed}
 use Rattle.strm_ends.proofs.FedLemmas.{AreFed, FedMore, fed_more, feed_of}
 use Rattle.strm_ends.proofs.feeds.Feeds.feed.Goals as goal
+
+-- without what was put behind them
+cut_back : (xs more : List ℕ) (n : ℕ) → n ≡ length xs → take n (xs ++ more) ≡ xs
+cut_back xs more n e = ap (λ k. take k (xs ++ more)) e ∙ take-append_seam xs more
+
+pub invariant_of-self-in-Err-extend_from_slice : goal.invariant_of-self-in-Err-extend_from_slice
+invariant_of-self-in-Err-extend_from_slice c =
+    let s = c.self.inside in
+    let rest : c.truncate.new.self.items ≡ s.rest.items = rw (c.truncate.ensures.items, c.in-Ok.ensures.ok) (cut_back s.rest.items c.split_at.result.1.now c.len-rest_before.result (omega (arith, c.len-rest_before.ensures, s.rest.ok.0))) in
+    rw (c.in-Err-extend_from_slice.ensures.items, rest, c.reserve.ensures.items) c.self.invariant
+
+pub returns-in-Err-extend_from_slice-clause-err : goal.returns-in-Err-extend_from_slice-clause-err
+returns-in-Err-extend_from_slice-clause-err c =
+    let s = c.self.inside in
+    let rest : c.truncate.new.self.items ≡ s.rest.items = rw (c.truncate.ensures.items, c.in-Ok.ensures.ok) (cut_back s.rest.items c.split_at.result.1.now c.len-rest_before.result (omega (arith, c.len-rest_before.ensures, s.rest.ok.0))) in
+    rw (c.in-Err-extend_from_slice.ensures.items, rest, c.reserve.ensures.items) c.self.view_is
 
 pub invariant_of-self-2 : goal.invariant_of-self-2
 invariant_of-self-2 c =
@@ -41,3 +58,11 @@ returns-clause-ok c =
     c.push_reserved.ensures.items ∙ ap (λ l. l ++ feed_of c.args.records c.split_at.result.0.now c.split_at.result.1.now ∷ []) c.reserve.ensures.items ∙ ap (λ (x : Feed). s.feeds.items ++ x ∷ []) feed in
     let is : fed_kept s.payload c.extend_from_slice.new.self.items (s.len + n) c.append.new.bytes.items c.push_reserved.new.self.items ≡ more_fed c.args.self.now c.args.records given = rw (b, r, f) p.is in
     is
+
+-- as many items as there are bytes at most
+pub overflow_add-self : goal.overflow_add-self
+overflow_add-self c =
+    let s = c.self.inside in
+    let bytes = ap length c.in-Ok-extend_from_slice.ensures.items in
+    let rest = ap length c.in-Ok.ensures.ok in
+    omega (arith, c.self.invariant.counted, c.count_items-count.ensures.few, bytes, rest, length-append s.bytes.items c.split_at.result.0.now, length-append s.rest.items c.split_at.result.1.now, c.split_at.ensures.front_len, c.split_at.ensures.back_len, c.extend_from_slice.new.self.ok, c.append.new.bytes.ok, c.extend_from_slice.new.self.small, c.append.new.bytes.small)

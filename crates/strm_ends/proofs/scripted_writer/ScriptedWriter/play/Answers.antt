@@ -1,4 +1,4 @@
-use Rattle.std.proofs.Common.{◌≡◌}
+use Rattle.std.proofs.Common.{◌≡◌, ◌<◌, length, arith}
 use Rattle.std.proofs.lemmas.List.Elements.{All-drop}
 use Rattle.strm_buffers.proofs.EndLemmas.{Fills-same}
 use Rattle.strm_ends.specs.declared.scripted_writer.WriterTurn.{WriterTurn}
@@ -10,3 +10,10 @@ returns-in-Err-clause-fills c = Fills-same c.args.window.now
 pub invariant_of-self-2-clause-typed : goal.invariant_of-self-2-clause-typed
 invariant_of-self-2-clause-typed c =
     rw c.remove-items.ensures.items (All-drop (λ (turn : WriterTurn). turn.items.payload ≡ c.args.self.now.payload) 1 c.args.self.now.turns.items c.args.self.now.typed)
+
+-- what is held is a part of the first turn's items
+pub invariant_of-self-2-clause-holding : goal.invariant_of-self-2-clause-holding
+invariant_of-self-2-clause-holding c =
+    let old = c.args.self.now in
+    let some : 0 < length old.turns.items = omega (arith, c.requires.next, old.turns.ok.0) in
+    rw (c.skip.ensures.payload, c.in-Ok-copy.ensures, c.index.ensures) (old.typed 0 c.index.result.now some)

@@ -1,6 +1,27 @@
 use Rattle.std.proofs.Common.{◌<◌, arith}
-use Rattle.strm_handles.proofs.ChainLemmas.{length-chain, first_is_free, first_is_next, first_is_small, slot_taken}
+use Rattle.strm_handles.proofs.ChainLemmas.{length-chain, first_inside, first_is_free, first_is_next, first_is_small, slot_taken}
 use Rattle.strm_handles.proofs.slots.Slots.refill.Goals as goal
+
+pub index-requires : goal.index-requires
+index-requires g c =
+    let t = c.self.inside in
+    let freed = rw (← c.self.view_is) at c.requires in
+    let some : 0 < t.free = omega (arith, freed, length-chain t.slots.items t.free t.first) in
+    omega (arith, first_inside t.slots.items t.free t.first some c.self.invariant, t.slots.ok.0)
+
+pub index_mut-requires : goal.index_mut-requires
+index_mut-requires g c =
+    let t = c.self.inside in
+    let freed = rw (← c.self.view_is) at c.requires in
+    let some : 0 < t.free = omega (arith, freed, length-chain t.slots.items t.free t.first) in
+    omega (arith, first_inside t.slots.items t.free t.first some c.self.invariant, t.slots.ok.0)
+
+pub overflow_add-result : goal.overflow_add-result
+overflow_add-result g c =
+    let t = c.self.inside in
+    let freed = rw (← c.self.view_is) at c.requires in
+    let some : 0 < t.free = omega (arith, freed, length-chain t.slots.items t.free t.first) in
+    omega (arith, first_is_small t.slots.items t.free t.first some c.self.invariant)
 
 pub unreachable-requires : goal.unreachable-requires
 unreachable-requires g c =

@@ -1,7 +1,29 @@
-use Rattle.std.proofs.Common.{◌≡◌, length, vec_capacity, ap, ◌∙◌, arith}
-use Rattle.strm_resources.specs.Nodes.{next_of, filled}
-use Rattle.strm_resources.proofs.TableLemmas.{alike_length, alike-new_child, put-filled, room-filled}
+use Rattle.std.proofs.Common.{◌≡◌, true, is_some, length, sym, vec_capacity, ap, ◌∙◌, arith}
+use Rattle.strm_resources.specs.Nodes.{node_at, next_of, filled}
+use Rattle.strm_resources.proofs.TableLemmas.{alike_length, alike-new_child, put-filled, room-filled, next_fits}
 use Rattle.strm_resources.proofs.tables.ResourceTable.push_child.Goals as goal
+
+pub insert_child-requires : goal.insert_child-requires
+insert_child-requires g c =
+    let present : is_some (node_at c.args.self.now.entries.nodes c.rep-parent.result) ≡ true = sym c.contains.ensures.node ∙ c.if-not-contains.false in
+    let room = rw (← c.self.view_is) at c.in_ok-reserve.ensures.ok in
+    record {
+      room = omega (arith, room);
+      small = rw (← c.in_ok-reserve.ensures.entries, ← c.self.view_is) at c.in_ok-reserve.ensures.small;
+      parent = rw (← c.in_ok-reserve.ensures.entries, ← c.self.view_is) at present;
+    }
+
+pub put-requires : goal.put-requires
+put-requires g c =
+    let t = c.self.inside in
+    let long = alike_length t.values.items t.links.nodes c.self.invariant in
+    let room = rw (← c.self.view_is) at c.in_ok-reserve.ensures.ok in
+    let next : c.in_ok-number.number ≡ next_of t.links.freed (length t.values.items) = rw long c.in_ok-number.ensures.number in
+    let fits = next_fits t.links.freed c.in_ok-number.number (length t.values.items) (vec_capacity t.values) next (λ some. rw long (c.in_ok-number.ensures.inside some)) (omega (arith, room, t.values.ok.0)) in
+    record {
+      bound = omega (arith, fits.0, t.values.ok.0);
+      room = λ last. omega (arith, fits.1 (omega (arith, last, t.values.ok.0)), t.values.ok.0);
+    }
 
 pub invariant_of-self-2 : goal.invariant_of-self-2
 invariant_of-self-2 g c =
