@@ -2,7 +2,7 @@
 //!
 //! Source: ours.
 
-ghost use Rattle.std.specs.Prelude.{◌≡◌, ◌≢◌, ◌≤◌, ◌+◌, ◌⊎◌, ◌↔◌, ◌∷◌, ℕ, List, [], length, map, codes, IfOk, IsTrue, Some, string_bytes};
+ghost use Rattle.std.specs.Prelude.{◌≡◌, ◌≢◌, ◌≤◌, ◌+◌, ◌⊎◌, ◌↔◌, ◌∷◌, ℕ, List, [], length, map, codes, IfOk, IsErr, IsTrue, Some, string_bytes};
 ghost use Rattle.std.specs.Io.KnownBytes.{Appends, Consumes};
 ghost use Rattle.strm_machine.specs.declared.steps.Step.{Step};
 ghost use Rattle.strm_machine.specs.State.{State};
@@ -239,6 +239,7 @@ fn answer_steps(alloc: Global, steps: &[Step], hosts: &mut Hosts) -> Result<Outp
 fn status_of(cause: RunCause) -> Result<(u8, Stop), OutOfMemory>
     ensures stop { IfOk result (λ told. IsStop told.0) }
     ensures cause { IfOk result (λ told. IsStatusOf told.0 cause told.1) }
+    ensures memory { IsErr result → cause ≡ RunCause.OutOfMemory }
 {
     match cause {
         RunCause::HostFailed { end } => Ok((HOST_FAILED, Stop::HostFailed { end })),
