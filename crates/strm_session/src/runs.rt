@@ -254,10 +254,9 @@ fn step_once(
     ensures hosts { touches (lone store.old) (act_of step.now) ≡ false →
         (tells_of writer_tells reader_tells hosts.new) ≡ (tells_of writer_tells reader_tells hosts.old) }
 {
-    let answer = apply(store, hosts, step);
-    match &answer {
-        Ok(reply) => keep(replies, reply),
-        Err(error) => Err(cause_of(*error)),
+    match apply(store, hosts, step) {
+        Ok(reply) => keep(replies, &reply),
+        Err(error) => Err(cause_of(error)),
     }
 }
 

@@ -2,7 +2,7 @@
 //!
 //! Source: ours.
 
-ghost use Rattle.std.specs.Prelude.{◌≡◌, ◌≢◌, ◌≤◌, ◌+◌, ◌⊎◌, ◌↔◌, ◌∷◌, ℕ, List, [], length, map, codes, IfOk, IsTrue, Some, string_bytes};
+ghost use Rattle.std.specs.Prelude.{◌≡◌, ◌≢◌, ◌≤◌, ◌+◌, ◌⊎◌, ◌↔◌, ◌∷◌, ℕ, List, [], length, map, codes, IfOk, IsErr, IsTrue, Some, string_bytes};
 ghost use Rattle.std.specs.Io.KnownBytes.{Appends, Consumes};
 ghost use Rattle.strm_machine.specs.declared.steps.Step.{Step};
 ghost use Rattle.strm_machine.specs.State.{State};
@@ -12,7 +12,7 @@ ghost use Rattle.strm_machine.specs.declared.stops.Stop.{Stop};
 ghost use Rattle.strm_session.specs.Runs.{start_among, AreOfGuests, AsksBad, AsksItems};
 ghost use Rattle.strm_ports.specs.Faults.{Rose, TakesPart};
 ghost use Rattle.strm_lines.specs.Lines.{lines_of, Spells, IsFirstBad, IsTooLong};
-ghost use Rattle.strm_session.specs.Serving.{IsRun, IsStop, IsOutput, IsStatus, IsFaultless, IsTranscript, IsStopped, PlaysOn, HaltsWith, StandsFor};
+ghost use Rattle.strm_session.specs.Serving.{IsRun, IsStop, IsOutput, IsStatus, IsStatusOf, IsFaultless, IsTranscript, IsStopped, PlaysOn, HaltsWith, StandsFor};
 
 use crate::runs::{RunCause, run};
 use crate::texts::{bad_line_text, read_fault_text, stopped_text, text, too_long_text, usage_text};
@@ -228,14 +228,23 @@ fn answer_steps(alloc: Global, steps: &[Step], hosts: &mut Hosts) -> Result<Outp
             Ok(Output { status: DONE, text })
         }
         Err(stop) => {
-            let (status, why) = match stop.cause {
-                RunCause::HostFailed { end } => (HOST_FAILED, Stop::HostFailed { end }),
-                RunCause::HostBroke { end } => (HOST_BROKE, Stop::HostBroke { end }),
-                RunCause::BadItem { stream } => (BAD_ITEM, Stop::BadItem { stream }),
-                RunCause::OutOfMemory => return Err(OutOfMemory),
-            };
+            let (status, why) = status_of(stop.cause)?;
             let text = stopped_text(alloc, stop.replies.as_slice(), why)?;
             Ok(Output { status, text })
         }
+    }
+}
+
+// The status by which a run stops, and the cause that it stands for; want of memory has none.
+fn status_of(cause: RunCause) -> Result<(u8, Stop), OutOfMemory>
+    ensures stop { IfOk result (λ told. IsStop told.0) }
+    ensures cause { IfOk result (λ told. IsStatusOf told.0 cause told.1) }
+    ensures memory { IsErr result → cause ≡ RunCause.OutOfMemory }
+{
+    match cause {
+        RunCause::HostFailed { end } => Ok((HOST_FAILED, Stop::HostFailed { end })),
+        RunCause::HostBroke { end } => Ok((HOST_BROKE, Stop::HostBroke { end })),
+        RunCause::BadItem { stream } => Ok((BAD_ITEM, Stop::BadItem { stream })),
+        RunCause::OutOfMemory => Err(OutOfMemory),
     }
 }

@@ -109,3 +109,45 @@ returns-in-Ok-clause-bad_item g c = λ alone.
 pub returns-in-Ok-clause-items : goal.returns-in-Ok-clause-items
 returns-in-Ok-clause-items g c = λ alone.
     answers-items c.args.steps.now c.finished.result (returns-in-Ok-clause-stop_alone g c alone)
+
+pub returns-in-Err-clause-ok : goal.returns-in-Err-clause-ok
+returns-in-Err-clause-ok g c = tt
+
+pub returns-in-Err-clause-received : goal.returns-in-Err-clause-received
+returns-in-Err-clause-received g c = tt
+
+pub returns-in-Err-clause-kept_among : goal.returns-in-Err-clause-kept_among
+returns-in-Err-clause-kept_among g c = tt
+
+pub returns-in-Err-clause-delivers : goal.returns-in-Err-clause-delivers
+returns-in-Err-clause-delivers g c = λ _. tt
+
+pub returns-in-Err-clause-alone : goal.returns-in-Err-clause-alone
+returns-in-Err-clause-alone g c = λ _. tt
+
+pub returns-in-Err-clause-kept : goal.returns-in-Err-clause-kept
+returns-in-Err-clause-kept g c = λ _. tt
+
+pub returns-in-Err-clause-begins : goal.returns-in-Err-clause-begins
+returns-in-Err-clause-begins g c = c.play_steps.ensures.begins
+
+pub returns-in-Ok-clause-begins : goal.returns-in-Ok-clause-begins
+returns-in-Ok-clause-begins g c = c.play_steps.ensures.begins
+
+pub returns-in-Err-clause-faults : goal.returns-in-Err-clause-faults
+returns-in-Err-clause-faults g c = c.play_steps.ensures.faults
+
+pub returns-in-Ok-clause-faults : goal.returns-in-Ok-clause-faults
+returns-in-Ok-clause-faults g c = c.play_steps.ensures.faults
+
+pub returns-in-Err-clause-supplied : goal.returns-in-Err-clause-supplied
+returns-in-Err-clause-supplied g c = c.play_steps.ensures.supplied
+
+pub returns-in-Ok-clause-supplied : goal.returns-in-Ok-clause-supplied
+returns-in-Ok-clause-supplied g c = c.play_steps.ensures.supplied
+
+pub returns-in-Err-clause-hosts : goal.returns-in-Err-clause-hosts
+returns-in-Err-clause-hosts g c = c.play_steps.ensures.hosts
+
+pub returns-in-Ok-clause-hosts : goal.returns-in-Ok-clause-hosts
+returns-in-Ok-clause-hosts g c = c.play_steps.ensures.hosts
