@@ -1,6 +1,6 @@
 -- What an event and a cancel make of the end that they name: facts of one stream and its new end, from which
 -- all laws of such a step follow.
-use Rattle.std.proofs.Common.{◌≡◌, ℕ, Bool, true, false, cond, List, Option, Some, None, refl, sym, subst, inl, inr}
+use Rattle.std.proofs.Common.{◌≡◌, ℕ, Bool, true, false, cond, List, Option, Some, None, refl, sym, subst, ◌∙◌, inl, inr}
 use Rattle.std.specs.Prelude.{◌&&◌, not, ◌⊎◌, is_some, IsSomeAnd}
 use Rattle.std.specs.Option.{option_map}
 use Rattle.std.proofs.lemmas.Bool.{cond_both}
@@ -16,6 +16,8 @@ use Rattle.strm_machine.proofs.SideLemmas.{StreamKeeps, end_placed, with_end-kee
 use Rattle.strm_machine.proofs.SoundLemmas.{left_told, asked-placed}
 use Rattle.strm_machine.specs.Soundness.{IsUnmoved}
 use Rattle.strm_machine.proofs.TallyLemmas.{AreOne, unmoved_on, Tallies, one_on, count_reported-dropped}
+use Rattle.strm_machine.proofs.Ways.{HostsFrom}
+use Rattle.strm_machine.specs.declared.streams.Side.TheVariants.{Writing, Reading}
 
 -- ## What is known of an end that becomes another
 
@@ -147,3 +149,15 @@ cancelled_end-keeps false side sizes stream code h = told_end-keeps side sizes s
 pub cancelled-keeps : (side : Side) (sizes : List ℕ) (stream : Stream) → StreamIsPlaced sizes stream → StreamKeeps sizes stream (cancelled side stream)
 unfolding cancelled
 cancelled-keeps side sizes stream h = cancelled_end-keeps (waits_for_host side stream) side sizes stream (code_of_cancel side stream) h
+
+-- ## The write end of a host writer
+
+cancelled_end-owner : (b : Bool) (code : ReturnCode) (stream : Stream) → (cancelled_end b code stream.writer).owner ≡ stream.writer.owner
+cancelled_end-owner true code stream = refl
+cancelled_end-owner false code stream = refl
+
+pub cancelled-from : (side : Side) (stream : Stream) → HostsFrom stream (cancelled side stream)
+unfolding cancelled
+cancelled-from Writing stream n e =
+    (sym (cancelled_end-owner (waits_for_host Writing stream) (code_of_cancel Writing stream) stream) ∙ e, refl)
+cancelled-from Reading stream n e = (e, refl)

@@ -31,10 +31,10 @@ use Rattle.strm_machine.proofs.SetStepLemmas.{set_fits, set_new-shape, set-known
 use Rattle.strm_machine.proofs.ContextStepLemmas.{context_fits, context_new-shape, context-known}
 use Rattle.strm_machine.proofs.SideLemmas.{same_side_is}
 use Rattle.strm_machine.proofs.SoundLemmas.{placed_at, type_with-of}
-use Rattle.strm_machine.proofs.EndingLemmas.{told-becomes, cancelled-becomes}
+use Rattle.strm_machine.proofs.EndingLemmas.{told-becomes, cancelled-becomes, cancelled-from}
 use Rattle.strm_machine.proofs.MoveLemmas.{length-freed}
 use Rattle.strm_machine.proofs.Shapes.{stream_on, Operates, Owning, guests_freed, IsTaken, Owns, Shape, ByTurn, BySetting, ByOwner, ByPair, ByGuest, ByPut, ByRest, Known}
-use Rattle.strm_machine.proofs.Ways.{delivered-from, dropped-from, cancelled-from, held-from, loose-from, HostsFromIn, Turns, SetsOne, AddsOne, SetsNone, way-producers, way-from}
+use Rattle.strm_machine.proofs.Ways.{delivered-from, dropped-from, held-from, loose-from, HostsFromIn, Turns, SetsOne, AddsOne, SetsNone, way-producers, way-from}
 
 -- ## What is done to the end that is named
 

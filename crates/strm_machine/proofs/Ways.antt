@@ -1,6 +1,6 @@
 -- The few ways in which a step changes the streams, whatever the state; in none of them a host writer gets
 -- the write end of a stream.
-use Rattle.std.proofs.Common.{◌≡◌, ℕ, zero, suc, Bool, true, false, List, [], ◌∷◌, ◌++◌, get_or, set, Option, Some, None, refl, sym, ap, subst, ◌∙◌}
+use Rattle.std.proofs.Common.{◌≡◌, ℕ, zero, suc, Bool, List, [], ◌∷◌, ◌++◌, get_or, set, Option, Some, None, refl, sym, ap, subst, ◌∙◌}
 use Rattle.std.proofs.lemmas.Bool.{cond_both}
 use Rattle.strm_codes.specs.declared.codes.ReturnCode.{ReturnCode}
 use Rattle.strm_machine.specs.State.{State, Guest, no_stream, stream_at, is_gone}
@@ -8,7 +8,7 @@ use Rattle.strm_machine.specs.Sides.{opposite, same_side, end_of, with_operation
 use Rattle.strm_machine.specs.Meetings.{begun, advanced}
 use Rattle.strm_machine.specs.Moves.{with_owner}
 use Rattle.strm_machine.specs.Turns.{Turn, with_received, moves, completes_alone, rendezvous_by, learns, finds, turn}
-use Rattle.strm_machine.specs.Endings.{delivered, dropped, cancelled, cancelled_end, waits_for_host, code_of_cancel}
+use Rattle.strm_machine.specs.Endings.{delivered, dropped}
 use Rattle.strm_machine.specs.Tests.{named, stream_named, items_asked}
 use Rattle.strm_machine.specs.Reactions.{Reaction, goes, written_back, on_stream, operates}
 use Rattle.strm_machine.specs.Plays.{is_settled}
@@ -101,16 +101,6 @@ pub dropped-from : (side : Side) (stream : Stream) → HostsFrom stream (dropped
 unfolding dropped
 dropped-from Writing stream n e = cc
 dropped-from Reading stream n e = (e, refl)
-
-cancelled_end-owner : (b : Bool) (code : ReturnCode) (stream : Stream) → (cancelled_end b code stream.writer).owner ≡ stream.writer.owner
-cancelled_end-owner true code stream = refl
-cancelled_end-owner false code stream = refl
-
-pub cancelled-from : (side : Side) (stream : Stream) → HostsFrom stream (cancelled side stream)
-unfolding cancelled
-cancelled-from Writing stream n e =
-    (sym (cancelled_end-owner (waits_for_host Writing stream) (code_of_cancel Writing stream) stream) ∙ e, refl)
-cancelled-from Reading stream n e = (e, refl)
 
 pub held-from : (side : Side) (stream : Stream) (g handle : ℕ) → HostsFrom stream (with_owner side stream (Held g handle))
 held-from Writing stream g handle n e = cc
