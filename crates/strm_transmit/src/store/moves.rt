@@ -34,7 +34,6 @@ use strm_machine::acts::{EndAct, NamedEnd};
 use strm_machine::streams::{Owner, Side};
 use strm_turns::ends::{give_end, move_end, remove_end};
 use strm_turns::owners::set_owner;
-use strm_turns::sets::is_in_set;
 
 // Whether two kinds are the same.
 pub(crate) fn same_kind(one: TransmitKind, other: TransmitKind) -> bool
@@ -91,7 +90,7 @@ impl Store {
         requires { end.now.guest < length self.now.guests }
         ensures { result ≡ first_of (last_reasons self.now end.now Lift) }
     {
-        if is_in_set(&self.guests, end.guest as usize, end.handle) {
+        if self.is_in_set(end.guest, end.handle) {
             return Some(Refusal::LiftInSet);
         }
         None
