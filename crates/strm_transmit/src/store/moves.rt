@@ -130,19 +130,19 @@ impl Store {
     // The end that is named goes to a guest. After want of memory nothing has changed.
     fn move_named(
         &mut self,
-        named: (u32, Side),
+        found: (u32, Side),
         end: &NamedEnd,
         to: u32,
     ) -> Result<u32, StoreError>
         requires may { refusal self.old (Transfer end.now to) ≡ None }
-        requires named { named
+        requires found { found
             ≡ (stream_named (named self.old end.now), side_named (named self.old end.now)) }
         requires untrapped { self.old.trapped ≡ false }
         ensures meets { Meets self.old self.new (replied replies.Number result)
-            (transfers self.old named.0 named.1 end.now to) }
+            (transfers self.old found.0 found.1 end.now to) }
         ensures takes_no_memory { end.now.guest ≡ to → result ≢ Err StoreError.OutOfMemory }
     {
-        let (stream, side) = named;
+        let (stream, side) = found;
         let (guests, counter) = (&mut self.guests, &mut self.counter);
         let handle = move_end(guests, counter, side, end, to as usize, stream)?;
         let owner = Owner::Held { guest: to, handle };
@@ -160,7 +160,7 @@ impl Store {
         ensures takes_no_memory { end.now.guest ≡ to → result ≢ Err StoreError.OutOfMemory }
     {
         match self.admit(self.move_found(end, to)) {
-            Ok(named) => self.move_named(named, end, to),
+            Ok(found) => self.move_named(found, end, to),
             Err(error) => Err(error),
         }
     }
