@@ -1,0 +1,86 @@
+-- What a turn tells.
+use Rattle.std.proofs.Common.{◌≡◌, ◌≢◌, ℕ, ◌<◌, zero, suc, List, length, ◌++◌, ◌∷◌, [], cond, eqb, eq-eqb, Some, sym, ap, subst, ◌∙◌, refl, arith, Bool, true, false}
+use mathlib.Core.List.{IsPrefix}
+use Rattle.std.specs.List.{slice_index_or}
+use Rattle.atomic_table.specs.Seated.{TableId}
+use Rattle.strm_shared.specs.declared.entry.Entry.{Entry}
+use Rattle.strm_shared.specs.declared.entry.Place.{Place}
+use Rattle.strm_shared.specs.declared.entry.Wait.{Wait}
+use Rattle.strm_shared.specs.declared.view.View.{View}
+use Rattle.strm_shared.specs.Accounts.{Account, idled}
+use Rattle.strm_shared.specs.Histories.{IsLegal, calls_by}
+use Rattle.strm_shared.specs.Waits.{wait, waits_by, Has}
+use Rattle.strm_shared.specs.Plays.{looked, queued, own, own_waits, Enters}
+use Rattle.strm_shared.specs.Turns.{turned}
+use Rattle.strm_shared.specs.Tokens.{Token, token, Rests, Adds, Idles, last}
+use Rattle.strm_shared.proofs.HistoryLemmas.{calls_by-own, calls_by-other}
+
+adds_at : (z z' : TableId) (number t : ℕ) (v : View) (a b : Account) (e : Entry) → Rests number v → Enters v a → e.seat ≡ number → b.limits ≡ a.limits → b.log ≡ a.log ++ e ∷ [] → IsLegal b.limits b.log → t < last
+    → Adds a.log (token z number v) e (token z' number (turned v t a b))
+adds_at z z' number t v a b e rests enters by lim more legal few = record {
+  grew = enters.grew;
+  ends = more;
+  legal = subst (λ l. IsLegal l b.log) (lim ∙ enters.of_limits) legal;
+  mine = ap (λ n. own n b.log) rests.numbered ∙ (ap (calls_by number) more ∙ (calls_by-own number a.log e by ∙ ap (λ l. l ++ e ∷ []) (enters.made number rests.numbered).0));
+  own = ap (λ n. own n b.log) (sym rests.numbered);
+  over = (refl, λ k p i. let t = enters.over k p i in ap (calls_by p.0) more ∙ (calls_by-other p.0 a.log e (λ q. t.1 (rests.numbered ∙ ap Some (sym by ∙ q))) ∙ t.0));
+  top = few;
+}
+
+-- a turn of a seat: what the seat knew, found and left, and what it knows after it
+pub record OneTurn (number t : ℕ) (v w : View) (a b : Account) : Type 0 where
+  pub rests : Rests number v
+  pub enters : Enters v a
+  pub limits : b.limits ≡ a.limits
+  pub legal : IsLegal b.limits b.log
+  pub few : t < last
+  pub after : w ≡ turned v t a b
+
+-- a turn that made an entry
+pub adds : (old : Token) (z z' : TableId) (number t : ℕ) (v w : View) (a b : Account) (e : Entry) → token z number v ≡ old → OneTurn number t v w a b → e.seat ≡ number → b.log ≡ a.log ++ e ∷ []
+    → Adds a.log old e (token z' number w)
+adds old z z' number t v w a b e is turn by more =
+    subst (λ o. Adds a.log o e (token z' number w)) is
+    (subst (λ x. Adds a.log (token z number v) e (token z' number x)) (sym turn.after)
+    (adds_at z z' number t v a b e turn.rests turn.enters by turn.limits more turn.legal turn.few))
+
+-- where a seat waits for nothing, a wait is another's
+head_not_own : (b : Bool) (w : Wait) (hs : List Place) → cond b (w.place ∷ hs) hs ≡ [] → b ≡ false
+head_not_own true w hs e = absurd cc
+head_not_own false w hs e = refl
+
+tail_none : (b : Bool) (w : Wait) (hs : List Place) → cond b (w.place ∷ hs) hs ≡ [] → hs ≡ []
+tail_none true w hs e = absurd cc
+tail_none false w hs e = e
+
+not_own_at : (n m : ℕ) (h : Place) (k : ℕ) (ws : List Wait) → waits_by n ws ≡ [] → k < length ws → slice_index_or ws k (wait m h) ≡ wait m h → m ≢ n
+not_own_at n m h k [] none in-range is same = absurd (omega arith)
+not_own_at n m h zero (w ∷ ws) none in-range is same =
+    let theirs : w.seat ≡ n = ap (λ (x : Wait). x.seat) is ∙ same in absurd (cc (head_not_own (eqb w.seat n) w (waits_by n ws) none, eq-eqb w.seat n theirs))
+not_own_at n m h (suc k) (w ∷ ws) none in-range is same = not_own_at n m h k ws (tail_none (eqb w.seat n) w (waits_by n ws) none) (omega arith) is same
+
+pub not_own : (n m : ℕ) (h : Place) (ws : List Wait) → waits_by n ws ≡ [] → Has (wait m h) ws → m ≢ n
+not_own n m h ws none has = not_own_at n m h has.0 ws none has.1 has.2
+
+idles_at : (z z' : TableId) (number t : ℕ) (v : View) (a b : Account) → Rests number v → Enters v a → b.limits ≡ a.limits → b.log ≡ a.log → b.waits ≡ a.waits → IsLegal b.limits b.log → t < last → Idles (token z number v) (token z' number (turned v t a b))
+idles_at z z' number t v a b rests enters lim same waits legal few = let made = enters.made number rests.numbered in record {
+  grew = subst (IsPrefix v.seen) (sym same) enters.grew;
+  legal = subst (λ l. IsLegal l b.log) (lim ∙ enters.of_limits) legal;
+  mine = ap (λ n. own n b.log) rests.numbered ∙ (ap (calls_by number) same ∙ made.0);
+  own = ap (λ n. own n b.log) (sym rests.numbered);
+  over = (refl, λ k p i. ap (calls_by p.0) same ∙ (enters.over k p i).0);
+  turns = refl;
+  waits = (waits, ap (λ n. own_waits n b.waits) rests.numbered ∙ (ap (waits_by number) waits ∙ made.1));
+  top = few;
+}
+
+-- a turn that made none
+pub idles : (old : Token) (z z' : TableId) (number t : ℕ) (v w : View) (a b : Account) → token z number v ≡ old → OneTurn number t v w a b → b ≡ idled a → Idles old (token z' number w)
+idles old z z' number t v w a b is turn same =
+    subst (λ o. Idles o (token z' number w)) is
+    (subst (λ x. Idles (token z number v) (token z' number x)) (sym turn.after)
+    (idles_at z z' number t v a b turn.rests turn.enters turn.limits (ap (λ x. x.log) same) (ap (λ x. x.waits) same) turn.legal turn.few))
+
+-- the look and the draw change nothing of it
+pub enters_queued : (v : View) (t : ℕ) (a : Account) → Enters (queued (looked v t) t) a → Enters v a
+enters_queued v t a e = record { of_limits = e.of_limits; grew = e.grew; made = e.made; room = e.room; over = e.over }

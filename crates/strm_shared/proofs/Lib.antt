@@ -1,0 +1,11 @@
+pub mod StayLemmas
+pub mod ReachedLemmas
+pub mod HistoryLemmas
+pub mod WaitLemmas
+pub mod AloneLemmas
+pub mod TotalLemmas
+pub mod RuleLemmas
+pub mod CallLemmas
+pub mod SyncLemmas
+pub mod MoveLemmas
+pub mod CauseLemmas

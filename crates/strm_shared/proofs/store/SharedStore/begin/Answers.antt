@@ -1,0 +1,85 @@
+use Rattle.std.proofs.Common.{◌≡◌, Some, None, ap, ◌∙◌, ◌∷◌, subst, sym, refl, ⊎_elim, arith, [], true, inl, rules}
+use Rattle.strm_machine.specs.WaitableSets.{is_in_set}
+use Rattle.std.proofs.Common.{false}
+use Rattle.strm_shared.specs.Accounts.{idled}
+use Rattle.strm_shared.specs.Histories.{entry, state_of}
+use Rattle.strm_shared.specs.Waits.{wait, waits_by, begun}
+use Rattle.strm_shared.specs.Plays.{Seated, passed, own_waits, IsTurn}
+use Rattle.strm_shared.specs.Tokens.{token}
+use Rattle.strm_shared.specs.declared.view.View.{View}
+use Rattle.strm_shared.proofs.CallLemmas.{OneTurn, adds, idles}
+use Rattle.strm_shared.proofs.SyncLemmas.{begun_others, begun_own}
+use Rattle.strm_shared.proofs.store.SharedStore.begin.Goals as goal
+
+pub leave-requires-in-Ok-clause-turn : goal.leave-requires-in-Ok-clause-turn
+leave-requires-in-Ok-clause-turn g c =
+    let taken = c.in-Some.ensures.turn in
+    let numbered = c.requires.rests.0.numbered in
+    let b = c.begin.new.self in
+    let made = c.in-Ok.ensures.ok in
+    let n = c.args.number in
+    let P : Seated → Type 0 = λ m. (m.0.holds ≡ true) × (m.1 ≡ (0, None) ∷ []) × IsTurn m.0 b in
+    subst P (sym taken.1) (
+      refl,
+      refl,
+      (
+        ap (λ x. x.limits) made ∙ taken.2.of_limits,
+        inl (entry n c.args.step.now c.in-Ok.reply, numbered, ap (λ x. x.log) made, ap (λ x. x.idle) made),
+        λ k ne. ap (λ x. waits_by k x.waits) made ∙ begun_others k n c.args.place c.in-Ok.reply c.in-Some.desk.waits (λ e. ne (numbered ∙ ap Some e)),
+      ),
+    )
+
+pub returns-in-Ok-clause-ok : goal.returns-in-Ok-clause-ok
+returns-in-Ok-clause-ok g c =
+    let taken = c.in-Some.ensures.turn in
+    let v = c.args.seat.now.me.0 in
+    let a = c.in-Some.desk in
+    let b = c.begin.new.self in
+    let n = c.args.number in
+    let p = c.args.place in
+    let r = c.in-Ok.reply in
+    let w = c.leave-in-Ok.new.seat.me.0 in
+    let rests = c.requires.rests in
+    let made = c.in-Ok.ensures.ok in
+    let after = ap (λ (m : Seated). m.0) c.leave-in-Ok.ensures.passed ∙ ap (λ (m : Seated). passed m.0 b) taken.1 in
+    let found = ap (λ (x : View). x.found) after in
+    let unbound : v.waiting ≡ [] = ⊎_elim (λ e. e) (λ e. absurd (omega (arith, taken.3, taken.4, e))) rests.2 in
+    let none = (taken.2.made n rests.0.numbered).1 ∙ unbound in
+    let free : is_in_set (state_of a.limits a.log) p.guest p.handle ≡ false = search rules in
+    let limit = ap (λ (x : View). x.limits) after ∙ sym taken.2.of_limits in
+    let turn : OneTurn n taken.0 v w a b =
+    record { rests = rests.0; enters = taken.2; limits = ap (λ x. x.limits) made; legal = c.in-Ok.ensures.legal; few = taken.3; after = after } in (
+      ap (λ (x : View). x.waiting) after ∙ (ap (λ z. own_waits z b.waits) rests.0.numbered ∙ (ap (λ x. waits_by n x.waits) made ∙ begun_own n p r a.waits none)),
+      (
+        (
+          a.log,
+          adds (token c.args.seat.now.table_id n v) _ _ n taken.0 v w a b (entry n c.args.step.now r) refl turn refl (ap (λ x. x.log) made),
+          subst (λ l. is_in_set (state_of l a.log) p.guest p.handle ≡ false) (sym limit) free,
+        ),
+        ap (λ (x : View). x.turns) after,
+        ap (λ (x : View). x.left) after ∙ (ap (λ x. x.waits) made ∙ ap (λ ws. begun r ws (wait n p)) (sym found)),
+      ),
+    )
+
+pub returns-in-Err-clause-err : goal.returns-in-Err-clause-err
+returns-in-Err-clause-err g c =
+    let taken = c.in-Some.ensures.turn in
+    let v = c.args.seat.now.me.0 in
+    let a = c.in-Some.desk in
+    let b = c.pass_idle-in-Err.new.self in
+    let n = c.args.number in
+    let p = c.args.place in
+    let w = c.leave-in-Err.new.seat.me.0 in
+    let idle = c.pass_idle-in-Err.ensures.idle ∙ ap idled c.in-Err.ensures.err in
+    let after = ap (λ (m : Seated). m.0) c.leave-in-Err.ensures.passed ∙ ap (λ (m : Seated). passed m.0 b) taken.1 in
+    let free : is_in_set (state_of a.limits a.log) p.guest p.handle ≡ false = search rules in
+    let limit = ap (λ (x : View). x.limits) after ∙ sym taken.2.of_limits in
+    let seen = ap (λ (x : View). x.seen) after ∙ ap (λ x. x.log) idle in
+    let turn : OneTurn n taken.0 v w a b =
+    record { rests = c.requires.rests.0; enters = taken.2; limits = ap (λ x. x.limits) idle; legal = c.pass_idle-in-Err.ensures.legal; few = taken.3; after = after } in (
+      search rules,
+      (
+        idles (token c.args.seat.now.table_id n v) _ _ n taken.0 v w a b refl turn idle,
+        subst (λ l. is_in_set (state_of l w.seen) p.guest p.handle ≡ false) (sym limit) (subst (λ l. is_in_set (state_of a.limits l) p.guest p.handle ≡ false) (sym seen) free),
+      ),
+    )

@@ -1,0 +1,10 @@
+pub mod Histories
+pub mod Places
+pub mod Reaching
+pub mod Waits
+pub mod Accounts
+pub mod Rules
+pub mod Plays
+pub mod Tokens
+pub mod Turns
+pub mod Causes

@@ -1,0 +1,14 @@
+-- What is known of the state after a legal history. Ours.
+use Rattle.std.specs.Prelude.{◌≡◌, ℕ}
+use Rattle.strm_machine.specs.State.{State, producer_at}
+use Rattle.strm_machine.specs.Soundness.{IsSound}
+use Rattle.strm_machine.specs.Hosting.{HostsHold}
+use Rattle.strm_machine.specs.declared.streams.Duty.TheVariants.{Unused}
+use Rattle.strm_machine.proofs.HeldLemmas.{StateIsHeld}
+
+-- it is sound, handles and ends agree, and no host end has one
+pub record IsReached (state : State) : Type 0 where
+  pub sound : IsSound state
+  pub held : StateIsHeld state
+  pub hosts : HostsHold state
+  pub unused : (n : ℕ) → (producer_at state n).duty ≡ Unused

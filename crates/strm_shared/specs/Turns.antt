@@ -1,0 +1,20 @@
+-- A turn as a whole: what a seat knows in it and after it. Ours.
+use Rattle.std.specs.Prelude.{◌≡◌, ◌<◌, ◌≤◌, ℕ, [], ◌∷◌, None}
+use Rattle.strm_shared.specs.Accounts.{Account}
+use Rattle.strm_shared.specs.declared.view.View.{View}
+use Rattle.strm_shared.specs.Plays.{Seated, looked, queued, holding, passed, Enters}
+use Rattle.strm_shared.specs.Tokens.{last}
+
+-- the seat has the turn, and took the slot's value
+abbrev pub Taken : Seated → Account → Seated → Type 0
+Taken before found now =
+    (ticket : ℕ) × (now ≡ (holding (queued (looked before.0 ticket) ticket) found, (0, None) ∷ []))
+    × Enters before.0 found × (ticket < last) × (before.0.top_ticket ≤ ticket)
+
+-- no ticket was left
+abbrev pub OutOfTickets : Seated → Seated → Type 0
+OutOfTickets before now = now ≡ (looked before.0 last, before.1)
+
+-- a view after its turn, in which it drew a ticket, found a value and left another
+abbrev pub turned : View → ℕ → Account → Account → View
+turned view ticket found left = passed (holding (queued (looked view ticket) ticket) found) left

@@ -1,0 +1,113 @@
+//! Turns: a ticket, the wait for it, the slot's value, and the pass.
+//!
+//! Meaning: `Turns.antt`, of steps as `Plays.antt` tells them. Ours.
+
+ghost use Rattle.std.specs.Prelude.{◌≡◌, ◌-◌, ◌^◌, ◌<◌, ◌≤◌, [], ◌∷◌, true, false, None, Some, MatchOption};
+ghost use Rattle.strm_shared.specs.Plays.{looked, queued, holding, passed, Enters, IsTurn};
+ghost use Rattle.strm_shared.specs.Turns.{Taken, OutOfTickets};
+
+use crate::desk::Desk;
+use crate::rule::{Await, Draw, Look, Pass};
+use crate::seat::Inside;
+use crate::store::SharedStore;
+use std::sync::Wait;
+
+const TICKET: usize = 0;
+
+const SERVING: usize = 1;
+
+impl SharedStore {
+    // Draws a ticket. None where the last one is drawn.
+    fn draw<R: Wait>(&self, rt: &R, seat: &mut Inside) -> Option<u64>
+        requires id { seat.old.table_id ≡ self.now.table.shared.table_id }
+        requires rests { seat.old.me.0.ticket ≡ None }
+        ensures id { seat.new.table_id ≡ seat.old.table_id }
+        ensures drawn { MatchOption result
+            (seat.new.me ≡ (looked seat.old.me.0 (2 ^ 64 - 1), seat.old.me.1))
+            (λ t. (seat.new.me ≡ (queued (looked seat.old.me.0 t) t, seat.old.me.1)) × (t < 2 ^ 64 - 1)) }
+        ensures top { seat.old.me.0.top_ticket ≤ seat.new.me.0.top_ticket }
+    {
+        for _ in rt.forever() {
+            let found = self.table.shared.load::<Look>(seat, TICKET);
+            if found == u64::MAX {
+                return None;
+            }
+            let was = self
+                .table
+                .shared
+                .compare_exchange::<Draw>(seat, TICKET, found, found + 1);
+            if was == found {
+                return Some(found);
+            }
+        }
+        unreachable!()
+    }
+
+    // Takes the slot's value, where the turn has come.
+    fn look_at_turn(&self, seat: &mut Inside, ticket: u64) -> Option<Desk>
+        requires id { seat.old.table_id ≡ self.now.table.shared.table_id }
+        requires limits { seat.old.me.0.limits ≡ self.now.table.shared.key }
+        requires queues { (seat.old.me.0.ticket ≡ Some ticket) × (seat.old.me.0.holds ≡ false)
+            × (seat.old.me.1 ≡ []) }
+        ensures id { seat.new.table_id ≡ seat.old.table_id }
+        ensures turn { MatchOption result (seat.new.me ≡ seat.old.me) (λ desk.
+            (seat.new.me ≡ (holding seat.old.me.0 desk, (0, None) ∷ [])) × Enters seat.old.me.0 desk) }
+    {
+        if self.table.shared.load::<Await>(seat, SERVING) == ticket {
+            return Some(self.table.shared.exchange(seat, 0, None).unwrap());
+        }
+        None
+    }
+
+    // Waits for the turn, and takes the slot's value. The bell is not touched where the turn has come.
+    fn take<R: Wait>(&self, rt: &R, seat: &mut Inside, ticket: u64) -> Desk
+        requires id { seat.old.table_id ≡ self.now.table.shared.table_id }
+        requires limits { seat.old.me.0.limits ≡ self.now.table.shared.key }
+        requires queues { (seat.old.me.0.ticket ≡ Some ticket) × (seat.old.me.0.holds ≡ false)
+            × (seat.old.me.1 ≡ []) }
+        ensures id { seat.new.table_id ≡ seat.old.table_id }
+        ensures turn { seat.new.me ≡ (holding seat.old.me.0 result, (0, None) ∷ []) }
+        ensures enters { Enters seat.old.me.0 result }
+    {
+        if let Some(desk) = self.look_at_turn(seat, ticket) {
+            return desk;
+        }
+        for _ in rt.forever() {
+            let heard = self.bell.now(rt);
+            if let Some(desk) = self.look_at_turn(seat, ticket) {
+                self.bell.forget();
+                return desk;
+            }
+            self.bell.wait_past(rt, heard);
+        }
+        unreachable!()
+    }
+
+    // Draws a ticket, waits for the turn, and takes the slot's value. None where no ticket is left.
+    pub(crate) fn enter<R: Wait>(&self, rt: &R, seat: &mut Inside) -> Option<Desk>
+        requires id { seat.old.table_id ≡ self.now.table.shared.table_id }
+        requires limits { seat.old.me.0.limits ≡ self.now.table.shared.key }
+        requires rests { (seat.old.me.0.ticket ≡ None) × (seat.old.me.0.holds ≡ false)
+            × (seat.old.me.1 ≡ []) }
+        ensures id { seat.new.table_id ≡ seat.old.table_id }
+        ensures turn { MatchOption result (OutOfTickets seat.old.me seat.new.me)
+            (λ desk. Taken seat.old.me desk seat.new.me) }
+    {
+        let ticket = self.draw(rt, seat)?;
+        Some(self.take(rt, seat, ticket))
+    }
+
+    // Puts the value back, and passes the turn on.
+    pub(crate) fn leave<R: Wait>(&self, rt: &R, seat: &mut Inside, desk: Desk)
+        requires id { seat.old.table_id ≡ self.now.table.shared.table_id }
+        requires limits { seat.old.me.0.limits ≡ self.now.table.shared.key }
+        requires turn { (seat.old.me.0.holds ≡ true) × (seat.old.me.1 ≡ (0, None) ∷ [])
+            × IsTurn seat.old.me.0 desk }
+        ensures id { seat.new.table_id ≡ seat.old.table_id }
+        ensures passed { seat.new.me ≡ (passed seat.old.me.0 desk, []) }
+    {
+        drop(self.table.shared.exchange(seat, 0, Some(desk)));
+        self.table.shared.fetch_add::<Pass>(seat, SERVING, 1);
+        self.bell.ring(rt);
+    }
+}
