@@ -6,14 +6,11 @@ ghost use Rattle.strm_buffers.specs.AllTells.{tells_of};
 use std::alloc::Global;
 use std::test::Fail;
 use strm_buffers::hosts::Hosts;
-use strm_codes::codes::{ReturnCode, TransmitIndex};
+use strm_codes::codes::ReturnCode;
 use strm_codes::counts::ItemCount;
-use strm_codes::payloads::Payload;
 use strm_codes::refusals::Refusal;
-use strm_codes::scalars::Scalar;
 use strm_machine::chunks::Chunk;
 use strm_machine::replies::{Pair, Reply};
-use strm_machine::steps::Step;
 use strm_session::in_memory::{BytesSink, BytesSource};
 use strm_session::lists::{Counts, Replies};
 use strm_session::parsing::{ParseError, parse};
@@ -21,8 +18,6 @@ use strm_session::serving::serve;
 use strm_session::texts;
 use strm_session::texts::{bad_line_text, transcript_text};
 use strm_session::whole::{InputError, read_all, write_whole};
-
-const BYTES: TransmitIndex = TransmitIndex::Stream(Payload::One(Scalar::U8));
 
 // The answer to an input: 0 where its lines spell steps, else the number of the first bad line.
 fn bad_line(alloc: Global, bytes: &[u8]) -> Result<u32, Fail> {
@@ -169,49 +164,6 @@ fn lines_of_driven(alloc: Global, count: usize) -> Result<Vec<u8>, Fail> {
         bytes.extend_from_slice(b"driven\n")?;
     }
     Ok(bytes)
-}
-
-#[test]
-fn seven_lines_are_read(rt: HostRuntime) -> Result<(), Fail> {
-    let input = b"guest 16\nguest 16\npair 0 1 stream:u8\npoke 0 0 010203\n\
-        write 0 stream:u8 1 0 3\nread 1 stream:u8 1 0 3\ndump 1 0 3\n";
-    let steps = parse(rt.alloc(), input)?;
-    let (guest, ty, handle, address, count) = (0, BYTES, 1, 0, 3);
-    let expected = [
-        Step::Guest { size: 16 },
-        Step::Guest { size: 16 },
-        Step::Between {
-            writer: 0,
-            reader: 1,
-            ty,
-        },
-        Step::Poke {
-            guest,
-            address,
-            bytes: Chunk::new(&[1, 2, 3]).ok_or("a chunk")?,
-        },
-        Step::Write {
-            guest,
-            ty,
-            handle,
-            address,
-            count,
-        },
-        Step::Read {
-            guest: 1,
-            ty,
-            handle,
-            address,
-            count,
-        },
-        Step::Dump {
-            guest: 1,
-            address,
-            len: 3,
-        },
-    ];
-    assert!(rt; steps.as_slice() == expected.as_slice());
-    Ok(())
 }
 
 #[test]
