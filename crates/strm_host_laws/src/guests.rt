@@ -101,7 +101,7 @@ pub fn totals_are_counts()
 {}
 
 /// On each stream that no host writer made, what was received is, in order, exactly the first k items of
-/// each accepted write, k the count reported, each as the writer's memory held it just before it was
+/// each accepted write, k the count reported, each as its guest's memory held it just before it was
 /// copied, whatever host writers did on other streams. The reports of the reads speak of exactly as many
 /// items, those of either end count once each, and none speaks of more than its call asked for. What
 /// carries it: a read or write that has no report yet has moved what its operation says, and its next item

@@ -1,7 +1,7 @@
 -- Runs computed by what sets answer, and whether bytes are a text: what a map holds and what UTF-8 is do
 -- not compute, so each answer is given beside its step, and proved.
 use Rattle.std.proofs.Common.{◌≡◌, ℕ, Bool, cond, List, [], ◌∷◌, Option, Some, None, refl, ap, ◌∙◌}
-use Rattle.std.specs.Prelude.{◌++◌, map, not}
+use Rattle.std.specs.Prelude.{◌||◌, ◌++◌, map, not}
 use Rattle.std.specs.Str.{is_utf8}
 use Rattle.strm_codes.specs.declared.refusals.Refusal.{Refusal}
 use Rattle.strm_codes.specs.declared.refusals.Refusal.TheVariants as refusals
@@ -9,15 +9,15 @@ use Rattle.strm_machine.specs.Words.{act_of, State, Reaction, goes, Moment, firs
 use Rattle.strm_machine.specs.Tests.{is_unknown_guest, is_no_handle, are_bytes_out_of_bounds, are_places_full}
 use Rattle.strm_machine.specs.WaitableSets.{set_named, number_named, is_in_set, has_member, ready_in}
 use Rattle.strm_machine.specs.ErrorContexts.{is_message_too_long, message_in}
-use Rattle.strm_machine.specs.Refusals.{Reason, where_, slot_reasons, handle_more_reasons, handle_reasons, front_reasons, own_reasons, last_reasons, reasons, refusal}
+use Rattle.strm_machine.specs.Refusals.{Reason, where_, slot_reasons, handle_more_reasons, handle_reasons, front_reasons, leave_reasons, own_reasons, last_reasons, reasons, refusal}
 use Rattle.strm_machine.specs.Reactions.{polls, performs, unless_refused, reaction}
 use Rattle.strm_machine.specs.declared.acts.Making.TheVariants.{Context}
 use Rattle.strm_machine.specs.declared.acts.EndAct.{EndAct}
-use Rattle.strm_machine.specs.declared.acts.EndAct.TheVariants.{Move, Lift}
+use Rattle.strm_machine.specs.declared.acts.EndAct.TheVariants.{Lift}
 use Rattle.strm_machine.specs.declared.acts.SetAct.TheVariants as set_acts
 use Rattle.strm_machine.specs.declared.acts.NamedEnd.{NamedEnd}
 use Rattle.strm_machine.specs.declared.acts.Act.{Act}
-use Rattle.strm_machine.specs.declared.acts.Act.TheVariants.{Make, OnEnd, OnSet}
+use Rattle.strm_machine.specs.declared.acts.Act.TheVariants.{Make, OnEnd, Transfer, OnSet}
 use Rattle.strm_machine.specs.declared.streams.Side.{Side}
 use Rattle.strm_machine.specs.declared.steps.Step.{Step}
 use Rattle.strm_machine.specs.declared.replies.Reply.TheVariants as replies
@@ -40,8 +40,8 @@ pub data Question : Type 0 where
   AsksNothing : Question
 
 abbrev pub question_of : Act → Question
-question_of (OnEnd side end (Move to)) = InSet end.guest end.handle
 question_of (OnEnd side end Lift) = InSet end.guest end.handle
+question_of (Transfer end to) = InSet end.guest end.handle
 question_of (OnSet g set set_acts.Drop) = HasMember g set
 question_of (OnSet g set set_acts.Poll) = Ready g set
 question_of (Make (Context g address len)) = IsText g address len
@@ -70,18 +70,23 @@ answers_then state _ a more h = h
 -- ## A step by its answer
 
 abbrev pub last_by : Answer → State → NamedEnd → EndAct → List Reason
-last_by a state end (Move to) =
+last_by a state end Lift = where_ a.in_set refusals.LiftInSet ∷ []
+last_by a state end act = last_reasons state end act
+
+abbrev pub given_by : Answer → State → NamedEnd → ℕ → List Reason
+given_by a state end to =
     where_ a.in_set refusals.LiftInSet
     ∷ where_ (is_no_handle (next_in (without_handle state end.guest end.handle) to)) refusals.IndexOverflow
     ∷ []
-last_by a state end Lift = where_ a.in_set refusals.LiftInSet ∷ []
-last_by a state end act = last_reasons state end act
 
 abbrev pub reasons_by : Answer → State → Act → List Reason
 reasons_by a state (OnEnd side end act) =
     front_reasons state end act
     ++ ((handle_reasons (named state end) ++ own_reasons state side end act)
     ++ last_by a state end act)
+reasons_by a state (Transfer end to) =
+    where_ (is_unknown_guest state end.guest || is_unknown_guest state to) refusals.UnknownGuest
+    ∷ ((handle_reasons (named state end) ++ leave_reasons state end) ++ given_by a state end to)
 reasons_by a state (OnSet g set set_acts.Drop) =
     where_ (is_unknown_guest state g) refusals.UnknownGuest
     ∷ (slot_reasons (set_named state g set) ++ where_ a.has_member refusals.SetNotEmpty ∷ [])
@@ -106,13 +111,16 @@ reaction_by a state act =
     cond state.trapped (goes replies.StoreTrapped state) (unless_by a state act (first_of (reasons_by a state act)))
 
 last-by : (state : State) (side : Side) (end : NamedEnd) (act : EndAct) (a : Answer) → Gives state (OnEnd side end act) a → last_reasons state end act ≡ last_by a state end act
-last-by state side end (Move to) a e = ap (λ b. where_ b refusals.LiftInSet ∷ where_ (is_no_handle (next_in (without_handle state end.guest end.handle) to)) refusals.IndexOverflow ∷ []) e
 last-by state side end Lift a e = ap (λ b. where_ b refusals.LiftInSet ∷ []) e
 last-by state side end _ a e = refl
 
 reasons-by : (state : State) (act : Act) (a : Answer) → Gives state act a → reasons state act ≡ reasons_by a state act
 reasons-by state (OnEnd side end act) a e =
     ap (λ more. front_reasons state end act ++ ((handle_reasons (named state end) ++ own_reasons state side end act) ++ more)) (last-by state side end act a e)
+reasons-by state (Transfer end to) a e =
+    ap (λ b. where_ (is_unknown_guest state end.guest || is_unknown_guest state to) refusals.UnknownGuest
+    ∷ ((handle_reasons (named state end) ++ leave_reasons state end)
+    ++ where_ b refusals.LiftInSet ∷ where_ (is_no_handle (next_in (without_handle state end.guest end.handle) to)) refusals.IndexOverflow ∷ [])) e
 reasons-by state (OnSet g set set_acts.Drop) a e =
     ap (λ b. where_ (is_unknown_guest state g) refusals.UnknownGuest ∷ (slot_reasons (set_named state g set) ++ where_ b refusals.SetNotEmpty ∷ [])) e
 reasons-by state (Make (Context g address len)) a e =

@@ -9,5 +9,6 @@ pub mod Handles
 pub mod OtherBytes
 pub mod Answered
 pub mod Rows
+pub mod WriterRows
 pub mod SetRows
 pub mod ContextRows

@@ -244,11 +244,11 @@ account-by s run all =
     ap (λ ms. account_of s ms (last start (steps_of run))) (moments-by start run all)
     ∙ ap (account_of s (moments_by start run)) (last-state start run all)
 
-abbrev unset : Answer
+abbrev pub unset : Answer
 unset = record { in_set = false; has_member = false; ready = None; text = true }
 
 -- no handle is in a set
-abbrev apart : List Step → List Answered
+abbrev pub apart : List Step → List Answered
 apart run = map (λ step. record { step = step; answer = unset }) run
 
 -- a handle is in none of no sets, and in none of those that another left
@@ -374,8 +374,8 @@ account-lifted : account 0 lifted ≡ record {
 unfolding performs with_stream turn delivered dropped decode_from encode_from items stored decoded handed all_handed
 account-lifted = account-by 0 (apart lifted) gives-lifted
 
--- an end that goes to its own guest, which gets the number that was just freed and none freed before; and
--- ends that stay: the write end, one that has a read, and one that was told that its writer is gone
+-- both ends go to their own guest, and each gets the number that was just freed and none freed before; and
+-- ends that stay: one that has a read, and one that was told that its writer is gone
 abbrev staying : List Step
 staying =
     steps.Guest 4
@@ -397,7 +397,7 @@ gives-staying : AllGive start (apart staying)
 unfolding performs with_stream turn delivered dropped decode_from encode_from items stored cancelled
 gives-staying =
     let first = in_no_more _ 3 1 (in_none 1) in
-    let later = in_no_more _ 1 1 first in
+    let later = in_no_more _ 2 1 (in_no_more _ 1 1 first) in
     (first, (in_no_more _ 1 2 (in_no_more _ 3 2 (in_none 2)), (later, (later, (in_no_more _ 2 1 later, tt)))))
 
 replies_to-staying : replies_to staying ≡
@@ -406,7 +406,7 @@ replies_to-staying : replies_to staying ≡
     ∷ replies.Pair (record { read = 3; write = 4; stream = 1 })
     ∷ replies.Done
     ∷ replies.Number 1
-    ∷ replies.Refused refusals.WrongEnd
+    ∷ replies.Number 2
     ∷ replies.Refused refusals.UnknownGuest
     ∷ replies.Code Blocked
     ∷ replies.Refused refusals.Busy

@@ -18,12 +18,13 @@ ghost use Rattle.strm_machine.specs.Soundness.{IsSound, both_open, AreUnmoved};
 ghost use Rattle.strm_laws.specs.Laws.{AreSteps, Conserves, waiting, Stands, AreCounted, HandlesHold, HandlesAreSingle, MembersAreLive, ContextsCount};
 ghost use Rattle.strm_machine.specs.Untouched.{LieThere, StaysAside};
 
-/// On each stream, what was received is, in order, exactly the first k items of each accepted
-/// write, k the count reported, each as the writer's memory held it just before it was copied. The
-/// reports of the reads speak of exactly as many items, those of either end count once each, and
-/// none speaks of more than its call asked for. What carries it: a read or write that has no report
-/// yet has moved what its operation says, and its next item lies behind that. A future's Completed
-/// counts one item, and no other report of it any.
+/// On each stream, what was received is, in order, exactly the first k items of each accepted write, in the
+/// order of the writes of all guests that had the write end: k is the count reported, and each item is as
+/// the memory of the guest that made that write held it just before it was copied. The reports of the reads
+/// speak of exactly as many items, those of either end count once each, and none speaks of more than its
+/// call asked for. What carries it: a read or write that has no report yet has moved what its operation
+/// says, and its next item lies behind that. A future's Completed counts one item, and no other report of
+/// it any.
 pub fn conservation()
     ensures conserves { (tag : ℕ) (limits : Limits) (run : List Step) (s : ℕ) → AreSteps run →
         Conserves s (moments (empty tag limits) run) (last (empty tag limits) run) }

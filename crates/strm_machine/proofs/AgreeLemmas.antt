@@ -23,7 +23,7 @@ cases_both (inr n) q = inr (λ h. n h.0)
 -- ## What a handle names
 
 -- the answer is one end only
-is_end-once : (s k : ℕ) (a b : Side) (n : Name) → is_end s a n ≡ true → is_end k b n ≡ true → (s ≡ k) × (a ≡ b)
+pub is_end-once : (s k : ℕ) (a b : Side) (n : Name) → is_end s a n ≡ true → is_end k b n ≡ true → (s ≡ k) × (a ≡ b)
 is_end-once s k a b (Ok answer) e f =
     let p = and_parts (answer.0 == s) (same_side (side_of answer.1) a) e in
     let q = and_parts (answer.0 == k) (same_side (side_of answer.1) b) f in (

@@ -11,19 +11,20 @@ use Rattle.strm_codes.specs.declared.codes.TransmitIndex.TheVariants as index
 use Rattle.strm_memory.specs.Items.{is_number_or_none}
 use Rattle.strm_machine.specs.State.{memory_limit, guest_limit, stream_limit, handles_in_use, bytes_in_use}
 use Rattle.strm_machine.specs.Meetings.{begun}
-use Rattle.strm_machine.specs.Tests.{is_no_handle, are_handles_full, are_places_full, are_streams_full, is_memory_too_big, are_guests_full, is_unknown_guest, are_bytes_out_of_bounds, side_named, is_too_big, items_asked, is_out_of_bounds, is_busy, owes_value, is_open_of, is_within_one_guest, is_spent, is_unknown_reader, same_kind, is_of_other_kind, is_of_other_payload}
+use Rattle.strm_machine.specs.Tests.{is_no_handle, are_handles_full, are_places_full, are_streams_full, is_memory_too_big, are_guests_full, is_unknown_guest, are_bytes_out_of_bounds, side_named, is_too_big, items_asked, is_out_of_bounds, is_busy, owes_value, is_open_of, is_within_one_guest, is_unknown_reader, same_kind, is_of_other_kind, is_of_other_payload}
 use Rattle.strm_handles.specs.Handles.{handle_limit, next_index}
 use Rattle.strm_codes.specs.Counts.{count_limit}
 use Rattle.strm_machine.specs.Making.{writer_index}
 use Rattle.strm_codes.specs.Sameness.{same_payload}
 use Rattle.strm_codes.proofs.SamenessLemmas.{Decides-same_payload}
-use Rattle.strm_machine.specs.Refusals.{Reason, region_reasons, handle_reasons, end_reasons_of, slot_reasons, where_, side_reasons, own_reasons, last_reasons, on_end_reasons, bytes_reasons, refusal}
+use Rattle.strm_machine.specs.Refusals.{Reason, region_reasons, handle_reasons, end_reasons_of, slot_reasons, where_, side_reasons, leave_reasons_of, leave_reasons, own_reasons, last_reasons, given_reasons, on_end_reasons, bytes_reasons, refusal}
 use Rattle.strm_machine.specs.declared.acts.Making.TheVariants.{Guest, Between}
-use Rattle.strm_machine.specs.declared.acts.EndAct.TheVariants.{Drop, Move, Lift}
+use Rattle.strm_machine.specs.declared.acts.EndAct.TheVariants.{Drop, Lift}
 use Rattle.strm_machine.specs.declared.acts.LooseAct.TheVariants.{Lower, Close}
 use Rattle.strm_machine.specs.declared.acts.MemoryAct.TheVariants.{Dump}
-use Rattle.strm_machine.specs.declared.acts.Act.TheVariants.{Event}
+use Rattle.strm_machine.specs.declared.acts.Act.TheVariants.{Transfer, Event}
 use Rattle.strm_machine.specs.WaitableSets.{is_in_set}
+use Rattle.strm_machine.proofs.SideLemmas.{same_side-itself}
 use Rattle.strm_machine.proofs.TurnLemmas.{size_in}
 use Rattle.strm_machine.proofs.NameLemmas.{IsNameError, named_by-error}
 use Rattle.strm_handles.specs.declared.errors.HandleError.TheVariants as errors
@@ -220,17 +221,12 @@ drop_fits state side end e =
     let idle = not_refused (is_busy side stream) _ _ fits.1 in
     record { there = fits.0.there; found = fits.0.found; same = fits.0.same; idle = idle.0 }
 
-abbrev lift_reasons : State → Side → NamedEnd → List Reason
-lift_reasons state side end =
-    let stream = stream_at state (stream_named (named state end)) in
-    where_ (is_busy side stream) refusals.Busy ∷ where_ (is_spent side stream) refusals.LiftDropped ∷ []
-
 pub lift_fits : (state : State) (side : Side) (end : NamedEnd) → first_of (on_end_reasons state side end Lift) ≡ None → LeaveFits state side end
 lift_fits state side end e =
     let name = named state end in
     let guest = not_refused (is_unknown_guest state end.guest) _ _ e in
     let both = none_of_both (handle_reasons name ++ own_reasons state side end Lift) (last_reasons state end Lift) guest.1 in
-    let fits = side_fits state side end (lift_reasons state side end) both.0 in
+    let fits = side_fits state side end (leave_reasons_of (stream_at state (stream_named name)) side) both.0 in
     let idle = not_refused (is_busy side (stream_at state (stream_named name))) _ _ fits.rest in
     record { there = not_le (length state.guests) end.guest guest.0; found = fits.found; same = fits.same; idle = idle.0 }
 
@@ -240,18 +236,22 @@ pub record MoveFits (state : State) (side : Side) (end : NamedEnd) (to : ℕ) : 
   pub to_there : to < length state.guests
   pub number : next_in (without_handle state end.guest end.handle) to < handle_limit
 
-pub move_fits : (state : State) (side : Side) (end : NamedEnd) (to : ℕ) → first_of (on_end_reasons state side end (Move to)) ≡ None → MoveFits state side end to
-move_fits state side end to e =
+-- it may, whichever end the handle names
+pub move_fits : (state : State) (end : NamedEnd) (to : ℕ) → refusal state (Transfer end to) ≡ None → MoveFits state (side_named (named state end)) end to
+unfolding refusal
+move_fits state end to e =
     let name = named state end in
+    let side = side_named name in
+    let stream = stream_at state (stream_named name) in
     let first = not_refused (is_unknown_guest state end.guest || is_unknown_guest state to) _ _ e in
     let there = neither (is_unknown_guest state end.guest) (is_unknown_guest state to) first.0 in
-    let both = none_of_both (handle_reasons name ++ own_reasons state side end (Move to)) (last_reasons state end (Move to)) first.1 in
-    let fits = side_fits state side end (lift_reasons state side end) both.0 in
-    let idle = not_refused (is_busy side (stream_at state (stream_named name))) _ _ fits.rest in
+    let both = none_of_both (handle_reasons name ++ leave_reasons state end) (given_reasons state end to) first.1 in
+    let found = none_of_both (handle_reasons name) (leave_reasons state end) both.0 in
+    let idle = not_refused (is_busy side stream) _ _ found.1 in
     let apart = not_refused (is_in_set state end.guest end.handle) _ _ both.1 in
     let number = not_refused (is_no_handle (next_in (without_handle state end.guest end.handle) to)) _ _ apart.1 in
     record {
-      leaves = record { there = not_le (length state.guests) end.guest there.0; found = fits.found; same = fits.same; idle = idle.0 };
+      leaves = record { there = not_le (length state.guests) end.guest there.0; found = found.0; same = same_side-itself side; idle = idle.0 };
       to_there = not_le (length state.guests) to there.1;
       number = not_le handle_limit _ number.0;
     }

@@ -275,7 +275,7 @@ HoldSets-with guests g handles sets new h k =
 pub HoldSets-same : (guests others : List Guest) → ((g : ℕ) → (guest_in others g).handles ≡ (guest_in guests g).handles) → ((g : ℕ) → sets_in others g ≡ sets_in guests g) → HoldSets guests → HoldSets others
 HoldSets-same guests others e f h g = subst (λ t. HoldsSets t (sets_in others g)) (sym (e g)) (subst (HoldsSets (guest_in guests g).handles) (sym (f g)) (h g))
 
-sets-same : (guests others : List Guest) (g : ℕ) → sets_of others ≡ sets_of guests → sets_in others g ≡ sets_in guests g
+pub sets-same : (guests others : List Guest) (g : ℕ) → sets_of others ≡ sets_of guests → sets_in others g ≡ sets_in guests g
 sets-same guests others g e =
     sym (get_or-map (λ h. h.sets) others g no_guest) ∙ ap (λ l. get_or l g no_sets) e ∙ get_or-map (λ h. h.sets) guests g no_guest
 

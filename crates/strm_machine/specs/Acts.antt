@@ -3,14 +3,14 @@ use Rattle.std.specs.Prelude.{ℕ}
 use Rattle.strm_codes.specs.declared.codes.TransmitIndex.{TransmitIndex}
 use Rattle.strm_machine.specs.declared.acts.NamedEnd.{NamedEnd}
 use Rattle.strm_machine.specs.declared.acts.Making.TheVariants.{Guest, Between, Set, Context}
-use Rattle.strm_machine.specs.declared.acts.EndAct.TheVariants.{Operate, Drop, Cancel, Move, Lift}
+use Rattle.strm_machine.specs.declared.acts.EndAct.TheVariants.{Operate, Drop, Cancel, Lift}
 use Rattle.strm_machine.specs.declared.acts.LooseAct.TheVariants.{Lower, Close}
 use Rattle.strm_machine.specs.declared.acts.HostAct.TheVariants as host_acts
 use Rattle.strm_machine.specs.declared.acts.SetAct.TheVariants as set_acts
 use Rattle.strm_machine.specs.declared.acts.ContextAct.TheVariants as context_acts
 use Rattle.strm_machine.specs.declared.acts.MemoryAct.TheVariants.{Poke, Dump}
 use Rattle.strm_machine.specs.declared.acts.Act.{Act}
-use Rattle.strm_machine.specs.declared.acts.Act.TheVariants.{Make, OnEnd, OnLoose, OnHost, Drive, Event, OnSet, OnContext, OnMemory}
+use Rattle.strm_machine.specs.declared.acts.Act.TheVariants.{Make, OnEnd, Transfer, OnLoose, OnHost, Drive, Event, OnSet, OnContext, OnMemory}
 use Rattle.strm_machine.specs.declared.steps.Step.{Step}
 use Rattle.strm_machine.specs.declared.steps.Step.TheVariants as steps
 use Rattle.strm_machine.specs.declared.streams.Side.TheVariants.{Writing, Reading}
@@ -32,7 +32,7 @@ act_of (steps.DropWrite guest ty handle) = OnEnd Writing (end_named_by guest ty 
 act_of (steps.DropRead guest ty handle) = OnEnd Reading (end_named_by guest ty handle) Drop
 act_of (steps.CancelWrite guest ty handle) = OnEnd Writing (end_named_by guest ty handle) Cancel
 act_of (steps.CancelRead guest ty handle) = OnEnd Reading (end_named_by guest ty handle) Cancel
-act_of (steps.Move guest ty handle to) = OnEnd Reading (end_named_by guest ty handle) (Move to)
+act_of (steps.Move guest ty handle to) = Transfer (end_named_by guest ty handle) to
 act_of (steps.Lift guest ty handle) = OnEnd Reading (end_named_by guest ty handle) Lift
 act_of (steps.Lower reader guest ty) = OnLoose reader (Lower guest ty)
 act_of (steps.Close reader) = OnLoose reader Close

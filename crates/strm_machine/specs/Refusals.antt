@@ -22,7 +22,7 @@ use Rattle.strm_machine.specs.declared.acts.NamedEnd.{NamedEnd}
 use Rattle.strm_machine.specs.declared.acts.Making.{Making}
 use Rattle.strm_machine.specs.declared.acts.Making.TheVariants.{Guest, Between, Set, Context}
 use Rattle.strm_machine.specs.declared.acts.EndAct.{EndAct}
-use Rattle.strm_machine.specs.declared.acts.EndAct.TheVariants.{Operate, Drop, Cancel, Move, Lift}
+use Rattle.strm_machine.specs.declared.acts.EndAct.TheVariants.{Operate, Drop, Cancel, Lift}
 use Rattle.strm_machine.specs.declared.acts.LooseAct.{LooseAct}
 use Rattle.strm_machine.specs.declared.acts.LooseAct.TheVariants.{Lower, Close}
 use Rattle.strm_machine.specs.declared.acts.SetAct.{SetAct}
@@ -32,7 +32,7 @@ use Rattle.strm_machine.specs.declared.acts.ContextAct.TheVariants as context_ac
 use Rattle.strm_machine.specs.declared.acts.MemoryAct.{MemoryAct}
 use Rattle.strm_machine.specs.declared.acts.MemoryAct.TheVariants.{Poke, Dump}
 use Rattle.strm_machine.specs.declared.acts.Act.{Act}
-use Rattle.strm_machine.specs.declared.acts.Act.TheVariants.{Make, OnEnd, OnLoose, OnHost, Drive, Event, OnSet, OnContext, OnMemory}
+use Rattle.strm_machine.specs.declared.acts.Act.TheVariants.{Make, OnEnd, Transfer, OnLoose, OnHost, Drive, Event, OnSet, OnContext, OnMemory}
 
 -- a condition, and the refusal that it gives
 pub record Reason : Type 0 where
@@ -100,20 +100,16 @@ cancel_reasons_of stream side named =
     ∷ where_ (is_cancel_under_way side stream) refusals.CancelUnderWay
     ∷ [])
 
--- the end that is named in a move or a lift
-abbrev pub move_reasons_of : Stream → Side → Side → List Reason
-move_reasons_of stream side named =
-    side_reasons side named
-    (where_ (is_busy side stream) refusals.Busy
+-- the end on a side, which is to leave its guest
+abbrev pub leave_reasons_of : Stream → Side → List Reason
+leave_reasons_of stream side =
+    where_ (is_busy side stream) refusals.Busy
     ∷ where_ (is_spent side stream) refusals.LiftDropped
-    ∷ [])
+    ∷ []
 
--- what stands before the handle: for a read or write the guest, the count and the region, and for a
--- move both guests
+-- what stands before the handle: for a read or write the guest, the count and the region
 abbrev pub front_reasons : State → NamedEnd → EndAct → List Reason
 front_reasons state end (Operate address count) = region_reasons state end.guest end.ty address count
-front_reasons state end (Move to) =
-    where_ (is_unknown_guest state end.guest || is_unknown_guest state to) refusals.UnknownGuest ∷ []
 front_reasons state end _ = where_ (is_unknown_guest state end.guest) refusals.UnknownGuest ∷ []
 
 -- what stands behind it: the end that is named, by what is done to it
@@ -122,8 +118,7 @@ own_reasons_of stream side end (Operate address count) named =
     end_reasons_of stream side end.guest end.ty named
 own_reasons_of stream side end Drop named = drop_reasons_of stream side end.ty named
 own_reasons_of stream side end Cancel named = cancel_reasons_of stream side named
-own_reasons_of stream side end (Move to) named = move_reasons_of stream side named
-own_reasons_of stream side end Lift named = move_reasons_of stream side named
+own_reasons_of stream side end Lift named = side_reasons side named (leave_reasons_of stream side)
 
 -- the same, of the stream that the handle names
 abbrev pub own_reasons : State → Side → NamedEnd → EndAct → List Reason
@@ -131,14 +126,8 @@ own_reasons state side end act =
     own_reasons_of (stream_at state (stream_named (named state end))) side end act
     (side_named (named state end))
 
--- what stands last in a move or a lift: that the end is in a set, and then the number that a move
--- gives, once the handle is freed. A move leaves as many handles as there were, so that it meets no
--- limit on them
+-- what stands last in a lift: that the end is in a set
 abbrev pub last_reasons : State → NamedEnd → EndAct → List Reason
-last_reasons state end (Move to) =
-    where_ (is_in_set state end.guest end.handle) refusals.LiftInSet
-    ∷ where_ (is_no_handle (next_in (without_handle state end.guest end.handle) to)) refusals.IndexOverflow
-    ∷ []
 last_reasons state end Lift = where_ (is_in_set state end.guest end.handle) refusals.LiftInSet ∷ []
 last_reasons state end _ = []
 
@@ -148,6 +137,25 @@ on_end_reasons state side end act =
     front_reasons state end act
     ++ ((handle_reasons (named state end) ++ own_reasons state side end act)
     ++ last_reasons state end act)
+
+-- the end that a handle names, whichever of the two it is, which is to leave its guest
+abbrev pub leave_reasons : State → NamedEnd → List Reason
+leave_reasons state end =
+    leave_reasons_of (stream_at state (stream_named (named state end))) (side_named (named state end))
+
+-- what stands last in a move: that the end is in a set, and the number that it gets once its handle is
+-- freed. A move leaves as many handles as there were, so that it meets no limit on them
+abbrev pub given_reasons : State → NamedEnd → ℕ → List Reason
+given_reasons state end to =
+    where_ (is_in_set state end.guest end.handle) refusals.LiftInSet
+    ∷ where_ (is_no_handle (next_in (without_handle state end.guest end.handle) to)) refusals.IndexOverflow
+    ∷ []
+
+-- a move of an end: both guests, the handle, the end, and what stands last
+abbrev pub transfer_reasons : State → NamedEnd → ℕ → List Reason
+transfer_reasons state end to =
+    where_ (is_unknown_guest state end.guest || is_unknown_guest state to) refusals.UnknownGuest
+    ∷ ((handle_reasons (named state end) ++ leave_reasons state end) ++ given_reasons state end to)
 
 -- a stream whose read end is to be loose, and of a type
 abbrev pub reader_reasons : State → ℕ → TransmitIndex → List Reason
@@ -266,6 +274,7 @@ memory_reasons state g (Dump address len) = bytes_reasons state g address (min l
 abbrev pub reasons : State → Act → List Reason
 reasons state (Make making) = making_reasons state making
 reasons state (OnEnd side end act) = on_end_reasons state side end act
+reasons state (Transfer end to) = transfer_reasons state end to
 reasons state (OnLoose reader act) = on_loose_reasons state reader act
 reasons state (OnHost host act) = where_ true refusals.UnknownHost ∷ []
 reasons state Drive = []

@@ -56,8 +56,6 @@ pub enum EndAct {
     Drop,
     /// Its read or write is cancelled.
     Cancel,
-    /// It goes to another guest, or to the same under a new handle.
-    Move { to: u32 },
     /// It leaves its guest, and is loose.
     Lift,
 }
@@ -123,6 +121,12 @@ pub enum Act {
         side: Side,
         end: NamedEnd,
         act: EndAct,
+    },
+    /// The end that a guest's handle names, whichever of the two it is, goes to another guest, or to the
+    /// same under a new handle.
+    Transfer {
+        end: NamedEnd,
+        to: u32,
     },
     /// It does something to the loose read end of a stream, by the stream's number.
     OnLoose {
@@ -193,7 +197,10 @@ impl Act {
                 ty,
                 handle,
                 to,
-            } => on_reader(guest, ty, handle, EndAct::Move { to }),
+            } => Act::Transfer {
+                end: NamedEnd { guest, ty, handle },
+                to,
+            },
             Step::Lift { guest, ty, handle } => on_reader(guest, ty, handle, EndAct::Lift),
             Step::Lower { reader, guest, ty } => on_loose(reader, LooseAct::Lower { guest, ty }),
             Step::Close { reader } => on_loose(reader, LooseAct::Close),

@@ -64,8 +64,8 @@ pub enum Step {
         ty: TransmitIndex,
         handle: u32,
     },
-    /// A read end from one guest to another, which may be the same. Canonical ABI, `lift_stream` and
-    /// `lower_stream` of a call from one component to another.
+    /// An end, read or write, from one guest to another, which may be the same. Canonical ABI,
+    /// `lift_stream` and `lower_stream` of a call from one component to another; of a write end ours.
     Move {
         guest: u32,
         ty: TransmitIndex,

@@ -25,10 +25,10 @@ abbrev pub IsRun : List (List ℕ) → Type 0
 IsRun words = words ≡ codes "run" ∷ []
 
 -- the text of the machine's play on the steps that the lines of an input spell, and on the records that
--- host ends added, exactly those; the laws of every run hold of it. Of guests alone it is the machine's without host ends, and on each
--- stream what was received in it is, in order, the first k items of each accepted write, k the count
--- reported, each as it lay in the writer's memory just before it was copied, and as many as the reads
--- report
+-- host ends added, exactly those; the laws of every run hold of it. Of guests alone it is the machine's
+-- without host ends, and on each stream what was received in it is, in order, the first k items of each
+-- accepted write, k the count reported, each as it lay in its guest's memory just before it was copied,
+-- and as many as the reads report
 pub record IsTranscript (old new : Tells) (input text : List ℕ) : Type 0 where
   pub steps : List Step
   pub spelled : Spells (lines_of input) steps

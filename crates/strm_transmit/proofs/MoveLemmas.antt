@@ -9,14 +9,13 @@ use Rattle.strm_sets.specs.Sets.{left}
 use Rattle.strm_machine.specs.State.{State, sets_in, no_stream, stream_at, is_loose, is_host, is_live, sets_in_use}
 use Rattle.strm_machine.specs.Sides.{end_of}
 use Rattle.strm_machine.specs.Moves.{without_handle, next_in, with_owner}
-use Rattle.strm_machine.specs.Tests.{named, end_named, stream_named}
+use Rattle.strm_machine.specs.Tests.{named, end_named, stream_named, side_named}
 use Rattle.strm_machine.specs.Refusals.{refusal}
 use Rattle.strm_machine.specs.Reactions.{Reaction, goes, transfers, lowers, performs}
 use Rattle.strm_machine.specs.Soundness.{sizes_of, IsSound}
 use Rattle.strm_machine.specs.declared.acts.NamedEnd.{NamedEnd}
 use Rattle.strm_machine.specs.declared.acts.Act.{Act}
-use Rattle.strm_machine.specs.declared.acts.Act.TheVariants.{OnEnd, OnLoose}
-use Rattle.strm_machine.specs.declared.acts.EndAct.TheVariants.{Move}
+use Rattle.strm_machine.specs.declared.acts.Act.TheVariants.{Transfer, OnLoose}
 use Rattle.strm_machine.specs.declared.acts.LooseAct.TheVariants.{Lower, Close}
 use Rattle.strm_machine.specs.declared.replies.Reply.TheVariants as replies
 use Rattle.strm_machine.specs.declared.streams.Owner.{Owner}
@@ -26,7 +25,7 @@ use Rattle.strm_machine.specs.declared.streams.Side.TheVariants.{Writing, Readin
 use Rattle.strm_machine.specs.declared.streams.Stream.{Stream}
 use Rattle.strm_machine.proofs.EndLemmas.{Unchanged}
 use Rattle.strm_machine.proofs.HostLemmas.{no_host}
-use Rattle.strm_machine.proofs.ReactionLemmas.{reaction-performs, refusal-on_end}
+use Rattle.strm_machine.proofs.ReactionLemmas.{reaction-performs}
 use Rattle.strm_machine.proofs.RefusalLemmas.{move_fits, lower_fits, close_fits}
 use Rattle.strm_machine.proofs.SoundLemmas.{IsSound-set, IsSound-freed, sizes_of-with_table, sizes_of-with_handles}
 use Rattle.strm_machine.proofs.SoundStepLemmas.{reaction-sound}
@@ -120,25 +119,25 @@ pub record GivesHandle (old new : Inside) (side : Side) (ty : TransmitIndex) (to
 performs-sound : (state : State) (act : Act) → state.trapped ≡ false → refusal state act ≡ None → IsSound state → IsSound (performs state act).state
 performs-sound state act t e h = subst (λ (r : Reaction). IsSound r.state) (reaction-performs state act t e) (reaction-sound state act h)
 
-transfers-sound : (state : State) (side : Side) (end : NamedEnd) (to s : ℕ) → state.trapped ≡ false → refusal state (OnEnd side end (Move to)) ≡ None → s ≡ stream_named (named state end) → IsSound state → IsSound (transfers state s side end to).state
+transfers-sound : (state : State) (side : Side) (end : NamedEnd) (to s : ℕ) → state.trapped ≡ false → refusal state (Transfer end to) ≡ None → s ≡ stream_named (named state end) → side ≡ side_named (named state end) → IsSound state → IsSound (transfers state s side end to).state
 unfolding performs
-transfers-sound state side end to s t e same h = rw same (performs-sound state (OnEnd side end (Move to)) t e h)
+transfers-sound state side end to s t e stream_is side_is h = rw (stream_is, side_is) (performs-sound state (Transfer end to) t e h)
 
 lowers-sound : (state : State) (reader g : ℕ) (ty : TransmitIndex) → state.trapped ≡ false → refusal state (OnLoose reader (Lower g ty)) ≡ None → IsSound state → IsSound (lowers state reader g ty).state
 unfolding performs
 lowers-sound state reader g ty t e h = performs-sound state (OnLoose reader (Lower g ty)) t e h
 
 -- its stream was made
-moved_made : (state : State) (side : Side) (end : NamedEnd) (to s : ℕ) → refusal state (OnEnd side end (Move to)) ≡ None → s ≡ stream_named (named state end) → IsSound state → s < length state.streams
-moved_made state side end to s e same h = named_made state side end s h (move_fits state side end to (sym (refusal-on_end state side end (Move to)) ∙ e)).leaves same
+moved_made : (state : State) (end : NamedEnd) (to s : ℕ) → refusal state (Transfer end to) ≡ None → s ≡ stream_named (named state end) → IsSound state → s < length state.streams
+moved_made state end to s e same h = named_made state (side_named (named state end)) end s h (move_fits state end to e).leaves same
 
 -- the end of a stream went to a guest, under this handle
 module _ (old new : Inside) (s : ℕ) (side : Side) (end : NamedEnd) (to number : ℕ) (o : SetsOwner old new s side (Held to number)) (m : MovesHandle old new side end to s) (n : number ≡ next_in (without_handle (state_of old) end.guest end.handle) to) where
   pub transfers-is : transfers (state_of old) s side end to ≡ goes (replies.Number number) (state_of new)
   transfers-is = rw (o.same.tag, o.same.limits, o.same.producers, o.same.contexts, o.same.trapped, m.guests, o.streams, n) refl
 
-  pub IsStore-moved : old.is_trapped ≡ false → refusal (state_of old) (OnEnd side end (Move to)) ≡ None → s ≡ stream_named (named (state_of old) end) → IsStore old → IsStore new
-  IsStore-moved t e same i =
+  pub IsStore-moved : old.is_trapped ≡ false → refusal (state_of old) (Transfer end to) ≡ None → s ≡ stream_named (named (state_of old) end) → side ≡ side_named (named (state_of old) end) → IsStore old → IsStore new
+  IsStore-moved t e stream_is side_is i =
       let guests = seen old.guests.items in
       let freed = without_handle_in guests end.guest end.handle in
       IsStore-counted old new
@@ -148,8 +147,8 @@ module _ (old new : Inside) (s : ℕ) (side : Side) (end : NamedEnd) (to number 
         sizes = ap sizes_of m.guests ∙ sizes_of-with_handles freed to _ ∙ sizes_of-with_table guests end.guest _ _;
         bytes = o.bytes;
       })
-      (counts old new s side (Held to number) (moved_made (state_of old) side end to s e same i.sound) refl o i)
-      (subst (λ (r : Reaction). IsSound r.state) transfers-is (transfers-sound (state_of old) side end to s t e same i.sound)) i
+      (counts old new s side (Held to number) (moved_made (state_of old) end to s e stream_is i.sound) refl o i)
+      (subst (λ (r : Reaction). IsSound r.state) transfers-is (transfers-sound (state_of old) side end to s t e stream_is side_is i.sound)) i
 
 -- ## Loose ends
 

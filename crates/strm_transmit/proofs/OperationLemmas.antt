@@ -84,7 +84,12 @@ end_refused xs ys found wanted r value e f =
     then_refused xs (ys wanted.0 wanted.1) found wanted r value e
     (f ∙ ap (λ (q : ℕ × Side). first_of (ys q.0 q.1)) (found_ok (first_of xs) found wanted e).same)
 
--- and no refusal of it
+-- and no refusal of it: both are known, or the stream alone is asked for
+pub end_known : (xs : List Reason) (ys : ℕ → Side → List Reason) (found wanted : FoundEnd) → Ok found ≡ or_found (first_of xs) wanted → None ≡ first_of (ys found.0 found.1) → Ok found ≡ or_found (first_of (xs ++ ys wanted.0 wanted.1)) wanted
+end_known xs ys found wanted e f =
+    let p = found_ok (first_of xs) found wanted e in
+    both_none xs (ys wanted.0 wanted.1) found wanted e (f ∙ ap (λ (q : ℕ × Side). first_of (ys q.0 q.1)) p.same)
+
 pub end_found : (xs : List Reason) (ys : ℕ → Side → List Reason) (found wanted : FoundEnd) → Ok found ≡ or_found (first_of xs) wanted → None ≡ first_of (ys found.0 found.1) → Ok found.0 ≡ or_found (first_of (xs ++ ys wanted.0 wanted.1)) wanted.0
 end_found xs ys found wanted e f =
     let p = found_ok (first_of xs) found wanted e in

@@ -6,9 +6,8 @@ use Rattle.strm_machine.specs.Acts.{act_of}
 use Rattle.strm_machine.specs.State.{State}
 use Rattle.strm_machine.specs.Reactions.{Reaction, goes}
 use Rattle.strm_machine.specs.declared.acts.Act.{Act}
-use Rattle.strm_machine.specs.declared.acts.Act.TheVariants.{Make, OnEnd, OnLoose, OnHost, OnSet, OnContext}
+use Rattle.strm_machine.specs.declared.acts.Act.TheVariants.{Make, Transfer, OnLoose, OnHost, OnSet, OnContext}
 use Rattle.strm_machine.specs.declared.acts.ContextAct.TheVariants as context_acts
-use Rattle.strm_machine.specs.declared.acts.EndAct.TheVariants.{Move}
 use Rattle.strm_machine.specs.declared.acts.LooseAct.TheVariants.{Lower}
 use Rattle.strm_machine.specs.declared.acts.SetAct.TheVariants.{Join}
 use Rattle.strm_machine.specs.declared.steps.Step.{Step}
@@ -69,7 +68,7 @@ refused_too (Ok reply) = Ok reply
 -- same act, gives a set a member, or acts on a host writer
 abbrev pub act_takes_memory : Act → Bool
 act_takes_memory (Make making) = true
-act_takes_memory (OnEnd side end (Move to)) = not (end.guest == to)
+act_takes_memory (Transfer end to) = not (end.guest == to)
 act_takes_memory (OnLoose reader (Lower guest ty)) = true
 act_takes_memory (OnHost host act) = true
 act_takes_memory (OnSet guest set (Join handle)) = true

@@ -89,6 +89,7 @@ fn perform(store: &mut Store, hosts: &mut Hosts, act: &Act) -> Result<Reply, Sto
     match act {
         Act::Make { making } => make(store, *making),
         Act::OnEnd { side, end, act } => on_end(store, hosts, *side, end, *act),
+        Act::Transfer { end, to } => transfer(store, end, *to),
         Act::OnLoose { reader, act } => on_loose(store, hosts, *reader, *act),
         Act::OnHost { host, act } => on_host(store, hosts, *host, act),
         Act::Drive => store.drive_once(hosts).map(done),
@@ -134,13 +135,13 @@ fn cancel(store: &mut Store, side: Side, end: &NamedEnd) -> Result<Reply, StoreE
 }
 
 // An end goes to a guest.
-fn transfer(store: &mut Store, side: Side, end: &NamedEnd, to: u32) -> Result<Reply, StoreError>
+fn transfer(store: &mut Store, end: &NamedEnd, to: u32) -> Result<Reply, StoreError>
     ensures meets { Meets store.old store.new result
-        (reaction store.old (acts.OnEnd side end.now (end_acts.Move to))) }
+        (reaction store.old (acts.Transfer end.now to)) }
     ensures settled { IfOk result (λ reply. IsTrue (is_settled reply)) }
     ensures takes_no_memory { end.now.guest ≡ to → result ≢ Err StoreError.OutOfMemory }
 {
-    store.move_side(side, end, to).map(Reply::Number)
+    store.transfer(end, to).map(Reply::Number)
 }
 
 // An end leaves its guest.
@@ -181,7 +182,6 @@ fn on_end(
         }
         EndAct::Drop => store.drop_side(hosts, side, end).map(done),
         EndAct::Cancel => cancel(store, side, end),
-        EndAct::Move { to } => transfer(store, side, end, to),
         EndAct::Lift => lift(store, side, end),
     }
 }

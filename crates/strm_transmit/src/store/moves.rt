@@ -9,12 +9,12 @@ ghost use Rattle.strm_codes.specs.declared.codes.TransmitIndex.TheVariants as in
 ghost use Rattle.strm_buffers.specs.AllTells.{tells_of};
 ghost use Rattle.strm_machine.specs.Acts.{act_of};
 ghost use Rattle.strm_machine.specs.State.{stream_at, is_host};
-ghost use Rattle.strm_machine.specs.Tests.{named, stream_named, same_kind, is_unknown_reader};
+ghost use Rattle.strm_machine.specs.Tests.{named, stream_named, side_named, same_kind, is_unknown_reader};
 ghost use Rattle.strm_machine.specs.Moves.{without_handle, next_in, with_owner};
-ghost use Rattle.strm_machine.specs.Refusals.{refusal, first_of, last_reasons};
+ghost use Rattle.strm_machine.specs.Refusals.{refusal, first_of, last_reasons, given_reasons};
 ghost use Rattle.strm_machine.specs.Reactions.{transfers, lowers, with_stream_at, react, reaction};
-ghost use Rattle.strm_machine.specs.declared.acts.Act.TheVariants.{OnEnd, OnLoose};
-ghost use Rattle.strm_machine.specs.declared.acts.EndAct.TheVariants.{Move, Lift};
+ghost use Rattle.strm_machine.specs.declared.acts.Act.TheVariants.{OnEnd, Transfer, OnLoose};
+ghost use Rattle.strm_machine.specs.declared.acts.EndAct.TheVariants.{Lift};
 ghost use Rattle.strm_machine.specs.declared.acts.LooseAct.TheVariants.{Lower, Close};
 ghost use Rattle.strm_machine.specs.declared.replies.Reply.TheVariants as replies;
 ghost use Rattle.strm_machine.specs.declared.steps.Step.TheVariants as steps;
@@ -34,7 +34,6 @@ use strm_machine::acts::{EndAct, NamedEnd};
 use strm_machine::streams::{Owner, Side};
 use strm_turns::ends::{give_end, move_end, remove_end};
 use strm_turns::owners::set_owner;
-use strm_turns::sets::is_in_set;
 
 // Whether two kinds are the same.
 pub(crate) fn same_kind(one: TransmitKind, other: TransmitKind) -> bool
@@ -91,7 +90,7 @@ impl Store {
         requires { end.now.guest < length self.now.guests }
         ensures { result ≡ first_of (last_reasons self.now end.now Lift) }
     {
-        if is_in_set(&self.guests, end.guest as usize, end.handle) {
+        if self.is_in_set(end.guest, end.handle) {
             return Some(Refusal::LiftInSet);
         }
         None
@@ -101,7 +100,7 @@ impl Store {
     fn move_refusal(&self, end: &NamedEnd, to: u32) -> Option<Refusal>
         requires from { end.now.guest < length self.now.guests }
         requires to { to < length self.now.guests }
-        ensures { result ≡ first_of (last_reasons self.now end.now (Move to)) }
+        ensures { result ≡ first_of (given_reasons self.now end.now to) }
     {
         match self.lift_refusal(end) {
             None if self.moved_index(end, to) >= MAX_HANDLE => Some(Refusal::IndexOverflow),
@@ -109,19 +108,20 @@ impl Store {
         }
     }
 
-    // The stream whose end a handle of a guest names, where that end may go to another guest.
+    // The stream and the side of the end that a handle of a guest names, where that end may go to another
+    // guest.
     #[tactic(auto, unfolding(strm_machine::specs::Refusals::refusal))]
-    fn move_found(&self, side: Side, end: &NamedEnd, to: u32) -> Result<u32, Refusal>
-        ensures { result ≡ or_found (refusal self.now (OnEnd side end.now (Move to)))
-            (stream_named (named self.now end.now)) }
+    fn move_found(&self, end: &NamedEnd, to: u32) -> Result<(u32, Side), Refusal>
+        ensures { result ≡ or_found (refusal self.now (Transfer end.now to))
+            (stream_named (named self.now end.now), side_named (named self.now end.now)) }
     {
         if self.is_unknown_guest(end.guest) || self.is_unknown_guest(to) {
             return Err(Refusal::UnknownGuest);
         }
-        match self.found(side, end, EndAct::Move { to }) {
-            Ok(stream) => match self.move_refusal(end, to) {
+        match self.leaving(end) {
+            Ok(named) => match self.move_refusal(end, to) {
                 Some(refusal) => Err(refusal),
-                None => Ok(stream),
+                None => Ok(named),
             },
             Err(refusal) => Err(refusal),
         }
@@ -130,18 +130,19 @@ impl Store {
     // The end that is named goes to a guest. After want of memory nothing has changed.
     fn move_named(
         &mut self,
-        side: Side,
+        found: (u32, Side),
         end: &NamedEnd,
         to: u32,
-        stream: u32,
     ) -> Result<u32, StoreError>
-        requires may { refusal self.old (OnEnd side end.now (Move to)) ≡ None }
-        requires stream { stream ≡ stream_named (named self.old end.now) }
+        requires may { refusal self.old (Transfer end.now to) ≡ None }
+        requires found { found
+            ≡ (stream_named (named self.old end.now), side_named (named self.old end.now)) }
         requires untrapped { self.old.trapped ≡ false }
         ensures meets { Meets self.old self.new (replied replies.Number result)
-            (transfers self.old stream side end.now to) }
+            (transfers self.old found.0 found.1 end.now to) }
         ensures takes_no_memory { end.now.guest ≡ to → result ≢ Err StoreError.OutOfMemory }
     {
+        let (stream, side) = found;
         let (guests, counter) = (&mut self.guests, &mut self.counter);
         let handle = move_end(guests, counter, side, end, to as usize, stream)?;
         let owner = Owner::Held { guest: to, handle };
@@ -150,29 +151,24 @@ impl Store {
         Ok(handle)
     }
 
-    /// The end that a handle names goes to another guest, or to the same: its handle is freed, and
-    /// the answer is the one that it gets there.
-    pub(crate) fn move_side(
-        &mut self,
-        side: Side,
-        end: &NamedEnd,
-        to: u32,
-    ) -> Result<u32, StoreError>
+    /// The end that a handle names, whichever of the two it is, goes to another guest, or to the same:
+    /// its handle is freed, and the answer is the one that it gets there.
+    pub(crate) fn transfer(&mut self, end: &NamedEnd, to: u32) -> Result<u32, StoreError>
         ensures meets { Meets self.old self.new (replied replies.Number result)
-            (reaction self.old (OnEnd side end.now (Move to))) }
+            (reaction self.old (Transfer end.now to)) }
         ensures fits { StillFits self.old self.new }
         ensures takes_no_memory { end.now.guest ≡ to → result ≢ Err StoreError.OutOfMemory }
     {
-        match self.admit(self.move_found(side, end, to)) {
-            Ok(stream) => self.move_named(side, end, to, stream),
+        match self.admit(self.move_found(end, to)) {
+            Ok(found) => self.move_named(found, end, to),
             Err(error) => Err(error),
         }
     }
 
-    /// Moves the read end of a stream to another guest, or to the same: its handle is freed, and the
-    /// answer is the one that it gets there. Refused, after what is wrong with the guests and the
-    /// handle, are a busy end, one that was told that the write end is gone, one that is in a waitable
-    /// set, and a table without a number left.
+    /// Moves an end of a stream, the reading or the writing one, to another guest, or to the same: its
+    /// handle is freed, and the answer is the one that it gets there. Refused, after what is wrong with
+    /// the guests and the handle, are a busy end, one that was told that the other end is gone, one that
+    /// is in a waitable set, and a table without a number left.
     pub fn stream_transfer(
         &mut self,
         guest: u32,
@@ -187,11 +183,11 @@ impl Store {
     {
         let ty = TransmitIndex::Stream(payload);
         let end = NamedEnd { guest, ty, handle };
-        self.move_side(Side::Reading, &end, to)
+        self.transfer(&end, to)
     }
 
-    /// Moves the read end of a future to another guest, or to the same. Refused as `stream_transfer`
-    /// is, and once its value has passed.
+    /// Moves an end of a future to another guest, or to the same. Refused as `stream_transfer` is, and
+    /// once its value has passed.
     pub fn future_transfer(
         &mut self,
         guest: u32,
@@ -206,7 +202,7 @@ impl Store {
     {
         let ty = TransmitIndex::Future(payload);
         let end = NamedEnd { guest, ty, handle };
-        self.move_side(Side::Reading, &end, to)
+        self.transfer(&end, to)
     }
 
     // The stream whose end a handle of a guest names, where that end may leave its guest.

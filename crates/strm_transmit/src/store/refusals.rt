@@ -9,7 +9,7 @@ ghost use Rattle.strm_codes.specs.declared.refusals.Refusal.TheVariants as refus
 ghost use Rattle.strm_memory.specs.Items.{is_number_or_none};
 ghost use Rattle.strm_machine.specs.State.{stream_at};
 ghost use Rattle.strm_machine.specs.Tests.{named, stream_named, side_named, side_of, has_ended, owes_value, is_cancel_under_way, is_spent, is_within_one_guest};
-ghost use Rattle.strm_machine.specs.Refusals.{first_of, ended_refusal, handle_reasons, end_reasons_of, own_reasons_of, own_reasons};
+ghost use Rattle.strm_machine.specs.Refusals.{first_of, ended_refusal, handle_reasons, end_reasons_of, leave_reasons_of, leave_reasons, own_reasons_of, own_reasons};
 ghost use Rattle.strm_machine.proofs.NameLemmas.{IsNameError};
 ghost use Rattle.strm_transmit.specs.Meets.{or_found};
 
@@ -149,6 +149,20 @@ fn is_spent(side: Side, stream: &Stream) -> bool
     end_of(stream, side).told || stream.passed
 }
 
+// Why an end may not leave its guest now.
+#[inline(always)]
+fn leave_refusal(side: Side, stream: &Stream) -> Option<Refusal>
+    ensures { result ≡ first_of (leave_reasons_of stream.now side) }
+{
+    if is_busy(side, stream) {
+        return Some(Refusal::Busy);
+    }
+    if is_spent(side, stream) {
+        return Some(Refusal::LiftDropped);
+    }
+    None
+}
+
 // Why this may not be done to an end now.
 #[inline(always)]
 fn own_refusal(
@@ -166,13 +180,12 @@ fn own_refusal(
         EndAct::Cancel if !is_busy(side, stream) => Some(Refusal::NoPending),
         EndAct::Cancel if is_cancel_under_way(side, stream) => Some(Refusal::CancelUnderWay),
         EndAct::Cancel => None,
-        _ if is_busy(side, stream) => Some(Refusal::Busy),
+        EndAct::Drop if is_busy(side, stream) => Some(Refusal::Busy),
         EndAct::Drop if owes_value(side, end.ty.kind(), stream) => Some(
             Refusal::FutureWithoutValue,
         ),
         EndAct::Drop => None,
-        _ if is_spent(side, stream) => Some(Refusal::LiftDropped),
-        _ => None,
+        EndAct::Lift => leave_refusal(side, stream),
     }
 }
 
@@ -207,6 +220,22 @@ impl Store {
         match self.name(end) {
             Ok(name) => Ok((name.0, side_of(name.1))),
             Err(error) => Err(refusal_of(error)),
+        }
+    }
+
+    // The stream and the side of the end that a handle names, where that end may leave its guest now.
+    pub(crate) fn leaving(&self, end: &NamedEnd) -> Result<(u32, Side), Refusal>
+        requires { end.now.guest < length self.now.guests }
+        ensures { result ≡ or_found (first_of (handle_reasons (named self.now end.now)
+            ++ leave_reasons self.now end.now))
+            (stream_named (named self.now end.now), side_named (named self.now end.now)) }
+    {
+        match self.handle_found(end) {
+            Ok(named) => match leave_refusal(named.1, self.stream(named.0)) {
+                Some(refusal) => Err(refusal),
+                None => Ok(named),
+            },
+            Err(refusal) => Err(refusal),
         }
     }
 

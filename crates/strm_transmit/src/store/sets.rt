@@ -8,7 +8,7 @@ ghost use Rattle.std.specs.Prelude.{◌≡◌, ◌≢◌, ◌<◌, ◌+◌, ◌�
 ghost use Rattle.strm_codes.specs.declared.refusals.Refusal.TheVariants as refusals;
 ghost use Rattle.strm_sets.specs.Sets.{is_there};
 ghost use Rattle.strm_machine.specs.State.{sets_in};
-ghost use Rattle.strm_machine.specs.WaitableSets.{set_named, number_named, has_member, is_ready, ready_member, without_set_named};
+ghost use Rattle.strm_machine.specs.WaitableSets.{set_named, number_named, has_member, is_in_set, is_ready, ready_member, without_set_named};
 ghost use Rattle.strm_machine.specs.Refusals.{where_, refusal, first_of, slot_reasons, joined_reasons};
 ghost use Rattle.strm_machine.specs.Reactions.{goes, joins, polls, performs, react};
 ghost use Rattle.strm_machine.specs.declared.acts.Act.TheVariants.{Make, OnSet};
@@ -27,7 +27,7 @@ use strm_codes::refusals::Refusal;
 use strm_handles::errors::HandleError;
 use strm_machine::replies::Member;
 use strm_turns::endings::report_on;
-use strm_turns::sets::{give_set, has_member, join_set, leave_set, remove_set};
+use strm_turns::sets::{give_set, has_member, is_in_set, join_set, leave_set, remove_set};
 
 // One more than a count that is below a limit, which is there for the contract alone.
 fn one_more(count: u32, limit: u32) -> u32
@@ -171,6 +171,16 @@ impl Store {
             Ok(number) => self.join_number(guest, set, handle, number),
             Err(error) => Err(error),
         }
+    }
+
+    /// Whether a guest's handle is in a waitable set. None is of a guest that isn't there.
+    pub fn is_in_set(&self, guest: u32, handle: u32) -> bool
+        ensures { result ≡ is_in_set self.now guest handle }
+    {
+        if self.is_unknown_guest(guest) {
+            return false;
+        }
+        is_in_set(&self.guests, guest as usize, handle)
     }
 
     // Whether a handle of a guest names an end that is to be told something.

@@ -7,11 +7,6 @@ returns-in-Cancel-clause-meets g c =
     rw c.in-Cancel.is
     (hosted_alone c.args.store.now _ _ _ c.cancel.result c.sound.ensures c.served.ensures.made refl c.cancel.ensures.settled c.cancel.ensures.meets c.requires.fits)
 
-pub returns-in-Move-clause-meets : goal.returns-in-Move-clause-meets
-returns-in-Move-clause-meets g c =
-    rw c.in-Move.is
-    (hosted_alone c.args.store.now _ _ _ c.transfer.result c.sound.ensures c.served.ensures.made refl c.transfer.ensures.settled c.transfer.ensures.meets c.requires.fits)
-
 pub returns-in-Lift-clause-meets : goal.returns-in-Lift-clause-meets
 returns-in-Lift-clause-meets g c =
     rw c.in-Lift.is

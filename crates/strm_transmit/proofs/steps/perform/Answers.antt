@@ -7,6 +7,11 @@ returns-in-Make-clause-meets g c =
     rw c.in-Make.is
     (hosted_alone c.args.store.now _ _ _ c.make.result c.sound.ensures c.served.ensures.made refl c.make.ensures.settled c.make.ensures.meets c.requires.fits)
 
+pub returns-in-Transfer-clause-meets : goal.returns-in-Transfer-clause-meets
+returns-in-Transfer-clause-meets g c =
+    rw c.in-Transfer.is
+    (hosted_alone c.args.store.now _ _ _ c.transfer.result c.sound.ensures c.served.ensures.made refl c.transfer.ensures.settled c.transfer.ensures.meets c.requires.fits)
+
 pub returns-in-Event-clause-meets : goal.returns-in-Event-clause-meets
 returns-in-Event-clause-meets g c =
     rw c.in-Event.is

@@ -1,9 +1,8 @@
 use Rattle.std.proofs.Common.{◌++◌, sym, ◌∙◌}
 use Rattle.std.specs.Prelude.{◌||◌}
 use Rattle.strm_codes.specs.declared.refusals.Refusal.TheVariants.{UnknownGuest}
-use Rattle.strm_machine.specs.Tests.{named, stream_named, is_unknown_guest}
-use Rattle.strm_machine.specs.Refusals.{handle_reasons, own_reasons, last_reasons, refusal}
-use Rattle.strm_machine.specs.declared.acts.EndAct.TheVariants.{Move}
+use Rattle.strm_machine.specs.Tests.{named, stream_named, side_named, is_unknown_guest}
+use Rattle.strm_machine.specs.Refusals.{handle_reasons, leave_reasons, given_reasons, refusal}
 use Rattle.strm_transmit.proofs.OperationLemmas.{first_refused, then_refused, both_none, behind, both_known}
 use Rattle.strm_transmit.proofs.store.Store.move_found.Goals as goal
 
@@ -16,9 +15,9 @@ returns-in-Some c =
     let from = c.is_unknown_guest.ensures.there c.if-is_unknown_guest.false in
     let to = c.is_unknown_guest-else-is_unknown_guest.ensures.there c.if-is_unknown_guest-2.false in
     behind (is_unknown_guest state end.guest || is_unknown_guest state c.args.to) UnknownGuest
-    ((handle_reasons name ++ own_reasons state c.args.side end (Move c.args.to)) ++ last_reasons state end (Move c.args.to)) _ (stream_named name) (both_known state end.guest c.args.to from to)
-    (then_refused (handle_reasons name ++ own_reasons state c.args.side end (Move c.args.to)) (last_reasons state end (Move c.args.to))
-    c.in-Ok.stream (stream_named name) c.in-Some.refusal (stream_named name) c.in-Ok.ensures.exact (sym c.in-Some.is ∙ c.move_refusal.ensures))
+    ((handle_reasons name ++ leave_reasons state end) ++ given_reasons state end c.args.to) _ (stream_named name, side_named name) (both_known state end.guest c.args.to from to)
+    (then_refused (handle_reasons name ++ leave_reasons state end) (given_reasons state end c.args.to)
+    c.in-Ok.named (stream_named name, side_named name) c.in-Some.refusal (stream_named name, side_named name) c.in-Ok.ensures (sym c.in-Some.is ∙ c.move_refusal.ensures))
 
 pub returns-in-None : goal.returns-in-None
 unfolding refusal
@@ -29,9 +28,9 @@ returns-in-None c =
     let from = c.is_unknown_guest.ensures.there c.if-is_unknown_guest.false in
     let to = c.is_unknown_guest-else-is_unknown_guest.ensures.there c.if-is_unknown_guest-2.false in
     behind (is_unknown_guest state end.guest || is_unknown_guest state c.args.to) UnknownGuest
-    ((handle_reasons name ++ own_reasons state c.args.side end (Move c.args.to)) ++ last_reasons state end (Move c.args.to)) _ (stream_named name) (both_known state end.guest c.args.to from to)
-    (both_none (handle_reasons name ++ own_reasons state c.args.side end (Move c.args.to)) (last_reasons state end (Move c.args.to))
-    c.in-Ok.stream (stream_named name) c.in-Ok.ensures.exact (sym c.in-None.is ∙ c.move_refusal.ensures))
+    ((handle_reasons name ++ leave_reasons state end) ++ given_reasons state end c.args.to) _ (stream_named name, side_named name) (both_known state end.guest c.args.to from to)
+    (both_none (handle_reasons name ++ leave_reasons state end) (given_reasons state end c.args.to)
+    c.in-Ok.named (stream_named name, side_named name) c.in-Ok.ensures (sym c.in-None.is ∙ c.move_refusal.ensures))
 
 pub returns-in-Err : goal.returns-in-Err
 unfolding refusal
@@ -42,6 +41,6 @@ returns-in-Err c =
     let from = c.is_unknown_guest.ensures.there c.if-is_unknown_guest.false in
     let to = c.is_unknown_guest-else-is_unknown_guest.ensures.there c.if-is_unknown_guest-2.false in
     behind (is_unknown_guest state end.guest || is_unknown_guest state c.args.to) UnknownGuest
-    ((handle_reasons name ++ own_reasons state c.args.side end (Move c.args.to)) ++ last_reasons state end (Move c.args.to)) _ (stream_named name) (both_known state end.guest c.args.to from to)
-    (first_refused (handle_reasons name ++ own_reasons state c.args.side end (Move c.args.to)) (last_reasons state end (Move c.args.to)) c.in-Err.refusal
-    (stream_named name) (stream_named name) c.in-Err.ensures.exact)
+    ((handle_reasons name ++ leave_reasons state end) ++ given_reasons state end c.args.to) _ (stream_named name, side_named name) (both_known state end.guest c.args.to from to)
+    (first_refused (handle_reasons name ++ leave_reasons state end) (given_reasons state end c.args.to) c.in-Err.refusal
+    (stream_named name, side_named name) (stream_named name, side_named name) c.in-Err.ensures)

@@ -1,7 +1,5 @@
 use Rattle.std.proofs.Common.{refl, sym, ◌∙◌, arith}
 use Rattle.std.proofs.lemmas.List.{length-map}
-use Rattle.strm_machine.specs.declared.acts.EndAct.TheVariants.{Move}
-use Rattle.strm_machine.proofs.ReactionLemmas.{refusal-on_end}
 use Rattle.strm_machine.proofs.RefusalLemmas.{move_fits}
 use Rattle.strm_turns.specs.Guests.{guest_of}
 use Rattle.strm_transmit.specs.Inside.{state_of}
@@ -11,32 +9,27 @@ use Rattle.strm_transmit.proofs.store.Store.move_named.Goals as goal
 
 pub move_end-requires-clause-from : goal.move_end-requires-clause-from
 move_end-requires-clause-from c =
-    let fits = move_fits (state_of c.self.inside) c.args.side c.args.end.now c.args.to
-    (sym (refusal-on_end (state_of c.self.inside) c.args.side c.args.end.now (Move c.args.to)) ∙ (rw (← c.self.view_is) at c.requires.may)) in
+    let fits = move_fits (state_of c.self.inside) c.args.end.now c.args.to (rw (← c.self.view_is) at c.requires.may) in
     omega (arith, fits.leaves.there, length-map c.self.inside.guests.items guest_of)
 
 pub move_end-requires-clause-to : goal.move_end-requires-clause-to
 move_end-requires-clause-to c =
-    let fits = move_fits (state_of c.self.inside) c.args.side c.args.end.now c.args.to
-    (sym (refusal-on_end (state_of c.self.inside) c.args.side c.args.end.now (Move c.args.to)) ∙ (rw (← c.self.view_is) at c.requires.may)) in
+    let fits = move_fits (state_of c.self.inside) c.args.end.now c.args.to (rw (← c.self.view_is) at c.requires.may) in
     omega (arith, fits.to_there, length-map c.self.inside.guests.items guest_of)
 
 pub move_end-requires-clause-idle : goal.move_end-requires-clause-idle
 move_end-requires-clause-idle c =
-    let fits = move_fits (state_of c.self.inside) c.args.side c.args.end.now c.args.to
-    (sym (refusal-on_end (state_of c.self.inside) c.args.side c.args.end.now (Move c.args.to)) ∙ (rw (← c.self.view_is) at c.requires.may)) in
+    let fits = move_fits (state_of c.self.inside) c.args.end.now c.args.to (rw (← c.self.view_is) at c.requires.may) in
     removable_named (state_of c.self.inside) c.args.side c.args.end.now c.self.invariant.sound fits.leaves
 
 pub move_end-requires-clause-small : goal.move_end-requires-clause-small
 move_end-requires-clause-small c =
-    let fits = move_fits (state_of c.self.inside) c.args.side c.args.end.now c.args.to
-    (sym (refusal-on_end (state_of c.self.inside) c.args.side c.args.end.now (Move c.args.to)) ∙ (rw (← c.self.view_is) at c.requires.may)) in
+    let fits = move_fits (state_of c.self.inside) c.args.end.now c.args.to (rw (← c.self.view_is) at c.requires.may) in
     fits.number
 
 pub set_owner-requires-clause-there : goal.set_owner-requires-clause-there
 set_owner-requires-clause-there c =
-    let fits = move_fits (state_of c.self.inside) c.args.side c.args.end.now c.args.to
-    (sym (refusal-on_end (state_of c.self.inside) c.args.side c.args.end.now (Move c.args.to)) ∙ (rw (← c.self.view_is) at c.requires.may)) in
+    let fits = move_fits (state_of c.self.inside) c.args.end.now c.args.to (rw (← c.self.view_is) at c.requires.may) in
     named_made (state_of c.self.inside) c.args.side c.args.end.now c.args.stream c.self.invariant.sound fits.leaves
     (rw (← c.self.view_is) at c.requires.stream)
 
