@@ -127,6 +127,11 @@ lowers-sound : (state : State) (reader g : ℕ) (ty : TransmitIndex) → state.t
 unfolding performs
 lowers-sound state reader g ty t e h = performs-sound state (OnLoose reader (Lower g ty)) t e h
 
+-- what the machine does with an end that may move
+pub performs-transfer : (state : State) (end : NamedEnd) (to : ℕ) → performs state (Transfer end to) ≡ transfers state (stream_named (named state end)) (side_named (named state end)) end to
+unfolding performs
+performs-transfer state end to = refl
+
 -- its stream was made
 moved_made : (state : State) (end : NamedEnd) (to s : ℕ) → refusal state (Transfer end to) ≡ None → s ≡ stream_named (named state end) → IsSound state → s < length state.streams
 moved_made state end to s e same h = named_made state (side_named (named state end)) end s h (move_fits state end to e).leaves same

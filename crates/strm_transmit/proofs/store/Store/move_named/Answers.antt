@@ -1,5 +1,7 @@
-use Rattle.std.proofs.Common.{refl, sym, ◌∙◌, arith}
+use Rattle.std.proofs.Common.{ℕ, refl, ap, arith}
 use Rattle.std.proofs.lemmas.List.{length-map}
+use Rattle.strm_machine.specs.Tests.{named, side_named}
+use Rattle.strm_machine.specs.declared.streams.Side.{Side}
 use Rattle.strm_machine.proofs.RefusalLemmas.{move_fits}
 use Rattle.strm_turns.specs.Guests.{guest_of}
 use Rattle.strm_transmit.specs.Inside.{state_of}
@@ -20,7 +22,9 @@ move_end-requires-clause-to c =
 pub move_end-requires-clause-idle : goal.move_end-requires-clause-idle
 move_end-requires-clause-idle c =
     let fits = move_fits (state_of c.self.inside) c.args.end.now c.args.to (rw (← c.self.view_is) at c.requires.may) in
-    removable_named (state_of c.self.inside) c.args.side c.args.end.now c.self.invariant.sound fits.leaves
+    let state = state_of c.self.inside in
+    rw (rw (← c.self.view_is) at c.requires.found)
+    (removable_named state (side_named (named state c.args.end.now)) c.args.end.now c.self.invariant.sound fits.leaves)
 
 pub move_end-requires-clause-small : goal.move_end-requires-clause-small
 move_end-requires-clause-small c =
@@ -30,12 +34,13 @@ move_end-requires-clause-small c =
 pub set_owner-requires-clause-there : goal.set_owner-requires-clause-there
 set_owner-requires-clause-there c =
     let fits = move_fits (state_of c.self.inside) c.args.end.now c.args.to (rw (← c.self.view_is) at c.requires.may) in
-    named_made (state_of c.self.inside) c.args.side c.args.end.now c.args.stream c.self.invariant.sound fits.leaves
-    (rw (← c.self.view_is) at c.requires.stream)
+    let state = state_of c.self.inside in
+    named_made state (side_named (named state c.args.end.now)) c.args.end.now c.args.found.0 c.self.invariant.sound fits.leaves
+    (ap (λ (q : ℕ × Side). q.0) (rw (← c.self.view_is) at c.requires.found))
 
 pub invariant_of-self-2 : goal.invariant_of-self-2
 invariant_of-self-2 c =
-    IsStore-moved c.self.inside _ c.args.stream c.args.side c.args.end.now c.args.to c.in_ok-handle.handle
+    IsStore-moved c.self.inside _ c.args.found.0 c.args.found.1 c.args.end.now c.args.to c.in_ok-handle.handle
     (record {
       same = record { tag = refl; limits = refl; producers = refl; contexts = refl; trapped = refl };
       bytes = refl;
@@ -45,5 +50,6 @@ invariant_of-self-2 c =
     })
     (record { counter = c.in_ok-handle.ensures.counter; live = c.in_ok-handle.ensures.live; guests = c.in_ok-handle.ensures.guests })
     c.in_ok-handle.ensures.number
-    (rw (← c.self.view_is) at c.requires.untrapped) (rw (← c.self.view_is) at c.requires.may) (rw (← c.self.view_is) at c.requires.stream)
+    (rw (← c.self.view_is) at c.requires.untrapped) (rw (← c.self.view_is) at c.requires.may)
+    (ap (λ (q : ℕ × Side). q.0) (rw (← c.self.view_is) at c.requires.found)) (ap (λ (q : ℕ × Side). q.1) (rw (← c.self.view_is) at c.requires.found))
     c.self.invariant

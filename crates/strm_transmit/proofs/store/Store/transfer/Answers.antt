@@ -1,17 +1,18 @@
+use Rattle.std.proofs.Common.{ℕ}
 use Rattle.strm_machine.specs.Reactions.{transfers}
-use Rattle.strm_machine.specs.declared.acts.EndAct.TheVariants.{Move}
 use Rattle.strm_machine.specs.declared.replies.Reply.TheVariants as replies
-use Rattle.strm_machine.proofs.ReactionLemmas.{performs-on_end}
+use Rattle.strm_machine.specs.declared.streams.Side.{Side}
 use Rattle.strm_transmit.specs.Meets.{replied}
 use Rattle.strm_transmit.proofs.StepLemmas.{is_admitted, reacts, meets_admitted, meets_not_admitted}
 use Rattle.strm_transmit.proofs.StillLemmas.{still_fits}
-use Rattle.strm_transmit.proofs.store.Store.move_side.Goals as goal
+use Rattle.strm_transmit.proofs.MoveLemmas.{performs-transfer}
+use Rattle.strm_transmit.proofs.store.Store.transfer.Goals as goal
 
 pub move_named-requires-clause-may : goal.move_named-requires-clause-may
 move_named-requires-clause-may c = (is_admitted c.args.self.now _ _ _ _ c.move_found.ensures c.in-Ok.ensures.exact).none
 
-pub move_named-requires-clause-stream : goal.move_named-requires-clause-stream
-move_named-requires-clause-stream c = (is_admitted c.args.self.now _ _ _ _ c.move_found.ensures c.in-Ok.ensures.exact).same
+pub move_named-requires-clause-found : goal.move_named-requires-clause-found
+move_named-requires-clause-found c = (is_admitted c.args.self.now _ _ _ _ c.move_found.ensures c.in-Ok.ensures.exact).same
 
 pub move_named-requires-clause-untrapped : goal.move_named-requires-clause-untrapped
 move_named-requires-clause-untrapped c = (is_admitted c.args.self.now _ _ _ _ c.move_found.ensures c.in-Ok.ensures.exact).untrapped
@@ -19,9 +20,9 @@ move_named-requires-clause-untrapped c = (is_admitted c.args.self.now _ _ _ _ c.
 pub returns-in-Ok-clause-meets : goal.returns-in-Ok-clause-meets
 returns-in-Ok-clause-meets c =
     meets_admitted c.args.self.now c.move_named.new.self _ (replied replies.Number c.move_named.result) _
-    (reacts _ _ _ _ (λ s. transfers c.args.self.now s c.args.side c.args.end.now c.args.to)
+    (reacts _ _ _ _ (λ (q : ℕ × Side). transfers c.args.self.now q.0 q.1 c.args.end.now c.args.to)
     (is_admitted c.args.self.now _ _ _ _ c.move_found.ensures c.in-Ok.ensures.exact)
-    (performs-on_end c.args.self.now c.args.side c.args.end.now (Move c.args.to)))
+    (performs-transfer c.args.self.now c.args.end.now c.args.to))
     c.move_named.ensures.meets
 
 pub returns-in-Err-clause-meets : goal.returns-in-Err-clause-meets
