@@ -3,14 +3,14 @@
 ghost use Rattle.std.specs.Prelude.{◌≡◌, OnOk, OnErr};
 ghost use Rattle.strm_resources.specs.Entries.{with_value};
 
-use std::alloc::Global;
-use std::test::Fail;
+use crate::answers::{debug_is, display_is, is};
+use std::process::Abort;
 use strm_codes::ids::Resource;
 use strm_resources::errors::ResourceTableError;
 use strm_resources::kinds::{Resident, Tag};
 use strm_resources::tables::ResourceTable;
 
-#[derive(Clone, Copy, Debug, PartialEq, Eq)]
+#[derive(Clone, Copy)]
 struct Item {
     kind: u32,
     amount: u32,
@@ -106,7 +106,7 @@ fn count_children(table: &ResourceTable<Item>, parent: u32) -> Answer {
 }
 
 // One call. Red values have the kind 1, blue ones the kind 2.
-#[derive(Clone, Copy, Debug)]
+#[derive(Clone, Copy)]
 enum Call {
     PushRed(u32),
     PushBlue(u32),
@@ -163,142 +163,145 @@ fn first_wrong(table: &mut ResourceTable<Item>, cases: &[(Call, Answer)]) -> usi
     0
 }
 
-#[test]
-fn the_number_freed_last_is_given_first(rt: HostRuntime) {
-    let cases = [
-        (Call::PushRed(7), Ok(0)),
-        (Call::PushBlue(8), Ok(1)),
-        (Call::DeleteRed(0), Ok(7)),
-        (Call::PushRed(0), Ok(0)),
-        (Call::DeleteRed(0), Ok(0)),
-        (Call::DeleteBlue(1), Ok(8)),
-        (Call::PushRed(0), Ok(1)),
-        (Call::PushRed(0), Ok(0)),
-        (Call::PushRed(0), Ok(2)),
-    ];
-    let mut table = ResourceTable::new(rt.alloc());
-    assert!(rt; table.is_empty());
-    assert_eq!(rt; first_wrong(&mut table, &cases), 0);
-    assert!(rt; !table.is_empty());
-}
+const FREED: [(Call, Answer); 9] = [
+    (Call::PushRed(7), Ok(0)),
+    (Call::PushBlue(8), Ok(1)),
+    (Call::DeleteRed(0), Ok(7)),
+    (Call::PushRed(0), Ok(0)),
+    (Call::DeleteRed(0), Ok(0)),
+    (Call::DeleteBlue(1), Ok(8)),
+    (Call::PushRed(0), Ok(1)),
+    (Call::PushRed(0), Ok(0)),
+    (Call::PushRed(0), Ok(2)),
+];
 
 #[test]
-fn a_table_is_full_at_its_capacity(rt: HostRuntime) -> Result<(), Fail> {
-    let cases = [
-        (Call::SetMaxCapacity(0), Ok(0)),
-        (Call::PushRed(0), Err(ResourceTableError::Full)),
-        (Call::SetMaxCapacity(1), Ok(0)),
-        (Call::PushRed(0), Ok(0)),
-        (Call::PushRed(0), Err(ResourceTableError::Full)),
-        (Call::SetMaxCapacity(0), Ok(0)),
-        (Call::PushRed(0), Err(ResourceTableError::Full)),
-        (Call::DeleteRed(0), Ok(0)),
-        (Call::PushRed(0), Ok(0)),
-        (Call::DeleteRed(0), Ok(0)),
-        (Call::SetMaxCapacity(10), Ok(0)),
-    ];
-    let mut table = ResourceTable::with_capacity(rt.alloc(), 3)?;
-    assert_eq!(rt; table.max_capacity(), 1_000_000);
-    assert_eq!(rt; first_wrong(&mut table, &cases), 0);
-    for number in 0..10u32 {
-        assert_eq!(rt; push_red(&mut table, 0), Ok(number));
-    }
-    assert_eq!(rt; push_red(&mut table, 0), Err(ResourceTableError::Full));
-    Ok(())
+fn the_number_freed_last_is_given_first(rt: HostRuntime) {
+    let mut table = ResourceTable::new(rt.alloc());
+    is(&rt, table.is_empty(), true);
+    is(&rt, first_wrong(&mut table, &FREED), 0);
+    is(&rt, table.is_empty(), false);
 }
+
+const CAPACITIES: [(Call, Answer); 11] = [
+    (Call::SetMaxCapacity(0), Ok(0)),
+    (Call::PushRed(0), Err(ResourceTableError::Full)),
+    (Call::SetMaxCapacity(1), Ok(0)),
+    (Call::PushRed(0), Ok(0)),
+    (Call::PushRed(0), Err(ResourceTableError::Full)),
+    (Call::SetMaxCapacity(0), Ok(0)),
+    (Call::PushRed(0), Err(ResourceTableError::Full)),
+    (Call::DeleteRed(0), Ok(0)),
+    (Call::PushRed(0), Ok(0)),
+    (Call::DeleteRed(0), Ok(0)),
+    (Call::SetMaxCapacity(10), Ok(0)),
+];
+
+#[test]
+fn a_table_is_full_at_its_capacity(rt: HostRuntime) {
+    let mut table = ResourceTable::with_capacity(rt.alloc(), 3).expect(&rt, "memory");
+    is(&rt, table.max_capacity(), 1_000_000);
+    is(&rt, first_wrong(&mut table, &CAPACITIES), 0);
+    push_ten(&rt, &mut table);
+    is(&rt, push_red(&mut table, 0), Err(ResourceTableError::Full));
+}
+
+fn push_ten(rt: &impl Abort, table: &mut ResourceTable<Item>) {
+    for number in 0..10u32 {
+        is(rt, push_red(table, 0), Ok(number));
+    }
+}
+
+const REFUSED: [(Call, Answer); 20] = [
+    (Call::PushBlue(5), Ok(0)),
+    (Call::PushChild(0), Ok(1)),
+    (Call::PushChild(9), Err(ResourceTableError::NotPresent)),
+    (Call::GetRed(0), Err(ResourceTableError::WrongType)),
+    (Call::GetRed(9), Err(ResourceTableError::NotPresent)),
+    (Call::WriteRed(0, 6), Err(ResourceTableError::WrongType)),
+    (Call::WriteAny(9, 6), Err(ResourceTableError::NotPresent)),
+    (Call::DeleteBlue(1), Err(ResourceTableError::WrongType)),
+    (Call::GetRed(1), Ok(0)),
+    (Call::DeleteRed(0), Err(ResourceTableError::HasChildren)),
+    (Call::DeleteBlue(0), Err(ResourceTableError::HasChildren)),
+    (Call::DeleteRed(9), Err(ResourceTableError::NotPresent)),
+    (Call::GetBlue(0), Ok(5)),
+    (Call::Children(0), Ok(1)),
+    (Call::WriteRed(1, 7), Ok(7)),
+    (Call::WriteBlue(0, 8), Ok(8)),
+    (Call::GetRed(1), Ok(7)),
+    (Call::WriteAny(1, 9), Ok(9)),
+    (Call::GetRed(1), Ok(9)),
+    (Call::GetBlue(0), Ok(8)),
+];
 
 #[test]
 fn a_refused_call_changes_nothing(rt: HostRuntime) {
-    let cases = [
-        (Call::PushBlue(5), Ok(0)),
-        (Call::PushChild(0), Ok(1)),
-        (Call::PushChild(9), Err(ResourceTableError::NotPresent)),
-        (Call::GetRed(0), Err(ResourceTableError::WrongType)),
-        (Call::GetRed(9), Err(ResourceTableError::NotPresent)),
-        (Call::WriteRed(0, 6), Err(ResourceTableError::WrongType)),
-        (Call::WriteAny(9, 6), Err(ResourceTableError::NotPresent)),
-        (Call::DeleteBlue(1), Err(ResourceTableError::WrongType)),
-        (Call::GetRed(1), Ok(0)),
-        (Call::DeleteRed(0), Err(ResourceTableError::HasChildren)),
-        (Call::DeleteBlue(0), Err(ResourceTableError::HasChildren)),
-        (Call::DeleteRed(9), Err(ResourceTableError::NotPresent)),
-        (Call::GetBlue(0), Ok(5)),
-        (Call::Children(0), Ok(1)),
-        (Call::WriteRed(1, 7), Ok(7)),
-        (Call::WriteBlue(0, 8), Ok(8)),
-        (Call::GetRed(1), Ok(7)),
-        (Call::WriteAny(1, 9), Ok(9)),
-        (Call::GetRed(1), Ok(9)),
-        (Call::GetBlue(0), Ok(8)),
-    ];
     let mut table = ResourceTable::new(rt.alloc());
-    assert_eq!(rt; first_wrong(&mut table, &cases), 0);
+    is(&rt, first_wrong(&mut table, &REFUSED), 0);
 }
+
+const CHILDREN: [(Call, Answer); 21] = [
+    (Call::PushBlue(0), Ok(0)),
+    (Call::PushChild(0), Ok(1)),
+    (Call::PushRed(0), Ok(2)),
+    (Call::PushBlue(0), Ok(3)),
+    (Call::AddChild(9, 0), Err(ResourceTableError::NotPresent)),
+    (Call::AddChild(1, 9), Err(ResourceTableError::HasParent)),
+    (Call::AddChild(2, 9), Err(ResourceTableError::NotPresent)),
+    (Call::AddChild(3, 0), Ok(0)),
+    (Call::AddChild(2, 0), Ok(0)),
+    (Call::Children(0), Ok(123)),
+    (Call::Children(9), Err(ResourceTableError::NotPresent)),
+    (Call::RemoveChild(9, 0), Err(ResourceTableError::NotPresent)),
+    (Call::RemoveChild(1, 2), Err(ResourceTableError::NotChild)),
+    (Call::RemoveChild(1, 0), Ok(0)),
+    (Call::RemoveChild(1, 0), Err(ResourceTableError::NotChild)),
+    (Call::DeleteRed(2), Ok(0)),
+    (Call::Children(0), Ok(3)),
+    (Call::DeleteBlue(3), Ok(0)),
+    (Call::Children(0), Ok(0)),
+    (Call::DeleteBlue(0), Ok(0)),
+    (Call::DeleteRed(1), Ok(0)),
+];
 
 #[test]
 fn children_come_and_go(rt: HostRuntime) {
-    let cases = [
-        (Call::PushBlue(0), Ok(0)),
-        (Call::PushChild(0), Ok(1)),
-        (Call::PushRed(0), Ok(2)),
-        (Call::PushBlue(0), Ok(3)),
-        (Call::AddChild(9, 0), Err(ResourceTableError::NotPresent)),
-        (Call::AddChild(1, 9), Err(ResourceTableError::HasParent)),
-        (Call::AddChild(2, 9), Err(ResourceTableError::NotPresent)),
-        (Call::AddChild(3, 0), Ok(0)),
-        (Call::AddChild(2, 0), Ok(0)),
-        (Call::Children(0), Ok(123)),
-        (Call::Children(9), Err(ResourceTableError::NotPresent)),
-        (Call::RemoveChild(9, 0), Err(ResourceTableError::NotPresent)),
-        (Call::RemoveChild(1, 2), Err(ResourceTableError::NotChild)),
-        (Call::RemoveChild(1, 0), Ok(0)),
-        (Call::RemoveChild(1, 0), Err(ResourceTableError::NotChild)),
-        (Call::DeleteRed(2), Ok(0)),
-        (Call::Children(0), Ok(3)),
-        (Call::DeleteBlue(3), Ok(0)),
-        (Call::Children(0), Ok(0)),
-        (Call::DeleteBlue(0), Ok(0)),
-        (Call::DeleteRed(1), Ok(0)),
-    ];
     let mut table = ResourceTable::new(rt.alloc());
-    assert_eq!(rt; first_wrong(&mut table, &cases), 0);
-    assert!(rt; table.is_empty());
+    is(&rt, first_wrong(&mut table, &CHILDREN), 0);
+    is(&rt, table.is_empty(), true);
 }
 
-fn shown(alloc: Global, table: &ResourceTable<Item>) -> Result<String, Fail> {
-    Ok(format!(in alloc; "{table:?}")?)
-}
+const PRINTED: [(Call, Answer); 4] = [
+    (Call::PushBlue(0), Ok(0)),
+    (Call::PushChild(0), Ok(1)),
+    (Call::PushRed(0), Ok(2)),
+    (Call::DeleteRed(1), Ok(0)),
+];
 
 #[test]
-fn a_table_prints_its_numbers(rt: HostRuntime) -> Result<(), Fail> {
-    let cases = [
-        (Call::PushBlue(0), Ok(0)),
-        (Call::PushChild(0), Ok(1)),
-        (Call::PushRed(0), Ok(2)),
-        (Call::DeleteRed(1), Ok(0)),
-    ];
+fn a_table_prints_its_numbers(rt: HostRuntime) {
     let mut table = ResourceTable::new(rt.alloc());
-    assert_eq!(rt; shown(rt.alloc(), &table)?.as_str(), "[]");
-    assert_eq!(rt; first_wrong(&mut table, &cases), 0);
-    assert_eq!(rt; shown(rt.alloc(), &table)?.as_str(), "[0, 2]");
-    let keys: Vec<u32> = table.keys().collect(rt.alloc())?;
-    assert_eq!(rt; keys.as_slice(), [0, 2].as_slice());
-    Ok(())
+    debug_is(&rt, rt.alloc(), &table, "[]");
+    is(&rt, first_wrong(&mut table, &PRINTED), 0);
+    debug_is(&rt, rt.alloc(), &table, "[0, 2]");
+    let keys: Vec<u32> = table.keys().collect(rt.alloc()).expect(&rt, "memory");
+    is(&rt, keys.as_slice(), [0, 2].as_slice());
 }
 
+const TEXTS: [(ResourceTableError, &str); 7] = [
+    (ResourceTableError::Full, "resource table has no free keys"),
+    (ResourceTableError::NotPresent, "resource not present"),
+    (ResourceTableError::WrongType, "resource is of another type"),
+    (ResourceTableError::HasChildren, "resource has children"),
+    (ResourceTableError::HasParent, "HasParent"),
+    (ResourceTableError::NotChild, "NotChild"),
+    (ResourceTableError::OutOfMemory, "OutOfMemory"),
+];
+
 #[test]
-fn errors_print(rt: HostRuntime) -> Result<(), Fail> {
-    let texts = [
-        (ResourceTableError::Full, "resource table has no free keys"),
-        (ResourceTableError::NotPresent, "resource not present"),
-        (ResourceTableError::WrongType, "resource is of another type"),
-        (ResourceTableError::HasChildren, "resource has children"),
-        (ResourceTableError::HasParent, "HasParent"),
-        (ResourceTableError::NotChild, "NotChild"),
-        (ResourceTableError::OutOfMemory, "OutOfMemory"),
-    ];
-    for (error, text) in texts {
-        assert_eq!(rt; format!(in rt.alloc(); "{error}")?.as_str(), text);
+fn errors_print(rt: HostRuntime) {
+    for (error, text) in TEXTS {
+        display_is(&rt, rt.alloc(), &error, text);
     }
-    Ok(())
 }
