@@ -14,6 +14,9 @@ mod sums;
 mod tables;
 mod windows;
 
+ghost use Rattle.strm_buffers.specs.AllTells.{tells_of};
+ghost use Rattle.strm_world.specs.Does.{Fits};
+
 use crate::copies::{COUNTS, Copies};
 use crate::filled::{COUNT, Filled};
 use crate::hosted::{FED, LISTED, Reading};
@@ -71,13 +74,21 @@ fn main(rt: HostRuntime) -> io::Result<()> {
 
 // The payload of a word, bytes if it is none: the compiler does not know which.
 fn payload(word: &str) -> Payload {
-    match word {
-        "nothing" => Payload::Nothing,
-        "char" => Payload::One(Scalar::Char),
-        "u16" => Payload::One(Scalar::U16),
-        "u32" => Payload::One(Scalar::U32),
-        "u64" => Payload::One(Scalar::U64),
-        _ => BYTES,
+    let numbers = [
+        ("char", Scalar::Char),
+        ("u16", Scalar::U16),
+        ("u32", Scalar::U32),
+        ("u64", Scalar::U64),
+    ];
+    for (name, scalar) in numbers {
+        if word == name {
+            return Payload::One(scalar);
+        }
+    }
+    if word == "nothing" {
+        Payload::Nothing
+    } else {
+        BYTES
     }
 }
 
@@ -227,12 +238,22 @@ fn time_feeds(rt: &HostRuntime, rounds: u32) -> io::Result<()> {
         writers,
         readers: Vec::new(alloc),
     };
-    let mut reading = match Reading::new(alloc, &hosts, FED) {
-        Ok(reading) => reading,
-        Err(error) => return eprintln!(rt; "{error:?}"),
-    };
+    match Reading::new(alloc, &hosts, FED) {
+        Ok(mut reading) => time_fed(rt, &mut reading, &mut hosts, rounds),
+        Err(error) => eprintln!(rt; "{error:?}"),
+    }
+}
+
+fn time_fed(
+    rt: &HostRuntime,
+    reading: &mut Reading,
+    hosts: &mut Hosts,
+    rounds: u32,
+) -> io::Result<()>
+    requires { Fits reading.old.store (tells_of writer_tells reader_tells hosts.old) }
+{
     let start = Instant::now(rt)?;
-    match reading.feed_and_read(&mut hosts, rounds) {
+    match reading.feed_and_read(hosts, rounds) {
         Ok(()) => {
             let spent = start.elapsed(rt)?.as_nanos();
             let (received, sum) = (reading.received(), reading.sum());
@@ -261,12 +282,17 @@ fn time_list(rt: &HostRuntime) -> io::Result<()> {
         writers,
         readers: Vec::new(alloc),
     };
-    let mut reading = match Reading::new(alloc, &hosts, LISTED) {
-        Ok(reading) => reading,
-        Err(error) => return eprintln!(rt; "{error:?}"),
-    };
+    match Reading::new(alloc, &hosts, LISTED) {
+        Ok(mut reading) => time_listed(rt, &mut reading, &mut hosts),
+        Err(error) => eprintln!(rt; "{error:?}"),
+    }
+}
+
+fn time_listed(rt: &HostRuntime, reading: &mut Reading, hosts: &mut Hosts) -> io::Result<()>
+    requires { Fits reading.old.store (tells_of writer_tells reader_tells hosts.old) }
+{
     let start = Instant::now(rt)?;
-    match reading.read_list(&mut hosts) {
+    match reading.read_list(hosts) {
         Ok(()) => {
             let spent = start.elapsed(rt)?.as_nanos();
             let (received, sum) = (reading.received(), reading.sum());
