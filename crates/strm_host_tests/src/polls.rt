@@ -33,40 +33,55 @@ pub fn memory(rt: &impl Abort, alloc: Global, size: u32) -> GuestMemory
     GuestMemory::new(alloc, size).expect(rt, "memory")
 }
 
-/// What a writer holds, given to another host end.
-pub fn given(rt: &impl Abort, alloc: Global, writer: &mut Box<dyn HostWriter>) -> Items {
+// Items of one field each, by their numbers.
+fn are_numbers(rt: &impl Abort, items: &Items, numbers: &[i128]) {
+    is(rt, items.len(), numbers.len());
+    for (index, number) in numbers.iter().enumerate() {
+        is(rt, items.get(index).as_slice(), [*number].as_slice());
+    }
+}
+
+/// What a writer holds is given to another host end: its items.
+pub fn give_rest(
+    rt: &impl Abort,
+    alloc: Global,
+    writer: &mut Box<dyn HostWriter>,
+    numbers: &[i128],
+) {
     let mut window = Window::unbounded(alloc, writer_payload(writer));
     is(rt, give(writer, &mut window), Ok(()));
     let _ = window.marked();
-    window.into_items()
+    are_numbers(rt, &window.into_items(), numbers);
 }
 
 /// A writer gives what it holds, and is polled for another host end: its turn, and its items.
-pub fn polled(
+pub fn poll(
     rt: &impl Abort,
     alloc: Global,
     writer: &mut Box<dyn HostWriter>,
     finish: bool,
     turn: HostTurn,
-) -> Items {
+    numbers: &[i128],
+) {
     let mut held = Window::unbounded(alloc, writer_payload(writer));
     is(rt, give(writer, &mut held), Ok(()));
     let mut window = Window::unbounded(alloc, writer_payload(writer));
     is(rt, poll_writer(writer, &mut window, finish), turn);
     let _ = window.marked();
-    window.into_items()
+    are_numbers(rt, &window.into_items(), numbers);
 }
 
 /// A writer of bytes gives what it holds, and is polled through a window over a memory: its turn,
-/// the memory afterwards, and how many items it marked.
+/// how many items it marked, and the memory afterwards.
 pub fn poll_over(
     rt: &impl Abort,
     alloc: Global,
     writer: &mut Box<dyn HostWriter>,
     window: Window,
     turn: HostTurn,
+    count: u32,
     bytes: &[u8],
-) -> u32
+)
     requires payload { window.payload ≡ One U8 }
     requires unmarked { window.marked ≡ [] }
     requires over { window.place ≢ Between }
@@ -78,12 +93,6 @@ pub fn poll_over(
     is(rt, window.prepare(), Ok(()));
     is(rt, poll_writer(writer, &mut window, false), turn);
     let (memory, marked) = window.into_memory();
+    is(rt, marked, count);
     is(rt, memory.bytes(), bytes);
-    marked
-}
-
-/// The one field of an item.
-pub fn item_is(rt: &impl Abort, items: &Items, index: usize, wanted: i128) {
-    is(rt, index < items.len(), true);
-    is(rt, items.get(index).as_slice(), [wanted].as_slice());
 }

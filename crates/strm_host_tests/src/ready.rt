@@ -1,8 +1,10 @@
 //! Each ready producer once, boxed, and one that a user would write.
 
+ghost use Rattle.std.specs.Prelude.{◌≡◌};
+
 use crate::answers::is;
 use crate::countdown::Countdown;
-use crate::polls::{BYTES, COMPLETED, DROPPED, item_is, memory, poll_over, polled};
+use crate::polls::{BYTES, COMPLETED, DROPPED, memory, poll, poll_over};
 use std::alloc::Global;
 use std::process::Abort;
 use strm_buffers::answers::{HostTurn, StreamResult, Turn};
@@ -16,49 +18,30 @@ use strm_host::turning::Turning;
 
 const CANCELLED: HostTurn = Turn::Ready(StreamResult::Cancelled);
 
-// The bytes 7, 8 and 9.
-fn three_bytes(rt: &impl Abort, alloc: Global) -> Vec<u8> {
-    [7u8, 8, 9].to_vec(alloc).expect(rt, "memory")
-}
-
-// A poll for another host end that gives so many items.
-fn poll(
-    rt: &impl Abort,
-    alloc: Global,
-    writer: &mut Box<dyn HostWriter>,
-    finish: bool,
-    turn: HostTurn,
-    count: usize,
-) {
-    is(rt, polled(rt, alloc, writer, finish, turn).len(), count);
-}
-
-// A poll for another host end that gives this number.
-fn poll_number(rt: &impl Abort, alloc: Global, writer: &mut Box<dyn HostWriter>, number: i128) {
-    let items = polled(rt, alloc, writer, false, COMPLETED);
-    is(rt, items.len(), 1);
-    item_is(rt, &items, 0, number);
+fn vector(rt: &impl Abort, alloc: Global, bytes: &[u8]) -> Vec<u8>
+    ensures { result.items ≡ bytes.now }
+{
+    bytes.to_vec(alloc).expect(rt, "memory")
 }
 
 #[test]
 fn a_vector_gives_what_there_is_room_for_and_holds_the_rest(rt: HostRuntime) {
     let alloc = rt.alloc();
-    let erased = Erased::stream(alloc, three_bytes(&rt, alloc));
+    let erased = Erased::stream(alloc, vector(&rt, alloc, &[7, 8, 9]));
     let mut writer: Box<dyn HostWriter> = Box::new(alloc, erased).expect(&rt, "memory");
     let window = Window::over(memory(&rt, alloc, 4), BYTES, 1, 2);
     let bytes = &[0, 7, 8, 0];
-    let marked = poll_over(&rt, alloc, &mut writer, window, DROPPED, bytes);
-    is(&rt, marked, 2);
+    poll_over(&rt, alloc, &mut writer, window, DROPPED, 2, bytes);
     is(&rt, held_by(&writer), 1);
 }
 
 #[test]
 fn a_vector_gives_all_once(rt: HostRuntime) {
     let alloc = rt.alloc();
-    let erased = Erased::stream(alloc, three_bytes(&rt, alloc));
+    let erased = Erased::stream(alloc, vector(&rt, alloc, &[7, 8, 9]));
     let mut writer: Box<dyn HostWriter> = Box::new(alloc, erased).expect(&rt, "memory");
-    poll(&rt, alloc, &mut writer, false, DROPPED, 3);
-    poll(&rt, alloc, &mut writer, true, DROPPED, 0);
+    poll(&rt, alloc, &mut writer, false, DROPPED, &[7, 8, 9]);
+    poll(&rt, alloc, &mut writer, true, DROPPED, &[]);
 }
 
 #[test]
@@ -67,7 +50,7 @@ fn a_boxed_slice_gives_all(rt: HostRuntime) {
     let items = [7u16, 8].to_vec(alloc).expect(&rt, "memory");
     let erased = Erased::stream(alloc, items.into_boxed_slice());
     let mut writer: Box<dyn HostWriter> = Box::new(alloc, erased).expect(&rt, "memory");
-    poll(&rt, alloc, &mut writer, false, DROPPED, 2);
+    poll(&rt, alloc, &mut writer, false, DROPPED, &[7, 8]);
 }
 
 #[test]
@@ -77,7 +60,7 @@ fn an_empty_stream_ends_at_once(rt: HostRuntime) {
     let erased = Erased::stream(alloc, empty);
     let mut writer: Box<dyn HostWriter> = Box::new(alloc, erased).expect(&rt, "memory");
     is(&rt, writer_kind(&writer), TransmitKind::Stream);
-    poll(&rt, alloc, &mut writer, false, DROPPED, 0);
+    poll(&rt, alloc, &mut writer, false, DROPPED, &[]);
 }
 
 #[test]
@@ -85,9 +68,9 @@ fn a_countdown_gives_each_number(rt: HostRuntime) {
     let alloc = rt.alloc();
     let erased = Erased::stream(alloc, Countdown { left: 2 });
     let mut writer: Box<dyn HostWriter> = Box::new(alloc, erased).expect(&rt, "memory");
-    poll_number(&rt, alloc, &mut writer, 2);
-    poll_number(&rt, alloc, &mut writer, 1);
-    poll(&rt, alloc, &mut writer, false, DROPPED, 0);
+    poll(&rt, alloc, &mut writer, false, COMPLETED, &[2]);
+    poll(&rt, alloc, &mut writer, false, COMPLETED, &[1]);
+    poll(&rt, alloc, &mut writer, false, DROPPED, &[]);
 }
 
 #[test]
@@ -96,8 +79,8 @@ fn a_future_gives_its_value_and_then_fails(rt: HostRuntime) {
     let erased = Erased::future(alloc, Turning::ready(7u8));
     let mut writer: Box<dyn HostWriter> = Box::new(alloc, erased).expect(&rt, "memory");
     is(&rt, writer_kind(&writer), TransmitKind::Future);
-    poll(&rt, alloc, &mut writer, false, COMPLETED, 1);
-    poll(&rt, alloc, &mut writer, true, Turn::Failed, 0);
+    poll(&rt, alloc, &mut writer, false, COMPLETED, &[7]);
+    poll(&rt, alloc, &mut writer, true, Turn::Failed, &[]);
 }
 
 #[test]
@@ -106,7 +89,7 @@ fn a_future_without_a_value_gives_up(rt: HostRuntime) {
     let turning: Turning<u8> = Turning::pending();
     let erased = Erased::future(alloc, turning);
     let mut writer: Box<dyn HostWriter> = Box::new(alloc, erased).expect(&rt, "memory");
-    poll(&rt, alloc, &mut writer, false, Turn::Pending, 0);
-    poll(&rt, alloc, &mut writer, true, CANCELLED, 0);
+    poll(&rt, alloc, &mut writer, false, Turn::Pending, &[]);
+    poll(&rt, alloc, &mut writer, true, CANCELLED, &[]);
     is(&rt, writer.records(), 2);
 }
