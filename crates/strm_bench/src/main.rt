@@ -20,6 +20,7 @@ ghost use Rattle.strm_world.specs.Does.{Fits};
 use crate::copies::{COUNTS, Copies};
 use crate::filled::{COUNT, Filled};
 use crate::hosted::{FED, LISTED, Reading};
+use crate::tables::Sums;
 use crate::windows::ITEMS;
 use std::time::Instant;
 use std::{env, io};
@@ -92,19 +93,37 @@ fn payload(word: &str) -> Payload {
     }
 }
 
+// What something adds up to.
+fn tell_sum(rt: &HostRuntime, name: &str, sum: u64) -> io::Result<()> {
+    println!(rt; "{name} {sum}")
+}
+
+// How long something took.
+fn tell_time(rt: &HostRuntime, what: &str, time: u128, unit: &str) -> io::Result<()> {
+    eprintln!(rt; "{what}: {time} {unit}")
+}
+
+fn tell_turns(rt: &HostRuntime, sums: &Sums) -> io::Result<()> {
+    let (inserts, removals) = (sums.inserts, sums.removals);
+    println!(rt; "inserts {inserts} removals {removals}")?;
+    let (numbers, reps, live) = (sums.numbers, sums.reps, sums.live);
+    println!(rt; "numbers {numbers} reps {reps} live {live}")
+}
+
+fn tell_reading(rt: &HostRuntime, name: &str, reading: &Reading) -> io::Result<()> {
+    let (received, sum) = (reading.received(), reading.sum());
+    println!(rt; "{name} {received}: {sum}")
+}
+
 // Inserts and removals in mixed order, on a table of up to 32,768 handles.
 fn time_mixed(rt: &HostRuntime, turns: u32) -> io::Result<()> {
     let start = Instant::now(rt)?;
     match tables::run(rt.alloc(), BYTES, turns) {
         Ok(sums) => {
             let spent = start.elapsed(rt)?.as_nanos();
-            let (inserts, removals) = (sums.inserts, sums.removals);
-            let (numbers, reps, live) = (sums.numbers, sums.reps, sums.live);
-            println!(rt; "inserts {inserts} removals {removals}")?;
-            println!(rt; "numbers {numbers} reps {reps} live {live}")?;
+            tell_turns(rt, &sums)?;
             let pairs = u128::from(turns / 2).max(1);
-            let pair = spent / pairs;
-            eprintln!(rt; "an insert and a removal: {pair} ns")
+            tell_time(rt, "an insert and a removal", spent / pairs, "ns")
         }
         Err(error) => eprintln!(rt; "{error:?}"),
     }
@@ -117,9 +136,9 @@ fn time_look_ups(rt: &HostRuntime, filled: &Filled, turns: u32) -> io::Result<()
     match filled.look_up(rounds) {
         Ok(sum) => {
             let spent = start.elapsed(rt)?.as_nanos();
-            println!(rt; "found {sum}")?;
+            tell_sum(rt, "found", sum)?;
             let picoseconds = spent / u128::from(rounds).max(1);
-            eprintln!(rt; "a look-up: {picoseconds} ps")
+            tell_time(rt, "a look-up", picoseconds, "ps")
         }
         Err(error) => eprintln!(rt; "{error:?}"),
     }
@@ -131,9 +150,9 @@ fn time_renewals(rt: &HostRuntime, filled: &mut Filled, turns: u32) -> io::Resul
     match filled.renew(turns) {
         Ok(sum) => {
             let spent = start.elapsed(rt)?.as_nanos();
-            println!(rt; "renewed {sum}")?;
+            tell_sum(rt, "renewed", sum)?;
             let picoseconds = spent.saturating_mul(1000) / u128::from(turns).max(1);
-            eprintln!(rt; "a removal with an insert: {picoseconds} ps")
+            tell_time(rt, "a removal with an insert", picoseconds, "ps")
         }
         Err(error) => eprintln!(rt; "{error:?}"),
     }
@@ -148,7 +167,7 @@ fn time_rounds(rt: &HostRuntime, items: Payload, turns: u32) -> io::Result<()> {
             let (words, received) = (told.words, told.received);
             println!(rt; "words {words} received {received}")?;
             let round = spent / u128::from(turns).max(1);
-            eprintln!(rt; "a write, a read and an event of 8 items: {round} ns")
+            tell_time(rt, "a write, a read and an event of 8 items", round, "ns")
         }
         Err(error) => eprintln!(rt; "{error:?}"),
     }
@@ -256,10 +275,9 @@ fn time_fed(
     match reading.feed_and_read(hosts, rounds) {
         Ok(()) => {
             let spent = start.elapsed(rt)?.as_nanos();
-            let (received, sum) = (reading.received(), reading.sum());
-            println!(rt; "fed {received}: {sum}")?;
+            tell_reading(rt, "fed", reading)?;
             let round = spent / u128::from(rounds).max(1);
-            eprintln!(rt; "a feed and a read of 64 bytes: {round} ns")
+            tell_time(rt, "a feed and a read of 64 bytes", round, "ns")
         }
         Err(error) => eprintln!(rt; "{error:?}"),
     }
@@ -295,9 +313,8 @@ fn time_listed(rt: &HostRuntime, reading: &mut Reading, hosts: &mut Hosts) -> io
     match reading.read_list(hosts) {
         Ok(()) => {
             let spent = start.elapsed(rt)?.as_nanos();
-            let (received, sum) = (reading.received(), reading.sum());
-            println!(rt; "listed {received}: {sum}")?;
-            eprintln!(rt; "a list of 64 MiB: {spent} ns")
+            tell_reading(rt, "listed", reading)?;
+            tell_time(rt, "a list of 64 MiB", spent, "ns")
         }
         Err(error) => eprintln!(rt; "{error:?}"),
     }
