@@ -42,23 +42,10 @@ const TURNS: u32 = 2_000_000;
 const BYTES: Payload = Payload::One(Scalar::U8);
 
 fn main(rt: HostRuntime) -> io::Result<()> {
-    let turns = match env::args(&rt)?.nth(1) {
-        Some(word) => word.as_str().parse::<u32>().unwrap_or(TURNS),
-        None => TURNS,
-    };
+    let turns = asked_turns(&rt)?;
     time_mixed(&rt, turns)?;
-    match Filled::new(rt.alloc(), BYTES) {
-        Ok(mut filled) => {
-            time_look_ups(&rt, &filled, turns)?;
-            time_renewals(&rt, &mut filled, turns)?;
-        }
-        Err(error) => return eprintln!(rt; "{error:?}"),
-    }
-    let items = match env::args(&rt)?.nth(2) {
-        Some(word) => payload(word.as_str()),
-        None => BYTES,
-    };
-    time_rounds(&rt, items, turns)?;
+    time_filled(&rt, turns)?;
+    time_rounds(&rt, asked_items(&rt)?, turns)?;
     for (name, payload) in copies::layouts() {
         for count in COUNTS {
             time_copies(&rt, name, payload, count, turns)?;
@@ -71,6 +58,22 @@ fn main(rt: HostRuntime) -> io::Result<()> {
     time_items(&rt, "(u8,u32)", (7u8, 70_000u32))?;
     time_feeds(&rt, turns / 8)?;
     time_list(&rt)
+}
+
+// The first argument, a number of turns.
+fn asked_turns(rt: &HostRuntime) -> io::Result<u32> {
+    match env::args(rt)?.nth(1) {
+        Some(word) => Ok(word.as_str().parse::<u32>().unwrap_or(TURNS)),
+        None => Ok(TURNS),
+    }
+}
+
+// The second argument, what an item is.
+fn asked_items(rt: &HostRuntime) -> io::Result<Payload> {
+    match env::args(rt)?.nth(2) {
+        Some(word) => Ok(payload(word.as_str())),
+        None => Ok(BYTES),
+    }
 }
 
 // The payload of a word, bytes if it is none: the compiler does not know which.
@@ -110,6 +113,20 @@ fn tell_turns(rt: &HostRuntime, sums: &Sums) -> io::Result<()> {
     println!(rt; "numbers {numbers} reps {reps} live {live}")
 }
 
+fn tell_copies(rt: &HostRuntime, name: &str, count: u32, sum: u64, item: u128) -> io::Result<()> {
+    println!(rt; "copied {count} of {name}: {sum}")?;
+    eprintln!(rt; "{name} {count} {item}")
+}
+
+fn tell_windows(rt: &HostRuntime, room: u32, passed: u128, copied: u128) -> io::Result<()> {
+    eprintln!(rt; "16 MiB in windows of {room}: {passed} ns, copied: {copied} ns")
+}
+
+fn tell_items(rt: &HostRuntime, name: &str, count: u32, put: u128, taken: u128) -> io::Result<()> {
+    println!(rt; "took {count} of {name}")?;
+    eprintln!(rt; "put {name}: {put} ps, next: {taken} ps")
+}
+
 fn tell_reading(rt: &HostRuntime, name: &str, reading: &Reading) -> io::Result<()> {
     let (received, sum) = (reading.received(), reading.sum());
     println!(rt; "{name} {received}: {sum}")
@@ -124,6 +141,17 @@ fn time_mixed(rt: &HostRuntime, turns: u32) -> io::Result<()> {
             tell_turns(rt, &sums)?;
             let pairs = u128::from(turns / 2).max(1);
             tell_time(rt, "an insert and a removal", spent / pairs, "ns")
+        }
+        Err(error) => eprintln!(rt; "{error:?}"),
+    }
+}
+
+// Look-ups in a full table, and removals each with an insert.
+fn time_filled(rt: &HostRuntime, turns: u32) -> io::Result<()> {
+    match Filled::new(rt.alloc(), BYTES) {
+        Ok(mut filled) => {
+            time_look_ups(rt, &filled, turns)?;
+            time_renewals(rt, &mut filled, turns)
         }
         Err(error) => eprintln!(rt; "{error:?}"),
     }
@@ -189,10 +217,9 @@ fn time_copies(
             copies.repeat(rounds);
             let spent = start.elapsed(rt)?.as_nanos();
             let sum = copies.sum();
-            println!(rt; "copied {count} of {name}: {sum}")?;
             let copied = u128::from(rounds).saturating_mul(u128::from(count));
             let item = spent.saturating_mul(1000) / copied.max(1);
-            eprintln!(rt; "{name} {count} {item}")
+            tell_copies(rt, name, count, sum, item)
         }
         Err(error) => eprintln!(rt; "{error:?}"),
     }
@@ -216,7 +243,7 @@ fn time_windows(rt: &HostRuntime, room: u32) -> io::Result<()> {
             Err(error) => return eprintln!(rt; "{error:?}"),
         };
         let passed = start.elapsed(rt)?.as_nanos();
-        eprintln!(rt; "16 MiB in windows of {room}: {passed} ns, copied: {copied} ns")?;
+        tell_windows(rt, room, passed, copied)?;
     }
     let len = memory.len();
     println!(rt; "passed {len} in windows of {room}")
@@ -238,8 +265,7 @@ fn time_items<T: Payloaded>(rt: &HostRuntime, name: &str, value: T) -> io::Resul
     let start = Instant::now(rt)?;
     let count = windows::take_all(&mut offer);
     let taken = start.elapsed(rt)?.as_nanos().saturating_mul(1000) / u128::from(ITEMS);
-    println!(rt; "took {count} of {name}")?;
-    eprintln!(rt; "put {name}: {put} ps, next: {taken} ps")
+    tell_items(rt, name, count, put, taken)
 }
 
 // Feeds of 64 bytes to a host writer, each read at once.
