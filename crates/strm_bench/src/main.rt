@@ -20,6 +20,7 @@ ghost use Rattle.strm_world.specs.Does.{Fits};
 use crate::copies::{COUNTS, Copies};
 use crate::filled::{COUNT, Filled};
 use crate::hosted::{FED, LISTED, Reading};
+use crate::tables::Sums;
 use crate::windows::ITEMS;
 use std::time::Instant;
 use std::{env, io};
@@ -41,23 +42,10 @@ const TURNS: u32 = 2_000_000;
 const BYTES: Payload = Payload::One(Scalar::U8);
 
 fn main(rt: HostRuntime) -> io::Result<()> {
-    let turns = match env::args(&rt)?.nth(1) {
-        Some(word) => word.as_str().parse::<u32>().unwrap_or(TURNS),
-        None => TURNS,
-    };
+    let turns = asked_turns(&rt)?;
     time_mixed(&rt, turns)?;
-    match Filled::new(rt.alloc(), BYTES) {
-        Ok(mut filled) => {
-            time_look_ups(&rt, &filled, turns)?;
-            time_renewals(&rt, &mut filled, turns)?;
-        }
-        Err(error) => return eprintln!(rt; "{error:?}"),
-    }
-    let items = match env::args(&rt)?.nth(2) {
-        Some(word) => payload(word.as_str()),
-        None => BYTES,
-    };
-    time_rounds(&rt, items, turns)?;
+    time_filled(&rt, turns)?;
+    time_rounds(&rt, asked_items(&rt)?, turns)?;
     for (name, payload) in copies::layouts() {
         for count in COUNTS {
             time_copies(&rt, name, payload, count, turns)?;
@@ -70,6 +58,22 @@ fn main(rt: HostRuntime) -> io::Result<()> {
     time_items(&rt, "(u8,u32)", (7u8, 70_000u32))?;
     time_feeds(&rt, turns / 8)?;
     time_list(&rt)
+}
+
+// The first argument, a number of turns.
+fn asked_turns(rt: &HostRuntime) -> io::Result<u32> {
+    match env::args(rt)?.nth(1) {
+        Some(word) => Ok(word.as_str().parse::<u32>().unwrap_or(TURNS)),
+        None => Ok(TURNS),
+    }
+}
+
+// The second argument, what an item is.
+fn asked_items(rt: &HostRuntime) -> io::Result<Payload> {
+    match env::args(rt)?.nth(2) {
+        Some(word) => Ok(payload(word.as_str())),
+        None => Ok(BYTES),
+    }
 }
 
 // The payload of a word, bytes if it is none: the compiler does not know which.
@@ -92,19 +96,62 @@ fn payload(word: &str) -> Payload {
     }
 }
 
+// What something adds up to.
+fn tell_sum(rt: &HostRuntime, name: &str, sum: u64) -> io::Result<()> {
+    println!(rt; "{name} {sum}")
+}
+
+// How long something took.
+fn tell_time(rt: &HostRuntime, what: &str, time: u128, unit: &str) -> io::Result<()> {
+    eprintln!(rt; "{what}: {time} {unit}")
+}
+
+fn tell_turns(rt: &HostRuntime, sums: &Sums) -> io::Result<()> {
+    let (inserts, removals) = (sums.inserts, sums.removals);
+    println!(rt; "inserts {inserts} removals {removals}")?;
+    let (numbers, reps, live) = (sums.numbers, sums.reps, sums.live);
+    println!(rt; "numbers {numbers} reps {reps} live {live}")
+}
+
+fn tell_copies(rt: &HostRuntime, name: &str, count: u32, sum: u64, item: u128) -> io::Result<()> {
+    println!(rt; "copied {count} of {name}: {sum}")?;
+    eprintln!(rt; "{name} {count} {item}")
+}
+
+fn tell_windows(rt: &HostRuntime, room: u32, passed: u128, copied: u128) -> io::Result<()> {
+    eprintln!(rt; "16 MiB in windows of {room}: {passed} ns, copied: {copied} ns")
+}
+
+fn tell_items(rt: &HostRuntime, name: &str, count: u32, put: u128, taken: u128) -> io::Result<()> {
+    println!(rt; "took {count} of {name}")?;
+    eprintln!(rt; "put {name}: {put} ps, next: {taken} ps")
+}
+
+fn tell_reading(rt: &HostRuntime, name: &str, reading: &Reading) -> io::Result<()> {
+    let (received, sum) = (reading.received(), reading.sum());
+    println!(rt; "{name} {received}: {sum}")
+}
+
 // Inserts and removals in mixed order, on a table of up to 32,768 handles.
 fn time_mixed(rt: &HostRuntime, turns: u32) -> io::Result<()> {
     let start = Instant::now(rt)?;
     match tables::run(rt.alloc(), BYTES, turns) {
         Ok(sums) => {
             let spent = start.elapsed(rt)?.as_nanos();
-            let (inserts, removals) = (sums.inserts, sums.removals);
-            let (numbers, reps, live) = (sums.numbers, sums.reps, sums.live);
-            println!(rt; "inserts {inserts} removals {removals}")?;
-            println!(rt; "numbers {numbers} reps {reps} live {live}")?;
+            tell_turns(rt, &sums)?;
             let pairs = u128::from(turns / 2).max(1);
-            let pair = spent / pairs;
-            eprintln!(rt; "an insert and a removal: {pair} ns")
+            tell_time(rt, "an insert and a removal", spent / pairs, "ns")
+        }
+        Err(error) => eprintln!(rt; "{error:?}"),
+    }
+}
+
+// Look-ups in a full table, and removals each with an insert.
+fn time_filled(rt: &HostRuntime, turns: u32) -> io::Result<()> {
+    match Filled::new(rt.alloc(), BYTES) {
+        Ok(mut filled) => {
+            time_look_ups(rt, &filled, turns)?;
+            time_renewals(rt, &mut filled, turns)
         }
         Err(error) => eprintln!(rt; "{error:?}"),
     }
@@ -117,9 +164,9 @@ fn time_look_ups(rt: &HostRuntime, filled: &Filled, turns: u32) -> io::Result<()
     match filled.look_up(rounds) {
         Ok(sum) => {
             let spent = start.elapsed(rt)?.as_nanos();
-            println!(rt; "found {sum}")?;
+            tell_sum(rt, "found", sum)?;
             let picoseconds = spent / u128::from(rounds).max(1);
-            eprintln!(rt; "a look-up: {picoseconds} ps")
+            tell_time(rt, "a look-up", picoseconds, "ps")
         }
         Err(error) => eprintln!(rt; "{error:?}"),
     }
@@ -131,9 +178,9 @@ fn time_renewals(rt: &HostRuntime, filled: &mut Filled, turns: u32) -> io::Resul
     match filled.renew(turns) {
         Ok(sum) => {
             let spent = start.elapsed(rt)?.as_nanos();
-            println!(rt; "renewed {sum}")?;
+            tell_sum(rt, "renewed", sum)?;
             let picoseconds = spent.saturating_mul(1000) / u128::from(turns).max(1);
-            eprintln!(rt; "a removal with an insert: {picoseconds} ps")
+            tell_time(rt, "a removal with an insert", picoseconds, "ps")
         }
         Err(error) => eprintln!(rt; "{error:?}"),
     }
@@ -148,7 +195,7 @@ fn time_rounds(rt: &HostRuntime, items: Payload, turns: u32) -> io::Result<()> {
             let (words, received) = (told.words, told.received);
             println!(rt; "words {words} received {received}")?;
             let round = spent / u128::from(turns).max(1);
-            eprintln!(rt; "a write, a read and an event of 8 items: {round} ns")
+            tell_time(rt, "a write, a read and an event of 8 items", round, "ns")
         }
         Err(error) => eprintln!(rt; "{error:?}"),
     }
@@ -170,10 +217,9 @@ fn time_copies(
             copies.repeat(rounds);
             let spent = start.elapsed(rt)?.as_nanos();
             let sum = copies.sum();
-            println!(rt; "copied {count} of {name}: {sum}")?;
             let copied = u128::from(rounds).saturating_mul(u128::from(count));
             let item = spent.saturating_mul(1000) / copied.max(1);
-            eprintln!(rt; "{name} {count} {item}")
+            tell_copies(rt, name, count, sum, item)
         }
         Err(error) => eprintln!(rt; "{error:?}"),
     }
@@ -197,7 +243,7 @@ fn time_windows(rt: &HostRuntime, room: u32) -> io::Result<()> {
             Err(error) => return eprintln!(rt; "{error:?}"),
         };
         let passed = start.elapsed(rt)?.as_nanos();
-        eprintln!(rt; "16 MiB in windows of {room}: {passed} ns, copied: {copied} ns")?;
+        tell_windows(rt, room, passed, copied)?;
     }
     let len = memory.len();
     println!(rt; "passed {len} in windows of {room}")
@@ -219,8 +265,7 @@ fn time_items<T: Payloaded>(rt: &HostRuntime, name: &str, value: T) -> io::Resul
     let start = Instant::now(rt)?;
     let count = windows::take_all(&mut offer);
     let taken = start.elapsed(rt)?.as_nanos().saturating_mul(1000) / u128::from(ITEMS);
-    println!(rt; "took {count} of {name}")?;
-    eprintln!(rt; "put {name}: {put} ps, next: {taken} ps")
+    tell_items(rt, name, count, put, taken)
 }
 
 // Feeds of 64 bytes to a host writer, each read at once.
@@ -256,10 +301,9 @@ fn time_fed(
     match reading.feed_and_read(hosts, rounds) {
         Ok(()) => {
             let spent = start.elapsed(rt)?.as_nanos();
-            let (received, sum) = (reading.received(), reading.sum());
-            println!(rt; "fed {received}: {sum}")?;
+            tell_reading(rt, "fed", reading)?;
             let round = spent / u128::from(rounds).max(1);
-            eprintln!(rt; "a feed and a read of 64 bytes: {round} ns")
+            tell_time(rt, "a feed and a read of 64 bytes", round, "ns")
         }
         Err(error) => eprintln!(rt; "{error:?}"),
     }
@@ -295,9 +339,8 @@ fn time_listed(rt: &HostRuntime, reading: &mut Reading, hosts: &mut Hosts) -> io
     match reading.read_list(hosts) {
         Ok(()) => {
             let spent = start.elapsed(rt)?.as_nanos();
-            let (received, sum) = (reading.received(), reading.sum());
-            println!(rt; "listed {received}: {sum}")?;
-            eprintln!(rt; "a list of 64 MiB: {spent} ns")
+            tell_reading(rt, "listed", reading)?;
+            tell_time(rt, "a list of 64 MiB", spent, "ns")
         }
         Err(error) => eprintln!(rt; "{error:?}"),
     }
