@@ -125,9 +125,28 @@ pub(crate) fn is_bytes(rt: &impl Abort, answer: Result<Chunk, StoreError>, bytes
     assert!(rt; found);
 }
 
-/// So many items were moved on a stream.
-pub(crate) fn has_moved(rt: &impl Abort, store: &Store, stream: u32, count: u128) {
-    assert_eq!(rt; store.moved(stream), Some(count));
+/// So many streams were made.
+pub(crate) fn has_streams(rt: &impl Abort, store: &Store, count: u32) {
+    assert_eq!(rt; store.streams(), count);
+}
+
+/// So many items were moved on a stream; none is told of one that was never made.
+pub(crate) fn has_moved(rt: &impl Abort, store: &Store, stream: u32, count: Option<u128>) {
+    assert_eq!(rt; store.moved(stream), count);
+}
+
+/// Whether a store answers nothing any more.
+pub(crate) fn is_trapped(rt: &impl Abort, store: &Store, wanted: bool) {
+    assert_eq!(rt; store.trapped(), wanted);
+}
+
+/// A guest's memory begins with these bytes.
+pub(crate) fn begins(rt: &impl Abort, store: &Store, guest: u32, bytes: &[u8]) {
+    let found = match store.memory(guest) {
+        Some(memory) => memory.starts_with(bytes),
+        None => false,
+    };
+    assert!(rt; found);
 }
 
 /// A stream's type, or that no end of it is there.

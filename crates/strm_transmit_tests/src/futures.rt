@@ -27,7 +27,7 @@ fn a_value_passes(rt: HostRuntime) {
     reads_value(&rt, &mut store, &mut hosts, (0, 1), 8, 0x00);
     is_event(&rt, store.take_event(0, 2), Some(0x00));
     is_bytes(&rt, store.dump(0, 8, 4), &[0x2a, 0, 0, 0]);
-    has_moved(&rt, &store, 0, 1);
+    has_moved(&rt, &store, 0, Some(1));
     must_fit(&rt, &store, &hosts);
     is_done(&rt, store.future_drop_readable(&mut hosts, 0, WORDS, 1));
     has_type(&rt, &store, 0, Some(FUTURE));

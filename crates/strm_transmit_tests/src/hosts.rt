@@ -6,8 +6,8 @@ ghost use Rattle.strm_codes.specs.declared.payloads.Payload.TheVariants.{One};
 ghost use Rattle.strm_codes.specs.declared.scalars.Scalar.TheVariants.{U8};
 
 use crate::answers::{
-    AMPLE, BYTE_STREAM, BYTES, closes, drops_reader, has_moved, has_type, is_code, is_done,
-    is_error, is_event, is_number, is_refused, must_fit, no_hosts, reads,
+    AMPLE, BYTE_STREAM, BYTES, begins, closes, drops_reader, has_moved, has_type, is_code, is_done,
+    is_error, is_event, is_number, is_refused, is_trapped, must_fit, no_hosts, reads,
 };
 use std::alloc::Global;
 use std::process::Abort;
@@ -113,14 +113,6 @@ fn drive(rt: &impl Abort, store: &mut Store, hosts: &mut Hosts) -> Result<(), St
     store.drive_once(hosts)
 }
 
-// Whether the guest's memory begins with these bytes.
-fn begins(store: &Store, bytes: &[u8]) -> bool {
-    match store.memory(0) {
-        Some(memory) => memory.starts_with(bytes),
-        None => false,
-    }
-}
-
 const SERVED: [Turn; 3] = [
     (&[7, 8, 9], Answer::Completed),
     (&[], Answer::Pending),
@@ -149,8 +141,8 @@ fn reads_are_served(rt: HostRuntime) -> Result<(), Fail> {
     let gone = no_read(&rt, &mut store, &mut hosts);
     is_refused(&rt, gone, Refusal::ReadFromDroppedStream);
     drops_reader(&rt, &mut store, &mut hosts, (0, 1));
-    assert!(rt; begins(&store, &[7, 8, 9, 5]));
-    has_moved(&rt, &store, 0, 4);
+    begins(&rt, &store, 0, &[7, 8, 9, 5]);
+    has_moved(&rt, &store, 0, Some(4));
     has_records(&rt, &hosts, 0, 3);
     Ok(())
 }
@@ -207,7 +199,7 @@ fn a_poll_that_stops(rt: HostRuntime) -> Result<(), Fail> {
     is_error(&rt, broke, StoreError::HostBroke { end });
     let later = host(&rt, &mut store, &hosts, 0).err();
     is_error(&rt, later, StoreError::StoreTrapped);
-    assert!(rt; store.trapped());
+    is_trapped(&rt, &store, true);
     Ok(())
 }
 

@@ -1,8 +1,8 @@
 //! Limits on handles and places, which no line can reach.
 
 use crate::answers::{
-    BYTE_STREAM, BYTES, WORDS, chunk, drops_reader, drops_writer, has_moved, has_type, is_done,
-    is_event, is_number, is_pair, is_refused, must_fit, no_hosts,
+    BYTE_STREAM, BYTES, WORDS, chunk, drops_reader, drops_writer, has_moved, has_streams, has_type,
+    is_done, is_event, is_number, is_pair, is_refused, must_fit, no_hosts,
 };
 use std::alloc::Global;
 use std::process::Abort;
@@ -35,7 +35,7 @@ fn refused_streams(rt: HostRuntime) {
         let mut store = limited(&rt, rt.alloc(), handles, places);
         is_refused(&rt, store.stream_new(guest, BYTES).err(), refusal);
         is_refused(&rt, store.future_new(guest, WORDS).err(), refusal);
-        assert_eq!(rt; store.streams(), 0);
+        has_streams(&rt, &store, 0);
     }
 }
 
@@ -47,7 +47,7 @@ fn streams_at_their_limits(rt: HostRuntime) {
     is_refused(&rt, store.stream_new(0, BYTES).err(), Refusal::HandleLimit);
     let mut store = limited(&rt, rt.alloc(), 2, 3);
     is_pair(&rt, store.future_new(0, WORDS), 1, 2, 0);
-    assert_eq!(rt; store.streams(), 1);
+    has_streams(&rt, &store, 1);
 }
 
 /// A stream less makes room for another.
@@ -81,7 +81,7 @@ fn a_future_makes_room(rt: HostRuntime) {
     must_fit(&rt, &store, &hosts);
     is_done(&rt, store.future_drop_writable(&mut hosts, 0, WORDS, 1));
     has_type(&rt, &store, 0, None);
-    has_moved(&rt, &store, 0, 0);
+    has_moved(&rt, &store, 0, Some(0));
     is_pair(&rt, store.new_between(0, 1, BYTE_STREAM), 1, 1, 1);
 }
 

@@ -1,13 +1,20 @@
 //! Guests, and the streams between them: each call once.
 
 use crate::answers::{
-    AMPLE, BYTE_STREAM, BYTES, chunk, drops_reader, drops_writer, has_moved, has_type, is_bytes,
-    is_code, is_done, is_event, is_number, is_pair, is_refused, no_hosts, reads, writes,
+    AMPLE, BYTE_STREAM, BYTES, begins, chunk, drops_reader, drops_writer, has_moved, has_streams,
+    has_type, is_bytes, is_code, is_done, is_event, is_number, is_pair, is_refused, is_trapped,
+    no_hosts, reads, writes,
 };
+use std::process::Abort;
 use strm_codes::refusals::Refusal;
 use strm_transmit::store::Store;
 
 const BLOCKED: u32 = 0xffff_ffff;
+
+// What a store tells of itself, and that there is no third guest.
+fn is_called(rt: &impl Abort, store: &Store, tag: u64) {
+    assert!(rt; store.tag() == tag && store.memory(2).is_none());
+}
 
 /// What a store tells of itself and of its guests.
 #[test]
@@ -17,10 +24,9 @@ fn guests_have_memories(rt: HostRuntime) {
     is_number(&rt, store.add_guest(8), 1);
     is_done(&rt, store.poke(1, 6, &chunk(&rt, &[1, 2])));
     is_bytes(&rt, store.dump(1, 5, 3), &[0, 1, 2]);
-    assert_eq!(rt; store.tag(), 7);
-    assert!(rt; !store.trapped());
-    assert_eq!(rt; store.memory(1).map(<[u8]>::len), Some(8));
-    assert!(rt; store.memory(2).is_none());
+    begins(&rt, &store, 1, &[0, 0, 0, 0, 0, 0, 1, 2]);
+    is_trapped(&rt, &store, false);
+    is_called(&rt, &store, 7);
 }
 
 /// Two writes complete in a read that waits; what is known of the stream.
@@ -37,9 +43,9 @@ fn a_read_waits(rt: HostRuntime) {
     writes(&rt, &mut store, &mut hosts, (0, 1), 2, 2, 0x20);
     is_event(&rt, store.take_event(1, 1), Some(0x40));
     is_bytes(&rt, store.dump(1, 0, 5), &[1, 2, 3, 4, 0]);
-    has_moved(&rt, &store, 0, 4);
-    assert_eq!(rt; store.moved(1), None);
-    assert_eq!(rt; store.streams(), 1);
+    has_moved(&rt, &store, 0, Some(4));
+    has_moved(&rt, &store, 1, None);
+    has_streams(&rt, &store, 1);
 }
 
 /// Both ends in one guest are cancelled, and dropped: the stream is removed then.

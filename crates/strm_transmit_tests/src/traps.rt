@@ -2,7 +2,8 @@
 //! reply, and a stop an error.
 
 use crate::answers::{
-    AMPLE, BYTES, chunk, is_code, is_done, is_error, is_number, is_pair, must_fit, no_hosts,
+    AMPLE, BYTES, chunk, is_code, is_done, is_error, is_number, is_pair, is_trapped, must_fit,
+    no_hosts,
 };
 use std::alloc::Global;
 use std::process::Abort;
@@ -45,7 +46,7 @@ fn a_bad_item_traps(rt: HostRuntime) {
     let bad = store.stream_read(&mut hosts, 1, CHARS, 1, 0, 1).err();
     is_error(&rt, bad, StoreError::BadItem { stream: 1 });
     is_error(&rt, store.add_guest(16).err(), TRAPPED);
-    assert!(rt; store.trapped());
+    is_trapped(&rt, &store, true);
 }
 
 // A step, on host ends that the store needs.
