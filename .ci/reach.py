@@ -222,10 +222,12 @@ def blanked(text):
 
 
 class Source:
-    """A crate's `src/`: the clauses that other crates can see, each with its scope."""
+    """A crate's `src/`: the clauses that other crates can see, each with its scope. `calls` has those of
+    each call, by their labels."""
 
     def __init__(self, folder):
         self.clauses, self.items, self.offered = [], [], set()
+        self.calls = {}
         self.read(os.path.join(folder, "lib.rt"), folder, True)
         for item in self.items:
             item["is_public"] |= item["is_marked"] and item["name"] in self.offered
@@ -263,11 +265,17 @@ class Source:
         """Takes the public clauses of an item."""
         kind, scope = item["kind"], item["scope"]
         if kind == "fn" and item["is_public"]:
-            self.clauses += [(text, scope) for text in item["clauses"]]
+            self.take_call(item["name"], item, scope)
         elif kind in ("struct", "enum", "trait") and item["is_public"]:
             self.take_members(item, True)
         elif kind == "impl" and (item["owner"] in self.types or item["trait"] in self.types and item["owner"] not in self.own):
             self.take_members(item, item["trait"] is not None)
+
+    def take_call(self, name, item, scope):
+        found = self.calls.setdefault(name, [])
+        for label, text in item["clauses"]:
+            self.clauses.append((text, scope))
+            found.append((label, text, scope))
 
     def take_members(self, item, are_public):
         members = list(items_of(item["body"]))
@@ -275,7 +283,8 @@ class Source:
         scope = scope_of(uses, item["scope"])
         for member in members:
             if member["kind"] == "fn" and (are_public or member["is_marked"]):
-                self.clauses += [(text, scope) for text in member["clauses"]]
+                names = (item["owner"], item["trait"]) if item["kind"] == "impl" else (item["name"], None)
+                self.take_call("::".join(filter(None, (*names, member["name"]))), member, scope)
         for name, text in ghosts(item["body"]):
             if not UNSAID.fullmatch(name):
                 self.clauses.append((text, scope))
@@ -338,9 +347,11 @@ def read_call(text, at, item):
     while at < len(text) and text[at] != ";":
         if text[at] == "{":
             close = closing(text, at)
-            if not re.search(r"\b(requires|ensures|follows)\*?\s*\w*\s*$", text[since:at]):
+            begun = re.search(r"\b(requires|ensures|follows)\*?\s*(\w*)\s*$", text[since:at])
+            if not begun:
                 return close + 1
-            item["clauses"].append(text[at:close + 1])
+            kind, label = begun.groups()
+            item["clauses"].append((label or kind if kind == "ensures" else kind, text[at:close + 1]))
             at = since = close + 1
         else:
             at = closing(text, at) + 1 if text[at] in "([" else at + 1
@@ -395,9 +406,26 @@ def is_lost(modules, named, path, name):
 
 def reached(crates, modules):
     """All definitions that the public clauses need; and what is imported and not found, as it is named."""
-    found, lost, texts, named = set(), set(), [], sorted(os.listdir(crates))
+    texts, named = [], sorted(os.listdir(crates))
     for crate in named:
         texts += Source(os.path.join(crates, crate, "src")).clauses
+    return needed(texts, modules, named)
+
+
+def calls_of(crates, crate):
+    """The public calls of a crate, each with its clauses: label, text, scope."""
+    return Source(os.path.join(crates, crate, "src")).calls
+
+
+def reached_by(crates, modules, crate, call, labels):
+    """The definitions that the clauses of some labels of a call need, with all that it requires."""
+    texts = [(text, scope) for label, text, scope in calls_of(crates, crate)[call] if label in (*labels, "requires")]
+    return needed(texts, modules, sorted(os.listdir(crates)))[0]
+
+
+def needed(texts, modules, named):
+    """The definitions that some texts need, each with its scope; and what is imported and not found."""
+    found, lost = set(), set()
     for _, scope in texts:
         take_modules(scope, modules)
     while texts:

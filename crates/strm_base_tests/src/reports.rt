@@ -1,48 +1,45 @@
 //! Reports and deliveries by example.
 
-use std::test::Fail;
+use crate::answers::is;
+use crate::codes::items;
 use strm_codes::codes::{ReturnCode, StreamResult, TransmitKind};
-use strm_codes::counts::ItemCount;
 use strm_events::reports::{Pending, deliver, report};
 
-fn pending(met: bool, moved: ItemCount, outcome: StreamResult) -> Pending {
-    Pending {
+// A read or write that has met, and so many items moved.
+fn met(moved: u32) -> Option<Pending> {
+    Some(Pending {
         is_open: true,
-        met,
+        met: true,
         asked: false,
-        moved,
-        outcome,
-    }
+        moved: items(moved),
+        outcome: StreamResult::Completed,
+    })
 }
 
 /// A write of which two items were taken by a reader that is gone then, and its next event.
 #[test]
-fn a_dropped_end_is_told_once(rt: HostRuntime) -> Result<(), Fail> {
-    let two = ItemCount::new(2).expect(&rt, "2 is a count");
+fn a_dropped_end_is_told_once(rt: HostRuntime) {
     let kind = TransmitKind::Stream;
-    let mut write = Some(pending(true, two, StreamResult::Completed));
+    let mut write = met(2);
     let mut told = false;
-    assert_eq!(rt;
-        report(kind, write.as_ref(), false, told, false),
-        Some(ReturnCode::Completed(two))
-    );
+    let before = report(kind, write.as_ref(), false, told, false);
+    is(&rt, before, Some(ReturnCode::Completed(items(2))));
     let first = deliver(kind, &mut write, &mut told, true, false);
-    assert_eq!(rt; first, Some(ReturnCode::Dropped(two)));
-    assert_eq!(rt; (write, told), (None, true));
-    assert_eq!(rt; deliver(kind, &mut write, &mut told, true, false), None);
-    Ok(())
+    is(&rt, first, Some(ReturnCode::Dropped(items(2))));
+    is(&rt, write, None);
+    is(&rt, told, true);
+    is(&rt, deliver(kind, &mut write, &mut told, true, false), None);
 }
 
 /// A future's Completed carries 0, also where the other end is gone.
 #[test]
-fn a_future_completes_with_no_count(rt: HostRuntime) -> Result<(), Fail> {
-    let one = ItemCount::new(1).expect(&rt, "1 is a count");
+fn a_future_completes_with_no_count(rt: HostRuntime) {
     let kind = TransmitKind::Future;
-    let mut read = Some(pending(true, one, StreamResult::Completed));
+    let mut read = met(1);
     let mut told = false;
     let code = deliver(kind, &mut read, &mut told, true, true);
-    assert_eq!(rt; code, Some(ReturnCode::Completed(ItemCount::ZERO)));
-    assert_eq!(rt; (read, told), (None, false));
-    assert_eq!(rt; deliver(kind, &mut read, &mut told, true, true), None);
-    Ok(())
+    is(&rt, code, Some(ReturnCode::Completed(items(0))));
+    is(&rt, read, None);
+    is(&rt, told, false);
+    is(&rt, deliver(kind, &mut read, &mut told, true, true), None);
 }

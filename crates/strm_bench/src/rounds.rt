@@ -42,15 +42,27 @@ pub struct Told {
 /// So many rounds on a new store with a stream from one guest to another.
 pub fn run(alloc: Global, items: Payload, rounds: u32) -> Result<Told, StoreError> {
     let mut store = Store::new(alloc, 0, LIMITS);
-    store.add_guest(SIZE)?;
-    store.add_guest(SIZE)?;
-    let payload = items;
-    let pair = store.new_between(WRITER, READER, TransmitIndex::Stream(payload))?;
     let mut hosts = Hosts {
         writers: Vec::new(alloc),
         readers: Vec::new(alloc),
     };
-    let words = repeat(&mut store, &mut hosts, items, pair.write, pair.read, rounds)?;
+    run_on(&mut store, &mut hosts, items, rounds)
+}
+
+// The same on a store that is lent.
+fn run_on(
+    store: &mut Store,
+    hosts: &mut Hosts,
+    items: Payload,
+    rounds: u32,
+) -> Result<Told, StoreError>
+    requires { Fits store.old (tells_of writer_tells reader_tells hosts.old) }
+{
+    store.add_guest(SIZE)?;
+    store.add_guest(SIZE)?;
+    let payload = items;
+    let pair = store.new_between(WRITER, READER, TransmitIndex::Stream(payload))?;
+    let words = repeat(store, hosts, items, pair.write, pair.read, rounds)?;
     Ok(Told {
         words,
         received: store.moved(pair.stream).unwrap_or(0),

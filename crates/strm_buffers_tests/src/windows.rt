@@ -1,139 +1,132 @@
 //! Windows and offers.
 
-#[cfg(test)]
-mod tests {
-    use std::alloc::Global;
-    use std::test::Fail;
-    use strm_buffers::offers::Offer;
-    use strm_buffers::windows::Window;
-    use strm_codes::counts::OutOfMemory;
-    use strm_codes::payloads::Payload;
-    use strm_codes::scalars::Scalar;
-    use strm_memory::memories::GuestMemory;
-    use strm_memory::payloaded::Payloaded;
+use crate::answers::{is, memory, vector};
+use std::alloc::Global;
+use std::fmt::Debug;
+use std::process::Abort;
+use strm_buffers::offers::Offer;
+use strm_buffers::windows::Window;
+use strm_codes::payloads::Payload;
+use strm_codes::scalars::Scalar;
+use strm_memory::memories::GuestMemory;
+use strm_memory::payloaded::Payloaded;
 
-    const BYTES: Payload = Payload::One(Scalar::U8);
+const BYTES: Payload = Payload::One(Scalar::U8);
 
-    // A value put into a window between host ends, and taken from an offer of its items.
-    fn passed<T: Payloaded>(alloc: Global, value: T) -> Result<Option<T>, OutOfMemory> {
-        let mut window = Window::unbounded(alloc, T::payload());
-        window.put(&value.lower())?;
-        let mut offer = Offer::of_items(window.into_items(), 0);
-        match offer.next() {
-            Some(item) => Ok(T::lift(&item)),
-            None => Ok(None),
-        }
+// The next value of an offer.
+fn next<T: Payloaded>(offer: &mut Offer) -> Option<T> {
+    match offer.next() {
+        Some(item) => T::lift(&item),
+        None => None,
     }
+}
 
-    // A value put into a window over a memory, and taken from an offer of that memory.
-    fn stored<T: Payloaded>(alloc: Global, value: T) -> Result<Option<T>, OutOfMemory> {
-        let payload = T::payload();
-        let size = payload.size();
-        let mut window = Window::over(GuestMemory::new(alloc, size)?, payload, 0, 1);
-        window.put(&value.lower())?;
-        let (memory, marked) = window.into_memory();
-        if memory.len() < size as usize * marked as usize {
-            return Ok(None);
-        }
-        let mut offer = Offer::of_memory(memory, payload, 0, marked, 0);
-        match offer.next() {
-            Some(item) => Ok(T::lift(&item)),
-            None => Ok(None),
-        }
+// A value put into a window between host ends, and taken from an offer of its items.
+fn passed<T: Payloaded>(alloc: Global, value: T) -> Option<T> {
+    let mut window = Window::unbounded(alloc, T::payload());
+    match window.put(&value.lower()) {
+        Ok(()) => {}
+        Err(_) => return None,
     }
+    next(&mut Offer::of_items(window.into_items(), 0))
+}
 
-    #[test]
-    fn items_pass_between_host_ends(rt: HostRuntime) -> Result<(), Fail> {
-        let alloc = rt.alloc();
-        assert_eq!(rt; passed(alloc, ()), Ok(Some(())));
-        assert_eq!(rt; passed(alloc, 70000u32), Ok(Some(70000)));
-        assert_eq!(rt; passed(alloc, true), Ok(Some(true)));
-        assert_eq!(rt; passed(alloc, 'ß'), Ok(Some('ß')));
-        assert_eq!(rt; passed(alloc, (7u8, 70000u32)), Ok(Some((7, 70000))));
-        Ok(())
+// A value put into a window over a memory, and taken from an offer of that memory.
+fn stored<T: Payloaded>(alloc: Global, value: T) -> Option<T> {
+    let payload = T::payload();
+    let size = payload.size();
+    let Ok(memory) = GuestMemory::new(alloc, size) else {
+        return None;
+    };
+    let mut window = Window::over(memory, payload, 0, 1);
+    match window.put(&value.lower()) {
+        Ok(()) => {}
+        Err(_) => return None,
     }
+    let (memory, marked) = window.into_memory();
+    if memory.len() < size as usize * marked as usize {
+        return None;
+    }
+    next(&mut Offer::of_memory(memory, payload, 0, marked, 0))
+}
 
-    #[test]
-    fn items_pass_through_a_memory(rt: HostRuntime) -> Result<(), Fail> {
-        let alloc = rt.alloc();
-        assert_eq!(rt; stored(alloc, ()), Ok(Some(())));
-        assert_eq!(rt; stored(alloc, 70000u32), Ok(Some(70000)));
-        assert_eq!(rt; stored(alloc, true), Ok(Some(true)));
-        assert_eq!(rt; stored(alloc, 'ß'), Ok(Some('ß')));
-        assert_eq!(rt; stored(alloc, (7u8, 70000u32)), Ok(Some((7, 70000))));
-        Ok(())
-    }
+fn passes<T: Payloaded + Copy + Debug + PartialEq>(rt: &impl Abort, alloc: Global, value: T) {
+    is(rt, passed(alloc, value), Some(value));
+    is(rt, stored(alloc, value), Some(value));
+}
 
-    #[test]
-    fn bytes_that_are_not_marked_are_put_back(rt: HostRuntime) -> Result<(), Fail> {
-        let memory = GuestMemory::of_bytes([1u8, 2, 3, 4].to_vec(rt.alloc())?);
-        let mut window = Window::over(memory, BYTES, 1, 2);
-        assert!(rt; window.prepare().is_ok());
-        window.unmarked().fill(9);
-        assert_eq!(rt; window.lent(), [1, 9, 9, 4].as_slice());
-        window.mark(1);
-        let (memory, marked) = window.into_memory();
-        assert_eq!(rt; memory.bytes(), [1, 9, 3, 4].as_slice());
-        assert_eq!(rt; marked, 1);
-        Ok(())
-    }
+#[test]
+fn items_pass_between_host_ends_and_through_a_memory(rt: HostRuntime) {
+    passes(&rt, rt.alloc(), ());
+    passes(&rt, rt.alloc(), 70000u32);
+    passes(&rt, rt.alloc(), true);
+    passes(&rt, rt.alloc(), 'ß');
+    passes(&rt, rt.alloc(), (7u8, 70000u32));
+}
 
-    #[test]
-    fn a_window_may_have_no_room(rt: HostRuntime) -> Result<(), Fail> {
-        let memory = GuestMemory::of_bytes([1u8, 2].to_vec(rt.alloc())?);
-        let mut window = Window::over(memory, BYTES, 2, 0);
-        assert!(rt; window.prepare().is_ok());
-        assert!(rt; window.unmarked().is_empty());
-        assert_eq!(rt; window.into_memory().1, 0);
-        Ok(())
-    }
+#[test]
+fn bytes_that_are_not_marked_are_put_back(rt: HostRuntime) {
+    let memory = GuestMemory::of_bytes(vector(&rt, rt.alloc(), &[1, 2, 3, 4]));
+    let mut window = Window::over(memory, BYTES, 1, 2);
+    is(&rt, window.prepare(), Ok(()));
+    window.unmarked().fill(9);
+    is(&rt, window.lent(), [1, 9, 9, 4].as_slice());
+    window.mark(1);
+    let (memory, marked) = window.into_memory();
+    is(&rt, memory.bytes(), [1, 9, 3, 4].as_slice());
+    is(&rt, marked, 1);
+}
 
-    #[test]
-    fn all_of_a_room_is_marked(rt: HostRuntime) -> Result<(), Fail> {
-        let memory = GuestMemory::of_bytes([1u8, 2, 3].to_vec(rt.alloc())?);
-        let mut window = Window::over(memory, BYTES, 0, 3);
-        assert!(rt; window.prepare().is_ok());
-        window.unmarked().copy_from_slice([7, 8, 9].as_slice());
-        window.mark(2);
-        assert!(rt; window.put(&6u8.lower()).is_ok());
-        assert_eq!(rt; window.into_memory().0.bytes(), [7, 8, 6].as_slice());
-        Ok(())
-    }
+#[test]
+fn a_window_may_have_no_room(rt: HostRuntime) {
+    let mut window = Window::over(memory(&rt, rt.alloc(), 2), BYTES, 2, 0);
+    is(&rt, window.prepare(), Ok(()));
+    is(&rt, window.unmarked().is_empty(), true);
+    is(&rt, window.into_memory().1, 0);
+}
 
-    #[test]
-    fn marked_bytes_stay_where_more_are_asked_for(rt: HostRuntime) -> Result<(), Fail> {
-        let mut window = Window::unbounded(rt.alloc(), BYTES);
-        assert!(rt; window.direct(2).is_ok());
-        window.unmarked().fill(5);
-        window.mark(1);
-        assert!(rt; window.direct(3).is_ok());
-        assert_eq!(rt; window.unmarked().len(), 3);
-        window.mark(1);
-        let offer = Offer::of_items(window.into_items(), 0);
-        assert_eq!(rt; offer.direct(), [5, 0].as_slice());
-        Ok(())
-    }
+#[test]
+fn all_of_a_room_is_marked(rt: HostRuntime) {
+    let mut window = Window::over(memory(&rt, rt.alloc(), 3), BYTES, 0, 3);
+    is(&rt, window.prepare(), Ok(()));
+    window.unmarked().copy_from_slice([7, 8, 9].as_slice());
+    window.mark(2);
+    is(&rt, window.put(&6u8.lower()), Ok(()));
+    let (memory, _) = window.into_memory();
+    is(&rt, memory.bytes(), [7, 8, 6].as_slice());
+}
 
-    #[test]
-    fn what_an_offer_lends_comes_back(rt: HostRuntime) -> Result<(), Fail> {
-        let memory = GuestMemory::of_bytes([1u8, 2, 3, 4].to_vec(rt.alloc())?);
-        let mut offer = Offer::of_memory(memory, BYTES, 1, 3, 2);
-        assert_eq!(rt; offer.direct(), [2, 3, 4].as_slice());
-        offer.mark_read(2);
-        assert_eq!(rt; offer.remaining(), 1);
-        assert_eq!(rt; (offer.since(), offer.taken()), (2, 2));
-        assert_eq!(rt; offer.into_memory().0.bytes(), [1, 2, 3, 4].as_slice());
-        Ok(())
-    }
+#[test]
+fn marked_bytes_stay_where_more_are_asked_for(rt: HostRuntime) {
+    let mut window = Window::unbounded(rt.alloc(), BYTES);
+    is(&rt, window.direct(2), Ok(()));
+    window.unmarked().fill(5);
+    window.mark(1);
+    is(&rt, window.direct(3), Ok(()));
+    is(&rt, window.unmarked().len(), 3);
+    window.mark(1);
+    let offer = Offer::of_items(window.into_items(), 0);
+    is(&rt, offer.direct(), [5, 0].as_slice());
+}
 
-    #[test]
-    fn a_bad_item_is_not_taken(rt: HostRuntime) -> Result<(), Fail> {
-        let payload = Payload::One(Scalar::Char);
-        let memory = GuestMemory::of_bytes([0u8, 216, 0, 0].to_vec(rt.alloc())?);
-        let mut offer = Offer::of_memory(memory, payload, 0, 1, 0);
-        assert_eq!(rt; offer.next(), None);
-        assert!(rt; offer.bad());
-        assert_eq!(rt; offer.taken(), 0);
-        Ok(())
-    }
+#[test]
+fn what_an_offer_lends_comes_back(rt: HostRuntime) {
+    let memory = GuestMemory::of_bytes(vector(&rt, rt.alloc(), &[1, 2, 3, 4]));
+    let mut offer = Offer::of_memory(memory, BYTES, 1, 3, 2);
+    is(&rt, offer.direct(), [2, 3, 4].as_slice());
+    offer.mark_read(2);
+    is(&rt, offer.remaining(), 1);
+    is(&rt, offer.since(), 2);
+    is(&rt, offer.taken(), 2);
+    let (memory, _) = offer.into_memory();
+    is(&rt, memory.bytes(), [1, 2, 3, 4].as_slice());
+}
+
+#[test]
+fn a_bad_item_is_not_taken(rt: HostRuntime) {
+    let memory = GuestMemory::of_bytes(vector(&rt, rt.alloc(), &[0, 216, 0, 0]));
+    let mut offer = Offer::of_memory(memory, Payload::One(Scalar::Char), 0, 1, 0);
+    is(&rt, offer.next().is_none(), true);
+    is(&rt, offer.bad(), true);
+    is(&rt, offer.taken(), 0);
 }

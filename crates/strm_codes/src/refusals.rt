@@ -28,7 +28,7 @@ pub enum Refusal {
     WrongKind = 9,
     /// The payloads differ.
     WrongType = 10,
-    /// In a cancel, drop, transfer or lift: the handle is the other end.
+    /// In a cancel, drop or lift: the handle is the other end, busy or idle.
     WrongEnd = 11,
     /// In a read or write: the handle is busy, or is the other end.
     ConcurrentFutureStreamOp = 12,

@@ -14,7 +14,7 @@ use crate::streams::Side;
 use strm_codes::codes::TransmitIndex;
 
 /// The end that a step names: a guest's handle for an end of a type.
-#[derive(Clone, Copy, Debug, PartialEq, Eq)]
+#[derive(Clone, Copy)]
 pub struct NamedEnd {
     pub guest: u32,
     pub ty: TransmitIndex,
@@ -22,7 +22,7 @@ pub struct NamedEnd {
 }
 
 /// What is made.
-#[derive(Clone, Copy, Debug, PartialEq, Eq)]
+#[derive(Clone, Copy)]
 pub enum Making {
     /// A guest with a memory of so many zero bytes.
     Guest {
@@ -47,7 +47,7 @@ pub enum Making {
 }
 
 /// What is done to the end that is named.
-#[derive(Clone, Copy, Debug, PartialEq, Eq)]
+#[derive(Clone, Copy)]
 pub enum EndAct {
     /// It reads or writes so many items, from `address` on in its guest's memory; a future's count
     /// is not looked at.
@@ -61,7 +61,7 @@ pub enum EndAct {
 }
 
 /// What is done to the loose read end of a stream.
-#[derive(Clone, Copy, Debug, PartialEq, Eq)]
+#[derive(Clone, Copy)]
 pub enum LooseAct {
     /// It comes into a guest, as one of this type.
     Lower { guest: u32, ty: TransmitIndex },
@@ -70,7 +70,7 @@ pub enum LooseAct {
 }
 
 /// What is done to a host writer.
-#[derive(Clone, Copy, Debug, PartialEq, Eq)]
+#[derive(Clone, Copy)]
 pub enum HostAct {
     /// It becomes the write end of a stream of its kind and payload, whose read end is loose.
     New,
@@ -79,7 +79,7 @@ pub enum HostAct {
 }
 
 /// What is done to a waitable set.
-#[derive(Clone, Copy, Debug, PartialEq, Eq)]
+#[derive(Clone, Copy)]
 pub enum SetAct {
     /// The end that a handle names joins it; of set 0, it leaves the set that it is in.
     Join { handle: u32 },
@@ -90,7 +90,7 @@ pub enum SetAct {
 }
 
 /// What is done to the error context that a handle names, or to the handle.
-#[derive(Clone, Copy, Debug, PartialEq, Eq)]
+#[derive(Clone, Copy)]
 pub enum ContextAct {
     /// Its message is put into the guest's memory, from `address` on.
     Text { address: u32 },
@@ -101,7 +101,7 @@ pub enum ContextAct {
 }
 
 /// What is done to the bytes of a guest's memory, from `address` on.
-#[derive(Clone, Copy, Debug, PartialEq, Eq)]
+#[derive(Clone, Copy)]
 pub enum MemoryAct {
     /// They are put there.
     Poke { address: u32, bytes: Chunk },
@@ -110,7 +110,7 @@ pub enum MemoryAct {
 }
 
 /// What a step does.
-#[derive(Clone, Copy, Debug, PartialEq, Eq)]
+#[derive(Clone, Copy)]
 pub enum Act {
     /// It makes a guest, a stream, a set or an error context.
     Make {

@@ -1,7 +1,7 @@
 //! The limits of a store.
 
 /// How much a store may keep. Ours, but for `handles`: wasmtime, `HandleCounter`.
-#[derive(Clone, Copy, Debug, PartialEq, Eq)]
+#[derive(Clone, Copy)]
 pub struct Limits {
     /// Live handles of all guests together.
     pub handles: usize,

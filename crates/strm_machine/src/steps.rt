@@ -7,7 +7,7 @@ use strm_codes::codes::TransmitIndex;
 
 /// One step. Guests are numbered from 0, handles from 1; addresses and sizes are in bytes, counts
 /// in items.
-#[derive(Clone, Copy, Debug, PartialEq, Eq)]
+#[derive(Clone, Copy)]
 pub enum Step {
     /// A guest with a memory of so many zero bytes. Ours.
     Guest {

@@ -5,7 +5,7 @@
 use crate::streams::HostEnd;
 
 /// Why a step stopped. The store is trapped from then on.
-#[derive(Clone, Copy, Debug, PartialEq, Eq)]
+#[derive(Clone, Copy)]
 pub enum Stop {
     /// A host end failed.
     HostFailed { end: HostEnd },

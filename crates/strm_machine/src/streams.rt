@@ -8,14 +8,14 @@ use strm_codes::counts::ItemCount;
 use strm_codes::payloads::Payload;
 
 /// One of the two ends of a stream.
-#[derive(Clone, Copy, Debug, PartialEq, Eq)]
+#[derive(Clone, Copy)]
 pub enum Side {
     Writing,
     Reading,
 }
 
 /// Who completes where a write and a read meet.
-#[derive(Clone, Copy, Debug, PartialEq, Eq)]
+#[derive(Clone, Copy)]
 pub enum Meeting {
     /// Items move, the caller completes, and the waiting side has met.
     BothComplete,
@@ -26,7 +26,7 @@ pub enum Meeting {
 }
 
 /// Who has an end.
-#[derive(Clone, Copy, Debug, PartialEq, Eq)]
+#[derive(Clone, Copy, PartialEq, Eq)]
 pub enum Owner {
     /// A guest, under a handle of its table.
     Held { guest: u32, handle: u32 },
@@ -40,7 +40,7 @@ pub enum Owner {
 }
 
 /// What a host end does for a store. It is used once.
-#[derive(Clone, Copy, Debug, PartialEq, Eq)]
+#[derive(Clone, Copy, PartialEq, Eq)]
 pub enum Duty {
     /// It was never used.
     Unused,
@@ -51,7 +51,7 @@ pub enum Duty {
 }
 
 /// What a store keeps of a host writer.
-#[derive(Clone, Copy, Debug, PartialEq, Eq)]
+#[derive(Clone, Copy)]
 pub struct Producer {
     pub duty: Duty,
     /// It answered Dropped: it has no more to come, and is not polled again.
@@ -67,7 +67,7 @@ pub enum HostEnd {
 
 /// A guest's read or write that has not ended. The next item lies at `address`, in bytes, or is to
 /// lie there.
-#[derive(Clone, Copy, Debug, PartialEq, Eq)]
+#[derive(Clone, Copy)]
 pub struct Operation {
     pub guest: u32,
     pub address: u32,
@@ -86,7 +86,7 @@ pub struct Operation {
 }
 
 /// One end of a stream.
-#[derive(Clone, Copy, Debug, PartialEq, Eq)]
+#[derive(Clone, Copy)]
 pub struct End {
     pub owner: Owner,
     /// Its owner was told that the other end is gone.
@@ -96,7 +96,7 @@ pub struct End {
 }
 
 /// A stream, or what is left of one whose both ends are gone.
-#[derive(Clone, Copy, Debug)]
+#[derive(Clone, Copy)]
 pub struct Stream {
     pub kind: TransmitKind,
     pub payload: Payload,

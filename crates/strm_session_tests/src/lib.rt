@@ -1,29 +1,17 @@
-//! What no clause of the session says: the formats' own examples, and that memory is found.
+//! What no clause of the session says: which lines are read, the texts of the formats, that memory is
+//! found, and what becomes of sources, sinks and host ends that fail.
 //!
-//! Public calls alone, so that the crates below are not proved once more for them.
+//! Public calls alone, so that the crates below are not proved once more for them. What the program's
+//! own lines can show stands in `examples/`.
 #![tactic(auto)]
 
 #[cfg(test)]
-mod calls;
+mod lines;
 #[cfg(test)]
-mod cancels;
+mod pieces;
 #[cfg(test)]
-mod contexts;
-#[cfg(test)]
-mod futures;
-#[cfg(test)]
-mod host_writers;
-#[cfg(test)]
-mod meetings;
-#[cfg(test)]
-mod moves;
-#[cfg(test)]
-mod one_guest;
-#[cfg(test)]
-mod payloads;
-#[cfg(test)]
-mod regions;
-#[cfg(test)]
-mod sets;
+mod serving;
 #[cfg(test)]
 mod stops;
+#[cfg(test)]
+mod texts;

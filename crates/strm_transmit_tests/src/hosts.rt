@@ -1,101 +1,74 @@
-//! Host writers by example: reads that they serve, drive rounds, cancels, and ends that go with them.
+//! Host writers that follow a script: reads that they serve, drive rounds, cancels, ends that go with
+//! them, and polls that stop a store.
 
 ghost use Rattle.std.specs.Prelude.{◌≡◌, All, IfOk};
 ghost use Rattle.strm_codes.specs.declared.payloads.Payload.TheVariants.{One};
 ghost use Rattle.strm_codes.specs.declared.scalars.Scalar.TheVariants.{U8};
 
-use crate::calls::{apply_fitting, no_hosts};
+use crate::answers::{
+    AMPLE, BYTE_STREAM, BYTES, begins, closes, drops_reader, has_moved, has_type, is_code, is_done,
+    is_error, is_event, is_number, is_refused, is_trapped, must_fit, no_hosts, reads,
+};
 use std::alloc::Global;
+use std::process::Abort;
 use std::test::Fail;
 use strm_buffers::answers::Answer;
 use strm_buffers::hosts::Hosts;
 use strm_buffers::items::Items;
 use strm_buffers::writers::HostWriter;
-use strm_codes::codes::{ReturnCode, TransmitIndex, TransmitKind};
-use strm_codes::counts::ItemCount;
-use strm_codes::payloads::Payload;
+use strm_codes::codes::TransmitKind;
 use strm_codes::refusals::Refusal;
-use strm_codes::scalars::Scalar;
 use strm_ends::scripted_writer::{ScriptedWriter, WriterTurn};
-use strm_machine::limits::Limits;
-use strm_machine::replies::Reply;
-use strm_machine::steps::Step;
 use strm_machine::streams::HostEnd;
-use strm_memory::payloaded::Payloaded;
 use strm_transmit::errors::StoreError;
 use strm_transmit::store::Store;
 
-const BYTES: Payload = Payload::One(Scalar::U8);
+const BLOCKED: u32 = 0xffff_ffff;
 
-const BYTE_STREAM: TransmitIndex = TransmitIndex::Stream(BYTES);
-
-const LIMITS: Limits = Limits {
-    handles: 4,
-    places: 100,
-};
-
-const GONE: ReturnCode = ReturnCode::Dropped(ItemCount::ZERO);
+// What one poll produces, and what it answers.
+type Turn = (&'static [u8], Answer);
 
 // The turns of a host writer of bytes.
 #[derive(Drop)]
 struct Script {
     turns: Vec<WriterTurn>,
-    alloc: Global,
     ghost typed: { All (λ turn. turn.items.payload ≡ One U8) turns.items },
 }
 
-impl Script {
-    fn new(alloc: Global) -> Script {
-        Script {
-            turns: Vec::new(alloc),
-            alloc,
-        }
+// These bytes, which are few.
+fn items_of(alloc: Global, bytes: &[u8]) -> Result<Items, Fail>
+    ensures { IfOk result (λ items. items.payload ≡ One U8) }
+{
+    if bytes.len() > 64 {
+        return Err(Fail::from("too many bytes"));
     }
+    let values = bytes.to_vec(alloc)?;
+    Ok(Items::of_values(alloc, values)?)
+}
 
-    // A turn more.
-    fn then(mut self, items: Items, answer: Answer) -> Result<Script, Fail>
+impl Script {
+    fn push(&mut self, items: Items, answer: Answer) -> Result<(), Fail>
         requires { items.payload ≡ One U8 }
     {
         self.turns.push(WriterTurn { items, answer })?;
-        Ok(self)
+        Ok(())
     }
 }
 
-// No items.
-fn none(alloc: Global) -> Items
-    ensures { result.payload ≡ One U8 }
-{
-    Items::new(alloc, BYTES)
-}
-
-// One byte.
-fn one(alloc: Global, byte: u8) -> Result<Items, Fail>
-    ensures { IfOk result (λ items. items.payload ≡ One U8) }
-{
-    let mut items = Items::new(alloc, BYTES);
-    items.push(&byte.lower())?;
-    Ok(items)
-}
-
-// Three bytes.
-fn three(alloc: Global, first: u8, second: u8, third: u8) -> Result<Items, Fail>
-    ensures { IfOk result (λ items. items.payload ≡ One U8) }
-{
-    let mut items = Items::new(alloc, BYTES);
-    items.push(&first.lower())?;
-    items.push(&second.lower())?;
-    items.push(&third.lower())?;
-    Ok(items)
-}
-
-// So many items were moved.
-fn counted(count: u32) -> ItemCount {
-    ItemCount::new(count).unwrap_or(ItemCount::ZERO)
+fn scripted(alloc: Global, turns: &[Turn]) -> Result<Script, Fail> {
+    let mut script = Script {
+        turns: Vec::new(alloc),
+    };
+    for (bytes, answer) in turns {
+        let items = items_of(alloc, bytes)?;
+        script.push(items, *answer)?;
+    }
+    Ok(script)
 }
 
 // A writer of these turns, at the end of the list.
-fn add_writer(hosts: &mut Hosts, script: Script) -> Result<(), Fail> {
-    let Script { turns, alloc } = script;
+fn add_writer(alloc: Global, hosts: &mut Hosts, turns: &[Turn]) -> Result<(), Fail> {
+    let Script { turns } = scripted(alloc, turns)?;
     let writer = ScriptedWriter::new(alloc, TransmitKind::Stream, BYTES, turns);
     let writer: Box<dyn HostWriter> = Box::new(alloc, writer)?;
     hosts.writers.push(writer)?;
@@ -103,264 +76,166 @@ fn add_writer(hosts: &mut Hosts, script: Script) -> Result<(), Fail> {
 }
 
 // How many polls a writer recorded.
-fn records(hosts: &Hosts, number: usize) -> Option<usize> {
-    match hosts.writers.get(number) {
-        Some(writer) => Some(writer.records()),
-        None => None,
-    }
+fn has_records(rt: &impl Abort, hosts: &Hosts, number: usize, records: usize) {
+    assert!(rt; number < hosts.writers.len());
+    assert_eq!(rt; hosts.writers[number].records(), records);
 }
 
-// A store with one guest.
-fn one_guest(alloc: Global) -> Result<Store, StoreError> {
-    let mut store = Store::new(alloc, 0, LIMITS);
-    store.add_guest(16)?;
-    Ok(store)
+// A store with one guest of 16 bytes.
+fn one_guest(rt: &impl Abort, alloc: Global) -> Store {
+    let mut store = Store::new(alloc, 0, AMPLE);
+    is_number(rt, store.add_guest(16), 0);
+    store
 }
 
-fn read(address: u32, count: u32) -> Step {
-    Step::Read {
-        guest: 0,
-        ty: BYTE_STREAM,
-        handle: 1,
-        address,
-        count,
-    }
+// A stream of a host writer.
+fn host(rt: &impl Abort, store: &mut Store, hosts: &Hosts, writer: u32) -> Result<u32, StoreError> {
+    must_fit(rt, store, hosts);
+    store.host_new(hosts, writer)
 }
 
-const LOWER: Step = Step::Lower {
-    reader: 0,
-    guest: 0,
-    ty: BYTE_STREAM,
-};
-
-const EVENT: Step = Step::Event {
-    guest: 0,
-    handle: 1,
-};
-
-const CANCEL: Step = Step::CancelRead {
-    guest: 0,
-    ty: BYTE_STREAM,
-    handle: 1,
-};
-
-const DROP: Step = Step::DropRead {
-    guest: 0,
-    ty: BYTE_STREAM,
-    handle: 1,
-};
-
-// The first step that is not answered so, from 1.
-fn first_wrong(
-    store: &mut Store,
-    hosts: &mut Hosts,
-    rows: &[(Step, Result<Reply, StoreError>)],
-) -> usize {
-    let mut at = 0usize;
-    for (step, expected) in rows {
-        at = at.wrapping_add(1);
-        if apply_fitting(store, hosts, step) != *expected {
-            return at;
-        }
-    }
-    0
+// A store whose guest reads from a host writer, by handle 1.
+fn reader_of(rt: &impl Abort, alloc: Global, hosts: &Hosts, writer: u32) -> Store {
+    let mut store = one_guest(rt, alloc);
+    is_number(rt, host(rt, &mut store, hosts, writer), 0);
+    is_number(rt, store.lower(0, 0, BYTE_STREAM), 1);
+    store
 }
+
+// The guest's read of at most two bytes, which is not answered.
+fn no_read(rt: &impl Abort, store: &mut Store, hosts: &mut Hosts) -> Option<StoreError> {
+    must_fit(rt, store, hosts);
+    store.stream_read(hosts, 0, BYTES, 1, 0, 2).err()
+}
+
+fn drive(rt: &impl Abort, store: &mut Store, hosts: &mut Hosts) -> Result<(), StoreError> {
+    must_fit(rt, store, hosts);
+    store.drive_once(hosts)
+}
+
+const SERVED: [Turn; 3] = [
+    (&[7, 8, 9], Answer::Completed),
+    (&[], Answer::Pending),
+    (&[5], Answer::Dropped),
+];
 
 /// A read gets what there is room for, the next one what was held, and a drive round what comes then.
 #[test]
 fn reads_are_served(rt: HostRuntime) -> Result<(), Fail> {
-    let alloc = rt.alloc();
-    let mut hosts = no_hosts(alloc);
-    let script = Script::new(alloc)
-        .then(three(alloc, 7, 8, 9)?, Answer::Completed)?
-        .then(none(alloc), Answer::Pending)?
-        .then(one(alloc, 5)?, Answer::Dropped)?;
-    add_writer(&mut hosts, script)?;
-    let mut store = one_guest(alloc).ok().ok_or("a guest")?;
-    let rows = [
-        (
-            Step::HostNew { host: 1 },
-            Ok(Reply::Refused(Refusal::UnknownHost)),
-        ),
-        (Step::HostNew { host: 0 }, Ok(Reply::Number(0))),
-        (
-            Step::HostNew { host: 0 },
-            Ok(Reply::Refused(Refusal::HostUsed)),
-        ),
-        (LOWER, Ok(Reply::Number(1))),
-        (
-            read(0, 2),
-            Ok(Reply::Code(ReturnCode::Completed(counted(2)))),
-        ),
-        (
-            read(2, 2),
-            Ok(Reply::Code(ReturnCode::Completed(counted(1)))),
-        ),
-        (read(3, 2), Ok(Reply::Code(ReturnCode::Blocked))),
-        (EVENT, Ok(Reply::Event(None))),
-        (Step::Drive, Ok(Reply::Done)),
-        (Step::Drive, Ok(Reply::Done)),
-        (
-            EVENT,
-            Ok(Reply::Event(Some(ReturnCode::Dropped(counted(1))))),
-        ),
-        (
-            read(4, 2),
-            Ok(Reply::Refused(Refusal::ReadFromDroppedStream)),
-        ),
-        (DROP, Ok(Reply::Done)),
-    ];
-    assert_eq!(rt; first_wrong(&mut store, &mut hosts, &rows), 0);
-    let bytes = store.memory(0).ok_or("a memory")?;
-    assert!(rt; bytes.starts_with(&[7, 8, 9, 5]));
-    assert_eq!(rt; store.moved(0), Some(4));
-    assert_eq!(rt; records(&hosts, 0), Some(3));
+    let mut hosts = no_hosts(rt.alloc());
+    add_writer(rt.alloc(), &mut hosts, &SERVED)?;
+    let mut store = one_guest(&rt, rt.alloc());
+    let unknown = host(&rt, &mut store, &hosts, 1).err();
+    is_refused(&rt, unknown, Refusal::UnknownHost);
+    is_number(&rt, host(&rt, &mut store, &hosts, 0), 0);
+    let used = host(&rt, &mut store, &hosts, 0).err();
+    is_refused(&rt, used, Refusal::HostUsed);
+    is_number(&rt, store.lower(0, 0, BYTE_STREAM), 1);
+    reads(&rt, &mut store, &mut hosts, (0, 1), 0, 2, 0x20);
+    reads(&rt, &mut store, &mut hosts, (0, 1), 2, 2, 0x10);
+    reads(&rt, &mut store, &mut hosts, (0, 1), 3, 2, BLOCKED);
+    is_event(&rt, store.take_event(0, 1), None);
+    is_done(&rt, drive(&rt, &mut store, &mut hosts));
+    is_done(&rt, drive(&rt, &mut store, &mut hosts));
+    is_event(&rt, store.take_event(0, 1), Some(0x11));
+    let gone = no_read(&rt, &mut store, &mut hosts);
+    is_refused(&rt, gone, Refusal::ReadFromDroppedStream);
+    drops_reader(&rt, &mut store, &mut hosts, (0, 1));
+    begins(&rt, &store, 0, &[7, 8, 9, 5]);
+    has_moved(&rt, &store, 0, Some(4));
+    has_records(&rt, &hosts, 0, 3);
     Ok(())
 }
 
 /// Held items are handed over before a writer that is over is found gone.
 #[test]
 fn held_items_come_first(rt: HostRuntime) -> Result<(), Fail> {
-    let alloc = rt.alloc();
-    let mut hosts = no_hosts(alloc);
-    let script = Script::new(alloc).then(three(alloc, 1, 2, 3)?, Answer::Dropped)?;
-    add_writer(&mut hosts, script)?;
-    let mut store = one_guest(alloc).ok().ok_or("a guest")?;
-    let rows = [
-        (Step::HostNew { host: 0 }, Ok(Reply::Number(0))),
-        (LOWER, Ok(Reply::Number(1))),
-        (
-            read(0, 2),
-            Ok(Reply::Code(ReturnCode::Completed(counted(2)))),
-        ),
-        (
-            read(2, 2),
-            Ok(Reply::Code(ReturnCode::Completed(counted(1)))),
-        ),
-        (read(3, 2), Ok(Reply::Code(GONE))),
-    ];
-    assert_eq!(rt; first_wrong(&mut store, &mut hosts, &rows), 0);
-    assert_eq!(rt; records(&hosts, 0), Some(1));
+    let mut hosts = no_hosts(rt.alloc());
+    add_writer(rt.alloc(), &mut hosts, &[(&[1, 2, 3], Answer::Dropped)])?;
+    let mut store = reader_of(&rt, rt.alloc(), &hosts, 0);
+    reads(&rt, &mut store, &mut hosts, (0, 1), 0, 2, 0x20);
+    reads(&rt, &mut store, &mut hosts, (0, 1), 2, 2, 0x10);
+    reads(&rt, &mut store, &mut hosts, (0, 1), 3, 2, 0x01);
+    has_records(&rt, &hosts, 0, 1);
     Ok(())
 }
+
+const CANCELLED: [Turn; 2] = [(&[], Answer::Pending), (&[], Answer::Cancelled)];
 
 /// A cancel waits for the writer to finish.
 #[test]
 fn a_cancel_asks_to_finish(rt: HostRuntime) -> Result<(), Fail> {
-    let alloc = rt.alloc();
-    let mut hosts = no_hosts(alloc);
-    let script = Script::new(alloc)
-        .then(none(alloc), Answer::Pending)?
-        .then(none(alloc), Answer::Cancelled)?;
-    add_writer(&mut hosts, script)?;
-    let mut store = one_guest(alloc).ok().ok_or("a guest")?;
-    let cancelled = ReturnCode::Cancelled(ItemCount::ZERO);
-    let rows = [
-        (Step::HostNew { host: 0 }, Ok(Reply::Number(0))),
-        (LOWER, Ok(Reply::Number(1))),
-        (read(0, 2), Ok(Reply::Code(ReturnCode::Blocked))),
-        (CANCEL, Ok(Reply::Code(ReturnCode::Blocked))),
-        (CANCEL, Ok(Reply::Refused(Refusal::CancelUnderWay))),
-        (EVENT, Ok(Reply::Event(None))),
-        (Step::Drive, Ok(Reply::Done)),
-        (EVENT, Ok(Reply::Event(Some(cancelled)))),
-        (DROP, Ok(Reply::Done)),
-    ];
-    assert_eq!(rt; first_wrong(&mut store, &mut hosts, &rows), 0);
+    let mut hosts = no_hosts(rt.alloc());
+    add_writer(rt.alloc(), &mut hosts, &CANCELLED)?;
+    let mut store = reader_of(&rt, rt.alloc(), &hosts, 0);
+    reads(&rt, &mut store, &mut hosts, (0, 1), 0, 2, BLOCKED);
+    is_code(&rt, store.stream_cancel_read(0, BYTES, 1), BLOCKED);
+    let again = store.stream_cancel_read(0, BYTES, 1).err();
+    is_refused(&rt, again, Refusal::CancelUnderWay);
+    is_event(&rt, store.take_event(0, 1), None);
+    is_done(&rt, drive(&rt, &mut store, &mut hosts));
+    is_event(&rt, store.take_event(0, 1), Some(0x02));
+    drops_reader(&rt, &mut store, &mut hosts, (0, 1));
     Ok(())
 }
 
 /// A poll that failed, and one that broke the rules, name their end and trap the store.
 #[test]
 fn a_poll_that_stops(rt: HostRuntime) -> Result<(), Fail> {
-    let alloc = rt.alloc();
-    let mut hosts = no_hosts(alloc);
-    let script = Script::new(alloc).then(one(alloc, 1)?, Answer::Failed)?;
-    add_writer(&mut hosts, script)?;
-    let script = Script::new(alloc).then(one(alloc, 1)?, Answer::Pending)?;
-    add_writer(&mut hosts, script)?;
+    let mut hosts = no_hosts(rt.alloc());
+    add_writer(rt.alloc(), &mut hosts, &[(&[1], Answer::Failed)])?;
+    add_writer(rt.alloc(), &mut hosts, &[(&[1], Answer::Pending)])?;
+    let mut store = reader_of(&rt, rt.alloc(), &hosts, 0);
     let end = HostEnd::Writer(0);
-    let failing = [
-        (Step::HostNew { host: 0 }, Ok(Reply::Number(0))),
-        (LOWER, Ok(Reply::Number(1))),
-        (read(0, 2), Err(StoreError::HostFailed { end })),
-        (read(0, 2), Err(StoreError::StoreTrapped)),
-        (Step::Drive, Err(StoreError::StoreTrapped)),
-    ];
-    let mut store = one_guest(alloc).ok().ok_or("a guest")?;
-    assert_eq!(rt; first_wrong(&mut store, &mut hosts, &failing), 0);
+    let failed = no_read(&rt, &mut store, &mut hosts);
+    is_error(&rt, failed, StoreError::HostFailed { end });
+    let later = no_read(&rt, &mut store, &mut hosts);
+    is_error(&rt, later, StoreError::StoreTrapped);
+    let later = drive(&rt, &mut store, &mut hosts).err();
+    is_error(&rt, later, StoreError::StoreTrapped);
+    let mut store = reader_of(&rt, rt.alloc(), &hosts, 1);
     let end = HostEnd::Writer(1);
-    let breaking = [
-        (Step::HostNew { host: 1 }, Ok(Reply::Number(0))),
-        (LOWER, Ok(Reply::Number(1))),
-        (read(0, 2), Err(StoreError::HostBroke { end })),
-        (Step::HostNew { host: 0 }, Err(StoreError::StoreTrapped)),
-    ];
-    let mut store = one_guest(alloc).ok().ok_or("a guest")?;
-    assert_eq!(rt; first_wrong(&mut store, &mut hosts, &breaking), 0);
-    assert!(rt; store.trapped());
+    let broke = no_read(&rt, &mut store, &mut hosts);
+    is_error(&rt, broke, StoreError::HostBroke { end });
+    let later = host(&rt, &mut store, &hosts, 0).err();
+    is_error(&rt, later, StoreError::StoreTrapped);
+    is_trapped(&rt, &store, true);
     Ok(())
 }
 
-/// A drive round goes by the numbers of the streams, and a stream whose read end goes loses its writer.
+const FAILING: [Turn; 2] = [(&[], Answer::Pending), (&[1], Answer::Failed)];
+
+/// A drive round goes by the numbers of the streams.
 #[test]
 fn a_round_goes_by_streams(rt: HostRuntime) -> Result<(), Fail> {
-    let alloc = rt.alloc();
-    let mut hosts = no_hosts(alloc);
-    for first in 0..2u8 {
-        let script = Script::new(alloc)
-            .then(none(alloc), Answer::Pending)?
-            .then(one(alloc, first)?, Answer::Failed)?;
-        add_writer(&mut hosts, script)?;
-    }
-    let mut store = one_guest(alloc).ok().ok_or("a guest")?;
-    let lower = Step::Lower {
-        reader: 1,
-        guest: 0,
-        ty: BYTE_STREAM,
-    };
-    let other = Step::Read {
-        guest: 0,
-        ty: BYTE_STREAM,
-        handle: 2,
-        address: 8,
-        count: 2,
-    };
+    let mut hosts = no_hosts(rt.alloc());
+    add_writer(rt.alloc(), &mut hosts, &FAILING)?;
+    add_writer(rt.alloc(), &mut hosts, &FAILING)?;
+    let mut store = reader_of(&rt, rt.alloc(), &hosts, 1);
+    is_number(&rt, host(&rt, &mut store, &hosts, 0), 1);
+    is_number(&rt, store.lower(1, 0, BYTE_STREAM), 2);
+    reads(&rt, &mut store, &mut hosts, (0, 2), 8, 2, BLOCKED);
+    reads(&rt, &mut store, &mut hosts, (0, 1), 0, 2, BLOCKED);
     let end = HostEnd::Writer(1);
-    let rows = [
-        (Step::HostNew { host: 1 }, Ok(Reply::Number(0))),
-        (Step::HostNew { host: 0 }, Ok(Reply::Number(1))),
-        (LOWER, Ok(Reply::Number(1))),
-        (lower, Ok(Reply::Number(2))),
-        (other, Ok(Reply::Code(ReturnCode::Blocked))),
-        (read(0, 2), Ok(Reply::Code(ReturnCode::Blocked))),
-        (Step::Drive, Err(StoreError::HostFailed { end })),
-    ];
-    assert_eq!(rt; first_wrong(&mut store, &mut hosts, &rows), 0);
-    assert_eq!(rt; records(&hosts, 0), Some(1));
-    assert_eq!(rt; records(&hosts, 1), Some(2));
+    let failed = drive(&rt, &mut store, &mut hosts).err();
+    is_error(&rt, failed, StoreError::HostFailed { end });
+    has_records(&rt, &hosts, 0, 1);
+    has_records(&rt, &hosts, 1, 2);
     Ok(())
 }
 
 /// A loose read end that is closed takes its writer with it; its number stays used.
 #[test]
 fn a_close_takes_the_writer_along(rt: HostRuntime) -> Result<(), Fail> {
-    let alloc = rt.alloc();
-    let mut hosts = no_hosts(alloc);
-    let script = Script::new(alloc).then(one(alloc, 1)?, Answer::Completed)?;
-    add_writer(&mut hosts, script)?;
-    let mut store = one_guest(alloc).ok().ok_or("a guest")?;
-    let rows = [
-        (Step::HostNew { host: 0 }, Ok(Reply::Number(0))),
-        (Step::Close { reader: 0 }, Ok(Reply::Done)),
-        (
-            Step::HostNew { host: 0 },
-            Ok(Reply::Refused(Refusal::HostUsed)),
-        ),
-        (Step::Drive, Ok(Reply::Done)),
-    ];
-    assert_eq!(rt; first_wrong(&mut store, &mut hosts, &rows), 0);
-    assert_eq!(rt; store.transmit_index(0), None);
-    assert_eq!(rt; records(&hosts, 0), Some(0));
+    let mut hosts = no_hosts(rt.alloc());
+    add_writer(rt.alloc(), &mut hosts, &[(&[1], Answer::Completed)])?;
+    let mut store = one_guest(&rt, rt.alloc());
+    is_number(&rt, host(&rt, &mut store, &hosts, 0), 0);
+    closes(&rt, &mut store, &mut hosts, 0);
+    let used = host(&rt, &mut store, &hosts, 0).err();
+    is_refused(&rt, used, Refusal::HostUsed);
+    is_done(&rt, drive(&rt, &mut store, &mut hosts));
+    has_type(&rt, &store, 0, None);
+    has_records(&rt, &hosts, 0, 0);
     Ok(())
 }

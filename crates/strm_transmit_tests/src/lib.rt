@@ -1,21 +1,25 @@
-//! The store by example, in public calls alone.
+//! The store by example, in public calls alone: each call once, limits, what stops a store, and host
+//! writers that follow a script. What lines can show stands in `examples/`.
+//!
+//! What is called is compared by the functions of `answers`, since a comparison in a test's own body
+//! takes ten times as long to prove.
 #![tactic(auto)]
 
 #[cfg(test)]
-mod calls;
-#[cfg(test)]
-mod cancels;
+mod answers;
 #[cfg(test)]
 mod contexts;
 #[cfg(test)]
+mod futures;
+#[cfg(test)]
 mod hosts;
 #[cfg(test)]
-mod making;
-#[cfg(test)]
-mod meetings;
+mod limits;
 #[cfg(test)]
 mod moves;
 #[cfg(test)]
 mod sets;
 #[cfg(test)]
-mod steps;
+mod streams;
+#[cfg(test)]
+mod traps;

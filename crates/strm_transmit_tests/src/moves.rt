@@ -1,197 +1,130 @@
-//! Ends that move by example: lifts, lowers, closes and transfers, by steps and by calls.
+//! Ends that move, by calls: transfers, lifts, lowers and closes.
 
-use crate::calls::{Act, apply_fitting, close, drop_readable, drop_writable, no_hosts, on_end};
-use std::alloc::Global;
-use std::test::Fail;
-use strm_codes::codes::{ReturnCode, TransmitIndex};
-use strm_codes::counts::ItemCount;
-use strm_codes::payloads::Payload;
+use crate::answers::{
+    AMPLE, BYTE_STREAM, BYTES, WORDS, chunk, closes, drops_writer, has_type, is_bytes, is_done,
+    is_event, is_number, is_pair, is_refused, no_hosts, reads, reads_value, writes, writes_value,
+};
+use strm_codes::codes::TransmitIndex;
 use strm_codes::refusals::Refusal;
-use strm_codes::scalars::Scalar;
-use strm_machine::chunks::Chunk;
-use strm_machine::limits::Limits;
-use strm_machine::replies::Reply;
-use strm_machine::steps::Step;
-use strm_transmit::errors::StoreError;
 use strm_transmit::store::Store;
-
-const BYTES: Payload = Payload::One(Scalar::U8);
-
-const WORDS: Payload = Payload::One(Scalar::U32);
 
 const WORD_FUTURE: TransmitIndex = TransmitIndex::Future(WORDS);
 
-const BYTE_STREAM: TransmitIndex = TransmitIndex::Stream(BYTES);
-
-const LIMITS: Limits = Limits {
-    handles: 4,
-    places: 6,
-};
-
-const GONE: ReturnCode = ReturnCode::Dropped(ItemCount::ZERO);
-
-type Answer = Result<u32, StoreError>;
-
-const SPENT: Answer = Err(StoreError::Refused(Refusal::LiftDropped));
-
-// So many items were moved.
-fn completed(count: u32) -> ReturnCode {
-    match ItemCount::new(count) {
-        Ok(items) => ReturnCode::Completed(items),
-        Err(_) => ReturnCode::Blocked,
-    }
-}
-
-// A stream of bytes from guest 0 to guest 1, each of whose ends has handle 1.
-fn with_stream(alloc: Global) -> Result<Store, StoreError> {
-    let mut store = Store::new(alloc, 0, LIMITS);
-    store.add_guest(16)?;
-    store.add_guest(16)?;
-    store.new_between(0, 1, BYTE_STREAM)?;
-    Ok(store)
-}
-
-fn read(address: u32, count: u32) -> Step {
-    Step::Read {
-        guest: 1,
-        ty: BYTE_STREAM,
-        handle: 1,
-        address,
-        count,
-    }
-}
-
-const LIFT: Step = Step::Lift {
-    guest: 1,
-    ty: BYTE_STREAM,
-    handle: 1,
-};
-
-const LOWER: Step = Step::Lower {
-    reader: 0,
-    guest: 1,
-    ty: BYTE_STREAM,
-};
-
-const EVENT: Step = Step::Event {
-    guest: 0,
-    handle: 1,
-};
+const BLOCKED: u32 = 0xffff_ffff;
 
 /// A write that was read in part goes on with what it has left, once the read end was lifted and
 /// lowered; and it learns that the end was closed.
 #[test]
-fn a_write_goes_on_after_a_move(rt: HostRuntime) -> Result<(), Fail> {
-    let mut store = with_stream(rt.alloc()).ok().ok_or("a stream")?;
+fn a_write_goes_on_after_a_move(rt: HostRuntime) {
+    let mut store = Store::new(rt.alloc(), 0, AMPLE);
     let mut hosts = no_hosts(rt.alloc());
-    let bytes = Chunk::new(&[10, 11, 12]).unwrap();
-    assert_eq!(rt; store.poke(0, 0, &bytes), Ok(()));
-    let write = Act::Write(0, 3);
-    let answer = on_end(&mut store, &mut hosts, 0, BYTE_STREAM, 1, write);
-    assert_eq!(rt; answer, Ok(Reply::Code(ReturnCode::Blocked)));
-    let steps = [
-        (read(0, 1), Reply::Code(completed(1))),
-        (LIFT, Reply::Number(0)),
-        (LOWER, Reply::Number(1)),
-        (read(4, 2), Reply::Code(completed(2))),
-        (EVENT, Reply::Event(Some(completed(3)))),
-        (LIFT, Reply::Number(0)),
-        (Step::Close { reader: 0 }, Reply::Done),
-        (LOWER, Reply::Refused(Refusal::UnknownReader)),
-        (EVENT, Reply::Event(Some(GONE))),
-    ];
-    for (step, reply) in steps {
-        assert_eq!(rt; apply_fitting(&mut store, &mut hosts, &step), Ok(reply));
-    }
-    assert_eq!(rt; drop_writable(&mut store, &mut hosts, 0, BYTES, 1), Ok(()));
-    assert_eq!(rt; store.transmit_index(0), None);
-    let moved = Chunk::new(&[10, 0, 0, 0, 11, 12]).unwrap();
-    assert_eq!(rt; store.dump(1, 0, 6), Ok(moved));
-    assert_eq!(rt; store.moved(0), Some(3));
-    Ok(())
+    is_number(&rt, store.add_guest(16), 0);
+    is_number(&rt, store.add_guest(16), 1);
+    is_pair(&rt, store.new_between(0, 1, BYTE_STREAM), 1, 1, 0);
+    is_done(&rt, store.poke(0, 0, &chunk(&rt, &[10, 11, 12])));
+    writes(&rt, &mut store, &mut hosts, (0, 1), 0, 3, BLOCKED);
+    reads(&rt, &mut store, &mut hosts, (1, 1), 0, 1, 0x10);
+    is_number(&rt, store.lift(1, BYTE_STREAM, 1), 0);
+    is_number(&rt, store.lower(0, 1, BYTE_STREAM), 1);
+    reads(&rt, &mut store, &mut hosts, (1, 1), 4, 2, 0x20);
+    is_event(&rt, store.take_event(0, 1), Some(0x30));
+    is_number(&rt, store.lift(1, BYTE_STREAM, 1), 0);
+    closes(&rt, &mut store, &mut hosts, 0);
+    let closed = store.lower(0, 1, BYTE_STREAM).err();
+    is_refused(&rt, closed, Refusal::UnknownReader);
+    is_event(&rt, store.take_event(0, 1), Some(0x01));
+    drops_writer(&rt, &mut store, &mut hosts, (0, 1));
+    has_type(&rt, &store, 0, None);
+    is_bytes(&rt, store.dump(1, 0, 6), &[10, 0, 0, 0, 11, 12]);
 }
 
 /// A read end may move until it was told that the write end is gone.
 #[test]
-fn an_end_that_was_told_stays(rt: HostRuntime) -> Result<(), Fail> {
-    let mut store = with_stream(rt.alloc()).ok().ok_or("a stream")?;
+fn an_end_that_was_told_stays(rt: HostRuntime) {
+    let mut store = Store::new(rt.alloc(), 0, AMPLE);
     let mut hosts = no_hosts(rt.alloc());
-    assert_eq!(rt; drop_writable(&mut store, &mut hosts, 0, BYTES, 1), Ok(()));
-    let mut moving = with_stream(rt.alloc()).ok().ok_or("a stream")?;
-    assert_eq!(rt; drop_writable(&mut moving, &mut hosts, 0, BYTES, 1), Ok(()));
-    assert_eq!(rt; moving.stream_transfer(1, BYTES, 1, 0), Ok(1));
-    let answer = on_end(&mut moving, &mut hosts, 0, BYTE_STREAM, 1, Act::Read(0, 1));
-    assert_eq!(rt; answer, Ok(Reply::Code(GONE)));
-    assert_eq!(rt; store.take_event(1, 1), Ok(Some(GONE)));
-    assert_eq!(rt; store.stream_transfer(1, BYTES, 1, 0), SPENT);
-    assert_eq!(rt; store.lift(1, BYTE_STREAM, 1), SPENT);
-    Ok(())
+    is_number(&rt, store.add_guest(16), 0);
+    is_number(&rt, store.add_guest(16), 1);
+    is_pair(&rt, store.new_between(0, 1, BYTE_STREAM), 1, 1, 0);
+    drops_writer(&rt, &mut store, &mut hosts, (0, 1));
+    is_number(&rt, store.stream_transfer(1, BYTES, 1, 0), 1);
+    reads(&rt, &mut store, &mut hosts, (0, 1), 0, 1, 0x01);
+    let spent = store.stream_transfer(0, BYTES, 1, 1).err();
+    is_refused(&rt, spent, Refusal::LiftDropped);
+    let spent = store.lift(0, BYTE_STREAM, 1).err();
+    is_refused(&rt, spent, Refusal::LiftDropped);
 }
 
 /// A future's read end may move until its value has passed.
 #[test]
-fn a_future_that_passed_stays(rt: HostRuntime) -> Result<(), Fail> {
-    let mut store = Store::new(rt.alloc(), 0, LIMITS);
+fn a_future_that_passed_stays(rt: HostRuntime) {
+    let mut store = Store::new(rt.alloc(), 0, AMPLE);
     let mut hosts = no_hosts(rt.alloc());
-    assert_eq!(rt; store.add_guest(16), Ok(0));
-    assert_eq!(rt; store.add_guest(16), Ok(1));
-    assert!(rt; store.future_new(0, WORDS).is_ok());
-    assert_eq!(rt; store.future_transfer(0, WORDS, 1, 1), Ok(1));
-    let answer = on_end(&mut store, &mut hosts, 1, WORD_FUTURE, 1, Act::Read(0, 1));
-    assert_eq!(rt; answer, Ok(Reply::Code(ReturnCode::Blocked)));
-    let busy = Err(StoreError::Refused(Refusal::Busy));
-    assert_eq!(rt; store.future_transfer(1, WORDS, 1, 0), busy);
-    let answer = on_end(&mut store, &mut hosts, 0, WORD_FUTURE, 2, Act::Write(0, 1));
-    assert_eq!(rt; answer, Ok(Reply::Code(completed(0))));
-    let told = Ok(Some(completed(0)));
-    assert_eq!(rt; store.take_event(1, 1), told);
-    assert_eq!(rt; store.future_transfer(1, WORDS, 1, 0), SPENT);
-    assert_eq!(rt; store.lift(1, WORD_FUTURE, 1), SPENT);
-    Ok(())
+    is_number(&rt, store.add_guest(16), 0);
+    is_number(&rt, store.add_guest(16), 1);
+    is_pair(&rt, store.future_new(0, WORDS), 1, 2, 0);
+    is_number(&rt, store.future_transfer(0, WORDS, 1, 1), 1);
+    reads_value(&rt, &mut store, &mut hosts, (1, 1), 0, BLOCKED);
+    let busy = store.future_transfer(1, WORDS, 1, 0).err();
+    is_refused(&rt, busy, Refusal::Busy);
+    writes_value(&rt, &mut store, &mut hosts, (0, 2), 0, 0x00);
+    is_event(&rt, store.take_event(1, 1), Some(0x00));
+    let spent = store.future_transfer(1, WORDS, 1, 0).err();
+    is_refused(&rt, spent, Refusal::LiftDropped);
+    let spent = store.lift(1, WORD_FUTURE, 1).err();
+    is_refused(&rt, spent, Refusal::LiftDropped);
 }
 
-/// In its own guest an end gets the number that was just freed, also where others were freed before.
+/// A write end stays while its write was not told, and then goes to another guest, which writes from its
+/// own memory behind what was written before. It is not lifted, and does not move once it was told that
+/// the read end is gone.
 #[test]
-fn a_move_to_the_same_guest(rt: HostRuntime) -> Result<(), Fail> {
-    let mut store = Store::new(rt.alloc(), 0, LIMITS);
+fn a_second_guest_writes_on(rt: HostRuntime) {
+    let mut store = Store::new(rt.alloc(), 0, AMPLE);
     let mut hosts = no_hosts(rt.alloc());
-    assert_eq!(rt; store.add_guest(16), Ok(0));
-    assert!(rt; store.stream_new(0, BYTES).is_ok());
-    assert!(rt; store.stream_new(0, BYTES).is_ok());
-    assert_eq!(rt; drop_readable(&mut store, &mut hosts, 0, BYTES, 3), Ok(()));
-    assert_eq!(rt; store.stream_transfer(0, BYTES, 1, 0), Ok(1));
-    let unknown = Err(StoreError::Refused(Refusal::UnknownGuest));
-    assert_eq!(rt; store.stream_transfer(0, BYTES, 9, 7), unknown);
-    let other = Err(StoreError::Refused(Refusal::WrongEnd));
-    assert_eq!(rt; store.stream_transfer(0, BYTES, 2, 0), other);
-    Ok(())
+    is_number(&rt, store.add_guest(16), 0);
+    is_number(&rt, store.add_guest(16), 1);
+    is_pair(&rt, store.new_between(0, 1, BYTE_STREAM), 1, 1, 0);
+    is_done(&rt, store.poke(0, 0, &chunk(&rt, &[1, 2])));
+    is_done(&rt, store.poke(1, 8, &chunk(&rt, &[3, 4])));
+    writes(&rt, &mut store, &mut hosts, (0, 1), 0, 2, BLOCKED);
+    let busy = store.stream_transfer(0, BYTES, 1, 1).err();
+    is_refused(&rt, busy, Refusal::Busy);
+    reads(&rt, &mut store, &mut hosts, (1, 1), 0, 2, 0x20);
+    let busy = store.stream_transfer(0, BYTES, 1, 1).err();
+    is_refused(&rt, busy, Refusal::Busy);
+    is_event(&rt, store.take_event(0, 1), Some(0x20));
+    is_number(&rt, store.stream_transfer(0, BYTES, 1, 1), 2);
+    writes(&rt, &mut store, &mut hosts, (1, 2), 8, 2, BLOCKED);
+    reads(&rt, &mut store, &mut hosts, (1, 1), 2, 2, 0x20);
+    is_bytes(&rt, store.dump(1, 0, 4), &[1, 2, 3, 4]);
+    is_event(&rt, store.take_event(1, 2), Some(0x20));
+    let other = store.lift(1, BYTE_STREAM, 2).err();
+    is_refused(&rt, other, Refusal::WrongEnd);
+    is_number(&rt, store.lift(1, BYTE_STREAM, 1), 0);
+    closes(&rt, &mut store, &mut hosts, 0);
+    is_number(&rt, store.stream_transfer(1, BYTES, 2, 0), 1);
+    is_event(&rt, store.take_event(0, 1), Some(0x01));
+    let told = store.stream_transfer(0, BYTES, 1, 1).err();
+    is_refused(&rt, told, Refusal::LiftDropped);
 }
 
-/// A move leaves as many handles as there were; an end that is lowered is one more.
+/// A future's write end moves until its value has passed, and a member of a waitable set does not.
 #[test]
-fn handles_at_their_limit(rt: HostRuntime) -> Result<(), Fail> {
-    let limits = Limits {
-        handles: 3,
-        places: 100,
-    };
-    let mut store = Store::new(rt.alloc(), 0, limits);
+fn a_future_is_written_by_a_second_guest(rt: HostRuntime) {
+    let mut store = Store::new(rt.alloc(), 0, AMPLE);
     let mut hosts = no_hosts(rt.alloc());
-    assert_eq!(rt; store.add_guest(16), Ok(0));
-    assert_eq!(rt; store.add_guest(16), Ok(1));
-    assert!(rt; store.stream_new(0, BYTES).is_ok());
-    assert_eq!(rt; store.lift(0, BYTE_STREAM, 1), Ok(0));
-    assert!(rt; store.stream_new(0, BYTES).is_ok());
-    let full = Err(StoreError::Refused(Refusal::HandleLimit));
-    assert_eq!(rt; store.lower(0, 1, BYTE_STREAM), full);
-    assert_eq!(rt; store.stream_transfer(0, BYTES, 1, 1), Ok(1));
-    assert_eq!(rt; drop_readable(&mut store, &mut hosts, 1, BYTES, 1), Ok(()));
-    let kind = Err(StoreError::Refused(Refusal::WrongKind));
-    assert_eq!(rt; store.lower(0, 1, TransmitIndex::Future(BYTES)), kind);
-    let ty = Err(StoreError::Refused(Refusal::WrongType));
-    assert_eq!(rt; store.lower(0, 1, TransmitIndex::Stream(WORDS)), ty);
-    assert_eq!(rt; store.lower(0, 1, BYTE_STREAM), Ok(1));
-    let unknown = Err(StoreError::Refused(Refusal::UnknownReader));
-    assert_eq!(rt; close(&mut store, &mut hosts, 0), unknown);
-    assert_eq!(rt; close(&mut store, &mut hosts, 7), unknown);
-    Ok(())
+    is_number(&rt, store.add_guest(16), 0);
+    is_number(&rt, store.add_guest(16), 1);
+    is_pair(&rt, store.future_new(0, WORDS), 1, 2, 0);
+    is_number(&rt, store.set_new(0), 3);
+    is_done(&rt, store.set_join(0, 3, 2));
+    let member = store.future_transfer(0, WORDS, 2, 1).err();
+    is_refused(&rt, member, Refusal::LiftInSet);
+    is_done(&rt, store.set_join(0, 0, 2));
+    is_number(&rt, store.future_transfer(0, WORDS, 2, 1), 1);
+    reads_value(&rt, &mut store, &mut hosts, (0, 1), 0, BLOCKED);
+    writes_value(&rt, &mut store, &mut hosts, (1, 1), 0, 0x00);
+    let passed = store.future_transfer(1, WORDS, 1, 0).err();
+    is_refused(&rt, passed, Refusal::LiftDropped);
 }

@@ -239,7 +239,9 @@ impl Store {
     }
 
     /// Cancels the operation of the end that a handle names. It ends with what it was to be told, of
-    /// which a stream's Completed is answered as Cancelled, or with Cancelled of no item.
+    /// which a stream's Completed is answered as Cancelled, or with Cancelled of no item. A read that
+    /// waits for a host writer, with nothing to be told, is answered Blocked; further cancels are
+    /// refused, also once the writer has answered, until its event is taken.
     pub(crate) fn cancel_side(
         &mut self,
         side: Side,

@@ -128,12 +128,7 @@ impl Store {
     }
 
     // The end that is named goes to a guest. After want of memory nothing has changed.
-    fn move_named(
-        &mut self,
-        found: (u32, Side),
-        end: &NamedEnd,
-        to: u32,
-    ) -> Result<u32, StoreError>
+    fn move_named(&mut self, found: (u32, Side), end: &NamedEnd, to: u32) -> Result<u32, StoreError>
         requires may { refusal self.old (Transfer end.now to) ≡ None }
         requires found { found
             ≡ (stream_named (named self.old end.now), side_named (named self.old end.now)) }

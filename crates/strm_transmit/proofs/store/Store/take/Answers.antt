@@ -1,4 +1,5 @@
-use Rattle.std.proofs.Common.{ap, sym, refl, ◌∙◌, set}
+use Rattle.std.proofs.Common.{ap, sym, refl, ◌∙◌, set, arith}
+use Rattle.std.proofs.lemmas.Grind.{common_steps}
 use Rattle.strm_machine.specs.Turns.{Turn, turn}
 use Rattle.strm_machine.proofs.TurnLemmas.{turn-keeps}
 use Rattle.strm_machine.proofs.SoundLemmas.{placed_at}
@@ -46,3 +47,6 @@ invariant_of-self-in-Err c =
       streams = sym (ap (λ (t : Turn). set c.self.inside.streams.items c.args.stream t.stream) e);
     })
     c.self.invariant
+
+pub returns-in-Err-clause-meets : goal.returns-in-Err-clause-meets
+returns-in-Err-clause-meets c = grind (arith, common_steps)

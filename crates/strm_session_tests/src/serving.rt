@@ -1,0 +1,171 @@
+//! The statuses of `serve` and their texts, also where a source, a sink or a host writer fails.
+
+ghost use Rattle.std.specs.Prelude.{◌≤◌, length};
+ghost use Rattle.strm_buffers.specs.AllTells.{tells_of};
+
+use crate::pieces::{sink, source};
+use std::alloc::{AllocError, Global};
+use std::process::Abort;
+use std::test::Fail;
+use strm_buffers::answers::Answer;
+use strm_buffers::hosts::Hosts;
+use strm_buffers::items::Items;
+use strm_codes::codes::TransmitKind;
+use strm_codes::payloads::Payload;
+use strm_codes::scalars::Scalar;
+use strm_ends::scripted_writer::{ScriptedWriter, WriterTurn};
+use strm_memory::payloaded::Payloaded;
+use strm_session::serving::serve;
+
+// Words, an input, the calls of the source and of the sink that fail, the status, and its text.
+struct Row {
+    words: &'static [&'static str],
+    input: &'static str,
+    failing: (u32, u32),
+    status: u8,
+    text: &'static str,
+}
+
+const RUN: &[&str] = &["run"];
+
+const OTHER_WORDS: &[&str] = &["gen", "x", "1"];
+
+// No call fails.
+const NONE: (u32, u32) = (999_999, 999_999);
+
+fn list(alloc: Global, words: &[&str]) -> Result<Vec<String>, AllocError> {
+    let mut list = Vec::new(alloc);
+    for word in words {
+        list.push(String::from_str(alloc, word)?)?;
+    }
+    Ok(list)
+}
+
+// Whether words and an input are served so, among these host ends.
+fn is_served(alloc: Global, row: &Row, hosts: &mut Hosts) -> Result<bool, AllocError>
+    requires writers { length (tells_of writer_tells reader_tells hosts.old).writers ≤ 64 }
+    requires readers { length (tells_of writer_tells reader_tells hosts.old).readers ≤ 64 }
+{
+    let words = list(alloc, row.words)?;
+    let mut source = source(alloc, row.input.as_bytes(), row.failing.0)?;
+    let mut sink = sink(alloc, row.failing.1)?;
+    let status = serve(alloc, &words, &mut source, &mut sink, hosts);
+    Ok(status == row.status && sink.taken() == row.text.as_bytes())
+}
+
+// The same without host ends.
+fn is_served_alone(alloc: Global, row: &Row) -> Result<bool, AllocError> {
+    let mut hosts = Hosts {
+        writers: Vec::new(alloc),
+        readers: Vec::new(alloc),
+    };
+    is_served(alloc, row, &mut hosts)
+}
+
+fn holds(rt: &impl Abort, found: Result<bool, AllocError>, status: u8) {
+    assert_eq!(rt; found, Ok(true), "{status}");
+}
+
+const STATUSES: [Row; 6] = [
+    Row {
+        words: RUN,
+        input: "",
+        failing: NONE,
+        status: 0,
+        text: "done 0\n",
+    },
+    Row {
+        words: OTHER_WORDS,
+        input: "",
+        failing: NONE,
+        status: 1,
+        text: "usage: strm run | strm gen N SEED\n",
+    },
+    Row {
+        words: RUN,
+        input: "guest 16\nrea",
+        failing: NONE,
+        status: 2,
+        text: "bad line 2\n",
+    },
+    Row {
+        words: RUN,
+        input: "guest 16\n",
+        failing: (1, 999_999),
+        status: 4,
+        text: "read fault\n",
+    },
+    Row {
+        words: RUN,
+        input: "guest 16\n",
+        failing: (999_999, 1),
+        status: 5,
+        text: "",
+    },
+    Row {
+        words: RUN,
+        input: "guest 16\nguest 16\npair 0 1 stream:char\npoke 0 0 00d80000\n\
+            write 0 stream:char 1 0 1\nread 1 stream:char 1 0 1\n",
+        failing: NONE,
+        status: 8,
+        text: "0\n1\nread 1 write 1 stream 0\nok\nffffffff\nstopped 6 bad-item stream 0\n",
+    },
+];
+
+#[test]
+fn each_status_has_its_text(rt: HostRuntime) {
+    for row in &STATUSES {
+        holds(&rt, is_served_alone(rt.alloc(), row), row.status);
+    }
+}
+
+const LINES: &str = "host 0\nguest 16\nlower 0 0 stream:u8\nread 0 stream:u8 1 0 2\n";
+
+const BYTE: Payload = Payload::One(Scalar::U8);
+
+// Whether lines are served so where the one host writer produces a byte, or nothing, and answers so.
+fn is_served_by(alloc: Global, row: &Row, byte: Option<u8>, answer: Answer) -> Result<bool, Fail> {
+    let mut items = Items::new(alloc, BYTE);
+    if let Some(byte) = byte {
+        items.push(&byte.lower())?;
+    }
+    let mut turns = Vec::new(alloc);
+    turns.push(WriterTurn { items, answer })?;
+    let writer = ScriptedWriter::new(alloc, TransmitKind::Stream, BYTE, turns);
+    let mut hosts = Hosts {
+        writers: Vec::new(alloc),
+        readers: Vec::new(alloc),
+    };
+    hosts.writers.push(Box::new(alloc, writer)?)?;
+    Ok(is_served(alloc, row, &mut hosts)?)
+}
+
+const BROKE: Row = Row {
+    words: RUN,
+    input: LINES,
+    failing: NONE,
+    status: 7,
+    text: "0\n0\n1\nstopped 4 host-broke writer 0\n",
+};
+
+const FAILED: Row = Row {
+    words: RUN,
+    input: LINES,
+    failing: NONE,
+    status: 6,
+    text: "0\n0\n1\nstopped 4 host-failed writer 0\n",
+};
+
+#[test]
+fn a_host_writer_that_breaks_its_rules(rt: HostRuntime) -> Result<(), Fail> {
+    let is_told = is_served_by(rt.alloc(), &BROKE, Some(7), Answer::Pending)?;
+    assert!(rt; is_told);
+    Ok(())
+}
+
+#[test]
+fn a_host_writer_that_fails(rt: HostRuntime) -> Result<(), Fail> {
+    let is_told = is_served_by(rt.alloc(), &FAILED, None, Answer::Failed)?;
+    assert!(rt; is_told);
+    Ok(())
+}
