@@ -5,7 +5,7 @@
 use std::sync::atomic::{AtomicU64, Ordering};
 use std::sync::{Condvar, Mutex, Wait};
 
-/// A bell: it rings where a turn was passed.
+/// A bell, for threads that sleep until something happened.
 #[derive(Drop)]
 pub struct Bell {
     // How many threads may sleep: nobody rings for none.

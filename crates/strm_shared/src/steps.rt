@@ -87,6 +87,22 @@ pub(crate) fn is_host_step(step: &Step) -> bool
     )
 }
 
+// Whether a step may bring a report to an end, as the reads, the writes and the drops of the other end do,
+// or end the operation of one, as what tells a report does.
+pub(crate) fn ends_waits(step: &Step) -> bool {
+    matches!(
+        *step,
+        Step::Write { .. }
+            | Step::Read { .. }
+            | Step::DropWrite { .. }
+            | Step::DropRead { .. }
+            | Step::CancelWrite { .. }
+            | Step::CancelRead { .. }
+            | Step::Event { .. }
+            | Step::SetPoll { .. }
+    )
+}
+
 // Whether a step moves an end.
 pub(crate) fn is_move(step: &Step) -> bool
     ensures { result ≡ is_move step.now }

@@ -44,7 +44,10 @@ pub struct Unclosed {
 #[derive(Drop)]
 pub struct SharedStore {
     table: Table<Option<Desk>, View, Limits, Order, Global>,
-    bell: Bell,
+    // For those that wait for their turn.
+    turns: Bell,
+    // For those that wait for a report, or for an end.
+    reports: Bell,
     ghost sized: { (table.shared.table_id.words ≡ 3) × (table.shared.table_id.slots ≡ 1) },
 }
 
@@ -70,7 +73,8 @@ impl SharedStore {
             Ok((table, inside)) => Ok((
                 SharedStore {
                     table,
-                    bell: Bell::new(),
+                    turns: Bell::new(),
+                    reports: Bell::new(),
                 },
                 Seat { number: 0, inside },
             )),

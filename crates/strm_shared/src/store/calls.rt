@@ -51,6 +51,7 @@ impl SharedStore {
         match desk.enter(alloc, number, step) {
             Ok(reply) => {
                 self.leave(rt, seat, desk);
+                self.tell(rt, step);
                 Ok(reply)
             }
             Err(_) => {

@@ -84,15 +84,15 @@ impl SharedStore {
             (token seat.new.table_id number seat.new.me.0)) }
     {
         for _ in rt.forever() {
-            let heard = self.bell.now(rt);
+            let heard = self.reports.now(rt);
             match self.shift(rt, alloc, seat, number, step) {
-                Ok(None) => self.bell.wait_past(rt, heard),
+                Ok(None) => self.reports.wait_past(rt, heard),
                 Ok(Some(reply)) => {
-                    self.bell.forget();
+                    self.reports.forget();
                     return Ok(reply);
                 }
                 Err(error) => {
-                    self.bell.forget();
+                    self.reports.forget();
                     return Err(error);
                 }
             }

@@ -56,6 +56,7 @@ impl SharedStore {
         match desk.begin(alloc, number, step, place) {
             Ok(reply) => {
                 self.leave(rt, seat, desk);
+                self.tell(rt, step);
                 Ok(reply)
             }
             Err(_) => {
@@ -100,6 +101,7 @@ impl SharedStore {
             }
             Some(reply) => {
                 self.leave(rt, seat, desk);
+                self.reports.ring(rt);
                 Ok(Some(reply))
             }
         }
@@ -127,15 +129,15 @@ impl SharedStore {
             error (token seat.new.table_id number seat.new.me.0)) }
     {
         for _ in rt.forever() {
-            let heard = self.bell.now(rt);
+            let heard = self.reports.now(rt);
             match self.look(rt, seat, number, place) {
-                Ok(None) => self.bell.wait_past(rt, heard),
+                Ok(None) => self.reports.wait_past(rt, heard),
                 Ok(Some(reply)) => {
-                    self.bell.forget();
+                    self.reports.forget();
                     return Ok(reply);
                 }
                 Err(error) => {
-                    self.bell.forget();
+                    self.reports.forget();
                     return Err(error);
                 }
             }

@@ -9,8 +9,10 @@ ghost use Rattle.strm_shared.specs.Turns.{Taken, OutOfTickets};
 use crate::desk::Desk;
 use crate::rule::{Await, Draw, Look, Pass};
 use crate::seat::Inside;
+use crate::steps::ends_waits;
 use crate::store::SharedStore;
 use std::sync::Wait;
+use strm_machine::steps::Step;
 
 const TICKET: usize = 0;
 
@@ -73,12 +75,12 @@ impl SharedStore {
             return desk;
         }
         for _ in rt.forever() {
-            let heard = self.bell.now(rt);
+            let heard = self.turns.now(rt);
             if let Some(desk) = self.look_at_turn(seat, ticket) {
-                self.bell.forget();
+                self.turns.forget();
                 return desk;
             }
-            self.bell.wait_past(rt, heard);
+            self.turns.wait_past(rt, heard);
         }
         unreachable!()
     }
@@ -108,6 +110,14 @@ impl SharedStore {
     {
         drop(self.table.shared.exchange(seat, 0, Some(desk)));
         self.table.shared.fetch_add::<Pass>(seat, SERVING, 1);
-        self.bell.ring(rt);
+        self.turns.ring(rt);
+    }
+
+    // Wakes those that wait for a report or for an end, where the step that was made may bring one or free
+    // the other. Idle turns wake none, so that nobody is busy while all wait.
+    pub(crate) fn tell<R: Wait>(&self, rt: &R, step: &Step) {
+        if ends_waits(step) {
+            self.reports.ring(rt);
+        }
     }
 }
