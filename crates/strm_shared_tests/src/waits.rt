@@ -1,0 +1,183 @@
+//! Reads and writes that wait for another thread's.
+
+ghost use Rattle.std.specs.Thread.{IsSync};
+ghost use Rattle.strm_shared.specs.Causes.{IsOf};
+ghost use Rattle.strm_shared.specs.Tokens.{Same};
+
+use crate::histories::ends_right;
+use crate::stores::{has_moved, is_awaited, is_right, meets, read, with_streams, write};
+use crate::teams::{Job, eight};
+use std::alloc::Global;
+use std::sync::Wait;
+use std::sync::atomic::AtomicBool;
+use std::thread::{Threads, join};
+use strm_machine::steps::Step;
+use strm_shared::{Seat, SharedStore};
+
+// Two flags, by which two threads see that both run.
+#[derive(Clone, Copy)]
+struct Flags<'a> {
+    own: &'a AtomicBool,
+    other: &'a AtomicBool,
+}
+
+// A step that waits; whether two items were moved.
+fn waits<R: Wait>(
+    rt: &R,
+    alloc: Global,
+    store: &SharedStore,
+    mut seat: Seat,
+    step: &Step,
+    flags: Flags,
+) -> bool
+    requires { IsOf store.now seat }
+{
+    meets(flags.own, flags.other) && has_moved(&store.sync(rt, alloc, &mut seat, step), 2)
+}
+
+// A step that is called once another seat waits for the report of the guest's handle 1; whether two
+// items were moved.
+fn ends<R: Wait>(
+    rt: &R,
+    alloc: Global,
+    store: &SharedStore,
+    mut seat: Seat,
+    guest: u32,
+    step: &Step,
+    flags: Flags,
+) -> bool
+    requires { IsOf store.now seat }
+{
+    if !meets(flags.own, flags.other) {
+        return false;
+    }
+    let held = is_awaited(rt, alloc, store, &mut seat, guest, 1);
+    has_moved(&store.call(rt, alloc, &mut seat, step), 2) && held
+}
+
+// Two threads: the first step, of a guest's handle 1, waits until the second is called.
+fn is_held<R: Threads + Wait + Sync>(
+    rt: &R,
+    alloc: Global,
+    store: &SharedStore,
+    seat: &mut Seat,
+    steps: (&Step, u32, &Step),
+) -> bool
+    requires { IsOf store.now seat.old }
+    ensures { Same seat.old seat.new }
+{
+    let (first, guest, second) = steps;
+    let Ok(one) = store.seat_split(rt, seat) else {
+        return false;
+    };
+    let Ok(other) = store.seat_split(rt, seat) else {
+        return false;
+    };
+    let left = AtomicBool::new(false);
+    let right = AtomicBool::new(false);
+    let here = Flags {
+        own: &left,
+        other: &right,
+    };
+    let there = Flags {
+        own: &right,
+        other: &left,
+    };
+    let (held, freed) = join(
+        rt,
+        || waits(rt, alloc, store, one, first, here),
+        || ends(rt, alloc, store, other, guest, second, there),
+    );
+    held && freed
+}
+
+fn is_held_until<R: Threads + Wait + Sync>(
+    rt: &R,
+    alloc: Global,
+    first: &Step,
+    guest: u32,
+    second: &Step,
+) -> bool {
+    let Some((store, mut seat)) = with_streams(rt, alloc, 1) else {
+        return false;
+    };
+    let held = is_held(rt, alloc, &store, &mut seat, (first, guest, second));
+    ends_right(rt, alloc, store, seat) && held
+}
+
+/// A read is held until another thread writes, and a write until another thread reads.
+#[test]
+fn each_ends_the_other(rt: HostRuntime) {
+    let (put, taken) = (write(0, 1, 2), read(1, 1, 2));
+    is_right(&rt, is_held_until(&rt, rt.alloc(), &taken, 1, &put));
+    is_right(&rt, is_held_until(&rt, rt.alloc(), &put, 0, &taken));
+}
+
+// Whether a seat waits for each of the eight handles.
+fn are_awaited<R: Wait>(rt: &R, alloc: Global, store: &SharedStore, seat: &mut Seat) -> bool
+    requires { IsOf store.now seat.old }
+    ensures { Same seat.old seat.new }
+{
+    let mut all = true;
+    for k in 1..9u32 {
+        let held = is_awaited(rt, alloc, store, seat, 1, k);
+        all = all && held;
+    }
+    all
+}
+
+// Once a seat waits for each of the eight handles, a write ends each wait; how many were answered at
+// once.
+fn wakes<R: Wait>(rt: &R, alloc: Global, store: &SharedStore, mut seat: Seat) -> u64
+    requires { IsOf store.now seat }
+{
+    if !are_awaited(rt, alloc, store, &mut seat) {
+        return 0;
+    }
+    let mut done = 0u64;
+    for k in 1..9u32 {
+        if has_moved(&store.call(rt, alloc, &mut seat, &write(0, k, 1)), 1) {
+            done = done.wrapping_add(1);
+        }
+    }
+    done
+}
+
+// How many of the eight that wait were answered, and how many of the writes that wake them.
+fn woken<R: Threads + Wait + Sync>(
+    rt: &R,
+    alloc: Global,
+    store: &SharedStore,
+    seat: &mut Seat,
+) -> (u64, u64)
+    requires { IsOf store.now seat.old }
+    ensures { Same seat.old seat.new }
+{
+    let Ok(team) = store.seat_split(rt, seat) else {
+        return (0, 0);
+    };
+    let Ok(writer) = store.seat_split(rt, seat) else {
+        return (0, 0);
+    };
+    join(
+        rt,
+        ||
+            requires { IsSync R.row × IsOf store.now team }
+        { eight(rt, alloc, store, team, Job::Read) },
+        || wakes(rt, alloc, store, writer),
+    )
+}
+
+fn are_woken<R: Threads + Wait + Sync>(rt: &R, alloc: Global) -> bool {
+    let Some((store, mut seat)) = with_streams(rt, alloc, 8) else {
+        return false;
+    };
+    let counts = woken(rt, alloc, &store, &mut seat);
+    ends_right(rt, alloc, store, seat) && counts == (8, 8)
+}
+
+/// Eight threads wait for eight handles, and one writer wakes them.
+#[test]
+fn eight_waits(rt: HostRuntime) {
+    is_right(&rt, are_woken(&rt, rt.alloc()));
+}
