@@ -1,0 +1,134 @@
+//! Callers of the store that threads share, proved from contracts alone; and a program of two threads, one
+//! of which writes what the other reads.
+//!
+//! `CALLING.md` of `strm_shared` quotes both.
+#![tactic(auto)]
+
+ghost use Rattle.std.specs.Prelude.{◌≡◌, ◌++◌, ◌∷◌, [], IfOk, IfSome};
+ghost use Rattle.strm_shared.specs.Causes.{IsOf};
+ghost use Rattle.strm_shared.specs.Histories.{entry, IsLegal};
+ghost use Rattle.strm_shared.specs.Tokens.{Same};
+
+use std::alloc::Global;
+use std::io;
+use std::sync::Wait;
+use std::thread::{Threads, join};
+use strm_codes::codes::{ReturnCode, TransmitIndex};
+use strm_codes::payloads::Payload;
+use strm_codes::scalars::Scalar;
+use strm_machine::limits::Limits;
+use strm_machine::replies::Reply;
+use strm_machine::steps::Step;
+use strm_shared::{Seat, SharedError, SharedStore};
+
+/// How many items are passed, one by one.
+const ITEMS: u32 = 1_000;
+
+const STREAM: TransmitIndex = TransmitIndex::Stream(Payload::One(Scalar::U8));
+
+const LIMITS: Limits = Limits {
+    handles: 2,
+    places: 3,
+};
+
+const WRITE: Step = Step::Write {
+    guest: 0,
+    ty: STREAM,
+    handle: 1,
+    address: 0,
+    count: 1,
+};
+
+const READ: Step = Step::Read {
+    guest: 1,
+    ty: STREAM,
+    handle: 1,
+    address: 0,
+    count: 1,
+};
+
+fn main(rt: HostRuntime) -> io::Result<()> {
+    let Some((store, seat)) = prepared(&rt, rt.alloc()) else {
+        return println!(rt; "no memory");
+    };
+    let (written, read) = passed(&rt, rt.alloc(), &store, seat);
+    println!(rt; "written {written}, read {read}")
+}
+
+/// Makes two calls, and knows that they are all that this seat made, in this order, in a history that
+/// the machine has.
+pub fn in_order<R: Wait>(
+    rt: &R,
+    alloc: Global,
+    store: &SharedStore,
+    seat: &mut Seat,
+    first: &Step,
+    second: &Step,
+) -> Result<(Reply, Reply), SharedError>
+    requires { IsOf store.now seat.old }
+    ensures same { Same seat.old seat.new }
+    ensures mine { IfOk result (λ replies. seat.new.mine ≡ (seat.old.mine
+        ++ entry seat.old.number first.now replies.0 ∷ [])
+        ++ entry seat.old.number second.now replies.1 ∷ []) }
+    ensures legal { IfOk result (λ replies. IsLegal seat.new.limits seat.new.seen) }
+{
+    let one = store.call(rt, alloc, seat, first)?;
+    let two = store.call(rt, alloc, seat, second)?;
+    Ok((one, two))
+}
+
+// A store with two guests and a stream between them, whose ends have the handle 1.
+fn prepared<R: Wait>(rt: &R, alloc: Global) -> Option<(SharedStore, Seat)>
+    ensures { IfSome result (λ made. IsOf made.0 made.1) }
+{
+    let Ok((store, mut seat)) = SharedStore::open(alloc, LIMITS) else {
+        return None;
+    };
+    let guest = Step::Guest { size: 16 };
+    let between = Step::Between {
+        writer: 0,
+        reader: 1,
+        ty: STREAM,
+    };
+    let _ = in_order(rt, alloc, &store, &mut seat, &guest, &guest);
+    let _ = store.call(rt, alloc, &mut seat, &between);
+    Some((store, seat))
+}
+
+// Two threads, each with a seat; how many items each moved.
+fn passed<R: Threads + Wait + Sync>(
+    rt: &R,
+    alloc: Global,
+    store: &SharedStore,
+    mut seat: Seat,
+) -> (u32, u32)
+    requires { IsOf store.now seat }
+{
+    let Ok(other) = store.seat_split(rt, &mut seat) else {
+        return (0, 0);
+    };
+    join(
+        rt,
+        || passes(rt, alloc, store, seat, &WRITE),
+        || passes(rt, alloc, store, other, &READ),
+    )
+}
+
+// The same read or write, again and again; each waits for the other thread's. How many items were moved.
+fn passes<R: Wait>(rt: &R, alloc: Global, store: &SharedStore, mut seat: Seat, step: &Step) -> u32
+    requires { IsOf store.now seat }
+{
+    let mut moved = 0u32;
+    for _ in 0..ITEMS {
+        moved = moved.wrapping_add(items(&store.sync(rt, alloc, &mut seat, step)));
+    }
+    moved
+}
+
+// How many items an answer says that were moved.
+fn items(answer: &Result<Reply, SharedError>) -> u32 {
+    match answer {
+        Ok(Reply::Code(ReturnCode::Completed(count))) => count.as_u32(),
+        _ => 0,
+    }
+}
