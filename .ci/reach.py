@@ -1,6 +1,6 @@
 """Finds which definitions the public clauses of the crates reach.
 
-A public clause is a `requires` or `ensures` of a call that other crates can make, a ghost member of
+A public clause is a `requires` or `ensures` of a call that other crates or C can make, a ghost member of
 a trait, type or impl that they can name, or the view of such a type. A type's invariant and inverse
 (its representation) and the proofs that an impl gives are none. From the names in the clauses the
 search goes through the `use` lines to the definitions in `specs/`, and from their text to further
@@ -250,7 +250,7 @@ class Source:
             if re.search(r"#\[(cfg\(test\)|test)\]", item["marks"]):
                 continue
             item["scope"] = scope
-            item["is_public"] = is_public and item["is_marked"]
+            item["is_public"] = is_public and item["is_marked"] or "no_mangle" in item["marks"]
             self.items.append(item)
             if item["kind"] == "use" and item["is_public"]:
                 self.offered |= set(re.findall(r"\w+", item["head"].partition("use ")[2]))
@@ -297,7 +297,7 @@ def ghosts(body):
 
 
 ITEM = re.compile(r"(?P<marks>(?:#!?\[[^\]]*\]\s*)*)(?P<pub>pub(?P<part>\([^)]*\))? )?(?:(?:const|unsafe|default|ghost) )*"
-                  r"(?P<kind>ghost use|use|fn|struct|enum|trait|impl|mod|const|static|type|ghost)\b")
+                  r"(?:extern\s*(?:\"[^\"]*\")?\s*)?(?P<kind>ghost use|use|fn|struct|enum|trait|impl|mod|const|static|type|ghost)\b")
 
 
 def items_of(text):
@@ -348,6 +348,9 @@ def read_call(text, at, item):
         if text[at] == "{":
             close = closing(text, at)
             begun = re.search(r"\b(requires|ensures|follows)\*?\s*(\w*)\s*$", text[since:at])
+            if not begun and re.search(r"\bghost \w+\s*:\s*$", text[since:at]):
+                at = since = close + 1
+                continue
             if not begun:
                 return close + 1
             kind, label = begun.groups()

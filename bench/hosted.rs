@@ -1,7 +1,9 @@
-//! The host writers of `strm_bench` in plain Rust: a boxed writer keeps the bytes that it is fed, with a
+//! The host writers and host readers of `strm_bench` in plain Rust: a boxed writer keeps the bytes that it is fed, with a
 //! record of each feed and of each poll, and gives them to a guest's reads, with the tests that each
 //! call makes; and a list is kept once as the record of what was produced and once as what is left,
-//! and copied from there in pieces.
+//! and copied from there in pieces. A boxed reader keeps a record of each grant and of each poll, and
+//! takes from a guest's writes what it has credit for; and a list is copied in pieces behind what was
+//! taken of it.
 //!
 //! `bench/hosted` times both.
 
@@ -99,6 +101,56 @@ impl Writer for Queue {
     }
 }
 
+// How many items it was offered and had taken since it was ready, whether it was asked to finish, how
+// many it took, and its answer.
+#[allow(dead_code)]
+struct Taking {
+    offered: usize,
+    since: usize,
+    finish: bool,
+    taken: usize,
+    answer: Answer,
+}
+
+// A host reader of bytes.
+trait Reader {
+    fn poll(&mut self, offered: &[u8], since: usize, finish: bool) -> (Answer, usize);
+    fn grant(&mut self, count: u32);
+}
+
+// It takes what it has credit for.
+#[derive(Default)]
+struct Credit {
+    credit: u64,
+    is_ended: bool,
+    takings: Vec<Taking>,
+    grants: Vec<(usize, u32)>,
+}
+
+impl Reader for Credit {
+    fn poll(&mut self, offered: &[u8], since: usize, finish: bool) -> (Answer, usize) {
+        let taken = (offered.len() as u64).min(self.credit) as usize;
+        self.credit -= taken as u64;
+        let answer = if self.credit == 0 && self.is_ended {
+            Answer::Dropped
+        } else if taken > 0 || (offered.is_empty() && self.credit > 0) {
+            Answer::Completed
+        } else if finish {
+            Answer::Cancelled
+        } else {
+            Answer::Pending
+        };
+        self.takings.push(Taking { offered: offered.len(), since, finish, taken, answer });
+        (answer, taken)
+    }
+
+    fn grant(&mut self, count: u32) {
+        self.grants.push((self.takings.len(), count));
+        self.credit = self.credit.saturating_add(u64::from(count));
+        self.is_ended |= count == 0;
+    }
+}
+
 struct Operation {
     address: usize,
     left: usize,
@@ -109,16 +161,20 @@ struct Operation {
 struct Stream {
     writer: Option<usize>,
     is_over: bool,
+    reader: Option<usize>,
+    since: usize,
     read: Option<Operation>,
+    write: Option<Operation>,
     received: u128,
 }
 
-// A guest that reads, and the writers of its streams.
+// A guest that reads and writes, and the host ends of its streams.
 struct Store {
     memory: Vec<u8>,
     handles: Vec<Option<usize>>,
     streams: Vec<Stream>,
     writers: Vec<Box<dyn Writer>>,
+    readers: Vec<Box<dyn Reader>>,
 }
 
 #[derive(Debug)]
@@ -178,6 +234,60 @@ impl Store {
         }
     }
 
+    fn write(&mut self, handle: u32, address: u32, count: u32) -> Result<u32, Refusal> {
+        if count >= 1 << 28 {
+            return Err(Refusal::TooBig);
+        }
+        let (address, left) = (address as usize, count as usize);
+        if left > 0 && self.memory.len() < address + left {
+            return Err(Refusal::OutOfBounds);
+        }
+        let Some(Some(number)) = self.handles.get((handle as usize).wrapping_sub(1)) else {
+            return Err(Refusal::UnknownHandle);
+        };
+        let stream = &mut self.streams[*number];
+        if stream.write.is_some() {
+            return Err(Refusal::Concurrent);
+        }
+        let mut write = Operation { address, left, moved: 0, outcome: None };
+        if let Some(reader) = stream.reader {
+            let reader = &mut self.readers[reader];
+            let since = stream.since;
+            let (answer, taken) = reader.poll(&self.memory[address..address + left], since, false);
+            let is_idle = left > 0 && taken == 0 && since == 0;
+            if matches!(answer, Answer::Failed | Answer::Cancelled)
+                || (answer == Answer::Completed && is_idle)
+            {
+                return Err(Refusal::HostBroke);
+            }
+            stream.received += taken as u128;
+            write.address += taken;
+            write.left -= taken;
+            write.moved += taken;
+            stream.since = if answer == Answer::Completed { 0 } else { since + taken };
+            if answer != Answer::Pending {
+                write.outcome = Some(answer);
+            }
+            if answer == Answer::Dropped {
+                stream.reader = None;
+            }
+        }
+        match write.outcome {
+            Some(Answer::Dropped) => Ok(16 * write.moved as u32 + 1),
+            Some(_) => Ok(16 * write.moved as u32),
+            None => {
+                stream.write = Some(write);
+                Ok(u32::MAX)
+            }
+        }
+    }
+
+    fn grant(&mut self, reader: usize, count: u32) {
+        if let Some(reader) = self.readers.get_mut(reader) {
+            reader.grant(count);
+        }
+    }
+
     fn feed(&mut self, writer: usize, bytes: &[u8]) {
         if let Some(writer) = self.writers.get_mut(writer) {
             writer.feed(bytes);
@@ -209,15 +319,42 @@ fn read_list(memory: &mut [u8], list: Vec<u8>) -> usize {
     given
 }
 
+#[inline(never)]
+fn grant_and_write(store: &mut Store, rounds: u32) -> Result<u128, Refusal> {
+    for round in 0..rounds {
+        store.grant(0, black_box(FEED as u32));
+        let address = round % (FED / FEED) as u32 * FEED as u32;
+        black_box(store.write(1, address, FEED as u32)?);
+    }
+    Ok(store.streams[0].received)
+}
+
+#[inline(never)]
+fn write_list(memory: &[u8], taken: &mut Vec<u8>) -> usize {
+    for source in memory.chunks(PIECE) {
+        taken.extend_from_slice(black_box(source));
+    }
+    taken.len()
+}
+
+// A store of one stream with these host ends.
+fn store_of(writers: Vec<Box<dyn Writer>>, readers: Vec<Box<dyn Reader>>) -> Store {
+    let stream = Stream {
+        writer: (!writers.is_empty()).then_some(0),
+        is_over: false,
+        reader: (!readers.is_empty()).then_some(0),
+        since: 0,
+        read: None,
+        write: None,
+        received: 0,
+    };
+    Store { memory: touched(FED), handles: vec![Some(0)], streams: vec![stream], writers, readers }
+}
+
 fn main() {
     let turns: u32 = std::env::args().nth(1).and_then(|word| word.parse().ok()).unwrap_or(2_000_000);
     let rounds = turns / 8;
-    let mut store = Store {
-        memory: touched(FED),
-        handles: vec![Some(0)],
-        streams: vec![Stream { writer: Some(0), is_over: false, read: None, received: 0 }],
-        writers: vec![Box::<Queue>::default()],
-    };
+    let mut store = store_of(vec![Box::<Queue>::default()], Vec::new());
     let start = Instant::now();
     let received = feed_and_read(&mut store, rounds).expect("a read is refused");
     let spent = start.elapsed().as_nanos();
@@ -230,4 +367,17 @@ fn main() {
     let spent = start.elapsed().as_nanos();
     println!("listed {received}: {}", sum(&memory));
     eprintln!("a list of 64 MiB: {spent} ns");
+    let mut store = store_of(Vec::new(), vec![Box::<Credit>::default()]);
+    let start = Instant::now();
+    let taken = grant_and_write(&mut store, rounds).expect("a write is refused");
+    let spent = start.elapsed().as_nanos();
+    println!("granted {taken}");
+    eprintln!("a grant and a write of 64 bytes: {} ns", spent / u128::from(rounds.max(1)));
+    let mut bytes = Vec::with_capacity(LISTED);
+    let memory = touched(LISTED);
+    let start = Instant::now();
+    let taken = write_list(&memory, &mut bytes);
+    let spent = start.elapsed().as_nanos();
+    println!("consumed {taken}");
+    eprintln!("a consumer of 64 MiB: {spent} ns");
 }

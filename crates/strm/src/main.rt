@@ -1,28 +1,33 @@
 //! The program: runs the lines of its input, and writes their replies.
 #![tactic(auto)]
 
-ghost use Rattle.std.specs.Prelude.{◌≢◌, ◌≤◌, ℕ, List, Option, length, map, string_bytes};
+ghost use Rattle.std.specs.Prelude.{◌≡◌, ◌≢◌, ◌∷◌, [], ℕ, List, Option, IfOk, map, string_bytes};
 ghost use Rattle.std.specs.Process.{exit_status};
 ghost use Rattle.strm_buffers.specs.AllTells.{tells_of};
 ghost use Rattle.strm_session.specs.Serving.{IsOutput, IsStatus};
+ghost use Rattle.strm.specs.HostEnds.{writers, readers};
 
 use std::alloc::{AllocError, Global};
 use std::io::{Read, Write};
 use std::process::ExitCode;
 use std::{env, io};
 use strm_buffers::hosts::Hosts;
+use strm_buffers::readers::HostReader;
 use strm_buffers::writers::HostWriter;
 use strm_codes::codes::TransmitKind;
 use strm_codes::payloads::Payload;
 use strm_codes::scalars::Scalar;
+use strm_ends::credit_reader::CreditReader;
 use strm_ends::queue_writer::QueueWriter;
 use strm_host::empty::Empty;
 use strm_host::erased::Erased;
+use strm_memory::payloaded::Payloaded;
 use strm_session::serving::{OUT_OF_MEMORY, WRITE_FAULT, serve};
 use strm_session::standard::{StdinSource, StdoutSink};
 
-// Serves a reader and a writer, among these host ends. The program's status is that of `serve`, and
-// with it goes a text whose cause is known, from what the reader had left.
+// Serves a reader and a writer, among the host ends of the program, none of which was used before. The
+// program's status is that of `serve`, and with it goes a text whose cause is known, from what the reader
+// had left.
 fn served<R: Read + Drop, W: Write + Drop>(
     alloc: Global,
     words: &Vec<String>,
@@ -30,8 +35,8 @@ fn served<R: Read + Drop, W: Write + Drop>(
     output: W,
     hosts: &mut Hosts,
 ) -> ExitCode
-    requires writers { length (tells_of writer_tells reader_tells hosts.old).writers ≤ 64 }
-    requires readers { length (tells_of writer_tells reader_tells hosts.old).readers ≤ 64 }
+    requires writers { (tells_of writer_tells reader_tells hosts.old).writers ≡ writers }
+    requires readers { (tells_of writer_tells reader_tells hosts.old).readers ≡ readers }
     ensures known { IsStatus (exit_status result) }
     ensures told { exit_status result ≢ WRITE_FAULT → exit_status result ≢ OUT_OF_MEMORY →
         (rest : Option (List ℕ)) × (faults : ℕ) × (text : List ℕ)
@@ -45,42 +50,59 @@ fn served<R: Read + Drop, W: Write + Drop>(
     ExitCode::from(status)
 }
 
+const STREAM: TransmitKind = TransmitKind::Stream;
+
+const FUTURE: TransmitKind = TransmitKind::Future;
+
+const NOTHING: Payload = Payload::Nothing;
+
 const BYTE: Payload = Payload::One(Scalar::U8);
 
 const WORD: Payload = Payload::One(Scalar::U32);
 
 const CHAR: Payload = Payload::One(Scalar::Char);
 
-// The kinds and payloads of the program's queues.
-const QUEUES: [(TransmitKind, Payload); 5] = [
-    (TransmitKind::Stream, BYTE),
-    (TransmitKind::Stream, WORD),
-    (TransmitKind::Stream, Payload::Nothing),
-    (TransmitKind::Stream, CHAR),
-    (TransmitKind::Future, WORD),
-];
+// The items of a stream that is ready.
+fn five(alloc: Global) -> Result<Vec<u8>, AllocError>
+    ensures { IfOk result (λ list. list.items ≡ 1 ∷ 2 ∷ 3 ∷ 4 ∷ 5 ∷ []) }
+{
+    Ok(vec![in alloc; 1u8, 2, 3, 4, 5]?)
+}
 
-// Serves among the program's eight host writers: its queues, two streams of five bytes each, and one of
-// none.
+// Serves among the program's host ends: eight writers, which are five queues, two streams of five bytes,
+// and one of none; and eight readers, each with a credit.
 fn served_among_ends<R: Read + Drop, W: Write + Drop>(
     alloc: Global,
     words: &Vec<String>,
     input: R,
     output: W,
 ) -> Result<ExitCode, AllocError> {
-    let mut writers: Vec<Box<dyn HostWriter>> = Vec::new(alloc);
-    for (kind, payload) in QUEUES {
-        writers.push(Box::new(alloc, QueueWriter::new(alloc, kind, payload))?)?;
-    }
-    for _ in 0..2usize {
-        let five = [1u8, 2, 3, 4, 5].to_vec(alloc)?;
-        writers.push(Box::new(alloc, Erased::stream(alloc, five))?)?;
-    }
-    let none: Empty<u8> = Empty::new();
-    writers.push(Box::new(alloc, Erased::stream(alloc, none))?)?;
+    let writers: [Box<dyn HostWriter>; 8] = [
+        Box::new(alloc, QueueWriter::new(alloc, STREAM, BYTE))?,
+        Box::new(alloc, QueueWriter::new(alloc, STREAM, WORD))?,
+        Box::new(alloc, QueueWriter::new(alloc, STREAM, NOTHING))?,
+        Box::new(alloc, QueueWriter::new(alloc, STREAM, CHAR))?,
+        Box::new(alloc, QueueWriter::new(alloc, FUTURE, WORD))?,
+        Box::new(alloc, Erased::stream(alloc, five(alloc)?))?,
+        Box::new(alloc, Erased::stream(alloc, five(alloc)?))?,
+        Box::new(alloc, Erased::stream(alloc, Empty::<u8>::new()))?,
+    ];
+    let readers: [Box<dyn HostReader>; 8] = [
+        Box::new(alloc, CreditReader::new(alloc, STREAM, BYTE))?,
+        Box::new(alloc, CreditReader::new(alloc, STREAM, WORD))?,
+        Box::new(alloc, CreditReader::new(alloc, STREAM, NOTHING))?,
+        Box::new(alloc, CreditReader::new(alloc, STREAM, CHAR))?,
+        Box::new(alloc, CreditReader::new(alloc, FUTURE, WORD))?,
+        Box::new(alloc, CreditReader::new(alloc, STREAM, BYTE))?,
+        Box::new(
+            alloc,
+            CreditReader::new(alloc, STREAM, <(u8, u32)>::payload()),
+        )?,
+        Box::new(alloc, CreditReader::new(alloc, FUTURE, NOTHING))?,
+    ];
     let mut hosts = Hosts {
-        writers,
-        readers: Vec::new(alloc),
+        writers: Vec::from_array(alloc, writers)?,
+        readers: Vec::from_array(alloc, readers)?,
     };
     Ok(served(alloc, words, input, output, &mut hosts))
 }

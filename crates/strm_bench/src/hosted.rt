@@ -24,16 +24,17 @@ pub const FED: u32 = 1_048_576;
 /// The bytes of a list.
 pub const LISTED: u32 = 67_108_864;
 
-/// The bytes of a feed, and of the read behind it.
-const FEED: u32 = 64;
+/// The bytes of a feed or a grant, and of the read or write behind it.
+pub const FEED: u32 = 64;
 
-/// The bytes of a read from a list.
-const PIECE: u32 = 65_536;
+/// The bytes of a read from a list, and of a write of one.
+pub const PIECE: u32 = 65_536;
 
 /// The bytes of a page.
 const PAGE: u32 = 4_096;
 
-const BYTES: Payload = Payload::One(Scalar::U8);
+/// The payload of its streams.
+pub const BYTES: Payload = Payload::One(Scalar::U8);
 
 const LIMITS: Limits = Limits {
     handles: 1,
@@ -50,8 +51,8 @@ fn fed() -> Chunk {
     Chunk::new(&[7; 64]).unwrap()
 }
 
-// A byte is written to each page of the first guest's memory.
-fn touch(store: &mut Store, size: u32) -> Result<(), StoreError>
+/// A byte is written to each page of the first guest's memory.
+pub fn touch(store: &mut Store, size: u32) -> Result<(), StoreError>
     ensures { OnOk result (StillFits store.old store.new) }
 {
     let bytes = fed();
@@ -76,8 +77,8 @@ fn prepare(store: &mut Store, hosts: &Hosts, size: u32) -> Result<(u32, u32), St
     Ok((stream, handle))
 }
 
-// A step that is no read; its reply is not looked at.
-fn done(store: &mut Store, hosts: &mut Hosts, step: &Step) -> Result<(), StoreError>
+/// A step that is no read and no write; its reply is not looked at.
+pub fn done(store: &mut Store, hosts: &mut Hosts, step: &Step) -> Result<(), StoreError>
     requires { Fits store.old (tells_of writer_tells reader_tells hosts.old) }
     ensures { Fits store.new (tells_of writer_tells reader_tells hosts.new) }
 {

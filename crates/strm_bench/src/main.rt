@@ -12,6 +12,7 @@ mod hosted;
 mod rounds;
 mod sums;
 mod tables;
+mod taken;
 mod windows;
 
 ghost use Rattle.strm_buffers.specs.AllTells.{tells_of};
@@ -21,17 +22,22 @@ use crate::copies::{COUNTS, Copies};
 use crate::filled::{COUNT, Filled};
 use crate::hosted::{FED, LISTED, Reading};
 use crate::tables::Sums;
+use crate::taken::{BESIDE, DRIVES, Writing};
 use crate::windows::ITEMS;
 use std::time::Instant;
 use std::{env, io};
 use strm_buffers::hosts::Hosts;
+use strm_buffers::readers::HostReader;
 use strm_buffers::writers::HostWriter;
 use strm_codes::codes::TransmitKind;
 use strm_codes::counts::ItemCount;
 use strm_codes::payloads::Payload;
 use strm_codes::scalars::Scalar;
+use strm_ends::credit_reader::CreditReader;
 use strm_ends::queue_writer::QueueWriter;
 use strm_host::erased::Erased;
+use strm_host::erased_readers::ErasedReader;
+use strm_host_tests::copying::Copying;
 use strm_memory::memories::GuestMemory;
 use strm_memory::payloaded::Payloaded;
 
@@ -57,7 +63,10 @@ fn main(rt: HostRuntime) -> io::Result<()> {
     time_items(&rt, "u32", 70_000u32)?;
     time_items(&rt, "(u8,u32)", (7u8, 70_000u32))?;
     time_feeds(&rt, turns / 8)?;
-    time_list(&rt)
+    time_list(&rt)?;
+    time_grants(&rt, turns / 8)?;
+    time_consumer(&rt)?;
+    time_drives(&rt)
 }
 
 // The first argument, a number of turns.
@@ -130,6 +139,11 @@ fn tell_items(rt: &HostRuntime, name: &str, count: u32, put: u128, taken: u128) 
 fn tell_reading(rt: &HostRuntime, name: &str, reading: &Reading) -> io::Result<()> {
     let (received, sum) = (reading.received(), reading.sum());
     println!(rt; "{name} {received}: {sum}")
+}
+
+fn tell_taken(rt: &HostRuntime, name: &str, writing: &Writing) -> io::Result<()> {
+    let taken = writing.taken();
+    println!(rt; "{name} {taken}")
 }
 
 // Inserts and removals in mixed order, on a table of up to 32,768 handles.
@@ -341,6 +355,124 @@ fn time_listed(rt: &HostRuntime, reading: &mut Reading, hosts: &mut Hosts) -> io
             let spent = start.elapsed(rt)?.as_nanos();
             tell_reading(rt, "listed", reading)?;
             tell_time(rt, "a list of 64 MiB", spent, "ns")
+        }
+        Err(error) => eprintln!(rt; "{error:?}"),
+    }
+}
+
+// Grants of 64 bytes to a host reader, each followed by a write of as many.
+fn time_grants(rt: &HostRuntime, rounds: u32) -> io::Result<()> {
+    let alloc = rt.alloc();
+    let credit = CreditReader::new(alloc, TransmitKind::Stream, BYTES);
+    let mut readers: Vec<Box<dyn HostReader>> = Vec::new(alloc);
+    let Ok(reader) = Box::new(alloc, credit) else {
+        return eprintln!(rt; "no memory");
+    };
+    let Ok(()) = readers.push(reader) else {
+        return eprintln!(rt; "no memory");
+    };
+    let mut hosts = Hosts {
+        writers: Vec::new(alloc),
+        readers,
+    };
+    match Writing::new(alloc, &mut hosts, FED, 0) {
+        Ok(mut writing) => time_granted(rt, &mut writing, &mut hosts, rounds),
+        Err(error) => eprintln!(rt; "{error:?}"),
+    }
+}
+
+fn time_granted(
+    rt: &HostRuntime,
+    writing: &mut Writing,
+    hosts: &mut Hosts,
+    rounds: u32,
+) -> io::Result<()>
+    requires { Fits writing.old.store (tells_of writer_tells reader_tells hosts.old) }
+{
+    let start = Instant::now(rt)?;
+    match writing.grant_and_write(hosts, rounds) {
+        Ok(()) => {
+            let spent = start.elapsed(rt)?.as_nanos();
+            tell_taken(rt, "granted", writing)?;
+            let round = spent / u128::from(rounds).max(1);
+            tell_time(rt, "a grant and a write of 64 bytes", round, "ns")
+        }
+        Err(error) => eprintln!(rt; "{error:?}"),
+    }
+}
+
+// A list of 64 MiB that a consumer takes, written in pieces of 64 KiB.
+fn time_consumer(rt: &HostRuntime) -> io::Result<()> {
+    let alloc = rt.alloc();
+    let Ok(bytes) = Vec::with_capacity(alloc, LISTED as usize) else {
+        return eprintln!(rt; "no memory");
+    };
+    let mut readers: Vec<Box<dyn HostReader>> = Vec::new(alloc);
+    let Ok(reader) = Box::new(alloc, ErasedReader::stream(alloc, Copying { bytes })) else {
+        return eprintln!(rt; "no memory");
+    };
+    let Ok(()) = readers.push(reader) else {
+        return eprintln!(rt; "no memory");
+    };
+    let mut hosts = Hosts {
+        writers: Vec::new(alloc),
+        readers,
+    };
+    match Writing::new(alloc, &mut hosts, LISTED, 0) {
+        Ok(mut writing) => time_taken(rt, &mut writing, &mut hosts),
+        Err(error) => eprintln!(rt; "{error:?}"),
+    }
+}
+
+fn time_taken(rt: &HostRuntime, writing: &mut Writing, hosts: &mut Hosts) -> io::Result<()>
+    requires { Fits writing.old.store (tells_of writer_tells reader_tells hosts.old) }
+{
+    let start = Instant::now(rt)?;
+    match writing.write_list(hosts) {
+        Ok(()) => {
+            let spent = start.elapsed(rt)?.as_nanos();
+            tell_taken(rt, "consumed", writing)?;
+            tell_time(rt, "a consumer of 64 MiB", spent, "ns")
+        }
+        Err(error) => eprintln!(rt; "{error:?}"),
+    }
+}
+
+// Drive rounds while one write waits, beside many streams.
+fn time_drives(rt: &HostRuntime) -> io::Result<()> {
+    let alloc = rt.alloc();
+    let credit = CreditReader::new(alloc, TransmitKind::Stream, BYTES);
+    let mut readers: Vec<Box<dyn HostReader>> = Vec::new(alloc);
+    let Ok(reader) = Box::new(alloc, credit) else {
+        return eprintln!(rt; "no memory");
+    };
+    let Ok(()) = readers.push(reader) else {
+        return eprintln!(rt; "no memory");
+    };
+    let mut hosts = Hosts {
+        writers: Vec::new(alloc),
+        readers,
+    };
+    match Writing::new(alloc, &mut hosts, FED, BESIDE) {
+        Ok(mut writing) => time_driven(rt, &mut writing, &mut hosts),
+        Err(error) => eprintln!(rt; "{error:?}"),
+    }
+}
+
+fn time_driven(rt: &HostRuntime, writing: &mut Writing, hosts: &mut Hosts) -> io::Result<()>
+    requires { Fits writing.old.store (tells_of writer_tells reader_tells hosts.old) }
+{
+    let start = Instant::now(rt)?;
+    match writing.drive(hosts, DRIVES) {
+        Ok(()) => {
+            let spent = start.elapsed(rt)?.as_nanos();
+            tell_taken(rt, "driven", writing)?;
+            tell_time(
+                rt,
+                "a drive with one write waiting",
+                spent / u128::from(DRIVES),
+                "ns",
+            )
         }
         Err(error) => eprintln!(rt; "{error:?}"),
     }

@@ -1,16 +1,26 @@
 -- The items that an offer lends.
-use Rattle.std.proofs.Common.{◌≡◌, ℕ, zero, suc, ◌+◌, ◌*◌, ◌<◌, ◌≤◌, List, [], ◌∷◌, length, drop, None, refl, sym, ap, subst, ◌∙◌, arith}
-use Rattle.std.proofs.lemmas.List.{drop-map, take_all}
-use Rattle.std.specs.Prelude.{slice_get}
-use Rattle.strm_codes.specs.Layout.{scalars_of, item_size}
+use Rattle.std.proofs.Common.{◌≡◌, ℕ, zero, suc, ◌+◌, ◌*◌, ◌-◌, ◌<◌, ◌≤◌, List, [], ◌∷◌, length, take, drop, min, Bool, true, false, Option, Some, None, refl, sym, ap, subst, ◌∙◌, arith, length-drop}
+use Rattle.std.proofs.lemmas.Bool.Decides.{nat_tests}
+use Rattle.std.proofs.lemmas.List.{drop-map, drop-drop, drop-take, take_all, length-take-le}
+use Rattle.std.proofs.lemmas.Option.{slice_get_within, slice_get_past}
+use Rattle.std.specs.Bool.{then_some}
+use Rattle.std.specs.Prelude.{slice_get, nat_lt, ◌||◌, ◌&&◌, if◌then◌else◌, IsTrue, IsSome}
+use Rattle.strm_codes.specs.Layout.{scalars_of, item_size, is_number_payload}
 use Rattle.strm_codes.specs.declared.payloads.Payload.{Payload}
-use Rattle.strm_codes.specs.declared.payloads.Payload.TheVariants.{One}
+use Rattle.strm_codes.specs.declared.payloads.Payload.TheVariants.{Nothing, One, Tuple}
 use Rattle.strm_codes.specs.declared.scalars.Scalar.TheVariants.{U8}
-use Rattle.strm_memory.specs.Items.{items, byte_items}
+use Rattle.strm_codes.specs.declared.scalars.Scalar.{Scalar}
+use Rattle.strm_codes.specs.Items.{FitsItem}
+use Rattle.strm_memory.specs.Bytes.{IsBytes, bytes_at}
+use Rattle.strm_memory.specs.Items.{decode, items, byte_items, is_number_or_none}
 use Rattle.strm_memory.proofs.ItemLemmas.{item_fits}
 use Rattle.strm_memory.proofs.AppendLemmas.{items-bytes}
-use Rattle.strm_buffers.specs.Listing.{Item, TypedItems, listed, items_in}
-use Rattle.strm_buffers.specs.Offers.{items_lent, IsSource, Shows}
+use Rattle.strm_memory.proofs.ByteLemmas.{IsBytes-drop}
+use Rattle.strm_memory.proofs.RegionLemmas.{AreItems-items, items-number_or_none}
+use Rattle.strm_buffers.specs.Listing.{Item, TypedItems, listed, items_in, good_items}
+use Rattle.strm_buffers.specs.Offers.{Offered, items_lent, item_behind, good_lent, left_of, is_cut, asks_bad, after_taking, IsSource, IsBadNext, IsOffer, Shows}
+use Rattle.strm_buffers.specs.Tells.{first_lent}
+use Rattle.strm_buffers.proofs.GoodLemmas.{length-good_items, behind_good, good_take, good_counted, one_there}
 use Rattle.strm_buffers.specs.declared.sources.Source.{Source}
 use Rattle.strm_buffers.specs.declared.sources.Source.TheVariants.{Region, Listed}
 
@@ -23,6 +33,187 @@ pub get_past : {A : Type 0} (k : ℕ) (xs : List A) → length xs ≤ k → None
 get_past k [] h = refl
 get_past zero (x ∷ xs) h = absurd (omega arith)
 get_past (suc k) (x ∷ xs) h = get_past k xs (omega (arith, h))
+
+-- none stands past the end only
+past_none : {A : Type 0} (k : ℕ) (xs : List A) → slice_get xs k ≡ None → length xs ≤ k
+past_none k [] e = omega arith
+past_none zero (x ∷ xs) e = cc
+past_none (suc k) (x ∷ xs) e = omega (arith, past_none k xs e)
+
+-- UP TO THE FIRST BAD ONE
+
+-- what was lent up to the first bad one is no more than was lent
+pub good_most : (ss : List Scalar) (source : Source) → length (good_lent ss source) ≤ items_lent source
+good_most ss (Region memory address count) = length-good_items ss (drop address memory) count
+good_most ss (Listed items) = omega arith
+
+-- the item behind so many of it
+pub behind_lent : (ss : List Scalar) (source : Source) (n : ℕ) → n ≤ length (good_lent ss source) → item_behind ss source n ≡ slice_get (good_lent ss source) n
+behind_lent ss (Region memory address count) n h = found (nat_lt n count) refl
+  where
+    found : (b : Bool) → nat_lt n count ≡ b → (if b then decode ss (drop (address + item_size ss * n) memory) else None) ≡ slice_get (good_items ss (drop address memory) count) n
+    found true e =
+        let less : n < count = grind (arith, nat_tests) in
+        ap (decode ss) (sym (drop-drop (item_size ss * n) address memory)) ∙ behind_good ss (drop address memory) count n less h
+    found false e =
+        let past : count ≤ n = grind (arith, nat_tests) in
+        get_past n (good_items ss (drop address memory) count) (omega (arith, past, length-good_items ss (drop address memory) count))
+behind_lent ss (Listed items) n h = refl
+
+-- the first so many of it
+pub first_good : (ss : List Scalar) (source : Source) (n : ℕ) → n ≤ length (good_lent ss source) → first_lent ss source n ≡ take n (good_lent ss source)
+first_good ss (Region memory address count) n h = ap listed (good_take ss (drop address memory) count n h)
+first_good ss (Listed items) n h = refl
+
+pub length-first_lent : (ss : List Scalar) (source : Source) (n : ℕ) → n ≤ length (good_lent ss source) → length (first_lent ss source n) ≡ n
+length-first_lent ss source n h = ap length (first_good ss source n h) ∙ length-take-le n (good_lent ss source) h
+
+-- one more is good
+pub one_more_good : (ss : List Scalar) (source : Source) (n : ℕ) (x : Item) → n ≤ length (good_lent ss source) → item_behind ss source n ≡ Some x → n < length (good_lent ss source)
+one_more_good ss source n x h e = slice_get_within (good_lent ss source) n x (sym (behind_lent ss source n h) ∙ e)
+
+-- or so many are all
+pub all_good : (ss : List Scalar) (source : Source) (n : ℕ) → n ≤ length (good_lent ss source) → item_behind ss source n ≡ None → n ≡ length (good_lent ss source)
+all_good ss source n h e = omega (arith, h, past_none n (good_lent ss source) (sym (behind_lent ss source n h) ∙ e))
+
+-- what was lifted from bytes is an item
+pub lifted_fits : (ss : List Scalar) (bytes : List ℕ) (from : ℕ) (there : Bool) (x : Item) → IsBytes bytes → then_some there x ≡ decode ss (drop from bytes) → IsTrue there → FitsItem ss x
+lifted_fits ss bytes from true x b e t =
+    (AreItems-items ss (drop from bytes) 1 (x ∷ []) (IsBytes-drop bytes from b) (one_there ss (drop from bytes) x (sym e))).0
+lifted_fits ss bytes from false x b e t = cc
+
+-- no byte is bad
+pub all_bytes : (source : Source) → IsSource (One U8) source → length (good_lent (U8 ∷ []) source) ≡ items_lent source
+all_bytes (Region memory address count) h =
+    let room : count ≤ length (drop address memory) = omega (arith, h.0, length-drop address memory) in
+    let least = good_counted (U8 ∷ []) (drop address memory) count count _ (omega arith) (items-bytes (drop address memory) count room) in
+    omega (arith, least, length-good_items (U8 ∷ []) (drop address memory) count)
+all_bytes (Listed items) h = refl
+
+-- no whole number is bad
+pub all_numbers : (payload : Payload) (memory : List ℕ) (address count : ℕ) → is_number_payload payload ≡ true → length (good_items (scalars_of payload) (drop address memory) count) ≡ count
+all_numbers payload memory address count t =
+    let ss = scalars_of payload in
+    counted (items ss (drop address memory) count) refl (items-number_or_none payload (drop address memory) count (numbers payload t))
+  where
+    numbers : (p : Payload) → is_number_payload p ≡ true → IsTrue (is_number_or_none p)
+    numbers Nothing t = cc
+    numbers (One s) t = t
+    numbers (Tuple shape) t = cc
+
+    counted : (o : Option (List Item)) → items (scalars_of payload) (drop address memory) count ≡ o → IsSome o → length (good_items (scalars_of payload) (drop address memory) count) ≡ count
+    counted None e h = cc
+    counted (Some xs) e h =
+        let ss = scalars_of payload in
+        omega (arith, good_counted ss (drop address memory) count count xs (omega arith) e, length-good_items ss (drop address memory) count)
+
+pub region_good : (payload : Payload) (source : Source) (memory : List ℕ) (address count : ℕ) → source ≡ Region memory address count → is_number_payload payload ≡ true → length (good_lent (scalars_of payload) source) ≡ items_lent source
+region_good payload source memory address count e t = rw e (all_numbers payload memory address count t)
+
+-- an offer of which more good items are taken is one
+pub passed : (payload : Payload) (source : Source) (taken n : ℕ) (bad : Bool) → IsOffer payload source taken bad → taken + n ≤ length (good_lent (scalars_of payload) source) → IsOffer payload source (taken + n) bad
+passed payload source taken n bad o h = record {
+  holds = o.holds;
+  most = omega (arith, h, good_most (scalars_of payload) source);
+  good = h;
+  next = λ b.
+      let at = o.next b in
+      let all = all_good (scalars_of payload) source taken o.good at.1 in
+      let same : taken ≡ taken + n = omega (arith, all, h) in
+      subst (IsBadNext (scalars_of payload) source) same at;
+}
+
+pub none_bad : (payload : Payload) (source : Source) (n : ℕ) → payload ≡ One U8 → IsSource payload source → n ≤ length (good_lent (scalars_of payload) source) → IsBadNext (scalars_of payload) source n → ⊥
+none_bad payload source n p h g b =
+    let P : Payload → Type 0 = λ q. IsSource q source → n ≤ length (good_lent (scalars_of q) source) → IsBadNext (scalars_of q) source n → ⊥ in
+    subst P (sym p) (λ h g b. absurd (omega (arith, all_bytes source h, all_good (U8 ∷ []) source n g b.1, b.0))) h g b
+
+pub good_bytes : (payload : Payload) (source : Source) (n : ℕ) → payload ≡ One U8 → IsSource payload source → n ≤ items_lent source → n ≤ length (good_lent (scalars_of payload) source)
+good_bytes payload source n p h l =
+    let P : Payload → Type 0 = λ q. IsSource q source → n ≤ length (good_lent (scalars_of q) source) in
+    subst P (sym p) (λ h. omega (arith, all_bytes source h, l)) h
+
+-- what a memory lends as bytes is what is left, up to the first bad one: none is bad
+region_left : (memory : List ℕ) (address count taken : ℕ) → IsSource (One U8) (Region memory address count) → taken ≤ count → byte_items (bytes_at memory (address + taken) (count - taken)) ≡ drop taken (good_items (U8 ∷ []) (drop address memory) count)
+region_left memory address count taken h m =
+    let g = good_items (U8 ∷ []) (drop address memory) count in
+    let room : count ≤ length (drop address memory) = omega (arith, h.0, length-drop address memory) in
+    let size : length g ≡ count = all_bytes (Region memory address count) h in
+    let all : Some (take count g) ≡ Some (byte_items (take count (drop address memory))) = sym (good_take (U8 ∷ []) (drop address memory) count count (omega (arith, size))) ∙ items-bytes (drop address memory) count room in
+    let is : take count g ≡ byte_items (take count (drop address memory)) = ap listed all in
+    let whole : g ≡ byte_items (take count (drop address memory)) = sym (take_all count g (omega (arith, size))) ∙ is in
+    let parts : count ≡ taken + (count - taken) = omega (arith, m) in
+    let behind : drop taken (take count (drop address memory)) ≡ bytes_at memory (address + taken) (count - taken) = ap (λ k. drop taken (take k (drop address memory))) parts ∙ drop-take taken (count - taken) (drop address memory) ∙ ap (take (count - taken)) (drop-drop taken address memory) in
+    sym (ap byte_items behind) ∙ sym (drop-map _ taken (take count (drop address memory))) ∙ ap (drop taken) (sym whole)
+
+pub shows_left : (payload : Payload) (source : Source) (taken : ℕ) (bytes : List ℕ) → payload ≡ One U8 → IsSource payload source → taken ≤ items_lent source → Shows source taken bytes → byte_items bytes ≡ drop taken (good_lent (scalars_of payload) source)
+shows_left payload (Region memory address count) taken bytes p h m s =
+    let h' = subst (λ q. IsSource q (Region memory address count)) p h in
+    ap byte_items s ∙ region_left memory address count taken h' m ∙ ap (λ q. drop taken (good_items (scalars_of q) (drop address memory) count)) (sym p)
+shows_left payload (Listed items) taken bytes p h m s = s
+
+-- an offer of which one more item is taken is one
+pub offer_next : (payload : Payload) (source : Source) (n : ℕ) (bad : Bool) (x : Item) → IsOffer payload source n bad → item_behind (scalars_of payload) source n ≡ Some x → IsOffer payload source (n + 1) bad
+offer_next payload source n bad x o e =
+    let ss = scalars_of payload in
+    let more = one_more_good ss source n x o.good e in
+    record {
+      holds = o.holds;
+      most = omega (arith, more, good_most ss source);
+      good = omega (arith, more);
+      next = λ b. let q : None ≡ Some x = sym (o.next b).1 ∙ e in cc;
+    }
+
+-- and one of which none could be
+pub offer_stop : (payload : Payload) (source : Source) (n : ℕ) (bad : Bool) → IsOffer payload source n bad → item_behind (scalars_of payload) source n ≡ None → IsOffer payload source n (bad || nat_lt n (items_lent source))
+offer_stop payload source n bad o e = record {
+  holds = o.holds;
+  most = o.most;
+  good = o.good;
+  next = λ b. (asked bad b o.next, e);
+}
+  where
+    asked : (old : Bool) → (old || nat_lt n (items_lent source)) ≡ true → (old ≡ true → IsBadNext (scalars_of payload) source n) → n < items_lent source
+    asked true b f = (f refl).0
+    asked false b f = grind (arith, nat_tests)
+
+both_true : (a b : Bool) → (a && b) ≡ true → (a ≡ true) × (b ≡ true)
+both_true true true e = (refl, refl)
+both_true true false e = cc
+both_true false b e = cc
+
+-- and one of which so many were wanted
+module _ (o : Offered) (wanted : ℕ) (s : IsOffer o.payload o.source o.taken o.bad) where
+  abbrev ends : ℕ
+  ends = o.taken + min wanted (length (left_of o))
+
+  stops : (was : Bool) → o.bad ≡ was → (was || asks_bad wanted o) ≡ true → IsBadNext (scalars_of o.payload) o.source ends
+  stops true p q =
+      let ss = scalars_of o.payload in
+      let b = s.next p in
+      let all = all_good ss o.source o.taken s.good b.1 in
+      let here : ends ≡ o.taken = omega (arith, all, length-drop o.taken (good_lent ss o.source)) in
+      subst (λ n. IsBadNext ss o.source n) (sym here) b
+  stops false p q =
+      let ss = scalars_of o.payload in
+      let g = good_lent ss o.source in
+      let both = both_true (is_cut ss o.source) (nat_lt (length (left_of o)) wanted) q in
+      let cut : length g < items_lent o.source = grind (arith, nat_tests) in
+      let few : length (left_of o) < wanted = grind (arith, nat_tests) in
+      let here : ends ≡ length g = omega (arith, few, s.good, length-drop o.taken g) in
+      let past : item_behind ss o.source (length g) ≡ None = behind_lent ss o.source (length g) (omega arith) ∙ slice_get_past g (length g) (omega arith) in
+      subst (λ n. IsBadNext ss o.source n) (sym here) (cut, past)
+
+  pub offer_taken : IsOffer o.payload o.source (after_taking wanted o).taken (after_taking wanted o).bad
+  offer_taken =
+      let ss = scalars_of o.payload in
+      let good : ends ≤ length (good_lent ss o.source) = omega (arith, s.good, length-drop o.taken (good_lent ss o.source)) in
+      record {
+        holds = s.holds;
+        most = omega (arith, good, good_most ss o.source);
+        good = good;
+        next = λ b. stops o.bad refl b;
+      }
 
 -- where the item behind so many of a memory lies
 pub behind_fits : (payload : Payload) (memory : List ℕ) (address count taken : ℕ) (source : Source) → IsSource payload source → source ≡ Region memory address count → taken < count → address + item_size (scalars_of payload) * taken + item_size (scalars_of payload) ≤ length memory

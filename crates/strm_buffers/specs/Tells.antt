@@ -81,6 +81,14 @@ told_by tells n = slice_index_or tells.writers n no_tells
 abbrev pub with_told : Tells → ℕ → WriterTells → Tells
 with_told tells n told = record tells { writers = slice_set tells.writers n told }
 
+-- what host reader r tells
+abbrev pub told_by_reader : Tells → ℕ → ReaderTells
+told_by_reader tells r = slice_index_or tells.readers r no_reader_tells
+
+-- host reader r tells something else, and no other end does
+abbrev pub with_told_reader : Tells → ℕ → ReaderTells → Tells
+with_told_reader tells r told = record tells { readers = slice_set tells.readers r told }
+
 -- THE CALLS OF A HOST WRITER
 
 -- one more, in a counter of 64 bits that stands still at its end

@@ -2,7 +2,7 @@
 
 ghost use Rattle.std.specs.Prelude.{◌≡◌, ◌<◌, length, OnOk, OnErr};
 ghost use Rattle.strm_buffers.specs.AllTells.{boxes_tell};
-ghost use Rattle.strm_buffers.specs.Tells.{told_by, with_told, ClosesWriter, fed};
+ghost use Rattle.strm_buffers.specs.Tells.{told_by, with_told, ClosesWriter, fed, told_by_reader, with_told_reader, closed_reader, granted};
 
 use crate::boxes;
 use crate::readers::HostReader;
@@ -44,6 +44,14 @@ impl Hosts {
         boxes::writer_payload(&self.writers[n])
     }
 
+    /// `HostWriter::held`.
+    pub fn writer_held(&self, n: usize) -> usize
+        requires { n < length (boxes_tell writer_tells reader_tells self.now).writers }
+        ensures { result ≡ length (told_by (boxes_tell writer_tells reader_tells self.now) n).holds }
+    {
+        boxes::held_by(&self.writers[n])
+    }
+
     /// `HostWriter::feed`.
     #[tactic(auto, using(crate::proofs::BoxLemmas::same_boxes))]
     pub fn feed(&mut self, n: usize, bytes: &[u8]) -> Result<(), OutOfMemory>
@@ -61,5 +69,50 @@ impl Hosts {
         ensures others { (boxes_tell writer_tells reader_tells self.new) ≡ with_told (boxes_tell writer_tells reader_tells self.old) n (told_by (boxes_tell writer_tells reader_tells self.new) n) }
     {
         boxes::close_writer(&mut self.writers[n])
+    }
+}
+
+/// The calls of the host reader at a place.
+#[tactic(auto, using(crate::proofs::BoxLemmas::boxes))]
+impl Hosts {
+    /// How many host readers there are.
+    pub fn count_readers(&self) -> usize
+        ensures { result ≡ length (boxes_tell writer_tells reader_tells self.now).readers }
+    {
+        self.readers.len()
+    }
+
+    /// `HostReader::kind`.
+    pub fn reader_kind(&self, r: usize) -> TransmitKind
+        requires { r < length (boxes_tell writer_tells reader_tells self.now).readers }
+        ensures { result ≡ (told_by_reader (boxes_tell writer_tells reader_tells self.now) r).kind }
+    {
+        boxes::reader_kind(&self.readers[r])
+    }
+
+    /// `HostReader::payload`.
+    pub fn reader_payload(&self, r: usize) -> Payload
+        requires { r < length (boxes_tell writer_tells reader_tells self.now).readers }
+        ensures { result ≡ (told_by_reader (boxes_tell writer_tells reader_tells self.now) r).payload }
+    {
+        boxes::reader_payload(&self.readers[r])
+    }
+
+    /// `HostReader::grant`.
+    #[tactic(auto, using(crate::proofs::BoxLemmas::same_boxes))]
+    pub fn grant(&mut self, r: usize, count: u32) -> Result<(), OutOfMemory>
+        requires { r < length (boxes_tell writer_tells reader_tells self.old).readers }
+        ensures ok { OnOk result ((boxes_tell writer_tells reader_tells self.new) ≡ with_told_reader (boxes_tell writer_tells reader_tells self.old) r (granted (told_by_reader (boxes_tell writer_tells reader_tells self.old) r) count)) }
+        ensures err { OnErr result ((boxes_tell writer_tells reader_tells self.new) ≡ (boxes_tell writer_tells reader_tells self.old)) }
+    {
+        boxes::grant(&mut self.readers[r], count)
+    }
+
+    /// `HostReader::close`.
+    pub fn close_reader(&mut self, r: usize)
+        requires { r < length (boxes_tell writer_tells reader_tells self.old).readers }
+        ensures { (boxes_tell writer_tells reader_tells self.new) ≡ with_told_reader (boxes_tell writer_tells reader_tells self.old) r (closed_reader (told_by_reader (boxes_tell writer_tells reader_tells self.old) r)) }
+    {
+        boxes::close_reader(&mut self.readers[r])
     }
 }

@@ -3,15 +3,17 @@
 //! Source: wasmtime, `futures_and_streams.rs`, `Source` and `DirectSource`. Ours: the offer owns the
 //! items while the poll lasts, and gives them back unchanged.
 
-ghost use Rattle.std.specs.Prelude.{◌≡◌, ◌+◌, ◌*◌, ◌-◌, ◌≤◌, [], length, false, None, IsTrue};
+ghost use Rattle.std.specs.Prelude.{◌≡◌, ◌+◌, ◌*◌, ◌-◌, ◌≤◌, [], length, false, None, IsTrue, IfSome};
 ghost use Rattle.std.specs.Bool.{then_some};
 ghost use Rattle.strm_codes.specs.Layout.{scalars_of, item_size};
+ghost use Rattle.strm_codes.specs.Items.{FitsItem};
 ghost use Rattle.strm_codes.specs.declared.payloads.Payload.TheVariants.{One};
 ghost use Rattle.strm_codes.specs.declared.scalars.Scalar.TheVariants.{U8};
 ghost use Rattle.strm_buffers.specs.declared.sources.Source.TheVariants.{Region, Listed};
-ghost use Rattle.strm_buffers.specs.Offers.{items_lent, item_behind, after_next, IsSource, IsRegion, IsList, IsMemoryOf, IsItemsOf, Shows};
+ghost use Rattle.strm_buffers.specs.Offers.{items_lent, item_behind, good_lent, after_next, IsSource, IsBadNext, IsOffer, IsRegion, IsList, IsMemoryOf, IsItemsOf, Shows};
 
 use crate::items::Items;
+use crate::kept_bytes::are_bytes;
 use crate::sources::Source;
 use std::marker::Model;
 use strm_codes::payloads::Payload;
@@ -36,7 +38,7 @@ impl Model for Offer {
 
     ghost view = { λ o. record { payload = o.payload; source = o.source; since = o.since; taken = o.taken; bad = o.bad } };
 
-    ghost invariant = { λ o. IsOffer o.payload o.source o.taken };
+    ghost invariant = { λ o. IsOffer o.payload o.source o.taken o.bad };
 }
 
 impl Offer {
@@ -126,6 +128,26 @@ impl Offer {
         self.taken = (self.taken as usize + count) as u32;
     }
 
+    /// Whether all items that were lent are good, as far as can be told without a look at them: those of a
+    /// list are, and whole numbers.
+    pub(crate) fn are_good(&self) -> bool
+        ensures { IsTrue result →
+            length (good_lent (scalars_of self.now.payload) self.now.source) ≡ items_lent self.now.source }
+    {
+        match &self.source {
+            Source::Region { .. } => self.payload.is_number(),
+            Source::Listed { .. } => true,
+        }
+    }
+
+    /// Takes so many items more, without a look at them.
+    pub(crate) fn pass(&mut self, count: u32)
+        requires { self.old.taken + count ≤ length (good_lent (scalars_of self.old.payload) self.old.source) }
+        ensures { self.new ≡ record self.old { taken = self.old.taken + count } }
+    {
+        self.taken = (self.taken as usize + count as usize) as u32;
+    }
+
     /// The items that are left, as bytes.
     pub fn direct(&self) -> &[u8]
         requires { self.now.payload ≡ One U8 }
@@ -177,17 +199,27 @@ impl Offer {
         self.taken
     }
 
-    /// Whether a bad item was asked for.
+    /// Whether a bad item was asked for: it is the next one.
     pub fn bad(&self) -> bool
-        ensures { result ≡ self.now.bad }
+        ensures exact { result ≡ self.now.bad }
+        ensures next { IsTrue result → IsBadNext (scalars_of self.now.payload) self.now.source self.now.taken }
     {
         self.bad
+    }
+
+    /// What is taken is good, and where a bad item was asked for, it is the next one: what a host end
+    /// may have to know of an offer that it was lent. It does nothing.
+    pub fn sound(&self)
+        ensures { IsOffer self.now.payload self.now.source self.now.taken self.now.bad }
+    {
+        let _ = &self.source;
     }
 
     /// Takes the next item; none where none is left, or where it is bad: then it is not taken.
     pub fn next(&mut self) -> Option<Value>
         ensures exact { result ≡
             item_behind (scalars_of self.old.payload) self.old.source self.old.taken }
+        ensures fits { IfSome result (λ x. FitsItem (scalars_of self.old.payload) x) }
         ensures after { self.new ≡ after_next self.old result }
     {
         let mut item = Value::empty();
@@ -219,6 +251,7 @@ fn behind_into(source: &Source, payload: &Payload, taken: u32, item: &mut Value)
     ensures exact { then_some result item.new ≡
         item_behind (scalars_of payload.now) source.now taken }
     ensures there { IsTrue result → taken + 1 ≤ items_lent source.now }
+    ensures fits { IsTrue result → FitsItem (scalars_of payload.now) item.new }
 {
     match source {
         Source::Region {
@@ -230,7 +263,9 @@ fn behind_into(source: &Source, payload: &Payload, taken: u32, item: &mut Value)
                 return false;
             }
             let at = *address as usize + payload.size() as usize * taken as usize;
-            lift_item_into(memory.bytes(), at, payload, item)
+            let bytes = memory.bytes();
+            are_bytes(bytes);
+            lift_item_into(bytes, at, payload, item)
         }
         Source::Listed { items } => {
             if taken as usize >= items.len() {

@@ -2,12 +2,12 @@
 //!
 //! Source: ours.
 
-ghost use Rattle.std.specs.Prelude.{◌≡◌, ◌≤◌, false, [], length, take, drop, IfOk, OnOk, OnErr};
+ghost use Rattle.std.specs.Prelude.{◌≡◌, ◌≤◌, true, [], length, take, drop, IfOk, OnOk, OnErr};
 ghost use Rattle.strm_codes.specs.Layout.{scalars_of};
 ghost use Rattle.strm_buffers.specs.Windows.{Between, room_of, HasRoom};
 ghost use Rattle.strm_buffers.specs.Said.{in_room, past_room};
 ghost use Rattle.strm_buffers.specs.Tells.{Fills, first_lent};
-ghost use Rattle.strm_buffers.specs.Polling.{TakesUpTo};
+ghost use Rattle.strm_buffers.specs.Offers.{after_taking, IsBadNext};
 
 use crate::items::Items;
 use crate::offers::Offer;
@@ -90,13 +90,17 @@ fn mark_first(window: &mut Window, items: &Items, count: usize) -> Result<(), Ou
 
 /// Takes as many items as are wanted or left; it stops at a bad one, and does not take that.
 pub fn take_up_to(offer: &mut Offer, wanted: u32)
-    requires nothing_taken { offer.old.taken ≡ 0 }
-    requires not_bad { offer.old.bad ≡ false }
-    ensures takes { TakesUpTo wanted offer.old offer.new }
+    ensures takes { offer.new ≡ after_taking wanted offer.old }
     ensures counted { length (first_lent (scalars_of offer.old.payload) offer.old.source offer.new.taken)
         ≡ offer.new.taken }
+    ensures next { offer.new.bad ≡ true → IsBadNext (scalars_of offer.old.payload) offer.old.source offer.new.taken }
 {
+    offer.sound();
     let count = wanted.min(offer.remaining());
+    if offer.are_good() {
+        offer.pass(count);
+        return;
+    }
     for _ in 0..count {
         match offer.next() {
             Some(_) => {}

@@ -3,7 +3,7 @@
 //! Source: wasmtime, `futures_and_streams.rs`, `StreamConsumer`. `grant`, `records` and what an end
 //! tells are ours.
 
-ghost use Rattle.std.specs.Prelude.{◌≡◌, ◌<◌, false, length, slice_get, Some, OnOk, OnErr};
+ghost use Rattle.std.specs.Prelude.{◌≡◌, ◌<◌, true, false, length, slice_get, Some, OnOk, OnErr};
 ghost use Rattle.strm_codes.specs.Layout.{scalars_of};
 
 use crate::answers::{HostTurn, ReaderSaid};
@@ -14,6 +14,7 @@ use strm_codes::payloads::Payload;
 
 /// A sink of items. Its kind and its payload are fixed.
 pub trait HostReader: Drop {
+    ghost use Rattle.strm_buffers.specs.Offers.{IsBadNext};
     ghost use Rattle.strm_buffers.specs.Said.{IfAnswered, IfNoMemory};
     ghost use Rattle.strm_buffers.specs.Tells.{ReaderTells, PollsReader, KeepsReader, SameOffer, reader_record, first_lent, closed_reader, granted};
 
@@ -28,7 +29,26 @@ pub trait HostReader: Drop {
     fn payload(&self) -> Payload
         ensures { result ≡ (reader_tells self.now).payload };
 
-    /// Takes items off the offer's front. One record is added; after `NoMemory` none.
+    /// Takes items off the offer's front. One record is added; after `NoMemory` none, and nothing was
+    /// taken. Where a bad item was asked for, it is the next one, and the store is trapped by BadItem.
+    ///
+    /// The store polls once in the call of a write, with the items that are left of it, and once in each
+    /// drive while the write waits. `finish` says that the guest has asked to cancel its write. Where
+    /// nothing is offered, the guest waits for the reader to be ready, or earlier polls took all and
+    /// answered Pending. Items that it takes count whatever it answers, `NoMemory` excepted.
+    ///
+    /// The rules of its answer cannot be clauses, since the store judges them by the record
+    /// (`ReaderSaid::breaks_rules`). It is trapped by `HostBroke`, for good, where the answer is
+    ///
+    /// - Cancelled where `finish` is not set;
+    /// - of a stream, Completed where items were offered, none was taken, and none had been since it was
+    ///   last ready;
+    /// - of a future, Completed where the value was not taken, now or since it was last ready;
+    /// - of a future, Cancelled where the value was taken, now or since it was last ready;
+    /// - of a future, Dropped: it ends by its value alone.
+    ///
+    /// `Failed` traps it by `HostFailed`, and `NoMemory` by want of memory. Where several of these fall in
+    /// one poll, the first of `HostFailed`, want of memory, BadItem and `HostBroke` is told.
     fn poll(&mut self, offer: &mut Offer, finish: bool) -> HostTurn
         requires payload { offer.old.payload ≡ (reader_tells self.old).payload }
         requires nothing_taken { offer.old.taken ≡ 0 }
@@ -38,6 +58,8 @@ pub trait HostReader: Drop {
             (first_lent (scalars_of offer.old.payload) offer.old.source offer.new.taken)) }
         ensures no_memory { IfNoMemory result (KeepsReader (reader_tells self.old) (reader_tells self.new)) }
         ensures untaken { IfNoMemory result (offer.new.taken ≡ 0) }
+        ensures next { offer.new.bad ≡ true →
+            IsBadNext (scalars_of offer.old.payload) offer.old.source offer.new.taken }
         ensures same { SameOffer offer.old offer.new };
 
     /// Lets it take so many items more. `OutOfMemory` changes nothing.

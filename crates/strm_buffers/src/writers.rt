@@ -31,6 +31,23 @@ pub trait HostWriter: Drop {
 
     /// Marks items, as many as there is room for, and holds the others that it produced. One record
     /// is added; after `NoMemory` none.
+    ///
+    /// The store polls once in the call of a read that finds nothing held, and once in each drive while
+    /// the read waits. `finish` says that the guest has asked to cancel its read. Where the window's room
+    /// is 0, the guest waits for an item to be there: one that is made is held. Room none stands between
+    /// two host ends, where all items are marked.
+    ///
+    /// The rules of its answer cannot be clauses, since the store judges them by the record
+    /// (`Answer::breaks_as_writer`). It is trapped by `HostBroke`, for good, where the answer is
+    ///
+    /// - Pending with an item produced;
+    /// - Cancelled with an item produced, or where `finish` is not set;
+    /// - of a stream, Completed without an item where the room is stated and is two or more;
+    /// - of a future, Completed with a number of items other than one;
+    /// - of a future, Dropped: it ends by its value alone.
+    ///
+    /// `Failed` traps it by `HostFailed`, and `NoMemory` by want of memory. After Dropped it is not polled
+    /// again, and what it holds is given first.
     fn poll(&mut self, window: &mut Window, finish: bool) -> HostTurn
         requires payload { window.old.payload ≡ (writer_tells self.old).payload }
         requires nothing_held { (writer_tells self.old).holds ≡ [] }

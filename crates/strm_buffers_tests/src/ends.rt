@@ -7,7 +7,6 @@ ghost use Rattle.strm_codes.specs.declared.scalars.Scalar.TheVariants.{U8};
 ghost use Rattle.strm_ends.specs.Scripts.{scripted_tells, unpolled_writer};
 
 use crate::answers::{is, memory};
-use crate::credit_reader::CreditReader;
 use crate::silent::SilentWriter;
 use std::alloc::Global;
 use std::process::Abort;
@@ -24,13 +23,17 @@ use strm_buffers::writers::HostWriter;
 use strm_codes::codes::TransmitKind;
 use strm_codes::payloads::Payload;
 use strm_codes::scalars::Scalar;
+use strm_ends::credit_reader::CreditReader;
 use strm_ends::queue_writer::QueueWriter;
+use strm_ends::scripted_reader::{ReaderTurn, ScriptedReader};
 use strm_ends::scripted_writer::{ScriptedWriter, WriterTurn};
 use strm_memory::payloaded::Payloaded;
 
 const BYTES: Payload = Payload::One(Scalar::U8);
 
 const COMPLETED: HostTurn = Turn::Ready(StreamResult::Completed);
+
+const DROPPED: HostTurn = Turn::Ready(StreamResult::Dropped);
 
 // Three bytes as items.
 fn three_bytes(rt: &impl Abort, alloc: Global) -> Items
@@ -134,13 +137,57 @@ fn name(rt: &impl Abort, hosts: &mut Hosts) {
     is(rt, hosts.count_writers(), 2);
 }
 
+// A boxed reader of bytes is offered so many: its turn, and how many it took.
+fn offer(
+    rt: &impl Abort,
+    alloc: Global,
+    reader: &mut Box<dyn HostReader>,
+    count: u32,
+    turn: HostTurn,
+    taken: u32,
+)
+    requires { (reader_tells reader.old).payload ≡ One U8 }
+    ensures { (reader_tells reader.new).payload ≡ One U8 }
+{
+    let mut offer = Offer::of_memory(memory(rt, alloc, count), BYTES, 0, count, 0);
+    is(rt, poll_reader(reader, &mut offer, false), turn);
+    is(rt, offer.taken(), taken);
+}
+
 #[test]
 fn a_reader_takes_what_it_has_credit_for(rt: HostRuntime) {
     let reader = CreditReader::new(rt.alloc(), TransmitKind::Stream, BYTES);
     let mut reader: Box<dyn HostReader> = Box::new(rt.alloc(), reader).expect(&rt, "memory");
     is(&rt, grant(&mut reader, 2), Ok(()));
-    let mut offer = Offer::of_memory(memory(&rt, rt.alloc(), 4), BYTES, 0, 3, 0);
-    is(&rt, poll_reader(&mut reader, &mut offer, false), COMPLETED);
-    is(&rt, offer.taken(), 2);
+    offer(&rt, rt.alloc(), &mut reader, 3, COMPLETED, 2);
     is(&rt, reader.records(), 1);
+}
+
+#[test]
+fn a_credit_ends_with_a_grant_of_none(rt: HostRuntime) {
+    let reader = CreditReader::new(rt.alloc(), TransmitKind::Stream, BYTES);
+    let mut reader: Box<dyn HostReader> = Box::new(rt.alloc(), reader).expect(&rt, "memory");
+    is(&rt, grant(&mut reader, 3), Ok(()));
+    is(&rt, grant(&mut reader, 0), Ok(()));
+    offer(&rt, rt.alloc(), &mut reader, 2, COMPLETED, 2);
+    offer(&rt, rt.alloc(), &mut reader, 2, DROPPED, 1);
+}
+
+// A turn of a script.
+fn push(rt: &impl Abort, turns: &mut Vec<ReaderTurn>, take: u32, answer: Answer) {
+    turns.push(ReaderTurn { take, answer }).expect(rt, "memory");
+}
+
+#[test]
+fn a_script_of_takings_is_followed(rt: HostRuntime) {
+    let mut turns = Vec::new(rt.alloc());
+    push(&rt, &mut turns, 2, Answer::Cancelled);
+    push(&rt, &mut turns, 9, Answer::Failed);
+    let reader = ScriptedReader::new(rt.alloc(), TransmitKind::Stream, BYTES, turns);
+    let mut reader: Box<dyn HostReader> = Box::new(rt.alloc(), reader).expect(&rt, "memory");
+    let cancelled = Turn::Ready(StreamResult::Cancelled);
+    offer(&rt, rt.alloc(), &mut reader, 3, cancelled, 2);
+    offer(&rt, rt.alloc(), &mut reader, 3, Turn::Failed, 3);
+    offer(&rt, rt.alloc(), &mut reader, 3, Turn::Pending, 0);
+    is(&rt, reader.records(), 3);
 }

@@ -1,12 +1,11 @@
-//! Tests of `strm_buffers` and of typed items, by public calls alone, and small host ends that meet
-//! its traits: a writer that never has items, and a host reader with a credit.
+//! Tests of `strm_buffers` and of typed items, by public calls alone, and a small host end that
+//! meets its trait: a writer that never has items.
 #![tactic(auto)]
 
 #[cfg(test)]
 mod answers;
 #[cfg(test)]
 mod buffers;
-mod credit_reader;
 #[cfg(test)]
 mod ends;
 #[cfg(test)]

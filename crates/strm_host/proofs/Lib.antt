@@ -3,3 +3,6 @@ pub mod ErasedLemmas
 pub mod DirectLemmas
 pub mod FutureLemmas
 pub mod ListLemmas
+pub mod SourceLemmas
+pub mod ConsumerLemmas
+pub mod OfferingLemmas

@@ -4,3 +4,9 @@ pub mod Futures
 pub mod Lending
 pub mod Lists
 pub mod Turnings
+pub mod Consuming
+pub mod ErasingReaders
+pub mod FutureConsuming
+pub mod SourceLending
+pub mod ReadEnds
+pub mod ErrorContexts

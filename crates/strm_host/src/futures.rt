@@ -30,6 +30,24 @@ pub trait FutureProducer: Drop {
     ghost leaves: { Self → Bool → Self → Type 0 } = { λ _ _ _. ⊤ };
 
     /// The value, `Pending` while there is none yet, or none where it was asked to finish and gave up.
+    ///
+    /// It is called once for a read that waits, and once again in each drive while the read waits, until
+    /// it gives the value; after that it is not called.
+    ///
+    /// # What to answer
+    ///
+    /// - `Ready(Some(value))`: the value. Also where the read is of no items, and with `finish`.
+    /// - `Pending`: it is not there yet, and the read waits. With `finish` only where the value may still
+    ///   come and cannot be taken back.
+    /// - `Ready(None)`: it gave up. Only where `finish` is set, since the guest has asked to cancel its
+    ///   read; a later read of the guest polls it again.
+    /// - `Failed`: it will never give a value. A future has no other end than its value.
+    /// - `NoMemory`: memory was wanting.
+    ///
+    /// # What a breach does
+    ///
+    /// `Ready(None)` where `finish` is not set traps the store that polled by `HostBroke`, for good.
+    /// `Failed` traps it by `HostFailed`, and `NoMemory` by want of memory.
     fn poll_produce(&mut self, finish: bool) -> Turn<Option<Self::Item>>
         ensures later { faults self.old ≤ faults self.new }
         ensures failed { IfFailed result (Rose (faults self.old) (faults self.new)) }

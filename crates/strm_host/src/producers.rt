@@ -34,7 +34,46 @@ pub trait StreamProducer: Drop {
     ghost leaves: { Self → Option ℕ → Bool → Self → Type 0 } = { λ _ _ _ _. ⊤ };
 
     /// Produces items: those marked in the window, and behind them those of the buffer, both of which
-    /// are empty before.
+    /// are empty before. Each item in one or the other counts as produced, whatever the answer.
+    ///
+    /// It is called once for a read that waits and finds no item held of earlier polls, and once again
+    /// in each drive while the read waits. It may produce more items than there is room for: those are
+    /// held, given to later reads, and it is not called until all of them are gone.
+    ///
+    /// # What to answer
+    ///
+    /// - `Ready(Completed)`: one or more items were produced, and there may be more.
+    /// - `Ready(Dropped)`: there is no more, now or later, but for the items produced in this poll. It is
+    ///   not polled again.
+    /// - `Pending`: no item for now. Nothing was produced, and the read waits.
+    /// - `Ready(Cancelled)`: nothing was produced, and nothing will be for this read. Only where `finish`
+    ///   is set.
+    /// - `Failed`: it cannot go on.
+    /// - `NoMemory`: memory was wanting.
+    ///
+    /// # A read of no items
+    ///
+    /// `Destination::remaining` may answer `Some(0)`: the guest waits for an item to be there, and does
+    /// not take it yet. Then `Ready(Completed)` without an item says that one is there, or that nobody
+    /// can tell; `Pending`, that there is none yet. An item that was made already may be put into the
+    /// buffer, and is held for the read that follows.
+    ///
+    /// # Cancellation
+    ///
+    /// With `finish` the guest has asked to cancel its read, and waits for the answer. Then the producer
+    /// should not answer `Pending`, unless an item that cannot be taken back is on its way: it produces
+    /// what it has and answers `Ready(Completed)`, or produces nothing and answers `Ready(Cancelled)`.
+    ///
+    /// # What a breach does
+    ///
+    /// The store that polled is trapped by `HostBroke`, for good, where the answer is
+    ///
+    /// - `Pending` with an item produced;
+    /// - `Ready(Cancelled)` with an item produced, or where `finish` is not set;
+    /// - `Ready(Completed)` without an item where there is room for two or more. (With room for one it is
+    ///   allowed, as with room for none.)
+    ///
+    /// `Failed` traps it by `HostFailed`, and `NoMemory` by want of memory; what was produced is lost.
     fn poll_produce(
         &mut self,
         destination: Destination<'_, Self::Item, Self::Buffer>,

@@ -102,11 +102,11 @@ outcome-parts world act = by_trapped world act world.state.trapped refl
 
 -- WHERE A PLAY ENDS
 
--- a part stops in this world; where the store was trapped, the host writers are as they were
+-- a part stops in this world; where the store was trapped, the host ends are as they were
 pub record StopsAt (world : World) (stop : Stop) (writers : List Writer) (readers : List Reader) : Type 0 where
   pub part : Part
   pub stopped : part_on world part ≡ Stops stop writers readers
-  pub form : (is_part part ≡ true) ⊎ (writers ≡ world.writers)
+  pub form : (is_part part ≡ true) ⊎ ((writers ≡ world.writers) × (readers ≡ world.readers))
 
 abbrev last_acted : World → List Part → Next → World
 last_acted world parts next = last_of world (acted world parts next)
@@ -173,8 +173,9 @@ module _ (stop : Stop) (writers : List Writer) (readers : List Reader) where
   trapped-stops world act next t e =
       let same : stops StoreTrapped world ≡ Stops stop writers readers = sym (outcome-trapped world act t) ∙ e in
       let unchanged : writers ≡ world.writers = cc in
+      let unchanged_readers : readers ≡ world.readers = cc in
       subst (λ o. StopsIn (after_part world (Acts act) o [] next)) (sym e)
-      (record { part = Acts act; stopped = e; form = inr unchanged })
+      (record { part = Acts act; stopped = e; form = inr (unchanged, unchanged_readers) })
 
   act-stops : (world : World) (act : Act) (next : Next) (b : Bool) → world.state.trapped ≡ b → IsStop (outcome world act)
       → StopsIn (last_acted world (cond b (Acts act ∷ []) (parts_of world act)) next)

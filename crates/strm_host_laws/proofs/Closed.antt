@@ -1,36 +1,39 @@
 -- Exactly the host writers that became gone were closed.
 use Rattle.std.proofs.Common.{◌≡◌, ℕ, zero, suc, ◌<◌, ◌||◌, Bool, true, false, List, [], ◌∷◌, ◌++◌, length, get_or, set, None, refl, sym, ap, subst, ◌∙◌, ◌⊎◌, inl, inr, arith}
-use Rattle.std.proofs.lemmas.Bool.{cases_eq, or_parts}
+use Rattle.std.proofs.lemmas.Bool.{cases_eq, or_parts, not-false}
 use Rattle.std.proofs.lemmas.List.{get_or-set_same, get_or-set_other, get_or_past, length-set, length-replicate}
 use Rattle.std.specs.Prelude.{slice_set, replicate, nat_le}
 use Rattle.strm_buffers.specs.declared.answers.Answer.{Answer}
 use Rattle.strm_buffers.specs.Tells.{Tells}
-use Rattle.strm_machine.specs.State.{State, host_limit, no_stream, no_producer, producer_at}
+use Rattle.strm_machine.specs.State.{host_limit, no_stream, no_producer, no_consumer, producer_at, consumer_at, is_loose}
+use Rattle.strm_machine.specs.Tests.{is_unknown_reader}
 use Rattle.strm_machine.specs.declared.acts.Act.TheVariants.{OnHost}
-use Rattle.strm_machine.specs.declared.acts.HostAct.TheVariants.{New, Feed}
+use Rattle.strm_machine.specs.declared.acts.HostAct.TheVariants.{New, Feed, Pipe, Grant}
 use Rattle.strm_machine.specs.declared.limits.Limits.{Limits}
 use Rattle.strm_machine.specs.declared.streams.Duty.{Duty}
 use Rattle.strm_machine.specs.declared.streams.Duty.TheVariants.{Unused, Serves, Ended}
 use Rattle.strm_machine.specs.declared.streams.Owner.{Owner}
 use Rattle.strm_machine.specs.declared.streams.Owner.TheVariants.{Host, Gone}
 use Rattle.strm_machine.specs.declared.streams.Producer.{Producer}
+use Rattle.strm_machine.specs.declared.streams.Side.TheVariants.{Writing}
 use Rattle.strm_machine.specs.declared.streams.Stream.{Stream}
 use Rattle.strm_machine.specs.declared.steps.Step.{Step}
 use Rattle.strm_machine.specs.declared.stops.Stop.{Stop}
 use Rattle.strm_machine.specs.declared.replies.Reply.{Reply}
 use Rattle.strm_machine.specs.Reactions.{reaction}
-use Rattle.strm_world.specs.Ends.{Writer, Reader, no_writer, writer_in, polled_writer, given_writer, fed_writer, closed_writer}
+use Rattle.strm_world.specs.Ends.{Writer, Reader, no_writer, writer_in, polled_writer, given_writer, fed_writer, closed_writer, polled_reader, granted_reader}
 use Rattle.strm_world.specs.Producing.{is_last}
-use Rattle.strm_world.specs.Attaching.{hosted_stream}
+use Rattle.strm_world.specs.Consuming.{with_taken}
+use Rattle.strm_world.specs.Attaching.{hosted_stream, piped}
 use Rattle.strm_world.specs.HostPlays.{Ends, Halts, play}
-use Rattle.strm_world.specs.World.{World, stream_in, writer_at, with_writer, without_writer, leaves_writer, with_stream_in}
+use Rattle.strm_world.specs.World.{World, stream_in, writer_at, reader_at, with_guests, with_consumer, with_writer, with_reader, without_writer, leaves_writer, leaves_reader, with_stream_in}
 use Rattle.strm_world.specs.HostRefusals.{is_unknown_host, is_used, refusal_in}
 use Rattle.strm_world.specs.Does.{start}
 use Rattle.strm_host_laws.specs.HostMoments.{Part, Acts, HostMoment, part_on, host_moments, last_of}
 use Rattle.strm_host_laws.specs.HostLaws.{is_ended, ClosesExactly}
 use Rattle.strm_host_laws.proofs.Chains.{is_part, Chain, moments-chain, StopsAt, play-ends, play-halts}
-use Rattle.strm_host_laws.proofs.Goings.{with_state, Begins, hosted, Rules, Halted, Comes, with_stream_in-same, part-comes, feed-comes}
-use Rattle.strm_machine.proofs.Ways.{HostsFrom, HostsFromIn, same_writer, set-from}
+use Rattle.strm_host_laws.proofs.Goings.{with_state, LeftBy, Begins, hosted, Rules, Halted, Comes, with_stream_in-same, part-comes, feed-comes, grant-comes}
+use Rattle.strm_machine.proofs.Ways.{HostsFrom, HostsFromIn, set-from}
 use Rattle.strm_machine.proofs.ShapeLemmas.{reaction-producers, reaction-from}
 use Rattle.strm_machine.proofs.TableLemmas.{set-keeps}
 use Rattle.strm_machine.proofs.RefusalLemmas.{not_refused, not_le}
@@ -51,7 +54,7 @@ pub record Stands (first : World) (w : World) : Type 0 where
   pub there : (s n : ℕ) → (stream_in w s).writer.owner ≡ Host n → IsThere w s n
   pub closes : ClosesExactly first w.state w.writers
 
-or-true : (b : Bool) → (b || true) ≡ true
+pub or-true : (b : Bool) → (b || true) ≡ true
 or-true true = refl
 or-true false = refl
 
@@ -71,7 +74,30 @@ is_new w n e =
     let parts = or_parts (nat_le (length w.writers) n) (nat_le host_limit n) known.0 in
     record { there = not_le (length w.writers) n parts.0; known = not_le host_limit n parts.1; unused = unused.0 }
 
-unused-unended : (duty : Duty) → is_used duty ≡ false → is_ended duty ≡ false
+-- A PIPE
+
+-- where nothing refuses it the reader is there and unused, and the read end is loose
+pub record IsNewReader (w : World) (r s : ℕ) : Type 0 where
+  pub there : r < length w.readers
+  pub known : r < host_limit
+  pub unused : is_used (consumer_at w.state r).duty ≡ false
+  pub loose : is_loose (stream_in w s).reader.owner ≡ true
+
+pub is_new_reader : (w : World) (r s : ℕ) → refusal_in w (OnHost r (Pipe s)) ≡ None → IsNewReader w r s
+unfolding refusal_in
+is_new_reader w r s e =
+    let known = not_refused (is_unknown_host (length w.readers) r) _ _ e in
+    let unused = not_refused (is_used (consumer_at w.state r).duty) _ _ known.1 in
+    let loose = not_refused (is_unknown_reader w.state s) _ _ unused.1 in
+    let parts = or_parts (nat_le (length w.readers) r) (nat_le host_limit r) known.0 in
+    record {
+      there = not_le (length w.readers) r parts.0;
+      known = not_le host_limit r parts.1;
+      unused = unused.0;
+      loose = not-false (is_loose (stream_in w s).reader.owner) loose.0;
+    }
+
+pub unused-unended : (duty : Duty) → is_used duty ≡ false → is_ended duty ≡ false
 unused-unended Unused e = refl
 unused-unended (Serves s) e = cc
 unused-unended Ended e = cc
@@ -130,12 +156,25 @@ module _ (first : World) where
   leaves-stands (Host n) _ w h t = h
   leaves-stands _ new w h t = h
 
+  leaves_reader-stands : (old new : Owner) (w : World) → Stands first w → Stands first (leaves_reader old new w)
+  leaves_reader-stands (Host r) Gone w h = record { kept = h.kept; there = λ s n e. (let k = h.there s n e in record { there = k.there; known = k.known; payload = k.payload }); closes = h.closes }
+  leaves_reader-stands (Host r) _ w h = h
+  leaves_reader-stands _ new w h = h
+
+  leaves_reader-writers : (old new : Owner) (w : World) → (leaves_reader old new w).writers ≡ w.writers
+  leaves_reader-writers (Host r) Gone w = refl
+  leaves_reader-writers (Host r) _ w = refl
+  leaves_reader-writers _ new w = refl
+
   -- a stream written back that no other host writer writes
   Stands-stream : (w : World) (s : ℕ) (stream : Stream) → HostsFrom (stream_in w s) stream → Stands first w → Stands first (with_stream_in w s stream)
   unfolding with_stream_in
   Stands-stream w s stream f h =
       let v = with_state w (record w.state { streams = slice_set w.state.streams s stream }) in
-      leaves-stands (stream_in w s).writer.owner stream.writer.owner v
+      let old = (stream_in w s).reader.owner in
+      let same = ap length (leaves_reader-writers old stream.reader.owner v) in
+      leaves-stands (stream_in w s).writer.owner stream.writer.owner (leaves_reader old stream.reader.owner v)
+      (leaves_reader-stands old stream.reader.owner v
       (record {
         kept = h.kept;
         there = λ k n e.
@@ -143,8 +182,8 @@ module _ (first : World) where
             let r = h.there k n from.0 in
             record { there = r.there; known = r.known; payload = r.payload ∙ sym from.1 };
         closes = h.closes;
-      })
-      (λ n e. let r = h.there s n e in (r.there, r.known))
+      }))
+      (λ n e. let r = h.there s n e in (omega (arith, r.there, same), r.known))
 
   -- a writer that tells something else, and is closed as it was
   Stands-writer : (w : World) (n : ℕ) (writer : Writer) → writer.closed ≡ (writer_at w n).closed → writer.payload ≡ (writer_at w n).payload → Stands first w → Stands first (with_writer w n writer)
@@ -170,15 +209,27 @@ module _ (first : World) where
     closes = λ k. h.closes k ∙ ap (λ b. (writer_at first k).closed || b) (sym (set-keeps (λ (x : Producer). is_ended x.duty) w.state.producers n k producer no_producer e));
   }
 
-  Stands-reacts : (w : World) (state : State) → state.producers ≡ w.state.producers → HostsFromIn w.state.streams state.streams → Stands first w → Stands first (with_state w state)
-  Stands-reacts w state e f h = record {
+  -- nothing becomes of host writers, and none gets a stream
+  Stands-still : (w v : World) → v.writers ≡ w.writers → v.state.producers ≡ w.state.producers → HostsFromIn w.state.streams v.state.streams → Stands first w → Stands first v
+  Stands-still w v x e f h = record {
     kept = ap length e ∙ h.kept;
     there = λ s n g.
         let from = f s n g in
         let r = h.there s n from.0 in
-        record { there = r.there; known = r.known; payload = r.payload ∙ sym from.1 };
-    closes = λ k. h.closes k ∙ ap (λ ps. (writer_at first k).closed || is_ended (get_or ps k no_producer).duty) (sym e);
+        record {
+          there = subst (λ ws. n < length ws) (sym x) r.there;
+          known = r.known;
+          payload = ap (λ ws. (writer_in ws n).payload) x ∙ r.payload ∙ sym from.1;
+        };
+    closes = λ k.
+        ap (λ ws. (writer_in ws k).closed) x
+        ∙ h.closes k
+        ∙ ap (λ ps. (writer_at first k).closed || is_ended (get_or ps k no_producer).duty) (sym e);
   }
+
+  -- all streams are as they were
+  from_same : (streams : List Stream) → HostsFromIn streams streams
+  from_same streams k n e = (e, refl)
 
   -- A STREAM OF A HOST WRITER
 
@@ -201,6 +252,13 @@ module _ (first : World) where
 
   -- ALL CHANGES
 
+  left_from : (old new : Stream) → LeftBy old new → HostsFrom old new
+  left_from old new l n e =
+      elim (l.owners Writing) [
+        | inl same ↦ (sym same ∙ e, l.payload)
+        | inr gone ↦ absurd (let wrong : Gone ≡ Host n = sym gone ∙ e in cc)
+      ]
+
   abbrev pub Kept : World → World → Type 0
   Kept w v = Stands first w → Stands first v
 
@@ -209,15 +267,20 @@ module _ (first : World) where
     begins = record {
       stays = λ w h. h;
       joins = λ a b c f g h. g (f h);
-      opens = λ w s stream e. Stands-stream w s stream (same_writer (stream_in w s) stream e);
+      opens = λ w s stream e. Stands-stream w s stream (λ n f. (sym e.owners.writer ∙ f, e.payload));
       polls = λ w n room said more e. Stands-writer w n (polled_writer (writer_at w n) room said more) refl refl;
+      takes = λ w r took said more e. Stands-still w (with_reader w r (polled_reader (reader_at w r) took more)) refl refl (from_same w.state.streams);
     };
-    reacts = λ w act. Stands-reacts w (reaction w.state act).state (reaction-producers w.state act) (reaction-from w.state act);
-    lowers = λ w guests h. record { kept = h.kept; there = λ s k f. (let r = h.there s k f in record { there = r.there; known = r.known; payload = r.payload }); closes = h.closes };
+    reacts = λ w act. Stands-still w (with_state w (reaction w.state act).state) refl (reaction-producers w.state act) (reaction-from w.state act);
+    lowers = λ w guests. Stands-still w (with_guests w guests) refl refl (from_same w.state.streams);
     overs = λ w n answer. Stands-producer w n (with_over_producer w n answer) refl;
     gives = λ w n k. Stands-writer w n (given_writer (writer_at w n) k) refl refl;
-    leaves = λ w s stream e. Stands-stream w s stream (λ n f. let wrong : Gone ≡ Host n = sym e ∙ f in cc);
+    counts = λ w r answer taken. Stands-still w (with_taken w r answer taken) refl refl (from_same w.state.streams);
+    leaves = λ w s stream l. Stands-stream w s stream (left_from (stream_in w s) stream l);
     hosts = λ w n e. new_stands w n (is_new w n e);
+    pipes = λ w s r e h.
+        let v = with_consumer w r (record no_consumer { duty = Serves s }) in
+        Stands-stream v s (piped (stream_in w s) r) (λ n f. (f, refl)) (Stands-still w v refl refl (from_same w.state.streams) h);
   }
 
 -- WHERE A STEP STOPS
@@ -230,8 +293,9 @@ begins : Begins SameClosed
 begins = record {
   stays = λ w n. refl;
   joins = λ a b c f g n. g n ∙ f n;
-  opens = λ w s stream e n. ap (λ v. (writer_at v n).closed) (with_stream_in-same w s stream e.owner);
+  opens = λ w s stream e n. ap (λ v. (writer_at v n).closed) (with_stream_in-same w s stream e.owners);
   polls = λ w n room said more e k. set-keeps (λ (x : Writer). x.closed) w.writers n k (polled_writer (writer_at w n) room said more) no_writer refl;
+  takes = λ w r took said more e n. refl;
 }
 
 -- RUNS
@@ -240,6 +304,9 @@ module _ (first : World) where
   pub part-closes : (w : World) (part : Part) → is_part part ≡ true → Comes (Kept first) SameClosed w (part_on w part)
   part-closes w (Acts (OnHost n (Feed bytes))) p =
       feed-comes (Kept first) SameClosed (rules first) begins w n bytes (λ e. Stands-writer first w n (fed_writer (writer_at w n) bytes) refl refl)
+  part-closes w (Acts (OnHost r (Grant count))) p =
+      grant-comes (Kept first) SameClosed (rules first) begins w r count
+      (λ e. Stands-still first w (with_reader w r (granted_reader (reader_at w r) count)) refl refl (from_same first w.state.streams))
   part-closes w part p = part-comes (Kept first) SameClosed (rules first) begins w part p refl
 
   chain-closes : (w : World) (all : List HostMoment) → Chain w all → Stands first w → Stands first (last_of w all)
@@ -253,9 +320,9 @@ module _ (first : World) where
   stop-closes w stop writers readers s h =
       elim s.form [
         | inl p ↦
-            let halted : Halted SameClosed w writers = subst (Comes (Kept first) SameClosed w) s.stopped (part-closes w s.part p) in
+            let halted : Halted SameClosed w writers readers = subst (Comes (Kept first) SameClosed w) s.stopped (part-closes w s.part p) in
             λ n. ap (λ ws. (writer_in ws n).closed) halted.is ∙ halted.kept n ∙ h.closes n
-        | inr e ↦ λ n. ap (λ ws. (writer_in ws n).closed) e ∙ h.closes n
+        | inr e ↦ λ n. ap (λ ws. (writer_in ws n).closed) e.0 ∙ h.closes n
       ]
 
 none_ended : (m n : ℕ) → is_ended (get_or (replicate m no_producer) n no_producer).duty ≡ false
@@ -263,7 +330,7 @@ none_ended zero n = refl
 none_ended (suc m) zero = refl
 none_ended (suc m) (suc n) = none_ended m n
 
-or-false : (b : Bool) → (b || false) ≡ b
+pub or-false : (b : Bool) → (b || false) ≡ b
 or-false true = refl
 or-false false = refl
 

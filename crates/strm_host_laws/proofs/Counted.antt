@@ -1,17 +1,16 @@
 -- A run has no more moments than its steps can have: a drive round has one for each stream, and a step makes one
 -- stream at most.
-use Rattle.std.proofs.Common.{◌≡◌, ℕ, zero, suc, ◌+◌, ◌*◌, ◌≤◌, Bool, true, false, cond, List, [], ◌∷◌, length, map, Option, Some, None, refl, sym, ap, subst, ◌∙◌, inl, inr, arith, length-append}
+use Rattle.std.proofs.Common.{◌≡◌, ℕ, zero, suc, ◌+◌, ◌*◌, ◌≤◌, Bool, true, false, cond, List, [], ◌∷◌, length, map, Option, Some, None, refl, sym, ap, subst, ◌∙◌, arith, length-append}
 use Rattle.std.proofs.lemmas.Bool.{cond_both}
 use Rattle.strm_machine.specs.Acts.{act_of}
-use Rattle.strm_machine.specs.Sides.{with_operation}
-use Rattle.strm_machine.specs.Endings.{delivered}
 use Rattle.strm_machine.specs.declared.acts.Act.{Act}
 use Rattle.strm_machine.specs.declared.acts.Act.TheVariants.{Drive}
 use Rattle.strm_machine.specs.declared.steps.Step.{Step}
 use Rattle.strm_machine.specs.declared.streams.Operation.{Operation}
 use Rattle.strm_machine.specs.declared.streams.Owner.{Owner}
 use Rattle.strm_machine.specs.declared.streams.Owner.TheVariants.{Host}
-use Rattle.strm_machine.specs.declared.streams.Side.TheVariants.{Reading}
+use Rattle.strm_machine.specs.declared.streams.Side.{Side}
+use Rattle.strm_machine.specs.declared.streams.Side.TheVariants.{Writing, Reading}
 use Rattle.strm_machine.specs.declared.streams.Stream.{Stream}
 use Rattle.strm_machine.specs.declared.replies.Reply.{Reply}
 use Rattle.strm_machine.proofs.StreamSteps.{reaction_streams}
@@ -19,15 +18,16 @@ use Rattle.strm_world.specs.World.{World, stream_in, writer_at}
 use Rattle.strm_world.specs.Outcomes.{Outcome, Goes, Stops, Stuck}
 use Rattle.strm_world.specs.Attaching.{forsaken, hosted_stream}
 use Rattle.strm_world.specs.Producing.{producer_turn}
+use Rattle.strm_world.specs.Consuming.{consumer_turn}
 use Rattle.strm_world.specs.Driving.{if_open, driven_by, drive_turn, numbers_from, round_of}
 use Rattle.strm_world.proofs.OutcomeLemmas.{outcome-trapped}
 use Rattle.strm_host_laws.specs.HostMoments.{Part, Acts, Turns, HostMoment, parts_of, part_on, followed, acted, host_moments}
 use Rattle.strm_host_laws.proofs.Chains.{is_part}
-use Rattle.strm_host_laws.proofs.Forms.{opened, called, reacted_to, stream_of, Form, BySame, ByReacting, ByForsaking, ByHosting, ByFeeding, ByTurning, ByReading}
+use Rattle.strm_host_laws.proofs.Forms.{HasTurned, reacted_to, Form, BySame, ByReacting, ByForsaking, ByHosting, ByFeeding, ByGranting, ByPiping, ByTurning, ByCalling}
 use Rattle.strm_host_laws.proofs.Goings.{IfGoes}
-use Rattle.strm_host_laws.proofs.Lives.{Lives, drive_can, read_can, goes_form, goes_lives}
-use Rattle.strm_host_laws.proofs.Turned.{turned, stream_moved, Turned, turn_is}
-use Rattle.strm_host_laws.proofs.WrittenBack.{back-length, turned-length}
+use Rattle.strm_host_laws.proofs.Lives.{Lives, goes_form, goes_lives}
+use Rattle.strm_host_laws.proofs.Turned.{turn_is, taking_is}
+use Rattle.strm_host_laws.proofs.WrittenBack.{back-length, turned_length, call_length, pipe_length}
 
 -- the streams made
 abbrev pub streams_in : World → ℕ
@@ -42,9 +42,9 @@ module _ (first w : World) (l : Lives first w) where
   form_grows : (part : Part) (reply : Reply) (v : World) → Form w part reply v → streams_in v ≤ streams_in w + 1
   form_grows part reply v (BySame m e) = as_many v (ap streams_in e)
   form_grows part reply v (ByReacting act m e) = subst (λ x. streams_in x ≤ streams_in w + 1) (sym e) ((reaction_streams w.state act l.holds.sound).few)
-  form_grows part reply v (ByForsaking act t n m f) =
+  form_grows part reply v (ByForsaking act side t n m f) =
       let x = reacted_to w act in
-      let same = ap streams_in f.is ∙ back-length x t (forsaken Reading (stream_in x t)) in
+      let same = ap streams_in f.is ∙ back-length x t (forsaken side (stream_in x t)) in
       let grows = (reaction_streams w.state act l.holds.sound).few in
       omega (arith, same, grows)
   form_grows part reply v (ByHosting n p r e f) =
@@ -52,15 +52,10 @@ module _ (first w : World) (l : Lives first w) where
       let long = length-append w.state.streams (hosted_stream (writer_at w n) n ∷ []) in
       omega (arith, same, long)
   form_grows part reply v (ByFeeding n bytes m e) = as_many v (ap streams_in e)
-  form_grows part reply v (ByTurning t n read m i) = as_many v (turned-length w t n read v i.turned (drive_can first w part v t n read l i))
-  form_grows part reply v (ByReading end address count n m r) =
-      let t = stream_of w end in
-      let read = called end address count in
-      let mid : streams_in r.mid ≡ streams_in w = turned-length (opened w t read) t n read r.mid r.turned (read_can first w part v end address count n l r) ∙ back-length w t (with_operation Reading (stream_in w t) read) in
-      elim r.told [
-        | inl e ↦ as_many v (ap streams_in e ∙ mid)
-        | inr e ↦ as_many v (ap streams_in e ∙ back-length r.mid t (delivered Reading (stream_in r.mid t)) ∙ mid)
-      ]
+  form_grows part reply v (ByGranting r count m e) = as_many v (ap streams_in e)
+  form_grows part reply v (ByPiping t r m p) = as_many v (pipe_length w v t r p)
+  form_grows part reply v (ByTurning side t n operation m i) = as_many v (turned_length side w t n operation v i.turned)
+  form_grows part reply v (ByCalling side end address count n m r) = as_many v (call_length side w part v end address count n r)
 
 -- A TURN MAKES NONE
 
@@ -68,23 +63,25 @@ module _ (w : World) (s : ℕ) where
   abbrev MakesNone : Outcome → Type 0
   MakesNone o = IfGoes o (λ reply v. streams_in v ≡ streams_in w)
 
-  open_makes_none : (n : ℕ) (o : Option Operation) → MakesNone (if_open w o (producer_turn w s n))
-  open_makes_none n None = refl
-  open_makes_none n (Some read) =
-      cond_both read.is_open _ _ MakesNone (λ e. by (producer_turn w s n read) (turn_is w s n read)) (λ e. refl)
+  open_makes_none : (side : Side) (n : ℕ) (o : Option Operation) (turn : Operation → Outcome) → ((operation : Operation) → IfGoes (turn operation) (λ reply v. HasTurned side w s n operation v)) → MakesNone (if_open w o turn)
+  open_makes_none side n None turn h = refl
+  open_makes_none side n (Some operation) turn h =
+      cond_both operation.is_open _ _ MakesNone (λ e. by (turn operation) (h operation)) (λ e. refl)
     where
-      by : (o : Outcome) → IfGoes o (λ reply v. Turned w s n read v) → IfGoes o (λ reply v. streams_in v ≡ streams_in w)
-      by (Goes reply v) t = ap streams_in t.is ∙ back-length (turned w s n read t.items t.producer t.writer) s (stream_moved w s read t.items t.result)
+      by : (o : Outcome) → IfGoes o (λ reply v. HasTurned side w s n operation v) → IfGoes o (λ reply v. streams_in v ≡ streams_in w)
+      by (Goes reply v) t = turned_length side w s n operation v t
       by (Stops stop writers readers) t = tt
       by Stuck t = tt
 
-  driven_makes_none : (stream : Stream) (owner : Owner) → MakesNone (driven_by w s stream owner)
-  driven_makes_none stream (Host n) = open_makes_none n stream.reader.operation
-  driven_makes_none stream _ = refl
+  driven_makes_none : (stream : Stream) (writer reader : Owner) → MakesNone (driven_by w s stream writer reader)
+  driven_makes_none stream (Host n) (Host r) = refl
+  driven_makes_none stream (Host n) _ = open_makes_none Reading n stream.reader.operation (producer_turn w s n) (turn_is w s n)
+  driven_makes_none stream _ (Host r) = open_makes_none Writing r stream.writer.operation (consumer_turn w s r) (taking_is w s r)
+  driven_makes_none stream _ _ = refl
 
   turn_makes_none : MakesNone (drive_turn w s)
   unfolding drive_turn
-  turn_makes_none = driven_makes_none (stream_in w s) (stream_in w s).writer.owner
+  turn_makes_none = driven_makes_none (stream_in w s) (stream_in w s).writer.owner (stream_in w s).reader.owner
 
 -- MOMENTS
 

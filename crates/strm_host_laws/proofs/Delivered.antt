@@ -1,10 +1,10 @@
 -- What a host writer produced is what was received and what is held, over the moments of a run.
-use Rattle.std.proofs.Common.{◌≡◌, ◌≢◌, ℕ, ◌+◌, ◌*◌, ◌^◌, ◌<◌, ◌≤◌, ◌||◌, Bool, true, false, cond, List, [], ◌∷◌, ◌++◌, length, map, take, get_or, set, Option, Some, refl, sym, ap, subst, ◌∙◌, ◌⊎◌, inl, inr, arith, append_assoc, append-nil, length-append}
+use Rattle.std.proofs.Common.{◌≡◌, ◌≢◌, ℕ, ◌+◌, ◌*◌, ◌^◌, ◌<◌, ◌≤◌, ◌||◌, Bool, true, false, cond, List, [], ◌∷◌, ◌++◌, length, map, take, get_or, Option, Some, refl, sym, ap, subst, ◌∙◌, ◌⊎◌, inl, inr, arith, append_assoc, append-nil, length-append}
 use Rattle.std.proofs.lemmas.Bool.{cases_eq, cases_lt, eq-eqb, ne_eqb}
 use Rattle.std.proofs.lemmas.List.{map-append, get_or_past, get_or_push}
 use Rattle.strm_buffers.specs.Listing.{Item}
-use Rattle.strm_machine.specs.State.{no_stream, is_host}
-use Rattle.strm_machine.specs.Moments.{received, got_in}
+use Rattle.strm_machine.specs.State.{no_stream, no_consumer, is_host}
+use Rattle.strm_machine.specs.Moments.{received}
 use Rattle.strm_machine.specs.Sides.{with_operation}
 use Rattle.strm_machine.specs.Endings.{delivered}
 use Rattle.strm_machine.specs.declared.acts.Act.{Act}
@@ -13,32 +13,40 @@ use Rattle.strm_machine.specs.declared.acts.HostAct.TheVariants.{New}
 use Rattle.strm_machine.specs.declared.acts.NamedEnd.{NamedEnd}
 use Rattle.strm_machine.specs.declared.limits.Limits.{Limits}
 use Rattle.strm_machine.specs.declared.streams.Owner.TheVariants.{Host, Gone}
-use Rattle.strm_machine.specs.declared.streams.Side.TheVariants.{Reading}
+use Rattle.strm_machine.specs.declared.streams.Side.{Side}
+use Rattle.strm_machine.specs.declared.streams.Side.TheVariants.{Writing, Reading}
+use Rattle.strm_machine.specs.declared.streams.Operation.{Operation}
+use Rattle.strm_machine.specs.declared.streams.Duty.TheVariants.{Serves}
 use Rattle.strm_machine.specs.declared.streams.Stream.{Stream}
 use Rattle.strm_machine.specs.declared.replies.Reply.{Reply}
 use Rattle.strm_machine.specs.declared.replies.Reply.TheVariants as replies
-use Rattle.strm_machine.proofs.MomentLemmas.{nothing_got}
 use Rattle.strm_buffers.specs.Tells.{Tells}
 use Rattle.strm_machine.specs.declared.steps.Step.{Step}
 use Rattle.strm_world.specs.Does.{start}
-use Rattle.strm_world.specs.World.{World, stream_in, writer_at, with_stream_in}
-use Rattle.strm_world.specs.Attaching.{forsaken, hosted_stream}
+use Rattle.strm_world.specs.World.{World, stream_in, writer_at, with_consumer, with_stream_in}
+use Rattle.strm_world.specs.Settling.{result_of}
+use Rattle.strm_world.specs.Attaching.{piped, without_ends, forsaken, hosted_stream}
 use Rattle.strm_host_laws.specs.HostMoments.{Part, Acts, HostMoment, host_moments, last_of}
-use Rattle.strm_host_laws.specs.HostLaws.{used_in, items_of, made_of, produced_by, produced_in, produced, plain, host_got, is_made_by, is_hosted, held_by, DeliversAll}
+use Rattle.strm_host_laws.specs.HostLaws.{used_in, items_of, made_of, produced_by, produced_in, produced, host_got_in, host_got, is_made_by, is_hosted, held_by, DeliversAll}
 use Rattle.strm_host_laws.proofs.Chains.{Follows, Chain, moments-chain}
 use Rattle.strm_host_laws.proofs.Closed.{Stands-start}
 use Rattle.strm_host_laws.proofs.Counted.{moments_few}
 use Rattle.strm_host_laws.proofs.Fed.{take-front}
-use Rattle.strm_host_laws.proofs.Forms.{opened, called, reacted_to, stream_of, is_making, IsRead, Form, BySame, ByReacting, ByForsaking, ByHosting, ByFeeding, ByTurning, ByReading}
-use Rattle.strm_host_laws.proofs.Goings.{hosted}
+use Rattle.strm_host_laws.proofs.Forms.{opened, called, reacted_to, stream_of, is_making, IsCall, IsPiping, Form, BySame, ByReacting, ByForsaking, ByHosting, ByFeeding, ByGranting, ByPiping, ByTurning, ByCalling}
+use Rattle.strm_host_laws.proofs.Goings.{hosted, piped_to, moved_on-payload}
+use Rattle.strm_host_laws.proofs.Effects.{follows_effect}
+use Rattle.strm_host_laws.proofs.GuestsSeen.{effect_makes}
+use Rattle.strm_host_laws.proofs.PartsSeen.{IsTaken, effect_taken}
+use Rattle.strm_host_laws.proofs.Turned.{taken_by, stream_taken, Taken}
+use Rattle.strm_host_laws.proofs.TurnMoves.{moved-mine}
 use Rattle.strm_host_laws.proofs.Lives.{AllSupply, Lives, owned_made, owned_quiet, drive_can, read_can, goes_form, follows_lives}
-use Rattle.strm_host_laws.proofs.Moments.{holds_before, touch_delivers}
-use Rattle.strm_machine.proofs.Ways.{HostsFrom, set-from}
+use Rattle.strm_host_laws.proofs.Moments.{holds_before, nothing_by, touch_delivers}
+use Rattle.strm_machine.proofs.Ways.{HostsFrom, set-from, delivered-from}
 use Rattle.strm_machine.proofs.ShapeLemmas.{reaction-from}
 use Rattle.strm_host_laws.proofs.Standing.{Holds-empty}
 use Rattle.strm_host_laws.proofs.Touched.{reaction-made, Touch, NotTouched, IsLost, HasTurn, HasRead, form_touch}
 use Rattle.strm_host_laws.proofs.Unmoved.{push-other, WriterGone}
-use Rattle.strm_host_laws.proofs.WrittenBack.{back-streams, back-other, back-length, turned-other, turned-length}
+use Rattle.strm_host_laws.proofs.WrittenBack.{back-streams, back-other, back-length, turned-other, turned_length, call_length, pipe_length}
 use Rattle.strm_machine.proofs.HostLemmas.{no_host, unless_host}
 
 -- MOMENTS THAT MAKE NO STREAM OF A NUMBER
@@ -62,12 +70,14 @@ other_number s n w k ne = record {
 form_makes_not : (s : ℕ) (w : World) (part : Part) (reply : Reply) (v : World) → s ≢ length w.state.streams → Form w part reply v → MakesNot s w part reply
 form_makes_not s w part reply v ne (BySame m e) = unmaking s w part reply m
 form_makes_not s w part reply v ne (ByReacting act m e) = unmaking s w part reply m
-form_makes_not s w part reply v ne (ByForsaking act t n m f) = unmaking s w part reply m
+form_makes_not s w part reply v ne (ByForsaking act side t n m f) = unmaking s w part reply m
 form_makes_not s w part reply v ne (ByHosting n p r e f) =
     subst (λ x. MakesNot s w x reply) (sym p) (subst (λ x. MakesNot s w (Acts (OnHost n New)) x) (sym r) (other_number s n w (length w.state.streams) (λ g. ne (sym g))))
 form_makes_not s w part reply v ne (ByFeeding n bytes m e) = unmaking s w part reply m
-form_makes_not s w part reply v ne (ByTurning t n read m i) = unmaking s w part reply m
-form_makes_not s w part reply v ne (ByReading end address count n m r) = unmaking s w part reply m
+form_makes_not s w part reply v ne (ByGranting r count m e) = unmaking s w part reply m
+form_makes_not s w part reply v ne (ByPiping t r m p) = unmaking s w part reply m
+form_makes_not s w part reply v ne (ByTurning side t n operation m i) = unmaking s w part reply m
+form_makes_not s w part reply v ne (ByCalling side end address count n m r) = unmaking s w part reply m
 
 -- A STREAM THAT NO HOST WRITER WRITES
 
@@ -84,24 +94,58 @@ module _ (first w : World) (s : ℕ) (l : Lives first w) (u : IsUnhosted s w) wh
   off : (t n : ℕ) → (stream_in w t).writer.owner ≡ Host n → s ≢ t
   off t n e f = no_host (stream_in w s).writer.owner n u (ap (λ k. (stream_in w k).writer.owner) f ∙ e)
 
-  forsaken_from : (act : Act) (t n : ℕ) → (stream_in (with_stream_in (reacted_to w act) t (forsaken Reading (stream_in (reacted_to w act) t))) s).writer.owner ≡ Host n → ⊥
-  forsaken_from act t n e =
-      let x = reacted_to w act in
-      let now = forsaken Reading (stream_in x t) in
-      let from : HostsFrom (stream_in x t) now = λ k f. (let wrong : Gone ≡ Host k = f in cc) in
-      let there : (get_or (set x.state.streams t now) s no_stream).writer.owner ≡ Host n = ap (λ xs. (get_or xs s no_stream).writer.owner) (sym (back-streams x t now)) ∙ e in
-      reacted_from act n (set-from x.state.streams t now from s n there).0
+  -- a stream written back that no other host writer writes
+  back_unhosted : (x : World) (t : ℕ) (stream : Stream) → IsUnhosted s x → HostsFrom (stream_in x t) stream → IsUnhosted s (with_stream_in x t stream)
+  back_unhosted x t stream unhosted from =
+      unless_host (stream_in (with_stream_in x t stream) s).writer.owner
+      (λ n e. no_host (stream_in x s).writer.owner n unhosted (set-from x.state.streams t stream from s n (ap (λ xs. (get_or xs s no_stream).writer.owner) (sym (back-streams x t stream)) ∙ e)).0)
 
-  read_same : (part : Part) (v : World) (end : NamedEnd) (address count n : ℕ) → IsRead w part v end address count n → stream_in v s ≡ stream_in w s
+  forsaken_from : (side : Side) (stream : Stream) → HostsFrom stream (forsaken side stream)
+  forsaken_from Reading stream n f = let wrong : Gone ≡ Host n = f in cc
+  forsaken_from Writing stream n f = (f, refl)
+
+  forsaken_unhosted : (act : Act) (side : Side) (t : ℕ) → IsUnhosted s (with_stream_in (reacted_to w act) t (forsaken side (stream_in (reacted_to w act) t)))
+  forsaken_unhosted act side t =
+      let x = reacted_to w act in
+      back_unhosted x t (forsaken side (stream_in x t)) (unless_host (stream_in x s).writer.owner (reacted_from act)) (forsaken_from side (stream_in x t))
+
+  read_same : (part : Part) (v : World) (end : NamedEnd) (address count n : ℕ) → IsCall Reading w part v end address count n → stream_in v s ≡ stream_in w s
   read_same part v end address count n r =
       let t = stream_of w end in
       let read = called end address count in
       let ne = off t n r.owner in
       let told = delivered Reading (stream_in r.mid t) in
-      let mid : stream_in r.mid s ≡ stream_in w s = turned-other (opened w t read) t n read r.mid r.turned (read_can first w part v end address count n l r) s ne ∙ back-other w t (with_operation Reading (stream_in w t) read) s ne in
+      let mid : stream_in r.mid s ≡ stream_in w s = turned-other (opened Reading w t read) t n read r.mid r.turned (read_can first w part v end address count n l r) s ne ∙ back-other w t (with_operation Reading (stream_in w t) read) s ne in
       elim r.told [
         | inl e ↦ ap (λ x. stream_in x s) e ∙ mid
         | inr e ↦ ap (λ x. stream_in x s) e ∙ back-other r.mid t told s ne ∙ mid
+      ]
+
+  -- the turn of a host reader
+  taken_unhosted : (x v : World) (t r : ℕ) (write : Operation) → Taken x t r write v → IsUnhosted s x → IsUnhosted s v
+  taken_unhosted x v t r write k unhosted =
+      subst (IsUnhosted s) (sym k.is)
+      (back_unhosted (taken_by x t r write k.said k.more) t (stream_taken x t write k.said) unhosted
+      (λ n f. (sym (moved-mine (stream_in x t) write k.said.taken Writing (result_of k.said.answer)) ∙ f, moved_on-payload Writing (stream_in x t) write k.said.taken (result_of k.said.answer))))
+
+  write_unhosted : (part : Part) (v : World) (end : NamedEnd) (address count r : ℕ) → IsCall Writing w part v end address count r → IsUnhosted s v
+  write_unhosted part v end address count r c =
+      let t = stream_of w end in
+      let write = called end address count in
+      let open_world = opened Writing w t write in
+      let mid = taken_unhosted open_world c.mid t r write c.turned (back_unhosted w t (with_operation Writing (stream_in w t) write) u (λ n f. (f, refl))) in
+      elim c.told [
+        | inl e ↦ subst (IsUnhosted s) (sym e) mid
+        | inr e ↦ subst (IsUnhosted s) (sym e) (back_unhosted c.mid t (delivered Writing (stream_in c.mid t)) mid (delivered-from Writing (stream_in c.mid t)))
+      ]
+
+  pipe_unhosted : (v : World) (t r : ℕ) → IsPiping w v t r → IsUnhosted s v
+  pipe_unhosted v t r p =
+      let pipe = piped (stream_in w t) r in
+      let first = back_unhosted (with_consumer w r (record no_consumer { duty = Serves t })) t pipe u (λ n f. (f, refl)) in
+      elim p.is [
+        | inl e ↦ subst (IsUnhosted s) (sym e) first
+        | inr e ↦ subst (IsUnhosted s) (sym e) (back_unhosted (piped_to w t r) t (without_ends pipe) first (λ n f. let wrong : Gone ≡ Host n = f in cc))
       ]
 
   making_not : (n k : ℕ) (part : Part) (reply : Reply) → part ≡ Acts (OnHost n New) → reply ≡ replies.Number k → is_making part reply ≡ false → ⊥
@@ -115,17 +159,20 @@ module _ (first w : World) (s : ℕ) (l : Lives first w) (u : IsUnhosted s w) wh
   form_unhosted part reply v ne (BySame m e) = ap (λ x. is_host (stream_in x s).writer.owner) e ∙ u
   form_unhosted part reply v ne (ByReacting act m e) =
       ap (λ x. is_host (stream_in x s).writer.owner) e ∙ unless_host (stream_in (reacted_to w act) s).writer.owner (reacted_from act)
-  form_unhosted part reply v ne (ByForsaking act t n m f) =
-      ap (λ x. is_host (stream_in x s).writer.owner) f.is ∙ unless_host _ (forsaken_from act t)
+  form_unhosted part reply v ne (ByForsaking act side t n m f) = subst (IsUnhosted s) (sym f.is) (forsaken_unhosted act side t)
   form_unhosted part reply v (inr m) (ByHosting n p r e f) = absurd (making_not n (length w.state.streams) part reply p r m)
   form_unhosted part reply v (inl ne) (ByHosting n p r e f) =
       ap (λ x. is_host (stream_in x s).writer.owner) f
       ∙ ap (λ (x : Stream). is_host x.writer.owner) (push-other w.state.streams (hosted_stream (writer_at w n) n) s ne) ∙ u
   form_unhosted part reply v ne (ByFeeding n bytes m e) = ap (λ x. is_host (stream_in x s).writer.owner) e ∙ u
-  form_unhosted part reply v ne (ByTurning t n read m i) =
+  form_unhosted part reply v ne (ByGranting r count m e) = ap (λ x. is_host (stream_in x s).writer.owner) e ∙ u
+  form_unhosted part reply v ne (ByPiping t r m p) = pipe_unhosted v t r p
+  form_unhosted part reply v ne (ByTurning Reading t n read m i) =
       ap (λ (x : Stream). is_host x.writer.owner) (turned-other w t n read v i.turned (drive_can first w part v t n read l i) s (off t n i.owner)) ∙ u
-  form_unhosted part reply v ne (ByReading end address count n m r) =
+  form_unhosted part reply v ne (ByTurning Writing t r write m i) = taken_unhosted w v t r write i.turned u
+  form_unhosted part reply v ne (ByCalling Reading end address count n m r) =
       ap (λ (x : Stream). is_host x.writer.owner) (read_same part v end address count n r) ∙ u
+  form_unhosted part reply v ne (ByCalling Writing end address count n m r) = write_unhosted part v end address count n r
 
 -- a stream stays made
 module _ (first w : World) (s : ℕ) (l : Lives first w) (made : s < length w.state.streams) where
@@ -135,22 +182,17 @@ module _ (first w : World) (s : ℕ) (l : Lives first w) (made : s < length w.st
   pub form_made : (part : Part) (reply : Reply) (v : World) → Form w part reply v → s < length v.state.streams
   form_made part reply v (BySame m e) = long_as v (ap (λ (x : World). length x.state.streams) e)
   form_made part reply v (ByReacting act m e) = subst (λ (x : World). s < length x.state.streams) (sym e) (reaction-made w.state act s l.holds made)
-  form_made part reply v (ByForsaking act t n m f) =
+  form_made part reply v (ByForsaking act side t n m f) =
       let x = reacted_to w act in
-      let now = forsaken Reading (stream_in x t) in
+      let now = forsaken side (stream_in x t) in
       subst (λ k. s < k) (sym (ap (λ (y : World). length y.state.streams) f.is ∙ back-length x t now)) (reaction-made w.state act s l.holds made)
   form_made part reply v (ByHosting n p r e f) =
       subst (λ (x : World). s < length x.state.streams) (sym f) (omega (arith, made, length-append w.state.streams (hosted_stream (writer_at w n) n ∷ [])))
   form_made part reply v (ByFeeding n bytes m e) = long_as v (ap (λ (x : World). length x.state.streams) e)
-  form_made part reply v (ByTurning t n read m i) = long_as v (turned-length w t n read v i.turned (drive_can first w part v t n read l i))
-  form_made part reply v (ByReading end address count n m r) =
-      let t = stream_of w end in
-      let read = called end address count in
-      let mid : length r.mid.state.streams ≡ length w.state.streams = turned-length (opened w t read) t n read r.mid r.turned (read_can first w part v end address count n l r) ∙ back-length w t (with_operation Reading (stream_in w t) read) in
-      elim r.told [
-        | inl e ↦ long_as v (ap (λ (x : World). length x.state.streams) e ∙ mid)
-        | inr e ↦ long_as v (ap (λ (x : World). length x.state.streams) e ∙ back-length r.mid t (delivered Reading (stream_in r.mid t)) ∙ mid)
-      ]
+  form_made part reply v (ByGranting r count m e) = long_as v (ap (λ (x : World). length x.state.streams) e)
+  form_made part reply v (ByPiping t r m p) = long_as v (pipe_length w v t r p)
+  form_made part reply v (ByTurning side t n operation m i) = long_as v (turned_length side w t n operation v i.turned)
+  form_made part reply v (ByCalling side end address count n m r) = long_as v (call_length side w part v end address count n r)
 
 -- RUNS
 
@@ -184,30 +226,34 @@ module _ (first : World) where
     unhosted : is_hosted s all ≡ false
 
   gone_stays : (s : ℕ) (m : HostMoment) → (stream_in m.before s).writer.owner ≡ Gone → Touch s m.before m.part m.after
-      → ((stream_in m.after s).writer.owner ≡ Gone) × ((received s m.after.state ≡ received s m.before.state) × (s < length m.after.state.streams))
-  gone_stays s m e (NotTouched a) = (a.stream.writer ∙ e, (a.stream.received, a.made))
+      → ((stream_in m.after s).writer.owner ≡ Gone) × (received s m.after.state ≡ received s m.before.state)
+  gone_stays s m e (NotTouched a) = (a.stream.writer ∙ e, a.stream.received)
   gone_stays s m e (IsLost n f) = let wrong : Gone ≡ Host n = sym e ∙ f.was in cc
   gone_stays s m e (HasTurn n read i) = let wrong : Gone ≡ Host n = sym e ∙ i.owner in cc
   gone_stays s m e (HasRead end address count n at r) = let wrong : Gone ≡ Host n = sym e ∙ ap (λ k. (stream_in m.before k).writer.owner) (sym at) ∙ r.owner in cc
 
-  gone_run : (s : ℕ) (w : World) (all : List HostMoment) → Chain w all → Lives first w → (stream_in w s).writer.owner ≡ Gone → s < length w.state.streams → GoneRun s w all
-  gone_run s w [] c l e made = record { got = refl; made = refl; count = refl; owner = e; unhosted = refl }
-  gone_run s w (m ∷ more) c l e made =
+  -- what became of its write end is kept
+  moment_taken : (s : ℕ) (m : HostMoment) → Follows m.before m → Lives first m.before → IsTaken Writing m.before.state s → IsTaken Writing m.after.state s
+  moment_taken s m f l = effect_taken Writing m.before.state m.after.state m.part m.reply s l.holds (follows_effect m.before m f)
+
+  gone_run : (s : ℕ) (w : World) (all : List HostMoment) → Chain w all → Lives first w → (stream_in w s).writer.owner ≡ Gone → IsTaken Writing w.state s → GoneRun s w all
+  gone_run s w [] c l e taken = record { got = refl; made = refl; count = refl; owner = e; unhosted = refl }
+  gone_run s w (m ∷ more) c l e taken =
       subst (λ x. GoneRun s x (m ∷ more)) c.0.begins
-      (here (from_itself w m c.0) (subst (Lives first) (sym c.0.begins) l) (ap (λ x. (stream_in x s).writer.owner) c.0.begins ∙ e) (subst (λ (x : World). s < length x.state.streams) (sym c.0.begins) made)
+      (here (from_itself w m c.0) (subst (Lives first) (sym c.0.begins) l) (ap (λ x. (stream_in x s).writer.owner) c.0.begins ∙ e) (subst (λ (x : World). IsTaken Writing x.state s) (sym c.0.begins) taken)
       (λ k o j. gone_run s m.after more c.1 k o j))
     where
-      here : Follows m.before m → Lives first m.before → (stream_in m.before s).writer.owner ≡ Gone → s < length m.before.state.streams
-          → (Lives first m.after → (stream_in m.after s).writer.owner ≡ Gone → s < length m.after.state.streams → GoneRun s m.after more) → GoneRun s m.before (m ∷ more)
-      here f l e made next =
+      here : Follows m.before m → Lives first m.before → (stream_in m.before s).writer.owner ≡ Gone → IsTaken Writing m.before.state s
+          → (Lives first m.after → (stream_in m.after s).writer.owner ≡ Gone → IsTaken Writing m.after.state s → GoneRun s m.after more) → GoneRun s m.before (m ∷ more)
+      here f l e taken next =
           let form = moment_form m f l in
-          let not = form_makes_not s m.before m.part m.reply m.after (λ g. absurd (omega (arith, made, g))) form in
-          let stays = gone_stays s m e (form_touch first m.before s l made (WriterGone e) m.part m.reply m.after form) in
-          let rest = next (moment_lives m f l) stays.0 stays.1.1 in
+          let not = form_makes_not s m.before m.part m.reply m.after (λ g. absurd (omega (arith, taken.made, g))) form in
+          let stays = gone_stays s m e (form_touch first m.before s l taken.made (WriterGone e taken.idle) m.part m.reply m.after form) in
+          let rest = next (moment_lives m f l) stays.0 (moment_taken s m f l taken) in
           record {
-            got = ap (λ g. g ++ host_got s more) (nothing_got s (plain m) stays.1.0).0 ∙ rest.got;
+            got = ap (λ g. g ++ host_got s more) (nothing_by s m stays.1 (stream_in m.before s).reader.owner) ∙ rest.got;
             made = produced_split s m more not.made [] (ap (produced_by m) e) ∙ rest.made;
-            count = rest.count ∙ stays.1.0;
+            count = rest.count ∙ stays.1;
             owner = rest.owner;
             unhosted = or_both (is_made_by s m.part m.reply) (is_hosted s more) not.by rest.unhosted;
           }
@@ -238,11 +284,11 @@ module _ (first : World) where
 
   -- by what comes of the moments behind the first
   abbrev Behind : ℕ → ℕ → HostMoment → List HostMoment → Type 0
-  Behind s n m more = Lives first m.after → (stream_in m.after s).writer.owner ≡ Host n → HasRoom s m.after more → HostedRun s n m.after more
+  Behind s n m more = Lives first m.after → (stream_in m.after s).writer.owner ≡ Host n → IsTaken Writing m.after.state s → HasRoom s m.after more → HostedRun s n m.after more
 
-  hosted_then : (s n : ℕ) (m : HostMoment) (more : List HostMoment) → Chain m.after more → Follows m.before m → Lives first m.before → (stream_in m.before s).writer.owner ≡ Host n → HasRoom s m.before (m ∷ more)
+  hosted_then : (s n : ℕ) (m : HostMoment) (more : List HostMoment) → Chain m.after more → Follows m.before m → Lives first m.before → (stream_in m.before s).writer.owner ≡ Host n → IsTaken Writing m.before.state s → HasRoom s m.before (m ∷ more)
       → Behind s n m more → HostedRun s n m.before (m ∷ more)
-  hosted_then s n m more c f l o room next =
+  hosted_then s n m more c f l o taken room next =
       let made = owned_made m.before.state s n l.holds o in
       let form = moment_form m f l in
       let not = form_makes_not s m.before m.part m.reply m.after (λ g. absurd (omega (arith, made, g))) form in
@@ -250,10 +296,10 @@ module _ (first : World) where
       let d = touch_delivers first m l s n o (omega (arith, room)) touch in
       let live = moment_lives m f l in
       let here : produced s (m ∷ more) ≡ items_of (used_in n m) ++ produced s more = produced_split s m more not.made (items_of (used_in n m)) (ap (produced_by m) o) in
-      let g = got_in s (plain m) in
+      let g = host_got_in s m in
       elim d.ends [
         | inl gone ↦ (
-            let k = gone_run s m.after more c live gone d.made in
+            let k = gone_run s m.after more c live gone (moment_taken s m f l taken) in
             let left : length (g ++ host_got s more) ≡ length g = ap (λ xs. length (g ++ xs)) k.got ∙ ap length (append-nil g) in
             record {
               rest = d.rest;
@@ -266,7 +312,7 @@ module _ (first : World) where
               unhosted = or_both (is_made_by s m.part m.reply) (is_hosted s more) not.by k.unhosted;
             })
         | inr stays ↦ (
-            let k = next live stays.0 (omega (arith, room, d.count, d.few)) in
+            let k = next live stays.0 (moment_taken s m f l taken) (omega (arith, room, d.count, d.few)) in
             let long = length-append g (host_got s more) in
             record {
               rest = k.rest;
@@ -279,19 +325,19 @@ module _ (first : World) where
             })
       ]
 
-  hosted_run : (s n : ℕ) (w : World) (all : List HostMoment) → Chain w all → Lives first w → (stream_in w s).writer.owner ≡ Host n → HasRoom s w all → HostedRun s n w all
-  hosted_run s n w [] c l o room = record {
+  hosted_run : (s n : ℕ) (w : World) (all : List HostMoment) → Chain w all → Lives first w → (stream_in w s).writer.owner ≡ Host n → IsTaken Writing w.state s → HasRoom s w all → HostedRun s n w all
+  hosted_run s n w [] c l o taken room = record {
     rest = (writer_at w n).holds;
     balance = ap (map Some) (append-nil (writer_at w n).holds);
     count = omega arith;
     ends = λ h. ap (held_by w) (sym o);
     unhosted = refl;
   }
-  hosted_run s n w (m ∷ more) c l o room =
+  hosted_run s n w (m ∷ more) c l o taken room =
       subst (λ x. HostedRun s n x (m ∷ more)) c.0.begins
       (hosted_then s n m more c.1 (from_itself w m c.0) (subst (Lives first) (sym c.0.begins) l) (ap (λ x. (stream_in x s).writer.owner) c.0.begins ∙ o)
-      (subst (λ x. HasRoom s x (m ∷ more)) (sym c.0.begins) room)
-      (λ k e r. hosted_run s n m.after more c.1 k e r))
+      (subst (λ (x : World). IsTaken Writing x.state s) (sym c.0.begins) taken) (subst (λ x. HasRoom s x (m ∷ more)) (sym c.0.begins) room)
+      (λ k e j r. hosted_run s n m.after more c.1 k e j r))
 
   -- A STREAM OF GUESTS
 
@@ -350,10 +396,12 @@ module _ (first : World) where
       ]
   making_form s w part reply v l le t (BySame m e) = absurd (let wrong : true ≡ false = sym t ∙ m in cc)
   making_form s w part reply v l le t (ByReacting act m e) = absurd (let wrong : true ≡ false = sym t ∙ m in cc)
-  making_form s w part reply v l le t (ByForsaking act k n m f) = absurd (let wrong : true ≡ false = sym t ∙ m in cc)
+  making_form s w part reply v l le t (ByForsaking act side k n m f) = absurd (let wrong : true ≡ false = sym t ∙ m in cc)
   making_form s w part reply v l le t (ByFeeding n bytes m e) = absurd (let wrong : true ≡ false = sym t ∙ m in cc)
-  making_form s w part reply v l le t (ByTurning k n read m i) = absurd (let wrong : true ≡ false = sym t ∙ m in cc)
-  making_form s w part reply v l le t (ByReading end address count n m r) = absurd (let wrong : true ≡ false = sym t ∙ m in cc)
+  making_form s w part reply v l le t (ByGranting r count m e) = absurd (let wrong : true ≡ false = sym t ∙ m in cc)
+  making_form s w part reply v l le t (ByPiping k r m p) = absurd (let wrong : true ≡ false = sym t ∙ m in cc)
+  making_form s w part reply v l le t (ByTurning side k n operation m i) = absurd (let wrong : true ≡ false = sym t ∙ m in cc)
+  making_form s w part reply v l le t (ByCalling side end address count n m r) = absurd (let wrong : true ≡ false = sym t ∙ m in cc)
 
   made_or_not : (s : ℕ) (w : World) (part : Part) (reply : Reply) (v : World) (b : Bool) → is_making part reply ≡ b → Lives first w → length w.state.streams ≤ s → Form w part reply v → MadeOrNot s w part reply v
   made_or_not s w part reply v true t l le form = making_form s w part reply v l le t form
@@ -371,11 +419,12 @@ module _ (first : World) where
         let now : stream_in m.after s ≡ stream = ap (λ x. stream_in x s) h.is ∙ ap (λ k. get_or (w.state.streams ++ stream ∷ []) k no_stream) h.number ∙ get_or_push w.state.streams stream no_stream (length w.state.streams) refl in
         let none : received s m.after.state ≡ 0 = ap (λ (x : Stream). x.received) now in
         let before : received s w.state ≡ 0 = ap (λ (x : Stream). x.received) (past s w le) in
-        let k = hosted_run s n m.after more c (moment_lives m f l) (ap (λ (x : Stream). x.writer.owner) now) (omega (arith, none, room)) in
-        let nothing = (nothing_got s (plain m) (none ∙ sym before)).0 in
+        let nothing = nothing_by s m (none ∙ sym before) (stream_in w s).reader.owner in
         let num = eq-eqb (length w.state.streams) s (sym h.number) in
         let made : made_of s w m.part m.reply ≡ (writer_at w n).holds = ap (λ x. made_of s w x m.reply) h.part_is ∙ ap (made_of s w (Acts (OnHost n New))) h.reply_is ∙ ap (λ b. cond b (writer_at w n).holds []) num in
         let by : is_made_by s m.part m.reply ≡ true = ap (λ x. is_made_by s x m.reply) h.part_is ∙ ap (is_made_by s (Acts (OnHost n New))) h.reply_is ∙ num in
+        let taken = effect_makes w.state m.after.state m.part m.reply s (follows_effect w m f) by in
+        let k = hosted_run s n m.after more c (moment_lives m f l) (ap (λ (x : Stream). x.writer.owner) now) taken (omega (arith, none, room)) in
         let unwritten : produced_in s m ≡ [] = ap (λ (x : Stream). produced_by m x.writer.owner) (past s w le) in
         let held : (writer_at m.after n).holds ≡ (writer_at w n).holds = ap (λ x. (writer_at x n).holds) h.is in
         let all_made : produced s (m ∷ more) ≡ (writer_at m.after n).holds ++ produced s more = ap (λ xs. xs ++ (produced_in s m ++ produced s more)) (made ∙ sym held) ∙ ap (λ xs. (writer_at m.after n).holds ++ (xs ++ produced s more)) unwritten in
@@ -403,7 +452,7 @@ module _ (first : World) where
           | inr after ↦ (
               let k = next after in
               let same : received s m.after.state ≡ received s m.before.state = ap (λ (x : Stream). x.received) (past s m.after after ∙ sym (past s m.before le)) in
-              let nothing = (nothing_got s (plain m) same).0 in
+              let nothing = nothing_by s m same (stream_in m.before s).reader.owner in
               let all_got : host_got s (m ∷ more) ≡ host_got s more = ap (λ xs. xs ++ host_got s more) nothing in
               let all_made : produced s (m ∷ more) ≡ produced s more = produced_split s m more not.made [] (ap (λ (x : Stream). produced_by m x.writer.owner) (past s m.before le)) in
               let hosted_later : is_hosted s (m ∷ more) ≡ is_hosted s more = ap (λ b. b || is_hosted s more) not.by in

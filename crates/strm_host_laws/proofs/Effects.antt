@@ -1,14 +1,14 @@
 -- What a part of a run does to the state: the few ways, and what is known of each.
-use Rattle.std.proofs.Common.{◌≡◌, ◌≢◌, ℕ, ◌<◌, Bool, true, false, cond, [], ◌∷◌, ◌++◌, length, get_or, set, Option, Some, None, refl, sym, ap, subst, ◌∙◌, inl, inr}
+use Rattle.std.proofs.Common.{◌≡◌, ◌≢◌, ℕ, ◌<◌, Bool, true, false, [], ◌∷◌, ◌++◌, length, get_or, set, Option, Some, None, refl, sym, ap, subst, ◌∙◌, ◌⊎◌, inl, inr}
 use Rattle.std.proofs.lemmas.Bool.{cond_both, cases_lt}
-use Rattle.std.proofs.lemmas.List.{get_or-set_same, get_or-set_other, get_or_past}
+use Rattle.std.proofs.lemmas.List.{get_or-set_same, get_or-set_other, get_or_past, set-set}
 use Rattle.strm_codes.specs.declared.codes.ReturnCode.{ReturnCode}
 use Rattle.strm_codes.specs.declared.refusals.Refusal.{Refusal}
-use Rattle.strm_machine.specs.State.{State, host_limit, no_producer, no_stream, idle_end, producer_at, stream_at, is_host, is_gone}
+use Rattle.strm_machine.specs.State.{State, host_limit, no_producer, no_consumer, no_stream, idle_end, producer_at, consumer_at, stream_at, is_loose, is_host, is_gone}
 use Rattle.strm_machine.specs.Sides.{opposite, end_of, with_operation}
 use Rattle.strm_machine.specs.Meetings.{begun}
 use Rattle.strm_machine.specs.Moments.{code_told}
-use Rattle.strm_host_laws.specs.HostLaws.{is_made_by}
+use Rattle.strm_host_laws.specs.HostLaws.{is_made_by, is_piped_in}
 use Rattle.strm_machine.specs.Endings.{report_on, delivered, dropped}
 use Rattle.strm_machine.specs.Tests.{named, stream_named, items_asked}
 use Rattle.strm_machine.specs.Refusals.{refusal}
@@ -17,11 +17,11 @@ use Rattle.strm_machine.specs.declared.acts.Act.{Act}
 use Rattle.strm_machine.specs.declared.acts.Act.TheVariants.{OnEnd, OnHost}
 use Rattle.strm_machine.specs.declared.acts.EndAct.TheVariants.{Operate}
 use Rattle.strm_machine.specs.declared.acts.HostAct.{HostAct}
-use Rattle.strm_machine.specs.declared.acts.HostAct.TheVariants.{New, Feed}
+use Rattle.strm_machine.specs.declared.acts.HostAct.TheVariants.{New, Feed, Pipe, Grant}
 use Rattle.strm_machine.specs.declared.acts.NamedEnd.{NamedEnd}
-use Rattle.strm_machine.specs.declared.streams.Duty.TheVariants.{Serves, Ended}
+use Rattle.strm_machine.specs.declared.streams.Duty.TheVariants.{Serves}
 use Rattle.strm_machine.specs.declared.streams.Owner.{Owner}
-use Rattle.strm_machine.specs.declared.streams.Owner.TheVariants.{Loose, Host}
+use Rattle.strm_machine.specs.declared.streams.Owner.TheVariants.{Loose, Host, Gone}
 use Rattle.strm_machine.specs.declared.streams.Operation.{Operation}
 use Rattle.strm_machine.specs.declared.streams.Side.{Side}
 use Rattle.strm_machine.specs.declared.streams.Side.TheVariants.{Writing, Reading}
@@ -29,50 +29,51 @@ use Rattle.strm_machine.specs.declared.streams.Stream.{Stream}
 use Rattle.strm_machine.specs.declared.replies.Reply.{Reply}
 use Rattle.strm_machine.specs.declared.replies.Reply.TheVariants as replies
 use Rattle.strm_machine.proofs.ReactionLemmas.{reaction-performs, reaction-refused}
-use Rattle.strm_world.specs.World.{World, stream_in, writer_at, with_stream_in}
+use Rattle.strm_world.specs.World.{World, stream_in, writer_at, with_consumer, leaves_writer, leaves_reader, with_stream_in}
 use Rattle.strm_world.specs.Outcomes.{Outcome, Goes, Stops, Stuck, then_on, of_reply}
 use Rattle.strm_world.specs.Settling.{answered_with, answered}
 use Rattle.strm_world.specs.Producing.{producer_turn}
-use Rattle.strm_world.specs.Attaching.{hosted_stream, hosts_new, forsaken, forsakes}
+use Rattle.strm_world.specs.Consuming.{consumer_turn}
+use Rattle.strm_world.specs.Attaching.{hosted_stream, hosts_new, piped, is_dry, without_ends, pipes, forsaken, forsakes}
 use Rattle.strm_world.specs.Driving.{if_open, driven_by, drive_turn}
 use Rattle.strm_world.specs.HostRefusals.{is_used, refusal_in}
-use Rattle.strm_world.specs.Steps.{reacts, reads_from, operates_by, drops_in, on_host, performs_by, performs_in, unless_refused_in, outcome}
-use Rattle.strm_world.proofs.SettleLemmas.{delivered-owner, code_told as code_answered, told-nothing}
+use Rattle.strm_world.specs.Steps.{reacts, reads_from, writes_to, operates_by, drops_in, on_host, performs_by, performs_in, unless_refused_in, outcome}
+use Rattle.strm_world.proofs.SettleLemmas.{leaves_writer-stays, delivered-owners, code_told as code_answered, told-nothing}
 use Rattle.strm_world.proofs.TouchLemmas.{names_none, refusal-none, IsDrop, touch-by}
 use Rattle.strm_world.proofs.OutcomeLemmas.{refusal_in-on_end}
 use Rattle.strm_host_laws.specs.HostMoments.{Part, Acts, Turns, HostMoment, part_on}
 use Rattle.strm_host_laws.proofs.Chains.{is_part, Follows}
-use Rattle.strm_host_laws.proofs.Goings.{with_state}
-use Rattle.strm_machine.proofs.TableLemmas.{set-keeps}
-use Rattle.strm_host_laws.proofs.Closed.{is_new}
-use Rattle.strm_host_laws.proofs.HostTurns.{Turned, Going, turn_turned, turn_done, with_stream_in-gone, with_stream_in-kept}
+use Rattle.strm_host_laws.proofs.Goings.{with_state, written-streams}
+use Rattle.strm_machine.proofs.TableLemmas.{with_end-owners, set-keeps}
+use Rattle.strm_host_laws.proofs.Closed.{is_new, is_new_reader}
+use Rattle.strm_host_laws.proofs.HostTurns.{Turned, Going, TurnsDone, turn_done, taking_done, with_ended, with_done, with_stream_in-gone, with_stream_in-both, with_stream_in-kept}
 use Rattle.strm_machine.proofs.HostLemmas.{host_number}
 
 -- ## All ways
 
--- a read opens on stream s
-abbrev pub opened_by : State → ℕ → Operation → State
-opened_by state s read = with_stream_at state s (with_operation Reading (stream_at state s) read)
+-- a read or write opens on stream s
+abbrev pub opened_by : Side → State → ℕ → Operation → State
+opened_by side state s operation = with_stream_at state s (with_operation side (stream_at state s) operation)
 
--- stream s is driven: its host writer has a turn for the open read
-pub record Driven (old new : State) (s : ℕ) : Type 0 where
-  pub writer : ℕ
-  pub read : Operation
-  pub owner : (stream_at old s).writer.owner ≡ Host writer
-  pub waits : (stream_at old s).reader.operation ≡ Some read
-  pub open_ : read.is_open ≡ true
-  pub turned : Turned old new s writer read
+-- stream s is driven: the host end on the other side has a turn for the open read or write on a side
+pub record Driven (side : Side) (old new : State) (s : ℕ) : Type 0 where
+  pub host : ℕ
+  pub operation : Operation
+  pub owner : (end_of (opposite side) (stream_at old s)).owner ≡ Host host
+  pub waits : (end_of side (stream_at old s)).operation ≡ Some operation
+  pub open_ : operation.is_open ≡ true
+  pub turned : Turned side old new s host operation
 
--- a read of the end that is named opens, its host writer has its turn, and the end is told its report, if
--- there is one
-pub record Reads (old : State) (end : NamedEnd) (address count : ℕ) (reply : Reply) (new : State) : Type 0 where
-  pub writer : ℕ
+-- a read or write of the end that is named opens, the host end on the other side has its turn, and the end
+-- is told its report, if there is one
+pub record Calls (side : Side) (old : State) (end : NamedEnd) (address count : ℕ) (reply : Reply) (new : State) : Type 0 where
+  pub host : ℕ
   pub mid : State
-  pub unrefused : refusal old (OnEnd Reading end (Operate address count)) ≡ None
-  pub owner : (stream_at old (stream_named (named old end))).writer.owner ≡ Host writer
-  pub turned : Turned (opened_by old (stream_named (named old end)) (begun end.guest address (items_asked end.ty count))) mid (stream_named (named old end)) writer (begun end.guest address (items_asked end.ty count))
-  pub reply_is : reply ≡ replies.Code (code_answered (report_on Reading (stream_at mid (stream_named (named old end)))))
-  pub is : new ≡ told mid (stream_named (named old end)) Reading
+  pub unrefused : refusal old (OnEnd side end (Operate address count)) ≡ None
+  pub owner : (end_of (opposite side) (stream_at old (stream_named (named old end)))).owner ≡ Host host
+  pub turned : Turned side (opened_by side old (stream_named (named old end)) (begun end.guest address (items_asked end.ty count))) mid (stream_named (named old end)) host (begun end.guest address (items_asked end.ty count))
+  pub reply_is : reply ≡ replies.Code (code_answered (report_on side (stream_at mid (stream_named (named old end)))))
+  pub is : new ≡ told mid (stream_named (named old end)) side
 
 -- host writer n has a stream more, whose read end is loose
 pub record Hosts (old : State) (n : ℕ) (reply : Reply) (new : State) : Type 0 where
@@ -85,43 +86,79 @@ pub record Hosts (old : State) (n : ℕ) (reply : Reply) (new : State) : Type 0 
   pub reply_is : reply ≡ replies.Number (length old.streams)
   pub is : new ≡ record old { streams = old.streams ++ stream ∷ []; producers = set old.producers n (record no_producer { duty = Serves (length old.streams) }) }
 
--- the write end of stream s is gone, and its host writer has ended
-abbrev pub forsaken_by : State → ℕ → ℕ → State
-forsaken_by state s n = record state {
-  streams = set state.streams s (forsaken Reading (stream_at state s));
-  producers = set state.producers n (record (producer_at state n) { duty = Ended });
-}
+-- host reader r has the read end of stream s
+abbrev pub piped_in : State → ℕ → ℕ → State
+piped_in state s r =
+    with_stream_at (record state { consumers = set state.consumers r (record no_consumer { duty = Serves s }) }) s (piped (stream_at state s) r)
 
--- a part that names no end of a stream: it is done to a host writer, or is the turn of a stream
+-- what becomes of a pipe at once: it stays; or both its ends are gone, since the write end was, or since its
+-- host writer has no more to come
+pub data Piped (old : State) (s r : ℕ) (new : State) : Type 0 where
+  ByStaying : new ≡ piped_in old s r → Piped old s r new
+  ByGone : (stream_at old s).writer.owner ≡ Gone → new ≡ with_done Reading (piped_in old s r) s r (without_ends (piped (stream_at old s) r)) → Piped old s r new
+  ByDry : (n : ℕ) → (stream_at old s).writer.owner ≡ Host n → new ≡ with_stream_at (with_ended Writing (with_ended Reading (piped_in old s r) r) n) s (without_ends (piped (stream_at old s) r)) → Piped old s r new
+
+-- its stream is another then
+pub piped_streams : (old new : State) (s r : ℕ) → Piped old s r new → (new.streams ≡ set old.streams s (piped (stream_at old s) r)) ⊎ (new.streams ≡ set old.streams s (without_ends (piped (stream_at old s) r)))
+piped_streams old new s r (ByStaying e) = inl (ap (λ (x : State). x.streams) e)
+piped_streams old new s r (ByGone g e) =
+    inr (ap (λ (x : State). x.streams) e ∙ set-set old.streams s (piped (stream_at old s) r) (without_ends (piped (stream_at old s) r)))
+piped_streams old new s r (ByDry n g e) =
+    inr (ap (λ (x : State). x.streams) e ∙ set-set old.streams s (piped (stream_at old s) r) (without_ends (piped (stream_at old s) r)))
+
+-- no memory changes
+pub piped_guests : (old new : State) (s r : ℕ) → Piped old s r new → new.guests ≡ old.guests
+piped_guests old new s r (ByStaying e) = ap (λ (x : State). x.guests) e
+piped_guests old new s r (ByGone g e) = ap (λ (x : State). x.guests) e
+piped_guests old new s r (ByDry n g e) = ap (λ (x : State). x.guests) e
+
+-- a loose read end goes to host reader r
+pub record Pipes (old : State) (s r : ℕ) (reply : Reply) (new : State) : Type 0 where
+  pub known : r < host_limit
+  pub unused : is_used (consumer_at old r).duty ≡ false
+  pub loose : is_loose (stream_at old s).reader.owner ≡ true
+  pub made : s < length old.streams
+  pub reply_is : reply ≡ replies.Done
+  pub ends : Piped old s r new
+
+-- after the end on a side of stream s was dropped, the other one is gone, and host end n has ended
+abbrev pub forsaken_by : Side → State → ℕ → ℕ → State
+forsaken_by side state s n = with_done (opposite side) state s n (forsaken side (stream_at state s))
+
+-- a part that names no end of a stream: it is done to a host end, or is the turn of a stream
 abbrev pub is_idle : Part → Bool
 is_idle (Acts (OnHost n act)) = true
 is_idle (Turns s) = true
 is_idle _ = false
 
--- a part that changes nothing, tells nothing, and makes no stream
+-- a part that changes nothing, tells nothing, makes no stream, and gives no host reader one
 pub record Rests (part : Part) (reply : Reply) : Type 0 where
   pub idle : is_idle part ≡ true
   pub untold : code_told reply ≡ None
   pub unmade : (s : ℕ) → is_made_by s part reply ≡ false
+  pub unpiped : (s : ℕ) → is_piped_in s part reply ≡ false
 
--- a read end is dropped, or closed, and its host writer goes with it
+-- an end is dropped, or closed, and the host end on the other side goes with it
 pub record Forsakes (old : State) (act : Act) (reply : Reply) (new : State) : Type 0 where
   pub stream : ℕ
-  pub writer : ℕ
-  pub gone : is_gone (stream_at (reaction old act).state stream).reader.owner ≡ true
-  pub owner : (stream_at (reaction old act).state stream).writer.owner ≡ Host writer
+  pub side : Side
+  pub host : ℕ
+  pub gone : is_gone (end_of side (stream_at (reaction old act).state stream)).owner ≡ true
+  pub owner : (end_of (opposite side) (stream_at (reaction old act).state stream)).owner ≡ Host host
+  pub dropped_is : stream_at (reaction old act).state stream ≡ dropped side (stream_at old stream)
   pub others : (k : ℕ) → k ≢ stream → stream_at (reaction old act).state k ≡ stream_at old k
   pub done : (reaction old act).reply ≡ replies.Done
   pub drops : is_idle (Acts act) ≡ false
   pub reply_is : reply ≡ (reaction old act).reply
-  pub is : new ≡ forsaken_by (reaction old act).state stream writer
+  pub is : new ≡ forsaken_by side (reaction old act).state stream host
 
 pub data Effect (old : State) (part : Part) (reply : Reply) (new : State) : Type 0 where
   ByReaction : (act : Act) → part ≡ Acts act → is_idle part ≡ false → reply ≡ (reaction old act).reply → new ≡ (reaction old act).state → Effect old part reply new
   ByRest : Rests part reply → new ≡ old → Effect old part reply new
   ByHosting : (n : ℕ) → part ≡ Acts (OnHost n New) → Hosts old n reply new → Effect old part reply new
-  ByDriving : (s : ℕ) → part ≡ Turns s → reply ≡ replies.Done → Driven old new s → Effect old part reply new
-  ByReading : (end : NamedEnd) (address count : ℕ) → part ≡ Acts (OnEnd Reading end (Operate address count)) → Reads old end address count reply new → Effect old part reply new
+  ByPiping : (s r : ℕ) → part ≡ Acts (OnHost r (Pipe s)) → Pipes old s r reply new → Effect old part reply new
+  ByDriving : (side : Side) (s : ℕ) → part ≡ Turns s → reply ≡ replies.Done → Driven side old new s → Effect old part reply new
+  ByCalling : (side : Side) (end : NamedEnd) (address count : ℕ) → part ≡ Acts (OnEnd side end (Operate address count)) → Calls side old end address count reply new → Effect old part reply new
   ByForsaking : (act : Act) → part ≡ Acts act → Forsakes old act reply new → Effect old part reply new
 
 -- what a part does in this world
@@ -135,26 +172,33 @@ Going_maps P Q Stuck f h = tt
 
 -- ## A turn in a drive round
 
--- a turn that goes on tells nothing of its own
-abbrev TurnsDone : ℕ → ℕ → Operation → World → Reply → World → Type 0
-TurnsDone s n read w reply v = Turned w.state v.state s n read × (reply ≡ replies.Done)
+-- nothing is done
+rests : (w : World) (s : ℕ) → EffectIn w (Turns s) replies.Done w
+rests w s = ByRest (record { idle = refl; untold = refl; unmade = λ k. refl; unpiped = λ k. refl }) refl
 
-open_effect : (w : World) (s n : ℕ) (o : Option Operation) → (stream_in w s).writer.owner ≡ Host n → (stream_in w s).reader.operation ≡ o → Going (EffectIn w (Turns s)) (if_open w o (producer_turn w s n))
-open_effect w s n None e f = ByRest (record { idle = refl; untold = refl; unmade = λ k. refl }) refl
-open_effect w s n (Some read) e f =
-    cond_both read.is_open _ _ (Going (EffectIn w (Turns s)))
-    (λ open_. Going_maps (TurnsDone s n read w) (EffectIn w (Turns s)) (producer_turn w s n read)
-    (λ reply v t. ByDriving s refl t.1 (record { writer = n; read = read; owner = e; waits = f; open_ = open_; turned = t.0 }))
-    (turn_done s n read w e))
-    (λ shut. ByRest (record { idle = refl; untold = refl; unmade = λ k. refl }) refl)
+-- what comes of each of these turns of host end n at stream s
+abbrev AllTurn : World → ℕ → ℕ → Side → (Operation → Outcome) → Type 0
+AllTurn w s n side turn = (operation : Operation) → Going (TurnsDone side s n operation w) (turn operation)
 
-driven_effect : (w : World) (s : ℕ) (owner : Owner) → (stream_in w s).writer.owner ≡ owner → Going (EffectIn w (Turns s)) (driven_by w s (stream_in w s) owner)
-driven_effect w s (Host n) e = open_effect w s n (stream_in w s).reader.operation e refl
-driven_effect w s _ e = ByRest (record { idle = refl; untold = refl; unmade = λ k. refl }) refl
+open_effect : (w : World) (s n : ℕ) (side : Side) (o : Option Operation) (turn : Operation → Outcome) → AllTurn w s n side turn → (end_of (opposite side) (stream_in w s)).owner ≡ Host n → (end_of side (stream_in w s)).operation ≡ o
+    → Going (EffectIn w (Turns s)) (if_open w o turn)
+open_effect w s n side None turn h e f = rests w s
+open_effect w s n side (Some operation) turn h e f =
+    cond_both operation.is_open _ _ (Going (EffectIn w (Turns s)))
+    (λ open_. Going_maps (TurnsDone side s n operation w) (EffectIn w (Turns s)) (turn operation)
+    (λ reply v t. ByDriving side s refl t.1 (record { host = n; operation = operation; owner = e; waits = f; open_ = open_; turned = t.0 }))
+    (h operation))
+    (λ shut. rests w s)
+
+driven_effect : (w : World) (s : ℕ) (writer reader : Owner) → (stream_in w s).writer.owner ≡ writer → (stream_in w s).reader.owner ≡ reader → Going (EffectIn w (Turns s)) (driven_by w s (stream_in w s) writer reader)
+driven_effect w s (Host n) (Host r) e f = rests w s
+driven_effect w s (Host n) _ e f = open_effect w s n Reading (stream_in w s).reader.operation (producer_turn w s n) (λ read. turn_done s n read w e) e refl
+driven_effect w s _ (Host r) e f = open_effect w s r Writing (stream_in w s).writer.operation (consumer_turn w s r) (λ write. taking_done s r write w f) f refl
+driven_effect w s _ _ e f = rests w s
 
 drive_effect : (w : World) (s : ℕ) → Going (EffectIn w (Turns s)) (drive_turn w s)
 unfolding drive_turn
-drive_effect w s = driven_effect w s (stream_in w s).writer.owner refl
+drive_effect w s = driven_effect w s (stream_in w s).writer.owner (stream_in w s).reader.owner refl refl
 
 -- ## What the machine does without host ends
 
@@ -173,136 +217,191 @@ reacts_is w act = replied_is w act (reaction w.state act).reply refl
 reacts_effect : (w : World) (act : Act) → is_idle (Acts act) ≡ false → Going (EffectIn w (Acts act)) (reacts w act)
 reacts_effect w act i = Going_maps (IsOf w act) (EffectIn w (Acts act)) (reacts w act) (λ reply v p. ByReaction act refl i p.0 p.1) (reacts_is w act)
 
--- ## A read of a host writer
+-- ## A read of a host writer, a write to a host reader
 
-module _ (w : World) (end : NamedEnd) (address count n : ℕ) where
+module _ (side : Side) (w : World) (end : NamedEnd) (address count n : ℕ) where
   abbrev at_end : ℕ
   at_end = stream_named (named w.state end)
 
-  abbrev read_begun : Operation
-  read_begun = begun end.guest address (items_asked end.ty count)
+  abbrev operation : Operation
+  operation = begun end.guest address (items_asked end.ty count)
 
-  abbrev reading : Part
-  reading = Acts (OnEnd Reading end (Operate address count))
+  abbrev calling : Part
+  calling = Acts (OnEnd side end (Operate address count))
 
-  module _ (unrefused : refusal w.state (OnEnd Reading end (Operate address count)) ≡ None) (o : (stream_in w at_end).writer.owner ≡ Host n) where
-    reads_by : (v : World) (report : Option ReturnCode) → report_on Reading (stream_in v at_end) ≡ report → Turned (opened_by w.state at_end read_begun) v.state at_end n read_begun
-        → Going (EffectIn w reading) (answered_with v at_end Reading report)
-    reads_by v (Some code) e t = ByReading end address count refl (record {
-      writer = n;
+  -- the world in which it is open
+  abbrev open_world : World
+  open_world = with_stream_in w at_end (with_operation side (stream_in w at_end) operation)
+
+  module _ (unrefused : refusal w.state (OnEnd side end (Operate address count)) ≡ None) (o : (end_of (opposite side) (stream_in w at_end)).owner ≡ Host n) where
+    answers_by : (v : World) (report : Option ReturnCode) → report_on side (stream_in v at_end) ≡ report → Turned side (opened_by side w.state at_end operation) v.state at_end n operation
+        → Going (EffectIn w calling) (answered_with v at_end side report)
+    answers_by v (Some code) e t = ByCalling side end address count refl (record {
+      host = n;
       mid = v.state;
       unrefused = unrefused;
       owner = o;
       turned = t;
       reply_is = ap (λ c. replies.Code (code_answered c)) (sym e);
-      is = with_stream_in-kept v at_end (delivered Reading (stream_in v at_end)) (delivered-owner (stream_in v at_end));
+      is = with_stream_in-kept v at_end (delivered side (stream_in v at_end)) (delivered-owners side (stream_in v at_end));
     })
-    reads_by v None e t = ByReading end address count refl (record {
-      writer = n;
+    answers_by v None e t = ByCalling side end address count refl (record {
+      host = n;
       mid = v.state;
       unrefused = unrefused;
       owner = o;
       turned = t;
       reply_is = ap (λ c. replies.Code (code_answered c)) (sym e);
-      is = sym (told-nothing v.state at_end e);
+      is = sym (told-nothing v.state at_end side e);
     })
 
-    abbrev TurnedFromOpened : Reply → World → Type 0
-    TurnedFromOpened reply v = Turned (opened_by w.state at_end read_begun) v.state at_end n read_begun
+    then_answers : (o : Outcome) → Going (TurnsDone side at_end n operation open_world) o → Going (EffectIn w calling) (then_on o (λ after. answered after at_end side))
+    then_answers (Goes reply v) t =
+        let stream = with_operation side (stream_in w at_end) operation in
+        let is : open_world.state ≡ opened_by side w.state at_end operation = with_stream_in-kept w at_end stream (with_end-owners side (stream_in w at_end) (record (end_of side (stream_in w at_end)) { operation = Some operation }) refl) in
+        answers_by v (report_on side (stream_in v at_end)) refl (subst (λ (x : State). Turned side x v.state at_end n operation) is t.0)
+    then_answers (Stops stop writers readers) t = tt
+    then_answers Stuck t = tt
 
-    then_reads : (o : Outcome) → Going TurnedFromOpened o → Going (EffectIn w reading) (then_on o (λ after. answered after at_end Reading))
-    then_reads (Goes reply v) t = reads_by v (report_on Reading (stream_in v at_end)) refl t
-    then_reads (Stops stop writers readers) t = tt
-    then_reads Stuck t = tt
-
-    reads_effect : Going (EffectIn w reading) (reads_from w at_end n read_begun)
-    reads_effect =
-        let stream = with_operation Reading (stream_in w at_end) read_begun in
-        let v = with_stream_in w at_end stream in
-        let is : v.state ≡ opened_by w.state at_end read_begun = with_stream_in-kept w at_end stream refl in
-        let owned : (stream_in v at_end).writer.owner ≡ Host n =
-        ap (λ (x : State). (stream_at x at_end).writer.owner) is ∙ set-keeps (λ (x : Stream). x.writer.owner) w.state.streams at_end at_end stream no_stream refl ∙ o in
-        then_reads (producer_turn v at_end n read_begun)
-        (subst (λ (x : State). Going (λ reply u. Turned x u.state at_end n read_begun) (producer_turn v at_end n read_begun)) is
-        (turn_turned at_end n read_begun v owned))
+  -- the host end has the other side then
+  owned_then : (end_of (opposite side) (stream_in w at_end)).owner ≡ Host n → (end_of (opposite side) (stream_in open_world at_end)).owner ≡ Host n
+  owned_then o =
+      ap (λ xs. (end_of (opposite side) (get_or xs at_end no_stream)).owner) (written-streams w at_end (with_operation side (stream_in w at_end) operation))
+      ∙ set-keeps (λ (x : Stream). (end_of (opposite side) x).owner) w.state.streams at_end at_end (with_operation side (stream_in w at_end) operation) no_stream (other side (stream_in w at_end))
+      ∙ o
+    where
+      other : (side : Side) (x : Stream) → (end_of (opposite side) (with_operation side x operation)).owner ≡ (end_of (opposite side) x).owner
+      other Writing x = refl
+      other Reading x = refl
 
 module _ (w : World) (end : NamedEnd) (address count : ℕ) where
+  -- the stream of this end
+  abbrev its_stream : ℕ
+  its_stream = stream_named (named w.state end)
+
   -- a read or write at this end
   abbrev call : Side → Act
   call side = OnEnd side end (Operate address count)
 
-  operates_effect : (side : Side) (owner : Owner) → refusal w.state (call side) ≡ None → (end_of (opposite side) (stream_in w (stream_named (named w.state end)))).owner ≡ owner → Going (EffectIn w (Acts (call side))) (operates_by w side end address count owner)
-  operates_effect Reading (Host n) r e = reads_effect w end address count n r e
+  -- the operation that it begins
+  abbrev begins : Operation
+  begins = begun end.guest address (items_asked end.ty count)
+
+  reads_effect : (n : ℕ) → refusal w.state (call Reading) ≡ None → (stream_in w its_stream).writer.owner ≡ Host n → Going (EffectIn w (Acts (call Reading))) (reads_from w its_stream n begins)
+  reads_effect n r o =
+      let v = with_stream_in w its_stream (with_operation Reading (stream_in w its_stream) begins) in
+      then_answers Reading w end address count n r o (producer_turn v its_stream n begins) (turn_done its_stream n begins v (owned_then Reading w end address count n o))
+
+  writes_effect : (r : ℕ) → refusal w.state (call Writing) ≡ None → (stream_in w its_stream).reader.owner ≡ Host r → Going (EffectIn w (Acts (call Writing))) (writes_to w its_stream r begins)
+  writes_effect r u o =
+      let v = with_stream_in w its_stream (with_operation Writing (stream_in w its_stream) begins) in
+      then_answers Writing w end address count r u o (consumer_turn v its_stream r begins) (taking_done its_stream r begins v (owned_then Writing w end address count r o))
+
+  operates_effect : (side : Side) (owner : Owner) → refusal w.state (call side) ≡ None → (end_of (opposite side) (stream_in w its_stream)).owner ≡ owner → Going (EffectIn w (Acts (call side))) (operates_by w side end address count owner)
+  operates_effect Reading (Host n) r e = reads_effect n r e
+  operates_effect Writing (Host n) r e = writes_effect n r e
   operates_effect side _ r e = reacts_effect w (call side) refl
 
 -- ## Ends that are dropped
 
--- the read end of stream s is gone after this step, and its write end is whose it was
-pub record DropsRead (state : State) (act : Act) (s : ℕ) : Type 0 where
-  pub gone : is_gone (stream_at (reaction state act).state s).reader.owner ≡ true
-  pub owner : (stream_at (reaction state act).state s).writer.owner ≡ (stream_at state s).writer.owner
+-- the end on a side of stream s is gone after this step, and the other one is whose it was
+pub record DropsEnd (state : State) (act : Act) (s : ℕ) (side : Side) : Type 0 where
+  pub gone : is_gone (end_of side (stream_at (reaction state act).state s)).owner ≡ true
+  pub owner : (end_of (opposite side) (stream_at (reaction state act).state s)).owner ≡ (end_of (opposite side) (stream_at state s)).owner
+  pub dropped_is : stream_at (reaction state act).state s ≡ dropped side (stream_at state s)
   pub others : (k : ℕ) → k ≢ s → stream_at (reaction state act).state k ≡ stream_at state k
   pub done : (reaction state act).reply ≡ replies.Done
   pub drops : is_idle (Acts act) ≡ false
 
-module _ (w : World) (s : ℕ) (act : Act) (n : ℕ) (d : DropsRead w.state act s) (o : (stream_in w s).writer.owner ≡ Host n) where
-  forsaken_effect : (reply : Reply) (v : World) → IsOf w act reply v → EffectIn w (Acts act) reply (with_stream_in v s (forsaken Reading (stream_in v s)))
+-- a stream whose host end across goes, by its owners
+forsaken_gone : (side : Side) (stream : Stream) → (end_of (opposite side) (forsaken side stream)).owner ≡ Gone
+forsaken_gone Writing stream = refl
+forsaken_gone Reading stream = refl
+
+forsaken_stays : (side : Side) (stream : Stream) → (end_of (opposite (opposite side)) (forsaken side stream)).owner ≡ (end_of (opposite (opposite side)) stream).owner
+forsaken_stays Writing stream = refl
+forsaken_stays Reading stream = refl
+
+module _ (w : World) (s : ℕ) (side : Side) (act : Act) (n : ℕ) (d : DropsEnd w.state act s side) (o : (end_of (opposite side) (stream_in w s)).owner ≡ Host n) where
+  forsaken_effect : (reply : Reply) (v : World) → IsOf w act reply v → EffectIn w (Acts act) reply (with_stream_in v s (forsaken side (stream_in v s)))
   forsaken_effect reply v p =
-      let owned : (stream_in v s).writer.owner ≡ Host n = ap (λ (x : State). (stream_at x s).writer.owner) p.1 ∙ d.owner ∙ o in
+      let owned : (end_of (opposite side) (stream_in v s)).owner ≡ Host n = ap (λ (x : State). (end_of (opposite side) (stream_at x s)).owner) p.1 ∙ d.owner ∙ o in
       ByForsaking act refl (record {
         stream = s;
-        writer = n;
+        side = side;
+        host = n;
         gone = d.gone;
         owner = d.owner ∙ o;
+        dropped_is = d.dropped_is;
         others = d.others;
         done = d.done;
         drops = d.drops;
         reply_is = p.0;
-        is = with_stream_in-gone v s n (forsaken Reading (stream_in v s)) owned refl ∙ ap (λ (x : State). forsaken_by x s n) p.1;
+        is =
+            with_stream_in-gone (opposite side) v s n (forsaken side (stream_in v s)) owned (forsaken_gone side (stream_in v s)) (forsaken_stays side (stream_in v s))
+            ∙ ap (λ (x : State). forsaken_by side x s n) p.1;
       })
 
-  forsakes_effect : (o : Outcome) → Going (IsOf w act) o → Going (EffectIn w (Acts act)) (forsakes o s Reading)
+  forsakes_effect : (o : Outcome) → Going (IsOf w act) o → Going (EffectIn w (Acts act)) (forsakes o s side)
   forsakes_effect (Goes reply v) h = forsaken_effect reply v h
   forsakes_effect (Stops stop writers readers) h = tt
   forsakes_effect Stuck h = tt
 
-drops_effect : (w : World) (s : ℕ) (side : Side) (act : Act) → is_idle (Acts act) ≡ false → is_host (stream_in w s).reader.owner ≡ false → (side ≡ Reading → is_host (stream_in w s).writer.owner ≡ true → DropsRead w.state act s) → Going (EffectIn w (Acts act)) (drops_in w s side act)
-drops_effect w s Writing act i unpiped d =
-    subst (λ b. Going (EffectIn w (Acts act)) (cond b (forsakes (reacts w act) s Writing) (reacts w act))) (sym unpiped) (reacts_effect w act i)
-drops_effect w s Reading act i unpiped d =
-    cond_both (is_host (stream_in w s).writer.owner) _ _ (Going (EffectIn w (Acts act)))
-    (λ e. let host = host_number (stream_in w s).writer.owner e in forsakes_effect w s act host.0 (d refl e) host.1 (reacts w act) (reacts_is w act))
+drops_effect : (w : World) (s : ℕ) (side : Side) (act : Act) → is_idle (Acts act) ≡ false → (is_host (end_of (opposite side) (stream_in w s)).owner ≡ true → DropsEnd w.state act s side) → Going (EffectIn w (Acts act)) (drops_in w s side act)
+drops_effect w s side act i d =
+    cond_both (is_host (end_of (opposite side) (stream_in w s)).owner) _ _ (Going (EffectIn w (Acts act)))
+    (λ e. let host = host_number (end_of (opposite side) (stream_in w s)).owner e in forsakes_effect w s side act host.0 (d e) host.1 (reacts w act) (reacts_is w act))
     (λ e. reacts_effect w act i)
 
-pub host_made : (state : State) (s : ℕ) → is_host (stream_at state s).writer.owner ≡ true → s < length state.streams
-host_made state s e =
+pub host_made : (state : State) (s : ℕ) (side : Side) → is_host (end_of side (stream_at state s)).owner ≡ true → s < length state.streams
+host_made state s side e =
     elim (cases_lt s (length state.streams)) [
       | inl l ↦ l
-      | inr l ↦ absurd (let none : is_host (stream_at state s).writer.owner ≡ false = ap (λ (st : Stream). is_host st.writer.owner) (get_or_past state.streams s no_stream l) in cc)
+      | inr l ↦ absurd (let none : is_host (end_of side (stream_at state s)).owner ≡ false = ap (λ (st : Stream). is_host (end_of side st).owner) (get_or_past state.streams s no_stream l) ∙ nobody side in cc)
     ]
+  where
+    nobody : (side : Side) → is_host (end_of side no_stream).owner ≡ false
+    nobody Writing = refl
+    nobody Reading = refl
 
 -- a part that names no host end
 part_busy : (act : Act) → names_none act ≡ true → is_idle (Acts act) ≡ false
 part_busy (OnHost n act) e = cc
 part_busy _ e = refl
 
--- where nothing refuses it, an act that drops an end of stream s does so
-drops_read : (w : World) (act : Act) (s : ℕ) → IsDrop w.state act s Reading → w.state.trapped ≡ false → refusal_in w act ≡ None → is_host (stream_in w s).writer.owner ≡ true → DropsRead w.state act s
+-- the stream of an end that is dropped
+dropped_gone : (side : Side) (stream : Stream) → is_gone (end_of side (dropped side stream)).owner ≡ true
 unfolding dropped
-drops_read w act s d t e h =
+dropped_gone Writing stream = refl
+dropped_gone Reading stream = refl
+
+dropped_other : (side : Side) (stream : Stream) → (end_of (opposite side) (dropped side stream)).owner ≡ (end_of (opposite side) stream).owner
+unfolding dropped
+dropped_other Writing stream = refl
+dropped_other Reading stream = refl
+
+-- where nothing refuses it, an act that drops an end of stream s does so
+drops_end : (w : World) (act : Act) (s : ℕ) (side : Side) → IsDrop w.state act s side → w.state.trapped ≡ false → refusal_in w act ≡ None → is_host (end_of (opposite side) (stream_in w s)).owner ≡ true → DropsEnd w.state act s side
+drops_end w act s side d t e h =
     let state = w.state in
     let is = reaction-performs state act t (sym (refusal-none w act d.hostless) ∙ e) in
-    let streams : (reaction state act).state.streams ≡ set state.streams s (dropped Reading (stream_at state s)) = ap (λ (r : Reaction). r.state.streams) is ∙ d.streams in
-    let new = dropped Reading (stream_at state s) in
+    let new = dropped side (stream_at state s) in
+    let streams : (reaction state act).state.streams ≡ set state.streams s new = ap (λ (r : Reaction). r.state.streams) is ∙ d.streams in
     record {
-      gone = ap (λ xs. is_gone (get_or xs s no_stream).reader.owner) streams ∙ ap (λ (x : Stream). is_gone x.reader.owner) (get_or-set_same state.streams s new no_stream (host_made state s h));
-      owner = ap (λ xs. (get_or xs s no_stream).writer.owner) streams ∙ set-keeps (λ (x : Stream). x.writer.owner) state.streams s s new no_stream refl;
+      gone =
+          ap (λ xs. is_gone (end_of side (get_or xs s no_stream)).owner) streams
+          ∙ ap (λ (x : Stream). is_gone (end_of side x).owner) (get_or-set_same state.streams s new no_stream (host_made state s (opposite side) h))
+          ∙ dropped_gone side (stream_at state s);
+      owner =
+          ap (λ xs. (end_of (opposite side) (get_or xs s no_stream)).owner) streams
+          ∙ set-keeps (λ (x : Stream). (end_of (opposite side) x).owner) state.streams s s new no_stream (dropped_other side (stream_at state s));
+      dropped_is = ap (λ xs. get_or xs s no_stream) streams ∙ get_or-set_same state.streams s new no_stream (host_made state s (opposite side) h);
       others = λ k ne. ap (λ xs. get_or xs k no_stream) streams ∙ get_or-set_other state.streams s k new no_stream ne;
       done = ap (λ (r : Reaction). r.reply) is ∙ d.done;
       drops = part_busy act d.hostless;
     }
 
--- ## Every part
+-- ## Host ends that become ends of streams
 
 hosts_effect : (w : World) (n : ℕ) → refusal_in w (OnHost n New) ≡ None → Going (EffectIn w (Acts (OnHost n New))) (hosts_new w n)
 unfolding hosts_new
@@ -319,10 +418,79 @@ hosts_effect w n e =
       is = refl;
     })
 
-module _ (w : World) (unpiped : (s : ℕ) → is_host (stream_in w s).reader.owner ≡ false) (t : w.state.trapped ≡ false) where
+-- a stream whose read end is loose was made
+pub loose_made : (state : State) (s : ℕ) → is_loose (stream_at state s).reader.owner ≡ true → s < length state.streams
+loose_made state s e =
+    elim (cases_lt s (length state.streams)) [
+      | inl l ↦ l
+      | inr l ↦ absurd (let none : is_loose (stream_at state s).reader.owner ≡ false = ap (λ (st : Stream). is_loose st.reader.owner) (get_or_past state.streams s no_stream l) in cc)
+    ]
+
+module _ (w : World) (s r : ℕ) (loose : is_loose (stream_in w s).reader.owner ≡ true) where
+  abbrev reader_kept : World
+  reader_kept = with_consumer w r (record no_consumer { duty = Serves s })
+
+  abbrev the_pipe : Stream
+  the_pipe = piped (stream_in w s) r
+
+  made : s < length w.state.streams
+  made = loose_made w.state s loose
+
+  -- no host end goes when a read end does from being loose to a host reader
+  loose_only : (owner : Owner) → is_loose owner ≡ true → owner ≡ Loose
+  loose_only Loose e = refl
+  loose_only _ e = cc
+
+  pub pipe_is : (with_stream_in reader_kept s the_pipe).state ≡ piped_in w.state s r
+  unfolding with_stream_in
+  pipe_is =
+      let after = with_state reader_kept (record reader_kept.state { streams = set w.state.streams s the_pipe }) in
+      let writer = (stream_in w s).writer.owner in
+      ap (λ o. (leaves_writer writer writer (leaves_reader o (Host r) after)).state) (loose_only (stream_in w s).reader.owner loose)
+      ∙ ap (λ (x : World). x.state) (leaves_writer-stays writer after)
+
+  here : stream_in (with_stream_in reader_kept s the_pipe) s ≡ the_pipe
+  here = ap (λ xs. get_or xs s no_stream) (written-streams reader_kept s the_pipe) ∙ get_or-set_same w.state.streams s the_pipe no_stream made
+
+  -- both ends are gone
+  dry_effect : (owner : Owner) → (stream_in w s).writer.owner ≡ owner → is_dry reader_kept owner ≡ true → Piped w.state s r (with_stream_in (with_stream_in reader_kept s the_pipe) s (without_ends the_pipe)).state
+  dry_effect Gone e d =
+      ByGone e
+      (with_stream_in-gone Reading (with_stream_in reader_kept s the_pipe) s r (without_ends the_pipe) (ap (λ (x : Stream). x.reader.owner) here) refl (sym (ap (λ (x : Stream). x.writer.owner) here ∙ e))
+      ∙ ap (λ (x : State). with_done Reading x s r (without_ends the_pipe)) pipe_is)
+  dry_effect (Host n) e d =
+      ByDry n e
+      (with_stream_in-both (with_stream_in reader_kept s the_pipe) s n r (without_ends the_pipe) (ap (λ (x : Stream). x.writer.owner) here ∙ e) refl (ap (λ (x : Stream). x.reader.owner) here) refl
+      ∙ ap (λ (x : State). with_stream_at (with_ended Writing (with_ended Reading x r) n) s (without_ends the_pipe)) pipe_is)
+  dry_effect _ e d = cc
+
+pipes_effect : (w : World) (s r : ℕ) → refusal_in w (OnHost r (Pipe s)) ≡ None → Going (EffectIn w (Acts (OnHost r (Pipe s)))) (pipes w s r)
+unfolding pipes
+pipes_effect w s r e =
+    let new = is_new_reader w r s e in
+    let v = with_consumer w r (record no_consumer { duty = Serves s }) in
+    let stream = piped (stream_in w s) r in
+    let after = with_stream_in v s stream in
+    ByPiping s r refl (record {
+      known = new.known;
+      unused = new.unused;
+      loose = new.loose;
+      made = loose_made w.state s new.loose;
+      reply_is = refl;
+      ends =
+          cond_both (is_dry v stream.writer.owner) (with_stream_in after s (without_ends stream)) after (λ (x : World). Piped w.state s r x.state)
+          (λ dry. dry_effect w s r new.loose (stream_in w s).writer.owner refl dry)
+          (λ wet. ByStaying (pipe_is w s r new.loose));
+    })
+
+-- ## Every part
+
+module _ (w : World) (t : w.state.trapped ≡ false) where
   on_host_effect : (n : ℕ) (act : HostAct) → refusal_in w (OnHost n act) ≡ None → Going (EffectIn w (Acts (OnHost n act))) (on_host w n act)
   on_host_effect n New e = hosts_effect w n e
-  on_host_effect n (Feed bytes) e = ByRest (record { idle = refl; untold = refl; unmade = λ k. refl }) refl
+  on_host_effect n (Feed bytes) e = ByRest (record { idle = refl; untold = refl; unmade = λ k. refl; unpiped = λ k. refl }) refl
+  on_host_effect r (Pipe s) e = pipes_effect w s r e
+  on_host_effect r (Grant count) e = ByRest (record { idle = refl; untold = refl; unmade = λ k. refl; unpiped = λ k. refl }) refl
 
   performs_effect : (act : Act) → is_part (Acts act) ≡ true → refusal_in w act ≡ None → Going (EffectIn w (Acts act)) (performs_in w act)
   unfolding performs_in
@@ -331,9 +499,7 @@ module _ (w : World) (unpiped : (s : ℕ) → is_host (stream_in w s).reader.own
       (record {
         operated = λ side end address count p e.
             operates_effect w end address count side _ (sym (refusal_in-on_end w side end (Operate address count)) ∙ e) refl;
-        dropped = λ act s side d p e.
-            drops_effect w s side act (part_busy act d.hostless) (unpiped s)
-            (λ r h. drops_read w act s (subst (IsDrop w.state act s) r d) t e h);
+        dropped = λ act s side d p e. drops_effect w s side act (part_busy act d.hostless) (drops_end w act s side d t e);
         hosted = λ n act p e. on_host_effect n act e;
         driven = λ p e. cc;
         alone = λ act n p e. reacts_effect w act (part_busy act n);
@@ -341,8 +507,10 @@ module _ (w : World) (unpiped : (s : ℕ) → is_host (stream_in w s).reader.own
 
   -- one that is refused
   refused_effect : (act : Act) (r : Refusal) → refusal_in w act ≡ Some r → EffectIn w (Acts act) (replies.Refused r) w
-  refused_effect (OnHost n New) r e = ByRest (record { idle = refl; untold = refl; unmade = λ k. refl }) refl
-  refused_effect (OnHost n (Feed bytes)) r e = ByRest (record { idle = refl; untold = refl; unmade = λ k. refl }) refl
+  refused_effect (OnHost n New) r e = ByRest (record { idle = refl; untold = refl; unmade = λ k. refl; unpiped = λ k. refl }) refl
+  refused_effect (OnHost n (Feed bytes)) r e = ByRest (record { idle = refl; untold = refl; unmade = λ k. refl; unpiped = λ k. refl }) refl
+  refused_effect (OnHost n (Pipe s)) r e = ByRest (record { idle = refl; untold = refl; unmade = λ k. refl; unpiped = λ k. refl }) refl
+  refused_effect (OnHost n (Grant count)) r e = ByRest (record { idle = refl; untold = refl; unmade = λ k. refl; unpiped = λ k. refl }) refl
   refused_effect act r e =
       let is = reaction-refused w.state act r t (sym (refusal-none w act refl) ∙ e) in
       ByReaction act refl refl (ap (λ (x : Reaction). x.reply) (sym is)) (ap (λ (x : Reaction). x.state) (sym is))
@@ -351,19 +519,19 @@ module _ (w : World) (unpiped : (s : ℕ) → is_host (stream_in w s).reader.own
   unless_effect act (Some r) p e = refused_effect act r e
   unless_effect act None p e = performs_effect act p e
 
-outcome_effect : (w : World) (act : Act) → ((s : ℕ) → is_host (stream_in w s).reader.owner ≡ false) → is_part (Acts act) ≡ true → Going (EffectIn w (Acts act)) (outcome w act)
+outcome_effect : (w : World) (act : Act) → is_part (Acts act) ≡ true → Going (EffectIn w (Acts act)) (outcome w act)
 unfolding outcome
-outcome_effect w act unpiped p =
+outcome_effect w act p =
     cond_both w.state.trapped _ _ (Going (EffectIn w (Acts act)))
     (λ t. tt)
-    (λ t. unless_effect w unpiped t act (refusal_in w act) p refl)
+    (λ t. unless_effect w t act (refusal_in w act) p refl)
 
-part_effect : (w : World) (part : Part) → ((s : ℕ) → is_host (stream_in w s).reader.owner ≡ false) → is_part part ≡ true → Going (EffectIn w part) (part_on w part)
-part_effect w (Acts act) unpiped p = outcome_effect w act unpiped p
-part_effect w (Turns s) unpiped p = drive_effect w s
+part_effect : (w : World) (part : Part) → is_part part ≡ true → Going (EffectIn w part) (part_on w part)
+part_effect w (Acts act) p = outcome_effect w act p
+part_effect w (Turns s) p = drive_effect w s
 
--- what a moment of a run did to the state, where no host end has a read end
-pub follows_effect : (world : World) (m : HostMoment) → Follows world m → ((s : ℕ) → is_host (stream_in world s).reader.owner ≡ false) → Effect world.state m.part m.reply m.after.state
-follows_effect world m f unpiped =
+-- what a moment of a run did to the state
+pub follows_effect : (world : World) (m : HostMoment) → Follows world m → Effect world.state m.part m.reply m.after.state
+follows_effect world m f =
     let goes = subst (λ (w : World). part_on w m.part ≡ Goes m.reply m.after) f.begins f.goes in
-    subst (Going (EffectIn world m.part)) goes (part_effect world m.part unpiped f.part)
+    subst (Going (EffectIn world m.part)) goes (part_effect world m.part f.part)

@@ -2,29 +2,32 @@
 use Rattle.std.proofs.Common.{◌≡◌, ℕ, zero, suc, ◌+◌, ◌-◌, ◌<◌, true, false, cond, List, [], ◌∷◌, ◌++◌, length, take, get_or, set, Option, Some, None, refl, sym, ap, subst, ◌∙◌, inl, inr, arith, append_assoc, append-nil, length-append}
 use Rattle.std.proofs.lemmas.Bool.{cases_eq, cond_both, eq-eqb, ne_eqb, or_parts}
 use Rattle.std.proofs.lemmas.List.{get_or-set_same, get_or-set_other}
-use Rattle.std.specs.Prelude.{nat_le}
+use Rattle.std.specs.Prelude.{nat_le, slice_set}
 use Rattle.std.specs.Option.{option_map}
 use Rattle.strm_codes.specs.declared.refusals.Refusal.{Refusal}
 use Rattle.strm_codes.specs.declared.refusals.Refusal.TheVariants as refusals
 use Rattle.strm_buffers.specs.Said.{WriterSaid}
 use Rattle.strm_buffers.specs.Tells.{Heard}
-use Rattle.strm_machine.specs.State.{host_limit}
+use Rattle.strm_machine.specs.State.{host_limit, no_consumer}
+use Rattle.strm_machine.specs.declared.streams.Duty.TheVariants.{Serves}
+use Rattle.strm_machine.specs.declared.streams.Stream.{Stream}
 use Rattle.strm_machine.specs.declared.acts.Act.TheVariants.{OnHost}
-use Rattle.strm_machine.specs.declared.acts.HostAct.TheVariants.{Feed}
+use Rattle.strm_machine.specs.declared.acts.HostAct.TheVariants.{Feed, Grant}
 use Rattle.strm_machine.specs.declared.steps.Step.{Step}
 use Rattle.strm_machine.specs.declared.streams.Owner.{Owner}
 use Rattle.strm_machine.specs.declared.streams.Owner.TheVariants.{Host, Gone}
 use Rattle.strm_machine.specs.declared.replies.Reply.{Reply}
 use Rattle.strm_machine.specs.declared.replies.Reply.TheVariants as replies
 use Rattle.strm_world.specs.Ends.{Writer, no_writer, polled_writer, given_writer, fed_writer, closed_writer}
-use Rattle.strm_world.specs.World.{World, writer_at, with_writer, leaves_writer, with_stream_in}
+use Rattle.strm_world.specs.World.{World, stream_in, writer_at, with_consumer, with_writer, leaves_writer, leaves_reader, with_stream_in}
+use Rattle.strm_world.specs.Attaching.{piped}
 use Rattle.strm_world.specs.Outcomes.{Goes}
 use Rattle.strm_world.specs.HostRefusals.{is_unknown_host, refusal_in}
 use Rattle.strm_world.specs.Steps.{performs_in, unless_refused_in, outcome}
 use Rattle.strm_host_laws.specs.HostMoments.{Part, Acts, HostMoment, part_on, host_moments, last_of}
 use Rattle.strm_host_laws.specs.HostLaws.{used, used_in, all_used, fed_in, all_fed, WriterGoesOn}
 use Rattle.strm_host_laws.proofs.Chains.{is_part, Follows, Chain, moments-chain}
-use Rattle.strm_host_laws.proofs.Goings.{Begins, Rules, Comes, IfGoes, is_feed, part-comes}
+use Rattle.strm_host_laws.proofs.Goings.{Begins, Rules, Comes, IfGoes, is_passing, part-comes, grant-comes}
 use Rattle.strm_machine.proofs.RefusalLemmas.{not_refused, not_le}
 
 -- WHAT HOLDS OF EACH HOST WRITER
@@ -57,33 +60,51 @@ module _ (P : Writer → Writer → Type 0) (of : OfWriters P) where
   leaves-each (Host n) _ w = λ k. of.same (writer_at w k)
   leaves-each _ new w = λ k. of.same (writer_at w k)
 
-  stream-each : (w : World) (s : ℕ) → ((old new : Owner) (v : World) → v.writers ≡ w.writers → OfEach w (leaves_writer old new v))
-  stream-each w s old new v e = λ k. subst (λ ws. P (get_or ws k no_writer) (writer_at (leaves_writer old new v) k)) e (leaves-each old new v k)
+  leaves_reader-writers : (old new : Owner) (w : World) → (leaves_reader old new w).writers ≡ w.writers
+  leaves_reader-writers (Host r) Gone w = refl
+  leaves_reader-writers (Host r) _ w = refl
+  leaves_reader-writers _ new w = refl
+
+  -- by the owners of a stream's ends before and then
+  ends-each : (w : World) → ((old new was is : Owner) (v : World) → v.writers ≡ w.writers → OfEach w (leaves_writer old new (leaves_reader was is v)))
+  ends-each w old new was is v e =
+      λ k. subst (λ ws. P (get_or ws k no_writer) (writer_at (leaves_writer old new (leaves_reader was is v)) k)) (leaves_reader-writers was is v ∙ e) (leaves-each old new (leaves_reader was is v) k)
+
+  stream-each : (w v : World) (s : ℕ) (stream : Stream) → v.writers ≡ w.writers → OfEach w (with_stream_in v s stream)
+  unfolding with_stream_in
+  stream-each w v s stream e =
+      let old = stream_in v s in
+      ends-each w old.writer.owner stream.writer.owner old.reader.owner stream.reader.owner (record v { state = record v.state { streams = slice_set v.state.streams s stream } }) e
 
   pub begins-each : Begins OfEach
-  unfolding with_stream_in
   begins-each = record {
     stays = λ w n. of.same (writer_at w n);
     joins = λ a b c f g n. of.joined (writer_at a n) (writer_at b n) (writer_at c n) (f n) (g n);
-    opens = λ w s stream e. stream-each w s _ _ _ refl;
+    opens = λ w s stream e. stream-each w w s stream refl;
     polls = λ w n room said more e. with-each w n (polled_writer (writer_at w n) room said more) (of.polled (writer_at w n) room said more e);
+    takes = λ w r took said more e n. of.same (writer_at w n);
   }
 
   pub rules-each : Rules OfEach
-  unfolding with_stream_in
   rules-each = record {
     begins = begins-each;
     reacts = λ w act n. of.same (writer_at w n);
     lowers = λ w guests n. of.same (writer_at w n);
     overs = λ w n answer k. of.same (writer_at w k);
     gives = λ w n k. with-each w n (given_writer (writer_at w n) k) (of.given (writer_at w n) k);
-    leaves = λ w s stream e. stream-each w s _ _ _ refl;
+    counts = λ w r answer taken n. of.same (writer_at w n);
+    leaves = λ w s stream l. stream-each w w s stream refl;
     hosts = λ w n e k. of.same (writer_at w k);
+    pipes = λ w s r e. stream-each w (with_consumer w r (record no_consumer { duty = Serves s })) s (piped (stream_in w s) r) refl;
   }
 
-  -- it holds of each after a part but a feed
-  pub part-each : (w : World) (part : Part) → is_part part ≡ true → is_feed part ≡ false → Comes OfEach OfEach w (part_on w part)
+  -- it holds of each after a part but a feed or a grant
+  pub part-each : (w : World) (part : Part) → is_part part ≡ true → is_passing part ≡ false → Comes OfEach OfEach w (part_on w part)
   part-each w part p f = part-comes OfEach OfEach rules-each begins-each w part p f
+
+  -- and after a grant
+  pub grant-each : (w : World) (r count : ℕ) → Comes OfEach OfEach w (part_on w (Acts (OnHost r (Grant count))))
+  grant-each w r count = grant-comes OfEach OfEach rules-each begins-each w r count (λ e n. of.same (writer_at w n))
 
 -- RECORDS
 
@@ -125,7 +146,7 @@ take-front (x ∷ xs) ys zero e = absurd (omega (arith, e))
 take-front (x ∷ xs) ys (suc n) e = ap (λ zs. x ∷ zs) (take-front xs ys n (omega (arith, e)))
 
 -- those that left the front are those used
-pub used_are : (before after said : List WriterSaid) → before ≡ said ++ after → used before after ≡ said
+pub used_are : {A : Type 0} (before after said : List A) → before ≡ said ++ after → used before after ≡ said
 used_are before after said e =
     let l = length-append said after in
     ap (λ xs. take (length xs - length after) xs) e
@@ -142,7 +163,7 @@ pub record Moves (n : ℕ) (part : Part) (reply : Reply) (a b : Writer) : Type 0
   pub kind : b.kind ≡ a.kind
   pub payload : b.payload ≡ a.payload
 
-heard_none : (x : Heard (List ℕ)) → x ≡ option_map (λ xs. xs ++ []) x
+pub heard_none : {A : Type 0} (x : Heard A) → x ≡ option_map (λ xs. xs ++ []) x
 heard_none None = refl
 heard_none (Some xs) = ap Some (sym (append-nil xs))
 
@@ -157,8 +178,9 @@ unheard n part reply a b e u = record {
   payload = u.payload;
 }
 
-unfed : (n spoken : ℕ) (part : Part) (reply : Reply) → is_feed part ≡ false → fed_in n spoken part reply ≡ []
+unfed : (n spoken : ℕ) (part : Part) (reply : Reply) → is_passing part ≡ false → fed_in n spoken part reply ≡ []
 unfed n spoken (Acts (OnHost host (Feed bytes))) reply e = cc
+unfed n spoken (Acts (OnHost host (Grant count))) reply e = refl
 unfed n spoken _ reply e = refl
 
 module _ (w : World) (host : ℕ) (bytes : List ℕ) where
@@ -214,6 +236,9 @@ module _ (w : World) (host : ℕ) (bytes : List ℕ) where
 part-moves : (w : World) (part : Part) (reply : Reply) (v : World) → is_part part ≡ true → part_on w part ≡ Goes reply v → (n : ℕ) → Moves n part reply (writer_at w n) (writer_at v n)
 part-moves w (Acts (OnHost host (Feed bytes))) reply v p e =
     subst (λ o. IfGoes o (AllMove w host bytes)) e (feed_moves w host bytes)
+part-moves w (Acts (OnHost host (Grant count))) reply v p e =
+    let h : OfEach Uses of_uses w v = subst (Comes (OfEach Uses of_uses) (OfEach Uses of_uses) w) e (grant-each Uses of_uses w host count) in
+    λ n. unheard n (Acts (OnHost host (Grant count))) reply (writer_at w n) (writer_at v n) refl (h n)
 part-moves w part reply v p e =
     let h : OfEach Uses of_uses w v = subst (Comes (OfEach Uses of_uses) (OfEach Uses of_uses) w) e (part-each Uses of_uses w part p refl) in
     λ n. unheard n part reply (writer_at w n) (writer_at v n) (unfed n (writer_at w n).spoken part reply refl) (h n)
@@ -222,7 +247,7 @@ pub moment-moves : (w : World) (m : HostMoment) → Follows w m → (n : ℕ) �
 moment-moves w m f n =
     subst (λ v. Moves n m.part m.reply (writer_at v n) (writer_at m.after n)) f.begins (part-moves m.before m.part m.reply m.after f.part f.goes n)
 
-heard_both : {A : Type 0} (x : Option (List A)) (f g : List A) → option_map (λ xs. xs ++ g) (option_map (λ xs. xs ++ f) x) ≡ option_map (λ xs. xs ++ (f ++ g)) x
+pub heard_both : {A : Type 0} (x : Option (List A)) (f g : List A) → option_map (λ xs. xs ++ g) (option_map (λ xs. xs ++ f) x) ≡ option_map (λ xs. xs ++ (f ++ g)) x
 heard_both None f g = refl
 heard_both (Some xs) f g = ap Some (append_assoc xs f g)
 

@@ -1,6 +1,6 @@
 -- What comes of a part of a run, by the changes that it is made of: what holds of each of them and from
 -- one to the next holds of the whole.
-use Rattle.std.proofs.Common.{◌≡◌, ◌==◌, ℕ, Bool, true, false, cond, List, [], ◌∷◌, length, take, drop, Option, Some, None, refl, ap, ◌∙◌}
+use Rattle.std.proofs.Common.{◌≡◌, ℕ, Bool, true, false, cond, List, [], ◌∷◌, length, take, drop, get_or, set, Option, Some, None, refl, sym, ap, subst, ◌∙◌, ◌⊎◌, inl, inr}
 use Rattle.std.proofs.lemmas.Bool.{cond_both}
 use Rattle.std.specs.Prelude.{slice_set}
 use Rattle.strm_codes.specs.declared.codes.ReturnCode.{ReturnCode}
@@ -8,10 +8,11 @@ use Rattle.strm_codes.specs.declared.codes.StreamResult.{StreamResult}
 use Rattle.strm_codes.specs.declared.codes.StreamResult.TheVariants as results
 use Rattle.strm_codes.specs.declared.refusals.Refusal.{Refusal}
 use Rattle.strm_buffers.specs.declared.answers.Answer.{Answer}
-use Rattle.strm_buffers.specs.HostRules.{breaks_as_writer}
+use Rattle.strm_buffers.specs.declared.answers.ReaderSaid.{ReaderSaid}
+use Rattle.strm_buffers.specs.HostRules.{breaks_as_writer, breaks_as_reader}
 use Rattle.strm_buffers.specs.Listing.{Item}
 use Rattle.strm_buffers.specs.Said.{WriterSaid}
-use Rattle.strm_machine.specs.State.{State, Guest, no_producer, producer_at, is_host}
+use Rattle.strm_machine.specs.State.{State, Guest, no_stream, no_producer, no_consumer, producer_at, consumer_at, is_host}
 use Rattle.strm_machine.specs.Sides.{opposite, end_of, with_operation}
 use Rattle.strm_machine.specs.Meetings.{begun}
 use Rattle.strm_machine.specs.Endings.{report_on, delivered}
@@ -21,7 +22,7 @@ use Rattle.strm_machine.specs.declared.acts.Act.{Act}
 use Rattle.strm_machine.specs.declared.acts.Act.TheVariants.{OnEnd, OnHost}
 use Rattle.strm_machine.specs.declared.acts.EndAct.TheVariants.{Operate}
 use Rattle.strm_machine.specs.declared.acts.HostAct.{HostAct}
-use Rattle.strm_machine.specs.declared.acts.HostAct.TheVariants.{New, Feed}
+use Rattle.strm_machine.specs.declared.acts.HostAct.TheVariants.{New, Feed, Pipe, Grant}
 use Rattle.strm_machine.specs.declared.acts.NamedEnd.{NamedEnd}
 use Rattle.strm_machine.specs.declared.streams.Duty.TheVariants.{Serves}
 use Rattle.strm_machine.specs.declared.streams.Owner.{Owner}
@@ -32,22 +33,24 @@ use Rattle.strm_machine.specs.declared.streams.Side.TheVariants.{Writing, Readin
 use Rattle.strm_machine.specs.declared.streams.Stream.{Stream}
 use Rattle.strm_machine.specs.declared.replies.Reply.{Reply}
 use Rattle.strm_machine.specs.declared.replies.Reply.TheVariants as replies
-use Rattle.strm_world.specs.Ends.{Writer, polled_writer, given_writer, fed_writer}
-use Rattle.strm_world.specs.World.{World, stream_in, writer_at, with_guests, with_producer, with_writer, leaves_writer, with_stream_in}
+use Rattle.strm_world.specs.Ends.{Writer, Reader, polled_writer, given_writer, fed_writer, polled_reader, granted_reader}
+use Rattle.strm_world.specs.World.{World, stream_in, writer_at, reader_at, with_guests, with_producer, with_consumer, with_writer, with_reader, leaves_writer, leaves_reader, with_stream_in}
 use Rattle.strm_world.specs.Outcomes.{Outcome, Goes, Stops, Stuck, then_on, done, of_reply}
-use Rattle.strm_world.specs.Polls.{AfterWriter, is_failed, is_writer_poll, writer_says}
-use Rattle.strm_world.specs.Settling.{moved_on, answered_with, answered}
+use Rattle.strm_world.specs.Polls.{AfterWriter, is_failed, is_writer_poll, writer_says, is_reader_poll, reader_says}
+use Rattle.strm_world.specs.Settling.{result_of, moved_on, answered_with, answered}
 use Rattle.strm_world.specs.Producing.{lowered, receives, with_over, produced_result, hands_over, produces, producer_turn}
-use Rattle.strm_world.specs.Attaching.{hosted_stream, with_new_stream, hosts_new, forsaken, forsakes}
+use Rattle.strm_world.specs.Consuming.{lifted, with_taken, gives_up, consumer_turn}
+use Rattle.strm_world.specs.Attaching.{hosted_stream, with_new_stream, hosts_new, piped, is_dry, without_ends, pipes, forsaken, forsakes}
 use Rattle.strm_world.specs.Driving.{if_open, driven_by, drive_turn}
 use Rattle.strm_world.proofs.TouchLemmas.{touch-by}
 use Rattle.strm_world.specs.HostRefusals.{refusal_in}
-use Rattle.strm_world.specs.Steps.{reacts, reads_from, operates_by, drops_in, on_host, performs_by, performs_in, unless_refused_in, outcome}
-use Rattle.strm_machine.specs.Turns.{with_received}
-use Rattle.strm_world.proofs.SettleLemmas.{is_done_with, moved_on-owner, leaves_writer-stays}
+use Rattle.strm_world.specs.Steps.{reacts, reads_from, writes_to, operates_by, drops_in, on_host, performs_by, performs_in, unless_refused_in, outcome}
+use Rattle.strm_world.proofs.SettleLemmas.{is_done_with, leaves_writer-stays, leaves_reader-stays, delivered-owners}
 use Rattle.strm_host_laws.specs.HostMoments.{Part, Acts, Turns, part_on}
 use Rattle.strm_host_laws.proofs.Chains.{is_part}
-use Rattle.strm_machine.proofs.Ways.{WriterStays, with_operation-stays}
+use Rattle.strm_machine.proofs.EndLemmas.{each_side}
+use Rattle.strm_machine.proofs.TableLemmas.{OwnersStay, set-keeps}
+use Rattle.strm_host_laws.proofs.TurnMoves.{moved_on-moves, moved-theirs, moved-mine}
 
 -- CHANGES
 
@@ -55,37 +58,63 @@ use Rattle.strm_machine.proofs.Ways.{WriterStays, with_operation-stays}
 abbrev pub with_state : World → State → World
 with_state w state = record w { state = state }
 
--- what is done before the first end may go: a read opens, and a host writer is polled
+-- the world after a turn of host reader r at stream s, by what it told
+abbrev pub gave_up : ℕ → ℕ → Operation → World → ReaderSaid → World
+gave_up s r write after said = gives_up (with_taken after r said.answer said.taken) s write said.taken said.answer
+
+-- another stream has the same owners and payload
+pub record SameOwned (old new : Stream) : Type 0 where
+  pub owners : OwnersStay old new
+  pub payload : new.payload ≡ old.payload
+
+-- an owner stays, or is gone
+abbrev pub StaysOrGone : Owner → Owner → Type 0
+StaysOrGone old new = (new ≡ old) ⊎ (new ≡ Gone)
+
+-- another stream has the same payload, and of each end the same owner or none
+pub record LeftBy (old new : Stream) : Type 0 where
+  pub owners : (side : Side) → StaysOrGone (end_of side old).owner (end_of side new).owner
+  pub payload : new.payload ≡ old.payload
+
+-- what is done before the first end may go: a read or write opens, and a host end is polled
 pub record Begins (K : World → World → Type 0) : Type 0 where
   pub stays : (w : World) → K w w
   pub joins : (a b c : World) → K a b → K b c → K a c
-  pub opens : (w : World) (s : ℕ) (stream : Stream) → WriterStays (stream_in w s) stream → K w (with_stream_in w s stream)
+  pub opens : (w : World) (s : ℕ) (stream : Stream) → SameOwned (stream_in w s) stream → K w (with_stream_in w s stream)
   pub polls : (w : World) (n : ℕ) (room : Option ℕ) (said : WriterSaid) (more : List WriterSaid) → (writer_at w n).coming ≡ said ∷ more → K w (with_writer w n (polled_writer (writer_at w n) room said more))
+  pub takes : (w : World) (r : ℕ) (took : List Item) (said : ReaderSaid) (more : List ReaderSaid) → (reader_at w r).coming ≡ said ∷ more → K w (with_reader w r (polled_reader (reader_at w r) took more))
 
 -- host writer n has a stream more
 abbrev pub hosted : World → ℕ → World
 hosted w n = with_new_stream (with_producer w n (record no_producer { duty = Serves (length w.state.streams) })) (hosted_stream (writer_at w n) n)
 
--- all that may be done, but for feeds
+-- host reader r reads stream s
+abbrev pub piped_to : World → ℕ → ℕ → World
+piped_to w s r = with_stream_in (with_consumer w r (record no_consumer { duty = Serves s })) s (piped (stream_in w s) r)
+
+-- all that may be done, but for feeds and grants
 pub record Rules (R : World → World → Type 0) : Type 0 where
   pub begins : Begins R
   pub reacts : (w : World) (act : Act) → R w (with_state w (reaction w.state act).state)
   pub lowers : (w : World) (guests : List Guest) → R w (with_guests w guests)
   pub overs : (w : World) (n : ℕ) (answer : Answer) → R w (with_over w n answer)
   pub gives : (w : World) (n k : ℕ) → R w (with_writer w n (given_writer (writer_at w n) k))
-  pub leaves : (w : World) (s : ℕ) (stream : Stream) → stream.writer.owner ≡ Gone → R w (with_stream_in w s stream)
+  pub counts : (w : World) (r : ℕ) (answer : Answer) (taken : ℕ) → R w (with_taken w r answer taken)
+  pub leaves : (w : World) (s : ℕ) (stream : Stream) → LeftBy (stream_in w s) stream → R w (with_stream_in w s stream)
   pub hosts : (w : World) (n : ℕ) → refusal_in w (OnHost n New) ≡ None → R w (hosted w n)
+  pub pipes : (w : World) (s r : ℕ) → refusal_in w (OnHost r (Pipe s)) ≡ None → R w (piped_to w s r)
 
 -- a stop, by what was done before it
-pub record Halted (K : World → World → Type 0) (w : World) (writers : List Writer) : Type 0 where
+pub record Halted (K : World → World → Type 0) (w : World) (writers : List Writer) (readers : List Reader) : Type 0 where
   pub at : World
   pub kept : K w at
   pub is : writers ≡ at.writers
+  pub read : readers ≡ at.readers
 
 -- what holds of all that may come of a part
 abbrev pub Comes : (World → World → Type 0) → (World → World → Type 0) → World → Outcome → Type 0
 Comes R K w (Goes reply after) = R w after
-Comes R K w (Stops stop writers readers) = Halted K w writers
+Comes R K w (Stops stop writers readers) = Halted K w writers readers
 Comes R K w Stuck = Unit {0}
 
 -- what holds where it goes on
@@ -93,33 +122,100 @@ abbrev pub IfGoes : Outcome → (Reply → World → Type 0) → Type 0
 IfGoes (Goes reply v) P = P reply v
 IfGoes _ P = Unit {0}
 
--- bytes are passed on to a host writer
-abbrev pub is_feed : Part → Bool
-is_feed (Acts (OnHost n (Feed bytes))) = true
-is_feed _ = false
+-- something is passed on to a host end from outside: bytes to a writer, a grant to a reader
+abbrev pub is_passing : Part → Bool
+is_passing (Acts (OnHost n (Feed bytes))) = true
+is_passing (Acts (OnHost n (Grant count))) = true
+is_passing _ = false
 
 -- the stream of a turn, and of a report told, is of the same payload
-some_received-payload : (stream : Stream) (b : Bool) (n : ℕ) → (cond b stream (with_received stream n)).payload ≡ stream.payload
-some_received-payload stream true n = refl
-some_received-payload stream false n = refl
+pub moved_on-payload : (side : Side) (stream : Stream) (operation : Operation) (n : ℕ) (result : Option StreamResult) → (moved_on side stream operation n result).payload ≡ stream.payload
+moved_on-payload side stream operation n result = (moved_on-moves stream operation n side result).payload
 
-pub moved_on-payload : (stream : Stream) (read : Operation) (n : ℕ) (result : Option StreamResult) → (moved_on Reading stream read n result).payload ≡ stream.payload
-unfolding moved_on
-moved_on-payload stream read n None = some_received-payload stream (n == 0) n
-moved_on-payload stream read n (Some results.Dropped) = some_received-payload stream (n == 0) n
-moved_on-payload stream read n (Some _) = some_received-payload stream (n == 0) n
+cond_gone : (b : Bool) (owner : Owner) → StaysOrGone owner (cond b Gone owner)
+cond_gone true owner = inr refl
+cond_gone false owner = inl refl
 
-pub delivered-stays : (stream : Stream) → WriterStays stream (delivered Reading stream)
+-- in a turn the host end may go
+moved_on-left : (side : Side) (stream : Stream) (operation : Operation) (n : ℕ) (result : Option StreamResult) → LeftBy stream (moved_on side stream operation n result)
+moved_on-left side stream operation n result = record {
+  owners = each_side (λ k. StaysOrGone (end_of k stream).owner (end_of k (moved_on side stream operation n result)).owner) side
+      (inl (moved-mine stream operation n side result))
+      (subst (StaysOrGone (end_of (opposite side) stream).owner) (sym (moved-theirs stream operation n side result)) (cond_gone (is_done_with result) (end_of (opposite side) stream).owner));
+  payload = moved_on-payload side stream operation n result;
+}
+
+delivered-payload : (side : Side) (stream : Stream) → (delivered side stream).payload ≡ stream.payload
 unfolding delivered
-delivered-stays stream = record { owner = refl; payload = refl }
+delivered-payload Writing stream = refl
+delivered-payload Reading stream = refl
 
--- a stream written back whose host writer stays
-pub with_stream_in-same : (w : World) (s : ℕ) (stream : Stream) → stream.writer.owner ≡ (stream_in w s).writer.owner
+pub delivered-stays : (side : Side) (stream : Stream) → SameOwned stream (delivered side stream)
+delivered-stays side stream = record { owners = delivered-owners side stream; payload = delivered-payload side stream }
+
+with_operation-owned : (side : Side) (stream : Stream) (operation : Operation) → SameOwned stream (with_operation side stream operation)
+with_operation-owned Writing stream operation = record { owners = record { writer = refl; reader = refl }; payload = refl }
+with_operation-owned Reading stream operation = record { owners = record { writer = refl; reader = refl }; payload = refl }
+
+-- a host end goes with the other end
+forsaken-left : (side : Side) (stream : Stream) → LeftBy stream (forsaken side stream)
+forsaken-left Writing stream = record { owners = by; payload = refl }
+  where
+    by : (side : Side) → StaysOrGone (end_of side stream).owner (end_of side (forsaken Writing stream)).owner
+    by Writing = inl refl
+    by Reading = inr refl
+forsaken-left Reading stream = record { owners = by; payload = refl }
+  where
+    by : (side : Side) → StaysOrGone (end_of side stream).owner (end_of side (forsaken Reading stream)).owner
+    by Writing = inr refl
+    by Reading = inl refl
+
+-- A STREAM WRITTEN BACK
+
+leaves_writer-streams : (old new : Owner) (w : World) → (leaves_writer old new w).state.streams ≡ w.state.streams
+leaves_writer-streams (Host n) Gone w = refl
+leaves_writer-streams (Host n) _ w = refl
+leaves_writer-streams _ new w = refl
+
+leaves_reader-streams : (old new : Owner) (w : World) → (leaves_reader old new w).state.streams ≡ w.state.streams
+leaves_reader-streams (Host n) Gone w = refl
+leaves_reader-streams (Host n) _ w = refl
+leaves_reader-streams _ new w = refl
+
+-- it is the one of its number
+pub written-streams : (w : World) (s : ℕ) (stream : Stream) → (with_stream_in w s stream).state.streams ≡ set w.state.streams s stream
+unfolding with_stream_in
+written-streams w s stream =
+    let after = with_state w (record w.state { streams = slice_set w.state.streams s stream }) in
+    let old = stream_in w s in
+    leaves_writer-streams old.writer.owner stream.writer.owner (leaves_reader old.reader.owner stream.reader.owner after)
+    ∙ leaves_reader-streams old.reader.owner stream.reader.owner after
+
+-- both ends of a pipe may go at once
+pub piped-ends : (w : World) (s r : ℕ) → LeftBy (stream_in (piped_to w s r) s) (without_ends (piped (stream_in w s) r))
+piped-ends w s r = record { owners = gone; payload = same }
+  where
+    gone : (side : Side) → StaysOrGone (end_of side (stream_in (piped_to w s r) s)).owner (end_of side (without_ends (piped (stream_in w s) r))).owner
+    gone Writing = inr refl
+    gone Reading = inr refl
+
+    same : (without_ends (piped (stream_in w s) r)).payload ≡ (stream_in (piped_to w s r) s).payload
+    same =
+        sym
+        (ap (λ xs. (get_or xs s no_stream).payload) (written-streams (with_consumer w r (record no_consumer { duty = Serves s })) s (piped (stream_in w s) r))
+        ∙ set-keeps (λ (x : Stream). x.payload) w.state.streams s s (piped (stream_in w s) r) no_stream refl)
+
+-- a stream written back whose owners stay
+pub with_stream_in-same : (w : World) (s : ℕ) (stream : Stream) → OwnersStay (stream_in w s) stream
     → with_stream_in w s stream ≡ with_state w (record w.state { streams = slice_set w.state.streams s stream })
 unfolding with_stream_in
 with_stream_in-same w s stream e =
     let after = with_state w (record w.state { streams = slice_set w.state.streams s stream }) in
-    ap (λ o. leaves_writer (stream_in w s).writer.owner o after) e ∙ leaves_writer-stays (stream_in w s).writer.owner after
+    let old = stream_in w s in
+    ap (λ o. leaves_writer old.writer.owner o (leaves_reader old.reader.owner stream.reader.owner after)) e.writer
+    ∙ ap (λ o. leaves_writer old.writer.owner old.writer.owner (leaves_reader old.reader.owner o after)) e.reader
+    ∙ ap (leaves_writer old.writer.owner old.writer.owner) (leaves_reader-stays old.reader.owner after)
+    ∙ leaves_writer-stays old.writer.owner after
 
 module _ (R K : World → World → Type 0) (rules : Rules R) (begins : Begins K) where
   -- what holds of an outcome from this world
@@ -130,27 +226,18 @@ module _ (R K : World → World → Type 0) (rules : Rules R) (begins : Begins K
   abbrev joined : (a b c : World) → R a b → R b c → R a c
   joined = rules.begins.joins
 
-  halts-behind : (a b : World) (writers : List Writer) → K a b → Halted K b writers → Halted K a writers
-  halts-behind a b writers k h = record { at = h.at; kept = begins.joins a b h.at k h.kept; is = h.is }
+  halts-behind : (a b : World) (writers : List Writer) (readers : List Reader) → K a b → Halted K b writers readers → Halted K a writers readers
+  halts-behind a b writers readers k h = record { at = h.at; kept = begins.joins a b h.at k h.kept; is = h.is; read = h.read }
 
-  -- A TURN
-
-  receives-by : (w : World) (s : ℕ) (read : Operation) (items : List Item) (result : Option StreamResult) (b : Bool) → is_done_with result ≡ b → R w (receives w s read items result)
-  receives-by w s read items result true e =
-      let stream = stream_in w s in
-      let now = moved_on Reading stream read (length items) result in
-      let v = with_guests w (lowered w.state.guests stream.payload read items) in
-      joined w v (with_stream_in v s now) (rules.lowers w (lowered w.state.guests stream.payload read items))
-      (rules.leaves v s now (moved_on-owner stream read (length items) result ∙ ap (λ b. cond b Gone stream.writer.owner) e))
-  receives-by w s read items result false e =
-      let stream = stream_in w s in
-      let now = moved_on Reading stream read (length items) result in
-      let v = with_guests w (lowered w.state.guests stream.payload read items) in
-      joined w v (with_stream_in v s now) (rules.lowers w (lowered w.state.guests stream.payload read items))
-      (rules.begins.opens v s now (record { owner = moved_on-owner stream read (length items) result ∙ ap (λ b. cond b Gone stream.writer.owner) e; payload = moved_on-payload stream read (length items) result }))
+  -- A TURN OF A HOST WRITER
 
   receives-comes : (w : World) (s : ℕ) (read : Operation) (items : List Item) (result : Option StreamResult) → R w (receives w s read items result)
-  receives-comes w s read items result = receives-by w s read items result (is_done_with result) refl
+  receives-comes w s read items result =
+      let stream = stream_in w s in
+      let v = with_guests w (lowered w.state.guests stream.payload read items) in
+      let now = moved_on Reading stream read (length items) result in
+      joined w v (with_stream_in v s now) (rules.lowers w (lowered w.state.guests stream.payload read items))
+      (rules.leaves v s now (moved_on-left Reading stream read (length items) result))
 
   -- whatever record host writer n has next, what is done after it holds
   abbrev AllNext : World → ℕ → Option ℕ → AfterWriter → Type 0
@@ -162,7 +249,7 @@ module _ (R K : World → World → Type 0) (rules : Rules R) (begins : Begins K
   says-comes w s n room finish [] next e h = tt
   says-comes w s n room finish (said ∷ more) next e h =
       let after = with_writer w n (polled_writer (writer_at w n) room said more) in
-      let halted : Halted K w after.writers = record { at = after; kept = begins.polls w n room said more e; is = refl } in
+      let halted : Halted K w after.writers after.readers = record { at = after; kept = begins.polls w n room said more e; is = refl; read = refl } in
       cond_both (is_writer_poll room finish said) _ _ (Is w)
       (λ f. cond_both (is_failed said.answer) _ _ (Is w) (λ g. halted)
       (λ g. cond_both (breaks_as_writer (stream_in w s).kind said) _ _ (Is w) (λ k. halted) (λ k. h said more e)))
@@ -192,60 +279,93 @@ module _ (R K : World → World → Type 0) (rules : Rules R) (begins : Begins K
   unfolding producer_turn
   turn-comes w s n read = produces-comes w s n read (writer_at w n).holds
 
-  open-comes : (w : World) (s n : ℕ) (o : Option Operation) → Is w (if_open w o (producer_turn w s n))
-  open-comes w s n None = rules.begins.stays w
-  open-comes w s n (Some operation) =
-      cond_both operation.is_open _ _ (Is w) (λ e. turn-comes w s n operation) (λ e. rules.begins.stays w)
+  -- A TURN OF A HOST READER
 
-  driven-comes : (w : World) (s : ℕ) (stream : Stream) (owner : Owner) → Is w (driven_by w s stream owner)
-  driven-comes w s stream (Host n) = open-comes w s n stream.reader.operation
-  driven-comes w s stream _ = rules.begins.stays w
+  gives_up-comes : (w : World) (s : ℕ) (write : Operation) (taken : ℕ) (answer : Answer) → R w (gives_up w s write taken answer)
+  gives_up-comes w s write taken answer =
+      rules.leaves w s (moved_on Writing (stream_in w s) write taken (result_of answer)) (moved_on-left Writing (stream_in w s) write taken (result_of answer))
+
+  taken-comes : (w : World) (s r : ℕ) (write : Operation) (finish : Bool) (first : ℕ → List Item) (coming : List ReaderSaid) → (reader_at w r).coming ≡ coming
+      → Is w (reader_says w s r write.left finish first coming (λ after said. done (gave_up s r write after said)))
+  taken-comes w s r write finish first [] e = tt
+  taken-comes w s r write finish first (said ∷ more) e =
+      let after = with_reader w r (polled_reader (reader_at w r) (first said.taken) more) in
+      let halted : Halted K w after.writers after.readers = record { at = after; kept = begins.takes w r (first said.taken) said more e; is = refl; read = refl } in
+      let counted = with_taken after r said.answer said.taken in
+      cond_both (is_reader_poll write.left (consumer_at w.state r).since finish said) _ _ (Is w)
+      (λ f. cond_both (is_failed said.answer) _ _ (Is w) (λ g. halted)
+      (λ g. cond_both said.bad _ _ (Is w) (λ b. halted)
+      (λ b. cond_both (breaks_as_reader (stream_in w s).kind said) _ _ (Is w) (λ k. halted)
+      (λ k.
+      joined w after (gives_up counted s write said.taken said.answer) (rules.begins.takes w r (first said.taken) said more e)
+      (joined after counted (gives_up counted s write said.taken said.answer) (rules.counts after r said.answer said.taken) (gives_up-comes counted s write said.taken said.answer))))))
+      (λ f. tt)
+
+  consumer-comes : (w : World) (s r : ℕ) (write : Operation) → Is w (consumer_turn w s r write)
+  unfolding consumer_turn
+  consumer-comes w s r write = taken-comes w s r write write.asked (lifted w.state.guests (stream_in w s).payload write) (reader_at w r).coming refl
+
+  -- A DRIVE ROUND
+
+  open-comes : (w : World) (o : Option Operation) (turn : Operation → Outcome) → ((operation : Operation) → Is w (turn operation)) → Is w (if_open w o turn)
+  open-comes w None turn h = rules.begins.stays w
+  open-comes w (Some operation) turn h =
+      cond_both operation.is_open _ _ (Is w) (λ e. h operation) (λ e. rules.begins.stays w)
+
+  driven-comes : (w : World) (s : ℕ) (stream : Stream) (writer reader : Owner) → Is w (driven_by w s stream writer reader)
+  driven-comes w s stream (Host n) (Host r) = rules.begins.stays w
+  driven-comes w s stream (Host n) _ = open-comes w stream.reader.operation (producer_turn w s n) (turn-comes w s n)
+  driven-comes w s stream _ (Host r) = open-comes w stream.writer.operation (consumer_turn w s r) (consumer-comes w s r)
+  driven-comes w s stream _ _ = rules.begins.stays w
 
   drive-comes : (w : World) (s : ℕ) → Is w (drive_turn w s)
   unfolding drive_turn
-  drive-comes w s = driven-comes w s (stream_in w s) (stream_in w s).writer.owner
+  drive-comes w s = driven-comes w s (stream_in w s) (stream_in w s).writer.owner (stream_in w s).reader.owner
 
-  -- A READ OF A HOST WRITER
+  -- A READ OF A HOST WRITER, A WRITE TO A HOST READER
 
-  answers-comes : (w : World) (s : ℕ) (report : Option ReturnCode) → Is w (answered_with w s Reading report)
-  answers-comes w s (Some code) =
-      rules.begins.opens w s (delivered Reading (stream_in w s)) (delivered-stays (stream_in w s))
-  answers-comes w s None = rules.begins.stays w
+  answers-comes : (w : World) (s : ℕ) (side : Side) (report : Option ReturnCode) → Is w (answered_with w s side report)
+  answers-comes w s side (Some code) =
+      rules.begins.opens w s (delivered side (stream_in w s)) (delivered-stays side (stream_in w s))
+  answers-comes w s side None = rules.begins.stays w
 
-  answered-behind : (a b : World) (s : ℕ) (report : Option ReturnCode) → R a b → Is a (answered_with b s Reading report)
-  answered-behind a b s (Some code) r = joined a b _ r (answers-comes b s (Some code))
-  answered-behind a b s None r = r
+  answered-behind : (a b : World) (s : ℕ) (side : Side) (report : Option ReturnCode) → R a b → Is a (answered_with b s side report)
+  answered-behind a b s side (Some code) r = joined a b _ r (answers-comes b s side (Some code))
+  answered-behind a b s side None r = r
 
-  then-comes : (a b : World) (s : ℕ) (o : Outcome) → R a b → K a b → Is b o → Is a (then_on o (λ after. answered after s Reading))
-  then-comes a b s (Goes reply v) r k h =
-      answered-behind a v s (report_on Reading (stream_in v s)) (joined a b v r h)
-  then-comes a b s (Stops stop writers readers) r k h = halts-behind a b writers k h
-  then-comes a b s Stuck r k h = tt
+  then-comes : (a b : World) (s : ℕ) (side : Side) (o : Outcome) → R a b → K a b → Is b o → Is a (then_on o (λ after. answered after s side))
+  then-comes a b s side (Goes reply v) r k h =
+      answered-behind a v s side (report_on side (stream_in v s)) (joined a b v r h)
+  then-comes a b s side (Stops stop writers readers) r k h = halts-behind a b writers readers k h
+  then-comes a b s side Stuck r k h = tt
 
   reads-comes : (w : World) (s n : ℕ) (read : Operation) → Is w (reads_from w s n read)
   reads-comes w s n read =
       let stream = with_operation Reading (stream_in w s) read in
       let opened = with_stream_in w s stream in
-      then-comes w opened s (producer_turn opened s n read) (rules.begins.opens w s stream (with_operation-stays Reading (stream_in w s) read)) (begins.opens w s stream (with_operation-stays Reading (stream_in w s) read))
+      then-comes w opened s Reading (producer_turn opened s n read) (rules.begins.opens w s stream (with_operation-owned Reading (stream_in w s) read)) (begins.opens w s stream (with_operation-owned Reading (stream_in w s) read))
       (turn-comes opened s n read)
+
+  writes-comes : (w : World) (s r : ℕ) (write : Operation) → Is w (writes_to w s r write)
+  writes-comes w s r write =
+      let stream = with_operation Writing (stream_in w s) write in
+      let opened = with_stream_in w s stream in
+      then-comes w opened s Writing (consumer_turn opened s r write) (rules.begins.opens w s stream (with_operation-owned Writing (stream_in w s) write)) (begins.opens w s stream (with_operation-owned Writing (stream_in w s) write))
+      (consumer-comes opened s r write)
 
   -- WHAT THE MACHINE DOES WITHOUT HOST ENDS
 
   replied-comes : (w : World) (reply : Reply) (state : State) → R w (with_state w state) → Is w (of_reply reply (with_state w state))
-  replied-comes w (replies.BadItem stream) state r = record { at = w; kept = begins.stays w; is = refl }
-  replied-comes w replies.StoreTrapped state r = record { at = w; kept = begins.stays w; is = refl }
+  replied-comes w (replies.BadItem stream) state r = record { at = w; kept = begins.stays w; is = refl; read = refl }
+  replied-comes w replies.StoreTrapped state r = record { at = w; kept = begins.stays w; is = refl; read = refl }
   replied-comes w _ state r = r
 
   reacts-comes : (w : World) (act : Act) → Is w (reacts w act)
   reacts-comes w act =
       let r = reaction w.state act in replied-comes w r.reply r.state (rules.reacts w act)
 
-  forsaken-comes : (w : World) (s : ℕ) (side : Side) → R w (with_stream_in w s (forsaken side (stream_in w s)))
-  forsaken-comes w s Writing = rules.begins.opens w s (forsaken Writing (stream_in w s)) (record { owner = refl; payload = refl })
-  forsaken-comes w s Reading = rules.leaves w s (forsaken Reading (stream_in w s)) refl
-
   forsakes-comes : (w : World) (s : ℕ) (side : Side) (o : Outcome) → Is w o → Is w (forsakes o s side)
-  forsakes-comes w s side (Goes reply v) h = joined w v _ h (forsaken-comes v s side)
+  forsakes-comes w s side (Goes reply v) h = joined w v _ h (rules.leaves v s (forsaken side (stream_in v s)) (forsaken-left side (stream_in v s)))
   forsakes-comes w s side (Stops stop writers readers) h = h
   forsakes-comes w s side Stuck h = tt
 
@@ -258,6 +378,8 @@ module _ (R K : World → World → Type 0) (rules : Rules R) (begins : Begins K
   operates-comes : (w : World) (side : Side) (end : NamedEnd) (address count : ℕ) (owner : Owner) → Is w (operates_by w side end address count owner)
   operates-comes w Reading end address count (Host n) =
       reads-comes w (stream_named (named w.state end)) n (begun end.guest address (items_asked end.ty count))
+  operates-comes w Writing end address count (Host r) =
+      writes-comes w (stream_named (named w.state end)) r (begun end.guest address (items_asked end.ty count))
   operates-comes w side end address count _ = reacts-comes w (OnEnd side end (Operate address count))
 
   -- A STEP
@@ -266,14 +388,27 @@ module _ (R K : World → World → Type 0) (rules : Rules R) (begins : Begins K
   unfolding hosts_new
   hosts-comes w n e = rules.hosts w n e
 
-  on_host-comes : (w : World) (n : ℕ) (act : HostAct) → is_feed (Acts (OnHost n act)) ≡ false → refusal_in w (OnHost n act) ≡ None → Is w (on_host w n act)
+  -- nothing comes any more, or the pipe stays
+  pipes-comes : (w : World) (s r : ℕ) → refusal_in w (OnHost r (Pipe s)) ≡ None → Is w (pipes w s r)
+  unfolding pipes
+  pipes-comes w s r e =
+      let v = with_consumer w r (record no_consumer { duty = Serves s }) in
+      let stream = piped (stream_in w s) r in
+      let after = with_stream_in v s stream in
+      cond_both (is_dry v stream.writer.owner) (with_stream_in after s (without_ends stream)) after (λ x. R w x)
+      (λ dry. joined w after (with_stream_in after s (without_ends stream)) (rules.pipes w s r e) (rules.leaves after s (without_ends stream) (piped-ends w s r)))
+      (λ wet. rules.pipes w s r e)
+
+  on_host-comes : (w : World) (n : ℕ) (act : HostAct) → is_passing (Acts (OnHost n act)) ≡ false → refusal_in w (OnHost n act) ≡ None → Is w (on_host w n act)
   on_host-comes w n New f e = hosts-comes w n e
   on_host-comes w n (Feed bytes) f e = cc
+  on_host-comes w r (Pipe s) f e = pipes-comes w s r e
+  on_host-comes w r (Grant count) f e = cc
 
-  performs-comes : (w : World) (act : Act) → is_part (Acts act) ≡ true → is_feed (Acts act) ≡ false → refusal_in w act ≡ None → Is w (performs_in w act)
+  performs-comes : (w : World) (act : Act) → is_part (Acts act) ≡ true → is_passing (Acts act) ≡ false → refusal_in w act ≡ None → Is w (performs_in w act)
   unfolding performs_in
   performs-comes w =
-      touch-by (λ act touch. is_part (Acts act) ≡ true → is_feed (Acts act) ≡ false → refusal_in w act ≡ None → Is w (performs_by w act touch)) w.state
+      touch-by (λ act touch. is_part (Acts act) ≡ true → is_passing (Acts act) ≡ false → refusal_in w act ≡ None → Is w (performs_by w act touch)) w.state
       (record {
         operated = λ side end address count p f e. operates-comes w side end address count _;
         dropped = λ act s side d p f e. drops-comes w s side act;
@@ -282,19 +417,19 @@ module _ (R K : World → World → Type 0) (rules : Rules R) (begins : Begins K
         alone = λ act n p f e. reacts-comes w act;
       })
 
-  unless-comes : (w : World) (act : Act) (o : Option Refusal) → is_part (Acts act) ≡ true → is_feed (Acts act) ≡ false → refusal_in w act ≡ o → Is w (unless_refused_in w act o)
+  unless-comes : (w : World) (act : Act) (o : Option Refusal) → is_part (Acts act) ≡ true → is_passing (Acts act) ≡ false → refusal_in w act ≡ o → Is w (unless_refused_in w act o)
   unless-comes w act (Some r) p f e = rules.begins.stays w
   unless-comes w act None p f e = performs-comes w act p f e
 
-  outcome-comes : (w : World) (act : Act) → is_part (Acts act) ≡ true → is_feed (Acts act) ≡ false → Is w (outcome w act)
+  outcome-comes : (w : World) (act : Act) → is_part (Acts act) ≡ true → is_passing (Acts act) ≡ false → Is w (outcome w act)
   unfolding outcome
   outcome-comes w act p f =
       cond_both w.state.trapped _ _ (Is w)
-      (λ t. record { at = w; kept = begins.stays w; is = refl })
+      (λ t. record { at = w; kept = begins.stays w; is = refl; read = refl })
       (λ t. unless-comes w act (refusal_in w act) p f refl)
 
-  -- a part of a run but a feed
-  pub part-comes : (w : World) (part : Part) → is_part part ≡ true → is_feed part ≡ false → Is w (part_on w part)
+  -- a part of a run but a feed or a grant
+  pub part-comes : (w : World) (part : Part) → is_part part ≡ true → is_passing part ≡ false → Is w (part_on w part)
   part-comes w (Acts act) p f = outcome-comes w act p f
   part-comes w (Turns s) p f = drive-comes w s
 
@@ -303,9 +438,21 @@ module _ (R K : World → World → Type 0) (rules : Rules R) (begins : Begins K
   unfolding outcome performs_in
   feed-comes w n bytes h =
       cond_both w.state.trapped _ _ (Is w)
-      (λ t. record { at = w; kept = begins.stays w; is = refl })
+      (λ t. record { at = w; kept = begins.stays w; is = refl; read = refl })
       (λ t. by (refusal_in w (OnHost n (Feed bytes))) refl)
     where
       by : (o : Option Refusal) → refusal_in w (OnHost n (Feed bytes)) ≡ o → Is w (unless_refused_in w (OnHost n (Feed bytes)) o)
       by (Some r) e = rules.begins.stays w
+      by None e = h e
+
+  -- a grant
+  pub grant-comes : (w : World) (r count : ℕ) → (refusal_in w (OnHost r (Grant count)) ≡ None → R w (with_reader w r (granted_reader (reader_at w r) count))) → Is w (part_on w (Acts (OnHost r (Grant count))))
+  unfolding outcome performs_in
+  grant-comes w r count h =
+      cond_both w.state.trapped _ _ (Is w)
+      (λ t. record { at = w; kept = begins.stays w; is = refl; read = refl })
+      (λ t. by (refusal_in w (OnHost r (Grant count))) refl)
+    where
+      by : (o : Option Refusal) → refusal_in w (OnHost r (Grant count)) ≡ o → Is w (unless_refused_in w (OnHost r (Grant count)) o)
+      by (Some x) e = rules.begins.stays w
       by None e = h e

@@ -1,14 +1,13 @@
--- Every run with host writers: what its states keep of each stream, and the account of each that no host writer
--- made.
-use Rattle.std.proofs.Common.{◌≡◌, ℕ, ◌+◌, ◌-◌, ◌*◌, ◌^◌, ◌<◌, ◌≤◌, ◌==◌, ◌||◌, ◌&&◌, Bool, true, false, cond, List, [], ◌∷◌, ◌++◌, length, None, refl, sym, ap, subst, ◌∙◌, inl, inr, arith, append-nil, append_assoc}
-use Rattle.std.specs.Prelude.{All, IsSome}
-use Rattle.std.proofs.lemmas.Bool.{cases_lt, or_parts}
-use Rattle.std.proofs.lemmas.List.{map-append}
+-- Every run with host ends: what its states keep of each stream, and the account of each of which no host end
+-- had an end.
+use Rattle.std.proofs.Common.{◌≡◌, ℕ, ◌+◌, ◌*◌, ◌^◌, ◌<◌, ◌≤◌, ◌||◌, ◌&&◌, Bool, true, false, List, [], ◌∷◌, ◌++◌, length, None, refl, sym, ap, subst, ◌∙◌, arith, append-nil, append_assoc}
+use Rattle.std.specs.Prelude.{All, IsSome, if◌then◌else◌}
+use Rattle.std.proofs.lemmas.Bool.{or_parts, and_right, true≢false}
 use Rattle.std.proofs.lemmas.List.Elements.{All-nil, All-append}
-use Rattle.strm_codes.specs.declared.codes.TransmitKind.{TransmitKind}
 use Rattle.strm_codes.specs.declared.codes.TransmitKind.TheVariants.{Future}
-use Rattle.strm_machine.specs.Moments.{Moment, received, got_in}
-use Rattle.strm_machine.specs.State.{State, empty, stream_at}
+use Rattle.strm_machine.specs.Moments.{received, got_in}
+use Rattle.strm_machine.specs.State.{State, empty, stream_at, is_host, is_gone}
+use Rattle.strm_machine.specs.Sides.{end_of}
 use Rattle.strm_machine.specs.Soundness.{AreUnmoved, IsUnmoved, is_opened, both_open}
 use Rattle.strm_machine.specs.declared.limits.Limits.{Limits}
 use Rattle.strm_machine.specs.declared.steps.Step.{Step}
@@ -16,97 +15,52 @@ use Rattle.strm_machine.specs.declared.streams.Side.{Side}
 use Rattle.strm_machine.specs.declared.streams.Side.TheVariants.{Writing, Reading}
 use Rattle.strm_machine.specs.declared.streams.Stream.{Stream}
 use Rattle.strm_machine.proofs.ArrivalLemmas.{AreBytes}
-use Rattle.strm_machine.proofs.Changes.{scene, Change}
-use Rattle.strm_machine.proofs.Lawful.{StaysMade}
-use Rattle.strm_machine.proofs.MomentLemmas.{Untold}
 use Rattle.strm_machine.proofs.TallyLemmas.{received_one}
 use Rattle.strm_buffers.specs.Tells.{Tells}
-use Rattle.strm_world.specs.World.{World}
+use Rattle.strm_world.specs.World.{World, stream_in}
 use Rattle.strm_world.specs.Does.{start}
-use Rattle.strm_laws.specs.Conservation.{calls, writes, got, all_handed}
-use Rattle.strm_laws.specs.Laws.{AreSteps, total, waiting, moved_at, IsAsked, Conserves, Stands}
-use Rattle.strm_laws.proofs.Calls.{calls-push, all_reported-push, got-push}
+use Rattle.strm_laws.specs.Conservation.{calls, writes, got, all_reported}
+use Rattle.strm_laws.specs.Laws.{AreSteps, total, waiting, moved_at, Conserves, Stands}
+use Rattle.strm_laws.proofs.Calls.{got-push}
 use Rattle.strm_laws.proofs.Handed.{length-all_handed}
-use Rattle.strm_laws.proofs.Kept.{kind_at, Kept}
-use Rattle.strm_laws.proofs.KeptChanges.{keeps}
-use Rattle.strm_laws.proofs.Conserved.{IsQuiet, Account, Kept-empty}
+use Rattle.strm_laws.proofs.Kept.{kind_at}
+use Rattle.strm_laws.proofs.Conserved.{Kept-empty}
 use Rattle.strm_host_laws.specs.HostMoments.{Part, Acts, Turns, HostMoment, host_moments, last_of}
-use Rattle.strm_host_laws.specs.HostLaws.{plain, plains, is_made_by, is_hosted, MovesByHosts}
+use Rattle.strm_host_laws.specs.HostLaws.{plain, plains, is_made_by, is_hosted, is_piped_in, is_piped, host_taken_in, all_taken, host_got_in, host_got, ConservesAmong, MovesByHosts}
 use Rattle.strm_host_laws.proofs.Chains.{Chain, moments-chain}
 use Rattle.strm_host_laws.proofs.StepsLeft.{left_after, Pays, Costs, moments_cost}
 use Rattle.strm_host_laws.proofs.Effects.{Effect, follows_effect}
 use Rattle.strm_host_laws.proofs.Standing.{Holds, Holds-effect, Holds-empty}
-use Rattle.strm_host_laws.proofs.PartsSeen.{IsHosted, effect_hosted}
-use Rattle.strm_host_laws.proofs.GuestsSeen.{IsGuests, SeenIn, guests_after, effect_in, effect_makes, PutsPart, effect_bytes}
-
--- ## One moment more
-
-is_hosted-push : (s : ℕ) (all : List HostMoment) (m : HostMoment) → is_hosted s (all ++ m ∷ []) ≡ (is_hosted s all || is_made_by s m.part m.reply)
-is_hosted-push s [] m = or_none (is_made_by s m.part m.reply)
-  where
-    or_none : (b : Bool) → (b || false) ≡ b
-    or_none true = refl
-    or_none false = refl
-is_hosted-push s (x ∷ xs) m = or_more (is_made_by s x.part x.reply) (is_hosted s (xs ++ m ∷ [])) (is_hosted s xs) (is_made_by s m.part m.reply) (is_hosted-push s xs m)
-  where
-    or_more : (a b c d : Bool) → b ≡ (c || d) → (a || b) ≡ ((a || c) || d)
-    or_more true b c d e = refl
-    or_more false b c d e = e
-
-plains-push : (all : List HostMoment) (m : HostMoment) → plains (all ++ m ∷ []) ≡ plains all ++ plain m ∷ []
-plains-push all m = map-append plain all (m ∷ [])
-
--- the account of an end of a stream, one moment further
-module _ (s : ℕ) (side : Side) (all : List Moment) (m : Moment) (made : s < length m.before.streams → StaysMade s m.before m.after) (unmade : length m.before.streams ≤ s → Untold s side m) where
-  -- where nothing happened yet, whichever kind
-  rekind : (one other : TransmitKind) (state : State) → IsQuiet s side (all ++ m ∷ []) → Kept one s side (all ++ m ∷ []) state → Kept other s side (all ++ m ∷ []) state
-  unfolding all_handed
-  rekind one other state q k =
-      let moved = moved_at s side state in
-      let moments = all ++ m ∷ [] in
-      record {
-        stands = k.stands;
-        items = λ e. k.items e ∙ ap (all_handed one s moments moved 0) q.none ∙ sym (ap (all_handed other s moments moved 0) q.none);
-        count = k.count ∙ ap (total one moved) q.none ∙ sym (ap (total other moved) q.none);
-        within = subst (All (IsAsked other moved)) (sym q.none) (All-nil (IsAsked other moved));
-        told = ap (λ n. n + moved) (q.silent other ∙ sym (q.silent one)) ∙ k.told;
-        reached = k.reached;
-      }
-
-  quiet_next : length m.before.streams ≤ s → IsQuiet s side all → IsQuiet s side (all ++ m ∷ [])
-  quiet_next l q =
-      let u = unmade l in
-      record {
-        none = rw (calls-push s side all m, q.none) u.takes;
-        silent = λ kind. rw (all_reported-push kind s side all m, q.silent kind, u.reports) refl;
-      }
-
-  account_next : Change side (scene s side m) → Account s side all m.before → Account s side (all ++ m ∷ []) m.after
-  account_next c a =
-      let next = keeps s side all m a.kept c in
-      let quiet : length m.before.streams ≤ s → IsQuiet s side (all ++ m ∷ []) = λ l. quiet_next l (a.unmade l) in
-      record {
-        kept = elim (cases_lt s (length m.before.streams)) [
-          | inl l ↦ subst (λ kind. Kept kind s side (all ++ m ∷ []) m.after) (sym (made l).kind) next
-          | inr l ↦ rekind (kind_at s m.before) (kind_at s m.after) m.after (quiet l) next
-        ];
-        unmade = λ g. elim (cases_lt s (length m.before.streams)) [
-          | inl l ↦ absurd (omega (arith, g, (made l).there))
-          | inr l ↦ quiet l
-        ];
-      }
+use Rattle.strm_host_laws.proofs.PartsSeen.{IsTaken, effect_taken}
+use Rattle.strm_host_laws.proofs.HostBytes.{effect_kind}
+use Rattle.strm_host_laws.proofs.GuestsSeen.{IsGuests, SeenIn, guests_after, effect_in, effect_makes, effect_pipes, PutsPart, effect_bytes}
+use Rattle.strm_host_laws.proofs.Moments.{got_unread}
+use Rattle.strm_host_laws.proofs.Rooms.{has_room, room_next}
+use Rattle.strm_host_laws.proofs.FutureRead.{FutureRead}
+use Rattle.strm_host_laws.proofs.FuturesSeen.{effect_future, enters_future}
+use Rattle.strm_host_laws.proofs.ReadSeen.{entering, IsRead, ReadIn, effect_read, effect_enters, effect_unread}
+use Rattle.strm_host_laws.proofs.HostAccounts.{is_hosted-push, is_piped-push, plains-push, host_got-push, all_taken-push, all_front, all_back, taken_unread, HostAccount, account_guests, whole_read, account_writing, account_reading}
 
 -- ## What holds of a run so far
+
+-- no host end had an end of stream s in these moments
+pub record IsUnhosted (s : ℕ) (all : List HostMoment) : Type 0 where
+  pub unmade : is_hosted s all ≡ false
+  pub unpiped : is_piped s all ≡ false
 
 -- of stream s after these moments, with so many steps to come
 pub record RunKeeps (s : ℕ) (all : List HostMoment) (state : State) (n : ℕ) : Type 0 where
   pub holds : Holds state
   pub bytes : AreBytes state.guests
-  pub hosted : is_hosted s all ≡ true → IsHosted state s
-  pub guests : is_hosted s all ≡ false → IsGuests state s
-  pub room : is_hosted s all ≡ false → received s state + 2 ^ 28 * n < 2 ^ 128
-  pub accounts : is_hosted s all ≡ false → (side : Side) → Account s side (plains all) state
-  pub whole : is_hosted s all ≡ false → All IsSome (got s (plains all))
+  pub room : received s state + 2 ^ 28 * n < 2 ^ 128
+  pub hosted : is_hosted s all ≡ true → IsTaken Writing state s
+  pub piped : is_piped s all ≡ true → IsTaken Reading state s
+  pub guests : IsUnhosted s all → IsGuests state s
+  pub read : is_hosted s all ≡ false → is_piped s all ≡ true → IsRead state s
+  pub accounts : is_hosted s all ≡ false → (side : Side) → HostAccount s side all state
+  pub whole : is_hosted s all ≡ false → All IsSome (all_taken s all) → All IsSome (host_got s all)
+  pub same : IsUnhosted s all → host_got s all ≡ got s (plains all)
+  pub untaken : IsUnhosted s all → all_taken s all ≡ []
 
 module _ (s : ℕ) (all : List HostMoment) (m : HostMoment) (n : ℕ) (pays : Pays s m.part n) (k : RunKeeps s all m.before.state n) (effect : Effect m.before.state m.part m.reply m.after.state) where
   abbrev old : State
@@ -119,54 +73,138 @@ module _ (s : ℕ) (all : List HostMoment) (m : HostMoment) (n : ℕ) (pays : Pa
   puts (Acts act) p = p.1
   puts (Turns j) p = tt
 
-  -- on a stream that no host writer made
-  seen_next : is_hosted s all ≡ false → is_made_by s m.part m.reply ≡ false → SeenIn old m.part m.reply new s
-  seen_next h u =
-      effect_in old new m.reply s k.holds k.bytes (k.guests h) m.part u
-      (λ act e. let paid : Pays s (Acts act) n = subst (λ p. Pays s p n) e pays in omega (arith, paid.0, k.room h)) effect
-
-  room_next : (part : Part) → Pays s part n → received s old + 2 ^ 28 * n < 2 ^ 128 → received s new ≤ received s old + 2 ^ 28 → ((j : ℕ) → part ≡ Turns j → received s new ≡ received s old) → received s new + 2 ^ 28 * left_after s part n < 2 ^ 128
-  room_next (Acts act) p r most still = omega (arith, p.0, r, most)
-  room_next (Turns j) p r most still = less (j == s)
-    where
-      less : (b : Bool) → received s new + 2 ^ 28 * cond b (n - 1) n < 2 ^ 128
-      less true = omega (arith, r, still j refl)
-      less false = omega (arith, r, still j refl)
-
-  before_is : (b : Bool) → is_hosted s (all ++ m ∷ []) ≡ b → (is_hosted s all || is_made_by s m.part m.reply) ≡ b
-  before_is b e = sym (is_hosted-push s all m) ∙ e
-
-  hosted_next : (b : Bool) → is_hosted s all ≡ b → (b || is_made_by s m.part m.reply) ≡ true → IsHosted new s
-  hosted_next true e f = effect_hosted old new m.part m.reply s k.holds effect (k.hosted e)
+  hosted_next : (b : Bool) → is_hosted s all ≡ b → (b || is_made_by s m.part m.reply) ≡ true → IsTaken Writing new s
+  hosted_next true e f = effect_taken Writing old new m.part m.reply s k.holds effect (k.hosted e)
   hosted_next false e f = effect_makes old new m.part m.reply s effect f
 
-  module _ (f : is_hosted s (all ++ m ∷ []) ≡ false) where
-    parts : (is_hosted s all ≡ false) × (is_made_by s m.part m.reply ≡ false)
-    parts = or_parts (is_hosted s all) (is_made_by s m.part m.reply) (before_is false f)
+  piped_next : (b : Bool) → is_piped s all ≡ b → (b || is_piped_in s m.part m.reply) ≡ true → IsTaken Reading new s
+  piped_next true e f = effect_taken Reading old new m.part m.reply s k.holds effect (k.piped e)
+  piped_next false e f = effect_pipes old new m.part m.reply s k.holds effect f
 
-    seen : SeenIn old m.part m.reply new s
-    seen = seen_next parts.0 parts.1
+  piped_now : is_piped s (all ++ m ∷ []) ≡ true → IsTaken Reading new s
+  piped_now e = piped_next (is_piped s all) refl (sym (is_piped-push s all m) ∙ e)
 
-    accounts_next : (side : Side) → Account s side (plains (all ++ m ∷ [])) new
-    accounts_next side =
-        subst (λ l. Account s side l new) (sym (plains-push all m))
-        (account_next s side (plains all) (plain m) seen.made (λ l. seen.unmade l side) (seen.seen.change side) (k.accounts parts.0 side))
+  unmade_before : is_hosted s (all ++ m ∷ []) ≡ false → (is_hosted s all ≡ false) × (is_made_by s m.part m.reply ≡ false)
+  unmade_before u = or_parts (is_hosted s all) (is_made_by s m.part m.reply) (sym (is_hosted-push s all m) ∙ u)
 
-    whole_next : All IsSome (got s (plains (all ++ m ∷ [])))
-    whole_next =
-        subst (λ l. All IsSome (got s l)) (sym (plains-push all m))
-        (subst (All IsSome) (sym (got-push s (plains all) (plain m)))
-        (All-append IsSome (got s (plains all)) (got_in s (plain m)) (k.whole parts.0) seen.seen.whole))
+  -- no host end has it before or in this moment
+  module _ (unmade : is_hosted s (all ++ m ∷ []) ≡ false) (unpiped : is_piped s all ≡ false) where
+    aside : IsUnhosted s all
+    aside = record { unmade = (unmade_before unmade).0; unpiped = unpiped }
+
+    unreads : is_host (stream_in m.before s).reader.owner ≡ false
+    unreads = (k.guests aside).unhosted Reading
+
+    module _ (unpiped_now : is_piped_in s m.part m.reply ≡ false) where
+      seen : SeenIn old m.part m.reply new s
+      seen =
+          effect_in old new m.reply s k.holds k.bytes (k.guests aside) m.part (unmade_before unmade).1 unpiped_now
+          (λ act e. let paid : Pays s (Acts act) n = subst (λ p. Pays s p n) e pays in omega (arith, paid.0, k.room)) effect
+
+      guests_account : (side : Side) → HostAccount s side (all ++ m ∷ []) new
+      guests_account side = account_guests s side all m seen.made (λ l. seen.unmade l side) unreads (seen.seen.change side) (k.accounts aside.unmade side)
+
+      guests_got : host_got_in s m ≡ got_in s (plain m)
+      guests_got = got_unread s m (stream_in m.before s).reader.owner unreads
+
+      guests_whole : All IsSome (host_got_in s m)
+      guests_whole = subst (All IsSome) (sym guests_got) seen.seen.whole
+
+  -- a host end has its read end, or gets it
+  module _ (unhosted_before : is_hosted s all ≡ false) (taken : IsTaken Reading new s) (was : (stream_at old s).reader.operation ≡ None) (there : s < length old.streams) (unhosted : is_host (stream_in m.before s).writer.owner ≡ false) (x : ReadIn old m.part m.reply new s) where
+    read_account : (side : Side) → HostAccount s side (all ++ m ∷ []) new
+    read_account Writing = account_writing s m unhosted x all there taken.made (k.accounts unhosted_before Writing)
+    read_account Reading = account_reading s m unhosted x all there taken.made was taken.idle (k.accounts unhosted_before Reading)
+
+    read_whole : All IsSome (all_taken s (all ++ m ∷ [])) → All IsSome (host_got s (all ++ m ∷ []))
+    read_whole h =
+        let parts = subst (All IsSome) (all_taken-push s all m) h in
+        subst (All IsSome) (sym (host_got-push s all m))
+        (All-append IsSome (host_got s all) (host_got_in s m) (k.whole unhosted_before (all_front IsSome (all_taken s all) (host_taken_in s m) parts))
+        (whole_read s m unhosted x (all_back IsSome (all_taken s all) (host_taken_in s m) parts)))
+
+    read_read : ((stream_at new s).kind ≡ Future → FutureRead new s) → IsRead new s
+    read_read one = record { taken = taken; unhosted = x.unhosted; one = one }
+
+  -- which of them it is
+  data Moving : Type 0 where
+    Aside : is_piped s all ≡ false → is_piped_in s m.part m.reply ≡ false → Moving
+    Reads : is_piped s (all ++ m ∷ []) ≡ true → (stream_at old s).reader.operation ≡ None → s < length old.streams → is_host (stream_in m.before s).writer.owner ≡ false → ReadIn old m.part m.reply new s → ((stream_at new s).kind ≡ Future → FutureRead new s) → Moving
+
+  moving : is_hosted s (all ++ m ∷ []) ≡ false → Moving
+  moving a = by (is_piped s all) (is_piped_in s m.part m.reply) refl refl
+    where
+      -- it was a future
+      was : s < length old.streams → (stream_at new s).kind ≡ Future → (stream_at old s).kind ≡ Future
+      was made e = sym (effect_kind old new m.part m.reply s k.holds made effect) ∙ e
+
+      by : (b c : Bool) → is_piped s all ≡ b → is_piped_in s m.part m.reply ≡ c → Moving
+      by true c e f =
+          let now : is_piped s (all ++ m ∷ []) ≡ true = is_piped-push s all m ∙ ap (λ b. b || is_piped_in s m.part m.reply) e in
+          let read = k.read (unmade_before a).0 e in
+          Reads now read.taken.idle read.taken.made read.unhosted (effect_read old new m.reply s k.holds read m.part (has_room s n old new m.reply k.holds k.room m.part pays) k.bytes effect)
+          (λ q. let future = was read.taken.made q in effect_future old new m.reply s k.holds read.taken future (read.one future) m.part effect)
+      by false true e f =
+          let now : is_piped s (all ++ m ∷ []) ≡ true = is_piped-push s all m ∙ ap (λ b. b || is_piped_in s m.part m.reply) e ∙ f in
+          let g = k.guests (aside a e) in
+          let x = entering old new m.part m.reply s effect f in
+          Reads now (effect_unread old new m.part m.reply s k.holds effect f) x.pipes.made (g.unhosted Writing) (effect_enters old new m.part m.reply s k.holds g effect f)
+          (λ q. enters_future old new m.reply s x.host k.holds g x.pipes (was x.pipes.made q))
+      by false false e f = Aside e f
+
+  accounts_next : is_hosted s (all ++ m ∷ []) ≡ false → (side : Side) → HostAccount s side (all ++ m ∷ []) new
+  accounts_next a side = elim (moving a) [
+    | Aside e f ↦ guests_account a e f side
+    | Reads now was there unhosted x one ↦ read_account (unmade_before a).0 (piped_now now) was there unhosted x side
+  ]
+
+  whole_next : is_hosted s (all ++ m ∷ []) ≡ false → All IsSome (all_taken s (all ++ m ∷ [])) → All IsSome (host_got s (all ++ m ∷ []))
+  whole_next a h = elim (moving a) [
+    | Aside e f ↦
+        subst (All IsSome) (sym (host_got-push s all m))
+        (All-append IsSome (host_got s all) (host_got_in s m)
+        (k.whole (unmade_before a).0 (all_front IsSome (all_taken s all) (host_taken_in s m) (subst (All IsSome) (all_taken-push s all m) h)))
+        (guests_whole a e f))
+    | Reads now was there unhosted x one ↦ read_whole (unmade_before a).0 (piped_now now) was there unhosted x h
+  ]
+
+  read_next : is_hosted s (all ++ m ∷ []) ≡ false → is_piped s (all ++ m ∷ []) ≡ true → IsRead new s
+  read_next a u = elim (moving a) [
+    | Aside e f ↦ absurd (let wrong : true ≡ false = sym u ∙ is_piped-push s all m ∙ ap (λ b. b || is_piped_in s m.part m.reply) e ∙ f in true≢false wrong)
+    | Reads now was there unhosted x one ↦ read_read (unmade_before a).0 (piped_now now) was there unhosted x one
+  ]
+
+  module _ (u : IsUnhosted s (all ++ m ∷ [])) where
+    unpiped : (is_piped s all ≡ false) × (is_piped_in s m.part m.reply ≡ false)
+    unpiped = or_parts (is_piped s all) (is_piped_in s m.part m.reply) (sym (is_piped-push s all m) ∙ u.unpiped)
+
+    same_next : host_got s (all ++ m ∷ []) ≡ got s (plains (all ++ m ∷ []))
+    same_next =
+        host_got-push s all m
+        ∙ ap (λ l. l ++ host_got_in s m) (k.same (aside u.unmade unpiped.0))
+        ∙ ap (λ l. got s (plains all) ++ l) (guests_got u.unmade unpiped.0 unpiped.1)
+        ∙ sym (got-push s (plains all) (plain m))
+        ∙ ap (got s) (sym (plains-push all m))
+
+    untaken_next : all_taken s (all ++ m ∷ []) ≡ []
+    untaken_next =
+        all_taken-push s all m
+        ∙ ap (λ l. l ++ host_taken_in s m) (k.untaken (aside u.unmade unpiped.0))
+        ∙ taken_unread s m (stream_in m.before s).reader.owner (unreads u.unmade unpiped.0)
 
   keeps_next : RunKeeps s (all ++ m ∷ []) new (left_after s m.part n)
   keeps_next = record {
     holds = Holds-effect old new m.reply k.holds m.part effect;
     bytes = effect_bytes old new m.part m.reply k.holds (puts m.part pays) k.bytes effect;
-    hosted = λ e. hosted_next (is_hosted s all) refl (before_is true e);
-    guests = λ f. guests_after old new m.part m.reply s (seen f);
-    room = λ f. room_next m.part pays (k.room (parts f).0) (seen f).seen.most (seen f).still;
+    room = room_next s n old new m.reply k.holds k.room m.part pays effect;
+    hosted = λ e. hosted_next (is_hosted s all) refl (sym (is_hosted-push s all m) ∙ e);
+    piped = piped_now;
+    guests = λ u. guests_after old new m.part m.reply s (seen u.unmade (unpiped u).0 (unpiped u).1);
+    read = read_next;
     accounts = accounts_next;
     whole = whole_next;
+    same = same_next;
+    untaken = untaken_next;
   }
 
 -- ## Every run
@@ -182,7 +220,7 @@ keeps_from s all w (m ∷ more) n c p k =
     let f = c.0 in
     let here : RunKeeps s all m.before.state n = subst (λ (v : World). RunKeeps s all v.state n) (sym f.begins) k in
     let effect : Effect m.before.state m.part m.reply m.after.state =
-    subst (λ (v : World). Effect v.state m.part m.reply m.after.state) (sym f.begins) (follows_effect w m f k.holds.hosts.unpiped) in
+    subst (λ (v : World). Effect v.state m.part m.reply m.after.state) (sym f.begins) (follows_effect w m f) in
     let next = keeps_from s (all ++ m ∷ []) m.after more (left_after s m.part n) c.1 p.1 (keeps_next s all m n p.0 here effect) in
     subst (λ l. RunKeeps s l (last_of m.after more).state (left_at s more (left_after s m.part n))) (append_assoc all (m ∷ []) more) next
 
@@ -192,12 +230,24 @@ keeps_empty : (s tag : ℕ) (limits : Limits) (run : List Step) → AreSteps run
 keeps_empty s tag limits run a = record {
   holds = Holds-empty tag limits;
   bytes = All-nil _;
+  room = omega (arith, a.few);
   hosted = λ e. cc;
-  guests = λ e. record { apart = refl; tallies = record { writing = tt; reading = tt; one = λ q. cc }; unhosted = refl };
-  room = λ e. omega (arith, a.few);
-  accounts = λ e side. record { kept = Kept-empty s side tag limits; unmade = λ l. record { none = refl; silent = λ kind. refl } };
-  whole = λ e. All-nil IsSome;
+  piped = λ e. cc;
+  guests = λ u. record { apart = refl; tallies = record { writing = tt; reading = tt; one = λ q. cc }; unhosted = nobody };
+  read = λ u e. cc;
+  accounts = λ u side. first_account side;
+  whole = λ u h. All-nil IsSome;
+  same = λ u. refl;
+  untaken = λ u. refl;
 }
+  where
+    nobody : (side : Side) → is_host (end_of side (stream_at (empty tag limits) s)).owner ≡ false
+    nobody Writing = refl
+    nobody Reading = refl
+
+    first_account : (side : Side) → HostAccount s side [] (empty tag limits)
+    first_account Writing = record { kept = Kept-empty s Writing tag limits; unmade = λ l. record { none = refl; silent = λ kind. refl } }
+    first_account Reading = record { kept = Kept-empty s Reading tag limits; unmade = λ l. record { none = refl; silent = λ kind. refl } }
 
 module _ (tag : ℕ) (limits : Limits) (tells told : Tells) (run : List Step) (s : ℕ) (a : AreSteps run) where
   abbrev first : World
@@ -212,61 +262,122 @@ module _ (tag : ℕ) (limits : Limits) (tells told : Tells) (run : List Step) (s
   run_keeps : RunKeeps s all_moments end_state (left_at s all_moments (length run))
   run_keeps = keeps_from s [] first all_moments (length run) (moments-chain first run) (moments_cost s first run a.bytes) (keeps_empty s tag limits run a)
 
+  -- one operation at most is open
+  none_writes : (stream : Stream) → stream.writer.operation ≡ None → both_open stream ≡ false
+  none_writes stream e = ap (λ o. is_opened o && is_opened stream.reader.operation) e
+
+  none_reads : (stream : Stream) → stream.reader.operation ≡ None → both_open stream ≡ false
+  none_reads stream e = and_right (is_opened stream.writer.operation) (is_opened stream.reader.operation) (ap is_opened e)
+
   -- no stream has an open write and an open read
   pub apart : both_open (stream_at end_state s) ≡ false
-  apart = by (is_hosted s all_moments) refl
+  apart = by (is_hosted s all_moments) (is_piped s all_moments) refl refl
     where
-      none_open : (stream : Stream) → stream.writer.operation ≡ None → both_open stream ≡ false
-      none_open stream e = ap (λ o. is_opened o && is_opened stream.reader.operation) e
+      by : (b c : Bool) → is_hosted s all_moments ≡ b → is_piped s all_moments ≡ c → both_open (stream_at end_state s) ≡ false
+      by true c e f = none_writes (stream_at end_state s) (run_keeps.hosted e).idle
+      by false true e f = none_reads (stream_at end_state s) (run_keeps.piped f).idle
+      by false false e f = (run_keeps.guests (record { unmade = e; unpiped = f })).apart
 
-      by : (b : Bool) → is_hosted s all_moments ≡ b → both_open (stream_at end_state s) ≡ false
-      by true e = none_open (stream_at end_state s) (run_keeps.hosted e).idle
-      by false e = (run_keeps.guests e).apart
-
-  -- what has not met has moved nothing, unless a host writer moves it
+  -- what has not met has moved nothing, unless a host end moves it
   pub moved_by_hosts : MovesByHosts (stream_at end_state s)
-  moved_by_hosts = by (is_hosted s all_moments) refl
+  moved_by_hosts = record {
+    writing = writes (is_hosted s all_moments) (is_piped s all_moments) refl refl;
+    reading = reads (is_hosted s all_moments) (is_piped s all_moments) refl refl;
+  }
     where
-      by : (b : Bool) → is_hosted s all_moments ≡ b → MovesByHosts (stream_at end_state s)
-      by true e =
-          let h = run_keeps.hosted e in
-          record { writing = subst IsUnmoved (sym h.idle) tt; reading = h.parted }
-      by false e =
-          let tallies = (run_keeps.guests e).tallies in
-          record { writing = tallies.writing; reading = λ u v. tallies.reading }
+      writes : (b c : Bool) → is_hosted s all_moments ≡ b → is_piped s all_moments ≡ c → is_host (stream_at end_state s).reader.owner ≡ false → is_gone (stream_at end_state s).writer.owner ≡ false → IsUnmoved (stream_at end_state s).writer.operation
+      writes b true e f = (run_keeps.piped f).parted
+      writes true false e f = λ u v. subst IsUnmoved (sym (run_keeps.hosted e).idle) tt
+      writes false false e f = λ u v. (run_keeps.guests (record { unmade = e; unpiped = f })).tallies.writing
+
+      reads : (b c : Bool) → is_hosted s all_moments ≡ b → is_piped s all_moments ≡ c → is_host (stream_at end_state s).writer.owner ≡ false → is_gone (stream_at end_state s).reader.owner ≡ false → IsUnmoved (stream_at end_state s).reader.operation
+      reads true c e f = (run_keeps.hosted e).parted
+      reads false true e f = λ u v. subst IsUnmoved (sym (run_keeps.piped f).idle) tt
+      reads false false e f = λ u v. (run_keeps.guests (record { unmade = e; unpiped = f })).tallies.reading
 
   module _ (g : is_hosted s all_moments ≡ false) where
-    -- what has not met has moved nothing
-    pub unmoved : AreUnmoved (stream_at end_state s)
-    unmoved = let tallies = (run_keeps.guests g).tallies in (tallies.writing, tallies.reading)
+    accounts_there : (side : Side) → HostAccount s side all_moments end_state
+    accounts_there = run_keeps.accounts g
 
-    account : (side : Side) → Account s side (plains all_moments) end_state
-    account = run_keeps.accounts g
-
-    pub conserves : Conserves s (plains all_moments) end_state
-    conserves =
+    pub conserves_among : ConservesAmong s all_moments end_state
+    conserves_among =
         let all = plains all_moments in
-        let w = (account Writing).kept in
-        let long : length (got s all) ≡ total (kind_at s end_state) (moved_at s Writing end_state) (writes s all) =
+        let w = (accounts_there Writing).kept in
+        let r = (accounts_there Reading).kept in
+        let long : length (host_got s all_moments) ≡ total (kind_at s end_state) (moved_at s Writing end_state) (writes s all) =
         ap length (w.items refl) ∙ length-all_handed (kind_at s end_state) s all (moved_at s Writing end_state) 0 (writes s all) in
-        let count : length (got s all) ≡ received s end_state = long ∙ sym w.count in
+        let count : length (host_got s all_moments) ≡ received s end_state = omega (arith, long, w.count) in
         record {
           items = w.items refl;
           written = long;
-          read = count ∙ (account Reading).kept.count;
-          asked = λ side. (account side).kept.within;
-          told = λ side. (account side).kept.told ∙ sym count;
+          read = omega (arith, count, r.count);
+          asked = λ side. (accounts_there side).kept.within;
+          told_writer = omega (arith, w.told, count);
+          told_reader = omega (arith, r.told, count);
           count = count;
           whole = run_keeps.whole g;
         }
 
+    pub stands_among : (side : Side) → Stands (stream_at end_state s).payload (waiting s side end_state) (calls s side (plains all_moments))
+    stands_among side = (accounts_there side).kept.stands
+
+    -- a future passes at most one item, whoever reads it
+    pub one_among : (stream_at end_state s).kind ≡ Future → length (host_got s all_moments) ≤ 1
+    one_among kind = let count = conserves_among.count in let most = by (is_piped s all_moments) refl in omega (arith, count, most)
+      where
+        at_most : (b : Bool) → received s end_state ≡ (if b then 1 else 0) → received s end_state ≤ 1
+        at_most true e = omega (arith, e)
+        at_most false e = omega (arith, e)
+
+        by : (b : Bool) → is_piped s all_moments ≡ b → received s end_state ≤ 1
+        by true e = at_most (stream_at end_state s).passed ((run_keeps.read g e).one kind).count
+        by false e = received_one (stream_at end_state s) ((run_keeps.guests (record { unmade = g; unpiped = e })).tallies.one kind)
+
+  module _ (g : is_hosted s all_moments ≡ false) (p : is_piped s all_moments ≡ false) where
+    none_had : IsUnhosted s all_moments
+    none_had = record { unmade = g; unpiped = p }
+
+    -- what has not met has moved nothing
+    pub unmoved : AreUnmoved (stream_at end_state s)
+    unmoved = let tallies = (run_keeps.guests none_had).tallies in (tallies.writing, tallies.reading)
+
+    pub conserves : Conserves s (plains all_moments) end_state
+    conserves =
+        let among = conserves_among g in
+        let same = run_keeps.same none_had in
+        let untaken : length (all_taken s all_moments) ≡ 0 = ap length (run_keeps.untaken none_had) in
+        let long : length (got s (plains all_moments)) ≡ length (host_got s all_moments) = ap length (sym same) in
+        let reader = among.told_reader in
+        let writer = among.told_writer in
+        let read = among.read in
+        record {
+          items = sym same ∙ among.items;
+          written = long ∙ among.written;
+          read = omega (arith, long, read, untaken);
+          asked = among.asked;
+          told = told_at;
+          count = long ∙ among.count;
+          whole = subst (All IsSome) same (among.whole (subst (All IsSome) (sym (run_keeps.untaken none_had)) (All-nil IsSome)));
+        }
+      where
+        told_at : (side : Side) → all_reported (stream_at end_state s).kind s side (plains all_moments) + moved_at s side end_state ≡ length (got s (plains all_moments))
+        told_at Writing = let writer = (conserves_among g).told_writer in let long : length (got s (plains all_moments)) ≡ length (host_got s all_moments) = ap length (sym (run_keeps.same none_had)) in omega (arith, writer, long)
+        told_at Reading =
+            let reader = (conserves_among g).told_reader in
+            let untaken : length (all_taken s all_moments) ≡ 0 = ap length (run_keeps.untaken none_had) in
+            let long : length (got s (plains all_moments)) ≡ length (host_got s all_moments) = ap length (sym (run_keeps.same none_had)) in
+            omega (arith, reader, untaken, long)
+
     pub stands : (side : Side) → Stands (stream_at end_state s).payload (waiting s side end_state) (calls s side (plains all_moments))
-    stands side = (account side).kept.stands
+    stands = stands_among g
 
     -- a future passes at most one item
     pub one : (stream_at end_state s).kind ≡ Future → length (got s (plains all_moments)) ≤ 1
-    one kind = omega (arith, conserves.count, received_one (stream_at end_state s) ((run_keeps.guests g).tallies.one kind))
+    one kind = let count = conserves.count in omega (arith, count, received_one (stream_at end_state s) ((run_keeps.guests none_had).tallies.one kind))
 
-  -- on a stream that was made of a host writer no guest writes
+  -- on a stream that was made of a host writer no guest writes, and on one that went to a host reader none reads
   pub idle : is_hosted s all_moments ≡ true → (stream_at end_state s).writer.operation ≡ None
   idle e = (run_keeps.hosted e).idle
+
+  pub unread : is_piped s all_moments ≡ true → (stream_at end_state s).reader.operation ≡ None
+  unread e = (run_keeps.piped e).idle

@@ -1,9 +1,9 @@
--- Memories in a run with host writers: the bytes that are put lie there, and those that are not touched stay; what
--- a host writer hands over touches those where its items are received.
+-- Memories in a run with host ends: the bytes that are put lie there, and those that are not touched stay; what
+-- a host writer hands over touches those where its items are received, and a host reader touches none.
 use Rattle.std.proofs.Common.{◌≡◌, ◌≢◌, ℕ, zero, suc, ◌+◌, ◌-◌, ◌*◌, ◌^◌, ◌<◌, ◌≤◌, ◌==◌, Bool, true, false, cond, List, [], ◌∷◌, ◌++◌, length, take, drop, get_or, set, Some, refl, sym, ap, subst, ◌∙◌, ◌⊎◌, inl, inr, arith, length-set}
 use Rattle.std.specs.Prelude.{All}
 use Rattle.std.proofs.lemmas.Bool.{cases_eq, cases_lt, eqb-true, eq-eqb, ne_eqb}
-use Rattle.std.proofs.lemmas.List.{get_or-set_same, get_or-set_other, length-map, take-append-drop}
+use Rattle.std.proofs.lemmas.List.{get_or-set_same, get_or-set_other, get_or_append_left, length-map, take-append-drop}
 use Rattle.std.proofs.lemmas.List.Elements.{All-nil, All-cons}
 use Rattle.strm_codes.specs.Layout.{scalars_of, item_size}
 use Rattle.strm_codes.specs.declared.payloads.Payload.{Payload}
@@ -17,12 +17,12 @@ use Rattle.strm_machine.specs.Meetings.{begun}
 use Rattle.strm_machine.specs.Moments.{Moment, Place, place_of, read_place, received, rise, target, is_named}
 use Rattle.strm_machine.specs.Endings.{delivered}
 use Rattle.strm_machine.specs.Reactions.{told, reaction}
-use Rattle.strm_machine.specs.Sides.{with_operation}
+use Rattle.strm_machine.specs.Sides.{opposite, with_operation}
 use Rattle.strm_machine.specs.Soundness.{IsPlaced, sizes_of}
 use Rattle.strm_machine.specs.State.{State, Guest, no_stream, memory_in, stream_at, is_host}
 use Rattle.strm_machine.specs.Tests.{named, stream_named, items_asked}
 use Rattle.strm_machine.specs.Turns.{with_received}
-use Rattle.strm_machine.specs.Untouched.{Region, bytes_of, LiesApart, LieThere, received_by, StaysAside}
+use Rattle.strm_machine.specs.Untouched.{Region, bytes_of, LiesApart, put_by, LieThere, received_by, StaysAside}
 use Rattle.strm_machine.specs.declared.acts.Act.{Act}
 use Rattle.strm_machine.specs.declared.acts.Act.TheVariants.{OnEnd, OnHost}
 use Rattle.strm_machine.specs.declared.acts.EndAct.TheVariants.{Operate}
@@ -31,7 +31,8 @@ use Rattle.strm_machine.specs.declared.limits.Limits.{Limits}
 use Rattle.strm_machine.specs.declared.replies.Reply.{Reply}
 use Rattle.strm_machine.specs.declared.steps.Step.{Step}
 use Rattle.strm_machine.specs.declared.streams.Operation.{Operation}
-use Rattle.strm_machine.specs.declared.streams.Side.TheVariants.{Reading}
+use Rattle.strm_machine.specs.declared.streams.Side.{Side}
+use Rattle.strm_machine.specs.declared.streams.Side.TheVariants.{Writing, Reading}
 use Rattle.strm_machine.specs.declared.streams.Stream.{Stream}
 use Rattle.strm_machine.proofs.BoundLemmas.{within}
 use Rattle.strm_machine.proofs.CarryLemmas.{no_scalars}
@@ -42,7 +43,7 @@ use Rattle.strm_machine.proofs.StateLemmas.{memory_in-with_memory, memory_in-wit
 use Rattle.strm_machine.proofs.TurnLemmas.{front_inside, size_in}
 use Rattle.strm_machine.proofs.UntouchedLemmas.{reaction-stays, StaysAside-same}
 use Rattle.strm_machine.proofs.StreamSteps.{most_of, set_most, reaction_streams}
-use Rattle.strm_world.specs.Attaching.{forsaken}
+use Rattle.strm_world.specs.Attaching.{piped, without_ends, forsaken}
 use Rattle.strm_world.specs.Producing.{lowered}
 use Rattle.strm_world.specs.World.{World}
 use Rattle.strm_world.specs.Does.{start}
@@ -52,9 +53,9 @@ use Rattle.strm_host_laws.specs.HostLaws.{plain, plains}
 use Rattle.strm_host_laws.proofs.Chains.{Follows, Chain, moments-chain}
 use Rattle.strm_machine.proofs.TableLemmas.{set-keeps, at_push}
 use Rattle.strm_host_laws.proofs.HostTurns.{Turned, turned_stream}
-use Rattle.strm_host_laws.proofs.Effects.{opened_by, Driven, Reads, forsaken_by, Forsakes, Effect, ByReaction, ByRest, ByHosting, ByDriving, ByReading, ByForsaking, is_idle, host_made, follows_effect}
-use Rattle.strm_host_laws.proofs.GuestsSeen.{moment_in}
-use Rattle.strm_host_laws.proofs.Standing.{Holds, Holds-effect, Holds-empty, read_begun, opened_payload, waiting_placed}
+use Rattle.strm_host_laws.proofs.Effects.{opened_by, Driven, Calls, piped_streams, piped_guests, Pipes, forsaken_by, Forsakes, Effect, ByReaction, ByRest, ByHosting, ByPiping, ByDriving, ByCalling, ByForsaking, is_idle, host_made, follows_effect}
+use Rattle.strm_host_laws.proofs.GuestsSeen.{moment_in, forsaken_guests}
+use Rattle.strm_host_laws.proofs.Standing.{Holds, Holds-effect, Holds-empty, call_begun, opened_payload, waiting_placed}
 use Rattle.strm_host_laws.proofs.StepsLeft.{left_after, Pays, Costs, moments_cost}
 use Rattle.strm_host_laws.proofs.TurnMoves.{moved_on-moves}
 use Rattle.strm_world.proofs.LoweredLemmas.{lowered-keeps}
@@ -62,19 +63,19 @@ use Rattle.strm_world.proofs.LoweredLemmas.{lowered-keeps}
 -- ## How many items a part may bring
 
 -- what a turn brings
-module _ (old new : State) (k n : ℕ) (read : Operation) (t : Turned old new k n read) (small : read.left < 2 ^ 28) where
+module _ (side : Side) (old new : State) (k n : ℕ) (operation : Operation) (t : Turned side old new k n operation) (small : operation.left < 2 ^ 28) where
   abbrev now : Stream
-  now = turned_stream old k read t.items t.result
+  now = turned_stream side old k operation t.count t.result
 
-  now_count : now.received ≡ cond (length t.items == 0) (stream_at old k).received (with_received (stream_at old k) (length t.items)).received
-  now_count = (moved_on-moves (stream_at old k) read (length t.items) t.result).count
+  now_count : now.received ≡ cond (t.count == 0) (stream_at old k).received (with_received (stream_at old k) t.count).received
+  now_count = (moved_on-moves (stream_at old k) operation t.count side t.result).count
 
   few_now : now.received ≤ (stream_at old k).received + 2 ^ 28
-  few_now = omega (arith, now_count, either (length t.items == 0))
+  few_now = omega (arith, now_count, either (t.count == 0))
     where
-      either : (b : Bool) → cond b (stream_at old k).received (with_received (stream_at old k) (length t.items)).received ≤ (stream_at old k).received + 2 ^ 28
+      either : (b : Bool) → cond b (stream_at old k).received (with_received (stream_at old k) t.count).received ≤ (stream_at old k).received + 2 ^ 28
       either true = omega arith
-      either false = most_of (stream_at old k).received (length t.items) (omega (arith, t.few, small))
+      either false = most_of (stream_at old k).received t.count (omega (arith, t.few, small))
 
   turned_most : (s : ℕ) → received s new ≤ received s old + 2 ^ 28
   turned_most s =
@@ -85,61 +86,124 @@ module _ (old new : State) (k n : ℕ) (read : Operation) (t : Turned old new k 
   turned_still s ne = ap (received s) t.is ∙ ap (λ (x : Stream). x.received) (get_or-set_other old.streams k s now no_stream ne)
 
   -- exactly its items, where the count has room
-  turned_count : (stream_at old k).received + 2 ^ 28 < 2 ^ 128 → k < length old.streams → received k new ≡ received k old + length t.items
+  pub turned_count : (stream_at old k).received + 2 ^ 28 < 2 ^ 128 → k < length old.streams → received k new ≡ received k old + t.count
   turned_count room made =
       ap (received k) t.is
       ∙ ap (λ (x : Stream). x.received) (get_or-set_same old.streams k now no_stream made)
-      ∙ now_count ∙ either (length t.items == 0) refl
+      ∙ now_count ∙ either (t.count == 0) refl
     where
-      either : (b : Bool) → (length t.items == 0) ≡ b → cond b (stream_at old k).received (with_received (stream_at old k) (length t.items)).received ≡ (stream_at old k).received + length t.items
-      either true e = omega (arith, eqb-true (length t.items) 0 e)
+      either : (b : Bool) → (t.count == 0) ≡ b → cond b (stream_at old k).received (with_received (stream_at old k) t.count).received ≡ (stream_at old k).received + t.count
+      either true e = omega (arith, eqb-true t.count 0 e)
       either false e = omega (arith, room, t.few, small)
 
-placed_small : (sizes : List ℕ) (payload : Payload) (o : Operation) → IsPlaced sizes payload o → o.left < 2 ^ 28
+pub placed_small : (sizes : List ℕ) (payload : Payload) (o : Operation) → IsPlaced sizes payload o → o.left < 2 ^ 28
 placed_small sizes payload o p = omega (arith, p.counted)
 
-told_count : (state : State) (k s : ℕ) → received s (told state k Reading) ≡ received s state
+told_received : (side : Side) (stream : Stream) → (delivered side stream).received ≡ stream.received
 unfolding delivered
-told_count state k s = set-keeps (λ (x : Stream). x.received) state.streams k s (delivered Reading (stream_at state k)) no_stream refl
+told_received Writing stream = refl
+told_received Reading stream = refl
+
+pub told_count : (side : Side) (state : State) (k s : ℕ) → received s (told state k side) ≡ received s state
+told_count side state k s = set-keeps (λ (x : Stream). x.received) state.streams k s (delivered side (stream_at state k)) no_stream (told_received side (stream_at state k))
+
+opened_received : (side : Side) (stream : Stream) (operation : Operation) → (with_operation side stream operation).received ≡ stream.received
+opened_received Writing stream operation = refl
+opened_received Reading stream operation = refl
+
+pub opened_count : (side : Side) (state : State) (k s : ℕ) (operation : Operation) → received s (opened_by side state k operation) ≡ received s state
+opened_count side state k s operation = set-keeps (λ (x : Stream). x.received) state.streams k s (with_operation side (stream_at state k) operation) no_stream (opened_received side (stream_at state k) operation)
+
+forsaken_count : (side : Side) (state : State) (k n s : ℕ) → received s (forsaken_by side state k n) ≡ received s state
+forsaken_count Writing state k n s = set-keeps (λ (x : Stream). x.received) state.streams k s (forsaken Writing (stream_at state k)) no_stream refl
+forsaken_count Reading state k n s = set-keeps (λ (x : Stream). x.received) state.streams k s (forsaken Reading (stream_at state k)) no_stream refl
+
+pub piped_count : (old new : State) (k r s : ℕ) (reply : Reply) → Pipes old k r reply new → received s new ≡ received s old
+piped_count old new k r s reply x =
+    elim (piped_streams old new k r x.ends) [
+      | inl e ↦ ap (λ xs. (get_or xs s no_stream).received) e ∙ set-keeps (λ (y : Stream). y.received) old.streams k s (piped (stream_at old k) r) no_stream refl
+      | inr e ↦ ap (λ xs. (get_or xs s no_stream).received) e ∙ set-keeps (λ (y : Stream). y.received) old.streams k s (without_ends (piped (stream_at old k) r)) no_stream refl
+    ]
 
 module _ (old new : State) (reply : Reply) (h : Holds old) where
-  driven_small : (k : ℕ) → (d : Driven old new k) → d.read.left < 2 ^ 28
-  driven_small k d =
-      placed_small (sizes_of old.guests) (stream_at old k).payload d.read
-      (waiting_placed old k d.read (host_made old k (ap is_host d.owner)) d.waits h.sound)
+  pub driven_small : (side : Side) (k : ℕ) → (d : Driven side old new k) → d.operation.left < 2 ^ 28
+  driven_small side k d =
+      placed_small (sizes_of old.guests) (stream_at old k).payload d.operation
+      (waiting_placed side old k d.operation (host_made old k (opposite side) (ap is_host d.owner)) d.waits h.sound)
 
-  read_placed : (end : NamedEnd) (address count : ℕ) → Reads old end address count reply new
+  call_placed : (side : Side) (end : NamedEnd) (address count : ℕ) → Calls side old end address count reply new
       → IsPlaced (sizes_of old.guests) (stream_at old (stream_named (named old end))).payload (begun end.guest address (items_asked end.ty count))
-  read_placed end address count r = (read_begun old end address count h.sound r.unrefused).placed
+  call_placed side end address count r = (call_begun side old end address count h.sound r.unrefused).placed
 
   pub effect_most : (part : Part) (s : ℕ) → Effect old part reply new → received s new ≤ received s old + 2 ^ 28
   effect_most part s (ByReaction act p i r e) = omega (arith, ap (received s) e, (reaction_streams old act h.sound).most s)
   effect_most part s (ByRest q e) = omega (arith, ap (received s) e)
   effect_most part s (ByHosting n p x) =
       omega (arith, ap (received s) x.is, at_push old.streams x.stream no_stream s (λ y. y.received ≤ received s old + 2 ^ 28) (λ q. omega (arith, x.none)) (λ ne. omega arith))
-  effect_most part s (ByDriving k p done d) = turned_most old new k d.writer d.read d.turned (driven_small k d) s
-  effect_most part s (ByReading end address count p r) =
+  effect_most part s (ByPiping k r p x) = omega (arith, piped_count old new k r s reply x)
+  effect_most part s (ByDriving side k p done d) = turned_most side old new k d.host d.operation d.turned (driven_small side k d) s
+  effect_most part s (ByCalling side end address count p r) =
       let k = stream_named (named old end) in
-      let read = begun end.guest address (items_asked end.ty count) in
-      let opened = opened_by old k read in
-      let first : received s opened ≡ received s old = set-keeps (λ (x : Stream). x.received) old.streams k s (with_operation Reading (stream_at old k) read) no_stream refl in
-      let second = turned_most opened r.mid k r.writer read r.turned (placed_small (sizes_of old.guests) (stream_at old k).payload read (read_placed end address count r)) s in
-      omega (arith, first, second, ap (received s) r.is, told_count r.mid k s)
+      let operation = begun end.guest address (items_asked end.ty count) in
+      let opened = opened_by side old k operation in
+      let second = turned_most side opened r.mid k r.host operation r.turned (placed_small (sizes_of old.guests) (stream_at old k).payload operation (call_placed side end address count r)) s in
+      omega (arith, opened_count side old k s operation, second, ap (received s) r.is, told_count side r.mid k s)
   effect_most part s (ByForsaking act p f) =
-      let r = reaction old act in
-      let left : received s (forsaken_by r.state f.stream f.writer) ≡ received s r.state = set-keeps (λ (x : Stream). x.received) r.state.streams f.stream s (forsaken Reading (stream_at r.state f.stream)) no_stream refl in
-      omega (arith, ap (received s) f.is, left, (reaction_streams old act h.sound).most s)
+      omega (arith, ap (received s) f.is, forsaken_count f.side (reaction old act).state f.stream f.host s, (reaction_streams old act h.sound).most s)
 
   -- the turn of another stream brings none
   pub effect_still : (k s : ℕ) → k ≢ s → Effect old (Turns k) reply new → received s new ≡ received s old
   effect_still k s ne (ByReaction act p i r e) = cc
   effect_still k s ne (ByRest q e) = ap (received s) e
   effect_still k s ne (ByHosting n p x) = cc
-  effect_still k s ne (ByDriving j p done d) =
+  effect_still k s ne (ByPiping t r p x) = cc
+  effect_still k s ne (ByDriving side j p done d) =
       let same : k ≡ j = cc in
-      turned_still old new j d.writer d.read d.turned (driven_small j d) s (λ e. ne (same ∙ sym e))
-  effect_still k s ne (ByReading end address count p r) = cc
+      turned_still side old new j d.host d.operation d.turned (driven_small side j d) s (λ e. ne (same ∙ sym e))
+  effect_still k s ne (ByCalling side end address count p r) = cc
   effect_still k s ne (ByForsaking act p f) = cc
+
+-- ## What kind of stream it is
+
+delivered_kind : (side : Side) (stream : Stream) → (delivered side stream).kind ≡ stream.kind
+unfolding delivered
+delivered_kind Writing stream = refl
+delivered_kind Reading stream = refl
+
+opened_kind : (side : Side) (stream : Stream) (operation : Operation) → (with_operation side stream operation).kind ≡ stream.kind
+opened_kind Writing stream operation = refl
+opened_kind Reading stream operation = refl
+
+forsaken_kind : (side : Side) (state : State) (k n s : ℕ) → (stream_at (forsaken_by side state k n) s).kind ≡ (stream_at state s).kind
+forsaken_kind Writing state k n s = set-keeps (λ (x : Stream). x.kind) state.streams k s (forsaken Writing (stream_at state k)) no_stream refl
+forsaken_kind Reading state k n s = set-keeps (λ (x : Stream). x.kind) state.streams k s (forsaken Reading (stream_at state k)) no_stream refl
+
+turned_kind : (side : Side) (old new : State) (k n s : ℕ) (operation : Operation) → Turned side old new k n operation → (stream_at new s).kind ≡ (stream_at old s).kind
+turned_kind side old new k n s operation t =
+    ap (λ (x : State). (stream_at x s).kind) t.is
+    ∙ set-keeps (λ (x : Stream). x.kind) old.streams k s (turned_stream side old k operation t.count t.result) no_stream (moved_on-moves (stream_at old k) operation t.count side t.result).kind
+
+-- a stream stays of its kind
+pub effect_kind : (old new : State) (part : Part) (reply : Reply) (s : ℕ) → Holds old → s < length old.streams → Effect old part reply new → (stream_at new s).kind ≡ (stream_at old s).kind
+effect_kind old new part reply s h made (ByReaction act p i r e) = ap (λ (x : State). (stream_at x s).kind) e ∙ (reaction_streams old act h.sound).kind s made
+effect_kind old new part reply s h made (ByRest q e) = ap (λ (x : State). (stream_at x s).kind) e
+effect_kind old new part reply s h made (ByHosting n p x) =
+    ap (λ (y : State). (stream_at y s).kind) x.is ∙ ap (λ (y : Stream). y.kind) (get_or_append_left old.streams (x.stream ∷ []) no_stream s made)
+effect_kind old new part reply s h made (ByPiping k r p x) =
+    elim (piped_streams old new k r x.ends) [
+      | inl e ↦ ap (λ xs. (get_or xs s no_stream).kind) e ∙ set-keeps (λ (y : Stream). y.kind) old.streams k s (piped (stream_at old k) r) no_stream refl
+      | inr e ↦ ap (λ xs. (get_or xs s no_stream).kind) e ∙ set-keeps (λ (y : Stream). y.kind) old.streams k s (without_ends (piped (stream_at old k) r)) no_stream refl
+    ]
+effect_kind old new part reply s h made (ByDriving side k p done d) = turned_kind side old new k d.host s d.operation d.turned
+effect_kind old new part reply s h made (ByCalling side end address count p r) =
+    let k = stream_named (named old end) in
+    let operation = begun end.guest address (items_asked end.ty count) in
+    ap (λ (x : State). (stream_at x s).kind) r.is
+    ∙ set-keeps (λ (x : Stream). x.kind) r.mid.streams k s (delivered side (stream_at r.mid k)) no_stream (delivered_kind side (stream_at r.mid k))
+    ∙ turned_kind side (opened_by side old k operation) r.mid k r.host s operation r.turned
+    ∙ set-keeps (λ (x : Stream). x.kind) old.streams k s (with_operation side (stream_at old k) operation) no_stream (opened_kind side (stream_at old k) operation)
+effect_kind old new part reply s h made (ByForsaking act p f) =
+    ap (λ (x : State). (stream_at x s).kind) f.is ∙ forsaken_kind f.side (reaction old act).state f.stream f.host s ∙ (reaction_streams old act h.sound).kind s made
 
 -- ## Memories
 
@@ -236,57 +300,64 @@ Concerns (Acts act) s = Unit {0}
 Concerns (Turns k) s = k ≡ s
 
 module _ (old new : State) (reply : Reply) (h : Holds old) where
-  driven_aside : (k : ℕ) → (stream_at old k).received + 2 ^ 28 < 2 ^ 128 → Driven old new k → StaysAside (moment_in old (Turns k) reply new)
-  driven_aside k room d =
+  driven_aside : (side : Side) (k : ℕ) → (stream_at old k).received + 2 ^ 28 < 2 ^ 128 → Driven side old new k → StaysAside (moment_in old (Turns k) reply new)
+  driven_aside Writing k room d =
+      StaysAside-same (moment_in old (Turns k) reply new) (ap (λ (x : State). x.guests) d.turned.is ∙ d.turned.fills)
+  driven_aside Reading k room d =
       let m = moment_in old (Turns k) reply new in
       let payload = (stream_at old k).payload in
-      let made = host_made old k (ap is_host d.owner) in
-      let placed = waiting_placed old k d.read made d.waits h.sound in
+      let made = host_made old k Writing (ap is_host d.owner) in
+      let placed = waiting_placed Reading old k d.operation made d.waits h.sound in
       let t = d.turned in
-      let rises : rise k m ≡ length t.items = rise_is (received k new) (received k old) (length t.items) (turned_count old new k d.writer d.read t (placed_small (sizes_of old.guests) payload d.read placed) room made) in
-      received_aside m k payload d.read t.items (record { guests = ap (λ (x : State). x.guests) t.is; placed = placed; few = t.few })
-      (region_same (target k m) (place_of (Some d.read)) _ _ (ap place_of d.waits) (ap (λ n. item_size (scalars_of payload) * n) rises))
+      let items = t.fills.items in
+      let rises : rise k m ≡ length items = rise_is (received k new) (received k old) (length items) (turned_count Reading old new k d.host d.operation t (placed_small (sizes_of old.guests) payload d.operation placed) room made ∙ ap (λ n. received k old + n) t.fills.long) in
+      received_aside m k payload d.operation items (record { guests = ap (λ (x : State). x.guests) t.is ∙ t.fills.is; placed = placed; few = omega (arith, t.few, t.fills.long) })
+      (region_same (target k m) (place_of (Some d.operation)) _ _ (ap place_of d.waits) (ap (λ n. item_size (scalars_of payload) * n) rises))
 
-  read_aside : (end : NamedEnd) (address count : ℕ) → ((s : ℕ) → received s old + 2 ^ 28 < 2 ^ 128) → Reads old end address count reply new → StaysAside (moment_in old (Acts (OnEnd Reading end (Operate address count))) reply new)
-  read_aside end address count room r =
+  call_aside : (side : Side) (end : NamedEnd) (address count : ℕ) → ((s : ℕ) → received s old + 2 ^ 28 < 2 ^ 128) → Calls side old end address count reply new → StaysAside (moment_in old (Acts (OnEnd side end (Operate address count))) reply new)
+  call_aside Writing end address count room r =
+      StaysAside-same (moment_in old (Acts (OnEnd Writing end (Operate address count))) reply new) (ap (λ (x : State). x.guests) r.is ∙ ap (λ (x : State). x.guests) r.turned.is ∙ r.turned.fills)
+  call_aside Reading end address count room r =
       let act = OnEnd Reading end (Operate address count) in
       let m = moment_in old (Acts act) reply new in
       let k = stream_named (named old end) in
       let read = begun end.guest address (items_asked end.ty count) in
-      let opened = opened_by old k read in
+      let opened = opened_by Reading old k read in
       let payload = (stream_at old k).payload in
-      let b = read_begun old end address count h.sound r.unrefused in
+      let b = call_begun Reading old end address count h.sound r.unrefused in
       let t = r.turned in
-      let same : (stream_at opened k).payload ≡ payload = opened_payload old k read in
-      let first : received k opened ≡ received k old = set-keeps (λ (x : Stream). x.received) old.streams k k (with_operation Reading (stream_at old k) read) no_stream refl in
+      let items = t.fills.items in
+      let same : (stream_at opened k).payload ≡ payload = opened_payload Reading old k read in
+      let first = opened_count Reading old k k read in
       let many : k < length opened.streams = omega (arith, b.found.made, length-set old.streams k (with_operation Reading (stream_at old k) read)) in
-      let second = turned_count opened r.mid k r.writer read t (placed_small (sizes_of old.guests) payload read b.placed) (omega (arith, first, room k)) many in
-      let last : received k new ≡ received k r.mid = ap (received k) r.is ∙ told_count r.mid k k in
-      let rises : rise k m ≡ length t.items = rise_is (received k new) (received k old) (length t.items) (last ∙ second ∙ ap (λ n. n + length t.items) first) in
-      let guests : m.after.guests ≡ lowered old.guests payload read t.items =
-      ap (λ (x : State). x.guests) r.is ∙ ap (λ (x : State). x.guests) t.is ∙ ap (λ p. lowered old.guests p read t.items) same in
+      let second = turned_count Reading opened r.mid k r.host read t (placed_small (sizes_of old.guests) payload read b.placed) (omega (arith, first, room k)) many in
+      let last : received k new ≡ received k r.mid = ap (received k) r.is ∙ told_count Reading r.mid k k in
+      let rises : rise k m ≡ length items = rise_is (received k new) (received k old) (length items) (last ∙ second ∙ ap (λ n. n + t.count) first ∙ ap (λ n. received k old + n) t.fills.long) in
+      let guests : m.after.guests ≡ lowered old.guests payload read items =
+      ap (λ (x : State). x.guests) r.is ∙ ap (λ (x : State). x.guests) t.is ∙ t.fills.is ∙ ap (λ p. lowered old.guests p read items) same in
       let named_here : is_named k Reading m ≡ true = named_itself old act reply k Reading Reading (b.found.named reply) in
       let waiting = place_of (stream_at old k).reader.operation in
-      received_aside m k payload read t.items (record { guests = guests; placed = b.placed; few = t.few })
+      received_aside m k payload read items (record { guests = guests; placed = b.placed; few = omega (arith, t.few, t.fills.long) })
       (region_same (target k m) (place_of (Some read)) _ _ (ap (λ x. cond x (read_place act waiting) waiting) named_here) (ap (λ n. item_size (scalars_of payload) * n) rises))
 
   forsaken_aside : (act : Act) → StaysAside (as_moment old act (reaction old act)) → Forsakes old act reply new → StaysAside (moment_in old (Acts act) reply new)
   forsaken_aside act a f =
       let r = reaction old act in
       let before = as_moment old act r in
-      let after = moment_in old (Acts act) r.reply (forsaken_by r.state f.stream f.writer) in
-      let same : (s : ℕ) → received s (forsaken_by r.state f.stream f.writer) ≡ received s r.state =
-      λ s. set-keeps (λ (x : Stream). x.received) r.state.streams f.stream s (forsaken Reading (stream_at r.state f.stream)) no_stream refl in
+      let last = forsaken_by f.side r.state f.stream f.host in
+      let guests = forsaken_guests f.side r.state f.stream f.host in
+      let after = moment_in old (Acts act) r.reply last in
+      let same = forsaken_count f.side r.state f.stream f.host in
       let aside : StaysAside after = record {
-        guests = a.guests;
-        size = a.size;
-        bytes = λ x l u. a.bytes x l (record {
+        guests = omega (arith, a.guests, ap length guests);
+        size = λ g l. ap (λ gs. length (memory_in gs g)) guests ∙ a.size g l;
+        bytes = λ x l u. ap (λ gs. bytes_of gs x) guests ∙ a.bytes x l (record {
           put = u.put;
           got = λ s. subst (λ n. LiesApart x (record { place = target s before; size = item_size (scalars_of (stream_at old s).payload) * (n - received s old) })) (same s) (u.got s);
         });
       } in
       subst (λ (y : State). StaysAside (moment_in old (Acts act) reply y)) (sym f.is)
-      (subst (λ q. StaysAside (moment_in old (Acts act) q (forsaken_by r.state f.stream f.writer))) (sym f.reply_is) aside)
+      (subst (λ q. StaysAside (moment_in old (Acts act) q last)) (sym f.reply_is) aside)
 
   pub effect_aside : (part : Part) → ((s : ℕ) → Concerns part s → received s old + 2 ^ 28 < 2 ^ 128) → Effect old part reply new → StaysAside (moment_in old part reply new)
   effect_aside part room (ByReaction act p i r e) =
@@ -294,10 +365,11 @@ module _ (old new : State) (reply : Reply) (h : Holds old) where
       rw (p, r, e) (reaction-stays old act h.sound all)
   effect_aside part room (ByRest q e) = StaysAside-same (moment_in old part reply new) (ap (λ (x : State). x.guests) e)
   effect_aside part room (ByHosting n p x) = StaysAside-same (moment_in old part reply new) (ap (λ (y : State). y.guests) x.is)
-  effect_aside part room (ByDriving k p done d) =
-      subst (λ q. StaysAside (moment_in old q reply new)) (sym p) (driven_aside k (room k (subst (λ q. Concerns q k) (sym p) refl)) d)
-  effect_aside part room (ByReading end address count p r) =
-      subst (λ q. StaysAside (moment_in old q reply new)) (sym p) (read_aside end address count (λ s. room s (subst (λ q. Concerns q s) (sym p) tt)) r)
+  effect_aside part room (ByPiping k r p x) = StaysAside-same (moment_in old part reply new) (piped_guests old new k r x.ends)
+  effect_aside part room (ByDriving side k p done d) =
+      subst (λ q. StaysAside (moment_in old q reply new)) (sym p) (driven_aside side k (room k (subst (λ q. Concerns q k) (sym p) refl)) d)
+  effect_aside part room (ByCalling side end address count p r) =
+      subst (λ q. StaysAside (moment_in old q reply new)) (sym p) (call_aside side end address count (λ s. room s (subst (λ q. Concerns q s) (sym p) tt)) r)
   effect_aside part room (ByForsaking act p f) =
       let all : (s : ℕ) → received s old + 2 ^ 28 < 2 ^ 128 = λ s. room s (subst (λ q. Concerns q s) (sym p) tt) in
       subst (λ q. StaysAside (moment_in old q reply new)) (sym p) (forsaken_aside act (reaction-stays old act h.sound all) f)
@@ -312,19 +384,25 @@ module _ (old new : State) (reply : Reply) (h : Holds old) where
   effect_there part (ByReaction act p i r e) = rw (p, r, e) (reaction-there old act h.sound)
   effect_there part (ByRest q e) = idle_there part q.idle
   effect_there part (ByHosting n p x) = idle_there part (ap is_idle p)
-  effect_there part (ByDriving k p done d) = idle_there part (ap is_idle p)
-  effect_there part (ByReading end address count p r) = subst (λ q. LieThere (moment_in old q reply new)) (sym p) refl
+  effect_there part (ByPiping k r p x) = idle_there part (ap is_idle p)
+  effect_there part (ByDriving side k p done d) = idle_there part (ap is_idle p)
+  effect_there part (ByCalling side end address count p r) = subst (λ q. LieThere (moment_in old q reply new)) (sym p) refl
   effect_there part (ByForsaking act p f) =
       let r = reaction old act in
       subst (λ q. LieThere (moment_in old q reply new)) (sym p)
       (subst (λ (y : State). LieThere (moment_in old (Acts act) reply y)) (sym f.is)
-      (subst (λ q. LieThere (moment_in old (Acts act) q (forsaken_by r.state f.stream f.writer))) (sym f.reply_is) (reaction-there old act h.sound)))
+      (subst (λ q. LieThere (moment_in old (Acts act) q (forsaken_by f.side r.state f.stream f.host))) (sym f.reply_is)
+      (there_as r.reply r.state (forsaken_by f.side r.state f.stream f.host) (forsaken_guests f.side r.state f.stream f.host) (reaction-there old act h.sound))))
+    where
+      -- what lies in the memories lies there too where they are the same
+      there_as : (told : Reply) (x y : State) → y.guests ≡ x.guests → LieThere (moment_in old (Acts act) told x) → LieThere (moment_in old (Acts act) told y)
+      there_as told x y e l = ap (λ gs. bytes_of gs (put_by act told)) e ∙ l
 
 -- ## Every run
 
 module _ (w : World) (m : HostMoment) (f : Follows w m) (h : Holds w.state) where
   effect_of : Effect m.before.state m.part m.reply m.after.state
-  effect_of = subst (λ (v : World). Effect v.state m.part m.reply m.after.state) (sym f.begins) (follows_effect w m f h.hosts.unpiped)
+  effect_of = subst (λ (v : World). Effect v.state m.part m.reply m.after.state) (sym f.begins) (follows_effect w m f)
 
   holds_before : Holds m.before.state
   holds_before = subst (λ (v : World). Holds v.state) (sym f.begins) h

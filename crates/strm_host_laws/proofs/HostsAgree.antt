@@ -1,12 +1,12 @@
--- Handles and ends, host writers and streams still agree after a stream is another or goes.
-use Rattle.std.proofs.Common.{◌≡◌, ◌≢◌, ℕ, ◌<◌, Bool, true, false, cond, List, length, get_or, set, refl, sym, ap, subst, ◌∙◌, ◌⊎◌, inl, inr, arith}
+-- Handles and ends, host ends and streams still agree after a stream is another or goes.
+use Rattle.std.proofs.Common.{◌≡◌, ◌≢◌, ℕ, ◌<◌, Bool, true, false, cond, List, length, get_or, set, None, refl, sym, ap, subst, ◌∙◌, ◌⊎◌, inl, inr}
 use Rattle.std.proofs.lemmas.Bool.{cases_eq}
 use Rattle.std.proofs.lemmas.List.{get_or-set_same, get_or-set_other}
 use Rattle.strm_handles.specs.Handles.{IsTable}
 use Rattle.strm_handles.specs.Lookups.{end_rep_of}
-use Rattle.strm_machine.specs.State.{State, Guest, no_stream, guest_in, stream_at, producer_at, is_host, is_held}
-use Rattle.strm_machine.specs.Hosting.{ServesOne, HostsHold}
-use Rattle.strm_machine.specs.Sides.{end_of}
+use Rattle.strm_machine.specs.State.{State, Guest, host_limit, no_stream, guest_in, stream_at, is_host, is_held}
+use Rattle.strm_machine.specs.Hosting.{duty_of, ServesOne, HostsHold}
+use Rattle.strm_machine.specs.Sides.{opposite, end_of}
 use Rattle.strm_machine.specs.Moments.{is_end}
 use Rattle.strm_machine.specs.Tests.{Name}
 use Rattle.strm_machine.specs.Reactions.{with_stream_at}
@@ -15,11 +15,13 @@ use Rattle.strm_machine.specs.declared.streams.End.{End}
 use Rattle.strm_machine.specs.declared.streams.Owner.{Owner}
 use Rattle.strm_machine.specs.declared.streams.Owner.TheVariants.{Held, Host, Gone}
 use Rattle.strm_machine.specs.declared.streams.Side.{Side}
+use Rattle.strm_machine.specs.declared.streams.Side.TheVariants.{Writing, Reading}
 use Rattle.strm_machine.specs.declared.streams.Stream.{Stream}
 use Rattle.strm_machine.proofs.HeldLemmas.{IsHeld, names_in}
 use Rattle.strm_machine.proofs.HostLemmas.{HostsStay-same, HostsStay, HostsHold-stays, serving_known}
-use Rattle.strm_machine.proofs.TableLemmas.{owner_in, owner-set_other}
-use Rattle.strm_host_laws.proofs.HostTurns.{Leaves}
+use Rattle.strm_machine.proofs.TableLemmas.{OwnersStay, owner_stays, owner_in, owner-set_other}
+use Rattle.strm_machine.proofs.EndLemmas.{each_side}
+use Rattle.strm_host_laws.proofs.HostTurns.{known_on, Leaves}
 
 -- ## Handles and ends
 
@@ -66,7 +68,7 @@ set_either streams s x l h k side =
       | inr ne ↦ inl (owner-set_other streams s x k side ne)
     ]
 
--- ## Host writers and streams
+-- ## Host ends and streams
 
 pub no_two : (a b : ℕ) → Host a ≡ Host b → a ≡ b
 no_two a b e = cc
@@ -74,53 +76,62 @@ no_two a b e = cc
 pub one_stream : (a b : ℕ) → Serves a ≡ Serves b → a ≡ b
 one_stream a b e = cc
 
--- host writer n and its stream s after a change of both: it stays, or ends and is gone
-pub record Changed (state new : State) (s n : ℕ) (done : Bool) (x : Stream) : Type 0 where
+-- as many host ends are known on each side
+pub known_all : (state : State) (side : Side) → HostsHold state → known_on side state ≡ host_limit
+known_all state Writing h = h.all
+known_all state Reading h = h.all_readers
+
+-- host end n on a side and its stream s after a change of both: it stays, or ends and is gone. The other
+-- end has an owner as before, and no operation where that is a host end
+pub record Changed (side : Side) (state new : State) (s n : ℕ) (done : Bool) (x : Stream) : Type 0 where
   pub made : s < length state.streams
-  pub owner : (stream_at state s).writer.owner ≡ Host n
-  pub leaves : Leaves done n state.producers new.producers
+  pub owner : (end_of side (stream_at state s)).owner ≡ Host n
+  pub leaves : Leaves side done n state new
   pub streams : new.streams ≡ set state.streams s x
-  pub writer : x.writer ≡ record (stream_at state s).writer { owner = cond done Gone (stream_at state s).writer.owner }
-  pub reader : x.reader.owner ≡ (stream_at state s).reader.owner
+  pub here : end_of side x ≡ record (end_of side (stream_at state s)) { owner = cond done Gone (end_of side (stream_at state s)).owner }
+  pub other : (end_of (opposite side) x).owner ≡ (end_of (opposite side) (stream_at state s)).owner
+  pub idle : (m : ℕ) → (end_of (opposite side) (stream_at state s)).owner ≡ Host m → (end_of (opposite side) x).operation ≡ None
 
-module _ (state new : State) (s n : ℕ) (x : Stream) (h : HostsHold state) where
-  duty_was : (stream_at state s).writer.owner ≡ Host n → (producer_at state n).duty ≡ Serves s
-  duty_was o = (h.serve n s).serves o
+module _ (side : Side) (state new : State) (s n : ℕ) (x : Stream) (h : HostsHold state) where
+  duty_was : (end_of side (stream_at state s)).owner ≡ Host n → duty_of side state n ≡ Serves s
+  duty_was o = (h.serve side n s).serves o
 
-  known_there : (stream_at state s).writer.owner ≡ Host n → n < length state.producers
-  known_there o = omega (arith, serving_known state n s h (duty_was o), h.all)
+  known_there : (end_of side (stream_at state s)).owner ≡ Host n → n < known_on side state
+  known_there o = subst (λ k. n < k) (sym (known_all state side h)) (serving_known state side n s h (duty_was o))
 
-  module _ (done : Bool) (c : Changed state new s n done x) where
+  module _ (done : Bool) (c : Changed side state new s n done x) where
     stream_here : stream_at new s ≡ x
     stream_here = ap (λ xs. get_or xs s no_stream) c.streams ∙ get_or-set_same state.streams s x no_stream c.made
 
     stream_other : (k : ℕ) → k ≢ s → stream_at new k ≡ stream_at state k
     stream_other k ne = ap (λ xs. get_or xs k no_stream) c.streams ∙ get_or-set_other state.streams s k x no_stream ne
 
-    duty_now : (producer_at new n).duty ≡ cond done Ended (Serves s)
+    duty_now : duty_of side new n ≡ cond done Ended (Serves s)
     duty_now = c.leaves.here (known_there c.owner) ∙ ap (cond done Ended) (duty_was c.owner)
 
-    other_writer : (m k : ℕ) → k ≢ s → (producer_at state m).duty ≡ Serves k → m ≢ n
-    other_writer m k ne d e = ne (one_stream k s (sym d ∙ ap (λ i. (producer_at state i).duty) e ∙ duty_was c.owner))
+    -- ON THE SIDE OF THE HOST END
 
-    serves_other : (m k : ℕ) → k ≢ s → ServesOne new m k
+    other_end : (m k : ℕ) → k ≢ s → duty_of side state m ≡ Serves k → m ≢ n
+    other_end m k ne d e = ne (one_stream k s (sym d ∙ ap (duty_of side state) e ∙ duty_was c.owner))
+
+    serves_other : (m k : ℕ) → k ≢ s → ServesOne new side m k
     serves_other m k ne =
         let same = stream_other k ne in
-        let old = h.serve m k in
+        let old = h.serve side m k in
         record {
           serves = λ e.
-              let d = old.serves (ap (λ (y : Stream). y.writer.owner) (sym same) ∙ e) in
-              c.leaves.others m (other_writer m k ne d) ∙ d;
-          owns = λ d. ap (λ (y : Stream). y.writer.owner) same ∙ old.owns (duty_before m k ne d (cases_eq m n));
-          idle = λ e. ap (λ (y : Stream). y.writer.operation) same ∙ old.idle (ap (λ (y : Stream). y.writer.owner) (sym same) ∙ e);
+              let d = old.serves (ap (λ (y : Stream). (end_of side y).owner) (sym same) ∙ e) in
+              c.leaves.others m (other_end m k ne d) ∙ d;
+          owns = λ d. ap (λ (y : Stream). (end_of side y).owner) same ∙ old.owns (duty_before m k ne d (cases_eq m n));
+          idle = λ e. ap (λ (y : Stream). (end_of side y).operation) same ∙ old.idle (ap (λ (y : Stream). (end_of side y).owner) (sym same) ∙ e);
         }
       where
         ended_or : (done : Bool) (k : ℕ) → cond done Ended (Serves s) ≡ Serves k → k ≡ s
         ended_or true k e = absurd (let wrong : Ended ≡ Serves k = e in cc)
         ended_or false k e = sym (one_stream s k e)
 
-        duty_before : (m k : ℕ) → k ≢ s → (producer_at new m).duty ≡ Serves k → (m ≡ n) ⊎ (m ≢ n) → (producer_at state m).duty ≡ Serves k
-        duty_before m k ne d (inl e) = absurd (ne (ended_or done k (sym duty_now ∙ ap (λ i. (producer_at new i).duty) (sym e) ∙ d)))
+        duty_before : (m k : ℕ) → k ≢ s → duty_of side new m ≡ Serves k → (m ≡ n) ⊎ (m ≢ n) → duty_of side state m ≡ Serves k
+        duty_before m k ne d (inl e) = absurd (ne (ended_or done k (sym duty_now ∙ ap (duty_of side new) (sym e) ∙ d)))
         duty_before m k ne d (inr off) = sym (c.leaves.others m off) ∙ d
 
     -- of the stream itself
@@ -128,45 +139,67 @@ module _ (state new : State) (s n : ℕ) (x : Stream) (h : HostsHold state) wher
     host_is true m e = absurd (let wrong : Gone ≡ Host m = e in cc)
     host_is false m e = (refl, no_two m n (sym e))
 
-    owner_now : (stream_at new s).writer.owner ≡ cond done Gone (Host n)
+    owner_now : (end_of side (stream_at new s)).owner ≡ cond done Gone (Host n)
     owner_now =
-        ap (λ (y : Stream). y.writer.owner) stream_here
-        ∙ ap (λ (y : End). y.owner) c.writer
+        ap (λ (y : Stream). (end_of side y).owner) stream_here
+        ∙ ap (λ (y : End). y.owner) c.here
         ∙ ap (cond done Gone) c.owner
 
-    serves_here : (m : ℕ) → ServesOne new m s
+    serves_here : (m : ℕ) → ServesOne new side m s
     serves_here m = record {
-      serves = λ e. let is = host_is done m (sym owner_now ∙ e) in ap (λ i. (producer_at new i).duty) is.1 ∙ duty_now ∙ ap (λ b. cond b Ended (Serves s)) is.0;
+      serves = λ e. let is = host_is done m (sym owner_now ∙ e) in ap (duty_of side new) is.1 ∙ duty_now ∙ ap (λ b. cond b Ended (Serves s)) is.0;
       owns = λ d. owner_now ∙ owns_here done refl d (cases_eq m n);
-      idle = λ e. ap (λ (y : Stream). y.writer.operation) stream_here ∙ ap (λ (y : End). y.operation) c.writer ∙ (h.serve n s).idle c.owner;
+      idle = λ e. ap (λ (y : Stream). (end_of side y).operation) stream_here ∙ ap (λ (y : End). y.operation) c.here ∙ (h.serve side n s).idle c.owner;
     }
       where
-        owns_here : (b : Bool) → done ≡ b → (producer_at new m).duty ≡ Serves s → (m ≡ n) ⊎ (m ≢ n) → cond b Gone (Host n) ≡ Host m
-        owns_here true b d (inl e) = absurd (let wrong : Ended ≡ Serves s = sym (duty_now ∙ ap (λ i. cond i Ended (Serves s)) b) ∙ ap (λ i. (producer_at new i).duty) (sym e) ∙ d in cc)
+        owns_here : (b : Bool) → done ≡ b → duty_of side new m ≡ Serves s → (m ≡ n) ⊎ (m ≢ n) → cond b Gone (Host n) ≡ Host m
+        owns_here true b d (inl e) = absurd (let wrong : Ended ≡ Serves s = sym (duty_now ∙ ap (λ i. cond i Ended (Serves s)) b) ∙ ap (duty_of side new) (sym e) ∙ d in cc)
         owns_here false b d (inl e) = ap Host (sym e)
         owns_here b f d (inr off) =
-            let was : (stream_at state s).writer.owner ≡ Host m = (h.serve m s).owns (sym (c.leaves.others m off) ∙ d) in
+            let was : (end_of side (stream_at state s)).owner ≡ Host m = (h.serve side m s).owns (sym (c.leaves.others m off) ∙ d) in
             absurd (off (no_two m n (sym was ∙ c.owner)))
+
+    mine : (m k : ℕ) → ServesOne new side m k
+    mine m k = elim (cases_eq k s) [
+      | inl e ↦ subst (λ i. ServesOne new side m i) (sym e) (serves_here m)
+      | inr ne ↦ serves_other m k ne
+    ]
+
+    -- ON THE OTHER SIDE
+
+    -- whose end is as it was, but for an operation that it may have
+    across_as : (m k : ℕ) (y : Stream) → stream_at new k ≡ y → (end_of (opposite side) y).owner ≡ (end_of (opposite side) (stream_at state k)).owner → ((end_of (opposite side) (stream_at state k)).owner ≡ Host m → (end_of (opposite side) y).operation ≡ None)
+        → ServesOne new (opposite side) m k
+    across_as m k y same owner idle =
+        let old = h.serve (opposite side) m k in
+        let now : (end_of (opposite side) (stream_at new k)).owner ≡ (end_of (opposite side) (stream_at state k)).owner = ap (λ (z : Stream). (end_of (opposite side) z).owner) same ∙ owner in
+        record {
+          serves = λ e. c.leaves.across m ∙ old.serves (sym now ∙ e);
+          owns = λ d. now ∙ old.owns (sym (c.leaves.across m) ∙ d);
+          idle = λ e. ap (λ (z : Stream). (end_of (opposite side) z).operation) same ∙ idle (sym now ∙ e);
+        }
+
+    theirs : (m k : ℕ) → ServesOne new (opposite side) m k
+    theirs m k = elim (cases_eq k s) [
+      | inl e ↦ subst (λ i. ServesOne new (opposite side) m i) (sym e) (across_as m s x stream_here c.other (c.idle m))
+      | inr ne ↦ across_as m k (stream_at state k) (stream_other k ne) refl (h.serve (opposite side) m k).idle
+    ]
 
     pub HostsHold-changed : HostsHold new
     HostsHold-changed = record {
-      all = c.leaves.all ∙ h.all;
-      serve = λ m k. elim (cases_eq k s) [
-        | inl e ↦ subst (λ i. ServesOne new m i) (sym e) (serves_here m)
-        | inr ne ↦ serves_other m k ne
-      ];
-      unpiped = λ k. elim (cases_eq k s) [
-        | inl e ↦
-            let here : is_host (stream_at new s).reader.owner ≡ false = ap (λ (y : Stream). is_host y.reader.owner) stream_here ∙ ap is_host c.reader ∙ h.unpiped s in
-            subst (λ i. is_host (stream_at new i).reader.owner ≡ false) (sym e) here
-        | inr ne ↦ ap (λ (y : Stream). is_host y.reader.owner) (stream_other k ne) ∙ h.unpiped k
-      ];
+      all = c.leaves.all Writing ∙ h.all;
+      all_readers = c.leaves.all Reading ∙ h.all_readers;
+      serve = λ k m i. each_side (λ (k : Side). ServesOne new k m i) side (mine m i) (theirs m i) k;
     }
 
--- a stream set to another of the same owners and the same write end, whose producers stay
-pub HostsHold-set : (state : State) (s : ℕ) (x : Stream) → s < length state.streams → x.writer ≡ (stream_at state s).writer → x.reader.owner ≡ (stream_at state s).reader.owner → HostsHold state → HostsHold (with_stream_at state s x)
-HostsHold-set state s x l w r h =
-    HostsHold-stays state (with_stream_at state s x) refl
+-- a host end of a stream that has no operation gets none
+abbrev pub StaysIdle : Stream → Stream → Type 0
+StaysIdle old new = (side : Side) → is_host (end_of side old).owner ≡ true → (end_of side old).operation ≡ None → (end_of side new).operation ≡ None
+
+-- a stream set to another of the same owners, whose host ends have no operation, and what is kept stays
+pub HostsHold-set : (state : State) (s : ℕ) (x : Stream) → s < length state.streams → OwnersStay (stream_at state s) x → StaysIdle (stream_at state s) x → HostsHold state → HostsHold (with_stream_at state s x)
+HostsHold-set state s x l same idle h =
+    HostsHold-stays state (with_stream_at state s x) (record { producers = refl; consumers = refl })
     (λ k. elim (cases_eq k s) [
       | inl e ↦ subst (λ i. HostsStay (stream_at state i) (stream_at (with_stream_at state s x) i)) (sym e)
           (subst (HostsStay (stream_at state s)) (sym (get_or-set_same state.streams s x no_stream l)) stays)
@@ -175,8 +208,7 @@ HostsHold-set state s x l w r h =
   where
     stays : HostsStay (stream_at state s) x
     stays = record {
-      was = λ n e. sym (ap (λ (y : End). y.owner) w) ∙ e;
-      is = λ n e. ap (λ (y : End). y.owner) w ∙ e;
-      idle = λ e o. ap (λ (y : End). y.operation) w ∙ o;
-      unpiped = λ e. ap is_host r ∙ e;
+      was = λ side n e. sym (owner_stays side (stream_at state s) x same) ∙ e;
+      is = λ side n e. owner_stays side (stream_at state s) x same ∙ e;
+      idle = idle;
     }

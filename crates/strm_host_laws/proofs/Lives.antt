@@ -13,12 +13,12 @@ use Rattle.strm_machine.specs.State.{State, producer_at, stream_at}
 use Rattle.strm_machine.specs.Sides.{with_operation}
 use Rattle.strm_machine.specs.Soundness.{sizes_of, IsPlaced, OperationIsPlaced}
 use Rattle.strm_machine.specs.declared.acts.Act.TheVariants.{OnHost}
-use Rattle.strm_machine.specs.declared.acts.HostAct.TheVariants.{Feed}
+use Rattle.strm_machine.specs.declared.acts.HostAct.TheVariants.{Feed, Grant}
 use Rattle.strm_machine.specs.declared.acts.NamedEnd.{NamedEnd}
 use Rattle.strm_machine.specs.declared.streams.Duty.TheVariants.{Serves}
 use Rattle.strm_machine.specs.declared.streams.Owner.TheVariants.{Host}
 use Rattle.strm_machine.specs.declared.streams.Operation.{Operation}
-use Rattle.strm_machine.specs.declared.streams.Side.TheVariants.{Reading}
+use Rattle.strm_machine.specs.declared.streams.Side.TheVariants.{Writing, Reading}
 use Rattle.strm_machine.specs.declared.streams.Stream.{Stream}
 use Rattle.strm_machine.specs.declared.replies.Reply.{Reply}
 use Rattle.strm_machine.proofs.HostLemmas.{serving_made}
@@ -31,8 +31,8 @@ use Rattle.strm_host_laws.specs.HostMoments.{Part, Acts, HostMoment, part_on}
 use Rattle.strm_host_laws.specs.HostLaws.{Supplies}
 use Rattle.strm_host_laws.proofs.Chains.{is_part}
 use Rattle.strm_host_laws.proofs.Closed.{Stands, Kept, SameClosed, part-closes}
-use Rattle.strm_host_laws.proofs.Fed.{OfWriters, OfEach, part-each, rules-each, begins-each, with-each}
-use Rattle.strm_host_laws.proofs.Forms.{opened, called, stream_of, IsTurn, IsRead, Form, part-formed}
+use Rattle.strm_host_laws.proofs.Fed.{OfWriters, OfEach, part-each, grant-each, rules-each, begins-each, with-each}
+use Rattle.strm_host_laws.proofs.Forms.{opened, called, stream_of, IsTurn, IsCall, Form, part-formed}
 use Rattle.strm_host_laws.proofs.Goings.{IfGoes, Comes, with_stream_in-same, feed-comes}
 use Rattle.strm_host_laws.proofs.Standing.{Holds, Holds-next}
 use Rattle.strm_host_laws.proofs.Unmoved.{IsQuiet, WriterHost}
@@ -81,6 +81,7 @@ part-supplies w part p = by (part_on w part) (part-any w part p)
     part-any w (Acts (OnHost n (Feed bytes))) p =
         feed-comes (OfEach Feeding of_supplies) (OfEach Feeding of_supplies) (rules-each Feeding of_supplies) (begins-each Feeding of_supplies) w n bytes
         (λ e. with-each Feeding of_supplies w n (fed_writer (writer_at w n) bytes) (λ h. record { holds = h.holds; coming = h.coming }))
+    part-any w (Acts (OnHost r (Grant count))) p = grant-each Feeding of_supplies w r count
     part-any w part p = part-each Feeding of_supplies w part p refl
 
 -- THE STATE
@@ -93,32 +94,32 @@ pub record Lives (first w : World) : Type 0 where
 
 -- a stream of a host writer was made
 pub owned_made : (state : State) (s n : ℕ) → Holds state → (stream_at state s).writer.owner ≡ Host n → s < length state.streams
-owned_made state s n h e = serving_made state n s h.hosts ((h.hosts.serve n s).serves e)
+owned_made state s n h e = serving_made state Writing n s h.hosts ((h.hosts.serve Writing n s).serves e)
 
 -- and no other is its
 pub owned_once : (state : State) (s t n : ℕ) → Holds state → (stream_at state s).writer.owner ≡ Host n → (stream_at state t).writer.owner ≡ Host n → t ≡ s
 owned_once state s t n h e f =
-    let a : (producer_at state n).duty ≡ Serves s = (h.hosts.serve n s).serves e in
-    let b : (producer_at state n).duty ≡ Serves t = (h.hosts.serve n t).serves f in
+    let a : (producer_at state n).duty ≡ Serves s = (h.hosts.serve Writing n s).serves e in
+    let b : (producer_at state n).duty ≡ Serves t = (h.hosts.serve Writing n t).serves f in
     let c : Serves t ≡ Serves s = sym b ∙ a in
     cc
 
 pub owned_quiet : (state : State) (s n : ℕ) → Holds state → (stream_at state s).writer.owner ≡ Host n → IsQuiet (stream_at state s)
-owned_quiet state s n h e = WriterHost n e ((h.hosts.serve n s).idle e)
+owned_quiet state s n h e = WriterHost n e ((h.hosts.serve Writing n s).idle e)
 
 -- a turn in a drive round can be
-pub drive_can : (first w : World) (part : Part) (v : World) (s n : ℕ) (read : Operation) → Lives first w → IsTurn w part v s n read → CanTurn w s n read
+pub drive_can : (first w : World) (part : Part) (v : World) (s n : ℕ) (read : Operation) → Lives first w → IsTurn Reading w part v s n read → CanTurn w s n read
 drive_can first w part v s n read l t =
     let made = owned_made w.state s n l.holds t.owner in
     let placed = placed_at w.state s made l.holds.sound in
     record {
       made = made;
       owner = t.owner;
-      placed = subst (OperationIsPlaced (sizes_of w.state.guests) (stream_in w s).payload) t.operation placed.reader;
+      placed = subst (OperationIsPlaced (sizes_of w.state.guests) (stream_in w s).payload) t.operation_is placed.reader;
       there = (l.stands.there s n t.owner).there;
     }
 
-module _ (first w : World) (part : Part) (v : World) (end : NamedEnd) (address count n : ℕ) (l : Lives first w) (r : IsRead w part v end address count n) where
+module _ (first w : World) (part : Part) (v : World) (end : NamedEnd) (address count n : ℕ) (l : Lives first w) (r : IsCall Reading w part v end address count n) where
   abbrev at : ℕ
   at = stream_of w end
 
@@ -126,7 +127,7 @@ module _ (first w : World) (part : Part) (v : World) (end : NamedEnd) (address c
   read = called end address count
 
   abbrev open_world : World
-  open_world = opened w at read
+  open_world = opened Reading w at read
 
   at_made : at < length w.state.streams
   at_made = r.begun.found.made
@@ -142,7 +143,7 @@ module _ (first w : World) (part : Part) (v : World) (end : NamedEnd) (address c
     placed =
         subst (λ gs. IsPlaced (sizes_of gs) (stream_in open_world at).payload read) (sym (back-guests w at (with_operation Reading (stream_in w at) read)))
         (subst (λ p. IsPlaced (sizes_of w.state.guests) p read) (sym (ap (λ (x : Stream). x.payload) opened_here)) r.begun.placed);
-    there = subst (λ ws. n < length ws) (sym (ap (λ (x : World). x.writers) (with_stream_in-same w at (with_operation Reading (stream_in w at) read) refl))) (l.stands.there at n r.owner).there;
+    there = subst (λ ws. n < length ws) (sym (ap (λ (x : World). x.writers) (with_stream_in-same w at (with_operation Reading (stream_in w at) read) (record { writer = refl; reader = refl })))) (l.stands.there at n r.owner).there;
   }
 
   pub mid_made : at < length r.mid.state.streams

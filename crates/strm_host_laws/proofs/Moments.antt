@@ -1,20 +1,19 @@
 -- What one moment delivers on a stream of a host writer: what it produced and held is what was received, and
 -- what is held then.
-use Rattle.std.proofs.Common.{◌≡◌, ℕ, zero, suc, ◌+◌, ◌^◌, ◌<◌, ◌≤◌, ◌==◌, true, false, cond, List, [], ◌∷◌, ◌++◌, length, map, Option, Some, None, refl, sym, ap, subst, ◌∙◌, ◌⊎◌, inl, inr, arith, append-nil}
-use Rattle.std.proofs.lemmas.Bool.{ne_eqb}
+use Rattle.std.proofs.Common.{◌≡◌, ℕ, ◌+◌, ◌^◌, ◌<◌, ◌≤◌, ◌==◌, Bool, true, false, cond, List, [], ◌∷◌, ◌++◌, length, map, take, Option, Some, None, refl, sym, ap, subst, ◌∙◌, ◌⊎◌, inl, inr, arith, append-nil}
+use Rattle.std.proofs.lemmas.Bool.{eqb-true}
 use Rattle.std.proofs.lemmas.List.{map-append, length-map}
 use Rattle.std.proofs.lemmas.List.Elements.{All-head, All-tail}
 use Rattle.std.specs.Prelude.{All}
 use Rattle.strm_codes.specs.Layout.{scalars_of}
 use Rattle.strm_codes.specs.declared.codes.StreamResult.{StreamResult}
-use Rattle.strm_codes.specs.declared.codes.StreamResult.TheVariants as results
 use Rattle.strm_codes.specs.declared.payloads.Payload.{Payload}
 use Rattle.strm_codes.specs.declared.scalars.Scalar.{Scalar}
 use Rattle.strm_memory.specs.Items.{AreItems}
 use Rattle.strm_memory.proofs.AppendLemmas.{AreItems-append}
 use Rattle.strm_buffers.specs.Listing.{Item}
 use Rattle.strm_buffers.specs.Said.{WriterSaid}
-use Rattle.strm_machine.specs.State.{Guest, stream_at}
+use Rattle.strm_machine.specs.State.{Guest, stream_at, is_host}
 use Rattle.strm_machine.specs.Moments.{Moment, Place, received, rise, place_of, target, is_named, items_in, got_in}
 use Rattle.strm_machine.specs.Sides.{with_operation}
 use Rattle.strm_machine.specs.Endings.{delivered}
@@ -24,8 +23,10 @@ use Rattle.strm_machine.specs.declared.acts.Act.{Act}
 use Rattle.strm_machine.specs.declared.acts.Act.TheVariants.{OnEnd, Drive}
 use Rattle.strm_machine.specs.declared.acts.EndAct.TheVariants.{Operate}
 use Rattle.strm_machine.specs.declared.acts.NamedEnd.{NamedEnd}
+use Rattle.strm_machine.specs.declared.streams.Owner.{Owner}
 use Rattle.strm_machine.specs.declared.streams.Owner.TheVariants.{Host, Gone}
 use Rattle.strm_machine.specs.declared.streams.Operation.{Operation}
+use Rattle.strm_machine.specs.declared.streams.Side.{Side}
 use Rattle.strm_machine.specs.declared.streams.Side.TheVariants.{Reading}
 use Rattle.strm_machine.specs.declared.streams.Stream.{Stream}
 use Rattle.strm_machine.proofs.MomentLemmas.{nothing_got}
@@ -36,12 +37,15 @@ use Rattle.strm_world.specs.World.{World, stream_in, writer_at}
 use Rattle.strm_world.specs.Settling.{moved_on}
 use Rattle.strm_world.specs.Does.{SaidFits}
 use Rattle.strm_host_laws.specs.HostMoments.{HostMoment}
-use Rattle.strm_host_laws.specs.HostLaws.{used_in, items_of, act_in, plain, Supplies}
+use Rattle.strm_host_laws.specs.HostLaws.{used_in, items_of, act_in, plain, produced_in, source, taken_from, got_by, host_got_in, Supplies}
+use Rattle.strm_machine.proofs.HostLemmas.{unless_host}
+use Rattle.strm_machine.proofs.TurnChangeLemmas.{none_got}
 use Rattle.strm_host_laws.proofs.Fed.{used_are}
-use Rattle.strm_host_laws.proofs.Forms.{opened, called, stream_of, IsTurn, IsRead}
+use Rattle.strm_host_laws.proofs.Forms.{opened, called, stream_of, IsTurn, IsCall}
 use Rattle.strm_host_laws.proofs.Lives.{Lives, drive_can, opened_here, read_can, mid_made}
 use Rattle.strm_host_laws.proofs.Lowered.{lowered_lie}
 use Rattle.strm_host_laws.proofs.Touched.{Touch, NotTouched, IsLost, HasTurn, HasRead, told_stream}
+use Rattle.strm_host_laws.proofs.TurnMoves.{moved_on-moves}
 use Rattle.strm_host_laws.proofs.Turned.{Turned}
 use Rattle.strm_host_laws.proofs.WrittenBack.{back-guests, back-here, back-length, back-stays, CanTurn, turned-here, turned-guests, turned-length, turned-coming, turned-ends}
 
@@ -68,18 +72,14 @@ turned_items w s n read v h t =
 
 -- COUNTS
 
-some_received : (stream : Stream) (n : ℕ) → stream.received + n < 2 ^ 128 → (cond (n == 0) stream (with_received stream n)).received ≡ stream.received + n
-some_received stream zero l = omega arith
-some_received stream (suc n) l =
-    let some : (suc n == 0) ≡ false = ne_eqb (suc n) 0 (λ e. omega (arith, e)) in
-    ap (λ b. (cond b stream (with_received stream (suc n))).received) some ∙ omega (arith, l)
-
 -- a turn counts what it hands over
-moved_on-received : (stream : Stream) (read : Operation) (n : ℕ) (result : Option StreamResult) → stream.received + n < 2 ^ 128 → (moved_on Reading stream read n result).received ≡ stream.received + n
-unfolding moved_on
-moved_on-received stream read n None l = some_received stream n l
-moved_on-received stream read n (Some results.Dropped) l = some_received stream n l
-moved_on-received stream read n (Some _) l = some_received stream n l
+pub moved_on-received : (side : Side) (stream : Stream) (operation : Operation) (n : ℕ) (result : Option StreamResult) → stream.received + n < 2 ^ 128 → (moved_on side stream operation n result).received ≡ stream.received + n
+moved_on-received side stream operation n result l =
+    (moved_on-moves stream operation n side result).count ∙ counted (n == 0) refl
+  where
+    counted : (b : Bool) → (n == 0) ≡ b → cond b stream.received (with_received stream n).received ≡ stream.received + n
+    counted true e = omega (arith, eqb-true n 0 e)
+    counted false e = omega (arith, l)
 
 -- WHAT A MOMENT DELIVERS
 
@@ -92,9 +92,9 @@ Ends s n w held = ((stream_in w s).writer.owner ≡ Gone) ⊎ (((stream_in w s).
 
 pub record Delivers (s n : ℕ) (m : HostMoment) : Type 0 where
   pub rest : List Item
-  pub balance : map Some (holds_before n m ++ items_of (used_in n m)) ≡ got_in s (plain m) ++ map Some rest
-  pub count : received s m.after.state ≡ received s m.before.state + length (got_in s (plain m))
-  pub few : length (got_in s (plain m)) ≤ 2 ^ 28
+  pub balance : map Some (holds_before n m ++ items_of (used_in n m)) ≡ host_got_in s m ++ map Some rest
+  pub count : received s m.after.state ≡ received s m.before.state + length (host_got_in s m)
+  pub few : length (host_got_in s m) ≤ 2 ^ 28
   pub ends : Ends s n m.after rest
   pub made : s < length m.after.state.streams
 
@@ -103,7 +103,7 @@ pub record Moved (s n : ℕ) (m : HostMoment) : Type 0 where
   pub items : List Item
   pub said : List WriterSaid
   pub held : List Item
-  pub got : got_in s (plain m) ≡ map Some items
+  pub got : host_got_in s m ≡ map Some items
   pub count : received s m.after.state ≡ received s m.before.state + length items
   pub few : length items ≤ 2 ^ 28
   pub coming : (writer_at m.before n).coming ≡ said ++ (writer_at m.after n).coming
@@ -113,7 +113,7 @@ pub record Moved (s n : ℕ) (m : HostMoment) : Type 0 where
 
 moved_delivers : (s n : ℕ) (m : HostMoment) → Moved s n m → Delivers s n m
 moved_delivers s n m k =
-    let long : length (got_in s (plain m)) ≡ length k.items = ap length k.got ∙ length-map k.items Some in
+    let long : length (host_got_in s m) ≡ length k.items = ap length k.got ∙ length-map k.items Some in
     record {
       rest = k.held;
       balance =
@@ -127,13 +127,33 @@ moved_delivers s n m k =
       made = k.made;
     }
 
+-- where the count stays nothing was received, whoever has the read end
+pub nothing_by : (s : ℕ) (m : HostMoment) → received s m.after.state ≡ received s m.before.state → (owner : Owner) → got_by s m owner ≡ []
+nothing_by s m e owner = by owner (stream_in m.before s).writer.owner
+  where
+    none : rise s (plain m) ≡ 0
+    none = omega (arith, e)
+
+    from : (writer : Owner) → taken_from s m writer ≡ []
+    from (Host n) = ap (λ k. map Some (take k ((writer_at m.before n).holds ++ produced_in s m))) none
+    from _ = none_got (stream_in m.before s).payload m.before.state.guests (source s (plain m)).guest (source s (plain m)).address (received s m.after.state) (received s m.before.state) e
+
+    by : (owner writer : Owner) → got_by s m owner ≡ []
+    by (Host r) writer = from (stream_in m.before s).writer.owner
+    by _ writer = (nothing_got s (plain m) e).0
+
+-- where no host reader has it, a guest has it in its memory
+pub got_unread : (s : ℕ) (m : HostMoment) (owner : Owner) → is_host owner ≡ false → got_by s m owner ≡ got_in s (plain m)
+got_unread s m (Host r) e = cc
+got_unread s m _ e = refl
+
 -- a moment in which nothing is received, and no record used
 still_moved : (s n : ℕ) (m : HostMoment) → received s m.after.state ≡ received s m.before.state → (writer_at m.after n).coming ≡ (writer_at m.before n).coming → Ends s n m.after (holds_before n m) → s < length m.after.state.streams → Moved s n m
 still_moved s n m r c ends made = record {
   items = [];
   said = [];
   held = holds_before n m;
-  got = (nothing_got s (plain m) r).0;
+  got = nothing_by s m r (stream_in m.before s).reader.owner;
   count = omega (arith, r);
   few = omega arith;
   coming = sym c;
@@ -186,12 +206,18 @@ module _ (w : World) (s n : ℕ) (read : Operation) (v : World) (t : Turned w s 
   turned_count l =
       let few = few_items w.state.guests (stream_in w s).payload read (length t.items) c.placed t.fits in
       ap (λ (x : Stream). x.received) (turned-here w s n read v t c)
-      ∙ moved_on-received (stream_in w s) read (length t.items) t.result (omega (arith, l, few))
+      ∙ moved_on-received Reading (stream_in w s) read (length t.items) t.result (omega (arith, l, few))
 
 module _ (first : World) (m : HostMoment) (l : Lives first m.before) where
+  -- no host reader has a read end at which a read waits
+  busy_unread : (s : ℕ) (read : Operation) → (stream_in m.before s).reader.operation ≡ Some read → is_host (stream_in m.before s).reader.owner ≡ false
+  busy_unread s read o =
+      unless_host (stream_in m.before s).reader.owner
+      (λ r e. let none = (l.holds.hosts.serve Reading r s).idle e in let wrong : Some read ≡ None = sym o ∙ none in cc)
+
   -- A TURN IN A DRIVE ROUND
 
-  drive_moved : (s n : ℕ) (read : Operation) → IsTurn m.before m.part m.after s n read → received s m.before.state + 2 ^ 28 < 2 ^ 128 → Moved s n m
+  drive_moved : (s n : ℕ) (read : Operation) → IsTurn Reading m.before m.part m.after s n read → received s m.before.state + 2 ^ 28 < 2 ^ 128 → Moved s n m
   drive_moved s n read i b =
       let w = m.before in
       let t = i.turned in
@@ -201,7 +227,7 @@ module _ (first : World) (m : HostMoment) (l : Lives first m.before) where
         items = t.items;
         said = t.said;
         held = t.writer.holds;
-        got = got_at s (plain m) (place_for read) (length t.items) (map Some t.items) (drive_target s (plain m) read (ap act_in i.part_is) i.operation) count
+        got = got_unread s m (stream_in m.before s).reader.owner (busy_unread s read i.operation_is) ∙ got_at s (plain m) (place_for read) (length t.items) (map Some t.items) (drive_target s (plain m) read (ap act_in i.part_is) i.operation_is) count
             (turned_lie w s n read m.after t c (l.supplied n) (l.stands.there s n i.owner).payload);
         count = count;
         few = few_items w.state.guests (stream_in w s).payload read (length t.items) c.placed t.fits;
@@ -213,7 +239,7 @@ module _ (first : World) (m : HostMoment) (l : Lives first m.before) where
 
   -- A CALL
 
-  module _ (end : NamedEnd) (address count n : ℕ) (r : IsRead m.before m.part m.after end address count n) where
+  module _ (end : NamedEnd) (address count n : ℕ) (r : IsCall Reading m.before m.part m.after end address count n) where
     abbrev at : ℕ
     at = stream_of m.before end
 
@@ -221,7 +247,7 @@ module _ (first : World) (m : HostMoment) (l : Lives first m.before) where
     read = called end address count
 
     abbrev o : World
-    o = opened m.before at read
+    o = opened Reading m.before at read
 
     abbrev open_stream : Stream
     open_stream = with_operation Reading (stream_in m.before at) read
@@ -260,7 +286,7 @@ module _ (first : World) (m : HostMoment) (l : Lives first m.before) where
             made = subst (λ (x : World). at < length x.state.streams) (sym e) long_mid;
           }
           | inr e ↦ (
-              let k = told_stream (stream_in r.mid at) in
+              let k = told_stream Reading (stream_in r.mid at) in
               let now = back-here r.mid at told_now long_mid in
               record {
                 guests = ap (λ (x : World). x.state.guests) e ∙ back-guests r.mid at told_now;
@@ -295,7 +321,7 @@ module _ (first : World) (m : HostMoment) (l : Lives first m.before) where
           items = t.items;
           said = t.said;
           held = t.writer.holds;
-          got = got_at at (plain m) (place_for read) (length t.items) (map Some t.items) (call_target at (plain m) end address count (ap act_in r.part_is) named) counts read_lie;
+          got = got_unread at m (stream_in m.before at).reader.owner (ap is_host (l.holds.held.agree.named end.guest end.handle at Reading r.begun.found.held)) ∙ got_at at (plain m) (place_for read) (length t.items) (map Some t.items) (call_target at (plain m) end address count (ap act_in r.part_is) named) counts read_lie;
           count = counts;
           few = few_items o.state.guests (stream_in o at).payload read (length t.items) c.placed t.fits;
           coming = ap (λ (x : Writer). x.coming) (sym writer_open) ∙ turned-coming o at n read r.mid t c ∙ ap (λ (x : Writer). t.said ++ x.coming) (sym same.writer);

@@ -1,28 +1,30 @@
--- What the turn of a host writer does where it goes on: the items that it hands over, the records that it
--- uses, and what it holds then.
-use Rattle.std.proofs.Common.{◌≡◌, ℕ, ◌≤◌, ◌||◌, List, [], ◌∷◌, ◌++◌, length, take, drop, Option, Some, refl, sym, ap, ◌∙◌, arith, append-nil, take-append-drop, length-take}
+-- What the turn of a host end does where it goes on: of a host writer the items that it hands over, the records
+-- that it uses, and what it holds then; of a host reader its record, and the items that it takes.
+use Rattle.std.proofs.Common.{◌≡◌, ℕ, ◌≤◌, ◌||◌, List, [], ◌∷◌, ◌++◌, length, take, drop, Option, Some, true, false, refl, sym, ap, ◌∙◌, arith, append-nil, take-append-drop, length-take}
 use Rattle.std.proofs.lemmas.Bool.{cond_both}
 use Rattle.std.specs.Prelude.{slice_set}
 use Rattle.strm_codes.specs.declared.codes.StreamResult.{StreamResult}
 use Rattle.strm_codes.specs.declared.codes.StreamResult.TheVariants as results
-use Rattle.strm_buffers.specs.HostRules.{breaks_as_writer}
+use Rattle.strm_buffers.specs.declared.answers.ReaderSaid.{ReaderSaid}
+use Rattle.strm_buffers.specs.HostRules.{breaks_as_writer, breaks_as_reader}
 use Rattle.strm_buffers.specs.Listing.{Item}
 use Rattle.strm_buffers.specs.Said.{WriterSaid}
-use Rattle.strm_machine.specs.State.{no_producer, producer_at}
+use Rattle.strm_machine.specs.State.{no_producer, producer_at, consumer_at}
 use Rattle.strm_machine.specs.declared.streams.Operation.{Operation}
 use Rattle.strm_machine.specs.declared.streams.Producer.{Producer}
-use Rattle.strm_machine.specs.declared.streams.Side.TheVariants.{Reading}
+use Rattle.strm_machine.specs.declared.streams.Side.TheVariants.{Writing, Reading}
 use Rattle.strm_machine.specs.declared.streams.Stream.{Stream}
 use Rattle.strm_machine.specs.declared.replies.Reply.{Reply}
-use Rattle.strm_world.specs.Ends.{Writer, no_writer, polled_writer, given_writer}
-use Rattle.strm_world.specs.World.{World, stream_in, writer_at, with_writer, with_stream_in}
+use Rattle.strm_world.specs.Ends.{Writer, no_writer, polled_writer, given_writer, polled_reader}
+use Rattle.strm_world.specs.World.{World, stream_in, writer_at, reader_at, with_writer, with_reader, with_stream_in}
 use Rattle.strm_world.specs.Outcomes.{done}
-use Rattle.strm_world.specs.Polls.{AfterWriter, is_failed, is_writer_poll, writer_says}
-use Rattle.strm_world.specs.Settling.{moved_on}
+use Rattle.strm_world.specs.Polls.{AfterWriter, is_failed, is_writer_poll, writer_says, is_reader_poll, reader_says}
+use Rattle.strm_world.specs.Settling.{result_of, moved_on}
+use Rattle.strm_world.specs.Consuming.{lifted, with_taken, consumer_turn}
 use Rattle.strm_world.specs.Producing.{lowered, receives, is_last, with_over, produced_result, produces, producer_turn}
 use Rattle.strm_world.proofs.WorldLemmas.{set-same}
 use Rattle.strm_host_laws.specs.HostLaws.{items_of}
-use Rattle.strm_host_laws.proofs.Goings.{IfGoes}
+use Rattle.strm_host_laws.proofs.Goings.{gave_up, IfGoes}
 
 -- the world after a turn, but for the stream: these items were lowered, and this is kept of the writer
 abbrev pub turned : World → ℕ → ℕ → Operation → List Item → Producer → Writer → World
@@ -149,3 +151,42 @@ module _ (w : World) (s n : ℕ) (read : Operation) where
   pub turn_is : IfGoes (producer_turn w s n read) AsTurned
   unfolding producer_turn
   turn_is = by_held (writer_at w n).holds refl
+
+-- THE TURN OF A HOST READER
+
+-- the world after it, but for the stream: the first of its records was used
+abbrev pub taken_by : World → ℕ → ℕ → Operation → ReaderSaid → List ReaderSaid → World
+taken_by w s r write said more =
+    with_taken (with_reader w r (polled_reader (reader_at w r) (lifted w.state.guests (stream_in w s).payload write said.taken) more)) r said.answer said.taken
+
+-- the stream after it
+abbrev pub stream_taken : World → ℕ → Operation → ReaderSaid → Stream
+stream_taken w s write said = moved_on Writing (stream_in w s) write said.taken (result_of said.answer)
+
+pub record Taken (w : World) (s r : ℕ) (write : Operation) (v : World) : Type 0 where
+  pub said : ReaderSaid
+  pub more : List ReaderSaid
+  pub coming : (reader_at w r).coming ≡ said ∷ more
+  pub polled : is_reader_poll write.left (consumer_at w.state r).since write.asked said ≡ true
+  pub kept : breaks_as_reader (stream_in w s).kind said ≡ false
+  pub is : v ≡ with_stream_in (taken_by w s r write said more) s (stream_taken w s write said)
+
+module _ (w : World) (s r : ℕ) (write : Operation) where
+  -- a turn that goes on did this
+  abbrev AsTaken : Reply → World → Type 0
+  AsTaken reply v = Taken w s r write v
+
+  after_taking : (coming : List ReaderSaid) → (reader_at w r).coming ≡ coming
+      → IfGoes (reader_says w s r write.left write.asked (lifted w.state.guests (stream_in w s).payload write) coming (λ after said. done (gave_up s r write after said))) AsTaken
+  after_taking [] e = tt
+  after_taking (said ∷ more) e =
+      cond_both (is_reader_poll write.left (consumer_at w.state r).since write.asked said) _ _ (λ o. IfGoes o AsTaken)
+      (λ f. cond_both (is_failed said.answer) _ _ (λ o. IfGoes o AsTaken) (λ g. tt)
+      (λ g. cond_both said.bad _ _ (λ o. IfGoes o AsTaken) (λ b. tt)
+      (λ b. cond_both (breaks_as_reader (stream_in w s).kind said) _ _ (λ o. IfGoes o AsTaken) (λ k. tt)
+      (λ k. record { said = said; more = more; coming = e; polled = f; kept = k; is = refl }))))
+      (λ f. tt)
+
+  pub taking_is : IfGoes (consumer_turn w s r write) AsTaken
+  unfolding consumer_turn
+  taking_is = after_taking (reader_at w r).coming refl

@@ -36,23 +36,28 @@ pub record Unmoved (old new : Stream) : Type 0 where
 unmoved_itself : (stream : Stream) → Unmoved stream stream
 unmoved_itself stream = record { received = refl; writer = refl }
 
--- a stream that no guest writes: its writer is gone, or is a host writer, whose end has no operation
+-- a stream that no guest writes: its writer is gone, or is a host writer, and the end has no operation
 pub data IsQuiet (stream : Stream) : Type 0 where
-  WriterGone : stream.writer.owner ≡ Gone → IsQuiet stream
+  WriterGone : stream.writer.owner ≡ Gone → stream.writer.operation ≡ None → IsQuiet stream
   WriterHost : (n : ℕ) → stream.writer.owner ≡ Host n → stream.writer.operation ≡ None → IsQuiet stream
 
-unheld_by : (stream : Stream) (g handle : ℕ) → IsQuiet stream → stream.writer.owner ≡ Held g handle → ⊥
-unheld_by stream g handle (WriterGone e) f = let k : Gone ≡ Held g handle = sym e ∙ f in cc
+pub unheld_by : (stream : Stream) (g handle : ℕ) → IsQuiet stream → stream.writer.owner ≡ Held g handle → ⊥
+unheld_by stream g handle (WriterGone e o) f = let k : Gone ≡ Held g handle = sym e ∙ f in cc
 unheld_by stream g handle (WriterHost n e o) f = let k : Host n ≡ Held g handle = sym e ∙ f in cc
 
+-- nothing is written there
+pub quiet_none : (stream : Stream) → IsQuiet stream → stream.writer.operation ≡ None
+quiet_none stream (WriterGone e o) = o
+quiet_none stream (WriterHost n e o) = o
+
 unloose : (stream : Stream) → IsQuiet stream → is_loose stream.writer.owner ≡ true → ⊥
-unloose stream (WriterGone e) f = let k : is_loose Gone ≡ true = ap is_loose (sym e) ∙ f in cc
+unloose stream (WriterGone e o) f = let k : is_loose Gone ≡ true = ap is_loose (sym e) ∙ f in cc
 unloose stream (WriterHost n e o) f = let k : is_loose (Host n) ≡ true = ap is_loose (sym e) ∙ f in cc
 
 -- a read finds no write there
 turn_unmoved : (guests : List Guest) (stream : Stream) (mine : Operation) → IsQuiet stream → Unmoved stream (turn Reading guests stream mine).stream
 unfolding turn
-turn_unmoved guests stream mine (WriterGone e) =
+turn_unmoved guests stream mine (WriterGone e o) =
     cond_both (is_gone stream.writer.owner) _ _ (λ (t : Turn). Unmoved stream t.stream)
     (λ g. record { received = refl; writer = refl })
     (λ g. absurd (let k : is_gone Gone ≡ false = ap is_gone (sym e) ∙ g in cc))

@@ -2,19 +2,30 @@
 use Rattle.std.proofs.Common.{◌≡◌, ◌≢◌, ℕ, ◌<◌, Bool, true, false, cond, ◌++◌, length, get_or, set, refl, sym, ap, ◌∙◌, ◌⊎◌, inl, inr}
 use Rattle.std.proofs.lemmas.List.{get_or-set_same, get_or-set_other, length-set}
 use Rattle.std.specs.Prelude.{slice_set}
-use Rattle.strm_machine.specs.State.{no_stream}
+use Rattle.strm_machine.specs.State.{no_stream, no_consumer}
 use Rattle.strm_machine.specs.Soundness.{sizes_of, IsPlaced}
 use Rattle.strm_machine.specs.declared.streams.Owner.{Owner}
 use Rattle.strm_machine.specs.declared.streams.Owner.TheVariants.{Host, Gone}
 use Rattle.strm_machine.specs.declared.streams.Operation.{Operation}
+use Rattle.strm_machine.specs.declared.streams.Side.{Side}
+use Rattle.strm_machine.specs.declared.streams.Side.TheVariants.{Writing, Reading}
 use Rattle.strm_machine.specs.declared.streams.Stream.{Stream}
-use Rattle.strm_world.specs.Ends.{Writer, no_writer, closed_writer}
-use Rattle.strm_world.specs.World.{World, stream_in, writer_at, leaves_writer, with_stream_in}
+use Rattle.strm_world.specs.Ends.{Reader, no_reader, closed_reader, Writer, no_writer, closed_writer}
+use Rattle.strm_world.specs.World.{World, stream_in, reader_at, writer_at, with_consumer, leaves_writer, leaves_reader, with_stream_in}
+use Rattle.strm_world.specs.Settling.{result_of}
 use Rattle.strm_world.specs.Producing.{lowered}
-use Rattle.strm_world.proofs.SettleLemmas.{is_done_with, moved_on-owner}
+use Rattle.strm_world.proofs.SettleLemmas.{is_done_with, moved_on-owner, leaves_writer-stays}
 use Rattle.strm_machine.proofs.TableLemmas.{set-keeps}
-use Rattle.strm_host_laws.proofs.Goings.{with_state, with_stream_in-same}
-use Rattle.strm_host_laws.proofs.Turned.{turned, stream_moved, Turned}
+use Rattle.strm_host_laws.proofs.Goings.{with_state, written-streams, piped_to}
+use Rattle.strm_host_laws.specs.HostMoments.{Part}
+use Rattle.strm_machine.specs.declared.acts.NamedEnd.{NamedEnd}
+use Rattle.strm_machine.specs.Sides.{with_operation}
+use Rattle.strm_machine.specs.Endings.{delivered}
+use Rattle.strm_machine.specs.declared.streams.Duty.TheVariants.{Serves}
+use Rattle.strm_world.specs.Attaching.{piped, without_ends}
+use Rattle.strm_host_laws.proofs.Forms.{HasTurned, IsCall, IsPiping, opened, called, stream_of}
+use Rattle.strm_host_laws.proofs.TurnMoves.{moved-mine}
+use Rattle.strm_host_laws.proofs.Turned.{turned, stream_moved, Turned, taken_by, stream_taken, Taken}
 
 -- A STREAM WRITTEN BACK
 
@@ -22,15 +33,33 @@ use Rattle.strm_host_laws.proofs.Turned.{turned, stream_moved, Turned}
 abbrev pub set_back : World → ℕ → Stream → World
 set_back w s stream = with_state w (record w.state { streams = slice_set w.state.streams s stream })
 
-leaves-streams : (old new : Owner) (w : World) → (leaves_writer old new w).state.streams ≡ w.state.streams
-leaves-streams (Host n) Gone w = refl
-leaves-streams (Host n) _ w = refl
-leaves-streams _ new w = refl
-
 leaves-guests : (old new : Owner) (w : World) → (leaves_writer old new w).state.guests ≡ w.state.guests
 leaves-guests (Host n) Gone w = refl
 leaves-guests (Host n) _ w = refl
 leaves-guests _ new w = refl
+
+-- a host reader that goes leaves guests and host writers as they are
+leaves_reader-guests : (old new : Owner) (w : World) → (leaves_reader old new w).state.guests ≡ w.state.guests
+leaves_reader-guests (Host n) Gone w = refl
+leaves_reader-guests (Host n) _ w = refl
+leaves_reader-guests _ new w = refl
+
+leaves_reader-writers : (old new : Owner) (w : World) → (leaves_reader old new w).writers ≡ w.writers
+leaves_reader-writers (Host n) Gone w = refl
+leaves_reader-writers (Host n) _ w = refl
+leaves_reader-writers _ new w = refl
+
+-- and a host writer that goes leaves host readers
+pub leaves_writer-readers : (old new : Owner) (w : World) → (leaves_writer old new w).readers ≡ w.readers
+leaves_writer-readers (Host n) Gone w = refl
+leaves_writer-readers (Host n) _ w = refl
+leaves_writer-readers _ new w = refl
+
+-- a host reader that goes tells what it told
+leaves_reader-holds : (old new : Owner) (w : World) (k : ℕ) → (reader_at (leaves_reader old new w) k).holds ≡ (reader_at w k).holds
+leaves_reader-holds (Host n) Gone w k = set-keeps (λ (x : Reader). x.holds) w.readers n k (closed_reader (reader_at w n)) no_reader refl
+leaves_reader-holds (Host n) _ w k = refl
+leaves_reader-holds _ new w k = refl
 
 leaves-other : (old new : Owner) (w : World) (k : ℕ) → ((n : ℕ) → old ≡ Host n → k ≢ n) → writer_at (leaves_writer old new w) k ≡ writer_at w k
 leaves-other (Host n) Gone w k ne = get_or-set_other w.writers n k (closed_writer (writer_at w n)) no_writer (ne n refl)
@@ -43,21 +72,37 @@ leaves-coming (Host n) _ w k = refl
 leaves-coming _ new w k = refl
 
 module _ (w : World) (s : ℕ) (stream : Stream) where
+  -- once its host reader is closed, if it is gone
+  abbrev but_read : World
+  but_read = leaves_reader (stream_in w s).reader.owner stream.reader.owner (set_back w s stream)
+
+  but_read-writer : (k : ℕ) → writer_at but_read k ≡ writer_at w k
+  but_read-writer k = ap (λ ws. get_or ws k no_writer) (leaves_reader-writers (stream_in w s).reader.owner stream.reader.owner (set_back w s stream))
+
   pub back-streams : (with_stream_in w s stream).state.streams ≡ set w.state.streams s stream
-  unfolding with_stream_in
-  back-streams = leaves-streams (stream_in w s).writer.owner stream.writer.owner (set_back w s stream)
+  back-streams = written-streams w s stream
 
   pub back-guests : (with_stream_in w s stream).state.guests ≡ w.state.guests
   unfolding with_stream_in
-  back-guests = leaves-guests (stream_in w s).writer.owner stream.writer.owner (set_back w s stream)
+  back-guests = leaves-guests (stream_in w s).writer.owner stream.writer.owner but_read ∙ leaves_reader-guests (stream_in w s).reader.owner stream.reader.owner (set_back w s stream)
 
   pub back-writer : (k : ℕ) → ((n : ℕ) → (stream_in w s).writer.owner ≡ Host n → k ≢ n) → writer_at (with_stream_in w s stream) k ≡ writer_at w k
   unfolding with_stream_in
-  back-writer k ne = leaves-other (stream_in w s).writer.owner stream.writer.owner (set_back w s stream) k ne
+  back-writer k ne = leaves-other (stream_in w s).writer.owner stream.writer.owner but_read k ne ∙ but_read-writer k
 
   pub back-coming : (k : ℕ) → (writer_at (with_stream_in w s stream) k).coming ≡ (writer_at w k).coming
   unfolding with_stream_in
-  back-coming k = leaves-coming (stream_in w s).writer.owner stream.writer.owner (set_back w s stream) k
+  back-coming k = leaves-coming (stream_in w s).writer.owner stream.writer.owner but_read k ∙ ap (λ (x : Writer). x.coming) (but_read-writer k)
+
+  pub back-holds : (k : ℕ) → (reader_at (with_stream_in w s stream) k).holds ≡ (reader_at w k).holds
+  unfolding with_stream_in
+  back-holds k =
+      ap (λ rs. (get_or rs k no_reader).holds) (leaves_writer-readers (stream_in w s).writer.owner stream.writer.owner but_read)
+      ∙ leaves_reader-holds (stream_in w s).reader.owner stream.reader.owner (set_back w s stream) k
+
+  -- counts, where this one stays
+  pub back-received : stream.received ≡ (stream_in w s).received → (k : ℕ) → (stream_in (with_stream_in w s stream) k).received ≡ (stream_in w k).received
+  back-received e k = ap (λ xs. (get_or xs k no_stream).received) back-streams ∙ set-keeps (λ (x : Stream). x.received) w.state.streams s k stream no_stream e
 
   pub back-here : s < length w.state.streams → stream_in (with_stream_in w s stream) s ≡ stream
   back-here l = ap (λ xs. get_or xs s no_stream) back-streams ∙ get_or-set_same w.state.streams s stream no_stream l
@@ -69,9 +114,13 @@ module _ (w : World) (s : ℕ) (stream : Stream) where
   back-length = ap length back-streams ∙ length-set w.state.streams s stream
 
   pub back-stays : stream.writer.owner ≡ (stream_in w s).writer.owner → (k : ℕ) → writer_at (with_stream_in w s stream) k ≡ writer_at w k
-  back-stays e k = ap (λ v. writer_at v k) (with_stream_in-same w s stream e)
+  unfolding with_stream_in
+  back-stays e k =
+      ap (λ o. writer_at (leaves_writer (stream_in w s).writer.owner o but_read) k) e
+      ∙ ap (λ v. writer_at v k) (leaves_writer-stays (stream_in w s).writer.owner but_read)
+      ∙ but_read-writer k
 
--- A TURN
+-- A TURN OF A HOST WRITER
 
 -- the read of a turn is one that may be, on a stream of this host writer
 pub record CanTurn (w : World) (s n : ℕ) (read : Operation) : Type 0 where
@@ -132,3 +181,57 @@ module _ (w : World) (s n : ℕ) (read : Operation) (v : World) (t : Turned w s 
             ap (λ (x : Stream). x.writer.owner) turned-here ∙ stays,
             ap (λ x. (writer_at x n).holds) t.is ∙ ap (λ (x : Writer). x.holds) (back-stays but s now (stays ∙ sym c.owner) n ∙ writer_but),
           )
+
+-- A TURN OF A HOST READER
+
+module _ (w : World) (s r : ℕ) (write : Operation) (v : World) (t : Taken w s r write v) where
+  -- the world but for the stream
+  abbrev taken_but : World
+  taken_but = taken_by w s r write t.said t.more
+
+  abbrev taken_stream : Stream
+  taken_stream = stream_taken w s write t.said
+
+  pub taken-here : s < length w.state.streams → stream_in v s ≡ taken_stream
+  taken-here l = ap (λ x. stream_in x s) t.is ∙ back-here taken_but s taken_stream l
+
+  pub taken-other : (k : ℕ) → k ≢ s → stream_in v k ≡ stream_in w k
+  taken-other k ne = ap (λ x. stream_in x k) t.is ∙ back-other taken_but s taken_stream k ne
+
+  pub taken-length : length v.state.streams ≡ length w.state.streams
+  taken-length = ap (λ (x : World). length x.state.streams) t.is ∙ back-length taken_but s taken_stream
+
+  pub taken-guests : v.state.guests ≡ w.state.guests
+  taken-guests = ap (λ (x : World). x.state.guests) t.is ∙ back-guests taken_but s taken_stream
+
+  pub taken-writer : (k : ℕ) → writer_at v k ≡ writer_at w k
+  taken-writer k =
+      ap (λ x. writer_at x k) t.is
+      ∙ back-stays taken_but s taken_stream (moved-mine (stream_in w s) write t.said.taken Writing (result_of t.said.answer)) k
+
+-- the turn of a host end on either side
+pub turned_length : (side : Side) (w : World) (s n : ℕ) (operation : Operation) (v : World) → HasTurned side w s n operation v → length v.state.streams ≡ length w.state.streams
+turned_length Reading w s n operation v t =
+    ap (λ (x : World). length x.state.streams) t.is ∙ back-length (turned w s n operation t.items t.producer t.writer) s (stream_moved w s operation t.items t.result)
+turned_length Writing w s n operation v t = taken-length w s n operation v t
+
+-- a call makes no stream
+pub call_length : (side : Side) (w : World) (part : Part) (v : World) (end : NamedEnd) (address count n : ℕ) → IsCall side w part v end address count n → length v.state.streams ≡ length w.state.streams
+call_length side w part v end address count n r =
+    let t = stream_of w end in
+    let operation = called end address count in
+    let mid : length r.mid.state.streams ≡ length w.state.streams = turned_length side (opened side w t operation) t n operation r.mid r.turned ∙ back-length w t (with_operation side (stream_in w t) operation) in
+    elim r.told [
+      | inl e ↦ ap (λ (x : World). length x.state.streams) e ∙ mid
+      | inr e ↦ ap (λ (x : World). length x.state.streams) e ∙ back-length r.mid t (delivered side (stream_in r.mid t)) ∙ mid
+    ]
+
+-- nor does a pipe
+pub pipe_length : (w v : World) (s r : ℕ) → IsPiping w v s r → length v.state.streams ≡ length w.state.streams
+pipe_length w v s r p =
+    let u = with_consumer w r (record no_consumer { duty = Serves s }) in
+    let first = back-length u s (piped (stream_in w s) r) in
+    elim p.is [
+      | inl e ↦ ap (λ (x : World). length x.state.streams) e ∙ first
+      | inr e ↦ ap (λ (x : World). length x.state.streams) e ∙ back-length (piped_to w s r) s (without_ends (piped (stream_in w s) r)) ∙ first
+    ]

@@ -1,26 +1,32 @@
--- What holds of every run with host writers. Ours.
-use Rattle.std.specs.Prelude.{◌≡◌, ℕ, ◌+◌, ◌-◌, ◌==◌, Bool, true, false, ◌||◌, if◌then◌else◌, List, [], ◌∷◌, ◌++◌, length, map, take, All, Option, Some}
+-- What holds of every run with host ends. Ours.
+use Rattle.std.specs.Prelude.{◌≡◌, ℕ, ◌+◌, ◌-◌, ◌==◌, Bool, true, false, ◌&&◌, ◌||◌, if◌then◌else◌, List, [], ◌∷◌, ◌++◌, length, map, take, All, Option, Some, IsSome}
 use Rattle.std.specs.Option.{option_map}
 use Rattle.strm_codes.specs.Layout.{scalars_of}
 use Rattle.strm_memory.specs.Items.{AreItems}
 use Rattle.strm_buffers.specs.Listing.{Item}
 use Rattle.strm_buffers.specs.Said.{WriterSaid}
-use Rattle.strm_machine.specs.State.{State, is_host, producer_at, is_gone}
+use Rattle.strm_buffers.specs.declared.answers.ReaderSaid.{ReaderSaid}
+use Rattle.strm_machine.specs.State.{State, is_host, producer_at, consumer_at, stream_at, is_gone}
 use Rattle.strm_machine.specs.Soundness.{IsUnmoved}
 use Rattle.strm_machine.specs.declared.streams.Stream.{Stream}
-use Rattle.strm_machine.specs.Moments.{Moment, received, got_in}
+use Rattle.strm_machine.specs.Moments.{Moment, Place, place_of, is_named, rise, items_in, received, got_in}
 use Rattle.strm_machine.specs.declared.acts.Act.{Act}
-use Rattle.strm_machine.specs.declared.acts.Act.TheVariants.{OnHost, Drive}
-use Rattle.strm_machine.specs.declared.acts.HostAct.TheVariants.{New, Feed}
+use Rattle.strm_machine.specs.declared.acts.Act.TheVariants.{OnEnd, OnHost, Drive}
+use Rattle.strm_machine.specs.declared.acts.EndAct.TheVariants.{Operate}
+use Rattle.strm_machine.specs.declared.acts.HostAct.TheVariants.{New, Feed, Pipe, Grant}
 use Rattle.strm_machine.specs.declared.replies.Reply.{Reply}
 use Rattle.strm_machine.specs.declared.replies.Reply.TheVariants as replies
 use Rattle.strm_machine.specs.declared.streams.Duty.{Duty}
 use Rattle.strm_machine.specs.declared.streams.Duty.TheVariants.{Ended}
 use Rattle.strm_machine.specs.declared.streams.Owner.{Owner}
 use Rattle.strm_machine.specs.declared.streams.Owner.TheVariants.{Host}
-use Rattle.strm_world.specs.Ends.{Writer, writer_in}
-use Rattle.strm_world.specs.World.{World, stream_in, writer_at}
+use Rattle.strm_machine.specs.declared.streams.Side.{Side}
+use Rattle.strm_machine.specs.declared.streams.Side.TheVariants.{Writing, Reading}
+use Rattle.strm_world.specs.Ends.{Writer, Reader, writer_in, reader_in}
+use Rattle.strm_world.specs.World.{World, stream_in, writer_at, reader_at}
 use Rattle.strm_world.specs.Does.{SaidFits}
+use Rattle.strm_laws.specs.Conservation.{calls, writes, reads, all_reported, all_handed}
+use Rattle.strm_laws.specs.Laws.{total, moved_at, IsAsked}
 use Rattle.strm_host_laws.specs.HostMoments.{Part, Acts, Turns, HostMoment}
 
 -- CLOSES
@@ -40,7 +46,7 @@ ClosesExactly first state writers =
 -- RECORDS AND FEEDS
 
 -- of records that were to come and those that are, the ones used since: they left the front
-abbrev pub used : List WriterSaid → List WriterSaid → List WriterSaid
+abbrev pub used : {A : Type 0} → List A → List A → List A
 used before after = take (length before - length after) before
 
 -- the records of host writer n that a moment used
@@ -121,11 +127,59 @@ plain m = record {
 abbrev pub plains : List HostMoment → List Moment
 plains all = map plain all
 
--- the items received on stream s in these moments, each as it lay in the reader's memory just after it
--- was received
+-- where a write writes from, and else where one that waits does
+abbrev pub write_place : Act → Place → Place
+write_place (OnEnd Writing end (Operate address count)) waiting =
+    record { guest = end.guest; address = address }
+write_place _ waiting = waiting
+
+-- where the items lie that a guest offers in a moment: at the place of the write that is called in it on
+-- stream s, and else of the write that waited before it
+abbrev pub source : ℕ → Moment → Place
+source s m =
+    let waiting = place_of (stream_at m.before s).writer.operation in
+    if is_named s Writing m then write_place m.act waiting else waiting
+
+-- what is taken of them, as it lay in the writer's memory just before the moment
+abbrev pub taken_in : ℕ → Moment → List (Option Item)
+taken_in s m =
+    items_in (stream_at m.before s).payload m.before.guests (source s m).guest (source s m).address (rise s m)
+
+-- what a host reader took in a moment, by the owner of the write end: of a host writer the front of what was
+-- held and what it produced then, and else what a guest offered
+abbrev pub taken_from : ℕ → HostMoment → Owner → List (Option Item)
+taken_from s m (Host n) =
+    map Some (take (rise s (plain m)) ((writer_at m.before n).holds ++ produced_in s m))
+taken_from s m owner = taken_in s (plain m)
+
+-- on stream s, by the owner of its read end; a guest took none
+abbrev pub taken_by : ℕ → HostMoment → Owner → List (Option Item)
+taken_by s m (Host r) = taken_from s m (stream_in m.before s).writer.owner
+taken_by s m owner = []
+
+-- what host readers took on stream s in a moment
+abbrev pub host_taken_in : ℕ → HostMoment → List (Option Item)
+host_taken_in s m = taken_by s m (stream_in m.before s).reader.owner
+
+-- what host readers took on stream s in these moments
+abbrev pub all_taken : ℕ → List HostMoment → List (Option Item)
+all_taken s [] = []
+all_taken s (m ∷ more) = host_taken_in s m ++ all_taken s more
+
+-- what was received in a moment, by the owner of the read end: a guest has it in its memory just after
+-- it, and a host reader took it
+abbrev pub got_by : ℕ → HostMoment → Owner → List (Option Item)
+got_by s m (Host r) = taken_from s m (stream_in m.before s).writer.owner
+got_by s m owner = got_in s (plain m)
+
+-- the items received on stream s in a moment, whoever received them
+abbrev pub host_got_in : ℕ → HostMoment → List (Option Item)
+host_got_in s m = got_by s m (stream_in m.before s).reader.owner
+
+-- the items received on stream s in these moments, whoever received them
 abbrev pub host_got : ℕ → List HostMoment → List (Option Item)
 host_got s [] = []
-host_got s (m ∷ more) = got_in s (plain m) ++ host_got s more
+host_got s (m ∷ more) = host_got_in s m ++ host_got s more
 
 -- DELIVERS
 
@@ -160,11 +214,106 @@ pub record DeliversAll (s : ℕ) (all : List HostMoment) (last : World) : Type 0
       host_got s all ≡ take (length (host_got s all)) (map Some (produced s all))
   pub count : is_hosted s all ≡ true → length (host_got s all) ≡ received s last.state
 
+-- HOST READERS
+
+-- the read end of stream s went to host reader r in a moment
+abbrev pub is_piped_to : ℕ → ℕ → Part → Reply → Bool
+is_piped_to s r (Acts (OnHost host (Pipe reader))) replies.Done = (reader == s) && (host == r)
+is_piped_to s r part reply = false
+
+-- and in one of these
+abbrev pub is_pipe_of : ℕ → ℕ → List HostMoment → Bool
+is_pipe_of s r [] = false
+is_pipe_of s r (m ∷ more) = is_piped_to s r m.part m.reply || is_pipe_of s r more
+
+-- it went to a host reader in a moment
+abbrev pub is_piped_in : ℕ → Part → Reply → Bool
+is_piped_in s (Acts (OnHost host (Pipe reader))) replies.Done = reader == s
+is_piped_in s part reply = false
+
+-- and in one of these
+abbrev pub is_piped : ℕ → List HostMoment → Bool
+is_piped s [] = false
+is_piped s (m ∷ more) = is_piped_in s m.part m.reply || is_piped s more
+
+-- of host readers that tell this, in a run from a world to a state: those are closed that were closed at
+-- first, and those that became gone, and no others
+abbrev pub ReadersCloseExactly : World → State → List Reader → Type 0
+ReadersCloseExactly first state readers =
+    (r : ℕ) →
+    (reader_in readers r).closed ≡ ((reader_at first r).closed || is_ended (consumer_at state r).duty)
+
+-- the records of host reader r that a moment used
+abbrev pub used_by : ℕ → HostMoment → List ReaderSaid
+used_by r m = used (reader_at m.before r).coming (reader_at m.after r).coming
+
+-- and those that these moments used
+abbrev pub all_used_by : ℕ → List HostMoment → List ReaderSaid
+all_used_by r [] = []
+all_used_by r (m ∷ more) = used_by r m ++ all_used_by r more
+
+-- what a grant gives host reader r, if it is accepted: so many items, behind so many records
+abbrev pub granted_in : ℕ → ℕ → Part → Reply → List (ℕ × ℕ)
+granted_in r spoken (Acts (OnHost host (Grant count))) replies.Done =
+    if host == r then (spoken, count) ∷ [] else []
+granted_in r spoken part reply = []
+
+-- what these moments grant it, in order
+abbrev pub all_granted : ℕ → List HostMoment → List (ℕ × ℕ)
+all_granted r [] = []
+all_granted r (m ∷ more) = granted_in r (reader_at m.before r).spoken m.part m.reply ++ all_granted r more
+
+-- in these moments a host reader that was this one first and is that one then used its records in order,
+-- each once, and counted them; it heard exactly what it was granted, each behind the records that it had
+-- then; and it stayed of its kind and payload
+pub record ReaderGoesOn (r : ℕ) (all : List HostMoment) (first last : Reader) : Type 0 where
+  pub records : first.coming ≡ all_used_by r all ++ last.coming
+  pub spoken : last.spoken ≡ first.spoken + length (all_used_by r all)
+  pub heard : last.heard ≡ option_map (λ xs. xs ++ all_granted r all) first.heard
+  pub kind : last.kind ≡ first.kind
+  pub payload : last.payload ≡ first.payload
+
+-- a host reader that tells what it took has, behind what it had at first, exactly what was taken of its
+-- stream, if all of that are items
+pub record TellsTaken (s r : ℕ) (all : List HostMoment) (first last : Reader) : Type 0 where
+  pub told : is_pipe_of s r all ≡ true → All IsSome (all_taken s all) →
+      option_map (λ xs. map Some xs) last.holds
+      ≡ option_map (λ xs. map Some xs ++ all_taken s all) first.holds
+
+-- CONSERVATION AMONG HOST READERS
+
+-- on stream s, which guests write, what was received is what the writes handed over, item by item, whoever
+-- received it. It is as many items as the writes report, or have moved so far, and as the reads do, together
+-- with what host readers took; no call reports more than it asked for. All that was told to an end adds up to
+-- the same; as many were counted, and each is an item, if what host readers took are items
+pub record ConservesAmong (s : ℕ) (all : List HostMoment) (end : State) : Type 0 where
+  pub items :
+      host_got s all
+      ≡ all_handed (stream_at end s).kind s (plains all) (moved_at s Writing end) 0 (writes s (plains all))
+  pub written :
+      length (host_got s all)
+      ≡ total (stream_at end s).kind (moved_at s Writing end) (writes s (plains all))
+  pub read :
+      length (host_got s all)
+      ≡ total (stream_at end s).kind (moved_at s Reading end) (reads s (plains all)) + length (all_taken s all)
+  pub asked : (side : Side) →
+      All (IsAsked (stream_at end s).kind (moved_at s side end)) (calls s side (plains all))
+  pub told_writer :
+      all_reported (stream_at end s).kind s Writing (plains all) + moved_at s Writing end
+      ≡ length (host_got s all)
+  pub told_reader :
+      all_reported (stream_at end s).kind s Reading (plains all) + moved_at s Reading end
+      + length (all_taken s all)
+      ≡ length (host_got s all)
+  pub count : length (host_got s all) ≡ received s end
+  pub whole : All IsSome (all_taken s all) → All IsSome (host_got s all)
+
 -- MOVES
 
--- a write that has not met has moved nothing, and neither has a read, unless a host writer has the write
--- end, or the read end is gone
+-- a write that has not met has moved nothing, unless a host reader has the read end, or the write end is
+-- gone; and neither has a read, unless a host writer has the write end, or the read end is gone
 pub record MovesByHosts (stream : Stream) : Type 0 where
-  pub writing : IsUnmoved stream.writer.operation
+  pub writing : is_host stream.reader.owner ≡ false → is_gone stream.writer.owner ≡ false →
+      IsUnmoved stream.writer.operation
   pub reading : is_host stream.writer.owner ≡ false → is_gone stream.reader.owner ≡ false →
       IsUnmoved stream.reader.operation

@@ -1,5 +1,5 @@
 //! The laws of the guests, for whichever steps, of a run from an unused store among whichever host
-//! writers.
+//! ends.
 //!
 //! Meaning: `Laws.antt` of `strm_laws`, said of the state after the last moment of `HostMoments.antt`.
 //! Ours.
@@ -18,12 +18,12 @@ ghost use Rattle.strm_laws.specs.Laws.{AreSteps, AreCounted, Conserves, Stands, 
 ghost use Rattle.strm_world.specs.World.{stream_in};
 ghost use Rattle.strm_world.specs.Does.{start};
 ghost use Rattle.strm_host_laws.specs.HostMoments.{host_moments, last_of};
-ghost use Rattle.strm_host_laws.specs.HostLaws.{plains, is_hosted, MovesByHosts};
+ghost use Rattle.strm_host_laws.specs.HostLaws.{plains, is_hosted, is_piped, host_got, ConservesAmong, MovesByHosts};
 
 /// Every state is sound, after whichever steps: handles name streams that were made, of their type, the
 /// items that an operation has left lie in its guest's memory, and each guest's table agrees with its
 /// waitable sets. A host writer has the write end of the one stream that it serves, on which no guest
-/// writes, and no host end has a read end.
+/// writes, and a host reader the read end of its one stream, on which no guest reads.
 pub fn states_are_sound()
     ensures sound { (tag : ℕ) (limits : Limits) (old new : Tells) (run : List Step) →
         IsSound (last_of (start tag limits old new)
@@ -35,7 +35,7 @@ pub fn states_are_sound()
 
 /// An end that a handle names is held under that handle, and an end that is held is named by its
 /// handle, after whichever steps. So an end has one handle at most, and none while it is loose, is a host
-/// writer's, or once it is gone.
+/// end's, or once it is gone.
 pub fn handles_hold_their_ends()
     ensures holds { (tag : ℕ) (limits : Limits) (old new : Tells) (run : List Step) →
         HandlesHold (last_of (start tag limits old new)
@@ -64,7 +64,8 @@ pub fn contexts_count_their_handles()
 {}
 
 /// No stream or future has both an open write and an open read, after at most 4,294,967,295 steps. On one
-/// that was made of a host writer no guest writes at all.
+/// that was made of a host writer no guest writes at all, and on one whose read end went to a host reader
+/// none reads any more.
 pub fn never_two_open()
     ensures apart { (tag : ℕ) (limits : Limits) (old new : Tells) (run : List Step) (s : ℕ) →
         AreSteps run → both_open (stream_in (last_of (start tag limits old new)
@@ -73,20 +74,27 @@ pub fn never_two_open()
         AreSteps run → is_hosted s (host_moments (start tag limits old new) run) ≡ true →
         (stream_in (last_of (start tag limits old new)
         (host_moments (start tag limits old new) run)) s).writer.operation ≡ None }
+    ensures unread { (tag : ℕ) (limits : Limits) (old new : Tells) (run : List Step) (s : ℕ) →
+        AreSteps run → is_piped s (host_moments (start tag limits old new) run) ≡ true →
+        (stream_in (last_of (start tag limits old new)
+        (host_moments (start tag limits old new) run)) s).reader.operation ≡ None }
 {}
 
-/// A read or write that has not met has moved nothing, on a stream that no host writer made: so a cancel of
-/// it says Cancelled of no item. A read of a host writer may get items of a poll that leaves it open.
+/// A read or write that has not met has moved nothing, on a stream that no host writer made and whose read
+/// end went to no host reader: so a cancel of it says Cancelled of no item. A poll of a host end may move
+/// items of a read or write that it leaves open.
 pub fn unmet_has_moved_none()
     ensures { (tag : ℕ) (limits : Limits) (old new : Tells) (run : List Step) (s : ℕ) →
         AreSteps run → is_hosted s (host_moments (start tag limits old new) run) ≡ false →
+        is_piped s (host_moments (start tag limits old new) run) ≡ false →
         AreUnmoved (stream_in (last_of (start tag limits old new)
         (host_moments (start tag limits old new) run)) s) }
 {}
 
-/// Of every stream: a write that has not met has moved nothing, and a read that has not met, and whose end
-/// is there, has moved something only while a host writer has the write end.
-pub fn unmet_moves_by_host_writers()
+/// Of every stream: a write that has not met, and whose end is there, has moved something only while a host
+/// reader has the read end, and a read that has not met, and whose end is there, only while a host writer has
+/// the write end.
+pub fn unmet_moves_by_host_ends()
     ensures { (tag : ℕ) (limits : Limits) (old new : Tells) (run : List Step) (s : ℕ) →
         AreSteps run → MovesByHosts (stream_in (last_of (start tag limits old new)
         (host_moments (start tag limits old new) run)) s) }
@@ -100,16 +108,37 @@ pub fn totals_are_counts()
         (host_moments (start tag limits old new) run)) s) }
 {}
 
-/// On each stream that no host writer made, what was received is, in order, exactly the first k items of
-/// each accepted write, k the count reported, each as its guest's memory held it just before it was
-/// copied, whatever host writers did on other streams. The reports of the reads speak of exactly as many
+/// On each stream of which no host end had an end, what was received is, in order, exactly the first k items
+/// of each accepted write, k the count reported, each as its guest's memory held it just before it was
+/// copied, whatever host ends did on other streams. The reports of the reads speak of exactly as many
 /// items, those of either end count once each, and none speaks of more than its call asked for. What
 /// carries it: a read or write that has no report yet has moved what its operation says, and its next item
 /// lies behind that.
 pub fn conservation()
     ensures conserves { (tag : ℕ) (limits : Limits) (old new : Tells) (run : List Step) (s : ℕ) →
         AreSteps run → is_hosted s (host_moments (start tag limits old new) run) ≡ false →
+        is_piped s (host_moments (start tag limits old new) run) ≡ false →
         Conserves s (plains (host_moments (start tag limits old new) run))
+        (last_of (start tag limits old new) (host_moments (start tag limits old new) run)).state }
+    ensures stands { (tag : ℕ) (limits : Limits) (old new : Tells) (run : List Step) (s : ℕ)
+        (side : Side) →
+        AreSteps run → is_hosted s (host_moments (start tag limits old new) run) ≡ false →
+        is_piped s (host_moments (start tag limits old new) run) ≡ false →
+        Stands (stream_in (last_of (start tag limits old new)
+        (host_moments (start tag limits old new) run)) s).payload
+        (waiting s side (last_of (start tag limits old new)
+        (host_moments (start tag limits old new) run)).state)
+        (calls s side (plains (host_moments (start tag limits old new) run))) }
+{}
+
+/// The same of each stream or future that guests write, where a host reader had the read end too: what was
+/// received, by guests and then by the host reader, is exactly the first k items of each accepted write, k
+/// the count reported, each as its guest's memory held it just before it was copied or taken. What the reads
+/// report and what the host reader took are together as many items. On a future one item is received at most.
+pub fn conservation_among()
+    ensures conserves { (tag : ℕ) (limits : Limits) (old new : Tells) (run : List Step) (s : ℕ) →
+        AreSteps run → is_hosted s (host_moments (start tag limits old new) run) ≡ false →
+        ConservesAmong s (host_moments (start tag limits old new) run)
         (last_of (start tag limits old new) (host_moments (start tag limits old new) run)).state }
     ensures stands { (tag : ℕ) (limits : Limits) (old new : Tells) (run : List Step) (s : ℕ)
         (side : Side) →
@@ -119,12 +148,18 @@ pub fn conservation()
         (waiting s side (last_of (start tag limits old new)
         (host_moments (start tag limits old new) run)).state)
         (calls s side (plains (host_moments (start tag limits old new) run))) }
+    ensures one { (tag : ℕ) (limits : Limits) (old new : Tells) (run : List Step) (s : ℕ) →
+        AreSteps run → is_hosted s (host_moments (start tag limits old new) run) ≡ false →
+        (stream_in (last_of (start tag limits old new)
+        (host_moments (start tag limits old new) run)) s).kind ≡ Future →
+        length (host_got s (host_moments (start tag limits old new) run)) ≤ 1 }
 {}
 
-/// On a future that no host writer made one item is received at most.
+/// On a future of which no host end had an end one item is received at most.
 pub fn futures_pass_one()
     ensures { (tag : ℕ) (limits : Limits) (old new : Tells) (run : List Step) (s : ℕ) →
         AreSteps run → is_hosted s (host_moments (start tag limits old new) run) ≡ false →
+        is_piped s (host_moments (start tag limits old new) run) ≡ false →
         (stream_in (last_of (start tag limits old new)
         (host_moments (start tag limits old new) run)) s).kind ≡ Future →
         length (got s (plains (host_moments (start tag limits old new) run))) ≤ 1 }
@@ -132,7 +167,8 @@ pub fn futures_pass_one()
 
 /// Nothing but a poke, a message and the items received changes a memory: in each moment of a run all other
 /// bytes of each guest stay as they were, no guest goes, and no memory changes its length. What a host
-/// writer hands over touches the bytes where its items are received.
+/// writer hands over touches the bytes where its items are received, and what a host reader takes touches
+/// none.
 pub fn other_bytes_stay()
     ensures { (tag : ℕ) (limits : Limits) (old new : Tells) (run : List Step) → AreSteps run →
         All StaysAside (plains (host_moments (start tag limits old new) run)) }

@@ -1,4 +1,4 @@
-//! The laws, for whichever steps, of a run from an unused store among whichever host writers.
+//! The laws, for whichever steps, of a run from an unused store among whichever host ends.
 //!
 //! Meaning: `HostLaws.antt`, `HostMoments.antt`, and `HostPlays.antt` and `Does.antt` of `strm_world`.
 //! Ours.
@@ -10,11 +10,12 @@ ghost use Rattle.strm_machine.specs.declared.replies.Reply.{Reply};
 ghost use Rattle.strm_machine.specs.declared.steps.Step.{Step};
 ghost use Rattle.strm_machine.specs.declared.stops.Stop.{Stop};
 ghost use Rattle.strm_world.specs.Ends.{Writer, Reader};
-ghost use Rattle.strm_world.specs.World.{World, writer_at};
+ghost use Rattle.strm_world.specs.World.{World, writer_at, reader_at};
 ghost use Rattle.strm_world.specs.HostPlays.{Ends, Halts, play};
 ghost use Rattle.strm_world.specs.Does.{start};
+ghost use Rattle.strm_laws.specs.Laws.{AreSteps};
 ghost use Rattle.strm_host_laws.specs.HostMoments.{host_moments, last_of};
-ghost use Rattle.strm_host_laws.specs.HostLaws.{ClosesExactly, WriterGoesOn, Supplies, DeliversAll};
+ghost use Rattle.strm_host_laws.specs.HostLaws.{ClosesExactly, WriterGoesOn, Supplies, DeliversAll, ReadersCloseExactly, ReaderGoesOn, TellsTaken};
 
 /// The moments of a run lead to where its play ends, from whichever world.
 pub fn moments_lead_to_the_end()
@@ -40,6 +41,22 @@ pub fn ends_close_exactly()
         (last_of (start tag limits old new) (host_moments (start tag limits old new) run)).state writers }
 {}
 
+/// Exactly the host readers that became gone were closed, as for host writers.
+pub fn readers_close_exactly()
+    ensures runs { (tag : ℕ) (limits : Limits) (old new : Tells) (run : List Step) (replies : List Reply)
+        (end : World) → play [] (start tag limits old new) run ≡ Ends replies end →
+        ReadersCloseExactly (start tag limits old new) end.state end.readers }
+    ensures moments { (tag : ℕ) (limits : Limits) (old new : Tells) (run : List Step) →
+        ReadersCloseExactly (start tag limits old new)
+        (last_of (start tag limits old new) (host_moments (start tag limits old new) run)).state
+        (last_of (start tag limits old new) (host_moments (start tag limits old new) run)).readers }
+    ensures stops { (tag : ℕ) (limits : Limits) (old new : Tells) (run : List Step) (replies : List Reply)
+        (stop : Stop) (writers : List Writer) (readers : List Reader) →
+        play [] (start tag limits old new) run ≡ Halts replies stop writers readers →
+        ReadersCloseExactly (start tag limits old new)
+        (last_of (start tag limits old new) (host_moments (start tag limits old new) run)).state readers }
+{}
+
 /// A host writer uses its records in order, each once, and hears exactly the accepted feeds to it, in
 /// order, each behind as many records as it had used when it came, and stays of its kind and payload; from
 /// whichever world, whatever the steps.
@@ -47,6 +64,15 @@ pub fn writers_are_fed_exactly()
     ensures { (first : World) (run : List Step) (n : ℕ) →
         WriterGoesOn n (host_moments first run) (writer_at first n)
         (writer_at (last_of first (host_moments first run)) n) }
+{}
+
+/// A host reader uses its records in order, each once, and hears exactly the accepted grants to it, in order,
+/// each behind as many records as it had used when it came, and stays of its kind and payload; from whichever
+/// world, whatever the steps.
+pub fn readers_are_granted_exactly()
+    ensures { (first : World) (run : List Step) (r : ℕ) →
+        ReaderGoesOn r (host_moments first run) (reader_at first r)
+        (reader_at (last_of first (host_moments first run)) r) }
 {}
 
 /// On each stream of a host writer, what the writer held when the stream was made and the items of all
@@ -58,4 +84,15 @@ pub fn producers_deliver_in_order()
         ((n : ℕ) → Supplies (writer_at (start tag limits old new) n)) → length run ≤ 4294967295 →
         DeliversAll s (host_moments (start tag limits old new) run)
         (last_of (start tag limits old new) (host_moments (start tag limits old new) run)) }
+{}
+
+/// A host reader that got the read end of a stream has taken, behind what it held at first, exactly the
+/// items that left the writes there, in order, each as it lay in its guest's memory just before it was taken,
+/// where each of them is an item: so what it tells is what was taken.
+pub fn readers_tell_what_they_took()
+    ensures { (tag : ℕ) (limits : Limits) (old new : Tells) (run : List Step) (s r : ℕ) → AreSteps run →
+        TellsTaken s r (host_moments (start tag limits old new) run)
+        (reader_at (start tag limits old new) r)
+        (reader_at (last_of (start tag limits old new)
+        (host_moments (start tag limits old new) run)) r) }
 {}

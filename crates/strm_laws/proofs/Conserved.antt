@@ -17,16 +17,16 @@ use Rattle.strm_machine.proofs.MomentLemmas.{unnamed}
 use Rattle.strm_machine.proofs.NamedEndLemmas.{names-unmade}
 use Rattle.strm_laws.specs.Conservation.{moments, last, calls, writes, all_reported, got, all_handed}
 use Rattle.strm_laws.specs.Laws.{AreSteps, total, waiting, moved_at, IsAsked, Conserves, Stands}
-use Rattle.strm_laws.proofs.Calls.{calls-push, all_reported-push}
+use Rattle.strm_laws.proofs.Calls.{calls-push, all_reported-push, got-push}
 use Rattle.strm_laws.proofs.Handed.{length-all_handed}
 use Rattle.strm_laws.proofs.Kept.{kind_at, Kept}
 use Rattle.strm_laws.proofs.KeptChanges.{keeps}
 use Rattle.strm_laws.proofs.LawfulRuns.{IsReady, IsReady-empty, IsReady-next, first_reacts, lawful}
 
-pub Kept-empty : (s : ℕ) (side : Side) (tag : ℕ) (limits : Limits) → Kept (kind_at s (empty tag limits)) s side [] (empty tag limits)
+pub Kept-empty : (s : ℕ) (side : Side) (tag : ℕ) (limits : Limits) → Kept (kind_at s (empty tag limits)) s side [] [] 0 (empty tag limits)
 unfolding all_handed
-Kept-empty s Writing tag limits = record { stands = tt; items = λ e. refl; count = refl; within = All-nil _; told = refl; reached = λ n. sym (le-ltb n 0 (omega arith)) }
-Kept-empty s Reading tag limits = record { stands = tt; items = λ e. refl; count = refl; within = All-nil _; told = refl; reached = λ n. sym (le-ltb n 0 (omega arith)) }
+Kept-empty s Writing tag limits = record { stands = tt; items = λ e. refl; alone = λ e. refl; count = refl; within = All-nil _; told = refl; reached = λ n. sym (le-ltb n 0 (omega arith)) }
+Kept-empty s Reading tag limits = record { stands = tt; items = λ e. refl; alone = λ e. refl; count = refl; within = All-nil _; told = refl; reached = λ n. sym (le-ltb n 0 (omega arith)) }
 
 -- no call was accepted on this end of stream s, and nothing was told to it
 pub record IsQuiet (s : ℕ) (side : Side) (all : List Moment) : Type 0 where
@@ -35,23 +35,24 @@ pub record IsQuiet (s : ℕ) (side : Side) (all : List Moment) : Type 0 where
 
 -- the account of an end of a stream that was made, of its kind, and of one that was not
 pub record Account (s : ℕ) (side : Side) (all : List Moment) (state : State) : Type 0 where
-  pub kept : Kept (kind_at s state) s side all state
+  pub kept : Kept (kind_at s state) s side all (got s all) 0 state
   pub unmade : length state.streams ≤ s → IsQuiet s side all
 
 Account-empty : (s : ℕ) (side : Side) (tag : ℕ) (limits : Limits) → Account s side [] (empty tag limits)
 Account-empty s side tag limits = record { kept = Kept-empty s side tag limits; unmade = λ l. record { none = refl; silent = λ kind. refl } }
 
 -- where nothing happened yet, whichever kind
-rekind : (one other : TransmitKind) (s : ℕ) (side : Side) (all : List Moment) (state : State) → IsQuiet s side all → Kept one s side all state → Kept other s side all state
+rekind : (one other : TransmitKind) (s : ℕ) (side : Side) (all : List Moment) (state : State) → IsQuiet s side all → Kept one s side all (got s all) 0 state → Kept other s side all (got s all) 0 state
 unfolding all_handed
 rekind one other s side all state q k =
     let moved = moved_at s side state in
     record {
       stands = k.stands;
       items = λ e. k.items e ∙ ap (all_handed one s all moved 0) q.none ∙ sym (ap (all_handed other s all moved 0) q.none);
-      count = k.count ∙ ap (total one moved) q.none ∙ sym (ap (total other moved) q.none);
+      alone = k.alone;
+      count = k.count ∙ ap (λ cs. total one moved cs + 0) q.none ∙ sym (ap (λ cs. total other moved cs + 0) q.none);
       within = subst (All (IsAsked other moved)) (sym q.none) (All-nil (IsAsked other moved));
-      told = ap (λ n. n + moved) (q.silent other ∙ sym (q.silent one)) ∙ k.told;
+      told = ap (λ n. n + moved + 0) (q.silent other ∙ sym (q.silent one)) ∙ k.told;
       reached = k.reached;
     }
 
@@ -69,11 +70,12 @@ account_next : (s : ℕ) (side : Side) (all : List Moment) (state : State) (step
 account_next s side all state step h r a =
     let m = moment_of state step in
     let after = (react state step).state in
-    let next = keeps s side all m a.kept (r.change s side) in
+    let next : Kept (kind_at s state) s side (all ++ m ∷ []) (got s (all ++ m ∷ [])) 0 after =
+    subst (λ l. Kept (kind_at s state) s side (all ++ m ∷ []) l 0 after) (sym (got-push s all m)) (keeps s side all m (got s all) 0 (got_in s m) a.kept (r.change s side)) in
     let quiet : length state.streams ≤ s → IsQuiet s side (all ++ m ∷ []) = λ l. quiet_next s side all state step h l (a.unmade l) in
     record {
       kept = elim (cases_lt s (length state.streams)) [
-        | inl l ↦ subst (λ kind. Kept kind s side (all ++ m ∷ []) after) (sym (r.made s l).kind) next
+        | inl l ↦ subst (λ kind. Kept kind s side (all ++ m ∷ []) (got s (all ++ m ∷ [])) 0 after) (sym (r.made s l).kind) next
         | inr l ↦ rekind (kind_at s state) (kind_at s after) s side (all ++ m ∷ []) after (quiet l) next
       ];
       unmade = λ g. elim (cases_lt s (length state.streams)) [
@@ -100,7 +102,7 @@ account_from s side all state (step ∷ more) h a =
     subst (λ l. Account s side l (last after more)) (append_assoc all (m ∷ []) (moments after more)) next
 
 module _ (tag : ℕ) (limits : Limits) (run : List Step) (s : ℕ) (a : AreSteps run) where
-  kept : (side : Side) → Kept (kind_at s (last (empty tag limits) run)) s side (moments (empty tag limits) run) (last (empty tag limits) run)
+  kept : (side : Side) → Kept (kind_at s (last (empty tag limits) run)) s side (moments (empty tag limits) run) (got s (moments (empty tag limits) run)) 0 (last (empty tag limits) run)
   kept side = (account_from s side [] (empty tag limits) run (IsReady-empty tag limits run a) (Account-empty s side tag limits)).kept
 
   pub conserves : Conserves s (moments (empty tag limits) run) (last (empty tag limits) run)
@@ -109,13 +111,13 @@ module _ (tag : ℕ) (limits : Limits) (run : List Step) (s : ℕ) (a : AreSteps
       let end = last (empty tag limits) run in
       let w = kept Writing in
       let long : length (got s all) ≡ total (kind_at s end) (moved_at s Writing end) (writes s all) = ap length (w.items refl) ∙ length-all_handed (kind_at s end) s all (moved_at s Writing end) 0 (writes s all) in
-      let count : length (got s all) ≡ received s end = long ∙ sym w.count in
+      let count : length (got s all) ≡ received s end = omega (arith, long, w.count) in
       record {
         items = w.items refl;
         written = long;
-        read = count ∙ (kept Reading).count;
+        read = omega (arith, count, (kept Reading).count);
         asked = λ side. (kept side).within;
-        told = λ side. (kept side).told ∙ sym count;
+        told = λ side. omega (arith, (kept side).told, count);
         count = count;
         whole = whole_from s (empty tag limits) run (IsReady-empty tag limits run a);
       }

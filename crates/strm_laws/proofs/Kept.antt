@@ -5,13 +5,13 @@ use Rattle.std.proofs.lemmas.List.{append-nil}
 use Rattle.std.proofs.lemmas.Bool.{lt-ltb, le-ltb, cases_lt}
 use Rattle.std.proofs.lemmas.List.Elements.{All-nil, All-cons, All-head, All-tail, All-push}
 use Rattle.std.specs.Prelude.{All, nat_lt, ◌||◌}
-use Rattle.strm_machine.specs.Words.{scalars_of, item_size, ReturnCode, TransmitKind, Payload, State, stream_at, Moment, Call, k_of, items_in, received, report_in, accepted_in, got_in}
+use Rattle.strm_machine.specs.Words.{scalars_of, item_size, ReturnCode, TransmitKind, Payload, State, stream_at, Moment, Call, k_of, items_in, received, report_in, accepted_in}
 use Rattle.strm_machine.specs.declared.streams.Side.{Side}
 use Rattle.strm_machine.specs.declared.streams.Side.TheVariants.{Writing}
 use Rattle.strm_machine.specs.declared.streams.Operation.{Operation}
-use Rattle.strm_laws.specs.Conservation.{calls, all_reported, got, handed, all_handed}
+use Rattle.strm_laws.specs.Conservation.{calls, all_reported, handed, all_handed}
 use Rattle.strm_laws.specs.Laws.{total, waiting, moved_at, IsAsked, AreReported, Carries, Stands}
-use Rattle.strm_laws.proofs.Calls.{settled-append, settled-reported, settled-none, calls-push, all_reported-push, got-push}
+use Rattle.strm_laws.proofs.Calls.{settled-append, settled-reported, settled-none, calls-push, all_reported-push}
 use Rattle.strm_laws.proofs.Handed.{IsReached, reaches-push, k_of-reported, total-append, handed-old, handed-new, handed-add, all_handed-append, all_handed-old, all_handed-one}
 
 abbrev pub kind_at : ℕ → State → TransmitKind
@@ -20,13 +20,19 @@ kind_at s state = (stream_at state s).kind
 abbrev pub payload_at : ℕ → State → Payload
 payload_at s state = (stream_at state s).payload
 
--- the account of an end of a stream, as of one of this kind
-pub record Kept (kind : TransmitKind) (s : ℕ) (side : Side) (all : List Moment) (state : State) : Type 0 where
+-- items that were received, as they lay in a memory
+abbrev pub Received : Type 0
+Received = List (Option (List ℤ))
+
+-- the account of an end of a stream, as of one of this kind: these items were received, and so many of them
+-- without a call of this end
+pub record Kept (kind : TransmitKind) (s : ℕ) (side : Side) (all : List Moment) (had : Received) (taken : ℕ) (state : State) : Type 0 where
   pub stands : Stands (payload_at s state) (waiting s side state) (calls s side all)
-  pub items : side ≡ Writing → got s all ≡ all_handed kind s all (moved_at s side state) 0 (calls s side all)
-  pub count : received s state ≡ total kind (moved_at s side state) (calls s side all)
+  pub items : side ≡ Writing → had ≡ all_handed kind s all (moved_at s side state) 0 (calls s side all)
+  pub alone : side ≡ Writing → taken ≡ 0
+  pub count : received s state ≡ total kind (moved_at s side state) (calls s side all) + taken
   pub within : All (IsAsked kind (moved_at s side state)) (calls s side all)
-  pub told : all_reported kind s side all + moved_at s side state ≡ received s state
+  pub told : all_reported kind s side all + moved_at s side state + taken ≡ received s state
   pub reached : IsReached s all (received s state)
 
 or-ltb : (n a b : ℕ) → a ≤ b → (nat_lt n a || nat_lt n b) ≡ nat_lt n b
@@ -95,30 +101,31 @@ abbrev pub items_next : ℕ → Moment → Call → ℕ → ℕ → List (Option
 items_next s m w x n = items_in (payload_at s m.before) m.before.guests w.guest (w.address + item_size (scalars_of (payload_at s m.before)) * x) n
 
 -- in a moment the last call moves n items after x others
-pub record Moves (kind : TransmitKind) (s : ℕ) (side : Side) (all : List Moment) (m : Moment) (earlier : List Call) (w : Call) (moved r x n : ℕ) : Type 0 where
+pub record Moves (kind : TransmitKind) (s : ℕ) (side : Side) (all : List Moment) (m : Moment) (had : Received) (taken : ℕ) (now_got : Received) (earlier : List Call) (w : Call) (moved r x n : ℕ) : Type 0 where
   pub stands : Stands (payload_at s m.after) (waiting s side m.after) (earlier ++ w ∷ [])
   pub calls_are : calls s side (all ++ m ∷ []) ≡ earlier ++ w ∷ []
   pub now : moved_at s side m.after ≡ moved
   pub reached : IsReached s all r
-  pub counted : r ≡ total kind moved earlier + x
+  pub alone : side ≡ Writing → taken ≡ 0
+  pub counted : r ≡ total kind moved earlier + x + taken
   pub more : received s m.after ≡ r + n
   pub counts : k_of kind moved w.report ≡ x + n
   pub within : All (IsAsked kind moved) earlier
   pub fits : x + n ≤ w.asked
-  pub told : all_reported kind s side all + x ≡ r
+  pub told : all_reported kind s side all + x + taken ≡ r
   pub reports : k_of kind 0 (report_in s side m) + moved ≡ x + n
-  pub before : side ≡ Writing → got s all ≡ handed_before kind s all moved earlier w x
-  pub here : side ≡ Writing → got_in s m ≡ items_next s m w x n
+  pub before : side ≡ Writing → had ≡ handed_before kind s all moved earlier w x
+  pub here : side ≡ Writing → now_got ≡ items_next s m w x n
 
-module _ (kind : TransmitKind) (s : ℕ) (side : Side) (all : List Moment) (m : Moment) (earlier : List Call) (w : Call) (moved r x n : ℕ) (h : Moves kind s side all m earlier w moved r x n) where
+module _ (kind : TransmitKind) (s : ℕ) (side : Side) (all : List Moment) (m : Moment) (had : Received) (taken : ℕ) (now_got : Received) (earlier : List Call) (w : Call) (moved r x n : ℕ) (h : Moves kind s side all m had taken now_got earlier w moved r x n) where
   -- what the writes handed over, where in this moment the last of them hands over n after x others
-  all_handed-more : all_handed kind s (all ++ m ∷ []) moved 0 (earlier ++ w ∷ []) ≡ handed_before kind s all moved earlier w x ++ items_next s m w x n
-  all_handed-more =
+  all_handed-more : taken ≡ 0 → all_handed kind s (all ++ m ∷ []) moved 0 (earlier ++ w ∷ []) ≡ handed_before kind s all moved earlier w x ++ items_next s m w x n
+  all_handed-more none =
       let t = total kind moved earlier in
       let payload = payload_at s m.before in
       let a : all_handed kind s (all ++ m ∷ []) moved 0 earlier ≡ all_handed kind s all moved 0 earlier = all_handed-old kind s all m moved 0 r earlier h.reached (omega (arith, h.counted)) in
       let b : handed s (all ++ m ∷ []) t w 0 x ≡ handed s all t w 0 x = handed-old s all m t w r 0 x h.reached (omega (arith, h.counted)) in
-      let c : handed s (all ++ m ∷ []) t w (0 + x) n ≡ items_in payload m.before.guests w.guest (w.address + item_size (scalars_of payload) * (0 + x)) n = handed-new s all m t w r payload h.reached refl (0 + x) n (omega (arith, h.counted)) (omega (arith, h.counted, h.more)) in
+      let c : handed s (all ++ m ∷ []) t w (0 + x) n ≡ items_in payload m.before.guests w.guest (w.address + item_size (scalars_of payload) * (0 + x)) n = handed-new s all m t w r payload h.reached refl (0 + x) n (omega (arith, h.counted, none)) (omega (arith, h.counted, h.more, none)) in
       let k = h.counts in
       let z : 0 + x ≡ x = omega arith in
       let y : 0 + t ≡ t = omega arith in
@@ -126,14 +133,15 @@ module _ (kind : TransmitKind) (s : ℕ) (side : Side) (all : List Moment) (m : 
       (sym (append_assoc (all_handed kind s all moved 0 earlier) (handed s all t w 0 x) (items_in payload m.before.guests w.guest (w.address + item_size (scalars_of payload) * x) n)))
 
   -- the account is kept
-  pub kept_from : Kept kind s side (all ++ m ∷ []) m.after
+  pub kept_from : Kept kind s side (all ++ m ∷ []) (had ++ now_got) taken m.after
   kept_from =
       let calls_are = h.calls_are in
       let now = h.now in
       let more = h.more in
       record {
         stands = rw calls_are h.stands;
-        items = λ e. rw (got-push s all m, h.here e, h.before e, calls_are, now) (sym all_handed-more);
+        items = λ e. rw (h.here e, h.before e, calls_are, now) (sym (all_handed-more (h.alone e)));
+        alone = h.alone;
         count = rw (calls_are, now, total-append kind moved earlier (w ∷ []), more, h.counts) (omega (arith, h.counted));
         within = rw (calls_are, now) (All-push (IsAsked kind moved) earlier w h.within (omega (arith, h.counts, h.fits)));
         told = rw (all_reported-push kind s side all m, now, more) (omega (arith, h.told, h.reports));

@@ -3,7 +3,7 @@ use Rattle.std.proofs.Common.{◌≡◌, [], ◌∙◌, ℕ, List, ◌∷◌, �
 use Rattle.std.specs.Option.{option_map_or}
 use Rattle.std.proofs.lemmas.Option.{none-some}
 use Rattle.strm_machine.specs.declared.steps.Step.{Step}
-use Rattle.strm_machine.specs.declared.steps.Step.TheVariants.{Guest, New, Between, Write, Read, DropWrite, DropRead, CancelWrite, CancelRead, Move, Lift, Lower, Close, HostNew, Feed, Drive, Event, SetNew, SetJoin, SetPoll, SetDrop, ErrNew, ErrText, ErrMove, ErrDrop, Poke, Dump}
+use Rattle.strm_machine.specs.declared.steps.Step.TheVariants.{Guest, New, Between, Write, Read, DropWrite, DropRead, CancelWrite, CancelRead, Move, Lift, Lower, Close, HostNew, Feed, Pipe, Grant, Drive, Event, SetNew, SetJoin, SetPoll, SetDrop, ErrNew, ErrText, ErrMove, ErrDrop, Poke, Dump}
 use Rattle.strm_lines.specs.Grammar.{Argument, line_of, spelling, HasLine}
 use Rattle.strm_lines.specs.Reading.{Command, command, behind, read_by, explaining, gathering, hosting, moving, ending, making, touching, often, step_of}
 use Rattle.strm_lines.proofs.CutLemmas.{option_map_some}
@@ -62,7 +62,13 @@ hosting_sound = (
   made _ _ AreRead-number (λ v. refl) (λ v. refl),
   (
     made _ _ AreRead-number_and_fed (λ v. refl) (λ v. refl),
-    (made _ _ AreRead-nothing (λ v. refl) (λ v. refl), gathering_sound),
+    (
+      made _ _ AreRead-two_numbers (λ v. refl) (λ v. refl),
+      (
+        made _ _ AreRead-two_numbers (λ v. refl) (λ v. refl),
+        (made _ _ AreRead-nothing (λ v. refl) (λ v. refl), gathering_sound),
+      ),
+    ),
   ),
 )
 
@@ -151,6 +157,8 @@ step_read (Lower reader guest ty) h = rw (AreRead-two_numbers_and_type.reading.c
 step_read (Close reader) h = rw (AreRead-number.reading.complete reader h) refl
 step_read (HostNew host) h = rw (AreRead-number.reading.complete host h) refl
 step_read (Feed host bytes) h = rw (AreRead-number_and_fed.reading.complete (host, bytes) h) refl
+step_read (Pipe reader host) h = rw (AreRead-two_numbers.reading.complete (reader, host) h) refl
+step_read (Grant host count) h = rw (AreRead-two_numbers.reading.complete (host, count) h) refl
 step_read Drive h = rw (AreRead-nothing.reading.complete tt h) refl
 step_read (Event guest handle) h = rw (AreRead-two_numbers.reading.complete (guest, handle) h) refl
 step_read (SetNew guest) h = rw (AreRead-number.reading.complete guest h) refl

@@ -7,7 +7,7 @@ use Rattle.strm_codes.specs.declared.payloads.Payload.TheVariants.{Tuple}
 use Rattle.strm_codes.specs.declared.codes.TransmitIndex.{TransmitIndex}
 use Rattle.strm_codes.specs.declared.codes.TransmitIndex.TheVariants.{Stream, Future}
 use Rattle.strm_machine.specs.declared.steps.Step.{Step}
-use Rattle.strm_machine.specs.declared.steps.Step.TheVariants.{Guest, New, Between, Write, Read, DropWrite, DropRead, CancelWrite, CancelRead, Move, Lift, Lower, Close, HostNew, Feed, Drive, Event, SetNew, SetJoin, SetPoll, SetDrop, ErrNew, ErrText, ErrMove, ErrDrop, Poke, Dump}
+use Rattle.strm_machine.specs.declared.steps.Step.TheVariants.{Guest, New, Between, Write, Read, DropWrite, DropRead, CancelWrite, CancelRead, Move, Lift, Lower, Close, HostNew, Feed, Pipe, Grant, Drive, Event, SetNew, SetJoin, SetPoll, SetDrop, ErrNew, ErrText, ErrMove, ErrDrop, Poke, Dump}
 use Rattle.strm_lines.specs.Words.{hex_pairs, type_word}
 
 -- an argument of a line: a number; a number from low to high; a type; the count of a read or write
@@ -60,6 +60,8 @@ line_of (Lower reader guest ty) =
 line_of (Close reader) = line (codes "close") (Number reader ∷ [])
 line_of (HostNew host) = line (codes "host") (Number host ∷ [])
 line_of (Feed host bytes) = line (codes "feed") (Number host ∷ Fed bytes ∷ [])
+line_of (Pipe reader host) = line (codes "pipe") (Number reader ∷ Number host ∷ [])
+line_of (Grant host count) = line (codes "grant") (Number host ∷ Number count ∷ [])
 line_of Drive = line (codes "drive") []
 line_of (Event guest handle) = line (codes "event") (Number guest ∷ Number handle ∷ [])
 line_of (SetNew guest) = line (codes "set-new") (Number guest ∷ [])

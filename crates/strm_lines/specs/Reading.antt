@@ -10,7 +10,7 @@ use Rattle.strm_codes.specs.declared.codes.TransmitIndex.{TransmitIndex}
 use Rattle.strm_codes.specs.declared.codes.TransmitIndex.TheVariants.{Stream, Future}
 use Rattle.strm_machine.specs.declared.acts.NamedEnd.{NamedEnd}
 use Rattle.strm_machine.specs.declared.steps.Step.{Step}
-use Rattle.strm_machine.specs.declared.steps.Step.TheVariants.{Guest, New, Between, Write, Read, DropWrite, DropRead, CancelWrite, CancelRead, Move, Lift, Lower, Close, HostNew, Feed, Drive, Event, SetNew, SetJoin, SetPoll, SetDrop, ErrNew, ErrText, ErrMove, ErrDrop, Poke, Dump}
+use Rattle.strm_machine.specs.declared.steps.Step.TheVariants.{Guest, New, Between, Write, Read, DropWrite, DropRead, CancelWrite, CancelRead, Move, Lift, Lower, Close, HostNew, Feed, Pipe, Grant, Drive, Event, SetNew, SetJoin, SetPoll, SetDrop, ErrNew, ErrText, ErrMove, ErrDrop, Poke, Dump}
 use Rattle.strm_lines.specs.Words.{scalar_word}
 
 -- a reading, and then another of what it found
@@ -252,6 +252,8 @@ unfoldable pub hosting : List Command
 hosting =
     command (codes "host ") number HostNew
     ∷ command (codes "feed ") number_and_fed (λ v. Feed v.0 v.1)
+    ∷ command (codes "pipe ") two_numbers (λ v. Pipe v.0 v.1)
+    ∷ command (codes "grant ") two_numbers (λ v. Grant v.0 v.1)
     ∷ command (codes "drive") nothing (λ v. Drive) ∷ gathering
 
 -- those of read ends that change their owner

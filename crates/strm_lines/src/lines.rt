@@ -232,6 +232,16 @@ fn keep_hosting(steps: &mut Vec<Step>, line: &[u8]) -> bool
             return false;
         };
         keep(steps, Step::Feed { host, bytes })
+    } else if let Some(rest) = behind(line, b"pipe ") {
+        let Some((reader, host)) = two_numbers(rest) else {
+            return false;
+        };
+        keep(steps, Step::Pipe { reader, host })
+    } else if let Some(rest) = behind(line, b"grant ") {
+        let Some((host, count)) = two_numbers(rest) else {
+            return false;
+        };
+        keep(steps, Step::Grant { host, count })
     } else if let Some(rest) = behind(line, b"drive") {
         let Some(()) = nothing(rest) else {
             return false;

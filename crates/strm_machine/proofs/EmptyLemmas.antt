@@ -1,5 +1,5 @@
 -- What is kept of a store holds of one that was just made.
-use Rattle.std.proofs.Common.{◌≡◌, ℕ, zero, suc, true, [], get_or, refl, ap, arith}
+use Rattle.std.proofs.Common.{◌≡◌, ℕ, zero, suc, true, false, [], get_or, refl, ap, ◌∙◌, arith}
 use Rattle.std.specs.Prelude.{replicate}
 use Rattle.std.proofs.lemmas.List.{get_or_past, length-replicate}
 use Rattle.std.proofs.lemmas.List.Elements.{All-nil}
@@ -7,14 +7,16 @@ use Rattle.strm_handles.specs.Handles.{no_handles}
 use Rattle.strm_handles.specs.Lookups.{end_rep_of}
 use Rattle.strm_handles.proofs.HandleLemmas.{IsTable-no_handles}
 use Rattle.strm_machine.specs.Words.{empty, no_stream, stream_at, end_of, Side, Writing, Reading, IsSound, StreamIsPlaced}
-use Rattle.strm_machine.specs.Hosting.{HostsHold}
+use Rattle.strm_machine.specs.Hosting.{duty_of, HostsHold}
 use Rattle.strm_machine.specs.Soundness.{AreNamed}
 use Rattle.strm_machine.specs.Moments.{is_end}
-use Rattle.strm_machine.specs.State.{is_host, host_limit, no_producer}
+use Rattle.strm_machine.specs.State.{is_host, host_limit, no_producer, no_consumer}
 use Rattle.strm_machine.specs.declared.limits.Limits.{Limits}
 use Rattle.strm_machine.specs.declared.streams.Duty.TheVariants.{Unused}
 use Rattle.strm_machine.specs.declared.streams.Owner.TheVariants.{Held}
+use Rattle.strm_machine.specs.declared.streams.Duty.{Duty}
 use Rattle.strm_machine.specs.declared.streams.Producer.{Producer}
+use Rattle.strm_machine.specs.declared.streams.Consumer.{Consumer}
 use Rattle.strm_machine.proofs.ErrorContextLemmas.{HoldsContexts-none}
 use Rattle.strm_machine.proofs.HeldLemmas.{StateIsHeld}
 use Rattle.strm_machine.proofs.HostLemmas.{no_host}
@@ -47,21 +49,29 @@ StateIsHeld-empty tag limits = record {
   };
 }
 
--- no host writer has a stream
+-- no host end has a stream
 pub HostsHold-empty : (tag : ℕ) (limits : Limits) → HostsHold (empty tag limits)
 HostsHold-empty tag limits =
     let none : (s : ℕ) → stream_at (empty tag limits) s ≡ no_stream = λ s. get_or_past (empty tag limits).streams s no_stream (omega arith) in
     record {
       all = length-replicate {A = Producer} host_limit no_producer;
-      serve = λ n s. record {
-        serves = λ e. absurd (no_host (stream_at (empty tag limits) s).writer.owner n (ap (λ st. is_host st.writer.owner) (none s)) e);
-        owns = λ e. absurd (let unused = unused_all host_limit n in cc);
-        idle = λ e. absurd (no_host (stream_at (empty tag limits) s).writer.owner n (ap (λ st. is_host st.writer.owner) (none s)) e);
+      all_readers = length-replicate {A = Consumer} host_limit no_consumer;
+      serve = λ side n s. record {
+        serves = λ e. absurd (no_host (end_of side (stream_at (empty tag limits) s)).owner n (ap (λ st. is_host (end_of side st).owner) (none s) ∙ nobody side) e);
+        owns = λ e. absurd (let unused = unused_by side n in cc);
+        idle = λ e. absurd (no_host (end_of side (stream_at (empty tag limits) s)).owner n (ap (λ st. is_host (end_of side st).owner) (none s) ∙ nobody side) e);
       };
-      unpiped = λ s. ap (λ st. is_host st.reader.owner) (none s);
     }
   where
-    unused_all : (m n : ℕ) → (get_or (replicate m no_producer) n no_producer).duty ≡ Unused
-    unused_all zero n = refl
-    unused_all (suc m) zero = refl
-    unused_all (suc m) (suc n) = unused_all m n
+    nobody : (side : Side) → is_host (end_of side no_stream).owner ≡ false
+    nobody Writing = refl
+    nobody Reading = refl
+
+    unused_all : {A : Type 0} (duty : A → Duty) (none : A) (m n : ℕ) → duty none ≡ Unused → duty (get_or (replicate m none) n none) ≡ Unused
+    unused_all duty none zero n e = e
+    unused_all duty none (suc m) zero e = e
+    unused_all duty none (suc m) (suc n) e = unused_all duty none m n e
+
+    unused_by : (side : Side) (n : ℕ) → duty_of side (empty tag limits) n ≡ Unused
+    unused_by Writing n = unused_all (λ (p : Producer). p.duty) no_producer host_limit n refl
+    unused_by Reading n = unused_all (λ (c : Consumer). c.duty) no_consumer host_limit n refl

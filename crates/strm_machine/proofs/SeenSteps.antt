@@ -14,8 +14,8 @@ use Rattle.strm_machine.proofs.SideLemmas.{same_side-itself, end_placed}
 use Rattle.strm_machine.proofs.Changes.{Scene, scene, Change, ByRest as RestChange, BySettling}
 use Rattle.strm_machine.proofs.NamedEndLemmas.{IsFound, named_itself, NamesEnd}
 use Rattle.strm_machine.proofs.EndLemmas.{each_side, same_side-opposite, IsReplaced, with_end-replaces, with_end-apart, Unchanged}
-use Rattle.strm_machine.proofs.EndingLemmas.{IsTold}
-use Rattle.strm_machine.proofs.TallyLemmas.{Tallies, begins_by, Tallies-with_end}
+use Rattle.strm_machine.proofs.EndingLemmas.{IsTold, tallies-tellable}
+use Rattle.strm_machine.proofs.TallyLemmas.{IsFresh, Tallies, begins_by, Tallies-with_end}
 use Rattle.strm_machine.proofs.MomentLemmas.{Seen, Untold, unnamed, untold, nothing_got, seen_counted, end_still, seen_same}
 use Rattle.strm_machine.proofs.MoveLemmas.{end_by}
 use Rattle.strm_machine.proofs.TurnChangeLemmas.{scene_of, DoesBy, turn_does, still, asked}
@@ -124,13 +124,13 @@ operates_seen state side end address count s h room o =
 
 -- ## A stream set to another
 
-none_either : {A : Type 0} (w : Bool) (x : List A) → x ≡ [] → cond w x [] ≡ []
+pub none_either : {A : Type 0} (w : Bool) (x : List A) → x ≡ [] → cond w x [] ≡ []
 none_either true x e = e
 none_either false x e = refl
 
 -- one moment at the end that was set, by its operation before and after
 module _ (side : Side) (v : Scene) (takes : v.taken ≡ []) (nothing : v.got ≡ []) (payload : v.after.payload ≡ v.before.payload) (count : v.after.received ≡ v.before.received) where
-  told_change : (report : Option ReturnCode) (o q : Option Operation) → v.report ≡ report → (end_of side v.before).operation ≡ o → (end_of side v.after).operation ≡ q → IsTold v.before.kind report o q → Change side v
+  pub told_change : (report : Option ReturnCode) (o q : Option Operation) → v.report ≡ report → (end_of side v.before).operation ≡ o → (end_of side v.after).operation ≡ q → IsTold v.before.kind report o q → Change side v
   told_change report None None r was is t =
       RestChange (record { was = was; is = is; takes = takes; counts = ap (k_of v.before.kind 0) r ∙ t; same = count; nothing = nothing })
   told_change report None (Some q) r was is t = absurd t
@@ -159,7 +159,7 @@ setting_seen state act reply x h set =
     seen_counted s m
     (each_side (λ other. Change other (scene s other m)) side
     (told_change side (scene s side m) (none_either (names s side state act reply) _ (set.untaken (report_in s side m))) (nothing_got s m replaced.count).0 replaced.payload replaced.count
-    (as_report (code_told reply)) (end_of side stream).operation x.end.operation report refl (ap (λ (e : End). e.operation) replaced.here) (becomes.told h.tallies))
+    (as_report (code_told reply)) (end_of side stream).operation x.end.operation report refl (ap (λ (e : End). e.operation) replaced.here) (becomes.told (tallies-tellable side stream h.tallies)))
     (end_still s (opposite side) m untold (record { operation = ap (λ (e : End). e.operation) replaced.other; payload = replaced.payload; kind = replaced.kind; count = replaced.count })))
     replaced.count
     (ap both_open after ∙ with_end-apart side stream x.end becomes.left h.apart)
@@ -230,8 +230,11 @@ new_seen s m ty writer write reader read u was is =
     }))
     count
     (ap both_open is)
-    (subst Tallies (sym is) (record { writing = tt; reading = tt; one = λ k. record { writing = tt; reading = tt; count = refl } }))
+    (subst Tallies (sym is) (record { writing = tt; reading = tt; one = λ k. record { writing = tt; reading = tt; count = refl; fresh = idle_fresh } }))
   where
+    idle_fresh : (side : Side) → IsFresh (end_of side (made_stream ty writer write reader read)).operation (made_stream ty writer write reader read)
+    idle_fresh side e = refl
+
     no_operation : (side : Side) → (end_of side no_stream).operation ≡ None
     no_operation Writing = refl
     no_operation Reading = refl

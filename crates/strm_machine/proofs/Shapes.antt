@@ -113,7 +113,8 @@ abbrev pub IsTaken : List Guest → Owner → Option ℕ → Type 0
 IsTaken guests owner None = is_held owner ≡ false
 IsTaken guests owner (Some g) = Takes guests owner g
 
--- the stream was made, of this type; nothing is told, and no host end gets the end
+-- the stream was made, of this type; nothing is told, and no host end gets the end. It has no operation
+-- where it is to be loose
 pub record Owns (state : State) (reply : Reply) (x : Owning) : Type 0 where
   pub made : x.stream < length state.streams
   pub typed : type_of (stream_at state x.stream) ≡ x.ty
@@ -121,6 +122,7 @@ pub record Owns (state : State) (reply : Reply) (x : Owning) : Type 0 where
   pub freed : IsFreed state.guests x.stream x.side (end_of x.side (stream_at state x.stream)).owner x.freed
   pub taken : IsTaken (guests_freed state.guests x.freed) x.owner x.taker
   pub unhosted : is_host x.owner ≡ false
+  pub idle : is_loose x.owner ≡ true → (end_of x.side (stream_at state x.stream)).operation ≡ None
 
 -- ## A table with its sets, and error contexts
 

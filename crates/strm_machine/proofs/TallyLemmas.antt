@@ -1,6 +1,6 @@
 -- What a stream keeps of its operations: one that has not met has moved nothing, and those of a future are
 -- of one item, which has moved just where they have met and passes once.
-use Rattle.std.proofs.Common.{◌≡◌, ℕ, ◌+◌, ◌-◌, ◌≤◌, Bool, true, false, Option, None, Some, refl, sym, subst, arith}
+use Rattle.std.proofs.Common.{◌≡◌, ℕ, ◌+◌, ◌-◌, ◌≤◌, Bool, true, false, Option, None, Some, refl, sym, ap, subst, ◌∙◌, arith}
 use Rattle.std.specs.Prelude.{if◌then◌else◌, ◌||◌}
 use Rattle.std.proofs.lemmas.Bool.{le-ltb}
 use Rattle.strm_codes.specs.Codes.{completed_code}
@@ -12,8 +12,8 @@ use Rattle.strm_machine.specs.Endings.{asked_to_finish}
 use Rattle.strm_machine.specs.Meetings.{begun}
 use Rattle.strm_machine.specs.Turns.{is_future}
 use Rattle.strm_machine.specs.Tests.{items_asked}
-use Rattle.strm_machine.specs.Soundness.{IsUnmoved}
-use Rattle.strm_machine.proofs.EndLemmas.{IsLeft, left_by}
+use Rattle.strm_machine.specs.Soundness.{IsUnmoved, is_opened}
+use Rattle.strm_machine.proofs.EndLemmas.{each_side, IsLeft, left_by}
 use Rattle.strm_machine.proofs.RefusalLemmas.{neither}
 
 -- ## Operations of one item
@@ -57,21 +57,42 @@ IsOne-advanced payload o n e f h =
       completed = refl;
     }
 
+-- one that has met is not open any more
+pub one_closed : (o : Operation) → IsOne o → o.met ≡ true → o.is_open ≡ false
+one_closed o h met = by o.is_open refl
+  where
+    by : (b : Bool) → o.is_open ≡ b → o.is_open ≡ false
+    by false e = e
+    by true e = absurd (omega (arith, h.total, h.done met, h.ready e))
+
 -- ## Streams that are futures
+
+-- where an operation is open no value has passed
+abbrev pub IsFresh : Option Operation → Stream → Type 0
+IsFresh o stream = is_opened o ≡ true → stream.passed ≡ false
+
+pub none_fresh : (q : Option Operation) (stream : Stream) → is_opened q ≡ false → IsFresh q stream
+none_fresh q stream e f = let wrong : true ≡ false = sym f ∙ e in cc
 
 pub record PassesOne (stream : Stream) : Type 0 where
   pub writing : AreOne stream.writer.operation
   pub reading : AreOne stream.reader.operation
   pub count : stream.received ≡ (if stream.passed then 1 else 0)
+  pub fresh : (side : Side) → IsFresh (end_of side stream).operation stream
 
 -- of whichever of its ends
 pub one_on : (side : Side) (stream : Stream) → PassesOne stream → AreOne (end_of side stream).operation
 one_on Writing stream h = h.writing
 one_on Reading stream h = h.reading
 
-pub PassesOne-by : (side : Side) (stream : Stream) → AreOne (end_of side stream).operation → AreOne (end_of (opposite side) stream).operation → stream.received ≡ (if stream.passed then 1 else 0) → PassesOne stream
-PassesOne-by Writing stream h k e = record { writing = h; reading = k; count = e }
-PassesOne-by Reading stream h k e = record { writing = k; reading = h; count = e }
+-- no value has passed where the operation on a side is open
+abbrev pub IsFreshOn : Side → Stream → Type 0
+IsFreshOn side stream = IsFresh (end_of side stream).operation stream
+
+pub PassesOne-by : (side : Side) (stream : Stream) → AreOne (end_of side stream).operation → AreOne (end_of (opposite side) stream).operation → IsFreshOn side stream → IsFreshOn (opposite side) stream → stream.received ≡ (if stream.passed then 1 else 0)
+    → PassesOne stream
+PassesOne-by Writing stream h k f g e = record { writing = h; reading = k; count = e; fresh = λ side. each_side (λ (k : Side). IsFresh (end_of k stream).operation stream) Writing f g side }
+PassesOne-by Reading stream h k f g e = record { writing = k; reading = h; count = e; fresh = λ side. each_side (λ (k : Side). IsFresh (end_of k stream).operation stream) Reading f g side }
 
 -- ## Any stream
 
@@ -143,10 +164,14 @@ pub Tallies-with_end : (side : Side) (stream : Stream) (e : End) → IsLeft (end
 Tallies-with_end Writing stream e left h = record {
   writing = left_by IsUnmoved stream.writer.operation e.operation left h.writing tt (λ x u. u);
   reading = h.reading;
-  one = λ k. let p = h.one k in record { writing = left_by AreOne stream.writer.operation e.operation left p.writing tt IsOne-asked; reading = p.reading; count = p.count };
+  one = λ k. let p = h.one k in
+      PassesOne-by Writing (with_end Writing stream e) (left_by AreOne stream.writer.operation e.operation left p.writing tt IsOne-asked) p.reading
+      (left_by (λ q. IsFresh q stream) stream.writer.operation e.operation left (p.fresh Writing) (none_fresh None stream refl) (λ x u. u)) (p.fresh Reading) p.count;
 }
 Tallies-with_end Reading stream e left h = record {
   writing = h.writing;
   reading = left_by IsUnmoved stream.reader.operation e.operation left h.reading tt (λ x u. u);
-  one = λ k. let p = h.one k in record { writing = p.writing; reading = left_by AreOne stream.reader.operation e.operation left p.reading tt IsOne-asked; count = p.count };
+  one = λ k. let p = h.one k in
+      PassesOne-by Reading (with_end Reading stream e) (left_by AreOne stream.reader.operation e.operation left p.reading tt IsOne-asked) p.writing
+      (left_by (λ q. IsFresh q stream) stream.reader.operation e.operation left (p.fresh Reading) (none_fresh None stream refl) (λ x u. u)) (p.fresh Writing) p.count;
 }

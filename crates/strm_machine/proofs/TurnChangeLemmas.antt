@@ -17,7 +17,7 @@ use Rattle.strm_machine.specs.Moments.{Place, place_of}
 use Rattle.strm_machine.specs.Soundness.{is_opened, IsUnmoved}
 use Rattle.strm_machine.proofs.Changes.{Scene, Change, ByRest, ByGoing, ByOpening, ByServing}
 use Rattle.strm_machine.proofs.EndLemmas.{each_side, apart_by, write_mine, write_theirs, read_fits, write_none, read_none, IsTurned, turned_not, turned_end, turned_both, turned_moves}
-use Rattle.strm_machine.proofs.TallyLemmas.{AreOne, none_unmoved, unmoved_on, Tallies-by, IsOne-advanced, one_at, none_one, Tallies, one_on, PassesOne-by, count_passed, Begins, count_reported-completed, count_reported-dropped}
+use Rattle.strm_machine.proofs.TallyLemmas.{IsOne, one_closed, IsFresh, none_fresh, AreOne, none_unmoved, unmoved_on, Tallies-by, IsOne-advanced, one_at, none_one, Tallies, one_on, PassesOne-by, count_passed, Begins, count_reported-completed, count_reported-dropped}
 use Rattle.strm_machine.proofs.ArrivalLemmas.{AreBytes, decoded-zero, carried_arrives}
 
 -- ## What is seen
@@ -92,7 +92,7 @@ none_brought payload guests others g address h place a b n e f = none_got payloa
 
 module _ (side : Side) (v : Scene) (taken : v.taken ≡ []) (report : v.report ≡ None) (nothing : v.got ≡ []) (payload : v.after.payload ≡ v.before.payload) (same : v.after.received ≡ v.before.received) where
   -- an operation that has the items left that it had
-  goes_on : (o p : Operation) → (end_of side v.before).operation ≡ Some o → (end_of side v.after).operation ≡ Some p → p.guest ≡ o.guest → p.address ≡ o.address → p.moved ≡ o.moved → p.left ≡ o.left → Change side v
+  pub goes_on : (o p : Operation) → (end_of side v.before).operation ≡ Some o → (end_of side v.after).operation ≡ Some p → p.guest ≡ o.guest → p.address ≡ o.address → p.moved ≡ o.moved → p.left ≡ o.left → Change side v
   goes_on o p was is guest address moved left =
       ByGoing o p 0
       (record {
@@ -207,7 +207,8 @@ module _ (side : Side) (guests : List Guest) (stream : Stream) (mine : Operation
         most = omega (arith, t.count);
         apart = apart_by side new (ap is_opened t.mine_is);
         tallies = Tallies-by side new (none_unmoved (end_of side new).operation t.mine_is) (subst IsUnmoved (sym t.theirs_is) (unmoved_on (opposite side) stream before.tallies))
-            (λ k. let p = before.tallies.one (sym t.kind ∙ k) in PassesOne-by side new (none_one (end_of side new).operation t.mine_is) (subst AreOne (sym t.theirs_is) (one_on (opposite side) stream p)) (rw (t.count, t.pass) p.count));
+            (λ k. let p = before.tallies.one (sym t.kind ∙ k) in PassesOne-by side new (none_one (end_of side new).operation t.mine_is) (subst AreOne (sym t.theirs_is) (one_on (opposite side) stream p))
+            (none_fresh (end_of side new).operation new (ap is_opened t.mine_is)) (subst (λ q. IsFresh q new) (sym t.theirs_is) (λ e. t.pass ∙ p.fresh (opposite side) e)) (rw (t.count, t.pass) p.count));
       }
 
   -- a call that waits, where the opposite end, as it is then, isn't open
@@ -235,7 +236,8 @@ module _ (side : Side) (guests : List Guest) (stream : Stream) (mine : Operation
         apart = apart_by (opposite side) new (ap is_opened t.theirs_is ∙ p.closed);
         tallies = Tallies-by side new (subst IsUnmoved (sym t.mine_is) (λ e. before.start)) (subst IsUnmoved (sym t.theirs_is) p.unmoved)
             (λ k. let f : stream.kind ≡ Future = sym t.kind ∙ k in
-            PassesOne-by side new (subst AreOne (sym t.mine_is) (before.begins f).one) (subst AreOne (sym t.theirs_is) (p.one f)) (rw (t.count, t.pass) (before.tallies.one f).count));
+            PassesOne-by side new (subst AreOne (sym t.mine_is) (before.begins f).one) (subst AreOne (sym t.theirs_is) (p.one f)) (λ e. t.pass ∙ (before.begins f).unpassed) (none_fresh (end_of (opposite side) new).operation new (ap is_opened t.theirs_is ∙ p.closed))
+            (rw (t.count, t.pass) (before.tallies.one f).count));
       }
 
   -- where the opposite end stays as it is
@@ -286,6 +288,7 @@ module _ (side : Side) (guests : List Guest) (stream : Stream) (mine : Operation
       let turned = answers code after new in
       let got : got_by side stream mine turned ≡ items_in stream.payload after read.guest read.address n = got_moved stream mine theirs turned n (omega (arith, more, t.count)) side h.is in
       let count = count_reported-completed stream.kind n h.one in
+      let one : stream.kind ≡ Future → IsOne p = λ f. IsOne-advanced stream.payload theirs n h.ready (h.one f) (one_at found theirs h.is (one_on (opposite side) stream (before.tallies.one f))) in
       let came : (o : Operation) → write ≡ o → got_by side stream mine turned ≡ items_in stream.payload guests o.guest o.address n = λ o f. got ∙ arrives.brings ∙ ap (λ w. items_in stream.payload guests w.guest w.address n) f in
       record {
         change = each_side (λ other. Change other (scene_of side other guests stream mine code turned)) side
@@ -318,7 +321,8 @@ module _ (side : Side) (guests : List Guest) (stream : Stream) (mine : Operation
             (λ k. let f : stream.kind ≡ Future = sym t.kind ∙ k in
             let was = before.tallies.one f in
             PassesOne-by side new (none_one (end_of side new).operation t.mine_is)
-            (subst AreOne (sym t.theirs_is) (IsOne-advanced stream.payload theirs n h.ready (h.one f) (one_at found theirs h.is (one_on (opposite side) stream was))))
+            (subst AreOne (sym t.theirs_is) (one f))
+            (none_fresh (end_of side new).operation new (ap is_opened t.mine_is)) (none_fresh (end_of (opposite side) new).operation new (ap is_opened t.theirs_is ∙ one_closed p (one f) refl))
             (rw t.pass (count_passed stream.received n new.received stream.passed stream.kind f (before.begins f).unpassed was.count (h.one f) (t.count ∙ more))));
       }
 

@@ -20,6 +20,7 @@ use Rattle.strm_machine.specs.declared.streams.Meeting.{Meeting}
 use Rattle.strm_machine.specs.declared.streams.Meeting.TheVariants.{BothComplete, WriteCompletes, ReadCompletes}
 use Rattle.strm_machine.specs.declared.streams.Owner.TheVariants.{Held, Loose, Host}
 use Rattle.strm_machine.specs.declared.streams.Producer.{Producer}
+use Rattle.strm_machine.specs.declared.streams.Consumer.{Consumer}
 use Rattle.strm_machine.specs.declared.streams.Side.{Side}
 use Rattle.strm_machine.specs.declared.streams.Side.TheVariants.{Writing, Reading}
 use Rattle.strm_machine.specs.declared.streams.Operation.{Operation}
@@ -141,14 +142,21 @@ on_stream-from state s side mine =
 
 -- ## All ways
 
+-- what is kept of host writers and of host readers
+abbrev pub Kept : Type 0
+Kept = List Producer × List Consumer
+
+abbrev pub kept_in : State → Kept
+kept_in state = (state.producers, state.consumers)
+
 -- what is kept beside guests, streams and error contexts, and whether the reply lets a run go on
 pub record Standing : Type 0 where
   pub settled : Bool
   pub trapped : Bool
-  pub producers : List Producer
+  pub kept : Kept
 
 abbrev pub standing : Reaction → Standing
-standing r = record { settled = is_settled r.reply; trapped = r.state.trapped; producers = r.state.producers }
+standing r = record { settled = is_settled r.reply; trapped = r.state.trapped; kept = kept_in r.state }
 
 -- a run goes on, and all that stays
 abbrev pub IsDone : State → Reaction → Type 0
@@ -161,22 +169,22 @@ pub data Way (state : State) (act : Act) (r : Reaction) : Type 0 where
   AddsOne : (x : Stream) → IsDone state r → r.state.streams ≡ state.streams ++ x ∷ [] → ((n : ℕ) → x.writer.owner ≡ Host n → ⊥) → Way state act r
   SetsNone : IsDone state r → r.state.streams ≡ state.streams → Way state act r
 
-written_back-producers : (state : State) (s : ℕ) (t : Turn) (code : Option ReturnCode) → (written_back state s t code).state.producers ≡ state.producers
-written_back-producers state s t (Some code) = refl
-written_back-producers state s t None = refl
+written_back-kept : (state : State) (s : ℕ) (t : Turn) (code : Option ReturnCode) → kept_in (written_back state s t code).state ≡ kept_in state
+written_back-kept state s t (Some code) = refl
+written_back-kept state s t None = refl
 
-operates-producers : (state : State) (s : ℕ) (side : Side) (mine : Operation) → (on_stream state s side mine).state.producers ≡ state.producers
-operates-producers state s side mine =
-    let t = turn side state.guests (stream_at state s) mine in written_back-producers state s t t.code
+operates-kept : (state : State) (s : ℕ) (side : Side) (mine : Operation) → kept_in (on_stream state s side mine).state ≡ kept_in state
+operates-kept state s side mine =
+    let t = turn side state.guests (stream_at state s) mine in written_back-kept state s t t.code
 
--- what is kept of host writers stays
-pub way-producers : (state : State) (act : Act) (r : Reaction) → Way state act r → r.state.producers ≡ state.producers
-way-producers state act r (Turns side end address count a e) =
-    ap (λ (x : Reaction). x.state.producers) e
-    ∙ operates-producers state (stream_named (named state end)) side (begun end.guest address (items_asked end.ty count))
-way-producers state act r (SetsOne s x p e h) = ap (λ (k : Standing). k.producers) p
-way-producers state act r (AddsOne x p e h) = ap (λ (k : Standing). k.producers) p
-way-producers state act r (SetsNone p e) = ap (λ (k : Standing). k.producers) p
+-- what is kept of host ends stays
+pub way-kept : (state : State) (act : Act) (r : Reaction) → Way state act r → kept_in r.state ≡ kept_in state
+way-kept state act r (Turns side end address count a e) =
+    ap (λ (x : Reaction). kept_in x.state) e
+    ∙ operates-kept state (stream_named (named state end)) side (begun end.guest address (items_asked end.ty count))
+way-kept state act r (SetsOne s x p e h) = ap (λ (k : Standing). k.kept) p
+way-kept state act r (AddsOne x p e h) = ap (λ (k : Standing). k.kept) p
+way-kept state act r (SetsNone p e) = ap (λ (k : Standing). k.kept) p
 
 -- no host writer gets the write end of a stream
 pub way-from : (state : State) (act : Act) (r : Reaction) → Way state act r → HostsFromIn state.streams r.state.streams

@@ -1,17 +1,33 @@
--- What holds of every state that can be reached: host writers and streams agree. Ours.
-use Rattle.std.specs.Prelude.{◌≡◌, ℕ, false, length, None}
-use Rattle.strm_machine.specs.State.{State, host_limit, producer_at, stream_at, is_host}
+-- What holds of every state that can be reached: host ends and streams agree. Ours.
+use Rattle.std.specs.Prelude.{◌≡◌, ℕ, List, length, slice_index_or, None}
+use Rattle.strm_machine.specs.State.{State, host_limit, no_producer, no_consumer, stream_at}
+use Rattle.strm_machine.specs.Sides.{end_of}
+use Rattle.strm_machine.specs.declared.streams.Duty.{Duty}
 use Rattle.strm_machine.specs.declared.streams.Duty.TheVariants.{Serves}
 use Rattle.strm_machine.specs.declared.streams.Owner.TheVariants.{Host}
+use Rattle.strm_machine.specs.declared.streams.Consumer.{Consumer}
+use Rattle.strm_machine.specs.declared.streams.Producer.{Producer}
+use Rattle.strm_machine.specs.declared.streams.Side.{Side}
+use Rattle.strm_machine.specs.declared.streams.Side.TheVariants.{Writing, Reading}
 
--- host writer n has the write end of the one stream that it serves, and of no other
-pub record ServesOne (state : State) (n s : ℕ) : Type 0 where
-  pub serves : (stream_at state s).writer.owner ≡ Host n → (producer_at state n).duty ≡ Serves s
-  pub owns : (producer_at state n).duty ≡ Serves s → (stream_at state s).writer.owner ≡ Host n
-  pub idle : (stream_at state s).writer.owner ≡ Host n → (stream_at state s).writer.operation ≡ None
+-- what the host end of a number does, by what is kept of all: on the writing side a host writer, on the
+-- reading side a host reader
+abbrev pub duty_among : Side → List Producer → List Consumer → ℕ → Duty
+duty_among Writing producers consumers n = (slice_index_or producers n no_producer).duty
+duty_among Reading producers consumers n = (slice_index_or consumers n no_consumer).duty
 
--- the same of all, and no host end has a read end
+-- the same in a state
+abbrev pub duty_of : Side → State → ℕ → Duty
+duty_of side state n = duty_among side state.producers state.consumers n
+
+-- host end n has the end on its side of the one stream that it serves, and of no other
+pub record ServesOne (state : State) (side : Side) (n s : ℕ) : Type 0 where
+  pub serves : (end_of side (stream_at state s)).owner ≡ Host n → duty_of side state n ≡ Serves s
+  pub owns : duty_of side state n ≡ Serves s → (end_of side (stream_at state s)).owner ≡ Host n
+  pub idle : (end_of side (stream_at state s)).owner ≡ Host n → (end_of side (stream_at state s)).operation ≡ None
+
+-- the same of all host ends
 pub record HostsHold (state : State) : Type 0 where
   pub all : length state.producers ≡ host_limit
-  pub serve : (n s : ℕ) → ServesOne state n s
-  pub unpiped : (s : ℕ) → is_host (stream_at state s).reader.owner ≡ false
+  pub all_readers : length state.consumers ≡ host_limit
+  pub serve : (side : Side) (n s : ℕ) → ServesOne state side n s

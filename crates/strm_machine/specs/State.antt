@@ -1,5 +1,5 @@
 -- The state of the machine: guests, each with a memory, a handle table and waitable sets, the streams
--- between them, the host writers that it knows, and error contexts.
+-- between them, the host ends that it knows, and error contexts.
 -- Component Model, "Stream State", "Waitable State" and `ErrorContext`; wasmtime,
 -- futures_and_streams.rs.
 use Rattle.std.specs.Prelude.{ℕ, ◌+◌, ◌*◌, Bool, false, true, ◌&&◌, not, List, [], length, replicate, slice_index_or, slice_set, sum_by, count_by, None}
@@ -14,6 +14,7 @@ use Rattle.strm_machine.specs.declared.streams.Owner.{Owner}
 use Rattle.strm_machine.specs.declared.streams.Owner.TheVariants.{Held, Loose, Host, Gone}
 use Rattle.strm_machine.specs.declared.streams.Duty.TheVariants.{Unused}
 use Rattle.strm_machine.specs.declared.streams.Producer.{Producer}
+use Rattle.strm_machine.specs.declared.streams.Consumer.{Consumer}
 use Rattle.strm_machine.specs.declared.streams.End.{End}
 use Rattle.strm_machine.specs.declared.streams.Stream.{Stream}
 
@@ -34,16 +35,22 @@ pub record State : Type 0 where
   -- of each host writer, by its number, what is kept of it. Ours: wasmtime keeps its producers in
   -- the streams
   pub producers : List Producer
+  -- of each host reader, by its number, what is kept of it
+  pub consumers : List Consumer
   pub contexts : Contexts
   pub trapped : Bool
 
--- the host writers, at most. Ours
+-- the host writers, at most, and the host readers. Ours
 abbrev pub host_limit : ℕ
 host_limit = 64
 
 -- a host writer that was never used
 abbrev pub no_producer : Producer
 no_producer = record { duty = Unused; over = false }
+
+-- a host reader that was never used
+abbrev pub no_consumer : Consumer
+no_consumer = record { duty = Unused; since = 0 }
 
 -- no guest, no stream and no error context, under these limits
 abbrev pub empty : ℕ → Limits → State
@@ -53,6 +60,7 @@ empty tag limits = record {
   guests = [];
   streams = [];
   producers = replicate host_limit no_producer;
+  consumers = replicate host_limit no_consumer;
   contexts = no_contexts;
   trapped = false;
 }
@@ -140,6 +148,10 @@ no_stream = record {
 -- what is kept of the host writer of a number
 abbrev pub producer_at : State → ℕ → Producer
 producer_at state n = slice_index_or state.producers n no_producer
+
+-- what is kept of the host reader of a number
+abbrev pub consumer_at : State → ℕ → Consumer
+consumer_at state r = slice_index_or state.consumers r no_consumer
 
 -- the stream of a number
 abbrev pub stream_at : State → ℕ → Stream

@@ -69,13 +69,17 @@ pub enum LooseAct {
     Close,
 }
 
-/// What is done to a host writer.
+/// What is done to a host end: to a host writer in the first two, else to a host reader.
 #[derive(Clone, Copy)]
 pub enum HostAct {
     /// It becomes the write end of a stream of its kind and payload, whose read end is loose.
     New,
     /// Bytes from outside are passed on to it; none where no more will come.
     Feed { bytes: Chunk },
+    /// It becomes the read end of the stream of this number, whose read end is loose.
+    Pipe { reader: u32 },
+    /// It may take so many items more; none where it is to end.
+    Grant { count: u32 },
 }
 
 /// What is done to a waitable set.
@@ -133,7 +137,7 @@ pub enum Act {
         reader: u32,
         act: LooseAct,
     },
-    /// It does something to the host writer of a number.
+    /// It does something to the host end of a number.
     OnHost {
         host: u32,
         act: HostAct,
@@ -211,6 +215,14 @@ impl Act {
             Step::Feed { host, bytes } => Act::OnHost {
                 host,
                 act: HostAct::Feed { bytes },
+            },
+            Step::Pipe { reader, host } => Act::OnHost {
+                host,
+                act: HostAct::Pipe { reader },
+            },
+            Step::Grant { host, count } => Act::OnHost {
+                host,
+                act: HostAct::Grant { count },
             },
             Step::Drive => Act::Drive,
             Step::Event { guest, handle } => Act::Event { guest, handle },

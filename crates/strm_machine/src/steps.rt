@@ -101,7 +101,18 @@ pub enum Step {
         host: u32,
         bytes: Chunk,
     },
-    /// One turn of each stream whose host end has something to do, by the streams' numbers. Ours:
+    /// The loose read end of a stream, by the stream's number, goes to a host reader, by the reader's.
+    /// wasmtime, `StreamReader::pipe` and `FutureReader::pipe`.
+    Pipe {
+        reader: u32,
+        host: u32,
+    },
+    /// So many items more that a host reader may take, by its number; none where it is to end. Ours.
+    Grant {
+        host: u32,
+        count: u32,
+    },
+    /// One turn of each stream whose host ends have something to do, by the streams' numbers. Ours:
     /// wasmtime's event loop.
     Drive,
     /// What an end is to be told, whatever its type: an event of `canon waitable-set.poll`.

@@ -33,7 +33,7 @@ pub enum Owner {
     /// Nobody yet: the read end was lifted out of a guest, or is one of a host writer's stream, and
     /// was not lowered into a guest since.
     Loose,
-    /// The host end of this number: a host writer has the write end.
+    /// The host end of this number: of a write end a host writer, of a read end a host reader.
     Host { number: u32 },
     /// Nobody: the end was dropped.
     Gone,
@@ -56,6 +56,15 @@ pub struct Producer {
     pub duty: Duty,
     /// It answered Dropped: it has no more to come, and is not polled again.
     pub over: bool,
+}
+
+/// What a store keeps of a host reader.
+#[derive(Clone, Copy)]
+pub struct Consumer {
+    pub duty: Duty,
+    /// Items that it took since its last answer of Completed or Cancelled; it stays at 2^32 - 1 once
+    /// there.
+    pub since: u32,
 }
 
 /// A host end, by its number.

@@ -1,4 +1,5 @@
 pub mod RegionLemmas
 pub mod PollLemmas
+pub mod ReaderPollLemmas
 pub mod TurnLemmas
 pub mod StepLemmas

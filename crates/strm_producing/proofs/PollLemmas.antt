@@ -29,7 +29,7 @@ some_none : (P : Type 0) (a : Answer) (o : Option Answer) → o ≡ Some a → o
 some_none P a o e f = cc
 
 -- what holds of the answer of a turn holds of the answer that was read off it
-of_answer : (P : Answer → Type 0) (turn : Turn StreamResult) (o : Option Answer) (a : Answer) → Reads turn o → o ≡ Some a → IfAnswered turn P → P a
+pub of_answer : (P : Answer → Type 0) (turn : Turn StreamResult) (o : Option Answer) (a : Answer) → Reads turn o → o ≡ Some a → IfAnswered turn P → P a
 of_answer P Pending o a r e p = some_is P answers.Pending a o e p r.answered
 of_answer P (Ready results.Completed) o a r e p = some_is P answers.Completed a o e p r.answered
 of_answer P (Ready results.Cancelled) o a r e p = some_is P answers.Cancelled a o e p r.answered

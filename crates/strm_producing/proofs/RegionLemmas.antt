@@ -21,7 +21,7 @@ use Rattle.strm_producing.specs.Polls.{Lowers}
 -- ## Its address
 
 -- a successor is not 0
-not_zero : (n : ℕ) → (suc n == 0) ≡ false
+pub not_zero : (n : ℕ) → (suc n == 0) ≡ false
 not_zero n = grind (arith, nat_tests)
 
 stored-nothing : (bytes : List ℕ) (items : List Item) → stored [] bytes items ≡ bytes

@@ -1,3 +1,5 @@
 pub mod Regions
 pub mod Polls
+pub mod ReaderPolls
 pub mod Turning
+pub mod Taking

@@ -1,12 +1,15 @@
-//! The turn of a host writer: a guest's open read on its stream receives what the writer holds, or
-//! what one poll of it produces.
+//! The turns of host ends: a guest's open read receives what the host writer on its stream holds, or
+//! what one poll of it produces; and of a guest's open write the host reader on its stream takes items
+//! in one poll.
 //!
-//! A turn works on the guests, on one stream and on what is kept of the stream's host writer: it knows
-//! of no store, and refuses nothing. `strm_transmit` finds them, opens the read before, and tells the
-//! guest afterwards.
+//! A turn works on the guests, on one stream and on what is kept of the stream's host end: it knows of
+//! no store, and refuses nothing. `strm_transmit` finds them, opens the read or write before, and tells
+//! the guest afterwards.
 #![tactic(auto)]
 
 mod polls;
+mod reader_polls;
 mod regions;
 mod settling;
+pub mod taking;
 pub mod turns;

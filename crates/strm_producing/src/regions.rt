@@ -1,30 +1,32 @@
 //! The region of a guest's memory where a read's next items are to lie, lent to a window and taken
-//! back.
+//! back; and that where a write's next items lie, lent to an offer.
 //!
-//! Source: wasmtime, `futures_and_streams.rs`, `Destination` of a guest's read. Ours: the window owns
-//! the guest's memory meanwhile; nothing is copied.
+//! Source: wasmtime, `futures_and_streams.rs`, `Destination` of a guest's read and `Source` of a guest's
+//! write. Ours: the window or the offer owns the guest's memory meanwhile; nothing is copied.
 
-ghost use Rattle.std.specs.Prelude.{◌≡◌, ◌≢◌, ◌*◌, ◌<◌, [], length};
+ghost use Rattle.std.specs.Prelude.{◌≡◌, ◌≢◌, ◌*◌, ◌<◌, ℕ, List, [], length};
 ghost use Rattle.strm_machine.specs.State.{with_memory, memory_in};
 ghost use Rattle.strm_machine.specs.Soundness.{sizes_of, IsPlaced};
 ghost use Rattle.strm_buffers.specs.Windows.{Between, HasRoom, lent_memory, memory_of};
+ghost use Rattle.strm_buffers.specs.Offers.{IsRegion, IsMemoryOf};
 ghost use Rattle.strm_turns.specs.Guests.{seen};
-ghost use Rattle.strm_producing.specs.Regions.{region_address};
+ghost use Rattle.strm_producing.specs.Regions.{region_address, lent_items};
 
 use std::alloc::Global;
+use strm_buffers::offers::Offer;
 use strm_buffers::windows::Window;
 use strm_codes::payloads::Payload;
 use strm_machine::streams::Operation;
 use strm_turns::guests::{Guest, put_memory, take_memory};
 
-// Where a read's next items are to lie. Those that take no bytes lie anywhere, so at the front.
-fn region_address(payload: &Payload, read: &Operation) -> u32
-    ensures { result ≡ region_address payload.now read.now }
+// Where the next items of a read or write lie. Those that take no bytes lie anywhere, so at the front.
+fn region_address(payload: &Payload, operation: &Operation) -> u32
+    ensures { result ≡ region_address payload.now operation.now }
 {
-    if payload.size() == 0 || read.left.equals_u32(0) {
+    if payload.size() == 0 || operation.left.equals_u32(0) {
         0
     } else {
-        read.address
+        operation.address
     }
 }
 
@@ -63,4 +65,38 @@ pub fn return_region(guests: &mut Vec<Guest>, guest: u32, window: Window) -> u32
     let (memory, marked) = window.into_memory();
     put_memory(guests, guest as usize, memory);
     marked
+}
+
+/// Lends the items that a write has left, so many being taken since the host reader was last ready. The
+/// guest has no bytes until they are returned. Takes no memory.
+#[inline(always)]
+pub fn lend_items(
+    alloc: Global,
+    guests: &mut Vec<Guest>,
+    payload: &Payload,
+    write: &Operation,
+    since: u32,
+) -> Offer
+    requires placed { IsPlaced (sizes_of (seen guests.old.items)) payload.now write.now }
+    ensures offer { result ≡ lent_items (seen guests.old.items) payload.now write.now since }
+    ensures guests { seen guests.new.items ≡ with_memory (seen guests.old.items) write.now.guest [] }
+    ensures count { length guests.new.items ≡ length guests.old.items }
+{
+    let memory = take_memory(alloc, guests, write.guest as usize);
+    let address = region_address(payload, write);
+    Offer::of_memory(memory, *payload, address, write.left.as_u32(), since)
+}
+
+/// Gives a guest its memory back, as it was lent: how many items were taken.
+#[inline(always)]
+pub fn return_items(guests: &mut Vec<Guest>, guest: u32, offer: Offer) -> u32
+    requires there { guest < length guests.old.items }
+    requires memory { IsRegion offer.source }
+    ensures taken { result ≡ offer.taken }
+    ensures guests { (memory : List ℕ) → IsMemoryOf offer.source memory →
+        seen guests.new.items ≡ with_memory (seen guests.old.items) guest memory }
+{
+    let (memory, taken) = offer.into_memory();
+    put_memory(guests, guest as usize, memory);
+    taken
 }

@@ -17,8 +17,19 @@ use strm_machine::streams::{Operation, Owner, Side, Stream};
 use strm_turns::sides::{opposite, set_operation};
 use strm_turns::turns::{go_on, receive};
 
-// How an answer settles an operation.
-fn result_of(answer: Answer) -> Option<StreamResult>
+/// So many items as a count.
+pub fn count_of(items: u32) -> ItemCount
+    requires { items < 2 ^ 28 }
+    ensures { result ≡ items }
+{
+    match ItemCount::new(items) {
+        Ok(count) => count,
+        Err(_) => unreachable!(),
+    }
+}
+
+/// How an answer settles an operation.
+pub fn result_of(answer: Answer) -> Option<StreamResult>
     ensures { result ≡ result_of answer }
 {
     match answer {

@@ -14,7 +14,7 @@ ghost use Rattle.strm_producing.specs.Turning.{scene, judged, handed_over, Polle
 
 use crate::polls::poll_into;
 use crate::regions::{lend_region, return_region};
-use crate::settling::{move_on, produced_result};
+use crate::settling::{count_of, move_on, produced_result};
 use std::alloc::Global;
 use strm_buffers::answers::Answer;
 use strm_buffers::boxes::{give, held_by};
@@ -33,17 +33,6 @@ pub enum TurnError {
     OutOfMemory,
     /// The host writer broke its rules.
     Broke,
-}
-
-// So many items as a count.
-fn count_of(items: u32) -> ItemCount
-    requires { items < 2 ^ 28 }
-    ensures { result ≡ items }
-{
-    match ItemCount::new(items) {
-        Ok(count) => count,
-        Err(_) => unreachable!(),
-    }
 }
 
 // A writer that answered Dropped has no more to come.

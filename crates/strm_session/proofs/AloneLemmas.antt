@@ -8,18 +8,23 @@ use Rattle.strm_machine.specs.Plays.{play}
 use Rattle.strm_machine.specs.Acts.{act_of}
 use Rattle.strm_machine.specs.declared.steps.Step.{Step}
 use Rattle.strm_machine.specs.declared.replies.Reply.{Reply}
+use Rattle.strm_machine.specs.declared.streams.Side.TheVariants.{Writing, Reading}
 use Rattle.strm_machine.proofs.EmptyLemmas.{HostsHold-empty}
 use Rattle.strm_machine.proofs.HostLemmas.{serving_made}
 use Rattle.strm_world.specs.Steps.{touches}
 use Rattle.strm_world.specs.Does.{Fits}
 use Rattle.strm_transmit.specs.Hosted.{lone}
-use Rattle.strm_session.specs.Runs.{start, is_of_guests, AreOfGuests}
+use Rattle.strm_transmit.specs.Guests.{Unhosted, is_of_guests}
+use Rattle.strm_transmit.proofs.GuestLemmas.{reaction-unhosted, empty-unhosted, touches-none}
+use Rattle.strm_session.specs.Runs.{start, AreOfGuests}
 use Rattle.strm_session.proofs.PlayLemmas.{HaveLed, IsAt, take-at, played_more}
-use Rattle.strm_session.proofs.GuestLemmas.{Unhosted, reaction-unhosted, start-unhosted, touches-none}
 
 -- no host end is in use at the start
 pub start-fits : (tells : Tells) → Fits start tells
-start-fits tells n s e = absurd (let made = serving_made start n s (HostsHold-empty 0 _) e in omega (arith, made))
+start-fits tells = record {
+  writers = λ n s e. absurd (let made = serving_made start Writing n s (HostsHold-empty 0 _) e in omega (arith, made));
+  readers = λ r s e. absurd (let made = serving_made start Reading r s (HostsHold-empty 0 _) e in omega (arith, made));
+}
 
 abbrev IsOfGuests : Step → Type 0
 IsOfGuests step = is_of_guests (act_of step) ≡ true
@@ -35,7 +40,7 @@ abbrev pub LedByGuests : Tells → List Step → ℕ → List Reply → State �
 LedByGuests old steps k told state now = AreOfGuests (take k steps) → LedAlone old steps k told state now
 
 pub alone_none : (old : Tells) (steps : List Step) → LedAlone old steps 0 [] start old
-alone_none old steps = record { so_far = λ more. refl; same = refl; unhosted = start-unhosted }
+alone_none old steps = record { so_far = λ more. refl; same = refl; unhosted = empty-unhosted 0 _ }
 
 -- a step that touches no host end
 pub record StepAlone (told told' : List Reply) (state state' : State) (now after : Tells) (step : Step) : Type 0 where

@@ -48,4 +48,4 @@ delivers_each old new steps state k o a s =
     let first = start_among old new in
     let laws = subst (λ (xs : List Step). HasLawsAmong first (host_moments first xs) (last_of first (host_moments first xs))) (take_all (length steps) steps (omega arith)) (k.laws (length steps)) in
     let now = subst (HasLawsAmong first (host_moments first steps)) k.ends laws in
-    now.host.delivers (all_supply old new state o a (λ n. (now.host.goes_on n).payload)) s
+    now.writers.delivers (all_supply old new state o a (λ n. (now.writers.goes_on n).payload)) s

@@ -1,6 +1,5 @@
 pub mod PlayLemmas
 pub mod RunningLemmas
-pub mod GuestLemmas
 pub mod AloneLemmas
 pub mod AmongLemmas
 pub mod StepLemmas

@@ -5,9 +5,10 @@ use Rattle.strm_codes.specs.declared.codes.ReturnCode.{ReturnCode}
 use Rattle.strm_codes.specs.declared.codes.TransmitKind.{TransmitKind}
 use Rattle.strm_codes.specs.declared.refusals.Refusal.{Refusal}
 use Rattle.strm_buffers.specs.Listing.{Item}
+use Rattle.strm_buffers.specs.declared.answers.ReaderSaid.{ReaderSaid}
 use Rattle.strm_buffers.specs.Said.{WriterSaid}
-use Rattle.strm_buffers.specs.HostRules.{breaks_as_writer}
-use Rattle.strm_machine.specs.State.{producer_at, is_host}
+use Rattle.strm_buffers.specs.HostRules.{breaks_as_writer, breaks_as_reader}
+use Rattle.strm_machine.specs.State.{producer_at, consumer_at, is_host}
 use Rattle.strm_machine.specs.Acts.{act_of}
 use Rattle.strm_machine.specs.Plays.{is_settled}
 use Rattle.strm_machine.specs.Reactions.{reaction}
@@ -16,7 +17,7 @@ use Rattle.strm_machine.specs.declared.acts.Act.{Act}
 use Rattle.strm_machine.specs.declared.acts.Act.TheVariants.{OnEnd}
 use Rattle.strm_machine.specs.declared.acts.EndAct.TheVariants.{Operate}
 use Rattle.strm_machine.specs.declared.acts.HostAct.{HostAct}
-use Rattle.strm_machine.specs.declared.acts.HostAct.TheVariants.{New, Feed}
+use Rattle.strm_machine.specs.declared.acts.HostAct.TheVariants.{New, Feed, Pipe, Grant}
 use Rattle.strm_machine.specs.declared.acts.NamedEnd.{NamedEnd}
 use Rattle.strm_machine.specs.declared.replies.Reply.{Reply}
 use Rattle.strm_machine.specs.declared.replies.Reply.TheVariants as replies
@@ -28,16 +29,17 @@ use Rattle.strm_machine.specs.declared.streams.Operation.{Operation}
 use Rattle.strm_machine.specs.declared.streams.Owner.{Owner}
 use Rattle.strm_machine.specs.declared.streams.Owner.TheVariants.{Host, Gone}
 use Rattle.strm_machine.specs.declared.streams.Side.{Side}
-use Rattle.strm_machine.specs.declared.streams.Side.TheVariants.{Reading}
+use Rattle.strm_machine.specs.declared.streams.Side.TheVariants.{Writing, Reading}
 use Rattle.strm_machine.specs.declared.streams.Stream.{Stream}
-use Rattle.strm_world.specs.World.{World, stream_in, writer_at, with_writer, leaves_writer, with_stream_in}
-use Rattle.strm_world.specs.Ends.{polled_writer}
+use Rattle.strm_world.specs.World.{World, stream_in, writer_at, reader_at, with_writer, with_consumer, with_reader, leaves_writer, leaves_reader, with_stream_in}
+use Rattle.strm_world.specs.Ends.{polled_writer, polled_reader}
 use Rattle.strm_world.specs.Outcomes.{Outcome, Goes, Stops, Stuck, stops, done, then_on, of_reply}
-use Rattle.strm_world.specs.Polls.{AfterWriter, is_failed, is_writer_poll, writer_judged, writer_says}
+use Rattle.strm_world.specs.Polls.{AfterWriter, is_failed, is_writer_poll, writer_judged, writer_says, AfterReader, is_reader_poll, reader_judged, reader_says}
 use Rattle.strm_world.specs.Producing.{receives, with_over, produced_result, is_produced, produces, producer_turn}
+use Rattle.strm_world.specs.Consuming.{lifted, with_taken, gives_up, consumer_turn}
 use Rattle.strm_world.specs.Settling.{answered_with}
 use Rattle.strm_world.specs.Driving.{if_open, driven_by, drive_turn, driven}
-use Rattle.strm_world.specs.Attaching.{hosts_new, forsakes}
+use Rattle.strm_world.specs.Attaching.{hosts_new, is_dry, piped, without_ends, piped_by, pipes, forsakes}
 use Rattle.strm_world.specs.HostRefusals.{refusal_in}
 use Rattle.strm_world.specs.Steps.{reacts, operates_by, drops_in, on_host, performs_by, performs_in, unless_refused_in, outcome, step_of}
 use Rattle.strm_world.proofs.TouchLemmas.{touch-by}
@@ -54,13 +56,19 @@ Running (Goes reply world) = IsRunning world
 Running (Stops stop writers readers) = stop ≢ StoreTrapped
 Running Stuck = Unit {0}
 
-leaves-same : (a b : Owner) (world : World) → IsRunning world → IsRunning (leaves_writer a b world)
-leaves-same (Host n) Gone world t = t
-leaves-same _ _ world t = t
+leaves_writer-runs : (a b : Owner) (world : World) → IsRunning world → IsRunning (leaves_writer a b world)
+leaves_writer-runs (Host n) Gone world t = t
+leaves_writer-runs _ _ world t = t
+
+leaves_reader-runs : (a b : Owner) (world : World) → IsRunning world → IsRunning (leaves_reader a b world)
+leaves_reader-runs (Host r) Gone world t = t
+leaves_reader-runs _ _ world t = t
 
 with_stream-runs : (world : World) (s : ℕ) (stream : Stream) → IsRunning world → IsRunning (with_stream_in world s stream)
 unfolding with_stream_in
-with_stream-runs world s stream t = leaves-same (stream_in world s).writer.owner stream.writer.owner _ t
+with_stream-runs world s stream t =
+    leaves_writer-runs (stream_in world s).writer.owner stream.writer.owner _
+    (leaves_reader-runs (stream_in world s).reader.owner stream.reader.owner _ t)
 
 then-runs : (o : Outcome) (next : World → Outcome) → Running o → ((w : World) → IsRunning w → Running (next w)) → Running (then_on o next)
 then-runs (Goes reply world) next r h = h world r
@@ -106,6 +114,34 @@ turn-runs : (world : World) (s n : ℕ) (read : Operation) → IsRunning world �
 unfolding producer_turn
 turn-runs world s n read t = produces-runs world s n read _ t
 
+-- A HOST READER'S TURN
+
+judged_reader-runs : (world : World) (kind : TransmitKind) (s r : ℕ) (said : ReaderSaid) (next : AfterReader) → IsRunning world → ((w : World) (x : ReaderSaid) → IsRunning w → Running (next w x)) → Running (reader_judged world kind s r said next)
+judged_reader-runs world kind s r said next t h =
+    let broken = cond (breaks_as_reader kind said) (stops (HostBroke (ends.Reader r)) world) (next world said) in
+    let bad = cond said.bad (stops (BadItem s) world) broken in
+    cond_both (is_failed said.answer) (stops (HostFailed (ends.Reader r)) world) bad Running
+    (λ f. failed_untrapped (ends.Reader r))
+    (λ f. cond_both said.bad (stops (BadItem s) world) broken Running
+    (λ b. bad_untrapped s)
+    (λ b. cond_both (breaks_as_reader kind said) (stops (HostBroke (ends.Reader r)) world) (next world said) Running (λ k. broke_untrapped (ends.Reader r)) (λ k. h world said t)))
+
+reader_says-runs : (world : World) (s r offered : ℕ) (finish : Bool) (first : ℕ → List Item) (said : List ReaderSaid) (next : AfterReader) → IsRunning world → ((w : World) (x : ReaderSaid) → IsRunning w → Running (next w x)) → Running (reader_says world s r offered finish first said next)
+reader_says-runs world s r offered finish first [] next t h = tt
+reader_says-runs world s r offered finish first (said ∷ more) next t h =
+    let after = with_reader world r (polled_reader (reader_at world r) (first said.taken) more) in
+    cond_both (is_reader_poll offered (consumer_at world.state r).since finish said) (reader_judged after (stream_in world s).kind s r said next) Stuck Running
+    (λ p. judged_reader-runs after (stream_in world s).kind s r said next t h) (λ p. tt)
+
+consumer_turn-runs : (world : World) (s r : ℕ) (write : Operation) → IsRunning world → Running (consumer_turn world s r write)
+unfolding consumer_turn
+consumer_turn-runs world s r write t =
+    reader_says-runs world s r write.left write.asked (lifted world.state.guests (stream_in world s).payload write) (reader_at world r).coming
+    (λ after said. done (gives_up (with_taken after r said.answer said.taken) s write said.taken said.answer))
+    t (λ w x k. with_stream-runs _ s _ k)
+
+-- A STEP
+
 answered-runs : (world : World) (s : ℕ) (side : Side) (code : Option ReturnCode) → IsRunning world → Running (answered_with world s side code)
 answered-runs world s side (Some code) t = with_stream-runs world s _ t
 answered-runs world s side None t = t
@@ -114,13 +150,15 @@ open-runs : (world : World) (operation : Option Operation) (turn : Operation →
 open-runs world None turn t h = t
 open-runs world (Some operation) turn t h = cond_both operation.is_open (turn operation) (done world) Running (λ o. h operation) (λ o. t)
 
-driven_by-runs : (world : World) (s : ℕ) (stream : Stream) (owner : Owner) → IsRunning world → Running (driven_by world s stream owner)
-driven_by-runs world s stream (Host n) t = open-runs world stream.reader.operation _ t (λ o. turn-runs world s n o t)
-driven_by-runs world s stream _ t = t
+driven_by-runs : (world : World) (s : ℕ) (stream : Stream) (writer reader : Owner) → IsRunning world → Running (driven_by world s stream writer reader)
+driven_by-runs world s stream (Host n) (Host r) t = t
+driven_by-runs world s stream (Host n) _ t = open-runs world stream.reader.operation _ t (λ o. turn-runs world s n o t)
+driven_by-runs world s stream _ (Host r) t = open-runs world stream.writer.operation _ t (λ o. consumer_turn-runs world s r o t)
+driven_by-runs world s stream _ _ t = t
 
 drive_turn-runs : (world : World) (s : ℕ) → IsRunning world → Running (drive_turn world s)
 unfolding drive_turn
-drive_turn-runs world s t = driven_by-runs world s (stream_in world s) (stream_in world s).writer.owner t
+drive_turn-runs world s t = driven_by-runs world s (stream_in world s) (stream_in world s).writer.owner (stream_in world s).reader.owner t
 
 driven-runs : (world : World) (streams : List ℕ) → IsRunning world → Running (driven world streams)
 driven-runs world [] t = t
@@ -142,6 +180,8 @@ forsakes-runs Stuck s side r = tt
 operates-runs : (world : World) (side : Side) (end : NamedEnd) (address count : ℕ) (owner : Owner) → IsRunning world → RunsOn (reaction world.state (OnEnd side end (Operate address count))) → Running (operates_by world side end address count owner)
 operates-runs world Reading end address count (Host n) t r =
     then-runs _ _ (turn-runs _ _ n _ (with_stream-runs world _ _ t)) (λ w k. answered-runs w _ Reading _ k)
+operates-runs world Writing end address count (Host n) t r =
+    then-runs _ _ (consumer_turn-runs _ _ n _ (with_stream-runs world _ _ t)) (λ w k. answered-runs w _ Writing _ k)
 operates-runs world side end address count _ t r = reacts-runs world (OnEnd side end (Operate address count)) r
 
 drops-runs : (world : World) (s : ℕ) (side : Side) (act : Act) → RunsOn (reaction world.state act) → Running (drops_in world s side act)
@@ -149,10 +189,19 @@ drops-runs world s side act r =
     cond_both (is_host (end_of (opposite side) (stream_in world s)).owner) (forsakes (reacts world act) s side) (reacts world act) Running
     (λ h. forsakes-runs (reacts world act) s side (reacts-runs world act r)) (λ h. reacts-runs world act r)
 
+piped_by-runs : (world : World) (s r : ℕ) → IsRunning world → IsRunning (piped_by world s r)
+piped_by-runs world s r t =
+    let stream = piped (stream_in world s) r in
+    let after = with_stream_in world s stream in
+    let here = with_stream-runs world s stream t in
+    cond_both (is_dry world stream.writer.owner) (with_stream_in after s (without_ends stream)) after IsRunning (λ d. with_stream-runs after s _ here) (λ d. here)
+
 on_host-runs : (world : World) (n : ℕ) (act : HostAct) → IsRunning world → Running (on_host world n act)
-unfolding hosts_new
+unfolding hosts_new pipes
 on_host-runs world n New t = t
 on_host-runs world n (Feed bytes) t = t
+on_host-runs world r (Pipe reader) t = piped_by-runs _ reader r t
+on_host-runs world r (Grant count) t = t
 
 performs-runs : (world : World) (act : Act) → IsRunning world → RunsOn (reaction world.state act) → Running (performs_in world act)
 unfolding performs_in

@@ -16,20 +16,19 @@ use Rattle.strm_laws.specs.Conservation.{moments, last, replies_of, calls, got}
 use Rattle.strm_laws.specs.Laws.{Conserves, waiting, Stands, AreCounted, HandlesHold, HandlesAreSingle, MembersAreLive, ContextsCount}
 use Rattle.strm_machine.specs.Untouched.{StaysAside, LieThere}
 use Rattle.strm_machine.specs.Acts.{act_of}
-use Rattle.strm_machine.specs.declared.acts.Act.{Act}
-use Rattle.strm_machine.specs.declared.acts.Act.TheVariants.{OnHost, Drive}
 use Rattle.strm_machine.specs.declared.stops.Stop.{Stop}
 use Rattle.strm_machine.specs.declared.stops.Stop.TheVariants as stops
 use Rattle.strm_codes.specs.Layout.{scalars_of}
 use Rattle.strm_memory.specs.Items.{AreItems}
 use Rattle.strm_buffers.specs.Tells.{WriterTells, Tells, Rose}
 use Rattle.strm_machine.specs.Hosting.{HostsHold}
-use Rattle.strm_world.specs.World.{World, writer_at, stream_in}
+use Rattle.strm_world.specs.World.{World, writer_at, reader_at, stream_in}
 use Rattle.strm_world.specs.HostPlays.{play as play_among}
 use Rattle.strm_world.specs.HostPlays as world_plays
 use Rattle.strm_world.specs.Does.{saids, world_of, faults_of, StopsWith, AreSupplied}
+use Rattle.strm_transmit.specs.Guests.{is_of_guests}
 use Rattle.strm_host_laws.specs.HostMoments.{HostMoment, host_moments, last_of}
-use Rattle.strm_host_laws.specs.HostLaws.{ClosesExactly, WriterGoesOn, Supplies, DeliversAll, MovesByHosts, is_hosted, plains}
+use Rattle.strm_host_laws.specs.HostLaws.{ClosesExactly, WriterGoesOn, Supplies, DeliversAll, ReadersCloseExactly, ReaderGoesOn, TellsTaken, host_got, ConservesAmong, MovesByHosts, is_hosted, is_piped, plains}
 use Rattle.strm_session.specs.declared.runs.RunCause.{RunCause}
 use Rattle.strm_session.specs.declared.runs.RunCause.TheVariants as causes
 
@@ -41,12 +40,6 @@ start = empty 0 (record { handles = 1000000; places = 1000000 })
 -- meanwhile is what is to come
 abbrev pub start_among : Tells → Tells → World
 start_among old new = world_of start old (saids new)
-
--- what a step does is done among guests: it names no host end, and is no drive round
-abbrev pub is_of_guests : Act → Bool
-is_of_guests (OnHost n act) = false
-is_of_guests Drive = false
-is_of_guests _ = true
 
 -- steps of guests alone: host ends have no part in any
 abbrev pub AreOfGuests : List Step → Type 0
@@ -91,17 +84,24 @@ pub record IsKept (steps : List Step) (replies : List Reply) (end : State) : Typ
 
 -- AMONG HOST ENDS
 
--- the laws of a run from this world with these moments, which ends here: exactly the host writers that
+-- the laws of host writers in a run from this world with these moments, which ends here: exactly those that
 -- became gone were closed; each used its records in order and heard exactly the feeds to it; what each
--- produced is received in order, held, or given up at its end, if its records are of items
-pub record HasHostLaws (first : World) (all : List HostMoment) (end : World) : Type 0 where
+-- produced is received in order, by whichever end, held, or given up at its end, if its records are of items
+pub record HasWriterLaws (first : World) (all : List HostMoment) (end : World) : Type 0 where
   pub closes : ClosesExactly first end.state end.writers
   pub goes_on : (n : ℕ) → WriterGoesOn n all (writer_at first n) (writer_at end n)
   pub delivers : ((n : ℕ) → Supplies (writer_at first n)) → (s : ℕ) → DeliversAll s all end
-  pub hosts : HostsHold end.state
 
--- on each stream that no host writer made what was received is what was handed over, and what both ends
--- report; a read or write that waits has moved what it says, and one that has not met nothing; a future
+-- the laws of host readers in it: exactly those that became gone were closed; each used its records in order
+-- and heard exactly the grants to it; and one that tells what it took has, behind what it had at first,
+-- exactly what was taken of its stream, if all of that are items
+pub record HasReaderLaws (first : World) (all : List HostMoment) (end : World) : Type 0 where
+  pub closes : ReadersCloseExactly first end.state end.readers
+  pub goes_on : (r : ℕ) → ReaderGoesOn r all (reader_at first r) (reader_at end r)
+  pub tells : (s r : ℕ) → TellsTaken s r all (reader_at first r) (reader_at end r)
+
+-- on each stream of which no host end had an end what was received is what was handed over, and what both
+-- ends report; a read or write that waits has moved what it says, and one that has not met nothing; a future
 -- passes one item at most
 pub record HasStreamLaws (s : ℕ) (all : List HostMoment) (end : World) : Type 0 where
   pub conserves : Conserves s (plains all) end.state
@@ -110,15 +110,28 @@ pub record HasStreamLaws (s : ℕ) (all : List HostMoment) (end : World) : Type 
   pub passes_one : (stream_in end s).kind ≡ Future → length (got s (plains all)) ≤ 1
   pub unmoved : AreUnmoved (stream_in end s)
 
--- those, and: never are two sides open, and no guest writes on a host writer's stream; what has not met is
--- moved by a host writer alone; the items of each operation are a count; in each moment all bytes stay that
--- are neither put nor received, and those that are put lie there; handles and ends agree, one handle an
--- end; members of sets are live; error contexts count their handles; and the state is sound
+-- on a stream that guests write what was received, by whichever end, is what was handed over; a read or write
+-- that waits has moved what it says; a future passes one item at most
+pub record HasWrittenLaws (s : ℕ) (all : List HostMoment) (end : World) : Type 0 where
+  pub conserves : ConservesAmong s all end.state
+  pub passes_one : (stream_in end s).kind ≡ Future → length (host_got s all) ≤ 1
+  pub stands : (side : Side) →
+      Stands (stream_in end s).payload (waiting s side end.state) (calls s side (plains all))
+
+-- those, and: host ends and streams agree; never are two sides open, no guest writes on a host writer's
+-- stream, and none reads on a host reader's; what has not met is moved by a host end alone; the items of each
+-- operation are a count; in each moment all bytes stay that are neither put nor received, and those that are
+-- put lie there; handles and ends agree, one handle an end; members of sets are live; error contexts count
+-- their handles; and the state is sound
 pub record HasLawsAmong (first : World) (all : List HostMoment) (end : World) : Type 0 where
-  pub host : HasHostLaws first all end
-  pub streams : (s : ℕ) → is_hosted s all ≡ false → HasStreamLaws s all end
+  pub writers : HasWriterLaws first all end
+  pub readers : HasReaderLaws first all end
+  pub hosts : HostsHold end.state
+  pub streams : (s : ℕ) → is_hosted s all ≡ false → is_piped s all ≡ false → HasStreamLaws s all end
+  pub written : (s : ℕ) → is_hosted s all ≡ false → HasWrittenLaws s all end
   pub apart : (s : ℕ) → both_open (stream_in end s) ≡ false
-  pub idle : (s : ℕ) → is_hosted s all ≡ true → (stream_in end s).writer.operation ≡ None
+  pub unwritten : (s : ℕ) → is_hosted s all ≡ true → (stream_in end s).writer.operation ≡ None
+  pub unread : (s : ℕ) → is_piped s all ≡ true → (stream_in end s).reader.operation ≡ None
   pub moves : (s : ℕ) → MovesByHosts (stream_in end s)
   pub counted : (s : ℕ) → AreCounted (stream_in end s)
   pub aside : All StaysAside (plains all)

@@ -55,13 +55,17 @@ pub(crate) fn laws_hold_among()
 {
     runs::moments_lead_to_the_end();
     runs::ends_close_exactly();
+    runs::readers_close_exactly();
     runs::writers_are_fed_exactly();
+    runs::readers_are_granted_exactly();
+    runs::readers_tell_what_they_took();
     runs::producers_deliver_in_order();
     guests::conservation();
+    guests::conservation_among();
     guests::futures_pass_one();
     guests::never_two_open();
     guests::unmet_has_moved_none();
-    guests::unmet_moves_by_host_writers();
+    guests::unmet_moves_by_host_ends();
     guests::totals_are_counts();
     guests::other_bytes_stay();
     guests::bytes_are_put();

@@ -10,6 +10,8 @@ mod lines;
 #[cfg(test)]
 mod pieces;
 #[cfg(test)]
+mod readers;
+#[cfg(test)]
 mod serving;
 #[cfg(test)]
 mod stops;

@@ -21,7 +21,7 @@ fn is_told(rt: &impl Abort, found: u32, wanted: u32, input: &str) {
 }
 
 // Inputs that are read.
-const GOOD: [&str; 19] = [
+const GOOD: [&str; 20] = [
     "",
     "guest 0\n",
     "guest 4294967295",
@@ -41,6 +41,7 @@ const GOOD: [&str; 19] = [
     "cancel-read 0 stream:u8 4294967295\n",
     "poke 0 0 00\n",
     "dump 0 0 1\ndump 0 0 64\n",
+    "pipe 0 4294967295\ngrant 4294967295 0\n",
 ];
 
 #[test]
@@ -86,7 +87,7 @@ const BAD_TYPES: [&str; 13] = [
 ];
 
 // Lines with too much or too little, or a number that is too large.
-const BAD_OPERANDS: [&str; 7] = [
+const BAD_OPERANDS: [&str; 10] = [
     "write 0 future:u8 1 0 1",
     "read 0 future:u8 1",
     "write 0 stream:u8 1 0 4294967296",
@@ -94,6 +95,9 @@ const BAD_OPERANDS: [&str; 7] = [
     "event 0",
     "event 0 1 2",
     "event 0 stream:u8 1",
+    "pipe 0",
+    "pipe 0 stream:u8 0",
+    "grant 0 end",
 ];
 
 // Lines of ends, memories and unknown words.

@@ -17,21 +17,22 @@ use strm_ends::scripted_writer::{ScriptedWriter, WriterTurn};
 use strm_memory::payloaded::Payloaded;
 use strm_session::serving::serve;
 
-// Words, an input, the calls of the source and of the sink that fail, the status, and its text.
-struct Row {
-    words: &'static [&'static str],
-    input: &'static str,
-    failing: (u32, u32),
-    status: u8,
-    text: &'static str,
+/// Words, an input, the calls of the source and of the sink that fail, the status, and its text.
+#[derive(Clone, Copy)]
+pub(crate) struct Row {
+    pub words: &'static [&'static str],
+    pub input: &'static str,
+    pub failing: (u32, u32),
+    pub status: u8,
+    pub text: &'static str,
 }
 
-const RUN: &[&str] = &["run"];
+pub(crate) const RUN: &[&str] = &["run"];
 
 const OTHER_WORDS: &[&str] = &["gen", "x", "1"];
 
-// No call fails.
-const NONE: (u32, u32) = (999_999, 999_999);
+/// No call fails.
+pub(crate) const NONE: (u32, u32) = (999_999, 999_999);
 
 fn list(alloc: Global, words: &[&str]) -> Result<Vec<String>, AllocError> {
     let mut list = Vec::new(alloc);
@@ -41,8 +42,8 @@ fn list(alloc: Global, words: &[&str]) -> Result<Vec<String>, AllocError> {
     Ok(list)
 }
 
-// Whether words and an input are served so, among these host ends.
-fn is_served(alloc: Global, row: &Row, hosts: &mut Hosts) -> Result<bool, AllocError>
+/// Whether words and an input are served so, among these host ends.
+pub(crate) fn is_served(alloc: Global, row: &Row, hosts: &mut Hosts) -> Result<bool, AllocError>
     requires writers { length (tells_of writer_tells reader_tells hosts.old).writers ≤ 64 }
     requires readers { length (tells_of writer_tells reader_tells hosts.old).readers ≤ 64 }
 {
@@ -121,7 +122,7 @@ fn each_status_has_its_text(rt: HostRuntime) {
 
 const LINES: &str = "host 0\nguest 16\nlower 0 0 stream:u8\nread 0 stream:u8 1 0 2\n";
 
-const BYTE: Payload = Payload::One(Scalar::U8);
+pub(crate) const BYTE: Payload = Payload::One(Scalar::U8);
 
 // Whether lines are served so where the one host writer produces a byte, or nothing, and answers so.
 fn is_served_by(alloc: Global, row: &Row, byte: Option<u8>, answer: Answer) -> Result<bool, Fail> {

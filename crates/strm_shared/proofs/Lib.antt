@@ -1,6 +1,8 @@
 pub mod StayLemmas
 pub mod ReachedLemmas
 pub mod HistoryLemmas
+pub mod BlockLemmas
+pub mod RowLemmas
 pub mod WaitLemmas
 pub mod AloneLemmas
 pub mod TotalLemmas

@@ -12,7 +12,7 @@ use Rattle.strm_codes.specs.Codes.{completed_code}
 use Rattle.strm_codes.specs.declared.refusals.Refusal.{Refusal}
 use Rattle.strm_handles.specs.Handles.{no_handles}
 use Rattle.strm_handles.specs.Lookups.{end_rep_of}
-use Rattle.strm_machine.specs.State.{State, Guest, empty, no_guest, no_stream, no_producer, stream_at, is_gone, is_host, host_limit}
+use Rattle.strm_machine.specs.State.{State, Guest, empty, no_guest, no_stream, no_producer, no_consumer, stream_at, is_gone, is_host, host_limit}
 use Rattle.strm_machine.specs.Sides.{opposite, same_side, end_of, with_end, with_operation}
 use Rattle.strm_machine.specs.Turns.{Turn, moves, completes_alone, rendezvous_by, finds, turn}
 use Rattle.strm_machine.specs.Tests.{Name, named, end_named, stream_named, is_busy}
@@ -48,7 +48,7 @@ use Rattle.strm_machine.proofs.NamedEndLemmas.{is_end-ok}
 use Rattle.strm_machine.proofs.ReactionLemmas.{reaction-by, reaction-performs, reaction-trapped}
 use Rattle.strm_machine.proofs.AgreeLemmas.{is_end-once}
 use Rattle.strm_machine.proofs.WaitableSetLemmas.{sets-same}
-use Rattle.strm_machine.proofs.ShapeLemmas.{operate-fits, reaction-producers}
+use Rattle.strm_machine.proofs.ShapeLemmas.{operate-fits, reaction-producers, reaction-consumers}
 use Rattle.strm_machine.proofs.Shapes.{begun_on, turn_on, Operates}
 use Rattle.strm_machine.proofs.SoundStepLemmas.{operate-keeps, reaction-sound}
 use Rattle.strm_machine.proofs.TableLemmas.{owner-set_stays}
@@ -59,17 +59,23 @@ use Rattle.strm_shared.proofs.StayLemmas.{IsWaiting, reaction-stays, not_both, o
 
 -- ## Reached states
 
-unused_all : (m n : ℕ) → (get_or (replicate m no_producer) n no_producer).duty ≡ Unused
-unused_all zero n = refl
-unused_all (suc m) zero = refl
-unused_all (suc m) (suc n) = unused_all m n
+no_writers : (m n : ℕ) → (get_or (replicate m no_producer) n no_producer).duty ≡ Unused
+no_writers zero n = refl
+no_writers (suc m) zero = refl
+no_writers (suc m) (suc n) = no_writers m n
+
+no_readers : (m n : ℕ) → (get_or (replicate m no_consumer) n no_consumer).duty ≡ Unused
+no_readers zero n = refl
+no_readers (suc m) zero = refl
+no_readers (suc m) (suc n) = no_readers m n
 
 pub reached-empty : (tag : ℕ) (limits : Limits) → IsReached (empty tag limits)
 reached-empty tag limits = record {
   sound = IsSound-empty tag limits;
   held = StateIsHeld-empty tag limits;
   hosts = HostsHold-empty tag limits;
-  unused = λ n. unused_all host_limit n;
+  writers = λ n. no_writers host_limit n;
+  readers = λ n. no_readers host_limit n;
 }
 
 pub reached-after : (state : State) (act : Act) → IsReached state → IsReached (reaction state act).state
@@ -77,15 +83,18 @@ reached-after state act h = record {
   sound = reaction-sound state act h.sound;
   held = reaction-held state act h.sound h.held;
   hosts = reaction-hosts state act h.sound h.held h.hosts;
-  unused = λ n. ap (λ ps. (get_or ps n no_producer).duty) (reaction-producers state act) ∙ h.unused n;
+  writers = λ n. ap (λ ps. (get_or ps n no_producer).duty) (reaction-producers state act) ∙ h.writers n;
+  readers = λ n. ap (λ cs. (get_or cs n no_consumer).duty) (reaction-consumers state act) ∙ h.readers n;
 }
 
 -- no host end has an end of a stream
 pub reached-alone : (state : State) (s : ℕ) (side : Side) → IsReached state → is_host (end_of side (stream_at state s)).owner ≡ false
-reached-alone state s Reading h = h.hosts.unpiped s
+reached-alone state s Reading h =
+    unless_host (stream_at state s).reader.owner
+    (λ n e. let serves = (h.hosts.serve Reading n s).serves e in let unused = h.readers n in cc)
 reached-alone state s Writing h =
     unless_host (stream_at state s).writer.owner
-    (λ n e. let serves = (h.hosts.serve n s).serves e in let unused = h.unused n in cc)
+    (λ n e. let serves = (h.hosts.serve Writing n s).serves e in let unused = h.writers n in cc)
 
 -- ## A read or write that waits
 

@@ -1,4 +1,6 @@
 pub mod Histories
+pub mod Blocks
+pub mod Rows
 pub mod Places
 pub mod Reaching
 pub mod Waits

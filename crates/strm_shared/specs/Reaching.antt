@@ -1,6 +1,6 @@
 -- What is known of the state after a legal history. Ours.
 use Rattle.std.specs.Prelude.{◌≡◌, ℕ}
-use Rattle.strm_machine.specs.State.{State, producer_at}
+use Rattle.strm_machine.specs.State.{State, producer_at, consumer_at}
 use Rattle.strm_machine.specs.Soundness.{IsSound}
 use Rattle.strm_machine.specs.Hosting.{HostsHold}
 use Rattle.strm_machine.specs.declared.streams.Duty.TheVariants.{Unused}
@@ -11,4 +11,5 @@ pub record IsReached (state : State) : Type 0 where
   pub sound : IsSound state
   pub held : StateIsHeld state
   pub hosts : HostsHold state
-  pub unused : (n : ℕ) → (producer_at state n).duty ≡ Unused
+  pub writers : (n : ℕ) → (producer_at state n).duty ≡ Unused
+  pub readers : (n : ℕ) → (consumer_at state n).duty ≡ Unused

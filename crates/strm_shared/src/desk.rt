@@ -1,6 +1,6 @@
-//! What lies in the table's slot, and what a turn does to it: the store beside its history.
+//! What lies in the table's slot: a ledger in a box, so that a turn moves one word in and out of it.
 //!
-//! Meaning: `Accounts.antt`, and what it keeps `IsKept` of `Waits.antt`. Ours.
+//! Meaning: `Accounts.antt`. Each call is the ledger's. Ours.
 
 ghost use Rattle.std.specs.Prelude.{◌≡◌, ◌-◌, ◌^◌, ◌<◌, [], ◌∷◌, true, false, IfOk, OnErr, Some, MatchOption};
 ghost use Rattle.strm_machine.specs.WaitableSets.{is_in_set};
@@ -10,11 +10,9 @@ ghost use Rattle.strm_shared.specs.Histories.{entry, state_of, IsLegal};
 ghost use Rattle.strm_shared.specs.Waits.{wait, waits_by, without, begun, IsClear, Has, Delivers};
 ghost use Rattle.strm_shared.specs.Accounts.{account, opened, entered, entered_with, idled};
 
-use crate::entry::{Place, Wait};
+use crate::entry::Place;
 use crate::history::History;
-use crate::lone_store::LoneStore;
-use crate::steps::{is_refused_busy, named};
-use crate::waits::{drop_waits, keep_wait, seat_at};
+use crate::ledger::Ledger;
 use std::alloc::Global;
 use std::marker::Model;
 use strm_codes::counts::OutOfMemory;
@@ -23,27 +21,18 @@ use strm_machine::replies::Reply;
 use strm_machine::steps::Step;
 use strm_transmit::store::Store;
 
-/// The store beside its history. Contracts see its limits, the history, the number of idle turns and the
-/// waits. Who has the turn has it, and nobody else.
+/// The store beside its history. Who has the turn has it, and nobody else.
 #[derive(Drop)]
 pub struct Desk {
-    limits: Limits,
-    store: LoneStore,
-    history: History,
-    // Turns that made no entry.
-    idle: u64,
-    waits: Vec<Wait>,
+    ledger: Box<Ledger>,
 }
 
 impl Model for Desk {
-    ghost use Rattle.strm_shared.specs.Accounts.{Account, account};
-    ghost use Rattle.strm_shared.specs.Waits.{IsKept};
+    ghost use Rattle.strm_shared.specs.Accounts.{Account};
 
     ghost Value = { Account };
 
-    ghost view = { λ d. account d.limits d.history.items d.idle d.waits.items };
-
-    ghost invariant = { λ d. IsKept d.limits d.store d.history.items d.waits.items d.history.room };
+    ghost view = { λ d. d.ledger.value };
 }
 
 impl Desk {
@@ -51,14 +40,8 @@ impl Desk {
     pub(crate) fn new(alloc: Global, limits: Limits) -> Result<Desk, OutOfMemory>
         ensures { IfOk result (λ desk. desk ≡ opened limits) }
     {
-        match LoneStore::new(alloc, limits) {
-            Ok(store) => Ok(Desk {
-                limits,
-                store,
-                history: History::new(alloc),
-                idle: 0,
-                waits: Vec::new(alloc),
-            }),
+        match Box::new(alloc, Ledger::new(alloc, limits)) {
+            Ok(ledger) => Ok(Desk { ledger }),
             Err(_) => Err(OutOfMemory),
         }
     }
@@ -68,15 +51,14 @@ impl Desk {
         ensures { MatchOption result (IsClear step.now self.now.waits) (λ seat.
             (there : _) × (named step.now ≡ Some there) × Has (wait seat there) self.now.waits) }
     {
-        let place = named(step)?;
-        seat_at(&self.waits, place)
+        self.ledger.waiter(step)
     }
 
     // Whether a handle is in a set.
     pub(crate) fn is_member(&self, place: Place) -> bool
         ensures { result ≡ is_in_set (state_of self.now.limits self.now.log) place.guest place.handle }
     {
-        self.store.is_in_set(place.guest, place.handle)
+        self.ledger.is_member(place)
     }
 
     // Does a step, and enters it. For each wait room for one entry more is kept.
@@ -92,13 +74,7 @@ impl Desk {
         ensures legal { IsLegal self.new.limits self.new.log }
         ensures err { OnErr result (self.new ≡ self.old) }
     {
-        let spare = self.waits.len() + 1;
-        if self.history.reserve(spare).is_err() {
-            return Err(OutOfMemory);
-        }
-        let reply = self.store.apply_alone(alloc, step)?;
-        self.history.push(seat, step, &reply);
-        Ok(reply)
+        self.ledger.enter(alloc, seat, step)
     }
 
     // Begins a read or write, and a wait where it is answered Blocked: with room for the entry of its
@@ -117,17 +93,7 @@ impl Desk {
         ensures legal { IsLegal self.new.limits self.new.log }
         ensures err { OnErr result (self.new ≡ self.old) }
     {
-        let spare = self.waits.len() + 2;
-        if self.history.reserve(spare).is_err() {
-            return Err(OutOfMemory);
-        }
-        if self.waits.reserve(1).is_err() {
-            return Err(OutOfMemory);
-        }
-        let reply = self.store.apply_alone(alloc, step)?;
-        self.history.push(seat, step, &reply);
-        keep_wait(&mut self.waits, &reply, Wait { seat, place });
-        Ok(reply)
+        self.ledger.begin(alloc, seat, step, place)
     }
 
     // Takes the report for which the seat waits, if it is there, or counts an idle turn. It takes no
@@ -140,17 +106,7 @@ impl Desk {
             (entry seat (steps.Event place.guest place.handle) reply) (without seat self.old.waits))) }
         ensures legal { IsLegal self.new.limits self.new.log }
     {
-        let Some(reply) = self.store.take_report(place) else {
-            self.idle += 1;
-            return None;
-        };
-        let step = Step::Event {
-            guest: place.guest,
-            handle: place.handle,
-        };
-        self.history.push(seat, &step, &reply);
-        drop_waits(&mut self.waits, seat);
-        Some(reply)
+        self.ledger.deliver(seat, place)
     }
 
     // Moves an end, and enters that. Where it is refused since the end has an operation, it counts an
@@ -169,17 +125,7 @@ impl Desk {
         ensures legal { IsLegal self.new.limits self.new.log }
         ensures err { OnErr result (self.new ≡ self.old) }
     {
-        let spare = self.waits.len() + 1;
-        if self.history.reserve(spare).is_err() {
-            return Err(OutOfMemory);
-        }
-        let reply = self.store.apply_alone(alloc, step)?;
-        if is_refused_busy(&reply) {
-            self.idle += 1;
-            return Ok(None);
-        }
-        self.history.push(seat, step, &reply);
-        Ok(Some(reply))
+        self.ledger.shift(alloc, seat, step)
     }
 
     // Counts a turn that makes no entry.
@@ -188,7 +134,7 @@ impl Desk {
         ensures idle { self.new ≡ idled self.old }
         ensures legal { IsLegal self.new.limits self.new.log }
     {
-        self.idle += 1;
+        self.ledger.pass_idle();
     }
 
     // The store and the history.
@@ -196,13 +142,6 @@ impl Desk {
         ensures legal { IsLegal self.limits self.log }
         ensures parts { (result.0 ≡ state_of self.limits self.log) × (result.1.items ≡ self.log) }
     {
-        let Desk {
-            limits: _,
-            store,
-            history,
-            idle: _,
-            waits: _,
-        } = self;
-        (store.into_store(), history)
+        Box::into_inner(self.ledger).into_parts()
     }
 }

@@ -2,9 +2,6 @@
 //!
 //! Meaning: `Histories.antt` and `Waits.antt`. Ours.
 
-ghost use Rattle.std.specs.Prelude.{◌≡◌};
-ghost use Rattle.strm_shared.specs.Histories.{entry};
-
 use strm_machine::replies::Reply;
 use strm_machine::steps::Step;
 
@@ -15,19 +12,6 @@ pub struct Entry {
     pub seat: u64,
     pub step: Step,
     pub reply: Reply,
-}
-
-impl Entry {
-    // The entry of a call.
-    pub(crate) fn new(seat: u64, step: &Step, reply: &Reply) -> Entry
-        ensures { result ≡ entry seat step.now reply.now }
-    {
-        Entry {
-            seat,
-            step: *step,
-            reply: *reply,
-        }
-    }
 }
 
 /// A handle of a guest.

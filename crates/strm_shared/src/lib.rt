@@ -10,11 +10,14 @@
 #![tactic(auto)]
 
 mod bell;
+mod blocks;
 mod desk;
 mod entry;
 mod errors;
 mod history;
+mod ledger;
 mod lone_store;
+mod rows;
 mod rule;
 mod seat;
 mod steps;

@@ -1,4 +1,4 @@
-//! A store without host ends, in a box: so a turn moves few bytes.
+//! A store without host ends.
 //!
 //! Meaning: `Reaching.antt`; each call is a step of `strm_machine` alone. Ours.
 
@@ -26,7 +26,7 @@ use strm_transmit::store::Store;
 /// A store without host ends.
 #[derive(Drop)]
 pub struct LoneStore {
-    store: Box<Store>,
+    store: Store,
 }
 
 impl Model for LoneStore {
@@ -39,17 +39,16 @@ impl Model for LoneStore {
 
     ghost coded = { Prim.hlevel (codes, sets_code, contexts_code) };
 
-    ghost view = { λ s. s.store.value };
+    ghost view = { λ s. s.store };
 }
 
 impl LoneStore {
     // A store without guests.
-    pub(crate) fn new(alloc: Global, limits: Limits) -> Result<LoneStore, OutOfMemory>
-        ensures { IfOk result (λ made. made ≡ empty 0 limits) }
+    pub(crate) fn new(alloc: Global, limits: Limits) -> LoneStore
+        ensures { result ≡ empty 0 limits }
     {
-        match Box::new(alloc, Store::new(alloc, 0, limits)) {
-            Ok(store) => Ok(LoneStore { store }),
-            Err(_) => Err(OutOfMemory),
+        LoneStore {
+            store: Store::new(alloc, 0, limits),
         }
     }
 
@@ -83,7 +82,7 @@ impl LoneStore {
     pub(crate) fn into_store(self) -> Store
         ensures { result ≡ self }
     {
-        Box::into_inner(self.store)
+        self.store
     }
 }
 

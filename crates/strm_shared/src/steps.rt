@@ -83,6 +83,8 @@ pub(crate) fn is_host_step(step: &Step) -> bool
             | Step::Close { .. }
             | Step::HostNew { .. }
             | Step::Feed { .. }
+            | Step::Pipe { .. }
+            | Step::Grant { .. }
             | Step::Drive
     )
 }

@@ -36,10 +36,16 @@ fn reply_of(store: &mut Store, hosts: &mut Hosts, step: &Step) -> Option<Reply> 
     }
 }
 
-fn are_replies(store: &mut Store, hosts: &mut Hosts, entries: &[Entry]) -> bool {
+fn is_reply(store: &mut Store, hosts: &mut Hosts, entry: &Entry) -> bool {
+    reply_of(store, hosts, &entry.step) == Some(entry.reply)
+}
+
+fn are_replies(store: &mut Store, hosts: &mut Hosts, history: &History) -> bool {
     let mut right = true;
-    for entry in entries {
-        right = right && reply_of(store, hosts, &entry.step) == Some(entry.reply);
+    for k in 0..history.len() {
+        if let Some(entry) = history.get(k) {
+            right = right && is_reply(store, hosts, &entry);
+        }
     }
     right
 }
@@ -51,7 +57,7 @@ pub(crate) fn is_replayed(alloc: Global, history: &History) -> bool {
         writers: Vec::new(alloc),
         readers: Vec::new(alloc),
     };
-    are_replies(&mut store, &mut hosts, history.as_slice())
+    are_replies(&mut store, &mut hosts, history)
 }
 
 /// The history that a store ends with.

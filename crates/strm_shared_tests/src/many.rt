@@ -10,27 +10,29 @@ use std::alloc::Global;
 use std::sync::Wait;
 use std::thread::{Threads, join};
 use strm_machine::steps::Step;
-use strm_shared::{Entry, Seat, SharedStore};
+use strm_shared::{History, Seat, SharedStore};
 
 // So many reads and as many writes that wait for one another.
 const PASSES: u32 = 2_000;
 
 // What a history says that a seat was replied.
-fn tally_of(entries: &[Entry], seat: u64) -> u64 {
+fn tally_of(history: &History, seat: u64) -> u64 {
     let mut sum = 0u64;
-    for entry in entries {
-        if entry.seat == seat {
-            sum = tallied(sum, &entry.reply);
+    for k in 0..history.len() {
+        if let Some(entry) = history.get(k) {
+            if entry.seat == seat {
+                sum = tallied(sum, &entry.reply);
+            }
         }
     }
     sum
 }
 
 // What it says that the seats from 1 to 4 were replied.
-fn tallies_of(entries: &[Entry]) -> u64 {
+fn tallies_of(history: &History) -> u64 {
     let mut sum = 0u64;
     for seat in 1..5u64 {
-        sum = sum.wrapping_add(tally_of(entries, seat));
+        sum = sum.wrapping_add(tally_of(history, seat));
     }
     sum
 }
@@ -61,7 +63,7 @@ fn is_one_history<R: Threads + Wait + Sync>(rt: &R, alloc: Global) -> bool {
     };
     let sum = four(rt, alloc, &store, team, Job::Work, 0);
     match history(rt, store, seat) {
-        Some(history) => is_replayed(alloc, &history) && tallies_of(history.as_slice()) == sum,
+        Some(history) => is_replayed(alloc, &history) && tallies_of(&history) == sum,
         None => false,
     }
 }

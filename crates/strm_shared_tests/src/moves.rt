@@ -14,7 +14,7 @@ use std::sync::atomic::{AtomicBool, Ordering};
 use std::thread::{Threads, join};
 use strm_machine::replies::Reply;
 use strm_machine::steps::Step;
-use strm_shared::{Entry, Seat, SharedStore};
+use strm_shared::{History, Seat, SharedStore};
 
 const MOVE: Step = Step::Move {
     guest: 0,
@@ -108,12 +108,14 @@ fn are_done<R: Threads + Wait + Sync>(
 }
 
 // Whether the event of the seat 1 stands before the one move.
-fn is_told_first(entries: &[Entry]) -> bool {
+fn is_told_first(history: &History) -> bool {
     let mut told = false;
     let mut right = false;
-    for entry in entries {
-        told = told || (entry.seat == 1 && matches!(entry.step, Step::Event { .. }));
-        right = right || (told && matches!(entry.step, Step::Move { .. }));
+    for k in 0..history.len() {
+        if let Some(entry) = history.get(k) {
+            told = told || (entry.seat == 1 && matches!(entry.step, Step::Event { .. }));
+            right = right || (told && matches!(entry.step, Step::Move { .. }));
+        }
     }
     right
 }
@@ -124,9 +126,7 @@ fn is_shifted_last<R: Threads + Wait + Sync>(rt: &R, alloc: Global) -> bool {
     };
     let done = are_done(rt, alloc, &store, &mut seat);
     match history(rt, store, seat) {
-        Some(history) => {
-            done && is_replayed(alloc, &history) && is_told_first(history.as_slice())
-        }
+        Some(history) => { done && is_replayed(alloc, &history) && is_told_first(&history) }
         None => false,
     }
 }

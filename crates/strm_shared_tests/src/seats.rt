@@ -11,7 +11,7 @@ use strm_codes::codes::ReturnCode;
 use strm_codes::refusals::Refusal;
 use strm_machine::replies::{Pair, Reply};
 use strm_machine::steps::Step;
-use strm_shared::{Entry, Seat, SharedError, SharedStore};
+use strm_shared::{Entry, History, Seat, SharedError, SharedStore};
 
 // By which call a step is done.
 #[derive(Clone, Copy)]
@@ -59,12 +59,16 @@ fn are_answers<R: Wait>(
 }
 
 // Whether the entries are by these seats, in this order.
-fn are_by(entries: &[Entry], seats: &[u64]) -> bool {
-    let mut right = entries.len() == seats.len();
-    for (entry, seat) in entries.iter().zip(seats) {
-        right = right && entry.seat == *seat;
+fn are_by(history: &History, seats: &[u64]) -> bool {
+    let mut right = history.len() == seats.len();
+    for (k, seat) in seats.iter().enumerate() {
+        right = right && is_by(history.get(k), *seat);
     }
     right
+}
+
+fn is_by(entry: Option<Entry>, seat: u64) -> bool {
+    matches!(entry, Some(found) if found.seat == seat)
 }
 
 // A store of so many streams answers these rows, and its history is then by these seats.
@@ -85,7 +89,7 @@ fn answers<R: Wait>(
     };
     let right = are_answers(rt, alloc, &store, &mut seat, rows);
     match history(rt, store, seat) {
-        Some(history) => right && is_replayed(alloc, &history) && are_by(history.as_slice(), seats),
+        Some(history) => right && is_replayed(alloc, &history) && are_by(&history, seats),
         None => false,
     }
 }
@@ -185,9 +189,7 @@ fn joins<R: Wait>(rt: &R, alloc: Global) -> bool {
     calls(rt, alloc, &store, &mut seat, &GUEST, 1);
     match history(rt, store, seat) {
         Some(history) => {
-            numbers == (0, 1)
-                && is_replayed(alloc, &history)
-                && are_by(history.as_slice(), &[1, 1, 0])
+            numbers == (0, 1) && is_replayed(alloc, &history) && are_by(&history, &[1, 1, 0])
         }
         None => false,
     }

@@ -13,7 +13,7 @@ use strm_machine::steps::Step;
 use strm_shared::{Seat, SharedStore};
 
 /// So many calls by each thread that works.
-pub(crate) const CALLS: u32 = 20_000;
+pub(crate) const CALLS: u32 = 100_000;
 
 /// What a thread does, by its number in the team.
 #[derive(Clone, Copy)]

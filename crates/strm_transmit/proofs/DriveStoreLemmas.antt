@@ -1,8 +1,11 @@
 -- A drive round in a store: what is due of a stream, and the round as it passes from one served stream
 -- to the next.
 use Rattle.std.proofs.Common.{◌≡◌, ℕ, ◌+◌, ◌-◌, ◌<◌, ◌≤◌, Bool, true, false, cond, length, Option, Some, None, Result, Ok, Err, refl, sym, ap, subst, ◌∙◌, arith}
+use Rattle.std.specs.Prelude.{not, ◌&&◌}
 use Rattle.strm_buffers.specs.Tells.{Tells}
-use Rattle.strm_machine.specs.State.{State, producer_at, stream_at, is_host}
+use Rattle.strm_machine.specs.State.{State, stream_at, is_host}
+use Rattle.strm_machine.specs.Hosting.{duty_of}
+use Rattle.strm_machine.specs.Sides.{opposite, end_of}
 use Rattle.strm_machine.specs.declared.acts.Act.TheVariants.{Drive}
 use Rattle.strm_machine.specs.declared.replies.Reply.{Reply}
 use Rattle.strm_machine.specs.declared.replies.Reply.TheVariants as replies
@@ -10,26 +13,29 @@ use Rattle.strm_machine.specs.declared.streams.Duty.TheVariants.{Serves}
 use Rattle.strm_machine.specs.declared.streams.Operation.{Operation}
 use Rattle.strm_machine.specs.declared.streams.Owner.{Owner}
 use Rattle.strm_machine.specs.declared.streams.Owner.TheVariants.{Held, Loose, Host, Gone}
+use Rattle.strm_machine.specs.declared.streams.Side.{Side}
+use Rattle.strm_machine.specs.declared.streams.Side.TheVariants.{Writing, Reading}
+use Rattle.strm_machine.specs.declared.streams.Stream.{Stream}
+use Rattle.strm_machine.proofs.HostLemmas.{host_number}
 use Rattle.strm_world.specs.World.{World, stream_in}
 use Rattle.strm_world.specs.Outcomes.{done}
-use Rattle.strm_world.specs.Producing.{producer_turn}
 use Rattle.strm_world.specs.Driving.{drive_turn, driven, round_of}
 use Rattle.strm_world.specs.Steps.{performs_in, outcome}
 use Rattle.strm_world.specs.Does.{Logs, world_of, Answered, Fits, Does}
 use Rattle.strm_world.proofs.DoesLemmas.{Does-untold, Does-as}
 use Rattle.strm_world.proofs.OutcomeLemmas.{outcome-performs, refusal_in-drive}
-use Rattle.strm_world.proofs.DriveLemmas.{IsDue, drive_turn-alone, drive_turn-due, waits_open, drive_turn-idle, drives_first, EndsDone, Does-drives_alone, Does-drives_one, Does-drives_stop}
+use Rattle.strm_world.proofs.DriveLemmas.{drive_turn-alone, drive_turn-due, waits_open, drive_turn-idle, drive_turn-due_write, drive_turn-idle_write, drive_turn-piped, drives_first, EndsDone, Does-drives_alone, Does-drives_one, Does-drives_stop}
 use Rattle.strm_world.proofs.FitsLemmas.{are_alone}
 use Rattle.strm_transmit.specs.Meets.{replied}
 use Rattle.strm_transmit.specs.Hosted.{answered, IsStop, MeetsHosted}
 use Rattle.strm_transmit.specs.Inside.{AreServed}
-use Rattle.strm_transmit.specs.Turning.{due_in, IsNextServed}
+use Rattle.strm_transmit.specs.Turning.{turn_for, due_in, due_on, IsNextAmong, all_ends, NextServed}
 use Rattle.strm_transmit.specs.declared.errors.StoreError.{StoreError}
 use Rattle.strm_transmit.proofs.OperateLemmas.{Halts, hosted_polled, cause_of, stop_is}
 
 -- ## One stream
 
--- a host writer and the read that it has to serve, if there are both
+-- a host end and the operation that it has to serve, if there are both
 abbrev pub Due : Type 0
 Due = Option (ℕ × Operation)
 
@@ -41,78 +47,108 @@ abbrev number_due : ℕ → Due → ℕ
 number_due n None = n
 number_due n (Some due) = due.0
 
-abbrev read_due : Operation → Due → Operation
-read_due operation None = operation
-read_due operation (Some due) = due.1
+abbrev operation_due : Operation → Due → Operation
+operation_due operation None = operation
+operation_due operation (Some due) = due.1
 
--- what is due of stream s
-abbrev due_on : State → ℕ → Due
-due_on state s = due_in (stream_at state s).writer.owner (stream_at state s).reader.operation
-
--- what is due of an operation that is open
-record OpenDue (b : Bool) (n m : ℕ) (operation read : Operation) : Type 0 where
-  pub is_open : b ≡ true
+-- what is due of an operation that is open, and whose own end is no host end's
+record OpenDue (host is_open : Bool) (n m : ℕ) (operation due : Operation) : Type 0 where
+  pub unhosted : host ≡ false
+  pub is_one : is_open ≡ true
   pub number : n ≡ m
-  pub same : operation ≡ read
+  pub same : operation ≡ due
 
-open_due : (b : Bool) (n m : ℕ) (operation read : Operation) → ◌≡◌ {A = Due} (cond {A = Due} b (Some (n, operation)) None) (Some (m, read)) → OpenDue b n m operation read
-open_due true n m operation read e = record { is_open = refl; number = ap (number_due n) e; same = ap (read_due operation) e }
-open_due false n m operation read e = let no : false ≡ true = ap is_due e in cc
+open_due : (host is_open : Bool) (n m : ℕ) (operation due : Operation) → ◌≡◌ {A = Due} (cond {A = Due} (not host && is_open) (Some (n, operation)) None) (Some (m, due)) → OpenDue host is_open n m operation due
+open_due false true n m operation due e = record { unhosted = refl; is_one = refl; number = ap (number_due n) e; same = ap (operation_due operation) e }
+open_due false false n m operation due e = let no : false ≡ true = ap is_due e in cc
+open_due true is_open n m operation due e = let no : false ≡ true = ap is_due e in cc
 
-none_due : (b : Bool) (n : ℕ) (operation : Operation) → ◌≡◌ {A = Due} (cond {A = Due} b (Some (n, operation)) None) None → b ≡ false
-none_due true n operation e = let no : true ≡ false = ap is_due e in cc
-none_due false n operation e = refl
+none_due : (host is_open : Bool) (n : ℕ) (operation : Operation) → ◌≡◌ {A = Due} (cond {A = Due} (not host && is_open) (Some (n, operation)) None) None → host ≡ false → is_open ≡ false
+none_due false true n operation e h = let no : true ≡ false = ap is_due e in cc
+none_due false false n operation e h = refl
+none_due true is_open n operation e h = cc
 
-due_by : (world : World) (s n : ℕ) (read : Operation) (owner : Owner) (o : Option Operation) → (stream_in world s).writer.owner ≡ owner → (stream_in world s).reader.operation ≡ o → ◌≡◌ {A = Due} (due_in owner o) (Some (n, read)) → IsDue world s n read
-due_by world s n read (Host m) (Some operation) e f d =
-    let k = open_due operation.is_open m n operation read d in
+-- a stream of which something is due on a side
+record IsDueOn (stream : Stream) (side : Side) (n : ℕ) (operation : Operation) : Type 0 where
+  pub owner : (end_of (opposite side) stream).owner ≡ Host n
+  pub unhosted : is_host (end_of side stream).owner ≡ false
+  pub operation_is : (end_of side stream).operation ≡ Some operation
+  pub is_open : operation.is_open ≡ true
+
+due_by : (stream : Stream) (side : Side) (n : ℕ) (due : Operation) (across : Owner) (o : Option Operation) → (end_of (opposite side) stream).owner ≡ across → (end_of side stream).operation ≡ o → ◌≡◌ {A = Due} (due_in across (end_of side stream).owner o) (Some (n, due)) → IsDueOn stream side n due
+due_by stream side n due (Host m) (Some operation) e f d =
+    let k = open_due (is_host (end_of side stream).owner) operation.is_open m n operation due d in
     record {
       owner = e ∙ ap Host k.number;
-      read_is = f ∙ ap Some k.same;
-      is_open = ap (λ (x : Operation). x.is_open) (sym k.same) ∙ k.is_open;
+      unhosted = k.unhosted;
+      operation_is = f ∙ ap Some k.same;
+      is_open = ap (λ (x : Operation). x.is_open) (sym k.same) ∙ k.is_one;
     }
-due_by world s n read (Host m) None e f d = let no : false ≡ true = ap is_due d in cc
-due_by world s n read (Held g h) o e f d = let no : false ≡ true = ap is_due d in cc
-due_by world s n read Loose o e f d = let no : false ≡ true = ap is_due d in cc
-due_by world s n read Gone o e f d = let no : false ≡ true = ap is_due d in cc
+due_by stream side n due (Host m) None e f d = let no : false ≡ true = ap is_due d in cc
+due_by stream side n due (Held g h) o e f d = let no : false ≡ true = ap is_due d in cc
+due_by stream side n due Loose o e f d = let no : false ≡ true = ap is_due d in cc
+due_by stream side n due Gone o e f d = let no : false ≡ true = ap is_due d in cc
 
-pub due-turn : (state : State) (tells : Tells) (s n : ℕ) (read : Operation) → ◌≡◌ {A = Due} (due_on state s) (Some (n, read)) → (logs : Logs) → drive_turn (world_of state tells logs) s ≡ producer_turn (world_of state tells logs) s n read
-due-turn state tells s n read d logs =
-    drive_turn-due (world_of state tells logs) s n read
-    (due_by (world_of state tells logs) s n read (stream_at state s).writer.owner (stream_at state s).reader.operation refl refl d)
+-- what is due of stream s on a side is the turn of that stream
+pub due-turn : (side : Side) (state : State) (tells : Tells) (s n : ℕ) (operation : Operation) → ◌≡◌ {A = Due} (due_on side (stream_at state s)) (Some (n, operation)) → (logs : Logs) → drive_turn (world_of state tells logs) s ≡ turn_for side s n operation (world_of state tells logs)
+due-turn Reading state tells s n read d logs =
+    let stream = stream_at state s in
+    let k = due_by stream Reading n read stream.writer.owner stream.reader.operation refl refl d in
+    drive_turn-due (world_of state tells logs) s n read (record { owner = k.owner; unpiped = k.unhosted; read_is = k.operation_is; is_open = k.is_open })
+due-turn Writing state tells s r write d logs =
+    let stream = stream_at state s in
+    let k = due_by stream Writing r write stream.reader.owner stream.writer.operation refl refl d in
+    drive_turn-due_write (world_of state tells logs) s r write (record { owner = k.owner; unhosted = k.unhosted; write_is = k.operation_is; is_open = k.is_open })
 
-idle_by : (world : World) (s : ℕ) (owner : Owner) (o : Option Operation) → (stream_in world s).writer.owner ≡ owner → (stream_in world s).reader.operation ≡ o → ◌≡◌ {A = Due} (due_in owner o) None → drive_turn world s ≡ done world
-idle_by world s (Host m) (Some operation) e f d = drive_turn-idle world s (ap waits_open f ∙ none_due operation.is_open m operation d)
-idle_by world s (Host m) None e f d = drive_turn-idle world s (ap waits_open f)
-idle_by world s (Held g h) o e f d = drive_turn-alone world s (ap is_host e)
-idle_by world s Loose o e f d = drive_turn-alone world s (ap is_host e)
-idle_by world s Gone o e f d = drive_turn-alone world s (ap is_host e)
+-- where nothing is due of an operation whose own end is no host end's, it is not open
+waits_not : (n : ℕ) (mine : Owner) (o : Option Operation) → ◌≡◌ {A = Due} (due_in (Host n) mine o) None → is_host mine ≡ false → waits_open o ≡ false
+waits_not n mine None d u = refl
+waits_not n mine (Some operation) d u = none_due (is_host mine) operation.is_open n operation d u
 
-pub idle-turn : (state : State) (tells : Tells) (s : ℕ) → ◌≡◌ {A = Due} (due_on state s) None → Does state state tells tells (Ok replies.Done) (λ w. drive_turn w s)
-idle-turn state tells s d =
+module _ (world : World) (s : ℕ) where
+  abbrev stream : Stream
+  stream = stream_in world s
+
+  idle_by : (x y : Bool) → is_host stream.writer.owner ≡ x → is_host stream.reader.owner ≡ y → ◌≡◌ {A = Due} (due_on Reading stream) None → ◌≡◌ {A = Due} (due_on Writing stream) None → drive_turn world s ≡ done world
+  idle_by true true e f a b =
+      let w = host_number stream.writer.owner e in
+      let r = host_number stream.reader.owner f in
+      drive_turn-piped world s w.0 r.0 w.1 r.1
+  idle_by true false e f a b =
+      let w = host_number stream.writer.owner e in
+      let due = subst (λ o. ◌≡◌ {A = Due} (due_in o stream.reader.owner stream.reader.operation) None) w.1 a in
+      drive_turn-idle world s (waits_not w.0 stream.reader.owner stream.reader.operation due f) f
+  idle_by false true e f a b =
+      let r = host_number stream.reader.owner f in
+      let due = subst (λ o. ◌≡◌ {A = Due} (due_in o stream.writer.owner stream.writer.operation) None) r.1 b in
+      drive_turn-idle_write world s r.0 r.1 e (waits_not r.0 stream.writer.owner stream.writer.operation due e)
+  idle_by false false e f a b = drive_turn-alone world s (record { writer = e; reader = f })
+
+pub idle-turn : (state : State) (tells : Tells) (s : ℕ) → ◌≡◌ {A = Due} (due_on Reading (stream_at state s)) None → ◌≡◌ {A = Due} (due_on Writing (stream_at state s)) None → Does state state tells tells (Ok replies.Done) (λ w. drive_turn w s)
+idle-turn state tells s a b =
     Does-untold state state tells (Ok replies.Done) (λ w. drive_turn w s)
-    (λ logs. idle_by (world_of state tells logs) s (stream_at state s).writer.owner (stream_at state s).reader.operation refl refl d) tt
+    (λ logs. idle_by (world_of state tells logs) s (is_host (stream_at state s).writer.owner) (is_host (stream_at state s).reader.owner) refl refl a b) tt
 
 -- ## The round
 
-module _ (old now : State) (tells told : Tells) (h : AreServed now.producers now.streams) (next : ℕ) (d : Does old now tells told (Ok replies.Done) (drives_first next)) where
+module _ (old now : State) (tells told : Tells) (h : AreServed now.producers now.consumers now.streams) (next : ℕ) (d : Does old now tells told (Ok replies.Done) (drives_first next)) where
   -- the streams before the next one that is served
-  passed : (s : ℕ) → next ≤ s → ((n k : ℕ) → (producer_at now n).duty ≡ Serves k → next ≤ k → k < s → ⊥) → Does old now tells told (Ok replies.Done) (drives_first s)
+  passed : (s : ℕ) → next ≤ s → ((side : Side) (n k : ℕ) → duty_of side now n ≡ Serves k → next ≤ k → k < s → ⊥) → Does old now tells told (Ok replies.Done) (drives_first s)
   passed s l none =
       let sum : next + (s - next) ≡ s = omega (arith, l) in
       subst (λ k. Does old now tells told (Ok replies.Done) (drives_first k)) sum
       (Does-drives_alone old now tells told next (s - next) d
-      (λ logs. are_alone now told logs next (s - next) h.serves (λ n t e a b. none n t e a (omega (arith, b, sum)))))
+      (λ logs. are_alone now told logs next (s - next) h.serves (λ side n t e a b. none side n t e a (omega (arith, b, sum)))))
 
   -- a stream more
-  pub drive_on : (new : State) (after : Tells) (s : ℕ) (result : Answered) → IsNextServed now.producers next s → EndsDone result → Does now new told after result (λ w. drive_turn w s) → Does old new tells after result (drives_first (s + 1))
+  pub drive_on : (new : State) (after : Tells) (s : ℕ) (result : Answered) → IsNextAmong now all_ends next s → EndsDone result → Does now new told after result (λ w. drive_turn w s) → Does old new tells after result (drives_first (s + 1))
   drive_on new after s result served e t =
       Does-drives_one old now new tells told after s result e
-      (passed s served.behind (λ n k f a b. let far = served.least n k f a in omega (arith, far, b))) t
+      (passed s served.behind (λ side n k f a b. let far = served.least side n k tt f a in omega (arith, far, b))) t
 
   -- the rest of the round, of which no stream is served
-  pub drive_end : (total : ℕ) → next ≤ total → ((n k : ℕ) → (producer_at now n).duty ≡ Serves k → next ≤ k → ⊥) → Does old now tells told (Ok replies.Done) (drives_first total)
-  drive_end total l none = passed total l (λ n k f a b. none n k f a)
+  pub drive_end : (total : ℕ) → next ≤ total → NextServed now next None → Does old now tells told (Ok replies.Done) (drives_first total)
+  drive_end total l none = passed total l (λ side n k f a b. none side n k tt f a)
 
 -- an error of a turn stops the round
 pub ends_stop : (error : StoreError) → IsStop error → EndsDone (answered (Err error))

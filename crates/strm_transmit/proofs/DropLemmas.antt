@@ -1,5 +1,5 @@
--- A call that drops an end: what the machine does without host ends, and then the host writer on the
--- other side goes.
+-- A call that drops an end: what the machine does without host ends, and then the host end on the other
+-- side goes.
 use Rattle.std.proofs.Common.{◌≡◌, ℕ, ◌<◌, Bool, true, false, cond, List, length, get_or, set, Ok, refl, sym, ap, subst, ◌∙◌}
 use Rattle.std.proofs.lemmas.List.{length-set, get_or-set_same}
 use Rattle.strm_buffers.specs.Tells.{Tells}
@@ -37,14 +37,17 @@ use Rattle.strm_transmit.proofs.ForsakeLemmas.{without_end}
 use Rattle.strm_transmit.proofs.FitsLemmas.{KeepsTypes, Fits-kept, reaction-types}
 use Rattle.strm_transmit.proofs.HostStepLemmas.{PerformsAs, does_admitted}
 
--- the write end of a stream of which the end on a side was dropped
-abbrev pub WriterAfter : Side → Stream → Stream → Type 0
-WriterAfter Writing before after = is_host after.writer.owner ≡ false
-WriterAfter Reading before after = after.writer.owner ≡ before.writer.owner
+-- the end on the other side of a stream of which the end on a side was dropped stays
+abbrev pub OtherStays : Side → Stream → Stream → Type 0
+OtherStays side before after = (end_of (opposite side) after).owner ≡ (end_of (opposite side) before).owner
 
-pub writer_after : (side : Side) (streams : List Stream) (s : ℕ) → s < length streams → WriterAfter side (get_or streams s no_stream) (get_or (set streams s (with_owner side (get_or streams s no_stream) Gone)) s no_stream)
-writer_after Writing streams s l = rw (get_or-set_same streams s (with_owner Writing (get_or streams s no_stream) Gone) no_stream l) refl
-writer_after Reading streams s l = rw (get_or-set_same streams s (with_owner Reading (get_or streams s no_stream) Gone) no_stream l) refl
+other_stays : (side : Side) (stream : Stream) → OtherStays side stream (with_owner side stream Gone)
+other_stays Writing stream = refl
+other_stays Reading stream = refl
+
+pub other_after : (side : Side) (streams : List Stream) (s : ℕ) → s < length streams → OtherStays side (get_or streams s no_stream) (get_or (set streams s (with_owner side (get_or streams s no_stream) Gone)) s no_stream)
+other_after side streams s l =
+    rw (get_or-set_same streams s (with_owner side (get_or streams s no_stream) Gone) no_stream l) (other_stays side (get_or streams s no_stream))
 
 goes_by : (b : Bool) (x y : World) → cond b (Goes replies.Done x) (Goes replies.Done y) ≡ Goes replies.Done (cond b x y)
 goes_by true x y = refl
@@ -53,7 +56,7 @@ goes_by false x y = refl
 -- a state that may be dropped from
 pub record IsReady (old : State) (tells : Tells) : Type 0 where
   pub sound : IsSound old
-  pub served : AreServed old.producers old.streams
+  pub served : AreServed old.producers old.consumers old.streams
   pub fits : Fits old tells
 
 -- a call that dropped the end on a side of stream s, without host ends
@@ -62,7 +65,7 @@ pub record Drops (old mid : State) (tells : Tells) (act : Act) (s : ℕ) (side :
   pub may : MayBeDone old tells act
   pub reaction : reaction old act ≡ goes replies.Done mid
   pub performs : PerformsAs old tells act (λ w. drops_in w s side act)
-  pub writer : WriterAfter side (stream_at old s) (stream_at mid s)
+  pub other : OtherStays side (stream_at old s) (stream_at mid s)
 
 module _ (old mid : State) (tells : Tells) (act : Act) (s : ℕ) (side : Side) (d : Drops old mid tells act s side) where
   types : KeepsTypes old mid
@@ -80,31 +83,28 @@ module _ (old mid : State) (tells : Tells) (act : Act) (s : ℕ) (side : Side) (
       ap (reacted (world_of old tells logs)) d.reaction
       ∙ ap (λ w. Goes replies.Done w) (world_of-state old mid tells logs types.producers)
 
-  -- the host writer goes after the end, by the stream as it is then
-  drops-side : (x : Side) → WriterAfter x (stream_at old s) (stream_at mid s) → (logs : Logs)
-      → cond (is_host (end_of (opposite x) (stream_at old s)).owner) (forsakes (Goes replies.Done (then_in logs)) s x) (Goes replies.Done (then_in logs)) ≡ Goes replies.Done (forsaken_in (then_in logs) s)
-  drops-side Writing w logs =
-      ap (λ b. cond b (forsakes (Goes replies.Done (then_in logs)) s Writing) (Goes replies.Done (then_in logs))) (d.ready.served.unpiped s)
-      ∙ ap (λ b. Goes replies.Done (cond b (with_stream_in (then_in logs) s (forsaken Reading (stream_at mid s))) (then_in logs))) (sym w)
-  drops-side Reading w logs =
-      ap (λ o. cond (is_host o) (forsakes (Goes replies.Done (then_in logs)) s Reading) (Goes replies.Done (then_in logs))) (sym w)
-      ∙ goes_by (is_host (stream_at mid s).writer.owner) (with_stream_in (then_in logs) s (forsaken Reading (stream_at mid s))) (then_in logs)
+  -- the host end goes after the end, by the stream as it is then
+  drops-side : (logs : Logs)
+      → cond (is_host (end_of (opposite side) (stream_at old s)).owner) (forsakes (Goes replies.Done (then_in logs)) s side) (Goes replies.Done (then_in logs)) ≡ Goes replies.Done (forsaken_in (then_in logs) s side)
+  drops-side logs =
+      ap (λ o. cond (is_host o) (forsakes (Goes replies.Done (then_in logs)) s side) (Goes replies.Done (then_in logs))) (sym d.other)
+      ∙ goes_by (is_host (end_of (opposite side) (stream_at mid s)).owner) (with_stream_in (then_in logs) s (forsaken side (stream_at mid s))) (then_in logs)
 
-  drops-is : PerformsAs old tells act (λ w. then_on (reacts w act) (λ v. done (forsaken_in v s)))
+  drops-is : PerformsAs old tells act (λ w. then_on (reacts w act) (λ v. done (forsaken_in v s side)))
   drops-is logs =
       d.performs logs
       ∙ ap (λ o. cond (is_host (end_of (opposite side) (stream_at old s)).owner) (forsakes o s side) o) (reacts-is logs)
-      ∙ drops-side side d.writer logs
-      ∙ sym (ap (λ o. then_on o (λ v. done (forsaken_in v s))) (reacts-is logs))
+      ∙ drops-side logs
+      ∙ sym (ap (λ o. then_on o (λ v. done (forsaken_in v s side))) (reacts-is logs))
 
   mid-does : Does old mid tells tells (Ok replies.Done) (λ w. reacts w act)
   mid-does = Does-untold old mid tells (Ok replies.Done) (λ w. reacts w act) reacts-is tt
 
-  pub drops-hosted : (new : State) (told : Tells) → Does mid new tells told (Ok replies.Done) (λ w. done (forsaken_in w s)) → Fits new told
+  pub drops-hosted : (new : State) (told : Tells) → Does mid new tells told (Ok replies.Done) (λ w. done (forsaken_in w s side)) → Fits new told
       → (touches (lone old) act ≡ false → new ≡ mid) → (touches (lone old) act ≡ false → told ≡ tells) → MeetsHosted old new tells told (Ok replies.Done) act
   drops-hosted new told f fits same untold = record {
-    does = does_admitted old new tells told act (Ok replies.Done) (λ w. then_on (reacts w act) (λ v. done (forsaken_in v s))) d.may drops-is
-        (Does-then old mid new tells tells told replies.Done (Ok replies.Done) (λ w. reacts w act) (λ v. done (forsaken_in v s)) mid-does f);
+    does = does_admitted old new tells told act (Ok replies.Done) (λ w. then_on (reacts w act) (λ v. done (forsaken_in v s side))) d.may drops-is
+        (Does-then old mid new tells tells told replies.Done (Ok replies.Done) (λ w. reacts w act) (λ v. done (forsaken_in v s side)) mid-does f);
     fits = fits;
     alone = λ u. record { meets = d.reaction ∙ ap (goes replies.Done) (sym (same u)); ends = untold u };
     err = tt;
@@ -134,7 +134,7 @@ module _ (old mid : State) (tells : Tells) where
     may = record { untrapped = a.untrapped; none = λ logs. refusal_in-on_end (world_of old tells logs) side end Drop ∙ a.none };
     reaction = reacts_to old (OnEnd side end Drop) (stream_named (named old end)) s (λ k. drops old k side end) a (performs-on_end old side end Drop) ∙ ap (goes replies.Done) (sym e);
     performs = λ logs. performs-drop (world_of old tells logs) side end s a.same;
-    writer = subst (λ (m : State). WriterAfter side (stream_at old s) (stream_at m s)) (sym e) (writer_after side old.streams s l);
+    other = subst (λ (m : State). OtherStays side (stream_at old s) (stream_at m s)) (sym e) (other_after side old.streams s l);
   }
 
   -- the loose read end of a stream was dropped
@@ -145,16 +145,15 @@ module _ (old mid : State) (tells : Tells) where
     may = record { untrapped = a.untrapped; none = λ logs. refusal_in-on_loose (world_of old tells logs) s Close ∙ a.none };
     reaction = reacts_to old (OnLoose s Close) tt tt (λ _. closes old s) a refl ∙ ap (goes replies.Done) (sym e);
     performs = λ logs. performs-close (world_of old tells logs) s;
-    writer = subst (λ (m : State). WriterAfter Reading (stream_at old s) (stream_at m s)) (sym e) (writer_after Reading old.streams s l);
+    other = subst (λ (m : State). OtherStays Reading (stream_at old s) (stream_at m s)) (sym e) (other_after Reading old.streams s l);
   }
 
-  -- where no host end is touched, none has the write end then
-  pub drops-end-alone : (side : Side) (end : NamedEnd) (s : ℕ) → Drops old mid tells (OnEnd side end Drop) s side → s ≡ stream_named (named old end) → touches (lone old) (OnEnd side end Drop) ≡ false → is_host (stream_at mid s).writer.owner ≡ false
-  drops-end-alone Writing end s d e u = d.writer
-  drops-end-alone Reading end s d e u = ap is_host d.writer ∙ ap (λ k. is_host (stream_at old k).writer.owner) e ∙ u
+  -- where no host end is touched, none has the other end then
+  pub drops-end-alone : (side : Side) (end : NamedEnd) (s : ℕ) → Drops old mid tells (OnEnd side end Drop) s side → s ≡ stream_named (named old end) → touches (lone old) (OnEnd side end Drop) ≡ false → is_host (end_of (opposite side) (stream_at mid s)).owner ≡ false
+  drops-end-alone side end s d e u = ap is_host d.other ∙ ap (λ k. is_host (end_of (opposite side) (stream_at old k)).owner) e ∙ u
 
   pub drops-loose-alone : (s : ℕ) → Drops old mid tells (OnLoose s Close) s Reading → touches (lone old) (OnLoose s Close) ≡ false → is_host (stream_at mid s).writer.owner ≡ false
-  drops-loose-alone s d u = ap is_host d.writer ∙ u
+  drops-loose-alone s d u = ap is_host d.other ∙ u
 
 -- a stream that is another one now was made
 pub still_made : (old mid : State) (s : ℕ) (stream : Stream) → mid ≡ with_stream_at old s stream → s < length old.streams → s < length mid.streams

@@ -63,6 +63,7 @@ IsStore-set old new s stream l keeps h i =
       tag = h.same.tag;
       limits = h.same.limits;
       producers = h.same.producers;
+      consumers = h.same.consumers;
       contexts = h.same.contexts;
       counter = h.counter;
       live_streams = h.live_streams;

@@ -137,7 +137,7 @@ meets-types old new (Err (HostFailed end)) r m k = absurd m
 meets-types old new (Err (HostBroke end)) r m k = absurd m
 meets-types old new (Err (BadItem stream)) r m k = subst (λ (x : Reaction). KeepsTypes old x.state) m.0 k
 meets-types old new (Err StoreTrapped) r m k = subst (λ (x : Reaction). KeepsTypes old x.state) m.0 k
-meets-types old new (Err OutOfMemory) r m k = same_streams old new (ap (λ (s : State). s.producers) m.1) (ap (λ (s : State). s.streams) m.1)
+meets-types old new (Err OutOfMemory) r m k = same_streams old new (ap (λ (s : State). s.producers) m.1) (ap (λ (s : State). s.consumers) m.1) (ap (λ (s : State). s.streams) m.1)
 
 -- an act that touches no host end polls none
 unpolled_by : (state : State) (touch : Touch) → touches_by state touch ≡ false → polls_by state touch ≡ false

@@ -1,44 +1,54 @@
--- A host writer that gets a stream, and one that is fed.
-use Rattle.std.proofs.Common.{◌≡◌, ℕ, ◌+◌, ◌<◌, Bool, true, false, List, [], ◌∷◌, ◌++◌, length, set, None, Result, Ok, Err, refl, sym, ap, subst, ◌∙◌, arith, length-append}
+-- A host writer that gets a stream or is fed, and a host reader that is granted items.
+use Rattle.std.proofs.Common.{◌≡◌, ℕ, ◌+◌, ◌<◌, Bool, true, false, List, [], ◌∷◌, ◌++◌, length, set, None, Result, Ok, Err, refl, sym, ap, subst, ◌∙◌, inl, inr, arith, length-append}
 use Rattle.std.specs.Prelude.{◌||◌, IfOk, OnOk, OnErr, count_by}
+use Rattle.std.proofs.lemmas.Bool.{cases_lt}
 use Rattle.std.proofs.lemmas.Bool.Decides.{nat_tests}
+use Rattle.strm_codes.specs.declared.codes.TransmitIndex.{TransmitIndex}
 use Rattle.strm_codes.specs.declared.refusals.Refusal.{Refusal}
 use Rattle.strm_codes.specs.declared.refusals.Refusal.TheVariants as refusals
-use Rattle.strm_buffers.specs.Tells.{Tells, told_by, with_told, fed}
-use Rattle.strm_machine.specs.State.{State, host_limit, stream_limit, no_stream, no_producer, producer_at, is_live, is_host, idle_end}
+use Rattle.strm_buffers.specs.Tells.{ReaderTells, Tells, no_reader_tells, told_by, with_told, told_by_reader, with_told_reader, fed, granted}
+use Rattle.strm_machine.specs.State.{State, host_limit, stream_limit, no_stream, no_producer, producer_at, consumer_at, is_live, is_host, idle_end}
 use Rattle.strm_machine.specs.Tests.{are_places_full, are_streams_full}
-use Rattle.strm_machine.specs.Refusals.{Reason, where_, first_of}
+use Rattle.strm_machine.specs.Refusals.{Reason, where_, first_of, reader_reasons}
 use Rattle.strm_machine.specs.declared.acts.Act.TheVariants.{OnHost}
 use Rattle.strm_machine.specs.declared.acts.HostAct.{HostAct}
-use Rattle.strm_machine.specs.declared.acts.HostAct.TheVariants.{New, Feed}
+use Rattle.strm_machine.specs.declared.acts.HostAct.TheVariants.{New, Feed, Pipe, Grant}
 use Rattle.strm_machine.specs.declared.replies.Reply.TheVariants as replies
 use Rattle.strm_machine.specs.declared.streams.Duty.{Duty}
 use Rattle.strm_machine.specs.declared.streams.Duty.TheVariants.{Unused, Serves, Ended}
 use Rattle.strm_machine.specs.declared.streams.Producer.{Producer}
+use Rattle.strm_world.specs.Ends.{Reader, no_reader}
 use Rattle.strm_world.specs.World.{World}
 use Rattle.strm_world.specs.Attaching.{hosts_new}
-use Rattle.strm_world.specs.HostRefusals.{is_unknown_host, is_used, refusal_in}
+use Rattle.strm_world.specs.HostRefusals.{is_unknown_host, is_used, type_read, refusal_in}
 use Rattle.strm_world.specs.Steps.{on_host, performs_in, outcome}
-use Rattle.strm_world.specs.Does.{Logs, world_of, FitsWriter, Fits, Does}
+use Rattle.strm_world.specs.Does.{Logs, readers_from, world_of, FitsWriter, FitsReader, Fits, Does}
 use Rattle.strm_world.proofs.DoesLemmas.{Does-untold}
 use Rattle.strm_world.proofs.WorldLemmas.{length-writers_from}
+use Rattle.strm_world.proofs.ReaderLemmas.{reader_at-from, length-readers_from}
+use Rattle.strm_world.proofs.PipeAttachLemmas.{Does-grant}
 use Rattle.strm_world.proofs.AttachLemmas.{hosted_by, hosted_in, Does-hosts_new, Does-feed}
 use Rattle.strm_transmit.specs.Meets.{admitted, replied, or_found}
 use Rattle.strm_transmit.specs.Hosted.{MayBeDone, MeetsHosted}
 use Rattle.strm_transmit.specs.declared.errors.StoreError.{StoreError}
 use Rattle.strm_transmit.specs.declared.errors.StoreError.TheVariants.{OutOfMemory}
-use Rattle.strm_transmit.proofs.ServedLemmas.{at_set, AreServed-hosted}
-use Rattle.strm_transmit.proofs.FitsLemmas.{AreMade, Fits-told}
+use Rattle.strm_transmit.proofs.ServedLemmas.{at_set, same_stream, same_host, serves_none, keeps_readers, writer_now, AreServed-hosted}
+use Rattle.strm_transmit.proofs.FitsLemmas.{AreMade, Fits-told, Fits-told_reader}
 use Rattle.strm_transmit.proofs.StepLemmas.{is_admitted}
 use Rattle.strm_transmit.proofs.HostStepLemmas.{does_admitted, Does-after, Fits-after, all_stays, unchanged}
 use Rattle.strm_transmit.proofs.StoreLemmas.{live_by, live_weight, kept_tables, IsStore-counted}
-use Rattle.std.proofs.lemmas.List.{map-append}
+use Rattle.std.proofs.lemmas.List.{get_or_past, map-append}
 use Rattle.std.proofs.lemmas.List.Elements.{All-push, All-weaker}
 use Rattle.std.proofs.lemmas.List.Sums.{sum_by_push}
-use Rattle.strm_machine.specs.Soundness.{sizes_of, handles_of, type_of, types_of, AreNamed, OperationIsPlaced, StreamIsPlaced, IsSound}
+use Rattle.strm_machine.specs.Soundness.{sizes_of, handles_of, type_with, type_of, types_of, AreNamed, OperationIsPlaced, StreamIsPlaced, IsSound}
+use Rattle.strm_machine.specs.Hosting.{duty_among}
+use Rattle.strm_machine.specs.Sides.{end_of}
 use Rattle.strm_machine.specs.declared.streams.End.{End}
+use Rattle.strm_machine.specs.declared.streams.Side.{Side}
+use Rattle.strm_machine.specs.declared.streams.Side.TheVariants.{Writing, Reading}
 use Rattle.strm_machine.specs.declared.streams.Owner.TheVariants.{Host, Loose}
 use Rattle.strm_machine.specs.declared.streams.Stream.{Stream}
+use Rattle.strm_machine.proofs.HostLemmas.{no_host}
 use Rattle.strm_machine.proofs.SoundLemmas.{AreNamed-more}
 use Rattle.strm_machine.proofs.TableLemmas.{at_push}
 use Rattle.strm_machine.proofs.TurnLemmas.{all_kept}
@@ -48,21 +58,52 @@ use Rattle.strm_transmit.specs.declared.store.Store.TheInside.{Inside}
 
 -- ## Refusals
 
--- why a call on host writer n is refused, of so many that there are
-abbrev pub reasons_of : State → ℕ → ℕ → HostAct → List Reason
-reasons_of state count n New =
-    where_ (is_unknown_host count n) refusals.UnknownHost
+-- why a call on host end n is refused, where so many host writers and so many host readers are there, and
+-- host reader n reads streams of this type
+abbrev pub reasons_among : State → ℕ → ℕ → TransmitIndex → ℕ → HostAct → List Reason
+reasons_among state writers readers ty n New =
+    where_ (is_unknown_host writers n) refusals.UnknownHost
     ∷ where_ (is_used (producer_at state n).duty) refusals.HostUsed
     ∷ where_ (are_places_full state 3 || are_streams_full state) refusals.Full
     ∷ []
-reasons_of state count n (Feed bytes) = where_ (is_unknown_host count n) refusals.UnknownHost ∷ []
+reasons_among state writers readers ty n (Feed bytes) = where_ (is_unknown_host writers n) refusals.UnknownHost ∷ []
+reasons_among state writers readers ty r (Pipe reader) =
+    where_ (is_unknown_host readers r) refusals.UnknownHost
+    ∷ where_ (is_used (consumer_at state r).duty) refusals.HostUsed
+    ∷ reader_reasons state reader ty
+reasons_among state writers readers ty r (Grant count) = where_ (is_unknown_host readers r) refusals.UnknownHost ∷ []
 
-pub host_refusal-is : (state : State) (tells : Tells) (n : ℕ) (act : HostAct) (logs : Logs) → refusal_in (world_of state tells logs) (OnHost n act) ≡ first_of (reasons_of state (length tells.writers) n act)
+-- the type of the streams that host reader r reads, as it tells
+abbrev pub type_told : Tells → ℕ → TransmitIndex
+type_told tells r = type_with (told_by_reader tells r).kind (told_by_reader tells r).payload
+
+-- the same by what host ends tell
+abbrev pub reasons_of : State → Tells → ℕ → HostAct → List Reason
+reasons_of state tells n act = reasons_among state (length tells.writers) (length tells.readers) (type_told tells n) n act
+
+world_refusal : (world : World) (n : ℕ) (act : HostAct) → refusal_in world (OnHost n act) ≡ first_of (reasons_among world.state (length world.writers) (length world.readers) (type_read world n) n act)
 unfolding refusal_in
-host_refusal-is state tells n New logs =
-    ap (λ count. first_of (reasons_of state count n New)) (length-writers_from state.producers tells.writers logs.writers)
-host_refusal-is state tells n (Feed bytes) logs =
-    ap (λ count. first_of (reasons_of state count n (Feed bytes))) (length-writers_from state.producers tells.writers logs.writers)
+world_refusal world n New = refl
+world_refusal world n (Feed bytes) = refl
+world_refusal world r (Pipe reader) = refl
+world_refusal world r (Grant count) = refl
+
+type_read-told : (state : State) (tells : Tells) (logs : Logs) (r : ℕ) → type_read (world_of state tells logs) r ≡ type_told tells r
+type_read-told state tells logs r =
+    elim (cases_lt r (length tells.readers)) [
+      | inl l ↦ ap (λ (x : Reader). type_with x.kind x.payload) (reader_at-from state tells logs r l)
+      | inr l ↦
+          ap (λ (x : Reader). type_with x.kind x.payload) (get_or_past (readers_from tells.readers logs.readers) r no_reader (rw (length-readers_from tells.readers logs.readers) l))
+          ∙ ap (λ (x : ReaderTells). type_with x.kind x.payload) (sym (get_or_past tells.readers r no_reader_tells l))
+    ]
+
+pub host_refusal-is : (state : State) (tells : Tells) (n : ℕ) (act : HostAct) (logs : Logs) → refusal_in (world_of state tells logs) (OnHost n act) ≡ first_of (reasons_of state tells n act)
+host_refusal-is state tells n act logs =
+    let world = world_of state tells logs in
+    world_refusal world n act
+    ∙ ap (λ count. first_of (reasons_among state count (length world.readers) (type_read world n) n act)) (length-writers_from state.producers tells.writers logs.writers)
+    ∙ ap (λ count. first_of (reasons_among state (length tells.writers) count (type_read world n) n act)) (length-readers_from tells.readers logs.readers)
+    ∙ ap (λ ty. first_of (reasons_among state (length tells.writers) (length tells.readers) ty n act)) (type_read-told state tells logs n)
 
 -- no records
 abbrev pub no_logs : Logs
@@ -81,18 +122,18 @@ module _ (state : State) (tells : Tells) (n : ℕ) (act : HostAct) (found : Resu
   }
 
 -- a first reason that doesn't hold
-record Passes (b : Bool) (rest : List Reason) : Type 0 where
+pub record Passes (b : Bool) (rest : List Reason) : Type 0 where
   pub test : b ≡ false
   pub behind : first_of rest ≡ None
 
-passes : (b : Bool) (q : Refusal) (rest : List Reason) → first_of (where_ b q ∷ rest) ≡ None → Passes b rest
+pub passes : (b : Bool) (q : Refusal) (rest : List Reason) → first_of (where_ b q ∷ rest) ≡ None → Passes b rest
 passes true q rest e = cc
 passes false q rest e = record { test = refl; behind = e }
 
-known_host : (count n : ℕ) → is_unknown_host count n ≡ false → (n < count) × (n < host_limit)
+pub known_host : (count n : ℕ) → is_unknown_host count n ≡ false → (n < count) × (n < host_limit)
 known_host count n e = (grind (arith, nat_tests), grind (arith, nat_tests))
 
-unused_is : (duty : Duty) → is_used duty ≡ false → duty ≡ Unused
+pub unused_is : (duty : Duty) → is_used duty ≡ false → duty ≡ Unused
 unused_is Unused e = refl
 unused_is (Serves s) e = cc
 unused_is Ended e = cc
@@ -133,28 +174,34 @@ performs-feed : (world : World) (n : ℕ) (bytes : List ℕ) → performs_in wor
 unfolding performs_in
 performs-feed world n bytes = refl
 
-hosted-fits : (old : State) (tells : Tells) (n : ℕ) → AreMade old → HostFits old tells n → n < length old.producers → Fits old tells → Fits (hosted_in old tells n) tells
-hosted-fits old tells n made h kept fits m s e =
-    at_push old.streams (hosted_by (told_by tells n) n) no_stream s (λ x. FitsWriter x tells m)
-    (λ last. subst (λ k. FitsWriter (hosted_by (told_by tells n) n) tells k) (sym (only last)) (record { there = h.there; kind = refl; payload = refl }))
-    (λ other. fits m s (before other))
-  where
-    serves_last : (k : ℕ) → Serves (length old.streams) ≡ Serves k → k ≡ length old.streams
-    serves_last k f = cc
+module _ (old : State) (tells : Tells) (n : ℕ) (made : AreMade old) (h : HostFits old tells n) (kept : n < length old.producers) (fits : Fits old tells) where
+  serves_last : (s k : ℕ) → Serves s ≡ Serves k → k ≡ s
+  serves_last s k f = cc
 
-    -- the one that serves the last stream
-    only : s ≡ length old.streams → m ≡ n
-    only last =
-        at_set old.producers n (record no_producer { duty = Serves (length old.streams) }) no_producer m (λ p. p.duty ≡ Serves s → m ≡ n) kept
-        (λ f g. f) (λ f g. absurd (past (made m s g) last)) e
-      where
-        past : s < length old.streams → s ≡ length old.streams → ⊥
-        past a b = omega (arith, a, b)
+  past : (s : ℕ) → s < length old.streams → s ≡ length old.streams → ⊥
+  past s a b = omega (arith, a, b)
 
-    before : (s ≡ length old.streams → ⊥) → (producer_at old m).duty ≡ Serves s
-    before other =
-        at_set old.producers n (record no_producer { duty = Serves (length old.streams) }) no_producer m (λ p. p.duty ≡ Serves s → (producer_at old m).duty ≡ Serves s) kept
-        (λ f g. absurd (other (serves_last s g))) (λ f g. g) e
+  -- the one that serves the last stream
+  only : (m s : ℕ) → (producer_at (hosted_in old tells n) m).duty ≡ Serves s → s ≡ length old.streams → m ≡ n
+  only m s e last =
+      at_set old.producers n (record no_producer { duty = Serves (length old.streams) }) no_producer m (λ p. p.duty ≡ Serves s → m ≡ n) kept
+      (λ f g. f) (λ f g. absurd (past s (made Writing m s g) last)) e
+
+  before : (m s : ℕ) → (producer_at (hosted_in old tells n) m).duty ≡ Serves s → (s ≡ length old.streams → ⊥) → (producer_at old m).duty ≡ Serves s
+  before m s e other =
+      at_set old.producers n (record no_producer { duty = Serves (length old.streams) }) no_producer m (λ p. p.duty ≡ Serves s → (producer_at old m).duty ≡ Serves s) kept
+      (λ f g. absurd (other (serves_last (length old.streams) s g))) (λ f g. g) e
+
+  hosted-fits : Fits (hosted_in old tells n) tells
+  hosted-fits = record {
+    writers = λ m s e.
+        at_push old.streams (hosted_by (told_by tells n) n) no_stream s (λ x. FitsWriter x tells m)
+        (λ last. subst (λ k. FitsWriter (hosted_by (told_by tells n) n) tells k) (sym (only m s e last)) (record { there = h.there; kind = refl; payload = refl }))
+        (λ other. fits.writers m s (before m s e other));
+    readers = λ r s e.
+        at_push old.streams (hosted_by (told_by tells n) n) no_stream s (λ x. FitsReader x tells r)
+        (λ last. absurd (past s (made Reading r s e) last)) (λ other. fits.readers r s e);
+  }
 
 -- want of memory that changed nothing
 pub hosted_wanting : (old new : State) (tells told : Tells) (n : ℕ) (act : HostAct) → MayBeDone old tells (OnHost n act) → Fits old tells → new ≡ old → told ≡ tells → MeetsHosted old new tells told (Err OutOfMemory) (OnHost n act)
@@ -166,7 +213,7 @@ hosted_wanting old new tells told n act may fits same untold =
 
 -- a stream may be made for host writer n, in a store that its host ends fit
 pub record MayHost (old : State) (tells : Tells) (n : ℕ) : Type 0 where
-  pub served : AreServed old.producers old.streams
+  pub served : AreServed old.producers old.consumers old.streams
   pub may : MayBeDone old tells (OnHost n New)
   pub fits : Fits old tells
 
@@ -207,6 +254,31 @@ hosted_feed state tells told n bytes may fits is =
       wanting = λ w. cc;
     }
 
+-- ## A host reader that is granted items
+
+performs-grant : (world : World) (r count : ℕ) → performs_in world (OnHost r (Grant count)) ≡ on_host world r (Grant count)
+unfolding performs_in
+performs-grant world r count = refl
+
+pub grant_fits : (state : State) (tells : Tells) (r count : ℕ) → MayBeDone state tells (OnHost r (Grant count)) → r < length tells.readers
+grant_fits state tells r count may =
+    let a = passes (is_unknown_host (length tells.readers) r) refusals.UnknownHost [] (sym (host_refusal-is state tells r (Grant count) no_logs) ∙ may.none no_logs) in
+    (known_host (length tells.readers) r a.test).0
+
+pub hosted_grant : (state : State) (tells told : Tells) (r count : ℕ) → MayBeDone state tells (OnHost r (Grant count)) → Fits state tells → told ≡ with_told_reader tells r (granted (told_by_reader tells r) count) → MeetsHosted state state tells told (Ok replies.Done) (OnHost r (Grant count))
+hosted_grant state tells told r count may fits is =
+    let after = with_told_reader tells r (granted (told_by_reader tells r) count) in
+    record {
+      does = Does-after refl is
+          (does_admitted state state tells after (OnHost r (Grant count)) (Ok replies.Done) (λ w. on_host w r (Grant count)) may
+          (λ logs. performs-grant (world_of state tells logs) r count) (Does-grant state tells r count (grant_fits state tells r count may)));
+      fits = Fits-after state state after told refl is
+          (Fits-told_reader state tells r (granted (told_by_reader tells r) count) (record { kind = refl; payload = refl }) fits);
+      alone = λ u. cc u;
+      err = tt;
+      wanting = λ w. cc;
+    }
+
 -- ## The store with a stream of a host writer more
 
 IsSound-hosted : (state : State) (stream : Stream) (ps : List Producer) → StreamIsPlaced (sizes_of state.guests) stream → IsSound state → IsSound (record state { streams = state.streams ++ stream ∷ []; producers = ps })
@@ -241,9 +313,29 @@ pub record HostsStream (old new : Inside) (n : ℕ) (stream : Stream) (p : Produ
   pub bytes : new.bytes ≡ old.bytes
   pub streams : new.streams.items ≡ old.streams.items ++ stream ∷ []
   pub producers : new.producers ≡ set old.producers n p
+  pub consumers : new.consumers ≡ old.consumers
 
 state_of-hosted : (old new : Inside) (n : ℕ) (stream : Stream) (p : Producer) → HostsStream old new n stream p → state_of new ≡ record (state_of old) { streams = old.streams.items ++ stream ∷ []; producers = set old.producers n p }
-state_of-hosted old new n stream p h = rw (h.tag, h.limits, h.contexts, h.trapped, h.guests, h.streams, h.producers) refl
+state_of-hosted old new n stream p h = rw (h.tag, h.limits, h.contexts, h.trapped, h.guests, h.streams, h.producers, h.consumers) refl
+
+-- an unused host writer that serves a stream more, which it writes
+record ServesMore (old : Inside) (n : ℕ) (stream : Stream) (p : Producer) : Type 0 where
+  pub kept : n < length old.producers
+  pub unused : (producer_at (state_of old) n).duty ≡ Unused
+  pub serves : p.duty ≡ Serves (length old.streams.items)
+  pub writer : stream.writer.owner ≡ Host n
+  pub reader : is_host stream.reader.owner ≡ false
+
+hosted_served : (old : Inside) (n : ℕ) (stream : Stream) (p : Producer) → ServesMore old n stream p
+    → AreServed old.producers old.consumers old.streams.items → AreServed (set old.producers n p) old.consumers (old.streams.items ++ stream ∷ [])
+hosted_served old n stream p m h =
+    let now = writer_now old.producers old.consumers n p m.kept in
+    AreServed-hosted old.producers (set old.producers n p) old.consumers old.consumers old.streams.items h Writing n (keeps_readers old.producers old.consumers n p) stream
+    all (λ t other. serves_none old.producers old.consumers old.streams.items h Writing n m.unused t) (λ t e. same_stream t (length old.streams.items) p.duty (sym now ∙ e) m.serves)
+  where
+    all : (side : Side) (k : ℕ) → (end_of side stream).owner ≡ Host k → duty_among side (set old.producers n p) old.consumers k ≡ Serves (length old.streams.items)
+    all Writing k o = rw (same_host k n stream.writer.owner o m.writer) (writer_now old.producers old.consumers n p m.kept ∙ m.serves)
+    all Reading k o = absurd (no_host stream.reader.owner k m.reader o)
 
 pub IsStore-hosted : (old new : Inside) (n : ℕ) (stream : Stream) (p : Producer) → HostsStream old new n stream p → IsStore old → IsStore new
 IsStore-hosted old new n stream p h i =
@@ -259,7 +351,7 @@ IsStore-hosted old new n stream p h i =
     (kept_tables old new (record { limits = h.limits; counter = h.counter; live_sets = h.live_sets; bytes = h.bytes; guests = rw h.guests (all_kept (seen old.guests.items)) }) i)
     (record {
       live = rw h.streams (omega (arith, h.live_streams, i.streams, live_pushed old.streams.items stream live));
-      served = rw (h.producers, h.streams) (AreServed-hosted old.producers old.streams.items i.served n p stream (omega (arith, i.served.all, h.kept)) h.unused h.serves writer reader);
+      served = rw (h.producers, h.consumers, h.streams) (hosted_served old n stream p (record { kept = omega (arith, i.served.all, h.kept); unused = h.unused; serves = h.serves; writer = writer; reader = reader }) i.served);
       few = rw h.streams (omega (arith, h.few, length-append old.streams.items (stream ∷ [])));
     })
     (subst IsSound (sym (state_of-hosted old new n stream p h)) (IsSound-hosted (state_of old) stream (set old.producers n p) idle i.sound)) i

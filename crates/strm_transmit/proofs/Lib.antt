@@ -11,11 +11,14 @@ pub mod DropLemmas
 pub mod EndingLemmas
 pub mod MoveLemmas
 pub mod SceneLemmas
+pub mod TakeLemmas
 pub mod SceneStoreLemmas
 pub mod ProduceLemmas
 pub mod DriveStoreLemmas
 pub mod HostingLemmas
+pub mod PipeStoreLemmas
 pub mod OperateLemmas
 pub mod SetLemmas
 pub mod ContextLemmas
 pub mod NextLemmas
+pub mod GuestLemmas

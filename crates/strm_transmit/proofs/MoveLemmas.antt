@@ -57,8 +57,10 @@ pub record FreesHandle (old new : Inside) (g handle : ℕ) : Type 0 where
 
 -- an owner that is no host end
 owned-comes : (side : Side) (stream : Stream) (owner : Owner) → is_host owner ≡ false → ComesNoHost stream (with_owner side stream owner)
-owned-comes Writing stream owner u = record { writer = λ n e. absurd (no_host owner n u e); reader = λ r. r }
-owned-comes Reading stream owner u = record { writer = λ n e. e; reader = λ r. u }
+owned-comes Writing stream owner u Writing n e = absurd (no_host owner n u e)
+owned-comes Writing stream owner u Reading n e = e
+owned-comes Reading stream owner u Writing n e = e
+owned-comes Reading stream owner u Reading n e = absurd (no_host owner n u e)
 
 module _ (old new : Inside) (s : ℕ) (side : Side) (owner : Owner) (l : s < length old.streams.items) (u : is_host owner ≡ false) (o : SetsOwner old new s side owner) (i : IsStore old) where
   -- the stream alone
@@ -66,8 +68,8 @@ module _ (old new : Inside) (s : ℕ) (side : Side) (owner : Owner) (l : s < len
   owned = rw o.streams (IsSound-set (state_of old) s side (record (end_of side (stream_at (state_of old) s)) { owner = owner }) l (Unchanged refl) i.sound)
 
   -- no host end came to the stream
-  served : AreServed new.producers new.streams.items
-  served = rw (o.same.producers, o.streams) (AreServed-set old.producers old.streams.items i.served s (with_owner side (stream_at (state_of old) s) owner) l (owned-comes side (stream_at (state_of old) s) owner u))
+  served : AreServed new.producers new.consumers new.streams.items
+  served = rw (o.same.producers, o.same.consumers, o.streams) (AreServed-set old.producers old.consumers old.streams.items i.served s (with_owner side (stream_at (state_of old) s) owner) l (owned-comes side (stream_at (state_of old) s) owner u))
 
   counts : CountsStreams new
   counts = record { live = o.counted; served = served; few = rw (o.streams, length-set old.streams.items s (with_owner side (stream_at (state_of old) s) owner)) i.few_streams }
@@ -139,7 +141,7 @@ moved_made state end to s e same h = named_made state (side_named (named state e
 -- the end of a stream went to a guest, under this handle
 module _ (old new : Inside) (s : ℕ) (side : Side) (end : NamedEnd) (to number : ℕ) (o : SetsOwner old new s side (Held to number)) (m : MovesHandle old new side end to s) (n : number ≡ next_in (without_handle (state_of old) end.guest end.handle) to) where
   pub transfers-is : transfers (state_of old) s side end to ≡ goes (replies.Number number) (state_of new)
-  transfers-is = rw (o.same.tag, o.same.limits, o.same.producers, o.same.contexts, o.same.trapped, m.guests, o.streams, n) refl
+  transfers-is = rw (o.same.tag, o.same.limits, o.same.producers, o.same.consumers, o.same.contexts, o.same.trapped, m.guests, o.streams, n) refl
 
   pub IsStore-moved : old.is_trapped ≡ false → refusal (state_of old) (Transfer end to) ≡ None → s ≡ stream_named (named (state_of old) end) → side ≡ side_named (named (state_of old) end) → IsStore old → IsStore new
   IsStore-moved t e stream_is side_is i =
@@ -171,7 +173,7 @@ lower_made state reader g ty e = loose_made state reader (lower_fits state reade
 -- a loose end came into a guest, under this handle
 module _ (old new : Inside) (s g : ℕ) (ty : TransmitIndex) (number : ℕ) (o : SetsOwner old new s Reading (Held g number)) (m : GivesHandle old new Reading ty g s) (n : number ≡ next_in (state_of old) g) where
   pub lowers-is : lowers (state_of old) s g ty ≡ goes (replies.Number number) (state_of new)
-  lowers-is = rw (o.same.tag, o.same.limits, o.same.producers, o.same.contexts, o.same.trapped, m.guests, o.streams, n) refl
+  lowers-is = rw (o.same.tag, o.same.limits, o.same.producers, o.same.consumers, o.same.contexts, o.same.trapped, m.guests, o.streams, n) refl
 
   pub IsStore-lowered : old.is_trapped ≡ false → refusal (state_of old) (OnLoose s (Lower g ty)) ≡ None → IsStore old → IsStore new
   IsStore-lowered t e i =

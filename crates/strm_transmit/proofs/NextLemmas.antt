@@ -1,106 +1,152 @@
--- The next stream that a host writer serves, after one host writer more was looked at; and whether all
--- host writers that were looked at are those that the store needs.
-use Rattle.std.proofs.Common.{◌≡◌, ℕ, ◌+◌, ◌<◌, ◌≤◌, ◌↔◌, Bool, true, false, cond, List, [], ◌∷◌, ◌++◌, length, get_or, take, Option, Some, None, refl, sym, ap, subst, ◌∙◌, ⊎_elim, arith}
+-- The next stream that a host end serves, after one host end more was looked at; and whether all host
+-- ends that were looked at are those that the store needs.
+use Rattle.std.proofs.Common.{◌≡◌, ◌⊎◌, ℕ, ◌+◌, ◌<◌, ◌≤◌, ◌↔◌, Bool, true, false, cond, length, Option, Some, None, refl, sym, subst, ◌∙◌, inl, inr, ⊎_elim, arith}
 use Rattle.std.specs.Prelude.{nat_le, IsTrue}
 use Rattle.std.proofs.lemmas.Bool.{cases_lt, true≢false}
 use Rattle.std.proofs.lemmas.Bool.Decides.{nat_tests}
-use Rattle.std.proofs.lemmas.List.{get_or_append_left, get_or_past, get_or_push, take_all, take_more}
 use Rattle.strm_codes.specs.Sameness.{same_payload}
 use Rattle.strm_codes.proofs.SamenessLemmas.{Decides-same_payload}
-use Rattle.strm_buffers.specs.Tells.{Tells, told_by}
-use Rattle.strm_machine.specs.State.{State, host_limit, no_producer}
+use Rattle.strm_buffers.specs.Tells.{Tells, told_by, told_by_reader}
+use Rattle.strm_machine.specs.State.{State, host_limit}
+use Rattle.strm_machine.specs.Hosting.{duty_of}
 use Rattle.strm_machine.specs.declared.streams.Duty.{Duty}
 use Rattle.strm_machine.specs.declared.streams.Duty.TheVariants.{Unused, Serves, Ended}
-use Rattle.strm_machine.specs.declared.streams.Producer.{Producer}
+use Rattle.strm_machine.specs.declared.streams.Side.{Side}
+use Rattle.strm_machine.specs.declared.streams.Side.TheVariants.{Writing, Reading}
 use Rattle.strm_machine.specs.declared.streams.Stream.{Stream}
 use Rattle.strm_machine.specs.Tests.{same_kind}
 use Rattle.strm_machine.proofs.RefusalLemmas.{same_kind_is}
-use Rattle.strm_machine.proofs.TableLemmas.{at_push}
-use Rattle.strm_world.specs.Does.{FitsWriter, Fits}
+use Rattle.strm_world.specs.Does.{FitsWriter, FitsReader, Fits}
 use Rattle.strm_transmit.specs.Hosted.{FitsAt}
 use Rattle.strm_transmit.specs.Inside.{AreServed}
-use Rattle.strm_transmit.specs.Turning.{least_of, next_of, IsNextServed, NextServed}
-use Rattle.strm_transmit.proofs.ServedLemmas.{serving_kept, same_stream, not_unused, ended_no}
+use Rattle.strm_transmit.specs.Turning.{least_of, next_of, IsNextAmong, NextAmong, NextServed}
+use Rattle.strm_transmit.proofs.ServedLemmas.{same_stream, not_unused, ended_no, duty_known}
 
 -- ## The next stream that is served
-
-pub next_none : (from : ℕ) → NextServed [] from None
-next_none from = λ n k e l. not_unused (get_or [] n no_producer).duty k (ap (λ (p : Producer). p.duty) (get_or_past [] n no_producer (omega arith))) e
 
 -- a stream is not less than the least one, if there is one
 abbrev IsBehind : Option ℕ → ℕ → Type 0
 IsBehind None k = ⊥
 IsBehind (Some t) k = t ≤ k
 
-module _ (ps : List Producer) (p : Producer) (from : ℕ) where
-  abbrev more : List Producer
-  more = ps ++ p ∷ []
+-- which host ends were looked at
+abbrev pub Looked : Type 1
+Looked = Side → ℕ → Type 0
 
-  -- whichever serves a stream is the last, or did so before
-  by_last : (P : Type 0) (n k : ℕ) → (get_or more n no_producer).duty ≡ Serves k → (p.duty ≡ Serves k → P) → ((get_or ps n no_producer).duty ≡ Serves k → P) → P
-  by_last P n k e f g = at_push ps p no_producer n (λ q. q.duty ≡ Serves k → P) (λ _. f) (λ _. g) e
+-- no host end is looked at any more, but the one of this number
+abbrev pub LooksAt : Looked → Looked → Side → ℕ → Type 0
+LooksAt looked more side m = (k : Side) (n : ℕ) → more k n → looked k n ⊎ ((k ≡ side) × (n ≡ m))
 
-  still : (n k : ℕ) → (get_or ps n no_producer).duty ≡ Serves k → (get_or more n no_producer).duty ≡ Serves k
-  still n k e = ap (λ (q : Producer). q.duty) (get_or_append_left ps (p ∷ []) no_producer n (serving_kept ps n k e)) ∙ e
+module _ (state : State) (from : ℕ) (looked more : Looked) (side : Side) (m : ℕ) (still : (k : Side) (n : ℕ) → looked k n → more k n) (h : LooksAt looked more side m) where
+  abbrev duty : Duty
+  duty = duty_of side state m
 
-  kept_on : (o : Option ℕ) → NextServed ps from o → ((k : ℕ) → p.duty ≡ Serves k → from ≤ k → IsBehind o k) → NextServed more from o
-  kept_on None h f = λ n k e l. by_last ⊥ n k e (λ d. f k d l) (λ d. h n k d l)
-  kept_on (Some t) h f = record {
+  -- whichever serves a stream is the last, or was looked at before
+  by_last : (P : Type 0) (k : Side) (n t : ℕ) → more k n → duty_of k state n ≡ Serves t → (duty ≡ Serves t → P) → (looked k n → P) → P
+  by_last P k n t l e f g =
+      elim (h k n l) [
+        | inl before ↦ g before
+        | inr it ↦ f (rw it.0 at (rw it.1 at e))
+      ]
+
+  kept_on : (o : Option ℕ) → NextAmong state looked from o → ((t : ℕ) → duty ≡ Serves t → from ≤ t → IsBehind o t) → NextAmong state more from o
+  kept_on None h f = λ k n t l e b. by_last ⊥ k n t l e (λ d. f t d b) (λ x. h k n t x e b)
+  kept_on (Some s) h f = record {
     behind = h.behind;
+    side = h.side;
     number = h.number;
-    serves = still h.number t h.serves;
-    least = λ n k e l. by_last (t ≤ k) n k e (λ d. f k d l) (λ d. h.least n k d l);
+    serves = h.serves;
+    least = λ k n t l e b. by_last (s ≤ t) k n t l e (λ d. f t d b) (λ x. h.least k n t x e b);
   }
 
-  is_last : (s : ℕ) → p.duty ≡ Serves s → from ≤ s → ((n k : ℕ) → (get_or ps n no_producer).duty ≡ Serves k → from ≤ k → s ≤ k) → IsNextServed more from s
-  is_last s e l f = record {
-    behind = l;
-    number = length ps;
-    serves = ap (λ (q : Producer). q.duty) (get_or_push ps p no_producer (length ps) refl) ∙ e;
-    least = λ n k d b. by_last (s ≤ k) n k d (λ q. omega (arith, same_stream s k p.duty e q)) (λ q. f n k q b);
+  is_last : (s : ℕ) → duty ≡ Serves s → from ≤ s → ((k : Side) (n t : ℕ) → looked k n → duty_of k state n ≡ Serves t → from ≤ t → s ≤ t) → IsNextAmong state more from s
+  is_last s e b f = record {
+    behind = b;
+    side = side;
+    number = m;
+    serves = e;
+    least = λ k n t l d c. by_last (s ≤ t) k n t l d (λ q. omega (arith, same_stream s t duty e q)) (λ x. f k n t x d c);
   }
 
-  lesser : (s : ℕ) (o : Option ℕ) → p.duty ≡ Serves s → from ≤ s → NextServed ps from o → NextServed more from (least_of s o)
-  lesser s None e l h = is_last s e l (λ n k d b. absurd (h n k d b))
-  lesser s (Some t) e l h = by_test (nat_le t s) refl
+  lesser : (s : ℕ) (o : Option ℕ) → duty ≡ Serves s → from ≤ s → NextAmong state looked from o → NextAmong state more from (least_of s o)
+  lesser s None e b h = is_last s e b (λ k n t x d c. absurd (h k n t x d c))
+  lesser s (Some t) e b h = by_test (nat_le t s) refl
     where
-      by_test : (b : Bool) → nat_le t s ≡ b → NextServed more from (cond b (Some t) (Some s))
+      by_test : (b : Bool) → nat_le t s ≡ b → NextAmong state more from (cond b (Some t) (Some s))
       by_test true q =
           let few : t ≤ s = grind (arith, nat_tests) in
-          kept_on (Some t) h (λ k d a. omega (arith, few, same_stream s k p.duty e d))
+          kept_on (Some t) h (λ u d a. omega (arith, few, same_stream s u duty e d))
       by_test false q =
           let few : s ≤ t = grind (arith, nat_tests) in
-          is_last s e l (λ n k d a. omega (arith, few, h.least n k d a))
+          is_last s e b (λ k n u x d a. omega (arith, few, h.least k n u x d a))
 
-  pub next_more : (o : Option ℕ) → NextServed ps from o → NextServed more from (next_of p.duty from o)
-  next_more o h = by_duty p.duty refl
+  next_more : (o : Option ℕ) → NextAmong state looked from o → NextAmong state more from (next_of duty from o)
+  next_more o h = by_duty duty refl
     where
-      by_test : (s : ℕ) (b : Bool) → p.duty ≡ Serves s → nat_le from s ≡ b → NextServed more from (cond b (least_of s o) o)
+      by_test : (s : ℕ) (b : Bool) → duty ≡ Serves s → nat_le from s ≡ b → NextAmong state more from (cond b (least_of s o) o)
       by_test s true e q = lesser s o e (grind (arith, nat_tests)) h
       by_test s false e q =
           let few : s < from = grind (arith, nat_tests) in
-          kept_on o h (λ k d a. absurd (past s k few (same_stream s k p.duty e d) a))
+          kept_on o h (λ t d a. absurd (past s t few (same_stream s t duty e d) a))
         where
           past : (a b : ℕ) → a < from → a ≡ b → from ≤ b → ⊥
           past a b l e f = omega (arith, l, e, f)
 
-      by_duty : (d : Duty) → p.duty ≡ d → NextServed more from (next_of d from o)
-      by_duty Unused e = kept_on o h (λ k d a. absurd (not_unused p.duty k e d))
-      by_duty Ended e = kept_on o h (λ k d a. absurd (ended_no p.duty k e d))
+      by_duty : (d : Duty) → duty ≡ d → NextAmong state more from (next_of d from o)
+      by_duty Unused e = kept_on o h (λ t d a. absurd (not_unused duty t e d))
+      by_duty Ended e = kept_on o h (λ t d a. absurd (ended_no duty t e d))
       by_duty (Serves s) e = by_test s (nat_le from s) e refl
 
--- over the first of these host writers, and one more
-pub next_at : (ps qs : List Producer) (from i : ℕ) (o least : Option ℕ) → qs ≡ ps → i < length ps → NextServed (take i ps) from o → least ≡ next_of (get_or qs i no_producer).duty from o → NextServed (take (i + 1) ps) from least
-next_at ps qs from i o least same l h e =
-    let next : least ≡ next_of (get_or ps i no_producer).duty from o = subst (λ rs. least ≡ next_of (get_or rs i no_producer).duty from o) same e in
-    subst (λ rs. NextServed rs from least) (sym (take_more ps i no_producer l))
-    (subst (NextServed (take i ps ++ get_or ps i no_producer ∷ []) from) (sym next) (next_more (take i ps) (get_or ps i no_producer) from o h))
+-- the host ends of the first numbers
+abbrev pub below : ℕ → Looked
+below k side n = n < k
 
--- and over all
-pub next_of_all : (ps : List Producer) (from i : ℕ) (o : Option ℕ) → length ps ≤ i → NextServed (take i ps) from o → NextServed ps from o
-next_of_all ps from i o l h = subst (λ qs. NextServed qs from o) (take_all i ps l) h
+pub next_none : (state : State) (from : ℕ) → NextAmong state (below 0) from None
+next_none state from = λ k n t l d b. absurd (omega (arith, l))
 
--- ## The host writers that the store needs
+-- and the host writer of the next one
+abbrev below_and_writer : ℕ → Looked
+below_and_writer k Writing n = n < k + 1
+below_and_writer k Reading n = n < k
+
+module _ (state : State) (from k : ℕ) where
+  below_more : (n : ℕ) → n < k + 1 → (n < k) ⊎ (n ≡ k)
+  below_more n l = ⊎_elim (λ a. inl a) (λ b. inr (omega (arith, l, b))) (cases_lt n k)
+
+  writer_still : (side : Side) (n : ℕ) → below k side n → below_and_writer k side n
+  writer_still Writing n l = omega (arith, l)
+  writer_still Reading n l = l
+
+  writer_more : LooksAt (below k) (below_and_writer k) Writing k
+  writer_more Writing n l = ⊎_elim (λ a. inl a) (λ e. inr (refl, e)) (below_more n l)
+  writer_more Reading n l = inl l
+
+  reader_still : (side : Side) (n : ℕ) → below_and_writer k side n → below (k + 1) side n
+  reader_still Writing n l = l
+  reader_still Reading n l = omega (arith, l)
+
+  reader_more : LooksAt (below_and_writer k) (below (k + 1)) Reading k
+  reader_more Writing n l = inl l
+  reader_more Reading n l = ⊎_elim (λ a. inl a) (λ e. inr (refl, e)) (below_more n l)
+
+  -- both host ends of one number more
+  pub next_both : (o : Option ℕ) → NextAmong state (below k) from o → NextAmong state (below (k + 1)) from (next_of (duty_of Reading state k) from (next_of (duty_of Writing state k) from o))
+  next_both o h =
+      next_more state from (below_and_writer k) (below (k + 1)) Reading k reader_still reader_more (next_of (duty_of Writing state k) from o)
+      (next_more state from (below k) (below_and_writer k) Writing k writer_still writer_more o h)
+
+-- and all of them
+pub next_of_all : (state : State) (from k : ℕ) (o : Option ℕ) → AreServed state.producers state.consumers state.streams → host_limit ≤ k → NextAmong state (below k) from o → NextServed state from o
+next_of_all state from k None h l n = λ side m t x e b. n side m t (omega (arith, l, duty_known side state.producers state.consumers state.streams m t h e)) e b
+next_of_all state from k (Some s) h l n = record {
+  behind = n.behind;
+  side = n.side;
+  number = n.number;
+  serves = n.serves;
+  least = λ side m t x e b. n.least side m t (omega (arith, l, duty_known side state.producers state.consumers state.streams m t h e)) e b;
+}
+
+-- ## The host ends that the store needs
 
 -- one that is there and of the stream's kind fits where its payload does
 pub writes_by : (stream : Stream) (tells : Tells) (n : ℕ) (is : Bool) → n < length tells.writers → true ≡ same_kind (told_by tells n).kind stream.kind → is ≡ same_payload (told_by tells n).payload stream.payload → (IsTrue is ↔ FitsWriter stream tells n)
@@ -110,18 +156,36 @@ writes_by stream tells n is l s e =
       λ fits. e ∙ decides.1 fits.payload,
     )
 
+pub reads_by : (stream : Stream) (tells : Tells) (r : ℕ) (is : Bool) → r < length tells.readers → true ≡ same_kind (told_by_reader tells r).kind stream.kind → is ≡ same_payload (told_by_reader tells r).payload stream.payload → (IsTrue is ↔ FitsReader stream tells r)
+reads_by stream tells r is l s e =
+    let decides = Decides-same_payload (told_by_reader tells r).payload stream.payload in (
+      λ t. record { there = l; kind = same_kind_is (told_by_reader tells r).kind stream.kind (sym s); payload = decides.0 (sym e ∙ t) },
+      λ fits. e ∙ decides.1 fits.payload,
+    )
+
 abbrev pub FitBelow : State → Tells → ℕ → Type 0
-FitBelow state tells k = (n : ℕ) → n < k → FitsAt state tells n
+FitBelow state tells k = (side : Side) (n : ℕ) → n < k → FitsAt side state tells n
 
 pub fit_none : (state : State) (tells : Tells) → FitBelow state tells 0
-fit_none state tells = λ n l. absurd (omega (arith, l))
+fit_none state tells = λ side n l. absurd (omega (arith, l))
 
-pub fit_more : (state : State) (tells : Tells) (k : ℕ) → FitBelow state tells k → FitsAt state tells k → FitBelow state tells (k + 1)
-fit_more state tells k f h n l =
-    ⊎_elim (f n) (λ g. let same : k ≡ n = omega (arith, l, g) in subst (FitsAt state tells) same h) (cases_lt n k)
+pub fit_more : (state : State) (tells : Tells) (k : ℕ) → FitBelow state tells k → FitsAt Writing state tells k → FitsAt Reading state tells k → FitBelow state tells (k + 1)
+fit_more state tells k f w r side n l =
+    ⊎_elim (f side n) (λ g. let same : k ≡ n = omega (arith, l, g) in subst (FitsAt side state tells) same (both side)) (cases_lt n k)
+  where
+    both : (side : Side) → FitsAt side state tells k
+    both Writing = w
+    both Reading = r
 
-pub fits_not : (state : State) (tells : Tells) (n : ℕ) → (IsTrue false ↔ FitsAt state tells n) → (IsTrue false ↔ Fits state tells)
-fits_not state tells n k = (λ e. absurd (true≢false (sym e)), λ fits. k.1 (fits n))
+pub fits_not : (side : Side) (state : State) (tells : Tells) (n : ℕ) → (IsTrue false ↔ FitsAt side state tells n) → (IsTrue false ↔ Fits state tells)
+fits_not Writing state tells n k = (λ e. absurd (true≢false (sym e)), λ fits. k.1 (fits.writers n))
+fits_not Reading state tells n k = (λ e. absurd (true≢false (sym e)), λ fits. k.1 (fits.readers n))
 
-pub fits_all : (state : State) (tells : Tells) (k : ℕ) → AreServed state.producers state.streams → host_limit ≤ k → FitBelow state tells k → (IsTrue true ↔ Fits state tells)
-fits_all state tells k h l f = (λ _. λ n s e. f n (omega (arith, l, h.all, serving_kept state.producers n s e)) s e, λ _. refl)
+pub fits_all : (state : State) (tells : Tells) (k : ℕ) → AreServed state.producers state.consumers state.streams → host_limit ≤ k → FitBelow state tells k → (IsTrue true ↔ Fits state tells)
+fits_all state tells k h l f = (
+  λ _. record {
+    writers = λ n s e. f Writing n (omega (arith, l, duty_known Writing state.producers state.consumers state.streams n s h e)) s e;
+    readers = λ r s e. f Reading r (omega (arith, l, duty_known Reading state.producers state.consumers state.streams r s h e)) s e;
+  },
+  λ _. refl,
+)

@@ -14,14 +14,16 @@ use Rattle.strm_machine.specs.declared.replies.Reply.{Reply}
 use Rattle.strm_machine.specs.declared.streams.Owner.{Owner}
 use Rattle.strm_machine.specs.declared.streams.Owner.TheVariants.{Host}
 use Rattle.strm_machine.specs.declared.streams.Side.{Side}
-use Rattle.strm_machine.specs.declared.streams.Side.TheVariants.{Reading}
+use Rattle.strm_machine.specs.declared.streams.Side.TheVariants.{Writing, Reading}
 use Rattle.strm_machine.specs.declared.streams.Operation.{Operation}
+use Rattle.strm_machine.specs.declared.streams.Stream.{Stream}
 use Rattle.strm_machine.proofs.Shapes.{operating, begun_on}
 use Rattle.strm_world.specs.World.{World}
-use Rattle.strm_world.specs.Steps.{operates_by, reads_from, performs_in, outcome, may_poll, touches}
+use Rattle.strm_world.specs.Steps.{operates_by, reads_from, writes_to, performs_in, outcome, may_poll, touches}
 use Rattle.strm_world.specs.Does.{world_of, Fits, Does, Answered}
 use Rattle.strm_transmit.specs.Meets.{replied}
-use Rattle.strm_transmit.specs.Hosted.{answered, lone, MayBeDone, Leaves, HasHeld, IsStop, MeetsHosted}
+use Rattle.strm_transmit.specs.Hosted.{answered, lone, MayBeDone, Leaves, IsHandedOver, IsStop, MeetsHosted}
+use Rattle.strm_transmit.specs.Turning.{turn_for, polls_for}
 use Rattle.strm_transmit.specs.declared.errors.StoreError.{StoreError}
 use Rattle.strm_transmit.specs.declared.errors.StoreError.TheVariants.{Refused, HostFailed, HostBroke, BadItem, StoreTrapped, OutOfMemory}
 use Rattle.strm_codes.specs.declared.codes.ReturnCode.{ReturnCode}
@@ -30,10 +32,10 @@ use Rattle.strm_machine.specs.Reactions.{Reaction, goes, tells as tells_end, wit
 use Rattle.strm_machine.specs.declared.replies.Reply.TheVariants as replies
 use Rattle.strm_machine.specs.declared.stops.Stop.{Stop}
 use Rattle.strm_machine.specs.declared.stops.Stop.TheVariants as stops
-use Rattle.strm_world.specs.Producing.{producer_turn}
-use Rattle.strm_world.specs.Settling.{answered as answers_read}
-use Rattle.strm_world.proofs.FitsLemmas.{Fits-stream}
-use Rattle.strm_world.proofs.ReadLemmas.{opened, Does-read, Does-read_stop}
+use Rattle.strm_world.specs.Settling.{answered as answers_at}
+use Rattle.strm_world.proofs.FitsLemmas.{KeepsKind, Fits-stream}
+use Rattle.strm_world.proofs.ReadLemmas.{Does-read, Does-read_stop}
+use Rattle.strm_world.proofs.WriteLemmas.{Does-write, Does-write_stop}
 use Rattle.strm_world.proofs.OutcomeLemmas.{refusal_in-on_end}
 use Rattle.strm_transmit.proofs.HostStepLemmas.{PerformsAs, does_admitted, Settles, unpolled}
 
@@ -81,85 +83,114 @@ stop_is (BadItem stream) s = refl
 stop_is StoreTrapped s = absurd s
 stop_is OutOfMemory s = refl
 
--- ## A read opens, its host writer has its turn, and it is answered
+-- ## A read or write opens, the host end on the other side has its turn, and it is answered
 
-pub opened-fits : (old new : State) (tells : Tells) (s : ℕ) (read : Operation) → new ≡ opened old s read → Fits old tells → Fits new tells
-opened-fits old new tells s read e fits =
+-- the state with an operation open on a side of stream s
+abbrev pub opened_on : Side → State → ℕ → Operation → State
+opened_on side state s operation = with_stream_at state s (with_operation side (stream_at state s) operation)
+
+pub opened-fits : (side : Side) (old new : State) (tells : Tells) (s : ℕ) (operation : Operation) → new ≡ opened_on side old s operation → Fits old tells → Fits new tells
+opened-fits side old new tells s operation e fits =
     subst (λ (x : State). Fits x tells) (sym e)
-    (Fits-stream old tells s (with_operation Reading (stream_at old s) read) (record { kind = refl; payload = refl }) fits)
+    (Fits-stream old tells s (with_operation side (stream_at old s) operation) (keeps side) fits)
+  where
+    keeps : (side : Side) → KeepsKind (stream_at old s) (with_operation side (stream_at old s) operation)
+    keeps Writing = record { kind = refl; payload = refl }
+    keeps Reading = record { kind = refl; payload = refl }
 
-delivered-fits : (old : State) (tells : Tells) (s : ℕ) → Fits old tells → Fits (with_stream_at old s (delivered Reading (stream_at old s))) tells
+delivered-kind : (side : Side) (stream : Stream) → KeepsKind stream (delivered side stream)
 unfolding delivered
-delivered-fits old tells s fits = Fits-stream old tells s (delivered Reading (stream_at old s)) (record { kind = refl; payload = refl }) fits
+delivered-kind Writing stream = record { kind = refl; payload = refl }
+delivered-kind Reading stream = record { kind = refl; payload = refl }
 
-pub answers-fits : (old new : State) (s : ℕ) (report : Option ReturnCode) → tells_end old s Reading ≡ goes (replies.Event report) new → (tells : Tells) → Fits old tells → Fits new tells
-answers-fits old new s report e tells fits =
-    subst (λ (x : State). Fits x tells) (ap (λ (r : Reaction). r.state) e) (delivered-fits old tells s fits)
+pub answers-fits : (side : Side) (old new : State) (s : ℕ) (report : Option ReturnCode) → tells_end old s side ≡ goes (replies.Event report) new → (tells : Tells) → Fits old tells → Fits new tells
+answers-fits side old new s report e tells fits =
+    subst (λ (x : State). Fits x tells) (ap (λ (r : Reaction). r.state) e) (Fits-stream old tells s (delivered side (stream_at old s)) (delivered-kind side (stream_at old s)) fits)
 
-module _ (old mid new : State) (tells told : Tells) (s n : ℕ) (read : Operation) (e : mid ≡ opened old s read) where
-  pub read-answers : (now : State) (result : Answered) → Does mid now tells told (Ok replies.Done) (λ w. producer_turn w s n read) → Does now new told told result (λ w. answers_read w s Reading) → Does old new tells told result (λ w. reads_from w s n read)
-  read-answers now result turn answer =
-      Does-read old now new tells told s n read result
-      (subst (λ (x : State). Does x now tells told (Ok replies.Done) (λ w. producer_turn w s n read)) e turn) answer
+module _ (old mid new : State) (tells told : Tells) (s n : ℕ) (operation : Operation) where
+  -- the turn of the host end across, for an operation on a side
+  abbrev DoesTurn : Side → State → State → Answered → Type 0
+  DoesTurn side before after result = Does before after tells told result (turn_for side s n operation)
 
-  pub read-stops : (error : StoreError) → IsStop error → Does mid new tells told (answered (Err error)) (λ w. producer_turn w s n read) → Does old new tells told (answered (Err error)) (λ w. reads_from w s n read)
-  read-stops error stop turn =
+  -- the whole read or write
+  abbrev DoesWhole : Side → Answered → Type 0
+  DoesWhole side result = Does old new tells told result (polls_for side s n operation)
+
+  pub turn-answers : (side : Side) → mid ≡ opened_on side old s operation → (now : State) (result : Answered) → DoesTurn side mid now (Ok replies.Done) → Does now new told told result (λ w. answers_at w s side) → DoesWhole side result
+  turn-answers Reading e now result turn answer =
+      Does-read old now new tells told s n operation result
+      (subst (λ (x : State). DoesTurn Reading x now (Ok replies.Done)) e turn) answer
+  turn-answers Writing e now result turn answer =
+      Does-write old now new tells told s n operation result
+      (subst (λ (x : State). DoesTurn Writing x now (Ok replies.Done)) e turn) answer
+
+  stops_with : (side : Side) (stop : Option Stop) → Does (opened_on side old s operation) new tells told (Err stop) (turn_for side s n operation) → DoesWhole side (Err stop)
+  stops_with Reading stop turn = Does-read_stop old new tells told s n operation stop turn
+  stops_with Writing stop turn = Does-write_stop old new tells told s n operation stop turn
+
+  pub turn-stops : (side : Side) → mid ≡ opened_on side old s operation → (error : StoreError) → IsStop error → DoesTurn side mid new (answered (Err error)) → DoesWhole side (answered (Err error))
+  turn-stops side e error stop turn =
       let same = stop_is error stop in
-      subst (λ (x : Answered). Does old new tells told x (λ w. reads_from w s n read)) (sym same)
-      (Does-read_stop old new tells told s n read (cause_of error)
-      (subst (λ (x : State). Does x new tells told (Err (cause_of error)) (λ w. producer_turn w s n read)) e
-      (subst (λ (x : Answered). Does mid new tells told x (λ w. producer_turn w s n read)) same turn)))
+      subst (DoesWhole side) (sym same)
+      (stops_with side (cause_of error)
+      (subst (λ (x : State). DoesTurn side x new (Err (cause_of error))) e
+      (subst (DoesTurn side mid new) same turn)))
 
--- ## A read that a host writer serves
+-- ## A read or write with a host end across
 
--- a read of the named end that nothing refuses, on stream s, which host writer n serves
-pub record IsHostRead (state : State) (side : Side) (end : NamedEnd) (address count n s : ℕ) (read : Operation) : Type 0 where
+-- a read or write of the named end that nothing refuses, on stream s, whose other end host end n has
+pub record IsAcross (state : State) (side : Side) (end : NamedEnd) (address count n s : ℕ) (operation : Operation) : Type 0 where
   pub untrapped : state.trapped ≡ false
   pub none : refusal state (operating side end address count) ≡ None
   pub stream : s ≡ stream_named (named state end)
-  pub operation : read ≡ begun_on end address count
-  pub reading : side ≡ Reading
-  pub owner : (stream_at state s).writer.owner ≡ Host n
+  pub begins : operation ≡ begun_on end address count
+  pub owner : (end_of (opposite side) (stream_at state s)).owner ≡ Host n
 
 is_host_of : (owner : Owner) (n : ℕ) → owner ≡ Host n → is_host owner ≡ true
 is_host_of owner n e = rw e refl
 
-performs-read : (world : World) (end : NamedEnd) (address count n s : ℕ) → s ≡ stream_named (named world.state end) → (stream_at world.state s).writer.owner ≡ Host n → performs_in world (operating Reading end address count) ≡ reads_from world s n (begun_on end address count)
+-- host end n has the end across of stream s
+abbrev HasAcross : World → Side → ℕ → ℕ → Type 0
+HasAcross world side n s = (end_of (opposite side) (stream_at world.state s)).owner ≡ Host n
+
+performs-polls : (side : Side) (world : World) (end : NamedEnd) (address count n s : ℕ) → s ≡ stream_named (named world.state end) → HasAcross world side n s → performs_in world (operating side end address count) ≡ polls_for side s n (begun_on end address count) world
 unfolding performs_in
-performs-read world end address count n s e o =
+performs-polls Reading world end address count n s e o =
     ap (operates_by world Reading end address count) (ap (λ k. (stream_at world.state k).writer.owner) (sym e) ∙ o)
     ∙ ap (λ k. reads_from world k n (begun_on end address count)) (sym e)
+performs-polls Writing world end address count n s e o =
+    ap (operates_by world Writing end address count) (ap (λ k. (stream_at world.state k).reader.owner) (sym e) ∙ o)
+    ∙ ap (λ k. writes_to world k n (begun_on end address count)) (sym e)
 
-module _ (old new : State) (tells told : Tells) (side : Side) (end : NamedEnd) (address count n s : ℕ) (read : Operation) (h : IsHostRead old side end address count n s read) where
+module _ (old new : State) (tells told : Tells) (side : Side) (end : NamedEnd) (address count n s : ℕ) (operation : Operation) (h : IsAcross old side end address count n s operation) where
   abbrev act : Act
   act = operating side end address count
 
   across : may_poll (lone old) act ≡ true
   across =
-      ap (λ x. is_host (end_of (opposite x) (stream_at old (stream_named (named old end)))).owner) h.reading
-      ∙ ap (λ k. is_host (stream_at old k).writer.owner) (sym h.stream)
-      ∙ is_host_of (stream_at old s).writer.owner n h.owner
+      ap (λ k. is_host (end_of (opposite side) (stream_at old k)).owner) (sym h.stream)
+      ∙ is_host_of (end_of (opposite side) (stream_at old s)).owner n h.owner
 
-  reads : PerformsAs old tells act (λ w. reads_from w s n read)
-  reads logs =
-      ap (λ x. performs_in (world_of old tells logs) (operating x end address count)) h.reading
-      ∙ performs-read (world_of old tells logs) end address count n s h.stream h.owner
-      ∙ ap (reads_from (world_of old tells logs) s n) (sym h.operation)
+  polls : PerformsAs old tells act (polls_for side s n operation)
+  polls logs =
+      performs-polls side (world_of old tells logs) end address count n s h.stream h.owner
+      ∙ ap (λ o. polls_for side s n o (world_of old tells logs)) (sym h.begins)
 
   may : MayBeDone old tells act
   may = record { untrapped = h.untrapped; none = λ logs. refusal_in-on_end (world_of old tells logs) side end (Operate address count) ∙ h.none }
 
-  pub hosted_read : {T : Type 0} (f : T → Reply) (result : Result T StoreError) → Does old new tells told (answered (replied f result)) (λ w. reads_from w s n read) → Fits new told → Halts result new → MeetsHosted old new tells told (replied f result) act
-  hosted_read f result does =
+  pub hosted_across : {T : Type 0} (f : T → Reply) (result : Result T StoreError) → Does old new tells told (answered (replied f result)) (polls_for side s n operation) → Fits new told → Halts result new → MeetsHosted old new tells told (replied f result) act
+  hosted_across f result does =
       hosted_polled old new tells told act across f result
-      (does_admitted old new tells told act (answered (replied f result)) (λ w. reads_from w s n read) may reads does) may
+      (does_admitted old new tells told act (answered (replied f result)) (polls_for side s n operation) may polls does) may
 
 -- items that the writer holds are those that are held for the read
-pub held_there : (state : State) (tells : Tells) (side : Side) (end : NamedEnd) (address count n s : ℕ) (read : Operation) → IsHostRead state side end address count n s read → HasHeld state tells (stream_named (named state end)) → (told_by tells n).holds ≢ []
-held_there state tells side end address count n s read h held =
+pub held_there : (state : State) (tells : Tells) (side : Side) (end : NamedEnd) (address count n s : ℕ) (operation : Operation) → IsAcross state side end address count n s operation → IsHandedOver state tells (operating side end address count) → (side ≡ Reading) × ((told_by tells n).holds ≢ [])
+held_there state tells Writing end address count n s operation h held = absurd held
+held_there state tells Reading end address count n s operation h held =
     let same : Host held.writer ≡ Host n = sym held.owner ∙ ap (λ k. (stream_at state k).writer.owner) (sym h.stream) ∙ h.owner in
     let number : held.writer ≡ n = cc in
-    subst (λ k. (told_by tells k).holds ≢ []) number held.some
+    (refl, subst (λ k. (told_by tells k).holds ≢ []) number held.some)
 
 -- where it is answered, no memory was wanting
 pub ok_wants_none : {T : Type 0} (result : Result T StoreError) → IsOk result → result ≢ Err OutOfMemory

@@ -30,7 +30,7 @@ use Rattle.strm_transmit.specs.Inside.{AreServed}
 use Rattle.strm_transmit.specs.Hosted.{answered, IsStop}
 use Rattle.strm_transmit.specs.Turning.{TurnsStream, stops_by}
 use Rattle.strm_transmit.proofs.ServedLemmas.{serving_kept}
-use Rattle.strm_transmit.proofs.FitsLemmas.{keeps-closed, Fits-told, Fits-producer, Fits-ended, HasWriter, serving}
+use Rattle.strm_transmit.proofs.FitsLemmas.{keeps-closed, Fits-told, Fits-producer, Fits-ended, other_guests, though_trapped, HasWriter, serving}
 use Rattle.strm_transmit.proofs.HostStepLemmas.{Does-after, Fits-after}
 use Rattle.strm_transmit.proofs.SceneLemmas.{SceneKeeps, turn_keeps}
 
@@ -77,7 +77,7 @@ pub record IsServed (old : State) (tells : Tells) (n s : ℕ) (read : Operation)
   pub placed : StreamIsPlaced (sizes_of old.guests) (stream_at old s)
 
 module _ (old : State) (tells : Tells) (n s : ℕ) (read : Operation) where
-  pub is_served : IsSound old → AreServed old.producers old.streams → s < length old.streams → (stream_at old s).writer.owner ≡ Host n → Fits old tells → IsPlaced (sizes_of old.guests) (stream_at old s).payload read → IsServed old tells n s read
+  pub is_served : IsSound old → AreServed old.producers old.consumers old.streams → s < length old.streams → (stream_at old s).writer.owner ≡ Host n → Fits old tells → IsPlaced (sizes_of old.guests) (stream_at old s).payload read → IsServed old tells n s read
   is_served sound served made owner fits placed = record {
     writer = record { served = served; made = made; owner = owner; fits = fits };
     read_placed = placed;
@@ -96,8 +96,8 @@ module _ (old : State) (tells : Tells) (n s : ℕ) (read : Operation) (h : IsSer
     turned-fits =
         let stream = with_stream_at old s t.after.stream in
         Fits-told (turned_in old n s t.after) tells n t.after.tells keeps.tells
-        (Fits-producer stream tells n t.after.producer is_serving.kept (λ k e. sym keeps.duty ∙ e)
-        (Fits-stream old tells s t.after.stream (record { kind = keeps.stream.kind; payload = keeps.stream.payload }) h.writer.fits))
+        (other_guests (record stream { producers = set old.producers n t.after.producer }) t.after.guests tells (Fits-producer stream tells n t.after.producer is_serving.kept (λ k e. sym keeps.duty ∙ e)
+        (Fits-stream old tells s t.after.stream (record { kind = keeps.stream.kind; payload = keeps.stream.payload }) h.writer.fits)))
 
     pub mid-fits : Fits mid told
     mid-fits = Fits-after (turned_in old n s t.after) mid (told_in tells n t.after) told t.state t.ends turned-fits
@@ -127,9 +127,9 @@ module _ (old : State) (tells : Tells) (n s : ℕ) (read : Operation) (h : IsSer
   produced-stays mid told t g =
       let k = keeps mid told (Ok tt) t in
       let here = mid-stream mid told (Ok tt) t in
-      let same = by_done k.stream.done t.after.stream.writer.owner (stream_at old s).writer.owner k.stream.writer
+      let same = by_done k.stream.done t.after.stream.writer.owner (stream_at old s).writer.owner k.stream.leaves
       (λ e. g (ap (λ (x : Stream). x.writer.owner) here ∙ e)) in
-      Does-after t.state t.ends (turn_stays old tells n s read is_serving t.after t.turns same)
+      Does-after t.state t.ends (turn_stays old tells n s read is_serving t.after t.turns (record { writer = same; reader = k.stream.stays }))
 
   -- its writer is gone, and was closed
   module _ (mid : State) (told : Tells) (t : TurnsStream old mid tells told n s read (Ok tt)) (g : (stream_at mid s).writer.owner ≡ Gone) (w : WriterTells) (c : ClosesWriter (told_by told n) w) where
@@ -139,6 +139,7 @@ module _ (old : State) (tells : Tells) (n s : ℕ) (read : Operation) (h : IsSer
       kept = rw (length-set old.producers n t.after.producer) is_serving.kept;
       owner = h.writer.owner;
       gone = sym (ap (λ (x : Stream). x.writer.owner) (mid-stream mid told (Ok tt) t)) ∙ g;
+      reader = (keeps mid told (Ok tt) t).stream.stays;
       closes = subst (λ (x : Tells). ClosesWriter (told_by x n) w) t.ends c;
     }
 
@@ -171,7 +172,7 @@ module _ (old : State) (tells : Tells) (n s : ℕ) (read : Operation) (h : IsSer
         (subst (λ (x : Answered). Does old (record mid { trapped = true }) tells told x (λ w. producer_turn w s n read)) (stop-is e n) (produced-stops mid told e t))
 
     pub stops-fits : Fits new told
-    stops-fits = Fits-after (record mid { trapped = true }) new told told is refl (mid-fits mid told (Err e) t)
+    stops-fits = Fits-after (record mid { trapped = true }) new told told is refl (though_trapped mid told (mid-fits mid told (Err e) t))
 
     pub stops-length : length new.streams ≡ length old.streams
     stops-length = ap (λ (x : State). length x.streams) is ∙ mid-length mid told (Err e) t

@@ -1,16 +1,17 @@
--- What the turn of a host writer keeps: types, owners but that the writer may be gone, handles, and where
+-- What the turn of a host end keeps: types, owners but that the host end may be gone, handles, and where
 -- operations lie.
 use Rattle.std.proofs.Common.{◌≡◌, ℕ, ◌≤◌, ◌==◌, Bool, true, false, cond, List, [], ◌∷◌, length, take, length-take, Option, Some, None, Result, Ok, Err, refl, sym, subst, arith}
 use Rattle.strm_codes.specs.declared.codes.StreamResult.{StreamResult}
 use Rattle.strm_codes.specs.declared.codes.StreamResult.TheVariants as results
 use Rattle.strm_buffers.specs.Listing.{Item}
 use Rattle.strm_buffers.specs.Tells.{WriterTells}
-use Rattle.strm_machine.specs.Sides.{with_operation}
+use Rattle.strm_machine.specs.Sides.{opposite, end_of, with_operation}
 use Rattle.strm_machine.specs.Turns.{with_received}
 use Rattle.strm_machine.specs.Soundness.{sizes_of, IsPlaced, StreamIsPlaced}
 use Rattle.strm_machine.specs.declared.streams.Operation.{Operation}
 use Rattle.strm_machine.specs.declared.streams.Owner.TheVariants.{Gone}
 use Rattle.strm_machine.specs.declared.streams.Producer.{Producer}
+use Rattle.strm_machine.specs.declared.streams.Side.{Side}
 use Rattle.strm_machine.specs.declared.streams.Side.TheVariants.{Writing, Reading}
 use Rattle.strm_machine.specs.declared.streams.Stream.{Stream}
 use Rattle.strm_machine.proofs.TurnLemmas.{GuestsKeep}
@@ -24,38 +25,52 @@ use Rattle.strm_producing.specs.declared.turns.TurnError.TheVariants.{Failed, Ou
 
 -- ## The stream
 
--- a stream whose writer may be gone
-pub record StreamMoves (sizes : List ℕ) (old new : Stream) : Type 0 where
+-- a stream whose host end, on this side, may be gone
+pub record StreamMoves (sizes : List ℕ) (host : Side) (old new : Stream) : Type 0 where
   pub done : Bool
-  pub writer : new.writer.owner ≡ cond done Gone old.writer.owner
-  pub reader : new.reader.owner ≡ old.reader.owner
+  pub leaves : (end_of host new).owner ≡ cond done Gone (end_of host old).owner
+  pub stays : (end_of (opposite host) new).owner ≡ (end_of (opposite host) old).owner
   pub kind : new.kind ≡ old.kind
   pub payload : new.payload ≡ old.payload
   pub placed : StreamIsPlaced sizes new
 
 module _ (sizes : List ℕ) (stream : Stream) (n : ℕ) (operation : Operation) (h : StreamIsPlaced sizes stream) (p : IsPlaced sizes stream.payload operation) where
-  moved_by : (b : Bool) (result : Option StreamResult) → StreamMoves sizes stream (let_go Writing result (with_operation Reading (cond b stream (with_received stream n)) operation))
-  moved_by true None = record { done = false; writer = refl; reader = refl; kind = refl; payload = refl; placed = record { writer = h.writer; reader = p } }
-  moved_by false None = record { done = false; writer = refl; reader = refl; kind = refl; payload = refl; placed = record { writer = h.writer; reader = p } }
-  moved_by true (Some results.Dropped) = record { done = true; writer = refl; reader = refl; kind = refl; payload = refl; placed = record { writer = h.writer; reader = p } }
-  moved_by false (Some results.Dropped) = record { done = true; writer = refl; reader = refl; kind = refl; payload = refl; placed = record { writer = h.writer; reader = p } }
-  moved_by true (Some _) = record { done = false; writer = refl; reader = refl; kind = refl; payload = refl; placed = record { writer = h.writer; reader = p } }
-  moved_by false (Some _) = record { done = false; writer = refl; reader = refl; kind = refl; payload = refl; placed = record { writer = h.writer; reader = p } }
+  -- the stream with n items received, unless there are none, and the operation on a side
+  abbrev with_items : Side → Bool → Stream
+  with_items side none = with_operation side (cond none stream (with_received stream n)) operation
 
-pub moved_on-moves : (sizes : List ℕ) (stream : Stream) (read : Operation) (n : ℕ) (result : Option StreamResult) → StreamIsPlaced sizes stream → IsPlaced sizes stream.payload read → n ≤ read.left → StreamMoves sizes stream (moved_on Reading stream read n result)
+  moved_by : (side : Side) (none : Bool) (result : Option StreamResult) → StreamMoves sizes (opposite side) stream (let_go (opposite side) result (with_items side none))
+  moved_by Reading true None = record { done = false; leaves = refl; stays = refl; kind = refl; payload = refl; placed = record { writer = h.writer; reader = p } }
+  moved_by Reading false None = record { done = false; leaves = refl; stays = refl; kind = refl; payload = refl; placed = record { writer = h.writer; reader = p } }
+  moved_by Reading true (Some results.Dropped) = record { done = true; leaves = refl; stays = refl; kind = refl; payload = refl; placed = record { writer = h.writer; reader = p } }
+  moved_by Reading false (Some results.Dropped) = record { done = true; leaves = refl; stays = refl; kind = refl; payload = refl; placed = record { writer = h.writer; reader = p } }
+  moved_by Reading true (Some _) = record { done = false; leaves = refl; stays = refl; kind = refl; payload = refl; placed = record { writer = h.writer; reader = p } }
+  moved_by Reading false (Some _) = record { done = false; leaves = refl; stays = refl; kind = refl; payload = refl; placed = record { writer = h.writer; reader = p } }
+  moved_by Writing true None = record { done = false; leaves = refl; stays = refl; kind = refl; payload = refl; placed = record { writer = p; reader = h.reader } }
+  moved_by Writing false None = record { done = false; leaves = refl; stays = refl; kind = refl; payload = refl; placed = record { writer = p; reader = h.reader } }
+  moved_by Writing true (Some results.Dropped) = record { done = true; leaves = refl; stays = refl; kind = refl; payload = refl; placed = record { writer = p; reader = h.reader } }
+  moved_by Writing false (Some results.Dropped) = record { done = true; leaves = refl; stays = refl; kind = refl; payload = refl; placed = record { writer = p; reader = h.reader } }
+  moved_by Writing true (Some _) = record { done = false; leaves = refl; stays = refl; kind = refl; payload = refl; placed = record { writer = p; reader = h.reader } }
+  moved_by Writing false (Some _) = record { done = false; leaves = refl; stays = refl; kind = refl; payload = refl; placed = record { writer = p; reader = h.reader } }
+
+-- a stream of whose operation on a side so many items moved, and which is settled so, if it is
+abbrev MovesOn : List ℕ → Side → Stream → Operation → ℕ → Option StreamResult → Type 0
+MovesOn sizes side stream operation n result = StreamMoves sizes (opposite side) stream (moved_on side stream operation n result)
+
+pub moved_on-moves : (side : Side) (sizes : List ℕ) (stream : Stream) (operation : Operation) (n : ℕ) (result : Option StreamResult) → StreamIsPlaced sizes stream → IsPlaced sizes stream.payload operation → n ≤ operation.left → MovesOn sizes side stream operation n result
 unfolding moved_on
-moved_on-moves sizes stream read n result h p l =
-    moved_by sizes stream n (settled result (went stream.payload read n)) h
-    (settled-placed sizes stream.payload (went stream.payload read n) result (went-placed sizes stream.payload read n l p)) (n == 0) result
+moved_on-moves side sizes stream operation n result h p l =
+    moved_by sizes stream n (settled result (went stream.payload operation n)) h
+    (settled-placed sizes stream.payload (went stream.payload operation n) result (went-placed sizes stream.payload operation n l p)) side (n == 0) result
 
-stays-moves : (sizes : List ℕ) (stream : Stream) → StreamIsPlaced sizes stream → StreamMoves sizes stream stream
-stays-moves sizes stream h = record { done = false; writer = refl; reader = refl; kind = refl; payload = refl; placed = h }
+pub stays-moves : (sizes : List ℕ) (host : Side) (stream : Stream) → StreamIsPlaced sizes stream → StreamMoves sizes host stream stream
+stays-moves sizes host stream h = record { done = false; leaves = refl; stays = refl; kind = refl; payload = refl; placed = h }
 
 -- ## The scene of a turn
 
 pub record SceneKeeps (old after : Scene) : Type 0 where
   pub guests : GuestsKeep old.guests after.guests
-  pub stream : StreamMoves (sizes_of old.guests) old.stream after.stream
+  pub stream : StreamMoves (sizes_of old.guests) Writing old.stream after.stream
   pub duty : after.producer.duty ≡ old.producer.duty
   pub tells : KeepsType old.tells after.tells
 
@@ -67,7 +82,7 @@ module _ (old : Scene) (read : Operation) (p : IsPlaced (sizes_of old.guests) ol
   received_keeps : (items : List Item) (result : Option StreamResult) (producer : Producer) (tells : WriterTells) → length items ≤ read.left → producer.duty ≡ old.producer.duty → KeepsType old.tells tells → SceneKeeps old (after_items items result producer tells)
   received_keeps items result producer tells l d k = record {
     guests = lowered-keeps old.guests old.stream.payload read items p l;
-    stream = moved_on-moves (sizes_of old.guests) old.stream read (length items) result h p l;
+    stream = moved_on-moves Reading (sizes_of old.guests) old.stream read (length items) result h p l;
     duty = d;
     tells = k;
   }
@@ -75,7 +90,7 @@ module _ (old : Scene) (read : Operation) (p : IsPlaced (sizes_of old.guests) ol
   stopped_keeps : (items : List Item) (tells : WriterTells) → length items ≤ read.left → KeepsType old.tells tells → SceneKeeps old (record old { guests = lowered old.guests old.stream.payload read items; tells = tells })
   stopped_keeps items tells l k = record {
     guests = lowered-keeps old.guests old.stream.payload read items p l;
-    stream = stays-moves (sizes_of old.guests) old.stream h;
+    stream = stays-moves (sizes_of old.guests) Writing old.stream h;
     duty = refl;
     tells = k;
   }

@@ -1,23 +1,29 @@
--- The store after a host writer had its turn.
+-- The store after a host end had its turn.
 use mir.Val.{bool_byte}
 use Rattle.std.proofs.Common.{◌≡◌, ℕ, ◌+◌, ◌-◌, ◌<◌, Bool, true, false, cond, List, length, get_or, set, sym, ap, ◌∙◌, subst, arith}
 use Rattle.std.specs.Prelude.{count_by}
 use Rattle.std.proofs.lemmas.List.{length-set, get_or_default}
-use Rattle.strm_machine.specs.State.{State, no_stream, stream_at, producer_at, is_live, is_host}
+use Rattle.strm_machine.specs.State.{State, no_stream, stream_at, producer_at, consumer_at, is_live}
+use Rattle.strm_machine.specs.Hosting.{duty_among}
+use Rattle.strm_machine.specs.Sides.{end_of}
 use Rattle.strm_machine.specs.Soundness.{IsSound}
-use Rattle.strm_machine.specs.declared.streams.Owner.{Owner}
 use Rattle.strm_machine.specs.declared.streams.Owner.TheVariants.{Host, Gone}
 use Rattle.strm_machine.specs.declared.streams.Duty.TheVariants.{Serves}
+use Rattle.strm_machine.specs.declared.streams.Side.{Side}
+use Rattle.strm_machine.specs.declared.streams.Side.TheVariants.{Writing, Reading}
 use Rattle.strm_machine.specs.declared.streams.Stream.{Stream}
 use Rattle.strm_machine.proofs.SoundLemmas.{type_of-same, IsSound-guests, IsSound-stream}
-use Rattle.strm_buffers.specs.Tells.{WriterTells, Tells}
+use Rattle.strm_buffers.specs.Tells.{WriterTells, ReaderTells, Tells}
 use Rattle.strm_turns.specs.Guests.{seen}
 use Rattle.strm_producing.specs.Turning.{Scene, scene}
+use Rattle.strm_producing.specs.Taking.{Taking, taking}
 use Rattle.strm_transmit.specs.Inside.{state_of, AreServed, IsStore}
 use Rattle.strm_transmit.specs.declared.store.Store.TheInside.{Inside}
-use Rattle.strm_world.specs.Does.{FitsWriter, Fits}
-use Rattle.strm_transmit.proofs.ServedLemmas.{AreServed-turned, same_stream, serving_kept}
+use Rattle.strm_world.specs.Does.{FitsWriter, FitsReader, Fits}
+use Rattle.strm_transmit.proofs.ServedLemmas.{same_stream, same_host, gone_no_host, serving_kept, reading_kept, duty_known, serves_only, keeps_readers, keeps_writers, writer_now, reader_now, AreServed-turned}
 use Rattle.strm_transmit.proofs.SceneLemmas.{SceneKeeps}
+use Rattle.strm_transmit.proofs.TakeLemmas.{TakingKeeps}
+use Rattle.strm_machine.proofs.TurnLemmas.{all_kept}
 use Rattle.strm_transmit.proofs.StoreLemmas.{live_by, live_weight, live_sum, kept_tables, IsStore-counted, IsSound-same}
 
 -- how many streams have an end left, after one of them became another
@@ -50,6 +56,7 @@ pub record TakesScene (old new : Inside) (s n : ℕ) (after : Scene) : Type 0 wh
   pub guests : seen new.guests.items ≡ after.guests
   pub streams : new.streams.items ≡ set old.streams.items s after.stream
   pub producers : new.producers ≡ set old.producers n after.producer
+  pub consumers : new.consumers ≡ old.consumers
 
 -- the scene of a turn in a store
 abbrev pub scene_of : Inside → ℕ → ℕ → WriterTells → Scene
@@ -57,27 +64,28 @@ scene_of old s n tells = scene (seen old.guests.items) (stream_at (state_of old)
 
 module _ (old new : Inside) (s n : ℕ) (tells : WriterTells) (after : Scene) (l : s < length old.streams.items) (o : (stream_at (state_of old) s).writer.owner ≡ Host n) (k : SceneKeeps (scene_of old s n tells) after) (h : TakesScene old new s n after) (i : IsStore old) where
   serves : (producer_at (state_of old) n).duty ≡ Serves s
-  serves = i.served.serves n s o
+  serves = i.served.serves Writing n s o
 
-  gone_no : (x : Owner) (m : ℕ) → x ≡ Gone → x ≡ Host m → m ≡ n
-  gone_no x m e f = cc
-
-  host_is : (x : Owner) (m : ℕ) → x ≡ Host n → x ≡ Host m → m ≡ n
-  host_is x m e f = cc
+  -- what is kept of it then
+  now : duty_among Writing (set old.producers n after.producer) old.consumers n ≡ Serves s
+  now =
+      writer_now old.producers old.consumers n after.producer (serving_kept old.producers n s serves) ∙ k.duty ∙ serves
 
   only : (done : Bool) (m : ℕ) → after.stream.writer.owner ≡ cond done Gone (stream_at (state_of old) s).writer.owner → after.stream.writer.owner ≡ Host m → m ≡ n
-  only true m e f = gone_no after.stream.writer.owner m e f
-  only false m e f = host_is after.stream.writer.owner m (e ∙ o) f
+  only true m e f = absurd (gone_no_host after.stream.writer.owner m e f)
+  only false m e f = same_host m n after.stream.writer.owner f (e ∙ o)
 
-  served : AreServed new.producers new.streams.items
-  served = rw (h.producers, h.streams) (AreServed-turned old.producers old.streams.items i.served n after.producer s after.stream (record {
-    made = l;
-    owner = o;
-    stays = λ m e. only k.stream.done m k.stream.writer e;
-    serves = λ m e. k.duty ∙ serves;
-    duty = λ m e. same_stream m s after.producer.duty e (k.duty ∙ serves);
-    reader = λ r. ap is_host k.stream.reader ∙ r;
-  }))
+  all_serve : (side : Side) (m : ℕ) → (end_of side after.stream).owner ≡ Host m → duty_among side (set old.producers n after.producer) old.consumers m ≡ Serves s
+  all_serve Writing m e = rw (only k.stream.done m k.stream.leaves e) now
+  all_serve Reading m e = i.served.serves Reading m s (sym k.stream.stays ∙ e)
+
+  served : AreServed new.producers new.consumers new.streams.items
+  served =
+      rw (h.producers, h.consumers, h.streams)
+      (AreServed-turned old.producers (set old.producers n after.producer) old.consumers old.consumers old.streams.items i.served Writing n
+      (keeps_readers old.producers old.consumers n after.producer) s after.stream l all_serve
+      (serves_only old.producers old.consumers old.streams.items i.served Writing n s serves)
+      (λ t e. same_stream t s (duty_among Writing (set old.producers n after.producer) old.consumers n) e now))
 
   sound : IsSound (state_of new)
   sound =
@@ -96,13 +104,88 @@ module _ (old new : Inside) (s n : ℕ) (tells : WriterTells) (after : Scene) (l
 -- ## The host writer that serves a stream
 
 module _ (inside : Inside) (state : State) (n s : ℕ) (e : state_of inside ≡ state) (i : IsStore inside) (o : (stream_at state s).writer.owner ≡ Host n) where
-  all_served : AreServed state.producers state.streams
-  all_served = subst (λ (x : State). AreServed x.producers x.streams) e i.served
+  all_served : AreServed state.producers state.consumers state.streams
+  all_served = subst (λ (x : State). AreServed x.producers x.consumers x.streams) e i.served
 
   -- it has one of the 64 places
   pub number_kept : n < 64
-  number_kept = rw all_served.all at (serving_kept state.producers n s (all_served.serves n s o))
+  number_kept = duty_known Writing state.producers state.consumers state.streams n s all_served (all_served.serves Writing n s o)
 
   -- and it is there, with its stream's kind and payload
   pub serving_fits : (tells : Tells) → Fits state tells → FitsWriter (stream_at state s) tells n
-  serving_fits tells fits = fits n s (all_served.serves n s o)
+  serving_fits tells fits = fits.writers n s (all_served.serves Writing n s o)
+
+-- ## The store after a host reader had its turn
+
+-- what a turn left
+pub record TakesTaking (old new : Inside) (s r : ℕ) (after : Taking) : Type 0 where
+  pub tag : new.tag ≡ old.tag
+  pub limits : new.limits ≡ old.limits
+  pub contexts : new.contexts ≡ old.contexts
+  pub counter : new.counter ≡ old.counter
+  pub live_sets : new.live_sets ≡ old.live_sets
+  pub bytes : new.bytes ≡ old.bytes
+  pub counted : new.live_streams ≡ count_by is_live new.streams.items
+  pub guests : seen new.guests.items ≡ after.guests
+  pub streams : new.streams.items ≡ set old.streams.items s after.stream
+  pub producers : new.producers ≡ old.producers
+  pub consumers : new.consumers ≡ set old.consumers r after.consumer
+
+-- what a turn touches in a store
+abbrev pub taking_of : Inside → ℕ → ℕ → ReaderTells → Taking
+taking_of old s r tells = taking (seen old.guests.items) (stream_at (state_of old) s) (consumer_at (state_of old) r) tells
+
+module _ (old new : Inside) (s r : ℕ) (tells : ReaderTells) (after : Taking) (l : s < length old.streams.items) (o : (stream_at (state_of old) s).reader.owner ≡ Host r) (k : TakingKeeps (taking_of old s r tells) after) (h : TakesTaking old new s r after) (i : IsStore old) where
+  reads : (consumer_at (state_of old) r).duty ≡ Serves s
+  reads = i.served.serves Reading r s o
+
+  -- what is kept of it then
+  reads_now : duty_among Reading old.producers (set old.consumers r after.consumer) r ≡ Serves s
+  reads_now =
+      reader_now old.producers old.consumers r after.consumer (reading_kept old.consumers r s reads) ∙ k.duty ∙ reads
+
+  only_reader : (done : Bool) (m : ℕ) → after.stream.reader.owner ≡ cond done Gone (stream_at (state_of old) s).reader.owner → after.stream.reader.owner ≡ Host m → m ≡ r
+  only_reader true m e f = absurd (gone_no_host after.stream.reader.owner m e f)
+  only_reader false m e f = same_host m r after.stream.reader.owner f (e ∙ o)
+
+  all_taken : (side : Side) (m : ℕ) → (end_of side after.stream).owner ≡ Host m → duty_among side old.producers (set old.consumers r after.consumer) m ≡ Serves s
+  all_taken Writing m e = i.served.serves Writing m s (sym k.stream.stays ∙ e)
+  all_taken Reading m e = rw (only_reader k.stream.done m k.stream.leaves e) reads_now
+
+  taken_served : AreServed new.producers new.consumers new.streams.items
+  taken_served =
+      rw (h.producers, h.consumers, h.streams)
+      (AreServed-turned old.producers old.producers old.consumers (set old.consumers r after.consumer) old.streams.items i.served Reading r
+      (keeps_writers old.producers old.consumers r after.consumer) s after.stream l all_taken
+      (serves_only old.producers old.consumers old.streams.items i.served Reading r s reads)
+      (λ t e. same_stream t s (duty_among Reading old.producers (set old.consumers r after.consumer) r) e reads_now))
+
+  taken_sound : IsSound (state_of new)
+  taken_sound =
+      let type = type_of-same after.stream (stream_at (state_of old) s) k.stream.payload k.stream.kind in
+      let streams = IsSound-stream (state_of old) s after.stream type k.stream.placed i.sound in
+      IsSound-same (record (state_of old) { streams = set old.streams.items s after.stream }) (state_of new) (h.guests ∙ k.guests) h.streams h.contexts streams
+
+  same_guests : seen new.guests.items ≡ seen old.guests.items
+  same_guests = h.guests ∙ k.guests
+
+  pub IsStore-taking : IsStore new
+  IsStore-taking =
+      IsStore-counted old new
+      (kept_tables old new (record { limits = h.limits; counter = h.counter; live_sets = h.live_sets; bytes = h.bytes; guests = rw same_guests (all_kept (seen old.guests.items)) }) i)
+      (record { live = h.counted; served = taken_served; few = rw (h.streams, length-set old.streams.items s after.stream) i.few_streams })
+      taken_sound i
+
+-- ## The host reader that serves a stream
+
+module _ (inside : Inside) (state : State) (r s : ℕ) (e : state_of inside ≡ state) (i : IsStore inside) (o : (stream_at state s).reader.owner ≡ Host r) where
+  reader_served : AreServed state.producers state.consumers state.streams
+  reader_served = subst (λ (x : State). AreServed x.producers x.consumers x.streams) e i.served
+
+  -- it has one of the 64 places
+  pub reader_kept : r < 64
+  reader_kept = duty_known Reading state.producers state.consumers state.streams r s reader_served (reader_served.serves Reading r s o)
+
+  -- and it is there, with its stream's kind and payload
+  pub reading_fits : (tells : Tells) → Fits state tells → FitsReader (stream_at state s) tells r
+  reading_fits tells fits = fits.readers r s (reader_served.serves Reading r s o)

@@ -1,5 +1,5 @@
 -- The store's counters after each change.
-use Rattle.std.proofs.Common.{◌≡◌, ℕ, Bool, cond, get_or, set, ◌+◌, ◌<◌, ◌≤◌, List, [], ◌∷◌, ◌++◌, length, map, sum_by, refl, sym, ap, ◌∙◌, subst, None, replicate, arith, length-append}
+use Rattle.std.proofs.Common.{◌≡◌, ℕ, Bool, false, cond, get_or, set, ◌+◌, ◌<◌, ◌≤◌, List, [], ◌∷◌, ◌++◌, length, map, sum_by, refl, sym, ap, ◌∙◌, subst, None, replicate, arith, length-append}
 use Rattle.std.specs.Prelude.{sum, count_by, nat_lt, ◌*◌}
 use Rattle.std.proofs.Math.Seq.{map-set_same}
 use Rattle.std.proofs.lemmas.List.{map-append, length-map, length-replicate, length-set, get_or_default}
@@ -7,6 +7,9 @@ use Rattle.std.proofs.lemmas.List.Sums.{sum_by_push, sum_by-set, sum-map}
 use Rattle.std.proofs.lemmas.Simd.{map-map}
 use Rattle.strm_machine.specs.Turns.{Turn}
 use Rattle.strm_machine.specs.declared.streams.Producer.{Producer}
+use Rattle.strm_machine.specs.declared.streams.Consumer.{Consumer}
+use Rattle.strm_machine.specs.declared.streams.Side.{Side}
+use Rattle.strm_machine.specs.declared.streams.Side.TheVariants.{Writing, Reading}
 use Rattle.strm_machine.specs.declared.streams.Stream.{Stream}
 use Rattle.strm_handles.specs.Counters.{Counter, counted, uncounted}
 use Rattle.strm_handles.specs.Handles.{Handles, no_handles, live_of, next_index}
@@ -17,6 +20,7 @@ use Rattle.strm_sets.specs.Sets.{Sets, no_sets}
 use Rattle.strm_contexts.specs.Contexts.{len as contexts_there}
 use Rattle.strm_machine.specs.State.{State, guest_in, no_guest, sets_in, no_stream, stream_at, memory_in, with_memory, with_sets, with_table, is_live, handles_in_use, sets_in_use, bytes_in_use}
 use Rattle.strm_machine.specs.Soundness.{IsSound, sizes_of, handles_of}
+use Rattle.strm_machine.specs.Sides.{end_of}
 use Rattle.strm_machine.specs.Tests.{are_places_full}
 use Rattle.strm_machine.specs.Refusals.{refusal}
 use Rattle.strm_machine.specs.Reactions.{goes, performs}
@@ -42,6 +46,7 @@ pub record SameBut (old new : Inside) : Type 0 where
   pub tag : new.tag ≡ old.tag
   pub limits : new.limits ≡ old.limits
   pub producers : new.producers ≡ old.producers
+  pub consumers : new.consumers ≡ old.consumers
   pub contexts : new.contexts ≡ old.contexts
   pub trapped : new.is_trapped ≡ old.is_trapped
 
@@ -65,7 +70,7 @@ pub record AddsGuest (old new : Inside) (g : ours.Guest) (size : ℕ) : Type 0 w
 
 state_of-guest : (old new : Inside) (g : ours.Guest) (size : ℕ) → AddsGuest old new g size → state_of new ≡ record (state_of old) { guests = seen old.guests.items ++ guest_of g ∷ [] }
 state_of-guest old new g size h =
-    rw (h.same.tag, h.same.limits, h.same.producers, h.same.contexts, h.same.trapped, h.streams, h.guests, seen-push old.guests.items g) refl
+    rw (h.same.tag, h.same.limits, h.same.producers, h.same.consumers, h.same.contexts, h.same.trapped, h.streams, h.guests, seen-push old.guests.items g) refl
 
 -- how many sets are there
 abbrev pub how_many : Sets → ℕ
@@ -93,7 +98,7 @@ IsStore-guest old new g size h e s =
       live = ap (λ (c : Counter). c.live) h.counter ∙ s.live ∙ live;
       within = rw h.counter s.within;
       streams = rw (h.live_streams, h.streams) s.streams;
-      served = rw (h.same.producers, h.streams) s.served;
+      served = rw (h.same.producers, h.same.consumers, h.streams) s.served;
       sets = h.live_sets ∙ s.sets ∙ sets;
       bytes = omega (arith, h.bytes, s.bytes, bytes, many);
       few_guests = rw h.guests (omega (arith, fits.count, length-map old.guests.items guest_of, length-append old.guests.items (g ∷ [])));
@@ -192,16 +197,16 @@ kept_tables old new k i = record {
   bytes = k.bytes;
 }
 
--- streams are counted, and agree with host writers
+-- streams are counted, and agree with host ends
 pub record CountsStreams (new : Inside) : Type 0 where
   pub live : new.live_streams ≡ count_by is_live new.streams.items
-  pub served : AreServed new.producers new.streams.items
+  pub served : AreServed new.producers new.consumers new.streams.items
   pub few : length new.streams.items ≤ 4294967295
 
-pub kept_streams : (old new : Inside) → new.streams ≡ old.streams → new.live_streams ≡ old.live_streams → new.producers ≡ old.producers → IsStore old → CountsStreams new
-kept_streams old new streams live producers i = record {
+pub kept_streams : (old new : Inside) → new.streams ≡ old.streams → new.live_streams ≡ old.live_streams → new.producers ≡ old.producers → new.consumers ≡ old.consumers → IsStore old → CountsStreams new
+kept_streams old new streams live producers consumers i = record {
   live = rw (live, streams) i.streams;
-  served = rw (producers, streams) i.served;
+  served = rw (producers, consumers, streams) i.served;
   few = rw streams i.few_streams;
 }
 
@@ -247,17 +252,17 @@ pub record PutsBytes (old new : Inside) (g address : ℕ) (bytes : List ℕ) : T
 pub performs-poke : (old new : Inside) (g address : ℕ) (bytes : List ℕ) → PutsBytes old new g address bytes → performs (state_of old) (OnMemory g (Poke address bytes)) ≡ goes replies.Done (state_of new)
 unfolding performs
 performs-poke old new g address bytes h =
-    rw (h.same.tag, h.same.limits, h.same.producers, h.same.contexts, h.same.trapped, h.streams, h.guests) refl
+    rw (h.same.tag, h.same.limits, h.same.producers, h.same.consumers, h.same.contexts, h.same.trapped, h.streams, h.guests) refl
 
 pub IsStore-put : (old new : Inside) (g address : ℕ) (bytes : List ℕ) → PutsBytes old new g address bytes → BytesFit (state_of old) g address (length bytes) → IsStore old → IsStore new
 IsStore-put old new g address bytes h fits i =
     let size = length-poked (memory_in (seen old.guests.items) g) address bytes fits.inside in
     let keeps = with_memory-keeps (seen old.guests.items) g (put_at (memory_in (seen old.guests.items) g) address bytes) size in
     let kept : GuestsKeep (seen old.guests.items) (seen new.guests.items) = rw h.guests keeps in
-    let state : state_of new ≡ record (state_of old) { guests = seen new.guests.items } = rw (h.same.tag, h.same.limits, h.same.producers, h.same.contexts, h.same.trapped, h.streams) refl in
+    let state : state_of new ≡ record (state_of old) { guests = seen new.guests.items } = rw (h.same.tag, h.same.limits, h.same.producers, h.same.consumers, h.same.contexts, h.same.trapped, h.streams) refl in
     IsStore-counted old new
     (kept_tables old new (record { limits = h.same.limits; counter = h.counter; live_sets = h.live_sets; bytes = h.count; guests = kept }) i)
-    (kept_streams old new h.streams h.live_streams h.same.producers i)
+    (kept_streams old new h.streams h.live_streams h.same.producers h.same.consumers i)
     (rw state (IsSound-guests (state_of old) (seen new.guests.items) kept i.sound)) i
 
 pub IsStore-poke : (old new : Inside) (g address : ℕ) (bytes : List ℕ) → PutsBytes old new g address bytes → refusal (state_of old) (OnMemory g (Poke address bytes)) ≡ None → IsStore old → IsStore new
@@ -271,6 +276,7 @@ pub record TakesTurn (old new : Inside) (s : ℕ) (t : Turn) : Type 0 where
   pub tag : new.tag ≡ old.tag
   pub limits : new.limits ≡ old.limits
   pub producers : new.producers ≡ old.producers
+  pub consumers : new.consumers ≡ old.consumers
   pub contexts : new.contexts ≡ old.contexts
   pub counter : new.counter ≡ old.counter
   pub live_streams : new.live_streams ≡ old.live_streams
@@ -299,7 +305,7 @@ IsStore-turn old new s t l keeps h i =
     (kept_tables old new (record { limits = h.limits; counter = h.counter; live_sets = h.live_sets; bytes = h.bytes; guests = rw h.guests keeps.guests }) i)
     (record {
       live = rw h.streams (as_many _ _ _ _ _ there (ap live_by owners) (h.live_streams ∙ i.streams));
-      served = rw (h.producers, h.streams) (AreServed-set old.producers old.streams.items i.served s t.stream l (same_owners before t.stream keeps.stream.writer keeps.stream.reader));
+      served = rw (h.producers, h.consumers, h.streams) (AreServed-set old.producers old.consumers old.streams.items i.served s t.stream l (same_owners before t.stream keeps.stream.writer keeps.stream.reader));
       few = rw (h.streams, length-set old.streams.items s t.stream) i.few_streams;
     })
     (IsSound-same (record (state_of old) { guests = t.guests; streams = set old.streams.items s t.stream }) (state_of new) h.guests h.streams h.contexts (IsSound-turn (state_of old) s t keeps i.sound)) i
@@ -307,10 +313,10 @@ IsStore-turn old new s t l keeps h i =
     as_many : (a w b v n : ℕ) → a + w ≡ b + v → v ≡ w → n ≡ b → n ≡ a
     as_many a w b v n e f g = omega (arith, e, f, g)
 
--- what is kept of host writers alone is another
-pub IsStore-producers : (s : Inside) (producers : List Producer) → AreServed producers s.streams.items → IsStore s → IsStore (record s { producers = producers })
-IsStore-producers s producers h i =
-    let new = record s { producers = producers } in
+-- what is kept of host ends alone is another
+pub IsStore-kept : (s : Inside) (producers : List Producer) (consumers : List Consumer) → AreServed producers consumers s.streams.items → IsStore s → IsStore (record s { producers = producers; consumers = consumers })
+IsStore-kept s producers consumers h i =
+    let new = record s { producers = producers; consumers = consumers } in
     IsStore-counted s new
     (kept_tables s new (record { limits = refl; counter = refl; live_sets = refl; bytes = refl; guests = all_kept (seen s.guests.items) }) i)
     (record { live = i.streams; served = h; few = i.few_streams })
@@ -320,6 +326,11 @@ pub stream_at-there : (s : Inside) (stream : ℕ) (x : Stream) → stream < leng
 stream_at-there s stream x l e = get_or_default s.streams.items stream no_stream x l ∙ sym e
 
 -- ## One stream more
+
+-- neither end is a host end's
+nobodys : (stream : Stream) → machine.is_host stream.writer.owner ≡ false → machine.is_host stream.reader.owner ≡ false → (side : Side) → machine.is_host (end_of side stream).owner ≡ false
+nobodys stream w r Writing = w
+nobodys stream w r Reading = r
 
 -- the stream that is made
 abbrev pub stream_made : Inside → ℕ → ℕ → TransmitIndex → Stream
@@ -339,7 +350,7 @@ pub record MakesStream (old new : Inside) (writer reader : ℕ) (ty : TransmitIn
 
 state_of-made : (old new : Inside) (writer reader : ℕ) (ty : TransmitIndex) → MakesStream old new writer reader ty → state_of new ≡ with_stream (state_of old) writer reader ty
 unfolding with_stream
-state_of-made old new writer reader ty h = rw (h.same.tag, h.same.limits, h.same.producers, h.same.contexts, h.same.trapped, h.guests, h.streams) refl
+state_of-made old new writer reader ty h = rw (h.same.tag, h.same.limits, h.same.producers, h.same.consumers, h.same.contexts, h.same.trapped, h.guests, h.streams) refl
 
 pub performs-made : (old new : Inside) (writer reader : ℕ) (ty : TransmitIndex) (pair : Pair) → MakesStream old new writer reader ty → pair ≡ made_pair (state_of old) writer reader ty → performs (state_of old) (Make (Between writer reader ty)) ≡ goes (replies.Pair pair) (state_of new)
 unfolding performs
@@ -375,7 +386,7 @@ IsStore-made old new writer reader ty h e i =
     })
     (record {
       live = omega (arith, h.live_streams, i.streams, live);
-      served = rw (h.same.producers, h.streams) (AreServed-push old.producers old.streams.items i.served stream refl refl);
+      served = rw (h.same.producers, h.same.consumers, h.streams) (AreServed-push old.producers old.consumers old.streams.items i.served stream (nobodys stream refl refl));
       few = rw h.streams (omega (arith, fits.streams, length-append old.streams.items (stream ∷ [])));
     })
     (subst IsSound (sym (state_of-made old new writer reader ty h)) (IsSound-with_stream (state_of old) writer reader ty fits.read fits.write i.sound)) i

@@ -1,8 +1,9 @@
 -- How a call of the store with host ends is a step of the machine among them. Ours.
 use Rattle.std.specs.Prelude.{◌≡◌, ◌≢◌, ℕ, Bool, true, false, if◌then◌else◌, [], Result, Ok, Err, IfErr, Some, None}
 use Rattle.strm_buffers.specs.Tells.{Tells, told_by}
-use Rattle.strm_machine.specs.State.{State, producer_at, stream_at, is_host}
+use Rattle.strm_machine.specs.State.{State, producer_at, consumer_at, stream_at, is_host}
 use Rattle.strm_machine.specs.Reactions.{reaction}
+use Rattle.strm_machine.specs.Sides.{opposite, end_of}
 use Rattle.strm_machine.specs.Tests.{named, stream_named}
 use Rattle.strm_machine.specs.declared.acts.Act.{Act}
 use Rattle.strm_machine.specs.declared.acts.Act.TheVariants.{OnEnd}
@@ -11,13 +12,14 @@ use Rattle.strm_machine.specs.declared.replies.Reply.{Reply}
 use Rattle.strm_machine.specs.declared.replies.Reply.TheVariants as replies
 use Rattle.strm_machine.specs.declared.streams.Duty.TheVariants.{Serves}
 use Rattle.strm_machine.specs.declared.streams.Owner.TheVariants.{Host}
-use Rattle.strm_machine.specs.declared.streams.Side.TheVariants.{Reading}
+use Rattle.strm_machine.specs.declared.streams.Side.{Side}
+use Rattle.strm_machine.specs.declared.streams.Side.TheVariants.{Writing, Reading}
 use Rattle.strm_machine.specs.declared.stops.Stop.TheVariants as stops
 use Rattle.strm_world.specs.World.{World, stream_in, with_stream_in}
 use Rattle.strm_world.specs.Attaching.{forsaken}
 use Rattle.strm_world.specs.HostRefusals.{refusal_in}
 use Rattle.strm_world.specs.Steps.{outcome, may_poll, touches}
-use Rattle.strm_world.specs.Does.{Logs, world_of, Answered, FitsWriter, Fits, Does}
+use Rattle.strm_world.specs.Does.{Logs, world_of, Answered, FitsWriter, FitsReader, Fits, Does}
 use Rattle.strm_transmit.specs.Meets.{Meets}
 use Rattle.strm_transmit.specs.declared.errors.StoreError.{StoreError}
 use Rattle.strm_transmit.specs.declared.errors.StoreError.TheVariants.{Refused, HostFailed, HostBroke, BadItem, StoreTrapped, OutOfMemory}
@@ -32,19 +34,23 @@ answered (Err (BadItem stream)) = Err (Some (stops.BadItem stream))
 answered (Err StoreTrapped) = Err (Some stops.StoreTrapped)
 answered (Err OutOfMemory) = Err None
 
--- if host writer n is in use, it is there, with its stream's kind and payload
-abbrev pub FitsAt : State → Tells → ℕ → Type 0
-FitsAt state tells n = (s : ℕ) → (producer_at state n).duty ≡ Serves s → FitsWriter (stream_at state s) tells n
+-- if host end n is in use, it is there, with its stream's kind and payload: on the writing side a host
+-- writer, on the reading side a host reader
+abbrev pub FitsAt : Side → State → Tells → ℕ → Type 0
+FitsAt Writing state tells n =
+    (s : ℕ) → (producer_at state n).duty ≡ Serves s → FitsWriter (stream_at state s) tells n
+FitsAt Reading state tells r =
+    (s : ℕ) → (consumer_at state r).duty ≡ Serves s → FitsReader (stream_at state s) tells r
 
 -- whatever host ends fitted a store still fit it
 abbrev pub StillFits : State → State → Type 0
 StillFits old new = (tells : Tells) → Fits old tells → Fits new tells
 
--- the world after stream s lost its read end: a host writer on the other side goes too
-abbrev pub forsaken_in : World → ℕ → World
-forsaken_in world s =
+-- the world after stream s lost the end on a side: a host end on the other side goes too
+abbrev pub forsaken_in : World → ℕ → Side → World
+forsaken_in world s side =
     let stream = stream_in world s in
-    if is_host stream.writer.owner then with_stream_in world s (forsaken Reading stream) else world
+    if is_host (end_of (opposite side) stream).owner then with_stream_in world s (forsaken side stream) else world
 
 -- a state among no host ends: whether an act touches one is a fact of the state
 abbrev pub lone : State → World
@@ -83,7 +89,7 @@ pub record HasHeld (state : State) (tells : Tells) (s : ℕ) : Type 0 where
 
 -- a read for which a host writer holds items: they are handed over, and it is not polled
 abbrev pub IsHandedOver : State → Tells → Act → Type 0
-IsHandedOver state tells (OnEnd side end (Operate address count)) = HasHeld state tells (stream_named (named state end))
+IsHandedOver state tells (OnEnd Reading end (Operate address count)) = HasHeld state tells (stream_named (named state end))
 IsHandedOver state tells act = ⊥
 
 -- an error of a call that polled a host end

@@ -1,10 +1,14 @@
 -- The store's fields as the machine's state, and what they keep: counters that agree with it. Ours.
-use Rattle.std.specs.Prelude.{◌≡◌, ℕ, ◌<◌, ◌≤◌, false, List, length, count_by, slice_index_or}
-use Rattle.strm_machine.specs.State.{State, is_live, is_host, host_limit, no_stream, no_producer, handles_in_use, sets_in_use, bytes_in_use}
+use Rattle.std.specs.Prelude.{◌≡◌, ℕ, ◌<◌, ◌≤◌, List, length, count_by, slice_index_or}
+use Rattle.strm_machine.specs.State.{State, is_live, host_limit, no_stream, handles_in_use, sets_in_use, bytes_in_use}
+use Rattle.strm_machine.specs.Hosting.{duty_among}
+use Rattle.strm_machine.specs.Sides.{end_of}
 use Rattle.strm_machine.specs.Soundness.{IsSound}
+use Rattle.strm_machine.specs.declared.streams.Consumer.{Consumer}
 use Rattle.strm_machine.specs.declared.streams.Duty.TheVariants.{Serves}
 use Rattle.strm_machine.specs.declared.streams.Owner.TheVariants.{Host}
 use Rattle.strm_machine.specs.declared.streams.Producer.{Producer}
+use Rattle.strm_machine.specs.declared.streams.Side.{Side}
 use Rattle.strm_machine.specs.declared.streams.Stream.{Stream}
 use Rattle.strm_turns.specs.Guests.{seen}
 use Rattle.strm_transmit.specs.declared.store.Store.TheInside.{Inside}
@@ -17,18 +21,18 @@ state_of s = record {
   guests = seen s.guests.items;
   streams = s.streams.items;
   producers = s.producers;
+  consumers = s.consumers;
   contexts = s.contexts;
   trapped = s.is_trapped;
 }
 
--- the end of a host writer is of the one stream that it serves, a stream that is served was made, and
--- no host end has a read end
-pub record AreServed (producers : List Producer) (streams : List Stream) : Type 0 where
+-- the end of a host end is of the one stream that it serves, and a stream that is served was made
+pub record AreServed (producers : List Producer) (consumers : List Consumer) (streams : List Stream) : Type 0 where
   pub all : length producers ≡ host_limit
-  pub serves : (n s : ℕ) → (slice_index_or streams s no_stream).writer.owner ≡ Host n →
-      (slice_index_or producers n no_producer).duty ≡ Serves s
-  pub made : (n s : ℕ) → (slice_index_or producers n no_producer).duty ≡ Serves s → s < length streams
-  pub unpiped : (s : ℕ) → is_host (slice_index_or streams s no_stream).reader.owner ≡ false
+  pub all_readers : length consumers ≡ host_limit
+  pub serves : (side : Side) (n s : ℕ) → (end_of side (slice_index_or streams s no_stream)).owner ≡ Host n →
+      duty_among side producers consumers n ≡ Serves s
+  pub made : (side : Side) (n s : ℕ) → duty_among side producers consumers n ≡ Serves s → s < length streams
 
 -- handles name streams and sets, and operations lie in memory; what is counted is what is there
 pub record IsStore (s : Inside) : Type 0 where
@@ -37,7 +41,7 @@ pub record IsStore (s : Inside) : Type 0 where
   pub live : s.counter.live ≡ handles_in_use (state_of s)
   pub within : s.counter.live ≤ s.counter.limit
   pub streams : s.live_streams ≡ count_by is_live s.streams.items
-  pub served : AreServed s.producers s.streams.items
+  pub served : AreServed s.producers s.consumers s.streams.items
   pub sets : s.live_sets ≡ sets_in_use (state_of s)
   pub bytes : s.bytes ≡ bytes_in_use (state_of s)
   pub few_guests : length s.guests.items ≤ 1048576

@@ -8,6 +8,7 @@ use Rattle.strm_machine.specs.Reactions.{Reaction, goes}
 use Rattle.strm_machine.specs.declared.acts.Act.{Act}
 use Rattle.strm_machine.specs.declared.acts.Act.TheVariants.{Make, Transfer, OnLoose, OnHost, OnSet, OnContext}
 use Rattle.strm_machine.specs.declared.acts.ContextAct.TheVariants as context_acts
+use Rattle.strm_machine.specs.declared.acts.HostAct.TheVariants as host_acts
 use Rattle.strm_machine.specs.declared.acts.LooseAct.TheVariants.{Lower}
 use Rattle.strm_machine.specs.declared.acts.SetAct.TheVariants.{Join}
 use Rattle.strm_machine.specs.declared.steps.Step.{Step}
@@ -65,12 +66,14 @@ refused_too (Err OutOfMemory) = Err OutOfMemory
 refused_too (Ok reply) = Ok reply
 
 -- an act that takes memory: it makes something, gives a guest a handle that it has not given up in the
--- same act, gives a set a member, or acts on a host writer
+-- same act, gives a set a member, or acts on a host end; a pipe takes none
 abbrev pub act_takes_memory : Act → Bool
 act_takes_memory (Make making) = true
 act_takes_memory (Transfer end to) = not (end.guest == to)
 act_takes_memory (OnLoose reader (Lower guest ty)) = true
-act_takes_memory (OnHost host act) = true
+act_takes_memory (OnHost host host_acts.New) = true
+act_takes_memory (OnHost host (host_acts.Feed bytes)) = true
+act_takes_memory (OnHost host (host_acts.Grant count)) = true
 act_takes_memory (OnSet guest set (Join handle)) = true
 act_takes_memory (OnContext guest handle (context_acts.Move to)) = true
 act_takes_memory _ = false

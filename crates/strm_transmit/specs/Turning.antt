@@ -1,15 +1,27 @@
--- What the turn of a host writer does to a store, and which streams a drive round goes through. Ours.
-use Rattle.std.specs.Prelude.{◌≡◌, ℕ, ◌≤◌, nat_le, if◌then◌else◌, List, slice_set, slice_index_or, Option, Some, None, Result}
-use Rattle.strm_buffers.specs.Tells.{Tells, told_by, with_told}
-use Rattle.strm_machine.specs.State.{State, no_producer, producer_at, stream_at}
+-- What the turn of a host end does to a store, and which streams a drive round goes through. Ours.
+use Rattle.std.specs.Prelude.{◌≡◌, ℕ, ◌≤◌, nat_le, not, ◌&&◌, if◌then◌else◌, slice_set, Option, Some, None, Result}
+use Rattle.strm_buffers.specs.Tells.{Tells, told_by, with_told, told_by_reader, with_told_reader}
+use Rattle.strm_machine.specs.State.{State, producer_at, consumer_at, stream_at, is_host}
+use Rattle.strm_machine.specs.Hosting.{duty_of}
+use Rattle.strm_machine.specs.Sides.{opposite, end_of}
 use Rattle.strm_machine.specs.declared.streams.Duty.{Duty}
 use Rattle.strm_machine.specs.declared.streams.Duty.TheVariants.{Serves}
 use Rattle.strm_machine.specs.declared.streams.HostEnd.TheVariants as ends
 use Rattle.strm_machine.specs.declared.streams.Operation.{Operation}
 use Rattle.strm_machine.specs.declared.streams.Owner.{Owner}
-use Rattle.strm_machine.specs.declared.streams.Producer.{Producer}
+use Rattle.strm_machine.specs.declared.streams.Side.{Side}
+use Rattle.strm_machine.specs.declared.streams.Side.TheVariants.{Writing, Reading}
+use Rattle.strm_machine.specs.declared.streams.Stream.{Stream}
 use Rattle.strm_machine.specs.declared.streams.Owner.TheVariants.{Host}
+use Rattle.strm_world.specs.World.{World}
+use Rattle.strm_world.specs.Outcomes.{Outcome}
+use Rattle.strm_world.specs.Producing.{producer_turn}
+use Rattle.strm_world.specs.Consuming.{consumer_turn}
+use Rattle.strm_world.specs.Steps.{reads_from, writes_to}
 use Rattle.strm_producing.specs.Turning.{Scene, scene, Turns}
+use Rattle.strm_producing.specs.Taking.{Taking, taking, Takes}
+use Rattle.strm_producing.specs.declared.taking.TakeError.{TakeError}
+use Rattle.strm_producing.specs.declared.taking.TakeError.TheVariants as takes
 use Rattle.strm_producing.specs.declared.turns.TurnError.{TurnError}
 use Rattle.strm_producing.specs.declared.turns.TurnError.TheVariants.{Failed, OutOfMemory, Broke}
 use Rattle.strm_transmit.specs.declared.errors.StoreError.{StoreError}
@@ -20,6 +32,13 @@ abbrev pub stops_by : TurnError → ℕ → StoreError
 stops_by Failed n = errors.HostFailed (ends.Writer n)
 stops_by Broke n = errors.HostBroke (ends.Writer n)
 stops_by OutOfMemory n = errors.OutOfMemory
+
+-- why a turn of host reader r for a write on stream s does
+abbrev pub stops_taking : TakeError → ℕ → ℕ → StoreError
+stops_taking takes.Failed r s = errors.HostFailed (ends.Reader r)
+stops_taking takes.Broke r s = errors.HostBroke (ends.Reader r)
+stops_taking takes.BadItem r s = errors.BadItem s
+stops_taking takes.OutOfMemory r s = errors.OutOfMemory
 
 -- host writer n had its turn for a read on stream s: what a turn touches is as the turn left it, and
 -- nothing else changed
@@ -33,10 +52,38 @@ pub record TurnsStream (old new : State) (tells told : Tells) (n s : ℕ) (read 
   }
   pub ends : told ≡ with_told tells n after.tells
 
--- a host writer that has the write end of a stream, and the open read on it, if there are both
-abbrev pub due_in : Owner → Option Operation → Option (ℕ × Operation)
-due_in (Host n) (Some operation) = if operation.is_open then Some (n, operation) else None
-due_in _ _ = None
+-- host reader r had its turn for a write on stream s: the same
+pub record TakesStream (old new : State) (tells told : Tells) (r s : ℕ) (write : Operation) (result : Result (Unit {0}) TakeError) : Type 0 where
+  pub after : Taking
+  pub takes : Takes result (taking old.guests (stream_at old s) (consumer_at old r) (told_by_reader tells r)) after write
+  pub state : new ≡ record old {
+    guests = after.guests;
+    streams = slice_set old.streams s after.stream;
+    consumers = slice_set old.consumers r after.consumer;
+  }
+  pub ends : told ≡ with_told_reader tells r after.tells
+
+-- the turn of the host end across an operation on a side of stream s
+abbrev pub turn_for : Side → ℕ → ℕ → Operation → World → Outcome
+turn_for Reading s n read world = producer_turn world s n read
+turn_for Writing s r write world = consumer_turn world s r write
+
+-- an operation opens on a side of stream s, and the host end across has its turn at once
+abbrev pub polls_for : Side → ℕ → ℕ → Operation → World → Outcome
+polls_for Reading s n read world = reads_from world s n read
+polls_for Writing s r write world = writes_to world s r write
+
+-- the host end across an end with this operation, which it serves, if there are both: by the owners of the
+-- other end and of the end itself, of which a host end waits for nothing
+abbrev pub due_in : Owner → Owner → Option Operation → Option (ℕ × Operation)
+due_in (Host n) mine (Some operation) =
+    if not (is_host mine) && operation.is_open then Some (n, operation) else None
+due_in _ _ _ = None
+
+-- what is due on a side of a stream
+abbrev pub due_on : Side → Stream → Option (ℕ × Operation)
+due_on side stream =
+    due_in (end_of (opposite side) stream).owner (end_of side stream).owner (end_of side stream).operation
 
 -- the lesser of a number and another, if there is one
 abbrev pub least_of : ℕ → Option ℕ → Option ℕ
@@ -48,14 +95,23 @@ abbrev pub next_of : Duty → ℕ → Option ℕ → Option ℕ
 next_of (Serves s) from least = if nat_le from s then least_of s least else least
 next_of _ from least = least
 
--- the least stream from a number on that one of these host writers serves
-pub record IsNextServed (producers : List Producer) (from s : ℕ) : Type 0 where
+-- the least stream from a number on that a host end serves, of those that are looked at
+pub record IsNextAmong (state : State) (looked : Side → ℕ → Type 0) (from s : ℕ) : Type 0 where
   pub behind : from ≤ s
+  pub side : Side
   pub number : ℕ
-  pub serves : (slice_index_or producers number no_producer).duty ≡ Serves s
-  pub least : (n k : ℕ) → (slice_index_or producers n no_producer).duty ≡ Serves k → from ≤ k → s ≤ k
+  pub serves : duty_of side state number ≡ Serves s
+  pub least : (k : Side) (n t : ℕ) → looked k n → duty_of k state n ≡ Serves t → from ≤ t → s ≤ t
 
 -- which it is, if there is one
-abbrev pub NextServed : List Producer → ℕ → Option ℕ → Type 0
-NextServed producers from (Some s) = IsNextServed producers from s
-NextServed producers from None = (n k : ℕ) → (slice_index_or producers n no_producer).duty ≡ Serves k → from ≤ k → ⊥
+abbrev pub NextAmong : State → (Side → ℕ → Type 0) → ℕ → Option ℕ → Type 0
+NextAmong state looked from (Some s) = IsNextAmong state looked from s
+NextAmong state looked from None = (k : Side) (n t : ℕ) → looked k n → duty_of k state n ≡ Serves t → from ≤ t → ⊥
+
+-- of all host ends
+abbrev pub all_ends : Side → ℕ → Type 0
+all_ends side n = Unit {0}
+
+-- the least stream from a number on that a host end serves, if there is one
+abbrev pub NextServed : State → ℕ → Option ℕ → Type 0
+NextServed state from next = NextAmong state all_ends from next

@@ -19,13 +19,14 @@ pub enum StoreError {
     HostFailed { end: HostEnd },
     /// This host end broke its rules. The store is trapped from now on.
     HostBroke { end: HostEnd },
-    /// An item of this stream is no Unicode scalar value. Nothing was moved, and the store is
-    /// trapped from now on.
+    /// An item that was asked for on this stream is no Unicode scalar value. None was moved, and the
+    /// store is trapped from now on.
     BadItem { stream: u32 },
     /// An earlier call trapped the store. Nothing has changed.
     StoreTrapped,
-    /// An allocation was refused. In a drive round, and in a read that a host writer is to fill, the
-    /// store is trapped from now on; anywhere else nothing has changed.
+    /// An allocation was refused. In a drive round, in a read that a host writer is to fill, and in a
+    /// write that a host reader is to take from, the store is trapped from now on; anywhere else nothing
+    /// has changed.
     OutOfMemory,
 }
 

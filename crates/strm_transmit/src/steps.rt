@@ -218,7 +218,7 @@ fn on_loose(
     }
 }
 
-// What is done to a host writer.
+// What is done to a host end.
 #[inline(never)]
 fn on_host(
     store: &mut Store,
@@ -230,10 +230,14 @@ fn on_host(
     ensures meets { MeetsHosted store.old store.new (tells_of writer_tells reader_tells hosts.old)
         (tells_of writer_tells reader_tells hosts.new) result (acts.OnHost host act.now) }
     ensures settled { IfOk result (λ reply. IsTrue (is_settled reply)) }
+    ensures takes_no_memory { act_takes_memory (acts.OnHost host act.now) ≡ false
+        → result ≢ Err StoreError.OutOfMemory }
 {
     match act {
         HostAct::New => store.host_new(hosts, host).map(Reply::Number),
         HostAct::Feed { bytes } => store.feed(hosts, host, bytes).map(done),
+        HostAct::Pipe { reader } => store.pipe(hosts, *reader, host).map(done),
+        HostAct::Grant { count } => store.grant(hosts, host, *count).map(done),
     }
 }
 

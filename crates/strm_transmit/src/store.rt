@@ -6,6 +6,7 @@
 ghost use Rattle.std.specs.Prelude.{◌≡◌, ◌≢◌, Err, ◌<◌, ◌↔◌, false, length, Some, None, IsSome, IfSome, IsTrue};
 ghost use Rattle.strm_codes.specs.Types.{kind_of, payload_of};
 ghost use Rattle.strm_machine.specs.State.{empty, is_live, stream_at, memory_in};
+ghost use Rattle.strm_machine.specs.Soundness.{type_with};
 ghost use Rattle.strm_machine.specs.Tests.{is_unknown_guest};
 
 mod contexts;
@@ -16,18 +17,21 @@ mod making;
 mod memories;
 mod moves;
 mod operations;
+mod piping;
 mod refusals;
 mod sets;
+mod turning;
 
 use crate::errors::StoreError;
 use std::alloc::Global;
 use std::marker::Model;
 use strm_codes::codes::{TransmitIndex, TransmitKind};
+use strm_codes::payloads::Payload;
 use strm_codes::refusals::Refusal;
 use strm_contexts::contexts::ErrorContexts;
 use strm_handles::counters::HandleCounter;
 use strm_machine::limits::Limits;
-use strm_machine::streams::{Duty, Producer, Stream};
+use strm_machine::streams::{Consumer, Duty, Producer, Stream};
 use strm_turns::guests::Guest;
 use strm_turns::owners::is_live;
 
@@ -37,7 +41,23 @@ const NO_PRODUCER: Producer = Producer {
     over: false,
 };
 
-/// Guests, the streams between them, and what is kept of host writers.
+/// A host reader that was never used.
+const NO_CONSUMER: Consumer = Consumer {
+    duty: Duty::Unused,
+    since: 0,
+};
+
+// The type of the streams of a kind and a payload.
+pub(crate) fn type_with(kind: TransmitKind, payload: Payload) -> TransmitIndex
+    ensures { result ≡ type_with kind payload }
+{
+    match kind {
+        TransmitKind::Stream => TransmitIndex::Stream(payload),
+        TransmitKind::Future => TransmitIndex::Future(payload),
+    }
+}
+
+/// Guests, the streams between them, and what is kept of host ends.
 #[derive(Drop)]
 pub struct Store {
     tag: u64,
@@ -47,6 +67,8 @@ pub struct Store {
     streams: Vec<Stream>,
     // What is kept of each host writer, by its number.
     producers: [Producer; 64],
+    // And of each host reader.
+    consumers: [Consumer; 64],
     contexts: ErrorContexts,
     // Streams of which an end is there.
     live_streams: u32,
@@ -94,6 +116,7 @@ impl Store {
             guests: Vec::new(alloc),
             streams: Vec::new(alloc),
             producers: [NO_PRODUCER; 64],
+            consumers: [NO_CONSUMER; 64],
             contexts: ErrorContexts::new(alloc),
             live_streams: 0,
             live_sets: 0,
@@ -147,10 +170,7 @@ impl Store {
             return None;
         }
         let stream = &self.streams[stream as usize];
-        Some(match stream.kind {
-            TransmitKind::Stream => TransmitIndex::Stream(stream.payload),
-            TransmitKind::Future => TransmitIndex::Future(stream.payload),
-        })
+        Some(type_with(stream.kind, stream.payload))
     }
 
     /// The bytes of a guest's memory.
@@ -190,7 +210,7 @@ impl Store {
     fn admit<T: Copy>(&self, found: Result<T, Refusal>) -> Result<T, StoreError>
         ensures exact { result ≡ admitted self.now found }
         ensures sound { IsSound self.now }
-        ensures served { AreServed self.now.producers self.now.streams }
+        ensures served { AreServed self.now.producers self.now.consumers self.now.streams }
         ensures takes_no_memory { result ≢ Err StoreError.OutOfMemory }
     {
         if self.is_trapped {

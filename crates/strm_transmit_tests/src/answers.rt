@@ -36,6 +36,13 @@ pub(crate) fn no_hosts(alloc: Global) -> Hosts {
     }
 }
 
+/// A store with one guest of 16 bytes.
+pub(crate) fn one_guest(rt: &impl Abort, alloc: Global) -> Store {
+    let mut store = Store::new(alloc, 0, AMPLE);
+    is_number(rt, store.add_guest(16), 0);
+    store
+}
+
 /// The host ends are those that the store needs.
 pub(crate) fn must_fit(rt: &impl Abort, store: &Store, hosts: &Hosts)
     ensures { Fits store.now (tells_of writer_tells reader_tells hosts.now) }
@@ -242,6 +249,16 @@ pub(crate) fn writes_value(
         store.future_write(hosts, end.0, WORDS, end.1, address),
         code,
     );
+}
+
+/// A drive round.
+pub(crate) fn drive(
+    rt: &impl Abort,
+    store: &mut Store,
+    hosts: &mut Hosts,
+) -> Result<(), StoreError> {
+    must_fit(rt, store, hosts);
+    store.drive_once(hosts)
 }
 
 /// The loose read end of a stream goes.

@@ -6,8 +6,8 @@ ghost use Rattle.strm_codes.specs.declared.payloads.Payload.TheVariants.{One};
 ghost use Rattle.strm_codes.specs.declared.scalars.Scalar.TheVariants.{U8};
 
 use crate::answers::{
-    AMPLE, BYTE_STREAM, BYTES, begins, closes, drops_reader, has_moved, has_type, is_code, is_done,
-    is_error, is_event, is_number, is_refused, is_trapped, must_fit, no_hosts, reads,
+    BYTE_STREAM, BYTES, begins, closes, drive, drops_reader, has_moved, has_type, is_code, is_done,
+    is_error, is_event, is_number, is_refused, is_trapped, must_fit, no_hosts, one_guest, reads,
 };
 use std::alloc::Global;
 use std::process::Abort;
@@ -81,13 +81,6 @@ fn has_records(rt: &impl Abort, hosts: &Hosts, number: usize, records: usize) {
     assert_eq!(rt; hosts.writers[number].records(), records);
 }
 
-// A store with one guest of 16 bytes.
-fn one_guest(rt: &impl Abort, alloc: Global) -> Store {
-    let mut store = Store::new(alloc, 0, AMPLE);
-    is_number(rt, store.add_guest(16), 0);
-    store
-}
-
 // A stream of a host writer.
 fn host(rt: &impl Abort, store: &mut Store, hosts: &Hosts, writer: u32) -> Result<u32, StoreError> {
     must_fit(rt, store, hosts);
@@ -106,11 +99,6 @@ fn reader_of(rt: &impl Abort, alloc: Global, hosts: &Hosts, writer: u32) -> Stor
 fn no_read(rt: &impl Abort, store: &mut Store, hosts: &mut Hosts) -> Option<StoreError> {
     must_fit(rt, store, hosts);
     store.stream_read(hosts, 0, BYTES, 1, 0, 2).err()
-}
-
-fn drive(rt: &impl Abort, store: &mut Store, hosts: &mut Hosts) -> Result<(), StoreError> {
-    must_fit(rt, store, hosts);
-    store.drive_once(hosts)
 }
 
 const SERVED: [Turn; 3] = [

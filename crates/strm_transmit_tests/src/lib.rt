@@ -1,5 +1,5 @@
 //! The store by example, in public calls alone: each call once, limits, what stops a store, and host
-//! writers that follow a script. What lines can show stands in `examples/`.
+//! ends that follow a script. What lines can show stands in `examples/`.
 //!
 //! What is called is compared by the functions of `answers`, since a comparison in a test's own body
 //! takes ten times as long to prove.
@@ -17,6 +17,8 @@ mod hosts;
 mod limits;
 #[cfg(test)]
 mod moves;
+#[cfg(test)]
+mod readers;
 #[cfg(test)]
 mod sets;
 #[cfg(test)]

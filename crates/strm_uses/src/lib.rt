@@ -4,6 +4,7 @@
 #![tactic(auto)]
 
 pub mod buffers;
+pub mod embed;
 pub mod handles;
 pub mod memory;
 pub mod resources;

@@ -1,4 +1,4 @@
--- A drive round passes over the streams that no host writer writes, and may be cut in two.
+-- A drive round passes over the streams that have no host end, and may be cut in two.
 use Rattle.std.proofs.Common.{◌≡◌, ℕ, zero, suc, ◌+◌, Bool, true, false, cond, List, [], ◌∷◌, ◌++◌, append-nil, Option, Some, None, Ok, Err, refl, sym, ap, ◌∙◌, arith}
 use Rattle.strm_buffers.specs.Tells.{Tells}
 use Rattle.strm_machine.specs.State.{State, is_host}
@@ -11,21 +11,24 @@ use Rattle.strm_machine.specs.declared.streams.Stream.{Stream}
 use Rattle.strm_world.specs.World.{World, stream_in}
 use Rattle.strm_world.specs.Outcomes.{Outcome, Goes, Stops, Stuck, done, then_on}
 use Rattle.strm_world.specs.Producing.{producer_turn}
+use Rattle.strm_world.specs.Consuming.{consumer_turn}
 use Rattle.strm_world.specs.Driving.{if_open, driven_by, drive_turn, driven, numbers_from}
 use Rattle.strm_world.specs.Does.{Logs, world_of, Answered, Does}
 use Rattle.strm_world.proofs.DoesLemmas.{Does-then, Does-stop, Does-untold, Does-as}
 
-driven_by-other : (world : World) (s : ℕ) (stream : Stream) (writer : Owner) → is_host writer ≡ false → driven_by world s stream writer ≡ done world
-driven_by-other world s stream (Host n) e = cc
-driven_by-other world s stream _ e = refl
+driven_by-other : (world : World) (s : ℕ) (stream : Stream) (writer reader : Owner) → is_host writer ≡ false → is_host reader ≡ false → driven_by world s stream writer reader ≡ done world
+driven_by-other world s stream (Host n) reader e f = cc
+driven_by-other world s stream writer (Host r) e f = cc
+driven_by-other world s stream _ _ e f = refl
 
--- no host writer writes stream s
-abbrev pub IsAlone : World → ℕ → Type 0
-IsAlone world s = is_host (stream_in world s).writer.owner ≡ false
+-- no host end has an end of stream s
+pub record IsAlone (world : World) (s : ℕ) : Type 0 where
+  pub writer : is_host (stream_in world s).writer.owner ≡ false
+  pub reader : is_host (stream_in world s).reader.owner ≡ false
 
 pub drive_turn-alone : (world : World) (s : ℕ) → IsAlone world s → drive_turn world s ≡ done world
 unfolding drive_turn
-drive_turn-alone world s h = driven_by-other world s (stream_in world s) (stream_in world s).writer.owner h
+drive_turn-alone world s h = driven_by-other world s (stream_in world s) (stream_in world s).writer.owner (stream_in world s).reader.owner h.writer h.reader
 
 -- so many streams from one on are alone
 abbrev pub AreAlone : World → ℕ → ℕ → Type 0
@@ -61,13 +64,19 @@ driven-append world (s ∷ xs) ys =
 -- a stream whose host writer has an open read to serve
 pub record IsDue (world : World) (s n : ℕ) (read : Operation) : Type 0 where
   pub owner : (stream_in world s).writer.owner ≡ Host n
+  pub unpiped : is_host (stream_in world s).reader.owner ≡ false
   pub read_is : (stream_in world s).reader.operation ≡ Some read
   pub is_open : read.is_open ≡ true
+
+driven_by-writer : (world : World) (s : ℕ) (stream : Stream) (n : ℕ) (reader : Owner) → is_host reader ≡ false → driven_by world s stream (Host n) reader ≡ if_open world stream.reader.operation (producer_turn world s n)
+driven_by-writer world s stream n (Host r) e = cc
+driven_by-writer world s stream n _ e = refl
 
 pub drive_turn-due : (world : World) (s n : ℕ) (read : Operation) → IsDue world s n read → drive_turn world s ≡ producer_turn world s n read
 unfolding drive_turn
 drive_turn-due world s n read d =
-    ap (driven_by world s (stream_in world s)) d.owner
+    ap (λ o. driven_by world s (stream_in world s) o (stream_in world s).reader.owner) d.owner
+    ∙ driven_by-writer world s (stream_in world s) n (stream_in world s).reader.owner d.unpiped
     ∙ ap (λ o. if_open world o (producer_turn world s n)) d.read_is
     ∙ ap (λ b. cond b (producer_turn world s n read) (done world)) d.is_open
 
@@ -80,14 +89,49 @@ if_open-idle : (world : World) (o : Option Operation) (turn : Operation → Outc
 if_open-idle world None turn e = refl
 if_open-idle world (Some operation) turn e = ap (λ b. cond b (turn operation) (done world)) e
 
-idle_by : (world : World) (s : ℕ) (owner : Owner) → waits_open (stream_in world s).reader.operation ≡ false → driven_by world s (stream_in world s) owner ≡ done world
-idle_by world s (Host n) e = if_open-idle world (stream_in world s).reader.operation (producer_turn world s n) e
-idle_by world s _ e = refl
+idle_by : (world : World) (s : ℕ) (owner reader : Owner) → waits_open (stream_in world s).reader.operation ≡ false → is_host reader ≡ false → driven_by world s (stream_in world s) owner reader ≡ done world
+idle_by world s owner (Host r) e f = cc
+idle_by world s (Host n) reader e f = driven_by-writer world s (stream_in world s) n reader f ∙ if_open-idle world (stream_in world s).reader.operation (producer_turn world s n) e
+idle_by world s _ _ e f = refl
 
--- a stream without an open read
-pub drive_turn-idle : (world : World) (s : ℕ) → waits_open (stream_in world s).reader.operation ≡ false → drive_turn world s ≡ done world
+-- a stream without an open read, which no host reader reads
+pub drive_turn-idle : (world : World) (s : ℕ) → waits_open (stream_in world s).reader.operation ≡ false → is_host (stream_in world s).reader.owner ≡ false → drive_turn world s ≡ done world
 unfolding drive_turn
-drive_turn-idle world s e = idle_by world s (stream_in world s).writer.owner e
+drive_turn-idle world s e f = idle_by world s (stream_in world s).writer.owner (stream_in world s).reader.owner e f
+
+-- a stream that a host reader reads has an open write to serve
+pub record IsDueWrite (world : World) (s r : ℕ) (write : Operation) : Type 0 where
+  pub owner : (stream_in world s).reader.owner ≡ Host r
+  pub unhosted : is_host (stream_in world s).writer.owner ≡ false
+  pub write_is : (stream_in world s).writer.operation ≡ Some write
+  pub is_open : write.is_open ≡ true
+
+driven_by-reader : (world : World) (s : ℕ) (stream : Stream) (writer : Owner) (r : ℕ) → is_host writer ≡ false → driven_by world s stream writer (Host r) ≡ if_open world stream.writer.operation (consumer_turn world s r)
+driven_by-reader world s stream (Host n) r e = cc
+driven_by-reader world s stream _ r e = refl
+
+pub drive_turn-due_write : (world : World) (s r : ℕ) (write : Operation) → IsDueWrite world s r write → drive_turn world s ≡ consumer_turn world s r write
+unfolding drive_turn
+drive_turn-due_write world s r write d =
+    ap (driven_by world s (stream_in world s) (stream_in world s).writer.owner) d.owner
+    ∙ driven_by-reader world s (stream_in world s) (stream_in world s).writer.owner r d.unhosted
+    ∙ ap (λ o. if_open world o (consumer_turn world s r)) d.write_is
+    ∙ ap (λ b. cond b (consumer_turn world s r write) (done world)) d.is_open
+
+-- and none
+pub drive_turn-idle_write : (world : World) (s r : ℕ) → (stream_in world s).reader.owner ≡ Host r → is_host (stream_in world s).writer.owner ≡ false → waits_open (stream_in world s).writer.operation ≡ false → drive_turn world s ≡ done world
+unfolding drive_turn
+drive_turn-idle_write world s r o u e =
+    ap (driven_by world s (stream_in world s) (stream_in world s).writer.owner) o
+    ∙ driven_by-reader world s (stream_in world s) (stream_in world s).writer.owner r u
+    ∙ if_open-idle world (stream_in world s).writer.operation (consumer_turn world s r) e
+
+-- a stream from a host writer to a host reader is passed over
+pub drive_turn-piped : (world : World) (s n r : ℕ) → (stream_in world s).writer.owner ≡ Host n → (stream_in world s).reader.owner ≡ Host r → drive_turn world s ≡ done world
+unfolding drive_turn
+drive_turn-piped world s n r o e =
+    ap (λ w. driven_by world s (stream_in world s) w (stream_in world s).reader.owner) o
+    ∙ ap (driven_by world s (stream_in world s) (Host n)) e
 
 -- THE ROUND AS A LOOP
 

@@ -6,12 +6,16 @@ pub mod ReactedLemmas
 pub mod DriveLemmas
 pub mod PollLemmas
 pub mod CloseLemmas
+pub mod ReaderLemmas
 pub mod SettleLemmas
 pub mod LoweredLemmas
 pub mod OutcomeLemmas
 pub mod TurnLemmas
+pub mod ConsumeLemmas
 pub mod BackLemmas
 pub mod AttachLemmas
+pub mod PipeAttachLemmas
 pub mod ReadLemmas
+pub mod WriteLemmas
 pub mod FitsLemmas
 pub mod AloneLemmas

@@ -1,13 +1,13 @@
 -- How code over a store and its host ends meets the machine, whatever records are yet to come. Ours.
-use Rattle.std.specs.Prelude.{◌≡◌, ℕ, ◌<◌, ◌≤◌, List, [], ◌∷◌, ◌++◌, length, drop, map, slice_index_or, All, Option, Some, None, Result, Ok, Err}
+use Rattle.std.specs.Prelude.{◌≡◌, ℕ, ◌<◌, ◌≤◌, List, [], ◌∷◌, ◌++◌, length, drop, map, All, Option, Some, None, Result, Ok, Err}
 use Rattle.strm_codes.specs.Layout.{scalars_of}
 use Rattle.strm_codes.specs.declared.payloads.Payload.{Payload}
 use Rattle.strm_memory.specs.Items.{AreItems}
 use Rattle.strm_buffers.specs.declared.answers.ReaderSaid.{ReaderSaid}
 use Rattle.strm_buffers.specs.Listing.{Item}
 use Rattle.strm_buffers.specs.Said.{WriterSaid}
-use Rattle.strm_buffers.specs.Tells.{WriterTells, ReaderTells, Tells, Rose, no_reader_tells, told_by}
-use Rattle.strm_machine.specs.State.{State, empty, producer_at, stream_at}
+use Rattle.strm_buffers.specs.Tells.{WriterTells, ReaderTells, Tells, Rose, told_by, told_by_reader}
+use Rattle.strm_machine.specs.State.{State, empty, producer_at, consumer_at, stream_at}
 use Rattle.strm_machine.specs.declared.limits.Limits.{Limits}
 use Rattle.strm_machine.specs.declared.streams.Duty.{Duty}
 use Rattle.strm_machine.specs.declared.streams.Duty.TheVariants.{Unused, Serves, Ended}
@@ -121,10 +121,16 @@ pub record FitsWriter (stream : Stream) (tells : Tells) (n : ℕ) : Type 0 where
   pub kind : (told_by tells n).kind ≡ stream.kind
   pub payload : (told_by tells n).payload ≡ stream.payload
 
+-- the same of a host reader
+pub record FitsReader (stream : Stream) (tells : Tells) (r : ℕ) : Type 0 where
+  pub there : r < length tells.readers
+  pub kind : (told_by_reader tells r).kind ≡ stream.kind
+  pub payload : (told_by_reader tells r).payload ≡ stream.payload
+
 -- every host end in use is there, with its stream's kind and payload
-abbrev pub Fits : State → Tells → Type 0
-Fits state tells =
-    (n s : ℕ) → (producer_at state n).duty ≡ Serves s → FitsWriter (stream_at state s) tells n
+pub record Fits (state : State) (tells : Tells) : Type 0 where
+  pub writers : (n s : ℕ) → (producer_at state n).duty ≡ Serves s → FitsWriter (stream_at state s) tells n
+  pub readers : (r s : ℕ) → (consumer_at state r).duty ≡ Serves s → FitsReader (stream_at state s) tells r
 
 -- CALLS
 
@@ -141,7 +147,7 @@ Gives (Err (Some stop)) after outcome = outcome ≡ Stops stop after.writers aft
 -- the count of faults of a host end
 abbrev pub faults_of : Tells → HostEnd → ℕ
 faults_of tells (ends.Writer n) = (told_by tells n).faults
-faults_of tells (ends.Reader n) = (slice_index_or tells.readers n no_reader_tells).faults
+faults_of tells (ends.Reader n) = (told_by_reader tells n).faults
 
 -- HostFailed comes only where that end's count of faults rose, or stands at its counter's end
 abbrev pub Caused : Answered → Tells → Tells → Type 0

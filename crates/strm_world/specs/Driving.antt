@@ -1,4 +1,4 @@
--- A drive round: one turn of each stream whose host end has something to do, by number.
+-- A drive round: one turn of each stream whose host ends have something to do, by number.
 -- Ours: wasmtime's event loop polls the futures of its host ends.
 use Rattle.std.specs.Prelude.{ℕ, zero, suc, ◌+◌, if◌then◌else◌, List, [], ◌∷◌, length, Option, Some, None}
 use Rattle.strm_machine.specs.declared.streams.Owner.{Owner}
@@ -8,20 +8,25 @@ use Rattle.strm_machine.specs.declared.streams.Stream.{Stream}
 use Rattle.strm_world.specs.World.{World, stream_in}
 use Rattle.strm_world.specs.Outcomes.{Outcome, done, then_on}
 use Rattle.strm_world.specs.Producing.{producer_turn}
+use Rattle.strm_world.specs.Consuming.{consumer_turn}
 
 -- a turn for an operation that is open
 abbrev pub if_open : World → Option Operation → (Operation → Outcome) → Outcome
 if_open world None turn = done world
 if_open world (Some operation) turn = if operation.is_open then turn operation else done world
 
--- by the owner of its write end
-abbrev pub driven_by : World → ℕ → Stream → Owner → Outcome
-driven_by world s stream (Host n) = if_open world stream.reader.operation (producer_turn world s n)
-driven_by world s stream _ = done world
+-- by the owners of its write end and of its read end. A stream from a host writer to a host reader is
+-- passed over
+abbrev pub driven_by : World → ℕ → Stream → Owner → Owner → Outcome
+driven_by world s stream (Host n) (Host r) = done world
+driven_by world s stream (Host n) _ = if_open world stream.reader.operation (producer_turn world s n)
+driven_by world s stream _ (Host r) = if_open world stream.writer.operation (consumer_turn world s r)
+driven_by world s stream _ _ = done world
 
 -- the turn of stream s in a drive round
 unfoldable pub drive_turn : World → ℕ → Outcome
-drive_turn world s = let stream = stream_in world s in driven_by world s stream stream.writer.owner
+drive_turn world s =
+    let stream = stream_in world s in driven_by world s stream stream.writer.owner stream.reader.owner
 
 -- so many numbers, from one on
 abbrev pub numbers_from : ℕ → ℕ → List ℕ

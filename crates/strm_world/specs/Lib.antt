@@ -4,6 +4,7 @@ pub mod Outcomes
 pub mod Polls
 pub mod Settling
 pub mod Producing
+pub mod Consuming
 pub mod Attaching
 pub mod Driving
 pub mod HostRefusals

@@ -84,7 +84,7 @@ impl SharedStore {
             (token seat.new.table_id number seat.new.me.0)) }
     {
         for _ in rt.forever() {
-            let heard = self.reports.now(rt);
+            let heard = self.reports.now();
             match self.shift(rt, alloc, seat, number, step) {
                 Ok(None) => self.reports.wait_past(rt, heard),
                 Ok(Some(reply)) => {

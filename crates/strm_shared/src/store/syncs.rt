@@ -129,7 +129,7 @@ impl SharedStore {
             error (token seat.new.table_id number seat.new.me.0)) }
     {
         for _ in rt.forever() {
-            let heard = self.reports.now(rt);
+            let heard = self.reports.now();
             match self.look(rt, seat, number, place) {
                 Ok(None) => self.reports.wait_past(rt, heard),
                 Ok(Some(reply)) => {

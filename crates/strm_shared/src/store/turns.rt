@@ -11,14 +11,61 @@ use crate::rule::{Await, Draw, Look, Pass};
 use crate::seat::Inside;
 use crate::steps::ends_waits;
 use crate::store::SharedStore;
+use std::hint::spin_loop;
 use std::sync::Wait;
+use std::time::Duration;
 use strm_machine::steps::Step;
 
 const TICKET: usize = 0;
 
 const SERVING: usize = 1;
 
+const SEATS: usize = 2;
+
+/// How often a thread that finds the store taken asks again, before it draws a ticket: at first it pauses
+/// between two, so many times and each time twice as many; after some of these it sleeps between two.
+const ASKS: u32 = 200;
+
+const ASKS_AWAKE: u32 = 5;
+
+const PAUSES: u32 = 32;
+
+/// In microseconds.
+const SLEEP: u64 = 50;
+
+fn pause(times: u32) {
+    for _ in 0..times {
+        spin_loop();
+    }
+}
+
 impl SharedStore {
+    // Waits a while until nobody has the turn. It tells nothing: a ticket is right at any time. But a turn
+    // that comes at once is cheap, while one that goes from thread to thread takes the store from one
+    // processor to another each time.
+    fn stand_back<R: Wait>(&self, rt: &R) {
+        let mut pauses = PAUSES;
+        for asked in 0..ASKS {
+            let serving = self.table.shared.peek(SERVING);
+            if self.table.shared.peek(TICKET) == serving {
+                return;
+            }
+            if asked < ASKS_AWAKE {
+                pause(pauses);
+                pauses = pauses.saturating_mul(2);
+            } else {
+                self.sleep(rt);
+            }
+        }
+    }
+
+    // Sleeps for a moment: on the word of seats, which hardly changes.
+    fn sleep<R: Wait>(&self, rt: &R) {
+        let seats = (self.table.shared.peek(SEATS) % (1 << 32)) as u32;
+        let time = Duration::from_micros(SLEEP);
+        self.table.shared.park_timeout(rt, SEATS, seats, time);
+    }
+
     // Draws a ticket. None where the last one is drawn.
     fn draw<R: Wait>(&self, rt: &R, seat: &mut Inside) -> Option<u64>
         requires id { seat.old.table_id ≡ self.now.table.shared.table_id }
@@ -29,6 +76,7 @@ impl SharedStore {
             (λ t. (seat.new.me ≡ (queued (looked seat.old.me.0 t) t, seat.old.me.1)) × (t < 2 ^ 64 - 1)) }
         ensures top { seat.old.me.0.top_ticket ≤ seat.new.me.0.top_ticket }
     {
+        self.stand_back(rt);
         for _ in rt.forever() {
             let found = self.table.shared.load::<Look>(seat, TICKET);
             if found == u64::MAX {
@@ -75,7 +123,7 @@ impl SharedStore {
             return desk;
         }
         for _ in rt.forever() {
-            let heard = self.turns.now(rt);
+            let heard = self.turns.now();
             if let Some(desk) = self.look_at_turn(seat, ticket) {
                 self.turns.forget();
                 return desk;

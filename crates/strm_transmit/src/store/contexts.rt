@@ -84,12 +84,12 @@ impl Store {
     }
 
     // Whether so many bytes pass the end of a guest's memory.
-    pub(crate) fn is_outside(&self, guest: u32, address: u32, count: u32) -> bool
+    pub(crate) fn is_outside(&self, guest: u32, address: u32, count: usize) -> bool
         requires { guest < length self.now.guests }
         ensures { result ≡ are_bytes_out_of_bounds self.now guest address count }
     {
         let size = self.guests[guest as usize].memory.bytes().len() as u128;
-        count > 0 && size < u128::from(address) + u128::from(count)
+        count > 0 && size < u128::from(address) + count as u128
     }
 
     // Whether bytes of a guest's memory are no text.
@@ -113,7 +113,7 @@ impl Store {
         if len > LONGEST_MESSAGE {
             return Some(Refusal::MessageTooLong);
         }
-        if self.is_outside(guest, address, len) {
+        if self.is_outside(guest, address, len as usize) {
             return Some(Refusal::OutOfBounds);
         }
         if self.is_bad_text(guest, address, len) {
@@ -189,7 +189,7 @@ impl Store {
     {
         match self.context_found(guest, handle) {
             Ok(context) => {
-                if self.is_outside(guest, address, self.message_len(context)) {
+                if self.is_outside(guest, address, self.message_len(context) as usize) {
                     return Err(Refusal::OutOfBounds);
                 }
                 Ok(context)

@@ -133,7 +133,7 @@ impl Store {
         match self.admit(self.drop_found(side, end)) {
             Ok(stream) => {
                 self.release(side, end, stream, Owner::Gone);
-                self.forsake(hosts, stream);
+                self.forsake(hosts, stream, side);
                 Ok(())
             }
             Err(error) => Err(error),
@@ -240,8 +240,9 @@ impl Store {
 
     /// Cancels the operation of the end that a handle names. It ends with what it was to be told, of
     /// which a stream's Completed is answered as Cancelled, or with Cancelled of no item. A read that
-    /// waits for a host writer, with nothing to be told, is answered Blocked; further cancels are
-    /// refused, also once the writer has answered, until its event is taken.
+    /// waits for a host writer, and a write that waits for a host reader, with nothing to be told, is
+    /// answered Blocked; further cancels are refused, also once the host end has answered, until its
+    /// event is taken.
     pub(crate) fn cancel_side(
         &mut self,
         side: Side,

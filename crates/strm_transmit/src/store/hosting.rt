@@ -1,20 +1,21 @@
-//! Host writers: the streams that they write, bytes from outside for them, and their close.
+//! Host ends: the streams of host writers, bytes and grants from outside, and the close of host ends.
 //!
 //! Meaning: `Attaching.antt` and `HostRefusals.antt` of `strm_world`. Source: wasmtime,
-//! `StreamReader::new`, `FutureReader::new`, and the drops of ends; `feed` is ours.
+//! `StreamReader::new`, `FutureReader::new`, and the drops of ends; `feed` and `grant` are ours.
 
 ghost use Rattle.std.specs.Prelude.{◌≡◌, ◌<◌, ◌↔◌, ◌++◌, ◌∷◌, [], false, length, slice_set, Ok, Err, IsTrue, OnOk, OnErr, IfOk};
 ghost use Rattle.strm_buffers.specs.AllTells.{tells_of};
-ghost use Rattle.strm_machine.specs.State.{host_limit, stream_limit, idle_end, producer_at, no_producer, stream_at, is_host};
+ghost use Rattle.strm_machine.specs.State.{host_limit, stream_limit, idle_end, producer_at, no_producer, consumer_at, stream_at, is_host};
+ghost use Rattle.strm_machine.specs.Sides.{opposite, end_of};
 ghost use Rattle.strm_machine.specs.declared.acts.Act.TheVariants.{OnHost};
 ghost use Rattle.strm_machine.specs.declared.acts.HostAct.TheVariants as host_acts;
 ghost use Rattle.strm_machine.specs.declared.replies.Reply.TheVariants as replies;
 ghost use Rattle.strm_machine.specs.declared.streams.Duty.TheVariants.{Unused, Serves, Ended};
 ghost use Rattle.strm_machine.specs.declared.streams.Owner.TheVariants.{Host, Loose, Gone};
-ghost use Rattle.strm_machine.specs.declared.streams.Side.TheVariants.{Writing};
+ghost use Rattle.strm_machine.specs.declared.streams.Side.TheVariants.{Writing, Reading};
 ghost use Rattle.strm_world.specs.Outcomes.{done};
 ghost use Rattle.strm_world.specs.HostRefusals.{is_unknown_host, refusal_in};
-ghost use Rattle.strm_world.specs.Does.{Logs, world_of, FitsWriter, Fits, Does};
+ghost use Rattle.strm_world.specs.Does.{Logs, world_of, FitsWriter, FitsReader, Fits, Does};
 ghost use Rattle.strm_transmit.specs.Inside.{AreServed};
 ghost use Rattle.strm_transmit.specs.Meets.{replied, or_found};
 ghost use Rattle.strm_transmit.specs.Hosted.{FitsAt, forsaken_in, MeetsHosted};
@@ -30,14 +31,14 @@ use strm_codes::refusals::Refusal;
 use strm_machine::chunks::Chunk;
 use strm_machine::streams::{Duty, Owner, Producer, Side, Stream};
 
-/// Host writers are numbered from 0 to 63.
+/// Host writers are numbered from 0 to 63, and so are host readers.
 pub(crate) const MOST_HOSTS: usize = 64;
 
-// Whether a number is none of the host writers.
-fn is_unknown_host(hosts: &Hosts, host: u32) -> bool
-    ensures { result ≡ is_unknown_host (length (tells_of writer_tells reader_tells hosts.now).writers) host }
+// Whether a number is none of so many host ends.
+pub(crate) fn is_unknown_host(count: usize, host: u32) -> bool
+    ensures { result ≡ is_unknown_host count host }
 {
-    host as usize >= hosts.count_writers() || host as usize >= MOST_HOSTS
+    host as usize >= count || host as usize >= MOST_HOSTS
 }
 
 // Whether a host writer is there, with a stream's kind and payload.
@@ -52,11 +53,23 @@ fn writes(hosts: &Hosts, number: usize, stream: &Stream) -> bool
     is_of_kind && is_of_payload
 }
 
+// Whether a host reader is there, with a stream's kind and payload.
+fn reads(hosts: &Hosts, number: usize, stream: &Stream) -> bool
+    ensures { IsTrue result ↔ FitsReader stream.now (tells_of writer_tells reader_tells hosts.now) number }
+{
+    if number >= hosts.count_readers() {
+        return false;
+    }
+    let is_of_kind = same_kind(hosts.reader_kind(number), stream.kind);
+    let is_of_payload = hosts.reader_payload(number) == stream.payload;
+    is_of_kind && is_of_payload
+}
+
 impl Store {
-    // What holds of host writers and streams. It does nothing.
+    // What holds of host ends and streams. It does nothing.
     #[inline(always)]
     pub(crate) fn served(&self)
-        ensures { AreServed self.now.producers self.now.streams }
+        ensures { AreServed self.now.producers self.now.consumers self.now.streams }
     {
         let _ = &self.producers;
     }
@@ -64,10 +77,21 @@ impl Store {
     // Whether a host writer is there, with its stream's kind and payload, if it has one.
     fn fits_writer(&self, hosts: &Hosts, number: usize) -> bool
         requires { number < host_limit }
-        ensures { IsTrue result ↔ FitsAt self.now (tells_of writer_tells reader_tells hosts.now) number }
+        ensures { IsTrue result ↔ FitsAt Writing self.now (tells_of writer_tells reader_tells hosts.now) number }
     {
         match self.producers[number].duty {
             Duty::Serves { stream } => writes(hosts, number, self.stream(stream)),
+            _ => true,
+        }
+    }
+
+    // The same of a host reader.
+    fn fits_reader(&self, hosts: &Hosts, number: usize) -> bool
+        requires { number < host_limit }
+        ensures { IsTrue result ↔ FitsAt Reading self.now (tells_of writer_tells reader_tells hosts.now) number }
+    {
+        match self.consumers[number].duty {
+            Duty::Serves { stream } => reads(hosts, number, self.stream(stream)),
             _ => true,
         }
     }
@@ -81,6 +105,9 @@ impl Store {
             if !self.fits_writer(hosts, number) {
                 return false;
             }
+            if !self.fits_reader(hosts, number) {
+                return false;
+            }
         }
         true
     }
@@ -90,7 +117,7 @@ impl Store {
         ensures { (logs : Logs) → result ≡ or_found (refusal_in
             (world_of self.now (tells_of writer_tells reader_tells hosts.now) logs) (OnHost writer host_acts.New)) tt }
     {
-        if is_unknown_host(hosts, writer) {
+        if is_unknown_host(hosts.count_writers(), writer) {
             return Err(Refusal::UnknownHost);
         }
         if self.producers[writer as usize].duty != Duty::Unused {
@@ -164,7 +191,7 @@ impl Store {
             (world_of self.now (tells_of writer_tells reader_tells hosts.now) logs)
             (OnHost host (host_acts.Feed bytes.now))) tt }
     {
-        if is_unknown_host(hosts, host) {
+        if is_unknown_host(hosts.count_writers(), host) {
             return Err(Refusal::UnknownHost);
         }
         Ok(())
@@ -186,6 +213,34 @@ impl Store {
         }
     }
 
+    // Whether there is a host reader of this number.
+    fn grant_fits(&self, hosts: &Hosts, host: u32, count: u32) -> Result<(), Refusal>
+        ensures { (logs : Logs) → result ≡ or_found (refusal_in
+            (world_of self.now (tells_of writer_tells reader_tells hosts.now) logs)
+            (OnHost host (host_acts.Grant count))) tt }
+    {
+        if is_unknown_host(hosts.count_readers(), host) {
+            return Err(Refusal::UnknownHost);
+        }
+        Ok(())
+    }
+
+    /// Passes on to a host reader that it may take so many items more.
+    pub(crate) fn grant(&self, hosts: &mut Hosts, host: u32, count: u32) -> Result<(), StoreError>
+        requires fits { Fits self.now (tells_of writer_tells reader_tells hosts.old) }
+        ensures meets { MeetsHosted self.now self.now (tells_of writer_tells reader_tells hosts.old)
+            (tells_of writer_tells reader_tells hosts.new) (replied (λ _. replies.Done) result)
+            (OnHost host (host_acts.Grant count)) }
+    {
+        match self.admit(self.grant_fits(hosts, host, count)) {
+            Ok(()) => match hosts.grant(host as usize, count) {
+                Ok(()) => Ok(()),
+                Err(_) => Err(StoreError::OutOfMemory),
+            },
+            Err(error) => Err(error),
+        }
+    }
+
     // A host writer whose stream has no write end any more is done.
     pub(crate) fn retire(&mut self, stream: u32, number: u32)
         requires serves { (producer_at self.old number).duty ≡ Serves stream }
@@ -198,13 +253,25 @@ impl Store {
         self.producers[number as usize].duty = Duty::Ended;
     }
 
+    // A host reader whose stream has no read end any more is done.
+    pub(crate) fn retire_reader(&mut self, stream: u32, number: u32)
+        requires serves { (consumer_at self.old number).duty ≡ Serves stream }
+        requires gone { (stream_at self.old stream).reader.owner ≡ Gone }
+        ensures { self.new ≡ record self.old {
+          consumers = slice_set self.old.consumers number
+              (record (consumer_at self.old number) { duty = Ended });
+        } }
+    {
+        self.consumers[number as usize].duty = Duty::Ended;
+    }
+
     // A stream lost its read end: a host writer on the other side goes too, and is closed.
-    pub(crate) fn forsake(&mut self, hosts: &mut Hosts, stream: u32)
+    fn forsake_writer(&mut self, hosts: &mut Hosts, stream: u32)
         requires there { stream < length self.old.streams }
         requires fits { Fits self.old (tells_of writer_tells reader_tells hosts.old) }
         ensures does { Does self.old self.new (tells_of writer_tells reader_tells hosts.old)
             (tells_of writer_tells reader_tells hosts.new) (Ok replies.Done)
-            (λ world. done (forsaken_in world stream)) }
+            (λ world. done (forsaken_in world stream Reading)) }
         ensures fits { Fits self.new (tells_of writer_tells reader_tells hosts.new) }
         ensures alone { is_host (stream_at self.old stream).writer.owner ≡ false → self.new ≡ self.old }
         ensures untold { is_host (stream_at self.old stream).writer.owner ≡ false →
@@ -215,6 +282,44 @@ impl Store {
             self.own(stream, Side::Writing, Owner::Gone);
             self.retire(stream, number);
             hosts.close_writer(number as usize);
+        }
+    }
+
+    // A stream lost its write end: a host reader on the other side goes too, and is closed.
+    fn forsake_reader(&mut self, hosts: &mut Hosts, stream: u32)
+        requires there { stream < length self.old.streams }
+        requires fits { Fits self.old (tells_of writer_tells reader_tells hosts.old) }
+        ensures does { Does self.old self.new (tells_of writer_tells reader_tells hosts.old)
+            (tells_of writer_tells reader_tells hosts.new) (Ok replies.Done)
+            (λ world. done (forsaken_in world stream Writing)) }
+        ensures fits { Fits self.new (tells_of writer_tells reader_tells hosts.new) }
+        ensures alone { is_host (stream_at self.old stream).reader.owner ≡ false → self.new ≡ self.old }
+        ensures untold { is_host (stream_at self.old stream).reader.owner ≡ false →
+            tells_of writer_tells reader_tells hosts.new ≡ tells_of writer_tells reader_tells hosts.old }
+    {
+        self.served();
+        if let Owner::Host { number } = self.stream(stream).reader.owner {
+            self.own(stream, Side::Reading, Owner::Gone);
+            self.retire_reader(stream, number);
+            hosts.close_reader(number as usize);
+        }
+    }
+
+    // A stream lost the end on a side: a host end on the other side goes too, and is closed.
+    pub(crate) fn forsake(&mut self, hosts: &mut Hosts, stream: u32, side: Side)
+        requires there { stream < length self.old.streams }
+        requires fits { Fits self.old (tells_of writer_tells reader_tells hosts.old) }
+        ensures does { Does self.old self.new (tells_of writer_tells reader_tells hosts.old)
+            (tells_of writer_tells reader_tells hosts.new) (Ok replies.Done)
+            (λ world. done (forsaken_in world stream side)) }
+        ensures fits { Fits self.new (tells_of writer_tells reader_tells hosts.new) }
+        ensures alone { is_host (end_of (opposite side) (stream_at self.old stream)).owner ≡ false → self.new ≡ self.old }
+        ensures untold { is_host (end_of (opposite side) (stream_at self.old stream)).owner ≡ false →
+            tells_of writer_tells reader_tells hosts.new ≡ tells_of writer_tells reader_tells hosts.old }
+    {
+        match side {
+            Side::Reading => self.forsake_writer(hosts, stream),
+            Side::Writing => self.forsake_reader(hosts, stream),
         }
     }
 }

@@ -75,7 +75,7 @@ impl Store {
     }
 
     // Whether so many bytes of a guest's memory may be looked at.
-    fn bytes_fit(&self, guest: u32, address: u32, count: u32) -> Result<(), Refusal>
+    fn bytes_fit(&self, guest: u32, address: u32, count: usize) -> Result<(), Refusal>
         ensures { result ≡ or_found (first_of (bytes_reasons self.now guest address count)) tt }
     {
         if self.is_unknown_guest(guest) {
@@ -88,20 +88,36 @@ impl Store {
     }
 
     #[tactic(auto, unfolding(strm_machine::specs::Refusals::refusal))]
-    fn poke_fits(&self, guest: u32, address: u32, bytes: &Chunk) -> Result<(), Refusal>
+    fn write_fits(&self, guest: u32, address: u32, bytes: &[u8]) -> Result<(), Refusal>
         ensures { result
             ≡ or_found (refusal self.now (OnMemory guest (Poke address bytes.now))) tt }
     {
-        self.bytes_fit(guest, address, bytes.as_slice().len() as u32)
+        self.bytes_fit(guest, address, bytes.len())
     }
 
     // Bytes put into a guest's memory.
-    fn put_bytes(&mut self, guest: u32, address: u32, bytes: &Chunk)
+    fn put_bytes(&mut self, guest: u32, address: u32, bytes: &[u8])
         requires { refusal self.old (OnMemory guest (Poke address bytes.now)) ≡ None }
         ensures { performs self.old (OnMemory guest (Poke address bytes.now))
             ≡ goes replies.Done self.new }
     {
-        write_bytes(&mut self.guests, guest as usize, address, bytes.as_slice());
+        write_bytes(&mut self.guests, guest as usize, address, bytes);
+    }
+
+    /// Bytes put into a guest's memory, from an address on, as many as they are.
+    pub fn write_memory(&mut self, guest: u32, address: u32, bytes: &[u8]) -> Result<(), StoreError>
+        ensures meets { Meets self.old self.new (replied (λ _. replies.Done) result)
+            (react self.old (steps.Poke guest address bytes.now)) }
+        ensures fits { StillFits self.old self.new }
+        ensures takes_no_memory { result ≢ Err StoreError.OutOfMemory }
+    {
+        match self.admit(self.write_fits(guest, address, bytes)) {
+            Ok(()) => {
+                self.put_bytes(guest, address, bytes);
+                Ok(())
+            }
+            Err(error) => Err(error),
+        }
     }
 
     /// Bytes put into a guest's memory, from an address on.
@@ -111,13 +127,7 @@ impl Store {
         ensures fits { StillFits self.old self.new }
         ensures takes_no_memory { result ≢ Err StoreError.OutOfMemory }
     {
-        match self.admit(self.poke_fits(guest, address, bytes)) {
-            Ok(()) => {
-                self.put_bytes(guest, address, bytes);
-                Ok(())
-            }
-            Err(error) => Err(error),
-        }
+        self.write_memory(guest, address, bytes.as_slice())
     }
 
     #[tactic(auto, unfolding(strm_machine::specs::Refusals::refusal))]
@@ -125,7 +135,7 @@ impl Store {
         requires { len ≤ 64 }
         ensures { result ≡ or_found (refusal self.now (OnMemory guest (Dump address len))) tt }
     {
-        self.bytes_fit(guest, address, len)
+        self.bytes_fit(guest, address, len as usize)
     }
 
     // So many bytes of a guest's memory.

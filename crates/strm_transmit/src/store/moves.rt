@@ -248,7 +248,7 @@ impl Store {
     }
 
     // Whether no stream of this number has a loose read end.
-    fn is_unknown_reader(&self, reader: u32) -> bool
+    pub(crate) fn is_unknown_reader(&self, reader: u32) -> bool
         ensures { result ≡ is_unknown_reader self.now reader }
     {
         reader as usize >= self.streams.len() || self.stream(reader).reader.owner != Owner::Loose
@@ -331,7 +331,7 @@ impl Store {
         match self.admit(self.close_fits(reader)) {
             Ok(()) => {
                 self.own(reader, Side::Reading, Owner::Gone);
-                self.forsake(hosts, reader);
+                self.forsake(hosts, reader, Side::Reading);
                 Ok(())
             }
             Err(error) => Err(error),

@@ -38,6 +38,7 @@ use strm_machine::acts::{EndAct, NamedEnd};
 use strm_machine::streams::{Operation, Owner, Side};
 use strm_memory::memories::RegionError;
 use strm_turns::guests::memory;
+use strm_turns::sides::{end_of, opposite};
 use strm_turns::turns::{begin, take_turn};
 
 // The items that a call asks for: a future's is one.
@@ -105,16 +106,15 @@ impl Store {
         }
     }
 
-    // The host writer on the other side of an end, if there is one.
+    // The host end on the other side of an end, if there is one.
     #[inline(always)]
-    fn writer_across(&self, side: Side, stream: u32) -> Option<u32>
+    fn host_across(&self, side: Side, stream: u32) -> Option<u32>
         requires { stream < length self.now.streams }
-        ensures some { IfSome result (λ number. (side ≡ Reading) × ((stream_at self.now stream).writer.owner ≡ Host number)) }
+        ensures some { IfSome result (λ number. (end_of (opposite side) (stream_at self.now stream)).owner ≡ Host number) }
         ensures none { IfNone result (is_host (end_of (opposite side) (stream_at self.now stream)).owner ≡ false) }
     {
-        self.served();
-        match (side, self.stream(stream).writer.owner) {
-            (Side::Reading, Owner::Host { number }) => Some(number),
+        match end_of(self.stream(stream), opposite(side)).owner {
+            Owner::Host { number } => Some(number),
             _ => None,
         }
     }
@@ -155,7 +155,6 @@ impl Store {
         ensures meets { MeetsHosted self.old self.new (tells_of writer_tells reader_tells hosts.old)
             (tells_of writer_tells reader_tells hosts.new) (replied replies.Code result)
             (OnEnd side end.now (Operate address count)) }
-        ensures writes { side ≡ Writing → result ≢ Err StoreError.OutOfMemory }
         ensures takes_no_memory { may_poll (lone self.old) (OnEnd side end.now (Operate address count)) ≡ false
             → result ≢ Err StoreError.OutOfMemory }
         ensures held { IsHandedOver self.old (tells_of writer_tells reader_tells hosts.old)
@@ -166,8 +165,8 @@ impl Store {
         match self.admit(self.operation_found(side, end, address, count)) {
             Ok(found) => {
                 let mine = begin(end.guest, address, found.1);
-                match self.writer_across(side, found.0) {
-                    Some(number) => self.read_from(hosts, found.0, number, mine),
+                match self.host_across(side, found.0) {
+                    Some(number) => self.poll_across(hosts, found.0, side, number, mine),
                     None => self.take(side, found.0, mine),
                 }
             }
@@ -214,7 +213,8 @@ impl Store {
         ensures meets { MeetsHosted self.old self.new (tells_of writer_tells reader_tells hosts.old)
             (tells_of writer_tells reader_tells hosts.new) (replied replies.Code result)
             (act_of (steps.Write guest (index.Stream payload) handle address count)) }
-        ensures takes_no_memory { result ≢ Err StoreError.OutOfMemory }
+        ensures takes_no_memory { may_poll (lone self.old) (act_of (steps.Write guest (index.Stream payload) handle address count)) ≡ false
+            → result ≢ Err StoreError.OutOfMemory }
     {
         let ty = TransmitIndex::Stream(payload);
         let end = NamedEnd { guest, ty, handle };
@@ -258,7 +258,8 @@ impl Store {
         ensures meets { MeetsHosted self.old self.new (tells_of writer_tells reader_tells hosts.old)
             (tells_of writer_tells reader_tells hosts.new) (replied replies.Code result)
             (act_of (steps.Write guest (index.Future payload) handle address 1)) }
-        ensures takes_no_memory { result ≢ Err StoreError.OutOfMemory }
+        ensures takes_no_memory { may_poll (lone self.old) (act_of (steps.Write guest (index.Future payload) handle address 1)) ≡ false
+            → result ≢ Err StoreError.OutOfMemory }
     {
         let ty = TransmitIndex::Future(payload);
         let end = NamedEnd { guest, ty, handle };

@@ -1,5 +1,5 @@
 -- No two open sides.
-use Rattle.strm_host_laws.proofs.GuestRuns.{apart, idle}
+use Rattle.strm_host_laws.proofs.GuestRuns.{apart, idle, unread}
 use Rattle.strm_host_laws.proofs.guests.never_two_open.Goals as goal
 
 pub returns-clause-apart : goal.returns-clause-apart
@@ -7,3 +7,6 @@ returns-clause-apart c tag limits old new run s a = apart tag limits old new run
 
 pub returns-clause-idle : goal.returns-clause-idle
 returns-clause-idle c tag limits old new run s a h = idle tag limits old new run s a h
+
+pub returns-clause-unread : goal.returns-clause-unread
+returns-clause-unread c tag limits old new run s a h = unread tag limits old new run s a h

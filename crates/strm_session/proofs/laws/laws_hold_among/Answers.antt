@@ -2,21 +2,32 @@ use Rattle.strm_session.proofs.laws.laws_hold_among.Goals as goal
 
 pub returns-clause-laws : goal.returns-clause-laws
 returns-clause-laws c = λ old new steps a. record {
-  host = record {
+  writers = record {
     closes = c.ends_close_exactly.ensures.moments 0 _ old new steps;
     goes_on = λ n. c.writers_are_fed_exactly.ensures _ steps n;
     delivers = λ supplies s. c.producers_deliver_in_order.ensures 0 _ old new steps s supplies a.few;
-    hosts = c.states_are_sound.ensures.hosts 0 _ old new steps;
   };
-  streams = λ s none. record {
-    conserves = c.conservation.ensures.conserves 0 _ old new steps s a none;
-    stands = λ side. c.conservation.ensures.stands 0 _ old new steps s side a none;
-    passes_one = c.futures_pass_one.ensures 0 _ old new steps s a none;
-    unmoved = c.unmet_has_moved_none.ensures 0 _ old new steps s a none;
+  readers = record {
+    closes = c.readers_close_exactly.ensures.moments 0 _ old new steps;
+    goes_on = λ r. c.readers_are_granted_exactly.ensures _ steps r;
+    tells = λ s r. c.readers_tell_what_they_took.ensures 0 _ old new steps s r a;
+  };
+  hosts = c.states_are_sound.ensures.hosts 0 _ old new steps;
+  streams = λ s unhosted unpiped. record {
+    conserves = c.conservation.ensures.conserves 0 _ old new steps s a unhosted unpiped;
+    stands = λ side. c.conservation.ensures.stands 0 _ old new steps s side a unhosted unpiped;
+    passes_one = c.futures_pass_one.ensures 0 _ old new steps s a unhosted unpiped;
+    unmoved = c.unmet_has_moved_none.ensures 0 _ old new steps s a unhosted unpiped;
+  };
+  written = λ s unhosted. record {
+    conserves = c.conservation_among.ensures.conserves 0 _ old new steps s a unhosted;
+    passes_one = c.conservation_among.ensures.one 0 _ old new steps s a unhosted;
+    stands = λ side. c.conservation_among.ensures.stands 0 _ old new steps s side a unhosted;
   };
   apart = λ s. c.never_two_open.ensures.apart 0 _ old new steps s a;
-  idle = λ s. c.never_two_open.ensures.idle 0 _ old new steps s a;
-  moves = λ s. c.unmet_moves_by_host_writers.ensures 0 _ old new steps s a;
+  unwritten = λ s. c.never_two_open.ensures.idle 0 _ old new steps s a;
+  unread = λ s. c.never_two_open.ensures.unread 0 _ old new steps s a;
+  moves = λ s. c.unmet_moves_by_host_ends.ensures 0 _ old new steps s a;
   counted = λ s. c.totals_are_counts.ensures 0 _ old new steps s;
   aside = c.other_bytes_stay.ensures 0 _ old new steps a;
   put = c.bytes_are_put.ensures 0 _ old new steps;

@@ -13,26 +13,26 @@ loop-stream-init g c = record {
 
 pub drive_stream-requires-clause-there : goal.drive_stream-requires-clause-there
 drive_stream-requires-clause-there g c =
-    c.in-Some.ensures.served.made c.in-Some.ensures.next.number c.in-Some.stream c.in-Some.ensures.next.serves
+    c.in-Some.ensures.served.made c.in-Some.ensures.next.side c.in-Some.ensures.next.number c.in-Some.stream c.in-Some.ensures.next.serves
 
 pub drive_stream-requires-clause-fits : goal.drive_stream-requires-clause-fits
 drive_stream-requires-clause-fits g c = c.loop-stream.invariant.fits
 
 pub overflow_add-next : goal.overflow_add-next
 overflow_add-next g c =
-    let made = c.in-Some.ensures.served.made c.in-Some.ensures.next.number c.in-Some.stream c.in-Some.ensures.next.serves in
+    let made = c.in-Some.ensures.served.made c.in-Some.ensures.next.side c.in-Some.ensures.next.number c.in-Some.stream c.in-Some.ensures.next.serves in
     omega (arith, made, c.in-Some.ensures.few)
 
 pub loop-stream-smaller : goal.loop-stream-smaller
 loop-stream-smaller g c =
-    let made = c.in-Some.ensures.served.made c.in-Some.ensures.next.number c.in-Some.stream c.in-Some.ensures.next.serves in
+    let made = c.in-Some.ensures.served.made c.in-Some.ensures.next.side c.in-Some.ensures.next.number c.in-Some.stream c.in-Some.ensures.next.serves in
     omega (arith, made, c.in-Some.ensures.next.behind, c.loop-stream.invariant.made)
 
 pub loop-stream-preserved : goal.loop-stream-preserved
 loop-stream-preserved g c =
     let i = c.loop-stream.invariant in
     let next = c.in-Some.ensures.next in
-    let made = c.in-Some.ensures.served.made next.number c.in-Some.stream next.serves in
+    let made = c.in-Some.ensures.served.made next.side next.number c.in-Some.stream next.serves in
     record {
       does = drive_on c.args.self.now c.loop-stream.self _ _ c.in-Some.ensures.served c.loop-stream.next i.does _ _ c.in-Some.stream _ next refl c.in-Ok.ensures.does;
       fits = c.in-Ok.ensures.fits;
@@ -44,7 +44,7 @@ pub returns-in-Err-clause-does : goal.returns-in-Err-clause-does
 returns-in-Err-clause-does g c =
     let i = c.loop-stream.invariant in
     let next = c.in-Some.ensures.next in
-    let made = c.in-Some.ensures.served.made next.number c.in-Some.stream next.serves in
+    let made = c.in-Some.ensures.served.made next.side next.number c.in-Some.stream next.serves in
     drive_round c.args.self.now _ _ _ _
     (drive_stop c.args.self.now _ _ _ (c.in-Some.stream + 1) _ c.in-Err.error c.in-Err.ensures.stop (omega (arith, made, i.made))
     (drive_on c.args.self.now c.loop-stream.self _ _ c.in-Some.ensures.served c.loop-stream.next i.does _ _ c.in-Some.stream _ next (ends_stop c.in-Err.error c.in-Err.ensures.stop) c.in-Err.ensures.does))

@@ -27,5 +27,6 @@ invariant_of-self-2 c =
       bytes = refl;
       streams = c.place.ensures ∙ rw c.in_ok-reserve.ensures.items refl;
       producers = refl;
+      consumers = refl;
     })
     c.self.invariant

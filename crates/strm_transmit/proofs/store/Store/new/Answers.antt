@@ -1,8 +1,9 @@
 use Rattle.std.proofs.Common.{refl, arith}
 use Rattle.strm_machine.specs.State.{empty}
+use Rattle.strm_machine.specs.declared.streams.Side.TheVariants.{Writing, Reading}
 use Rattle.strm_machine.proofs.EmptyLemmas.{IsSound-empty}
 use Rattle.strm_transmit.proofs.StoreLemmas.{IsSound-same}
-use Rattle.strm_transmit.proofs.ServedLemmas.{none_serves, AreServed-none}
+use Rattle.strm_transmit.proofs.ServedLemmas.{not_unused, all_unused, AreServed-none}
 use Rattle.strm_transmit.proofs.store.Store.new.Goals as goal
 
 pub invariant_of-result : goal.invariant_of-result
@@ -20,4 +21,7 @@ invariant_of-result c = record {
 }
 
 pub returns-clause-fits : goal.returns-clause-fits
-returns-clause-fits c tells n s e = absurd (none_serves n s e)
+returns-clause-fits c tells = record {
+  writers = λ n s e. absurd (not_unused _ s (all_unused Writing n) e);
+  readers = λ r s e. absurd (not_unused _ s (all_unused Reading r) e);
+}

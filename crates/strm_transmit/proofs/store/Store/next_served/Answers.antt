@@ -1,19 +1,14 @@
-use Rattle.std.proofs.Common.{ap}
-use Rattle.strm_machine.specs.State.{State}
-use Rattle.strm_transmit.proofs.NextLemmas.{next_none, next_at, next_of_all}
+use Rattle.strm_transmit.proofs.NextLemmas.{next_none, next_both, next_of_all}
 use Rattle.strm_transmit.proofs.store.Store.next_served.Goals as goal
 
-pub loop-producer-init : goal.loop-producer-init
-loop-producer-init c = next_none c.args.from
+pub loop-number-init : goal.loop-number-init
+loop-number-init c = next_none c.args.self.now c.args.from
 
-pub loop-producer-preserved : goal.loop-producer-preserved
-loop-producer-preserved c =
-    next_at c.args.self.now.producers c.self.inside.producers c.args.from c.loop-producer.producer-index _ _ (ap (λ (x : State). x.producers) c.self.view_is)
-    (rw (← c.self.view_is, c.self.invariant.served.all) c.loop-producer-test.true)
-    c.loop-producer.invariant c.next_of-least.ensures
+pub loop-number-preserved : goal.loop-number-preserved
+loop-number-preserved c =
+    rw (c.next_of-least.ensures, c.next_of-of_writers.ensures, c.writer_duty.ensures, c.reader_duty.ensures)
+    (next_both c.args.self.now c.args.from c.loop-number.number _ c.loop-number.invariant)
 
 pub returns-clause-next : goal.returns-clause-next
 returns-clause-next c =
-    next_of_all c.args.self.now.producers c.args.from c.loop-producer.producer-index _
-    (rw (← c.self.view_is, c.self.invariant.served.all) c.loop-producer-test.false)
-    c.loop-producer.invariant
+    next_of_all c.args.self.now c.args.from c.loop-number.number _ (rw (← c.self.view_is) c.self.invariant.served) c.loop-number-test.false c.loop-number.invariant

@@ -8,37 +8,35 @@ use Rattle.strm_transmit.specs.Meets.{replied}
 use Rattle.strm_transmit.proofs.StepLemmas.{is_admitted, reacts, meets_admitted, meets_not_admitted}
 use Rattle.strm_transmit.proofs.HostStepLemmas.{hosted_alone, hosted_not_admitted}
 use Rattle.strm_world.proofs.OutcomeLemmas.{refusal_in-on_end}
-use Rattle.strm_transmit.proofs.OperateLemmas.{hosted_read, held_there, ok_wants_none, operate-alone, settled_code}
+use Rattle.strm_transmit.proofs.OperateLemmas.{hosted_across, held_there, ok_wants_none, operate-alone, settled_code}
 use Rattle.strm_transmit.proofs.store.Store.operate.Goals as goal
 
 pub returns-in-Some-clause-meets : goal.returns-in-Some-clause-meets
 returns-in-Some-clause-meets g c =
     let found = is_admitted c.args.self.now _ _ _ _ c.operation_found.ensures.exact c.in-Ok.ensures.exact in
-    hosted_read c.args.self.now _ _ _ c.args.side c.args.end.now c.args.address c.args.count c.in-Some.number _ _
+    hosted_across c.args.self.now _ _ _ c.args.side c.args.end.now c.args.address c.args.count c.in-Some.number _ _
     (record {
       untrapped = found.untrapped;
       none = found.none;
       stream = ap (λ q. q.0) found.same;
-      operation = c.begin-mine.ensures ∙ ap (λ q. begun c.args.end.now.guest c.args.address q.1) found.same;
-      reading = c.in-Some.ensures.some.0;
-      owner = c.in-Some.ensures.some.1;
+      begins = c.begin-mine.ensures ∙ ap (λ q. begun c.args.end.now.guest c.args.address q.1) found.same;
+      owner = c.in-Some.ensures.some;
     })
-    replies.Code c.read_from.result c.read_from.ensures.does c.read_from.ensures.fits
-    (record { stop = c.read_from.ensures.stop; trapped = c.read_from.ensures.trapped })
+    replies.Code c.poll_across.result c.poll_across.ensures.does c.poll_across.ensures.fits
+    (record { stop = c.poll_across.ensures.stop; trapped = c.poll_across.ensures.trapped })
 
 pub returns-in-Some-clause-held : goal.returns-in-Some-clause-held
 returns-in-Some-clause-held g c = λ held.
     let found = is_admitted c.args.self.now _ _ _ _ c.operation_found.ensures.exact c.in-Ok.ensures.exact in
-    ok_wants_none c.read_from.result
-    (c.read_from.ensures.held (held_there c.args.self.now _ c.args.side c.args.end.now c.args.address c.args.count c.in-Some.number _ _
+    let there = held_there c.args.self.now _ c.args.side c.args.end.now c.args.address c.args.count c.in-Some.number _ _
     (record {
       untrapped = found.untrapped;
       none = found.none;
       stream = ap (λ q. q.0) found.same;
-      operation = c.begin-mine.ensures ∙ ap (λ q. begun c.args.end.now.guest c.args.address q.1) found.same;
-      reading = c.in-Some.ensures.some.0;
-      owner = c.in-Some.ensures.some.1;
-    }) held))
+      begins = c.begin-mine.ensures ∙ ap (λ q. begun c.args.end.now.guest c.args.address q.1) found.same;
+      owner = c.in-Some.ensures.some;
+    }) held in
+    ok_wants_none c.poll_across.result (c.poll_across.ensures.held there.0 there.1)
 
 pub returns-in-None-clause-meets : goal.returns-in-None-clause-meets
 returns-in-None-clause-meets g c =

@@ -11,20 +11,20 @@ write_bytes-requires c =
     let fits = poke_fits (state_of c.self.inside) c.args.guest c.args.address c.args.bytes.now (rw (← c.self.view_is) at c.requires) in
     record {
       there = omega (arith, fits.there, length-map c.self.inside.guests.items guest_of);
-      inside = rw c.as_slice.ensures.exact fits.inside;
+      inside = fits.inside;
     }
 
 pub invariant_of-self : goal.invariant_of-self
 invariant_of-self c =
     IsStore-poke c.self.inside (record c.self.inside { guests = c.write_bytes.new.guests }) c.args.guest c.args.address c.args.bytes.now
     (record {
-      same = record { tag = refl; limits = refl; producers = refl; contexts = refl; trapped = refl };
+      same = record { tag = refl; limits = refl; producers = refl; consumers = refl; contexts = refl; trapped = refl };
       counter = refl;
       streams = refl;
       live_streams = refl;
       live_sets = refl;
       count = refl;
-      guests = rw (← c.as_slice.ensures.exact) c.write_bytes.ensures.guests;
+      guests = c.write_bytes.ensures.guests;
     })
     (rw (← c.self.view_is) at c.requires) c.self.invariant
 
@@ -33,11 +33,11 @@ returns c =
     rw (← c.self.view_is)
     (performs-poke c.self.inside (record c.self.inside { guests = c.write_bytes.new.guests }) c.args.guest c.args.address c.args.bytes.now
     (record {
-      same = record { tag = refl; limits = refl; producers = refl; contexts = refl; trapped = refl };
+      same = record { tag = refl; limits = refl; producers = refl; consumers = refl; contexts = refl; trapped = refl };
       counter = refl;
       streams = refl;
       live_streams = refl;
       live_sets = refl;
       count = refl;
-      guests = rw (← c.as_slice.ensures.exact) c.write_bytes.ensures.guests;
+      guests = c.write_bytes.ensures.guests;
     }))

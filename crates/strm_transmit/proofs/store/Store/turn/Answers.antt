@@ -50,5 +50,6 @@ invariant_of-self g c =
       guests = refl;
       streams = refl;
       producers = refl;
+      consumers = refl;
     })
     c.self.invariant

@@ -1,0 +1,81 @@
+-- The machine values of a `StoreHandle`. Assumes `Logic`.
+use Rattle.std.proofs.Common.{◌≡◌, ℕ, Bool, true, false, List, [], ◌∷◌, ◌++◌, refl, subst}
+use Rattle.std.specs.Prelude.{Option, Some, None, IsSome}
+use seplogic.Ra.Ura.{Ura}
+use mir.Raw.{raw as bare}
+use mir.Val.{Val, vnull, vptr, vstruct, of_list}
+use base.Logic.{never, fst∗}
+use types.Logic.{Logic, sem}
+use types.Kit.{Item, Goal, Seq, Step, step, ‵, ◌$◌, move, drop, fsplit, fjoin, fpick, fpack, feq_i, feq_l}
+use denote.RattleType.{RattleType, Valss}
+use denote.Builtin.{RawPtr}
+use denote.Memory.{lone}
+use denote.RawPtr.{Ptr, block_ptr, null_ptr, ptr_val, in_a_block}
+use denote.Steps.{nothing}
+use denote.Param.{layout}
+use denote.Param.Laws.{Laws}
+use denote.Struct.Struct.{within}
+use denote.Struct.Owning.{shape, to}
+use Rattle.core.proofs.alloc.Calls.{handle_tells}
+use Rattle.core.proofs.cell.Inside.{Good}
+use Rattle.std_alloc.specs.Box.Ownership.{box_owns}
+use Rattle.std_heap.specs.contracts.Global as Heap
+use Rattle.std_heap.proofs.Global.TheLaws as heap
+use Rattle.std_heap.specs.declared.Global.{Global}
+use Rattle.std_heap.specs.contracts.GlobalAllocator.TheImpl.{ghosts}
+use Rattle.strm_embed.specs.contracts.guest_store.GuestStore as Stored
+use Rattle.strm_c.specs.Owned.{owned}
+use Rattle.strm_c.specs.contracts.handles.StoreHandle as handle
+use Rattle.strm_c.proofs.Values.{both, Loose, al}
+
+abbrev pub R : RattleType
+R = Stored.the_row
+
+abbrev pub Z : RattleType
+Z = Heap.the_row
+
+abbrev pub LZ : Laws Z
+LZ = heap.the_row_laws
+
+abbrev pub Loosed : RattleType
+Loosed = Loose R Z LZ ghosts
+
+abbrev pub Handle : RattleType
+Handle = handle.the_row
+
+abbrev Differs : Bool → Type 0
+Differs false = Unit {0}
+Differs true = ⊥
+
+module _ {M : Type 1} {𝓤 : Ura M} {𝓛 : Logic 𝓤} {K : Type 0} {Γ : List (Item 𝓤)} {G : Goal 𝓤 𝓛.H} where
+  some_state : K → (a : Global) (p : Ptr) (s : Option R.Denot) → IsSome s
+      → ((x : R.Denot) → s ≡ Some x → Seq K 𝓛 (‵ (box_owns (ghosts.dealloc_token a) R p x) ∷ Γ) G) → Seq K 𝓛 (‵ (owned a p s) ∷ Γ) G
+  some_state t a p None i k = absurd (subst Differs i tt)
+  some_state t a p (Some x) i k = k x refl
+
+-- the box of a store, and the allocator's value, before others
+abbrev boxed : {M : Type 1} {𝓤 : Ura M} → Global → ℕ → ℕ → Val → R.Denot → List (Item 𝓤) → List (Item 𝓤)
+boxed a b o h x more = ‵ (box_owns (ghosts.dealloc_token a) R (block_ptr b o) x) ∷ ‵ (Z.own_val a (h ∷ [])) ∷ more
+
+module _ {M : Type 1} {𝓤 : Ura M} {𝓛 : Logic 𝓤} {K : Type 0} {Γ : List (Item 𝓤)} {G : Goal 𝓤 𝓛.H} where
+  pub handle_out : K → (d : Handle.Denot) (vs : List Val) → IsSome d.state
+      → ((b o : ℕ) (h : Val) (x : R.Denot) → d.at ≡ block_ptr b o → d.state ≡ Some x → vs ≡ both (vptr b o) h ∷ [] → Good (layout Z) h → Seq K 𝓛 (boxed d.alloc b o h x Γ) G)
+      → Seq K 𝓛 (‵ (Handle.own_val d vs) ∷ Γ) G
+  handle_out t d vs i k =
+      fsplit t $ fpick t (λ vss. fsplit t $ feq_l t (λ ev. fsplit t $ feq_l t (λ ep. fsplit t $ handle_tells (al R Z LZ ghosts) t d.alloc vss.1.0 (λ h ea fits. move t (1 ∷ []) $ drop t $ move t (1 ∷ []) $
+      some_state t d.alloc d.at d.state i (λ x is.
+      in_a_block t d.at (λ p. box_owns (ghosts.dealloc_token d.alloc) R p x) (fst∗ 𝓤 (never 𝓤) (sem 𝓛 (ghosts.dealloc_token d.alloc (bare (lone R.mir)) null_ptr))) (λ b o e. k b o h x e is
+      (subst (λ (p : Ptr). vs ≡ vstruct (of_list (ptr_val p ∷ h ∷ [])) ∷ []) e
+      (subst (λ (ws : List Val). vs ≡ vstruct (of_list (ptr_val d.at ∷ (ws ++ []))) ∷ []) ea (subst (λ (ps : List Val). vs ≡ vstruct (of_list (ps ++ (vss.1.0 ++ []))) ∷ []) ep ev))) fits))))))
+
+  pub handle_in : K → (b o : ℕ) (h : Val) (a : Global) (x : R.Denot)
+      → Step K 𝓛 (‵ (Handle.own_val (record { at = block_ptr b o; alloc = a; state = Some x }) (both (vptr b o) h ∷ [])) ∷ Γ) G (‵ (box_owns (ghosts.dealloc_token a) R (block_ptr b o) x) ∷ ‵ (Z.own_val a (h ∷ [])) ∷ Γ) G
+  handle_in t b o h a x = step (λ s. let v : Val = both (vptr b o) h in
+      nothing t $ move t (2 ∷ 0 ∷ []) $ fjoin t $ feq_i t (List Val) (vptr b o ∷ []) (vptr b o ∷ []) refl $ fjoin t $ feq_i t (List Val) (v ∷ []) (v ∷ []) refl $ fjoin t $
+      fpack t (Valss (RawPtr ∷ Z ∷ [])) (within (shape handle.the_type) (to handle.the_type (record { at = block_ptr b o; alloc = a; state = Some x })) (v ∷ [])) (vptr b o ∷ [], (h ∷ [], tt)) $ fjoin t $ s)
+
+  pub none_in : K → (h : Val) (a : Global)
+      → Step K 𝓛 (‵ (Handle.own_val (record { at = null_ptr; alloc = a; state = None }) (both vnull h ∷ [])) ∷ Γ) G (‵ (Z.own_val a (h ∷ [])) ∷ Γ) G
+  none_in t h a = step (λ s. let v : Val = both vnull h in
+      nothing t $ move t (1 ∷ 0 ∷ []) $ fjoin t $ feq_i t (List Val) (vnull ∷ []) (vnull ∷ []) refl $ fjoin t $ feq_i t (List Val) (v ∷ []) (v ∷ []) refl $ fjoin t $
+      fpack t (Valss (RawPtr ∷ Z ∷ [])) (within (shape handle.the_type) (to handle.the_type (record { at = null_ptr; alloc = a; state = None })) (v ∷ [])) (vnull ∷ [], (h ∷ [], tt)) $ nothing t $ move t (1 ∷ 0 ∷ []) $ fjoin t $ s)

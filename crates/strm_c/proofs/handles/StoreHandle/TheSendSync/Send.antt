@@ -1,0 +1,23 @@
+-- A handle owns plain data and a block that any thread may free, so it may go to another thread.
+use Rattle.std.specs.Prelude.{Option, Some, None}
+use base.Shift.{Keyless}
+use denote.RawPtr.{Ptr}
+use denote.Param.Send.{IsSend, owning_send, sendable}
+use Rattle.std_alloc.proofs.SendSync.{lies}
+use Rattle.std_heap.specs.declared.Global.{Global}
+use Rattle.strm_machine.specs.State.{State}
+use Rattle.strm_embed.specs.contracts.guest_store.GuestStore as Stored
+use Rattle.strm_embed.proofs.guest_store.GuestStore.TheSendSync as stored
+use Rattle.std_heap.proofs.Global.TheSendSync as heap
+use Rattle.std.proofs.Crossing.{frees}
+use mir.Raw.{raw}
+use denote.Memory.{lone}
+use Rattle.strm_c.specs.Owned.{owned}
+use Rattle.strm_c.specs.contracts.handles.StoreHandle.{the_row, the_type}
+
+owned_keyless : (a : Global) (p : Ptr) (s : Option State) → Keyless (owned a p s)
+owned_keyless a p None = tt
+owned_keyless a p (Some x) = (lies Stored.the_row stored.the_send p x, frees.frees a (raw (lone (Stored.the_row).mir)) p)
+
+pub send : IsSend the_row
+send = owning_send the_type (search sendable, (heap.the_field_send, tt)) (λ d. owned_keyless d.alloc d.at d.state) (λ k x w. tt)

@@ -1,0 +1,96 @@
+-- What a call answers to C: a status, and a word where the status is 0. Ours.
+use Rattle.std.specs.Prelude.{◌≡◌, ◌≢◌, ℕ, Option, Some, None, Result, Ok, Err, true}
+use Rattle.strm_codes.specs.Codes.{word_of}
+use Rattle.strm_codes.specs.Refusals.{refusal_number}
+use Rattle.strm_codes.specs.declared.codes.ReturnCode.{ReturnCode}
+use Rattle.strm_codes.specs.declared.refusals.Refusal.{Refusal}
+use Rattle.strm_machine.specs.State.{State}
+use Rattle.strm_machine.specs.Reactions.{Reaction}
+use Rattle.strm_machine.specs.declared.replies.Reply.{Reply}
+use Rattle.strm_machine.specs.declared.replies.Reply.TheVariants as replies
+use Rattle.strm_transmit.specs.Meets.{is_done}
+use Rattle.strm_transmit.specs.declared.errors.StoreError.{StoreError}
+use Rattle.strm_transmit.specs.declared.errors.StoreError.TheVariants.{Refused, HostFailed, HostBroke, BadItem, StoreTrapped, OutOfMemory}
+
+-- done is 0, a refusal its number from 1 to 30
+abbrev pub status_of : Reply → ℕ
+status_of (replies.Refused refusal) = refusal_number refusal
+status_of (replies.BadItem stream) = 64
+status_of replies.StoreTrapped = 65
+status_of _ = 0
+
+-- an allocation was refused
+abbrev pub no_memory : ℕ
+no_memory = 66
+
+-- no payload, or no type, has the word
+abbrev pub no_payload : ℕ
+no_payload = 67
+
+-- no stream has the number, or none of which an end is there
+abbrev pub no_stream : ℕ
+no_stream = 68
+
+-- an error of the store's; a host end can't fail where none is there
+abbrev pub error_status : StoreError → ℕ
+error_status (Refused refusal) = refusal_number refusal
+error_status (BadItem stream) = 64
+error_status StoreTrapped = 65
+error_status OutOfMemory = no_memory
+error_status (HostFailed end) = 69
+error_status (HostBroke end) = 69
+
+-- an answer of the store's
+abbrev pub answer_status : {T : Type 0} → Result T StoreError → ℕ
+answer_status (Ok value) = 0
+answer_status (Err error) = error_status error
+
+-- an answer that can only be refused
+abbrev pub found_status : {T : Type 0} → Result T Refusal → ℕ
+found_status (Ok value) = 0
+found_status (Err refusal) = refusal_number refusal
+
+-- the word of an event: 3, which is no code's, for none
+abbrev pub event_word : Option ReturnCode → ℕ
+event_word (Some code) = word_of code
+event_word None = 3
+
+-- the word that a step which was done answers
+abbrev pub word_in : Reply → ℕ → ℕ
+word_in (replies.Number number) word = number
+word_in (replies.Code code) word = word_of code
+word_in (replies.Event event) word = event_word event
+word_in _ word = word
+
+-- the word of an answer; an error leaves the word that was there
+abbrev pub answer_word : {T : Type 0} → (T → ℕ) → Result T StoreError → ℕ → ℕ
+answer_word f (Ok value) word = f value
+answer_word f (Err error) word = word
+
+-- the status, the word and the store afterwards are the machine's
+pub record Answers (reaction : Reaction) (status old_word new_word : ℕ) (new : Option State) : Type 0 where
+  pub status_is : status ≡ status_of reaction.reply
+  pub word_is : new_word ≡ word_in reaction.reply old_word
+  pub state_is : new ≡ Some reaction.state
+
+-- or, where the machine does the step, memory was wanted and nothing has changed
+abbrev pub AnswersOr : State → Reaction → ℕ → ℕ → ℕ → Option State → Type 0
+AnswersOr old reaction status old_word new_word new =
+    (status ≢ no_memory → Answers reaction status old_word new_word new)
+    × (status ≡ no_memory → (is_done reaction.reply ≡ true) × (new_word ≡ old_word) × (new ≡ Some old))
+
+-- nothing was done, since a word is no payload's or no type's
+pub record IsUnknown (old : State) (status old_word new_word : ℕ) (new : Option State) : Type 0 where
+  pub status_is : status ≡ no_payload
+  pub word_is : new_word ≡ old_word
+  pub state_is : new ≡ Some old
+
+-- a call that names a payload or a type by a word: the machine's step of it, if there is one
+abbrev pub AnswersOf : {T : Type 0} → Option T → (T → Reaction) → State → ℕ → ℕ → ℕ → Option State → Type 0
+AnswersOf (Some named) step old status old_word new_word new = Answers (step named) status old_word new_word new
+AnswersOf None step old status old_word new_word new = IsUnknown old status old_word new_word new
+
+-- the same where memory may be wanted
+abbrev pub AnswersOfOr : {T : Type 0} → Option T → (T → Reaction) → State → ℕ → ℕ → ℕ → Option State → Type 0
+AnswersOfOr (Some named) step old status old_word new_word new = AnswersOr old (step named) status old_word new_word new
+AnswersOfOr None step old status old_word new_word new = IsUnknown old status old_word new_word new

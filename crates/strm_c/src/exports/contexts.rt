@@ -1,0 +1,130 @@
+//! Error contexts.
+//!
+//! Source: Canonical ABI, `canon error-context.new` and the others.
+
+ghost use Rattle.std.specs.Prelude.{◌≡◌, Some};
+ghost use Rattle.strm_machine.specs.State.{State};
+ghost use Rattle.strm_machine.specs.Reactions.{react, lowers_context};
+ghost use Rattle.strm_machine.specs.declared.steps.Step.TheVariants as steps;
+ghost use Rattle.strm_c.specs.Queries.{context_answer};
+ghost use Rattle.strm_c.specs.Statuses.{Answers, AnswersOr, answer_status, answer_word};
+
+use crate::handles::StoreHandle;
+use crate::statuses::{Status, done, number};
+
+/// Makes an error context of `len` bytes from `address` of the guest's memory on, its message, and puts its
+/// handle at `out`. `canon error-context.new`. Refused: UnknownGuest, MessageTooLong, OutOfBounds, BadText,
+/// IndexOverflow, HandleLimit, Full. OUT_OF_MEMORY.
+#[unsafe(no_mangle)]
+pub extern "C" fn strm_error_context_new(
+    store: &mut StoreHandle,
+    guest: u32,
+    address: u32,
+    len: u32,
+    out: &mut u32,
+) -> Status
+    ghost s: { State }
+    requires { store.old.state ≡ Some s }
+    ensures answers { AnswersOr s (react s (steps.ErrNew guest address len))
+        result out.old out.new store.new.state }
+{
+    number(
+        store.store_mut().error_context_new(guest, address, len),
+        out,
+    )
+}
+
+/// Puts the message of an error context at `address` of the guest's memory, and its bytes' number at `out`.
+/// `canon error-context.debug-message`. Refused: UnknownGuest, UnknownHandle, WrongKind, OutOfBounds.
+#[unsafe(no_mangle)]
+pub extern "C" fn strm_error_context_message(
+    store: &mut StoreHandle,
+    guest: u32,
+    handle: u32,
+    address: u32,
+    out: &mut u32,
+) -> Status
+    ghost s: { State }
+    requires { store.old.state ≡ Some s }
+    ensures answers { Answers (react s (steps.ErrText guest handle address))
+        result out.old out.new store.new.state }
+{
+    number(
+        store
+            .store_mut()
+            .error_context_message(guest, handle, address),
+        out,
+    )
+}
+
+/// Gives the guest `to` a handle to an error context, and puts it at `out`; the first guest keeps its own.
+/// Refused: UnknownGuest, UnknownHandle, WrongKind, IndexOverflow, HandleLimit. OUT_OF_MEMORY.
+#[unsafe(no_mangle)]
+pub extern "C" fn strm_error_context_transfer(
+    store: &mut StoreHandle,
+    guest: u32,
+    handle: u32,
+    to: u32,
+    out: &mut u32,
+) -> Status
+    ghost s: { State }
+    requires { store.old.state ≡ Some s }
+    ensures answers { AnswersOr s (react s (steps.ErrMove guest handle to))
+        result out.old out.new store.new.state }
+{
+    number(
+        store.store_mut().error_context_transfer(guest, handle, to),
+        out,
+    )
+}
+
+/// Puts the number of the error context of a handle at `out`, by which strm_error_context_lower names it.
+/// Refused: UnknownGuest, UnknownHandle, WrongKind.
+#[unsafe(no_mangle)]
+pub extern "C" fn strm_error_context_rep(
+    store: &mut StoreHandle,
+    guest: u32,
+    handle: u32,
+    out: &mut u32,
+) -> Status
+    ghost s: { State }
+    requires { store.old.state ≡ Some s }
+    ensures status { result ≡ answer_status (context_answer s guest handle) }
+    ensures number { out.new ≡ answer_word (λ number. number) (context_answer s guest handle) out.old }
+    ensures same { store.new.state ≡ Some s }
+{
+    number(store.store_mut().error_context_rep(guest, handle), out)
+}
+
+/// Gives a guest a handle to the error context of a number, and puts it at `out`. Refused: UnknownGuest,
+/// UnknownHandle, IndexOverflow, HandleLimit. OUT_OF_MEMORY.
+#[unsafe(no_mangle)]
+pub extern "C" fn strm_error_context_lower(
+    store: &mut StoreHandle,
+    rep: u32,
+    guest: u32,
+    out: &mut u32,
+) -> Status
+    ghost s: { State }
+    requires { store.old.state ≡ Some s }
+    ensures answers { AnswersOr s (lowers_context s rep guest)
+        result out.old out.new store.new.state }
+{
+    number(store.store_mut().error_context_lower(rep, guest), out)
+}
+
+/// Gives up a handle of an error context, and the context with the last. `canon error-context.drop`.
+/// Refused: UnknownGuest, UnknownHandle, WrongKind.
+#[unsafe(no_mangle)]
+pub extern "C" fn strm_error_context_drop(
+    store: &mut StoreHandle,
+    guest: u32,
+    handle: u32,
+) -> Status
+    ghost s: { State }
+    requires { store.old.state ≡ Some s }
+    ensures answers { Answers (react s (steps.ErrDrop guest handle))
+        result 0 0 store.new.state }
+{
+    done(store.store_mut().error_context_drop(guest, handle))
+}

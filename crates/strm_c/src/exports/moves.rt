@@ -1,0 +1,157 @@
+//! Ends from guest to guest.
+//!
+//! Source: Canonical ABI, `lift_stream` and `lower_stream`.
+
+ghost use Rattle.std.specs.Prelude.{◌≡◌, ◌≢◌, Some, IfSome};
+ghost use Rattle.strm_codes.specs.declared.codes.TransmitIndex.TheVariants as index;
+ghost use Rattle.strm_machine.specs.State.{State};
+ghost use Rattle.strm_machine.specs.Reactions.{react};
+ghost use Rattle.strm_machine.specs.declared.steps.Step.TheVariants as steps;
+ghost use Rattle.strm_c.specs.Pairs.{pair_in};
+ghost use Rattle.strm_c.specs.Payloads.{payload_at, type_at};
+ghost use Rattle.strm_c.specs.Statuses.{Answers, AnswersOf, AnswersOfOr};
+
+use crate::exports::pairs::{StrmPair, pair};
+use crate::handles::StoreHandle;
+use crate::payloads::{payload_at, type_at};
+use crate::statuses::{Status, UNKNOWN_PAYLOAD, done, number};
+
+/// Makes a stream or future from one guest to another, which may be the same, and puts the handles of its
+/// ends and its number at `out`. Refused: UnknownGuest, IndexOverflow, HandleLimit, Full. OUT_OF_MEMORY,
+/// UNKNOWN_PAYLOAD.
+#[unsafe(no_mangle)]
+pub extern "C" fn strm_new_between(
+    store: &mut StoreHandle,
+    writer: u32,
+    reader: u32,
+    ty: u64,
+    out: &mut StrmPair,
+) -> Status
+    ghost s: { State }
+    requires { store.old.state ≡ Some s }
+    ensures answers { AnswersOfOr (type_at ty)
+        (λ ty. react s (steps.Between writer reader ty))
+        s result 0 0 store.new.state }
+    ensures pair { IfSome (type_at ty) (λ ty. result ≡ 0 →
+        out.new ≡ pair_in (react s (steps.Between writer reader ty)).reply out.old) }
+    ensures kept { result ≢ 0 → out.new ≡ out.old }
+{
+    let Some(ty) = type_at(ty) else {
+        return UNKNOWN_PAYLOAD;
+    };
+    pair(store.store_mut().new_between(writer, reader, ty), out)
+}
+
+/// Moves an end of a stream, read or write, to the guest `to`, which may be the same, and puts its handle there
+/// at `out`. Refused: UnknownGuest, UnknownHandle, WrongKind, WrongType, Busy, LiftDropped, LiftInSet,
+/// IndexOverflow. OUT_OF_MEMORY, UNKNOWN_PAYLOAD.
+#[unsafe(no_mangle)]
+pub extern "C" fn strm_stream_transfer(
+    store: &mut StoreHandle,
+    guest: u32,
+    payload: u64,
+    handle: u32,
+    to: u32,
+    out: &mut u32,
+) -> Status
+    ghost s: { State }
+    requires { store.old.state ≡ Some s }
+    ensures answers { AnswersOfOr (payload_at payload)
+        (λ payload. react s (steps.Move guest (index.Stream payload) handle to))
+        s result out.old out.new store.new.state }
+{
+    let Some(payload) = payload_at(payload) else {
+        return UNKNOWN_PAYLOAD;
+    };
+    number(
+        store
+            .store_mut()
+            .stream_transfer(guest, payload, handle, to),
+        out,
+    )
+}
+
+/// Moves an end of a future, read or write, to the guest `to`, which may be the same, and puts its handle there
+/// at `out`. Refused: UnknownGuest, UnknownHandle, WrongKind, WrongType, Busy, LiftDropped, LiftInSet,
+/// IndexOverflow. OUT_OF_MEMORY, UNKNOWN_PAYLOAD.
+#[unsafe(no_mangle)]
+pub extern "C" fn strm_future_transfer(
+    store: &mut StoreHandle,
+    guest: u32,
+    payload: u64,
+    handle: u32,
+    to: u32,
+    out: &mut u32,
+) -> Status
+    ghost s: { State }
+    requires { store.old.state ≡ Some s }
+    ensures answers { AnswersOfOr (payload_at payload)
+        (λ payload. react s (steps.Move guest (index.Future payload) handle to))
+        s result out.old out.new store.new.state }
+{
+    let Some(payload) = payload_at(payload) else {
+        return UNKNOWN_PAYLOAD;
+    };
+    number(
+        store
+            .store_mut()
+            .future_transfer(guest, payload, handle, to),
+        out,
+    )
+}
+
+/// Takes a read end out of a guest, and puts the number of its stream at `out`, by which strm_lower and
+/// strm_close name it. Refused: UnknownGuest, UnknownHandle, WrongKind, WrongType, WrongEnd, Busy,
+/// LiftDropped, LiftInSet. UNKNOWN_PAYLOAD.
+#[unsafe(no_mangle)]
+pub extern "C" fn strm_lift(
+    store: &mut StoreHandle,
+    guest: u32,
+    ty: u64,
+    handle: u32,
+    out: &mut u32,
+) -> Status
+    ghost s: { State }
+    requires { store.old.state ≡ Some s }
+    ensures answers { AnswersOf (type_at ty)
+        (λ ty. react s (steps.Lift guest ty handle))
+        s result out.old out.new store.new.state }
+{
+    let Some(ty) = type_at(ty) else {
+        return UNKNOWN_PAYLOAD;
+    };
+    number(store.store_mut().lift(guest, ty, handle), out)
+}
+
+/// Gives a guest the loose read end of a stream, and puts its handle at `out`. Refused: UnknownGuest,
+/// UnknownReader, WrongKind, WrongType, IndexOverflow, HandleLimit. OUT_OF_MEMORY, UNKNOWN_PAYLOAD.
+#[unsafe(no_mangle)]
+pub extern "C" fn strm_lower(
+    store: &mut StoreHandle,
+    reader: u32,
+    guest: u32,
+    ty: u64,
+    out: &mut u32,
+) -> Status
+    ghost s: { State }
+    requires { store.old.state ≡ Some s }
+    ensures answers { AnswersOfOr (type_at ty)
+        (λ ty. react s (steps.Lower reader guest ty))
+        s result out.old out.new store.new.state }
+{
+    let Some(ty) = type_at(ty) else {
+        return UNKNOWN_PAYLOAD;
+    };
+    number(store.store_mut().lower(reader, guest, ty), out)
+}
+
+/// Drops the loose read end of a stream. Refused: UnknownReader.
+#[unsafe(no_mangle)]
+pub extern "C" fn strm_close(store: &mut StoreHandle, reader: u32) -> Status
+    ghost s: { State }
+    requires { store.old.state ≡ Some s }
+    ensures answers { Answers (react s (steps.Close reader))
+        result 0 0 store.new.state }
+{
+    done(store.store_mut().close(reader))
+}

@@ -1,0 +1,92 @@
+//! What C holds of a store.
+
+ghost use Rattle.std.specs.Prelude.{◌≡◌, Option, Some, None, IsSome};
+ghost use Rattle.strm_machine.specs.State.{State};
+ghost use Rattle.std.specs.Coded.{codes};
+ghost use Rattle.strm_contexts.specs.Contexts.{contexts_code};
+ghost use Rattle.strm_sets.specs.Sets.{sets_code};
+
+mod lends;
+
+use crate::loose::Loose;
+use std::alloc::Global;
+use std::marker::Model;
+use std::{mem, ptr};
+use strm_embed::guest_store::GuestStore;
+
+/// One word, which C holds and only this library reads: a store, or none.
+#[repr(C)]
+#[derive(Drop)]
+pub struct StoreHandle {
+    at: *mut (),
+    alloc: Global,
+    ghost state: { Option State } by { Prim.hlevel (codes, sets_code, contexts_code) },
+}
+
+impl Model for StoreHandle {
+    ghost use Rattle.strm_c.specs.Owned.{owned};
+
+    ghost also_owns = { λ h. owned h.alloc h.at h.state };
+}
+
+impl StoreHandle {
+    // The box that holds the store, without its type.
+    fn lower(loose: Loose<GuestStore, Global>) -> StoreHandle
+        ensures { result.state ≡ Some loose.value }
+    {
+        let Loose { at, alloc } = loose;
+        StoreHandle {
+            at: at as *mut (),
+            alloc,
+        }
+    }
+
+    // The same with its type.
+    fn raise(self) -> Loose<GuestStore, Global>
+        requires { IsSome self.state }
+        ensures { self.state ≡ Some result.value }
+    {
+        let StoreHandle { at, alloc } = self;
+        Loose {
+            at: at as *mut GuestStore,
+            alloc,
+        }
+    }
+
+    // A handle of no store.
+    fn none(alloc: Global) -> StoreHandle
+        ensures { result.state ≡ None }
+    {
+        StoreHandle {
+            at: ptr::null_mut(),
+            alloc,
+        }
+    }
+
+    /// A handle of a store.
+    pub(crate) fn of(store: Box<GuestStore>) -> StoreHandle
+        ensures { result.state ≡ Some store.value }
+    {
+        StoreHandle::lower(Loose::of(store))
+    }
+
+    // The store.
+    fn into_box(self) -> Box<GuestStore>
+        requires { IsSome self.state }
+        ensures { self.state ≡ Some result.value }
+    {
+        self.raise().into_box()
+    }
+
+    /// Takes the store out, and leaves none.
+    pub(crate) fn take(&mut self, alloc: Global) -> Box<GuestStore>
+        requires { IsSome self.old.state }
+        ensures taken { self.old.state ≡ Some result.value }
+        ensures empty { self.new.state ≡ None }
+    {
+        mem::replace(self, StoreHandle::none(alloc)).into_box()
+    }
+}
+
+// It may go to another thread: what it owns is plain data and a block that any thread frees.
+unsafe impl Send for StoreHandle {}

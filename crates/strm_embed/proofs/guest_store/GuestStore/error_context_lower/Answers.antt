@@ -1,0 +1,7 @@
+-- A lowering is no step, and leaves the store among guests too.
+use Rattle.strm_embed.proofs.AmongLemmas.{lowered_among}
+use Rattle.strm_embed.proofs.guest_store.GuestStore.error_context_lower.Goals as goal
+
+pub invariant_of-self : goal.invariant_of-self
+invariant_of-self c =
+    lowered_among c.self.inside.store c.error_context_lower.new.self _ c.args.rep c.args.guest c.self.invariant c.error_context_lower.ensures.meets c.error_context_lower.ensures.fits

@@ -1,0 +1,126 @@
+//! Futures, as streams of one value.
+//!
+//! Meaning: `Reactions.antt` of `strm_machine`. Source: Canonical ABI, `canon future.new` and the others.
+
+ghost use Rattle.std.specs.Prelude.{◌≢◌, Err};
+ghost use Rattle.strm_codes.specs.declared.codes.TransmitIndex.TheVariants as index;
+ghost use Rattle.strm_machine.specs.Reactions.{react};
+ghost use Rattle.strm_machine.specs.declared.replies.Reply.TheVariants as replies;
+ghost use Rattle.strm_machine.specs.declared.steps.Step.TheVariants as steps;
+ghost use Rattle.strm_transmit.specs.Meets.{Meets, replied};
+
+use crate::guest_store::{GuestStore, no_hosts};
+use strm_codes::codes::ReturnCode;
+use strm_codes::payloads::Payload;
+use strm_machine::replies::Pair;
+use strm_transmit::errors::StoreError;
+
+#[tactic(auto, using(crate::proofs::AmongLemmas::plain_among))]
+impl GuestStore {
+    /// A new future whose ends one guest gets: their handles go into its table, the read end's first.
+    /// `canon future.new`. Refused as `stream_new` is.
+    pub fn future_new(&mut self, guest: u32, payload: Payload) -> Result<Pair, StoreError>
+        ensures meets { Meets self.old self.new (replied replies.Pair result)
+            (react self.old (steps.New guest (index.Future payload))) }
+    {
+        self.store.future_new(guest, payload)
+    }
+
+    /// Cancels the write of a future. `canon future.cancel-write`.
+    pub fn future_cancel_write(
+        &mut self,
+        guest: u32,
+        payload: Payload,
+        handle: u32,
+    ) -> Result<ReturnCode, StoreError>
+        ensures meets { Meets self.old self.new (replied replies.Code result)
+            (react self.old (steps.CancelWrite guest (index.Future payload) handle)) }
+        ensures takes_no_memory { result ≢ Err StoreError.OutOfMemory }
+    {
+        self.store.future_cancel_write(guest, payload, handle)
+    }
+
+    /// Cancels the read of a future. `canon future.cancel-read`.
+    pub fn future_cancel_read(
+        &mut self,
+        guest: u32,
+        payload: Payload,
+        handle: u32,
+    ) -> Result<ReturnCode, StoreError>
+        ensures meets { Meets self.old self.new (replied replies.Code result)
+            (react self.old (steps.CancelRead guest (index.Future payload) handle)) }
+        ensures takes_no_memory { result ≢ Err StoreError.OutOfMemory }
+    {
+        self.store.future_cancel_read(guest, payload, handle)
+    }
+}
+
+#[tactic(auto, using(crate::proofs::AmongLemmas::hosted_meets))]
+impl GuestStore {
+    /// Writes the value that lies at an address of the guest's memory. `canon future.write`.
+    pub fn future_write(
+        &mut self,
+        guest: u32,
+        payload: Payload,
+        handle: u32,
+        address: u32,
+    ) -> Result<ReturnCode, StoreError>
+        ensures meets { Meets self.old self.new (replied replies.Code result)
+            (react self.old (steps.Write guest (index.Future payload) handle address 1)) }
+        ensures takes_no_memory { result ≢ Err StoreError.OutOfMemory }
+    {
+        let mut hosts = no_hosts(self.alloc);
+        self.store
+            .future_write(&mut hosts, guest, payload, handle, address)
+    }
+
+    /// Reads the value to an address of the guest's memory. `canon future.read`.
+    pub fn future_read(
+        &mut self,
+        guest: u32,
+        payload: Payload,
+        handle: u32,
+        address: u32,
+    ) -> Result<ReturnCode, StoreError>
+        ensures meets { Meets self.old self.new (replied replies.Code result)
+            (react self.old (steps.Read guest (index.Future payload) handle address 1)) }
+        ensures takes_no_memory { result ≢ Err StoreError.OutOfMemory }
+    {
+        let mut hosts = no_hosts(self.alloc);
+        self.store
+            .future_read(&mut hosts, guest, payload, handle, address)
+    }
+
+    /// Drops the write end of a future. `canon future.drop-writable`. It is refused (FutureWithoutValue)
+    /// before the value has passed, or the end was told that nobody reads it.
+    pub fn future_drop_writable(
+        &mut self,
+        guest: u32,
+        payload: Payload,
+        handle: u32,
+    ) -> Result<(), StoreError>
+        ensures meets { Meets self.old self.new (replied (λ _. replies.Done) result)
+            (react self.old (steps.DropWrite guest (index.Future payload) handle)) }
+        ensures takes_no_memory { result ≢ Err StoreError.OutOfMemory }
+    {
+        let mut hosts = no_hosts(self.alloc);
+        self.store
+            .future_drop_writable(&mut hosts, guest, payload, handle)
+    }
+
+    /// Drops the read end of a future. `canon future.drop-readable`.
+    pub fn future_drop_readable(
+        &mut self,
+        guest: u32,
+        payload: Payload,
+        handle: u32,
+    ) -> Result<(), StoreError>
+        ensures meets { Meets self.old self.new (replied (λ _. replies.Done) result)
+            (react self.old (steps.DropRead guest (index.Future payload) handle)) }
+        ensures takes_no_memory { result ≢ Err StoreError.OutOfMemory }
+    {
+        let mut hosts = no_hosts(self.alloc);
+        self.store
+            .future_drop_readable(&mut hosts, guest, payload, handle)
+    }
+}

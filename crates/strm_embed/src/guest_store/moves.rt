@@ -1,0 +1,97 @@
+//! Ends from guest to guest.
+//!
+//! Meaning: `Moves.antt` of `strm_machine`. Source: Canonical ABI, `lift_stream` and `lower_stream`; wasmtime,
+//! `lift_from_index` and `lower_to_index`.
+
+ghost use Rattle.std.specs.Prelude.{◌≡◌, ◌≢◌, Err};
+ghost use Rattle.strm_codes.specs.declared.codes.TransmitIndex.TheVariants as index;
+ghost use Rattle.strm_machine.specs.Reactions.{react};
+ghost use Rattle.strm_machine.specs.declared.replies.Reply.TheVariants as replies;
+ghost use Rattle.strm_machine.specs.declared.steps.Step.TheVariants as steps;
+ghost use Rattle.strm_transmit.specs.Meets.{Meets, replied};
+
+use crate::guest_store::{GuestStore, no_hosts};
+use strm_codes::codes::TransmitIndex;
+use strm_codes::payloads::Payload;
+use strm_machine::replies::Pair;
+use strm_transmit::errors::StoreError;
+
+#[tactic(auto, using(crate::proofs::AmongLemmas::plain_among))]
+impl GuestStore {
+    /// A stream or future between two guests, which may be one: the read end's handle goes into the
+    /// reader's table first, and then the write end's into the writer's. Refused as `stream_new` is.
+    pub fn new_between(
+        &mut self,
+        writer: u32,
+        reader: u32,
+        ty: TransmitIndex,
+    ) -> Result<Pair, StoreError>
+        ensures meets { Meets self.old self.new (replied replies.Pair result)
+            (react self.old (steps.Between writer reader ty)) }
+    {
+        self.store.new_between(writer, reader, ty)
+    }
+
+    /// An end of a stream, read or write, from one guest to another, which may be the same. Answers the
+    /// handle there.
+    pub fn stream_transfer(
+        &mut self,
+        guest: u32,
+        payload: Payload,
+        handle: u32,
+        to: u32,
+    ) -> Result<u32, StoreError>
+        ensures meets { Meets self.old self.new (replied replies.Number result)
+            (react self.old (steps.Move guest (index.Stream payload) handle to)) }
+        ensures takes_no_memory { guest ≡ to → result ≢ Err StoreError.OutOfMemory }
+    {
+        self.store.stream_transfer(guest, payload, handle, to)
+    }
+
+    /// An end of a future from one guest to another. Answers the handle there.
+    pub fn future_transfer(
+        &mut self,
+        guest: u32,
+        payload: Payload,
+        handle: u32,
+        to: u32,
+    ) -> Result<u32, StoreError>
+        ensures meets { Meets self.old self.new (replied replies.Number result)
+            (react self.old (steps.Move guest (index.Future payload) handle to)) }
+        ensures takes_no_memory { guest ≡ to → result ≢ Err StoreError.OutOfMemory }
+    {
+        self.store.future_transfer(guest, payload, handle, to)
+    }
+
+    /// A read end out of a guest: it is loose then. Answers the stream's number, by which `lower` and
+    /// `close` name it. Canonical ABI, `lift_stream` and `lift_future`.
+    pub fn lift(&mut self, guest: u32, ty: TransmitIndex, handle: u32) -> Result<u32, StoreError>
+        ensures meets { Meets self.old self.new (replied replies.Number result)
+            (react self.old (steps.Lift guest ty handle)) }
+        ensures takes_no_memory { result ≢ Err StoreError.OutOfMemory }
+    {
+        self.store.lift(guest, ty, handle)
+    }
+
+    /// The loose read end of a stream into a guest. Answers its handle. Canonical ABI, `lower_stream` and
+    /// `lower_future`.
+    pub fn lower(&mut self, reader: u32, guest: u32, ty: TransmitIndex) -> Result<u32, StoreError>
+        ensures meets { Meets self.old self.new (replied replies.Number result)
+            (react self.old (steps.Lower reader guest ty)) }
+    {
+        self.store.lower(reader, guest, ty)
+    }
+}
+
+#[tactic(auto, using(crate::proofs::AmongLemmas::hosted_meets))]
+impl GuestStore {
+    /// Drops the loose read end of a stream.
+    pub fn close(&mut self, reader: u32) -> Result<(), StoreError>
+        ensures meets { Meets self.old self.new (replied (λ _. replies.Done) result)
+            (react self.old (steps.Close reader)) }
+        ensures takes_no_memory { result ≢ Err StoreError.OutOfMemory }
+    {
+        let mut hosts = no_hosts(self.alloc);
+        self.store.close(&mut hosts, reader)
+    }
+}

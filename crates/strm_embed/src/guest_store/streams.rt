@@ -1,0 +1,139 @@
+//! Streams: made, written, read, cancelled and dropped, and what an end is told.
+//!
+//! Meaning: `Reactions.antt` of `strm_machine`. Source: Canonical ABI, `canon stream.new` and the others.
+
+ghost use Rattle.std.specs.Prelude.{◌≢◌, Err};
+ghost use Rattle.strm_codes.specs.declared.codes.TransmitIndex.TheVariants as index;
+ghost use Rattle.strm_machine.specs.Reactions.{react};
+ghost use Rattle.strm_machine.specs.declared.replies.Reply.TheVariants as replies;
+ghost use Rattle.strm_machine.specs.declared.steps.Step.TheVariants as steps;
+ghost use Rattle.strm_transmit.specs.Meets.{Meets, replied};
+
+use crate::guest_store::{GuestStore, no_hosts};
+use strm_codes::codes::ReturnCode;
+use strm_codes::payloads::Payload;
+use strm_machine::replies::Pair;
+use strm_transmit::errors::StoreError;
+
+#[tactic(auto, using(crate::proofs::AmongLemmas::plain_among))]
+impl GuestStore {
+    /// A new stream whose ends one guest gets: their handles go into its table, the read end's first.
+    /// `canon stream.new`. Refused, in this order, are an unknown guest, a table without a number left,
+    /// handles past their limit, and a stream past the limit on places.
+    pub fn stream_new(&mut self, guest: u32, payload: Payload) -> Result<Pair, StoreError>
+        ensures meets { Meets self.old self.new (replied replies.Pair result)
+            (react self.old (steps.New guest (index.Stream payload))) }
+    {
+        self.store.stream_new(guest, payload)
+    }
+
+    /// Cancels the write of a stream. `canon stream.cancel-write`.
+    pub fn stream_cancel_write(
+        &mut self,
+        guest: u32,
+        payload: Payload,
+        handle: u32,
+    ) -> Result<ReturnCode, StoreError>
+        ensures meets { Meets self.old self.new (replied replies.Code result)
+            (react self.old (steps.CancelWrite guest (index.Stream payload) handle)) }
+        ensures takes_no_memory { result ≢ Err StoreError.OutOfMemory }
+    {
+        self.store.stream_cancel_write(guest, payload, handle)
+    }
+
+    /// Cancels the read of a stream. `canon stream.cancel-read`.
+    pub fn stream_cancel_read(
+        &mut self,
+        guest: u32,
+        payload: Payload,
+        handle: u32,
+    ) -> Result<ReturnCode, StoreError>
+        ensures meets { Meets self.old self.new (replied replies.Code result)
+            (react self.old (steps.CancelRead guest (index.Stream payload) handle)) }
+        ensures takes_no_memory { result ≢ Err StoreError.OutOfMemory }
+    {
+        self.store.stream_cancel_read(guest, payload, handle)
+    }
+
+    /// What an end is to be told, of a stream or a future, if anything: an event of
+    /// `canon waitable-set.poll` for one waitable.
+    pub fn take_event(&mut self, guest: u32, handle: u32) -> Result<Option<ReturnCode>, StoreError>
+        ensures meets { Meets self.old self.new (replied replies.Event result)
+            (react self.old (steps.Event guest handle)) }
+        ensures takes_no_memory { result ≢ Err StoreError.OutOfMemory }
+    {
+        self.store.take_event(guest, handle)
+    }
+}
+
+#[tactic(auto, using(crate::proofs::AmongLemmas::hosted_meets))]
+impl GuestStore {
+    /// Writes items from an address of the guest's memory on. `canon stream.write`. Items of a write that
+    /// waits are read from the memory when they move.
+    pub fn stream_write(
+        &mut self,
+        guest: u32,
+        payload: Payload,
+        handle: u32,
+        address: u32,
+        count: u32,
+    ) -> Result<ReturnCode, StoreError>
+        ensures meets { Meets self.old self.new (replied replies.Code result)
+            (react self.old (steps.Write guest (index.Stream payload) handle address count)) }
+        ensures takes_no_memory { result ≢ Err StoreError.OutOfMemory }
+    {
+        let mut hosts = no_hosts(self.alloc);
+        self.store
+            .stream_write(&mut hosts, guest, payload, handle, address, count)
+    }
+
+    /// Reads items to an address of the guest's memory on. `canon stream.read`.
+    pub fn stream_read(
+        &mut self,
+        guest: u32,
+        payload: Payload,
+        handle: u32,
+        address: u32,
+        count: u32,
+    ) -> Result<ReturnCode, StoreError>
+        ensures meets { Meets self.old self.new (replied replies.Code result)
+            (react self.old (steps.Read guest (index.Stream payload) handle address count)) }
+        ensures takes_no_memory { result ≢ Err StoreError.OutOfMemory }
+    {
+        let mut hosts = no_hosts(self.alloc);
+        self.store
+            .stream_read(&mut hosts, guest, payload, handle, address, count)
+    }
+
+    /// Drops the write end of a stream. `canon stream.drop-writable`.
+    pub fn stream_drop_writable(
+        &mut self,
+        guest: u32,
+        payload: Payload,
+        handle: u32,
+    ) -> Result<(), StoreError>
+        ensures meets { Meets self.old self.new (replied (λ _. replies.Done) result)
+            (react self.old (steps.DropWrite guest (index.Stream payload) handle)) }
+        ensures takes_no_memory { result ≢ Err StoreError.OutOfMemory }
+    {
+        let mut hosts = no_hosts(self.alloc);
+        self.store
+            .stream_drop_writable(&mut hosts, guest, payload, handle)
+    }
+
+    /// Drops the read end of a stream. `canon stream.drop-readable`.
+    pub fn stream_drop_readable(
+        &mut self,
+        guest: u32,
+        payload: Payload,
+        handle: u32,
+    ) -> Result<(), StoreError>
+        ensures meets { Meets self.old self.new (replied (λ _. replies.Done) result)
+            (react self.old (steps.DropRead guest (index.Stream payload) handle)) }
+        ensures takes_no_memory { result ≢ Err StoreError.OutOfMemory }
+    {
+        let mut hosts = no_hosts(self.alloc);
+        self.store
+            .stream_drop_readable(&mut hosts, guest, payload, handle)
+    }
+}

@@ -1,0 +1,14 @@
+//! A store among guests alone, for those who embed it: a runtime whose every end of a stream is a guest's.
+//!
+//! Each call is a step of the machine of `strm_machine`, by one form of clause (`Meets`), and takes no
+//! list of host ends. An embedder's own ends are a guest too, whose memory is the embedder's buffer. It
+//! stands on `strm_transmit`; `strm_c` gives it to C and to Rust.
+#![tactic(auto)]
+
+pub mod guest_store;
+pub mod laws;
+
+pub use strm_machine::chunks::Chunk;
+pub use strm_machine::limits::Limits;
+pub use strm_machine::replies::{Member, Pair};
+pub use strm_transmit::errors::StoreError;

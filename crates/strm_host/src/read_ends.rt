@@ -1,0 +1,233 @@
+//! What readers of streams and of futures, and those without their type, have in common: the loose read
+//! end that each of them stands for, and the calls that use it up.
+//!
+//! Source: wasmtime, `futures_and_streams.rs`, `StreamReader`, `FutureReader`, `StreamAny`,
+//! `FutureAny`. Ours: the store's tag.
+
+ghost use Rattle.std.specs.Prelude.{◌≡◌, ◌≢◌, ◌==◌, Err, OnOk, OnErr};
+ghost use Rattle.strm_buffers.specs.AllTells.{tells_of};
+ghost use Rattle.strm_world.specs.Does.{Fits};
+ghost use Rattle.strm_transmit.specs.Hosted.{StillFits};
+ghost use Rattle.strm_host.specs.ReadEnds.{read_end, used, no_memory, tested, host_tested, any_tested, Makes, Lifts, Lowers, PipesTo, Closes};
+
+use crate::reader_errors::ReaderError;
+use strm_buffers::hosts::Hosts;
+use strm_codes::codes::TransmitIndex;
+use strm_codes::ids::{TableId, TransmitHandle};
+use strm_codes::payloads::Payload;
+use strm_transmit::store::Store;
+
+// The number of a read end that was used. No stream has it.
+const USED: u32 = 4_294_967_295;
+
+/// A loose read end: the tag of its store, and the number of its stream.
+#[derive(Clone, Copy, PartialEq)]
+pub struct ReadEnd {
+    tag: u64,
+    id: TableId<TransmitHandle>,
+}
+
+impl ReadEnd {
+    // The read end of this stream of the store with this tag.
+    fn of(tag: u64, stream: u32) -> ReadEnd
+        ensures { result ≡ read_end tag stream }
+    {
+        ReadEnd {
+            tag,
+            id: TableId::new(stream),
+        }
+    }
+
+    /// The number of its stream.
+    pub(crate) fn id(&self) -> TableId<TransmitHandle>
+        ensures { result ≡ self.now.id }
+    {
+        self.id
+    }
+
+    // Whether it was used.
+    fn is_used(&self) -> bool
+        ensures { result ≡ (self.now.id == 4294967295) }
+    {
+        self.id.rep() == USED
+    }
+
+    // It is used from now on.
+    fn use_up(&mut self)
+        ensures { self.new ≡ used self.old }
+    {
+        self.id = TableId::new(USED);
+    }
+
+    /// Why a call of it is refused before its store is asked, if it is.
+    pub(crate) fn test(&self, store: &Store) -> Option<ReaderError>
+        ensures { result ≡ tested self.now store.now.tag }
+    {
+        if self.is_used() {
+            return Some(ReaderError::AlreadyClosed);
+        }
+        if self.tag == store.tag() {
+            return None;
+        }
+        Some(ReaderError::ForeignReader {
+            reader: self.tag,
+            store: store.tag(),
+        })
+    }
+
+    /// Why it is no read end of this payload, if it isn't: its own is `payload`.
+    pub(crate) fn test_any(&self, payload: Payload, expected: Payload) -> Option<ReaderError>
+        ensures { result ≡ any_tested self.now payload expected }
+    {
+        if self.is_used() {
+            return Some(ReaderError::AlreadyClosed);
+        }
+        if expected == payload {
+            return None;
+        }
+        Some(ReaderError::TypeMismatch {
+            expected,
+            found: payload,
+        })
+    }
+
+    /// `Store::host_new` of a host writer of this type.
+    pub(crate) fn host(
+        store: &mut Store,
+        hosts: &Hosts,
+        writer: u32,
+        ty: TransmitIndex,
+    ) -> Result<ReadEnd, ReaderError>
+        requires fits { Fits store.old (tells_of writer_tells reader_tells hosts.now) }
+        ensures calls { Makes store.old store.new (tells_of writer_tells reader_tells hosts.now) writer ty result }
+        ensures fits { Fits store.new (tells_of writer_tells reader_tells hosts.now) }
+    {
+        match test_host(store, hosts, writer, &ty) {
+            Some(error) => return Err(error),
+            None => {}
+        }
+        let tag = store.tag();
+        match store.host_new(hosts, writer) {
+            Ok(stream) => Ok(ReadEnd::of(tag, stream)),
+            Err(error) => Err(ReaderError::Store(error)),
+        }
+    }
+
+    /// `Store::lift` of an end of this type.
+    pub(crate) fn lift(
+        store: &mut Store,
+        guest: u32,
+        ty: TransmitIndex,
+        handle: u32,
+    ) -> Result<ReadEnd, ReaderError>
+        ensures calls { Lifts store.old store.new guest ty handle result }
+        ensures fits { StillFits store.old store.new }
+        ensures takes_no_memory { result ≢ Err no_memory }
+    {
+        let tag = store.tag();
+        match store.lift(guest, ty, handle) {
+            Ok(stream) => Ok(ReadEnd::of(tag, stream)),
+            Err(error) => Err(ReaderError::Store(error)),
+        }
+    }
+
+    /// `Store::lower`. After Ok it is used.
+    pub(crate) fn lower(
+        &mut self,
+        store: &mut Store,
+        guest: u32,
+        ty: TransmitIndex,
+    ) -> Result<u32, ReaderError>
+        ensures calls { Lowers self.old store.old store.new guest ty result }
+        ensures ok { OnOk result (self.new ≡ used self.old) }
+        ensures err { OnErr result (self.new ≡ self.old) }
+        ensures fits { StillFits store.old store.new }
+    {
+        match self.test(store) {
+            Some(error) => return Err(error),
+            None => {}
+        }
+        match store.lower(self.id.rep(), guest, ty) {
+            Ok(handle) => {
+                self.use_up();
+                Ok(handle)
+            }
+            Err(error) => Err(ReaderError::Store(error)),
+        }
+    }
+
+    /// `Store::pipe`. After Ok it is used.
+    pub(crate) fn pipe(
+        &mut self,
+        store: &mut Store,
+        hosts: &mut Hosts,
+        reader: u32,
+    ) -> Result<(), ReaderError>
+        requires fits { Fits store.old (tells_of writer_tells reader_tells hosts.old) }
+        ensures calls { PipesTo self.old store.old store.new (tells_of writer_tells reader_tells hosts.old)
+            (tells_of writer_tells reader_tells hosts.new) reader result }
+        ensures ok { OnOk result (self.new ≡ used self.old) }
+        ensures err { OnErr result (self.new ≡ self.old) }
+        ensures fits { Fits store.new (tells_of writer_tells reader_tells hosts.new) }
+        ensures takes_no_memory { result ≢ Err no_memory }
+    {
+        match self.test(store) {
+            Some(error) => return Err(error),
+            None => {}
+        }
+        match store.pipe(hosts, self.id.rep(), reader) {
+            Ok(()) => {
+                self.use_up();
+                Ok(())
+            }
+            Err(error) => Err(ReaderError::Store(error)),
+        }
+    }
+
+    /// `Store::close`. After Ok it is used.
+    pub(crate) fn close(&mut self, store: &mut Store, hosts: &mut Hosts) -> Result<(), ReaderError>
+        requires fits { Fits store.old (tells_of writer_tells reader_tells hosts.old) }
+        ensures calls { Closes self.old store.old store.new (tells_of writer_tells reader_tells hosts.old)
+            (tells_of writer_tells reader_tells hosts.new) result }
+        ensures ok { OnOk result (self.new ≡ used self.old) }
+        ensures err { OnErr result (self.new ≡ self.old) }
+        ensures fits { Fits store.new (tells_of writer_tells reader_tells hosts.new) }
+        ensures takes_no_memory { result ≢ Err no_memory }
+    {
+        match self.test(store) {
+            Some(error) => return Err(error),
+            None => {}
+        }
+        match store.close(hosts, self.id.rep()) {
+            Ok(()) => {
+                self.use_up();
+                Ok(())
+            }
+            Err(error) => Err(ReaderError::Store(error)),
+        }
+    }
+}
+
+// Why a host writer is not of a type, if it isn't.
+fn test_host(store: &Store, hosts: &Hosts, writer: u32, ty: &TransmitIndex) -> Option<ReaderError>
+    ensures { result ≡ host_tested store.now (tells_of writer_tells reader_tells hosts.now) writer ty.now }
+{
+    let number = writer as usize;
+    if store.trapped() || number >= hosts.count_writers() || number >= 64 {
+        return None;
+    }
+    let (kind, payload) = (hosts.writer_kind(number), hosts.writer_payload(number));
+    if ty.kind() != kind {
+        return Some(ReaderError::KindMismatch {
+            expected: ty.kind(),
+            found: kind,
+        });
+    }
+    if ty.payload() != payload {
+        return Some(ReaderError::TypeMismatch {
+            expected: ty.payload(),
+            found: payload,
+        });
+    }
+    None
+}

@@ -1,0 +1,38 @@
+-- The count of a stream has room for the parts to come, where they are as many as were paid for.
+use Rattle.std.proofs.Common.{◌≡◌, ◌≢◌, ℕ, ◌+◌, ◌-◌, ◌*◌, ◌^◌, ◌<◌, ◌≤◌, ◌==◌, cond, refl, ap, subst, inl, inr, arith}
+use Rattle.std.proofs.lemmas.Bool.{cases_eq, eq-eqb, ne_eqb}
+use Rattle.strm_machine.specs.Moments.{received}
+use Rattle.strm_machine.specs.State.{State}
+use Rattle.strm_machine.specs.declared.replies.Reply.{Reply}
+use Rattle.strm_host_laws.specs.HostMoments.{Part, Acts, Turns}
+use Rattle.strm_host_laws.proofs.StepsLeft.{left_after, Pays}
+use Rattle.strm_host_laws.proofs.Effects.{Effect}
+use Rattle.strm_host_laws.proofs.Standing.{Holds}
+use Rattle.strm_host_laws.proofs.HostBytes.{effect_most, effect_still}
+
+-- it has room for what a part may move on it
+abbrev pub HasRoom : State → ℕ → Part → Type 0
+HasRoom old s (Acts act) = received s old + 2 ^ 28 < 2 ^ 128
+HasRoom old s (Turns t) = t ≡ s → received s old + 2 ^ 28 < 2 ^ 128
+
+module _ (s n : ℕ) (old new : State) (reply : Reply) (h : Holds old) (room : received s old + 2 ^ 28 * n < 2 ^ 128) where
+  pub has_room : (part : Part) → Pays s part n → HasRoom old s part
+  has_room (Acts act) p = omega (arith, p.0, room)
+  has_room (Turns j) p = λ e. let some = p e in omega (arith, some, room)
+
+  room_after : (part : Part) → Pays s part n → received s new ≤ received s old + 2 ^ 28 → ((j : ℕ) → part ≡ Turns j → j ≢ s → received s new ≡ received s old) → received s new + 2 ^ 28 * left_after s part n < 2 ^ 128
+  room_after (Acts act) p most still = omega (arith, p.0, room, most)
+  room_after (Turns j) p most still =
+      elim (cases_eq j s) [
+        | inl e ↦
+            let b : cond (j == s) (n - 1) n ≡ n - 1 = ap (λ b. cond b (n - 1) n) (eq-eqb j s e) in
+            omega (arith, b, p e, room, most)
+        | inr ne ↦
+            let b : cond (j == s) (n - 1) n ≡ n = ap (λ b. cond b (n - 1) n) (ne_eqb j s ne) in
+            omega (arith, b, room, still j refl ne)
+      ]
+
+  pub room_next : (part : Part) → Pays s part n → Effect old part reply new → received s new + 2 ^ 28 * left_after s part n < 2 ^ 128
+  room_next part p effect =
+      room_after part p (effect_most old new reply h part s effect)
+      (λ j e ne. effect_still old new reply h j s ne (subst (λ q. Effect old q reply new) e effect))

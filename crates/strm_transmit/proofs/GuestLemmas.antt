@@ -1,0 +1,147 @@
+-- Where no host end has an end of a stream, steps of guests touch none, and leave it so.
+use Rattle.std.proofs.Common.{◌≡◌, ℕ, ◌<◌, true, false, List, [], length, set, Option, Some, None, refl, sym, ap, ◌∙◌, subst, inl, inr, arith}
+use Rattle.std.specs.Prelude.{Bool, if◌then◌else◌}
+use Rattle.std.proofs.lemmas.Bool.{cases_eq}
+use Rattle.std.proofs.lemmas.List.{get_or-set_same, get_or-set_other, get_or_past}
+use Rattle.strm_machine.specs.Words.{ReturnCode, TransmitIndex, State, no_stream, stream_at, end_of, with_end, Turn, named, stream_named, Reaction, written_back}
+use Rattle.strm_machine.specs.State.{empty, is_host}
+use Rattle.strm_machine.specs.Sides.{opposite}
+use Rattle.strm_machine.specs.Making.{made_stream, made_pair, with_stream}
+use Rattle.strm_machine.specs.Moves.{with_owner}
+use Rattle.strm_machine.specs.Refusals.{first_of, lower_context_reasons}
+use Rattle.strm_machine.specs.Reactions.{goes, shares_unless, lowers_context, reaction}
+use Rattle.strm_machine.specs.declared.replies.Reply.TheVariants as replies
+use Rattle.strm_codes.specs.declared.refusals.Refusal.{Refusal}
+use Rattle.strm_machine.specs.declared.streams.Side.{Side}
+use Rattle.strm_machine.specs.declared.streams.Side.TheVariants.{Writing, Reading}
+use Rattle.strm_machine.specs.declared.streams.Stream.{Stream}
+use Rattle.strm_machine.specs.declared.streams.Owner.{Owner}
+use Rattle.strm_machine.specs.declared.acts.Act.{Act}
+use Rattle.strm_machine.specs.declared.limits.Limits.{Limits}
+use Rattle.strm_machine.proofs.EmptyLemmas.{IsSound-empty}
+use Rattle.strm_machine.proofs.SeenSteps.{made_at}
+use Rattle.strm_machine.proofs.ContextStepLemmas.{with_context_handle-sound, lower_context_fits}
+use Rattle.strm_machine.proofs.SoundStepLemmas.{operate-keeps, reaction-sound}
+use Rattle.strm_machine.proofs.TableLemmas.{OwnersStay, with_end-owners, owner_in}
+use Rattle.strm_machine.proofs.Shapes.{turn_on, Shape, ByTurn, BySetting, ByOwner, ByTable, ByPair, ByGuest, ByPut, ByRest}
+use Rattle.strm_machine.proofs.ShapeLemmas.{reaction-shape}
+use Rattle.strm_world.specs.Steps.{polls_by, may_poll, touches_by, touches}
+use Rattle.strm_world.proofs.TouchLemmas.{touch-by}
+use Rattle.strm_transmit.specs.Hosted.{lone}
+use Rattle.strm_transmit.specs.Guests.{AreUnhosted, Unhosted, is_of_guests}
+
+abbrev IsUnhosted : Stream → Type 0
+IsUnhosted stream = (side : Side) → is_host (end_of side stream).owner ≡ false
+
+abbrev OnUnhosted : Side → Stream → Type 0
+OnUnhosted side stream = is_host (end_of side stream).owner ≡ false
+
+set-unhosted : (streams : List Stream) (s : ℕ) (x : Stream) → s < length streams → IsUnhosted x → AreUnhosted streams → AreUnhosted (set streams s x)
+set-unhosted streams s x l here u k side =
+    elim (cases_eq k s) [
+      | inl e ↦ subst (λ n. is_host (owner_in (set streams s x) n side) ≡ false) (sym e) (subst (OnUnhosted side) (sym (get_or-set_same streams s x no_stream l)) (here side))
+      | inr ne ↦ subst (OnUnhosted side) (sym (get_or-set_other streams s k x no_stream ne)) (u k side)
+    ]
+
+owners-unhosted : (old new : Stream) → OwnersStay old new → IsUnhosted old → IsUnhosted new
+owners-unhosted old new same u Writing = ap is_host same.writer ∙ u Writing
+owners-unhosted old new same u Reading = ap is_host same.reader ∙ u Reading
+
+owner-unhosted : (side : Side) (stream : Stream) (owner : Owner) → is_host owner ≡ false → IsUnhosted stream → IsUnhosted (with_owner side stream owner)
+owner-unhosted Writing stream owner e u Writing = e
+owner-unhosted Writing stream owner e u Reading = u Reading
+owner-unhosted Reading stream owner e u Writing = u Writing
+owner-unhosted Reading stream owner e u Reading = e
+
+made-unhosted : (ty : TransmitIndex) (writer write reader read : ℕ) → IsUnhosted (made_stream ty writer write reader read)
+made-unhosted ty writer write reader read Writing = refl
+made-unhosted ty writer write reader read Reading = refl
+
+pair-unhosted : (state : State) (writer reader : ℕ) (ty : TransmitIndex) → AreUnhosted state.streams → AreUnhosted (with_stream state writer reader ty).streams
+unfolding with_stream
+pair-unhosted state writer reader ty u k side =
+    let pair = made_pair state writer reader ty in
+    elim (made_at state.streams (made_stream ty writer pair.write reader pair.read) k) [
+      | inl e ↦ subst (OnUnhosted side) (sym e) (u k side)
+      | inr e ↦ subst (OnUnhosted side) (sym e.1) (made-unhosted ty writer pair.write reader pair.read side)
+    ]
+
+written-unhosted : (state : State) (s : ℕ) (t : Turn) (code : Option ReturnCode) → s < length state.streams → IsUnhosted t.stream → AreUnhosted state.streams → AreUnhosted (written_back state s t code).state.streams
+written-unhosted state s t None l k u = set-unhosted state.streams s t.stream l k u
+written-unhosted state s t (Some code) l k u = set-unhosted state.streams s t.stream l k u
+
+shape-unhosted : (state : State) (act : Act) (r : Reaction) → AreUnhosted state.streams → Shape state act r → AreUnhosted r.state.streams
+shape-unhosted state act r u (ByTurn side end address count a e o) =
+    let t = turn_on state side end address count in
+    let k = operate-keeps state side end address count o in
+    let s = stream_named (named state end) in
+    rw e (written-unhosted state s t t.code o.found.made (owners-unhosted (stream_at state s) t.stream (record { writer = k.stream.writer; reader = k.stream.reader }) (u s)) u)
+shape-unhosted state act r u (BySetting reply x e set) =
+    let stream = stream_at state x.stream in
+    rw e (set-unhosted state.streams x.stream (with_end x.side stream x.end) set.made (owners-unhosted stream (with_end x.side stream x.end) (with_end-owners x.side stream x.end set.becomes.owner) (u x.stream)) u)
+shape-unhosted state act r u (ByOwner reply x e o) =
+    rw e (set-unhosted state.streams x.stream _ o.made (owner-unhosted x.side (stream_at state x.stream) x.owner o.unhosted (u x.stream)) u)
+shape-unhosted state act r u (ByTable reply x e t) = rw e u
+shape-unhosted state act r u (ByPair writer reader ty a e fits) = rw e (pair-unhosted state writer reader ty u)
+shape-unhosted state act r u (ByGuest size a e fits) = rw e u
+shape-unhosted state act r u (ByPut reply g address bytes e p) = rw e u
+shape-unhosted state act r u (ByRest reply e none) = rw e u
+
+pub reaction-unhosted : (state : State) (act : Act) → Unhosted state → Unhosted (reaction state act).state
+reaction-unhosted state act u = record {
+  sound = reaction-sound state act u.sound;
+  none = shape-unhosted state act (reaction state act) u.none (reaction-shape state act u.sound);
+}
+
+-- a handle more to an error context
+unless-unhosted : (trapped : Bool) (r other : Reaction) → Unhosted r.state → Unhosted other.state → Unhosted (if trapped then r else other).state
+unless-unhosted true r other u v = u
+unless-unhosted false r other u v = v
+
+shared-unhosted : (state : State) (number g : ℕ) (found : Option Refusal) → first_of (lower_context_reasons state number g) ≡ found → Unhosted state → Unhosted (shares_unless state number g found).state
+shared-unhosted state number g (Some r) e u = u
+shared-unhosted state number g None e u = record {
+  sound = with_context_handle-sound state number g u.sound (lower_context_fits state number g e);
+  none = u.none;
+}
+
+pub lowering-unhosted : (state : State) (number g : ℕ) → Unhosted state → Unhosted (lowers_context state number g).state
+unfolding lowers_context
+lowering-unhosted state number g u =
+    unless-unhosted state.trapped (goes replies.StoreTrapped state) _ u (shared-unhosted state number g (first_of (lower_context_reasons state number g)) refl u)
+
+no_stream-unhosted : IsUnhosted no_stream
+no_stream-unhosted Writing = refl
+no_stream-unhosted Reading = refl
+
+pub empty-unhosted : (tag : ℕ) (limits : Limits) → Unhosted (empty tag limits)
+empty-unhosted tag limits = record {
+  sound = IsSound-empty tag limits;
+  none = λ s side. ap (λ st. is_host (end_of side st).owner) (get_or_past [] s no_stream (omega arith)) ∙ no_stream-unhosted side;
+}
+
+-- a step of guests touches no host end there
+pub touches-none : (state : State) (act : Act) → Unhosted state → is_of_guests act ≡ true → touches (lone state) act ≡ false
+touches-none state act u =
+    touch-by (λ act touch. is_of_guests act ≡ true → touches_by state touch ≡ false) state
+    (record {
+      operated = λ side end address count e. u.none (stream_named (named state end)) (opposite side);
+      dropped = λ act s side d e. u.none s (opposite side);
+      hosted = λ n act e. cc;
+      driven = λ e. cc;
+      alone = λ act n e. refl;
+    })
+    act
+
+-- and polls none
+pub polls-none : (state : State) (act : Act) → Unhosted state → is_of_guests act ≡ true → may_poll (lone state) act ≡ false
+polls-none state act u =
+    touch-by (λ act touch. is_of_guests act ≡ true → polls_by state touch ≡ false) state
+    (record {
+      operated = λ side end address count e. u.none (stream_named (named state end)) (opposite side);
+      dropped = λ act s side d e. refl;
+      hosted = λ n act e. refl;
+      driven = λ e. cc;
+      alone = λ act n e. refl;
+    })
+    act

@@ -1,0 +1,367 @@
+//! Turns of host ends: of a host writer for the read on its stream, of a host reader for the write.
+//!
+//! Meaning: `Producing.antt`, `Consuming.antt` and `Settling.antt` of `strm_world`. Source: wasmtime,
+//! `guest_read` with `WriteState::HostReady` and `guest_write` with `ReadState::HostReady`.
+
+ghost use Rattle.std.specs.Prelude.{◌≡◌, ◌≢◌, ◌<◌, ◌≤◌, [], true, length, sum, Ok, IsOk, IfOk, IfErr};
+ghost use Rattle.strm_buffers.specs.AllTells.{tells_of};
+ghost use Rattle.strm_buffers.specs.Tells.{Tells, told_by, with_told, told_by_reader, with_told_reader};
+ghost use Rattle.strm_machine.specs.State.{stream_at};
+ghost use Rattle.strm_machine.specs.Sides.{opposite, end_of, with_operation};
+ghost use Rattle.strm_machine.specs.Reactions.{with_stream_at};
+ghost use Rattle.strm_machine.specs.Soundness.{sizes_of, IsPlaced};
+ghost use Rattle.strm_machine.specs.declared.replies.Reply.TheVariants as replies;
+ghost use Rattle.strm_machine.specs.declared.streams.Owner.TheVariants.{Host};
+ghost use Rattle.strm_machine.specs.declared.streams.Side.TheVariants.{Writing, Reading};
+ghost use Rattle.strm_turns.specs.Guests.{seen};
+ghost use Rattle.strm_producing.specs.Turning.{scene, Turns};
+ghost use Rattle.strm_producing.specs.Taking.{taking, Takes};
+ghost use Rattle.strm_world.specs.Settling.{answered as answers_at};
+ghost use Rattle.strm_world.specs.Producing.{producer_turn};
+ghost use Rattle.strm_world.specs.Consuming.{consumer_turn};
+ghost use Rattle.strm_world.specs.Does.{Fits, Does};
+ghost use Rattle.strm_transmit.specs.Meets.{replied};
+ghost use Rattle.strm_transmit.specs.Hosted.{answered, IsStop};
+ghost use Rattle.strm_transmit.specs.Turning.{TurnsStream, TakesStream, stops_by, stops_taking, turn_for, polls_for};
+
+use crate::errors::StoreError;
+use crate::store::Store;
+use std::alloc::Global;
+use strm_buffers::hosts::Hosts;
+use strm_codes::codes::ReturnCode;
+use strm_machine::streams::{Consumer, HostEnd, Operation, Owner, Producer, Side, Stream};
+use strm_producing::taking::{TakeError, consumer_turn};
+use strm_producing::turns::{TurnError, producer_turn};
+use strm_turns::guests::Guest;
+use strm_turns::owners::is_live;
+use strm_turns::sides::set_operation;
+
+// Why a turn of a host writer stops a call.
+fn stop_of(error: TurnError, number: u32) -> StoreError
+    ensures { result ≡ stops_by error number }
+{
+    let end = HostEnd::Writer(number);
+    match error {
+        TurnError::Failed => StoreError::HostFailed { end },
+        TurnError::Broke => StoreError::HostBroke { end },
+        TurnError::OutOfMemory => StoreError::OutOfMemory,
+    }
+}
+
+// The turn of the host writer of a number.
+#[tactic(auto, using(strm_buffers::proofs::BoxLemmas::boxes))]
+fn turn_of(
+    alloc: Global,
+    guests: &mut Vec<Guest>,
+    stream: &mut Stream,
+    producer: &mut Producer,
+    hosts: &mut Hosts,
+    number: usize,
+    read: &Operation,
+) -> Result<(), TurnError>
+    requires placed { IsPlaced (sizes_of (seen guests.old.items)) stream.old.payload read.now }
+    requires sizes { sum (sizes_of (seen guests.old.items)) ≤ 268435456 }
+    requires there { number < length (tells_of writer_tells reader_tells hosts.old).writers }
+    requires payload { (told_by (tells_of writer_tells reader_tells hosts.old) number).payload
+        ≡ stream.old.payload }
+    ensures turns { Turns result
+        (scene (seen guests.old.items) stream.old producer.old
+        (told_by (tells_of writer_tells reader_tells hosts.old) number))
+        (scene (seen guests.new.items) stream.new producer.new
+        (told_by (tells_of writer_tells reader_tells hosts.new) number)) read.now }
+    ensures others { tells_of writer_tells reader_tells hosts.new
+        ≡ with_told (tells_of writer_tells reader_tells hosts.old) number
+        (told_by (tells_of writer_tells reader_tells hosts.new) number) }
+{
+    producer_turn(
+        alloc,
+        guests,
+        stream,
+        producer,
+        &mut hosts.writers[number],
+        read,
+    )
+}
+
+// Why a turn of a host reader stops a call.
+fn stop_taking(error: TakeError, number: u32, stream: u32) -> StoreError
+    ensures { result ≡ stops_taking error number stream }
+{
+    let end = HostEnd::Reader(number);
+    match error {
+        TakeError::Failed => StoreError::HostFailed { end },
+        TakeError::Broke => StoreError::HostBroke { end },
+        TakeError::BadItem => StoreError::BadItem { stream },
+        TakeError::OutOfMemory => StoreError::OutOfMemory,
+    }
+}
+
+// The turn of the host reader of a number.
+#[tactic(auto, using(strm_buffers::proofs::BoxLemmas::boxes))]
+fn take_of(
+    alloc: Global,
+    guests: &mut Vec<Guest>,
+    stream: &mut Stream,
+    consumer: &mut Consumer,
+    hosts: &mut Hosts,
+    number: usize,
+    write: &Operation,
+) -> Result<(), TakeError>
+    requires placed { IsPlaced (sizes_of (seen guests.old.items)) stream.old.payload write.now }
+    requires sizes { sum (sizes_of (seen guests.old.items)) ≤ 268435456 }
+    requires there { number < length (tells_of writer_tells reader_tells hosts.old).readers }
+    requires payload { (told_by_reader (tells_of writer_tells reader_tells hosts.old) number).payload
+        ≡ stream.old.payload }
+    ensures takes { Takes result
+        (taking (seen guests.old.items) stream.old consumer.old
+        (told_by_reader (tells_of writer_tells reader_tells hosts.old) number))
+        (taking (seen guests.new.items) stream.new consumer.new
+        (told_by_reader (tells_of writer_tells reader_tells hosts.new) number)) write.now }
+    ensures others { tells_of writer_tells reader_tells hosts.new
+        ≡ with_told_reader (tells_of writer_tells reader_tells hosts.old) number
+        (told_by_reader (tells_of writer_tells reader_tells hosts.new) number) }
+{
+    consumer_turn(
+        alloc,
+        guests,
+        stream,
+        consumer,
+        &mut hosts.readers[number],
+        write,
+    )
+}
+
+impl Store {
+    // A read or write opens on a stream.
+    fn open(&mut self, stream: u32, side: Side, operation: Operation)
+        requires there { stream < length self.old.streams }
+        requires placed { IsPlaced (sizes_of self.old.guests) (stream_at self.old stream).payload operation }
+        ensures { self.new ≡ with_stream_at self.old stream
+            (with_operation side (stream_at self.old stream) operation) }
+    {
+        set_operation(&mut self.streams[stream as usize], side, operation);
+    }
+
+    // The turn of the host writer that serves a stream, for the open read on it.
+    fn turn(
+        &mut self,
+        hosts: &mut Hosts,
+        stream: u32,
+        number: u32,
+        read: &Operation,
+    ) -> Result<(), TurnError>
+        requires there { stream < length self.old.streams }
+        requires owner { (stream_at self.old stream).writer.owner ≡ Host number }
+        requires placed { IsPlaced (sizes_of self.old.guests) (stream_at self.old stream).payload read.now }
+        requires fits { Fits self.old (tells_of writer_tells reader_tells hosts.old) }
+        ensures { TurnsStream self.old self.new (tells_of writer_tells reader_tells hosts.old)
+            (tells_of writer_tells reader_tells hosts.new) number stream read.now result }
+    {
+        let served = &mut self.streams[stream as usize];
+        let was_live = is_live(served);
+        let mut producer = self.producers[number as usize];
+        let (guests, place) = (&mut self.guests, number as usize);
+        let turned = turn_of(
+            self.alloc,
+            guests,
+            served,
+            &mut producer,
+            hosts,
+            place,
+            read,
+        );
+        self.live_streams = self.live_streams - u32::from(was_live) + u32::from(is_live(served));
+        self.producers[place] = producer;
+        turned
+    }
+
+    // The turn of the host reader that serves a stream, for the open write on it.
+    fn take_turn_of(
+        &mut self,
+        hosts: &mut Hosts,
+        stream: u32,
+        number: u32,
+        write: &Operation,
+    ) -> Result<(), TakeError>
+        requires there { stream < length self.old.streams }
+        requires owner { (stream_at self.old stream).reader.owner ≡ Host number }
+        requires placed { IsPlaced (sizes_of self.old.guests) (stream_at self.old stream).payload write.now }
+        requires fits { Fits self.old (tells_of writer_tells reader_tells hosts.old) }
+        ensures { TakesStream self.old self.new (tells_of writer_tells reader_tells hosts.old)
+            (tells_of writer_tells reader_tells hosts.new) number stream write.now result }
+    {
+        let served = &mut self.streams[stream as usize];
+        let was_live = is_live(served);
+        let mut consumer = self.consumers[number as usize];
+        let (guests, place) = (&mut self.guests, number as usize);
+        let taken = take_of(
+            self.alloc,
+            guests,
+            served,
+            &mut consumer,
+            hosts,
+            place,
+            write,
+        );
+        self.live_streams = self.live_streams - u32::from(was_live) + u32::from(is_live(served));
+        self.consumers[place] = consumer;
+        taken
+    }
+
+    // Nothing is done any more but to say that the store is trapped.
+    fn trap(&mut self)
+        ensures { self.new ≡ record self.old { trapped = true } }
+    {
+        self.is_trapped = true;
+    }
+
+    // The turn of the host writer that serves a stream, which is closed where it is done with it. After
+    // an error the store is trapped.
+    fn produce(
+        &mut self,
+        hosts: &mut Hosts,
+        stream: u32,
+        number: u32,
+        read: &Operation,
+    ) -> Result<(), StoreError>
+        requires there { stream < length self.old.streams }
+        requires owner { (stream_at self.old stream).writer.owner ≡ Host number }
+        requires placed { IsPlaced (sizes_of self.old.guests) (stream_at self.old stream).payload read.now }
+        requires fits { Fits self.old (tells_of writer_tells reader_tells hosts.old) }
+        ensures does { Does self.old self.new (tells_of writer_tells reader_tells hosts.old)
+            (tells_of writer_tells reader_tells hosts.new) (answered (replied (λ _. replies.Done) result))
+            (λ world. producer_turn world stream number read.now) }
+        ensures fits { Fits self.new (tells_of writer_tells reader_tells hosts.new) }
+        ensures there { length self.new.streams ≡ length self.old.streams }
+        ensures untrapped { IfOk result (λ _. self.new.trapped ≡ self.old.trapped) }
+        ensures stop { IfErr result IsStop }
+        ensures trapped { IfErr result (λ _. self.new.trapped ≡ true) }
+        ensures held { (told_by (tells_of writer_tells reader_tells hosts.old) number).holds ≢ []
+            → IsOk result }
+    {
+        self.sound();
+        self.served();
+        match self.turn(hosts, stream, number, read) {
+            Ok(()) => {}
+            Err(error) => {
+                self.trap();
+                return Err(stop_of(error, number));
+            }
+        }
+        if self.stream(stream).writer.owner != Owner::Gone {
+            return Ok(());
+        }
+        self.retire(stream, number);
+        hosts.close_writer(number as usize);
+        Ok(())
+    }
+
+    // The turn of the host reader that serves a stream, which is closed where it is done with it. After an
+    // error the store is trapped.
+    fn consume(
+        &mut self,
+        hosts: &mut Hosts,
+        stream: u32,
+        number: u32,
+        write: &Operation,
+    ) -> Result<(), StoreError>
+        requires there { stream < length self.old.streams }
+        requires owner { (stream_at self.old stream).reader.owner ≡ Host number }
+        requires placed { IsPlaced (sizes_of self.old.guests) (stream_at self.old stream).payload write.now }
+        requires fits { Fits self.old (tells_of writer_tells reader_tells hosts.old) }
+        ensures does { Does self.old self.new (tells_of writer_tells reader_tells hosts.old)
+            (tells_of writer_tells reader_tells hosts.new) (answered (replied (λ _. replies.Done) result))
+            (λ world. consumer_turn world stream number write.now) }
+        ensures fits { Fits self.new (tells_of writer_tells reader_tells hosts.new) }
+        ensures there { length self.new.streams ≡ length self.old.streams }
+        ensures stop { IfErr result IsStop }
+        ensures trapped { IfErr result (λ _. self.new.trapped ≡ true) }
+    {
+        self.sound();
+        self.served();
+        match self.take_turn_of(hosts, stream, number, write) {
+            Ok(()) => {}
+            Err(error) => {
+                self.trap();
+                return Err(stop_taking(error, number, stream));
+            }
+        }
+        if self.stream(stream).reader.owner != Owner::Gone {
+            return Ok(());
+        }
+        self.retire_reader(stream, number);
+        hosts.close_reader(number as usize);
+        Ok(())
+    }
+
+    // The turn of the host end across an operation on a side of a stream.
+    pub(crate) fn host_turn(
+        &mut self,
+        hosts: &mut Hosts,
+        stream: u32,
+        side: Side,
+        number: u32,
+        operation: &Operation,
+    ) -> Result<(), StoreError>
+        requires there { stream < length self.old.streams }
+        requires owner { (end_of (opposite side) (stream_at self.old stream)).owner ≡ Host number }
+        requires placed { IsPlaced (sizes_of self.old.guests) (stream_at self.old stream).payload operation.now }
+        requires fits { Fits self.old (tells_of writer_tells reader_tells hosts.old) }
+        ensures does { Does self.old self.new (tells_of writer_tells reader_tells hosts.old)
+            (tells_of writer_tells reader_tells hosts.new) (answered (replied (λ _. replies.Done) result))
+            (turn_for side stream number operation.now) }
+        ensures fits { Fits self.new (tells_of writer_tells reader_tells hosts.new) }
+        ensures there { length self.new.streams ≡ length self.old.streams }
+        ensures stop { IfErr result IsStop }
+        ensures trapped { IfErr result (λ _. self.new.trapped ≡ true) }
+        ensures held { side ≡ Reading → (told_by (tells_of writer_tells reader_tells hosts.old) number).holds ≢ []
+            → IsOk result }
+    {
+        match side {
+            Side::Reading => self.produce(hosts, stream, number, operation),
+            Side::Writing => self.consume(hosts, stream, number, operation),
+        }
+    }
+
+    // What a read or write is answered once the host end across had its turn.
+    fn answer(&mut self, stream: u32, side: Side) -> ReturnCode
+        requires { stream < length self.old.streams }
+        ensures does { (tells : Tells) → Does self.old self.new tells tells (Ok (replies.Code result))
+            (λ world. answers_at world stream side) }
+        ensures fits { (tells : Tells) → Fits self.old tells → Fits self.new tells }
+    {
+        match self.tell(stream, side) {
+            Some(code) => code,
+            None => ReturnCode::Blocked,
+        }
+    }
+
+    // A read or write with a host end across: it opens, and the host end has its turn at once.
+    pub(crate) fn poll_across(
+        &mut self,
+        hosts: &mut Hosts,
+        stream: u32,
+        side: Side,
+        number: u32,
+        operation: Operation,
+    ) -> Result<ReturnCode, StoreError>
+        requires there { stream < length self.old.streams }
+        requires owner { (end_of (opposite side) (stream_at self.old stream)).owner ≡ Host number }
+        requires placed { IsPlaced (sizes_of self.old.guests) (stream_at self.old stream).payload operation }
+        requires fits { Fits self.old (tells_of writer_tells reader_tells hosts.old) }
+        ensures does { Does self.old self.new (tells_of writer_tells reader_tells hosts.old)
+            (tells_of writer_tells reader_tells hosts.new) (answered (replied replies.Code result))
+            (polls_for side stream number operation) }
+        ensures fits { Fits self.new (tells_of writer_tells reader_tells hosts.new) }
+        ensures stop { IfErr result IsStop }
+        ensures trapped { IfErr result (λ _. self.new.trapped ≡ true) }
+        ensures held { side ≡ Reading → (told_by (tells_of writer_tells reader_tells hosts.old) number).holds ≢ []
+            → IsOk result }
+    {
+        self.open(stream, side, operation);
+        match self.host_turn(hosts, stream, side, number, &operation) {
+            Ok(()) => Ok(self.answer(stream, side)),
+            Err(error) => Err(error),
+        }
+    }
+}

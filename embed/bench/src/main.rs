@@ -1,0 +1,135 @@
+//! A write, a read and an event of some bytes, through the proved library and by plain Rust: the store of
+//! `bench/store.rs`, which makes the same tests without proofs. Both run in turn in this process, on one
+//! thread, whose processor time is taken; what is told is the median of 61 runs of each. What a runtime knows
+//! only when it runs, as the payload, the compiler does not see in either.
+
+#[allow(dead_code)]
+#[rustfmt::skip]
+#[path = "../../../bench/store.rs"]
+mod plain;
+
+use std::hint::black_box;
+use strm_embed::{Error, Guest, Limits, Pair, Payload, Store, Type};
+
+const MEMORY: u32 = 1 << 20;
+const RUNS: usize = 61;
+const BYTES: plain::Payload = plain::Payload::One(plain::Scalar::U8);
+
+#[repr(C)]
+struct Time {
+    seconds: i64,
+    nanoseconds: i64,
+}
+
+unsafe extern "C" {
+    fn clock_gettime(clock: i32, time: *mut Time) -> i32;
+}
+
+// The processor time of this thread (CLOCK_THREAD_CPUTIME_ID of Linux), in nanoseconds.
+fn spent() -> i64 {
+    let mut time = Time {
+        seconds: 0,
+        nanoseconds: 0,
+    };
+    // SAFETY: the time is this function's own.
+    unsafe { clock_gettime(3, &mut time) };
+    time.seconds * 1_000_000_000 + time.nanoseconds
+}
+
+struct Proved {
+    store: Store,
+    writer: Guest,
+    reader: Guest,
+    pair: Pair,
+}
+
+impl Proved {
+    fn new() -> Result<Proved, Error> {
+        let mut store = Store::new(0, Limits::default())?;
+        let (writer, reader) = (store.add_guest(MEMORY)?, store.add_guest(MEMORY)?);
+        let pair = store.new_between(writer, reader, Type::Stream(Payload::U8))?;
+        Ok(Proved {
+            store,
+            writer,
+            reader,
+            pair,
+        })
+    }
+
+    fn round(&mut self, address: u32, count: u32) -> Result<(), Error> {
+        let written = self
+            .store
+            .stream_write(self.writer, Payload::U8, self.pair.write, address, count)?;
+        let read = self
+            .store
+            .stream_read(self.reader, Payload::U8, self.pair.read, address, count)?;
+        let told = self.store.take_event(self.writer, self.pair.write)?;
+        black_box((written.word(), read.word(), told));
+        Ok(())
+    }
+}
+
+struct Plain {
+    store: plain::Store,
+    read: u32,
+    write: u32,
+}
+
+impl Plain {
+    fn new() -> Plain {
+        let mut store = plain::Store::new();
+        store.add_guest(MEMORY as usize);
+        store.add_guest(MEMORY as usize);
+        let (read, write) = store.new_between(0, 1, plain::Kind::Stream, BYTES);
+        Plain { store, read, write }
+    }
+
+    fn round(&mut self, address: u32, count: u32) -> Result<(), plain::Refusal> {
+        let (writing, reading) = (plain::Side::Writing, plain::Side::Reading);
+        let stream = plain::Kind::Stream;
+        let written = self
+            .store
+            .operate(writing, 0, stream, BYTES, self.write, address, count)?;
+        let read = self
+            .store
+            .operate(reading, 1, stream, BYTES, self.read, address, count)?;
+        let told = self.store.take_event(0, self.write)?;
+        black_box((written.encode(), read.encode(), told.map(plain::Code::encode)));
+        Ok(())
+    }
+}
+
+// Nanoseconds of one round, of so many.
+fn timed(rounds: u32, mut round: impl FnMut(u32)) -> f64 {
+    let from = spent();
+    for k in 0..rounds {
+        round(black_box(k % 4096 * 8));
+    }
+    (spent() - from) as f64 / f64::from(rounds)
+}
+
+fn median(mut figures: Vec<f64>) -> f64 {
+    figures.sort_by(f64::total_cmp);
+    figures[figures.len() / 2]
+}
+
+fn main() -> Result<(), Error> {
+    let (mut proved, mut plain) = (Proved::new()?, Plain::new());
+    for (count, rounds) in [(8, 100_000), (64, 100_000), (4096, 30_000), (65536, 3_000)] {
+        let (mut ours, mut theirs) = (Vec::new(), Vec::new());
+        for _ in 0..RUNS {
+            ours.push(timed(rounds, |at| {
+                proved.round(at, black_box(count)).expect("no refusal")
+            }));
+            theirs.push(timed(rounds, |at| {
+                plain.round(at, black_box(count)).expect("no refusal")
+            }));
+        }
+        let (ours, theirs) = (median(ours), median(theirs));
+        println!(
+            "{count} bytes: {ours:.1} ns, plain Rust {theirs:.1} ns, {:.2} times",
+            ours / theirs
+        );
+    }
+    Ok(())
+}

@@ -1,0 +1,47 @@
+/* Calls one import after the other, at random, with arguments at random. Each call of `attack` is one such
+   call; what is refused traps the guest there. */
+#include "canon.h"
+
+static uint32_t seed = 1;
+
+static uint32_t draw(void) {
+    seed ^= seed << 13;
+    seed ^= seed >> 17;
+    return seed ^= seed << 5;
+}
+
+/* A small number, any number, or one near an end. */
+static uint32_t number(void) {
+    switch (draw() % 4) {
+    case 0: return draw() % 16;
+    case 1: return draw() % 131072;
+    case 2: return 0u - draw() % 16;
+    default: return draw();
+    }
+}
+
+EXPORT("attack") void attack(void) {
+    uint32_t a = number(), b = number(), c = number();
+    switch (draw() % 20) {
+    case 0: stream_new(); break;
+    case 1: stream_read(a, (void *)b, c); break;
+    case 2: stream_write(a, (void *)b, c); break;
+    case 3: stream_cancel_read(a); break;
+    case 4: stream_cancel_write(a); break;
+    case 5: stream_drop_readable(a); break;
+    case 6: stream_drop_writable(a); break;
+    case 7: future_new(); break;
+    case 8: future_read(a, (void *)b); break;
+    case 9: future_write(a, (void *)b); break;
+    case 10: future_cancel_read(a); break;
+    case 11: future_cancel_write(a); break;
+    case 12: future_drop_readable(a); break;
+    case 13: future_drop_writable(a); break;
+    case 14: waitable_set_new(); break;
+    case 15: waitable_join(a, b); break;
+    case 16: waitable_set_poll(a, (uint32_t *)b); break;
+    case 17: waitable_set_drop(a); break;
+    case 18: error_context_new((void *)a, b % 8192); break;
+    default: error_context_drop(a); break;
+    }
+}

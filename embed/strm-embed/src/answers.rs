@@ -1,0 +1,146 @@
+//! What calls answer.
+
+use crate::sys::{self, Refusal};
+use core::fmt;
+
+/// What a read, a write or a cancel answers, and what an event tells. Counts are in items; those of a
+/// future are always 0.
+///
+/// ```
+/// use strm_embed::Code;
+///
+/// assert_eq!(Code::Completed(3).word(), 0x30);
+/// assert_eq!(Code::Blocked.word(), 0xffff_ffff);
+/// assert_eq!(Code::Dropped(2).count(), 2);
+/// ```
+#[derive(Clone, Copy, Debug, PartialEq, Eq, Hash)]
+#[must_use = "items may have moved, or the operation may wait"]
+pub enum Code {
+    /// It waits, and an event will tell its end.
+    Blocked,
+    /// So many items moved.
+    Completed(u32),
+    /// So many items moved, and the other end is gone.
+    Dropped(u32),
+    /// So many items moved before it was cancelled.
+    Cancelled(u32),
+}
+
+impl Code {
+    /// The Canonical ABI's word, which a guest is answered.
+    #[inline]
+    pub const fn word(self) -> u32 {
+        match self {
+            Code::Blocked => u32::MAX,
+            Code::Completed(count) => count << 4,
+            Code::Dropped(count) => count << 4 | 1,
+            Code::Cancelled(count) => count << 4 | 2,
+        }
+    }
+
+    /// How many items moved.
+    #[inline]
+    pub const fn count(self) -> u32 {
+        match self {
+            Code::Blocked => 0,
+            Code::Completed(count) | Code::Dropped(count) | Code::Cancelled(count) => count,
+        }
+    }
+
+    #[inline]
+    pub(crate) const fn of(word: u32) -> Code {
+        match (word, word & 15) {
+            (u32::MAX, _) => Code::Blocked,
+            (_, 0) => Code::Completed(word >> 4),
+            (_, 1) => Code::Dropped(word >> 4),
+            _ => Code::Cancelled(word >> 4),
+        }
+    }
+
+    // The word 3, which no code has, is no event.
+    #[inline]
+    pub(crate) const fn told(word: u32) -> Option<Code> {
+        if word == 3 {
+            None
+        } else {
+            Some(Code::of(word))
+        }
+    }
+}
+
+/// Why a call did not answer.
+///
+/// ```
+/// use strm_embed::{Error, Limits, Refusal, Store};
+///
+/// let mut store = Store::new(0, Limits::default())?;
+/// let guest = store.add_guest(64)?;
+/// assert_eq!(store.set_drop(guest, 1), Err(Error::Refused(Refusal::UnknownHandle)));
+/// # Ok::<(), Error>(())
+/// ```
+#[derive(Clone, Copy, Debug, PartialEq, Eq, Hash)]
+pub enum Error {
+    /// It may not be done now. Nothing has changed.
+    Refused(Refusal),
+    /// An item is no Unicode scalar value. Nothing was moved, and the store is trapped from now on.
+    BadItem,
+    /// An earlier call trapped the store. Nothing has changed.
+    StoreTrapped,
+    /// An allocation was refused. Nothing has changed.
+    OutOfMemory,
+}
+
+impl fmt::Display for Refusal {
+    fn fmt(&self, f: &mut fmt::Formatter<'_>) -> fmt::Result {
+        f.write_str(sys::TEXTS[*self as usize - 1])
+    }
+}
+
+impl core::error::Error for Refusal {}
+
+impl fmt::Display for Error {
+    fn fmt(&self, f: &mut fmt::Formatter<'_>) -> fmt::Result {
+        match self {
+            Error::Refused(refusal) => write!(f, "refused: {refusal}"),
+            Error::BadItem => f.write_str("an item is no Unicode scalar value, and the store is trapped"),
+            Error::StoreTrapped => f.write_str("the store was trapped"),
+            Error::OutOfMemory => f.write_str("out of memory"),
+        }
+    }
+}
+
+impl core::error::Error for Error {
+    fn source(&self) -> Option<&(dyn core::error::Error + 'static)> {
+        match self {
+            Error::Refused(refusal) => Some(refusal),
+            _ => None,
+        }
+    }
+}
+
+impl From<Refusal> for Error {
+    fn from(refusal: Refusal) -> Error {
+        Error::Refused(refusal)
+    }
+}
+
+// A status as a result. UNKNOWN_PAYLOAD cannot come, by the types, and UNKNOWN_STREAM is asked for where
+// it can.
+#[inline]
+pub(crate) fn done(status: u32) -> Result<(), Error> {
+    if status == 0 {
+        Ok(())
+    } else {
+        Err(error(status))
+    }
+}
+
+#[cold]
+fn error(status: u32) -> Error {
+    match status {
+        sys::BAD_ITEM => Error::BadItem,
+        sys::STORE_TRAPPED => Error::StoreTrapped,
+        sys::OUT_OF_MEMORY => Error::OutOfMemory,
+        number => Error::Refused(sys::REFUSALS[number as usize - 1]),
+    }
+}

@@ -1,0 +1,93 @@
+//! Guests and their memories.
+
+use crate::answers::done;
+use crate::sys;
+use crate::{Error, Guest, Store};
+use core::ptr;
+
+/// Guests and their memories.
+impl Store {
+    /// A guest with a memory of so many zero bytes: 268,435,456 of all guests together at most.
+    ///
+    /// ```
+    /// # use strm_embed::{Error, Refusal};
+    /// # let (mut store, _, _, _) = strm_embed::example()?;
+    /// let guest = store.add_guest(64)?;
+    /// assert_eq!(store.memory(guest)?, [0; 64]);
+    /// assert_eq!(store.add_guest(u32::MAX), Err(Error::Refused(Refusal::MemoryTooBig)));
+    /// # Ok::<(), Error>(())
+    /// ```
+    pub fn add_guest(&mut self, size: u32) -> Result<Guest, Error> {
+        let mut out = 0;
+        // SAFETY: above.
+        done(unsafe { sys::strm_add_guest(self.at(), size, &mut out) })?;
+        Ok(Guest(out))
+    }
+
+    // Where a guest's memory lies, and how many bytes it has.
+    fn place(&self, guest: Guest) -> Result<(*mut u8, usize), Error> {
+        let (mut at, mut len) = (ptr::NonNull::dangling().as_ptr(), 0);
+        // SAFETY: above.
+        done(unsafe { sys::strm_memory_at(self.at(), guest.0, &mut at, &mut len) })?;
+        Ok((at, len))
+    }
+
+    /// A guest's memory.
+    pub fn memory(&self, guest: Guest) -> Result<&[u8], Error> {
+        let (at, len) = self.place(guest)?;
+        // SAFETY: the bytes are the guest's, in one block that stays where it is until the store is given
+        // up, and calls by `&self` write none of them.
+        Ok(unsafe { core::slice::from_raw_parts(at, len) })
+    }
+
+    /// A guest's memory, to read and write in place. The borrow rules out calls while it lasts.
+    ///
+    /// ```
+    /// # let (mut store, guest, _, _) = strm_embed::example()?;
+    /// store.memory_mut(guest)?[3] = 7;
+    /// assert_eq!(store.memory(guest)?[..4], [0, 0, 0, 7]);
+    /// # Ok::<(), strm_embed::Error>(())
+    /// ```
+    pub fn memory_mut(&mut self, guest: Guest) -> Result<&mut [u8], Error> {
+        let (at, len) = self.place(guest)?;
+        // SAFETY: the bytes are the guest's, in one block that stays where it is until the store is given
+        // up, and `&mut self` leaves them to this borrow.
+        Ok(unsafe { core::slice::from_raw_parts_mut(at, len) })
+    }
+
+    /// Where a guest's memory lies, and how many bytes it has: the same until the store is dropped. It is for
+    /// a runtime whose guests use their memory in place. A write there while a call is made, or while the
+    /// memory is borrowed, is undefined.
+    pub fn memory_at(&mut self, guest: Guest) -> Result<(*mut u8, usize), Error> {
+        self.place(guest)
+    }
+
+    /// Copies bytes into a guest's memory, from an address on.
+    ///
+    /// ```
+    /// # use strm_embed::{Error, Refusal};
+    /// # let (mut store, guest, _, _) = strm_embed::example()?;
+    /// store.memory_write(guest, 0, b"all or nothing")?;
+    /// assert_eq!(store.memory_write(guest, 65530, b"all or nothing"), Err(Error::Refused(Refusal::OutOfBounds)));
+    /// # Ok::<(), Error>(())
+    /// ```
+    pub fn memory_write(&mut self, guest: Guest, address: u32, bytes: &[u8]) -> Result<(), Error> {
+        // SAFETY: above.
+        done(unsafe { sys::strm_memory_write(self.at(), guest.0, address, bytes.as_ptr(), bytes.len()) })
+    }
+
+    /// Copies bytes of a guest's memory out, from an address on; also of a store that was trapped.
+    ///
+    /// ```
+    /// # let (mut store, guest, _, _) = strm_embed::example()?;
+    /// store.memory_write(guest, 8, b"abc")?;
+    /// let mut bytes = [0; 2];
+    /// store.memory_read(guest, 9, &mut bytes)?;
+    /// assert_eq!(&bytes, b"bc");
+    /// # Ok::<(), strm_embed::Error>(())
+    /// ```
+    pub fn memory_read(&self, guest: Guest, address: u32, out: &mut [u8]) -> Result<(), Error> {
+        // SAFETY: above.
+        done(unsafe { sys::strm_memory_read(self.at(), guest.0, address, out.as_mut_ptr(), out.len()) })
+    }
+}

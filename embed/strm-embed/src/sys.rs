@@ -1,0 +1,238 @@
+//! The exports of the proved archive, its statuses and its refusals. Written by `embed/declare`: a slice
+//! crosses as a pointer and a length, and a `StoreHandle` is one word.
+
+/// A store, or none. Only the library reads what is in it.
+#[repr(C)]
+pub struct StoreHandle {
+    at: *mut u8,
+}
+
+impl StoreHandle {
+    /// No store.
+    pub const NONE: StoreHandle = StoreHandle {
+        at: core::ptr::null_mut(),
+    };
+}
+
+/// A count of 128 bits: low + 2^64 * high.
+#[repr(C)]
+#[derive(Clone, Copy, Debug, Default, PartialEq, Eq)]
+pub struct Count {
+    pub low: u64,
+    pub high: u64,
+}
+
+/// A member of a set and what it was told: its handle, and a code, or STRM_NO_EVENT.
+#[repr(C)]
+#[derive(Clone, Copy, Debug, Default, PartialEq, Eq)]
+pub struct Member {
+    pub handle: u32,
+    pub code: u32,
+}
+
+/// The handles of a new stream's or future's two ends, each in the table of the guest that has it, and
+/// the number of the stream or future: they are numbered from 0, and no number is given again.
+#[repr(C)]
+#[derive(Clone, Copy, Debug, Default, PartialEq, Eq)]
+pub struct Pair {
+    pub read: u32,
+    pub write: u32,
+    pub stream: u32,
+}
+
+/// Why a call was refused. Nothing has changed.
+#[derive(Clone, Copy, Debug, PartialEq, Eq, Hash)]
+#[repr(u8)]
+pub enum Refusal {
+    /// A named guest is not there.
+    UnknownGuest = 1,
+    /// No host end has that number.
+    UnknownHost = 2,
+    /// The host end was used before.
+    HostUsed = 3,
+    /// No stream of that number has a loose read end.
+    UnknownReader = 4,
+    /// The count is 2^28 or more.
+    StreamOpTooBig = 5,
+    /// The region passes the memory's end.
+    OutOfBounds = 6,
+    /// The address is no multiple of the payload's alignment.
+    NotAligned = 7,
+    /// No live slot has that number.
+    UnknownHandle = 8,
+    /// The slot is of another kind than the call names.
+    WrongKind = 9,
+    /// The payloads differ.
+    WrongType = 10,
+    /// In a cancel, drop or lift: the handle is the other end, busy or idle.
+    WrongEnd = 11,
+    /// In a read or write: the handle is busy, or is the other end.
+    ConcurrentFutureStreamOp = 12,
+    /// In a drop, transfer or lift: the end has an operation.
+    Busy = 13,
+    /// In a cancel: the end has no operation.
+    NoPending = 14,
+    /// The operation was asked to finish before.
+    CancelUnderWay = 15,
+    /// The write end of a stream was told that the read end is gone.
+    WriteToDroppedStream = 16,
+    /// The write end of a future was told so, or the value passed.
+    WriteToDroppedFuture = 17,
+    /// The read end of a stream was told that the write end is gone.
+    ReadFromDroppedStream = 18,
+    /// The value passed.
+    FutureAlreadyRead = 19,
+    /// Both operations are of one guest, and the payload is neither none nor a whole number.
+    IntraComponent = 20,
+    /// The end that would move was told, or the value passed.
+    LiftDropped = 21,
+    /// The end that would move is a member of a set.
+    LiftInSet = 22,
+    /// The set has a member.
+    SetNotEmpty = 23,
+    /// The value has not passed, and the write end was not told.
+    FutureWithoutValue = 24,
+    /// A new handle would be 2^28 or more.
+    IndexOverflow = 25,
+    /// The live handles would pass the limit.
+    HandleLimit = 26,
+    /// The places in use and those needed pass the limit, or a number would pass its range.
+    Full = 27,
+    /// The guests' memories would pass 268,435,456 bytes together.
+    MemoryTooBig = 28,
+    /// The bytes are not UTF-8.
+    BadText = 29,
+    /// The message is longer than 4,096 bytes.
+    MessageTooLong = 30,
+}
+
+/// The refusals by their numbers, from 1.
+#[rustfmt::skip]
+pub const REFUSALS: [Refusal; 30] = [
+    Refusal::UnknownGuest,
+    Refusal::UnknownHost,
+    Refusal::HostUsed,
+    Refusal::UnknownReader,
+    Refusal::StreamOpTooBig,
+    Refusal::OutOfBounds,
+    Refusal::NotAligned,
+    Refusal::UnknownHandle,
+    Refusal::WrongKind,
+    Refusal::WrongType,
+    Refusal::WrongEnd,
+    Refusal::ConcurrentFutureStreamOp,
+    Refusal::Busy,
+    Refusal::NoPending,
+    Refusal::CancelUnderWay,
+    Refusal::WriteToDroppedStream,
+    Refusal::WriteToDroppedFuture,
+    Refusal::ReadFromDroppedStream,
+    Refusal::FutureAlreadyRead,
+    Refusal::IntraComponent,
+    Refusal::LiftDropped,
+    Refusal::LiftInSet,
+    Refusal::SetNotEmpty,
+    Refusal::FutureWithoutValue,
+    Refusal::IndexOverflow,
+    Refusal::HandleLimit,
+    Refusal::Full,
+    Refusal::MemoryTooBig,
+    Refusal::BadText,
+    Refusal::MessageTooLong,
+];
+
+/// What each says.
+#[rustfmt::skip]
+pub const TEXTS: [&str; 30] = [
+    "a named guest is not there",
+    "no host end has that number",
+    "the host end was used before",
+    "no stream of that number has a loose read end",
+    "the count is 2^28 or more",
+    "the region passes the memory's end",
+    "the address is no multiple of the payload's alignment",
+    "no live slot has that number",
+    "the slot is of another kind than the call names",
+    "the payloads differ",
+    "in a cancel, drop or lift: the handle is the other end, busy or idle",
+    "in a read or write: the handle is busy, or is the other end",
+    "in a drop, transfer or lift: the end has an operation",
+    "in a cancel: the end has no operation",
+    "the operation was asked to finish before",
+    "the write end of a stream was told that the read end is gone",
+    "the write end of a future was told so, or the value passed",
+    "the read end of a stream was told that the write end is gone",
+    "the value passed",
+    "both operations are of one guest, and the payload is neither none nor a whole number",
+    "the end that would move was told, or the value passed",
+    "the end that would move is a member of a set",
+    "the set has a member",
+    "the value has not passed, and the write end was not told",
+    "a new handle would be 2^28 or more",
+    "the live handles would pass the limit",
+    "the places in use and those needed pass the limit, or a number would pass its range",
+    "the guests' memories would pass 268,435,456 bytes together",
+    "the bytes are not UTF-8",
+    "the message is longer than 4,096 bytes",
+];
+
+/// An item is no Unicode scalar value. The store is trapped from now on.
+pub const BAD_ITEM: u32 = 64;
+
+/// An earlier call trapped the store.
+pub const STORE_TRAPPED: u32 = 65;
+
+/// An allocation was refused, and nothing has changed.
+pub const OUT_OF_MEMORY: u32 = 66;
+
+/// No payload, or no type, has the word.
+pub const UNKNOWN_PAYLOAD: u32 = 67;
+
+/// No stream has the number, or none of which an end is there.
+pub const UNKNOWN_STREAM: u32 = 68;
+
+#[rustfmt::skip]
+unsafe extern "C" {
+    pub fn strm_store_new(store: *mut StoreHandle, tag: u64, handles: usize, places: u32) -> u32;
+    pub fn strm_store_free(store: *mut StoreHandle);
+    pub fn strm_tag(store: *mut StoreHandle) -> u64;
+    pub fn strm_trapped(store: *mut StoreHandle) -> bool;
+    pub fn strm_streams(store: *mut StoreHandle) -> u32;
+    pub fn strm_moved(store: *mut StoreHandle, stream: u32, out: &mut Count) -> u32;
+    pub fn strm_transmit_index(store: *mut StoreHandle, stream: u32, out: &mut u64) -> u32;
+    pub fn strm_add_guest(store: *mut StoreHandle, size: u32, out: &mut u32) -> u32;
+    pub fn strm_memory_write(store: *mut StoreHandle, guest: u32, address: u32, bytes: *const u8, len: usize) -> u32;
+    pub fn strm_memory_read(store: *mut StoreHandle, guest: u32, address: u32, out: *mut u8, len: usize) -> u32;
+    pub fn strm_memory_at(store: *mut StoreHandle, guest: u32, out: &mut *mut u8, len: &mut usize) -> u32;
+    pub fn strm_stream_new(store: *mut StoreHandle, guest: u32, payload: u64, out: &mut Pair) -> u32;
+    pub fn strm_stream_write(store: *mut StoreHandle, guest: u32, payload: u64, handle: u32, address: u32, count: u32, out: &mut u32) -> u32;
+    pub fn strm_stream_read(store: *mut StoreHandle, guest: u32, payload: u64, handle: u32, address: u32, count: u32, out: &mut u32) -> u32;
+    pub fn strm_stream_cancel_write(store: *mut StoreHandle, guest: u32, payload: u64, handle: u32, out: &mut u32) -> u32;
+    pub fn strm_stream_cancel_read(store: *mut StoreHandle, guest: u32, payload: u64, handle: u32, out: &mut u32) -> u32;
+    pub fn strm_stream_drop_writable(store: *mut StoreHandle, guest: u32, payload: u64, handle: u32) -> u32;
+    pub fn strm_stream_drop_readable(store: *mut StoreHandle, guest: u32, payload: u64, handle: u32) -> u32;
+    pub fn strm_take_event(store: *mut StoreHandle, guest: u32, handle: u32, out: &mut u32) -> u32;
+    pub fn strm_future_new(store: *mut StoreHandle, guest: u32, payload: u64, out: &mut Pair) -> u32;
+    pub fn strm_future_write(store: *mut StoreHandle, guest: u32, payload: u64, handle: u32, address: u32, out: &mut u32) -> u32;
+    pub fn strm_future_read(store: *mut StoreHandle, guest: u32, payload: u64, handle: u32, address: u32, out: &mut u32) -> u32;
+    pub fn strm_future_cancel_write(store: *mut StoreHandle, guest: u32, payload: u64, handle: u32, out: &mut u32) -> u32;
+    pub fn strm_future_cancel_read(store: *mut StoreHandle, guest: u32, payload: u64, handle: u32, out: &mut u32) -> u32;
+    pub fn strm_future_drop_writable(store: *mut StoreHandle, guest: u32, payload: u64, handle: u32) -> u32;
+    pub fn strm_future_drop_readable(store: *mut StoreHandle, guest: u32, payload: u64, handle: u32) -> u32;
+    pub fn strm_new_between(store: *mut StoreHandle, writer: u32, reader: u32, ty: u64, out: &mut Pair) -> u32;
+    pub fn strm_stream_transfer(store: *mut StoreHandle, guest: u32, payload: u64, handle: u32, to: u32, out: &mut u32) -> u32;
+    pub fn strm_future_transfer(store: *mut StoreHandle, guest: u32, payload: u64, handle: u32, to: u32, out: &mut u32) -> u32;
+    pub fn strm_lift(store: *mut StoreHandle, guest: u32, ty: u64, handle: u32, out: &mut u32) -> u32;
+    pub fn strm_lower(store: *mut StoreHandle, reader: u32, guest: u32, ty: u64, out: &mut u32) -> u32;
+    pub fn strm_close(store: *mut StoreHandle, reader: u32) -> u32;
+    pub fn strm_set_new(store: *mut StoreHandle, guest: u32, out: &mut u32) -> u32;
+    pub fn strm_set_join(store: *mut StoreHandle, guest: u32, set: u32, handle: u32) -> u32;
+    pub fn strm_set_poll(store: *mut StoreHandle, guest: u32, set: u32, out: &mut Member) -> u32;
+    pub fn strm_set_drop(store: *mut StoreHandle, guest: u32, set: u32) -> u32;
+    pub fn strm_error_context_new(store: *mut StoreHandle, guest: u32, address: u32, len: u32, out: &mut u32) -> u32;
+    pub fn strm_error_context_message(store: *mut StoreHandle, guest: u32, handle: u32, address: u32, out: &mut u32) -> u32;
+    pub fn strm_error_context_transfer(store: *mut StoreHandle, guest: u32, handle: u32, to: u32, out: &mut u32) -> u32;
+    pub fn strm_error_context_rep(store: *mut StoreHandle, guest: u32, handle: u32, out: &mut u32) -> u32;
+    pub fn strm_error_context_lower(store: *mut StoreHandle, rep: u32, guest: u32, out: &mut u32) -> u32;
+    pub fn strm_error_context_drop(store: *mut StoreHandle, guest: u32, handle: u32) -> u32;
+}

@@ -1,0 +1,386 @@
+/* The streams and futures of a WebAssembly component runtime, for C.
+
+   A store has guests, each with a memory, a table of handles and waitable sets, and the streams and futures
+   between them. Each call below is proved to be one step of the machine that the library is proved by: its
+   status, what it wrote at `out`, and the store afterwards. Only the archive behind it is proved; this
+   header is written from its exports by embed/declare.
+
+   WHAT THE CALLER OWES. Nothing checks it:
+   - A store is {NULL} before strm_store_new and after strm_store_free, and each other call is of a store
+     between the two. It is not copied, and freed once.
+   - One call at a time is made on a store, from whichever thread, and none from a signal handler.
+   - Pointers are not NULL, also where a length is 0, and what they point at is nobody else's during the call.
+   - A guest's memory, by strm_memory_at, is read and written between calls only, never during one.
+   - malloc, realloc and free are one allocator for all of the program.
+   All else is answered: any number may be passed as a guest, a handle, an address, a count or a payload. */
+#ifndef STRM_H
+#define STRM_H
+#include <stdbool.h>
+#include <stddef.h>
+#include <stdint.h>
+#ifdef __cplusplus
+extern "C" {
+#endif
+
+/* A store. {NULL} where there is none; only the library reads what is in it. */
+typedef struct {
+    void *at;
+} strm_store;
+
+/* What a call answers. Unless it is said otherwise, a call whose status is not STRM_DONE changed nothing,
+   neither of the store nor at `out`. A refusal is the first that holds in the order of a call's list. */
+typedef uint32_t strm_status;
+enum {
+    STRM_DONE = 0,
+    /* A named guest is not there. */
+    STRM_UNKNOWN_GUEST = 1,
+    /* No host end has that number. */
+    STRM_UNKNOWN_HOST = 2,
+    /* The host end was used before. */
+    STRM_HOST_USED = 3,
+    /* No stream of that number has a loose read end. */
+    STRM_UNKNOWN_READER = 4,
+    /* The count is 2^28 or more. */
+    STRM_STREAM_OP_TOO_BIG = 5,
+    /* The region passes the memory's end. */
+    STRM_OUT_OF_BOUNDS = 6,
+    /* The address is no multiple of the payload's alignment. */
+    STRM_NOT_ALIGNED = 7,
+    /* No live slot has that number. */
+    STRM_UNKNOWN_HANDLE = 8,
+    /* The slot is of another kind than the call names. */
+    STRM_WRONG_KIND = 9,
+    /* The payloads differ. */
+    STRM_WRONG_TYPE = 10,
+    /* In a cancel, drop or lift: the handle is the other end, busy or idle. */
+    STRM_WRONG_END = 11,
+    /* In a read or write: the handle is busy, or is the other end. */
+    STRM_CONCURRENT_FUTURE_STREAM_OP = 12,
+    /* In a drop, transfer or lift: the end has an operation. */
+    STRM_BUSY = 13,
+    /* In a cancel: the end has no operation. */
+    STRM_NO_PENDING = 14,
+    /* The operation was asked to finish before. */
+    STRM_CANCEL_UNDER_WAY = 15,
+    /* The write end of a stream was told that the read end is gone. */
+    STRM_WRITE_TO_DROPPED_STREAM = 16,
+    /* The write end of a future was told so, or the value passed. */
+    STRM_WRITE_TO_DROPPED_FUTURE = 17,
+    /* The read end of a stream was told that the write end is gone. */
+    STRM_READ_FROM_DROPPED_STREAM = 18,
+    /* The value passed. */
+    STRM_FUTURE_ALREADY_READ = 19,
+    /* Both operations are of one guest, and the payload is neither none nor a whole number. */
+    STRM_INTRA_COMPONENT = 20,
+    /* The end that would move was told, or the value passed. */
+    STRM_LIFT_DROPPED = 21,
+    /* The end that would move is a member of a set. */
+    STRM_LIFT_IN_SET = 22,
+    /* The set has a member. */
+    STRM_SET_NOT_EMPTY = 23,
+    /* The value has not passed, and the write end was not told. */
+    STRM_FUTURE_WITHOUT_VALUE = 24,
+    /* A new handle would be 2^28 or more. */
+    STRM_INDEX_OVERFLOW = 25,
+    /* The live handles would pass the limit. */
+    STRM_HANDLE_LIMIT = 26,
+    /* The places in use and those needed pass the limit, or a number would pass its range. */
+    STRM_FULL = 27,
+    /* The guests' memories would pass 268,435,456 bytes together. */
+    STRM_MEMORY_TOO_BIG = 28,
+    /* The bytes are not UTF-8. */
+    STRM_BAD_TEXT = 29,
+    /* The message is longer than 4,096 bytes. */
+    STRM_MESSAGE_TOO_LONG = 30,
+    /* An item is no Unicode scalar value. The store is trapped from now on. */
+    STRM_BAD_ITEM = 64,
+    /* An earlier call trapped the store. */
+    STRM_STORE_TRAPPED = 65,
+    /* An allocation was refused, and nothing has changed. */
+    STRM_OUT_OF_MEMORY = 66,
+    /* No payload, or no type, has the word. */
+    STRM_UNKNOWN_PAYLOAD = 67,
+    /* No stream has the number, or none of which an end is there. */
+    STRM_UNKNOWN_STREAM = 68
+};
+
+/* A code, of a read, a write, a cancel or an event: STRM_BLOCKED where it waits, STRM_NO_EVENT where there is
+   nothing to tell, and else STRM_RESULT of it with STRM_COUNT items (of a future's codes always 0). */
+enum { STRM_COMPLETED, STRM_DROPPED, STRM_CANCELLED };
+#define STRM_BLOCKED 0xffffffffu
+#define STRM_NO_EVENT 3u
+#define STRM_RESULT(code) ((code) & 15u)
+#define STRM_COUNT(code) ((code) >> 4)
+
+/* What one item is: nothing, a scalar, or a tuple of one to eight scalars, as in
+   STRM_TUPLE | STRM_FIELD(0, STRM_U8) | STRM_FIELD(1, STRM_U32), whose fields begin at 0 without a gap. */
+typedef uint64_t strm_payload;
+enum { STRM_NOTHING, STRM_BOOL, STRM_S8, STRM_U8, STRM_S16, STRM_U16, STRM_S32, STRM_U32, STRM_S64, STRM_U64, STRM_CHAR };
+#define STRM_TUPLE ((strm_payload)1 << 32)
+#define STRM_FIELD(index, scalar) ((strm_payload)(scalar) << 4 * (index))
+
+/* The type of a stream is its payload's word, that of a future the payload's with STRM_FUTURE. */
+typedef uint64_t strm_type;
+#define STRM_FUTURE ((strm_type)1 << 33)
+
+/* A count of 128 bits: low + 2^64 * high. */
+typedef struct {
+    uint64_t low;
+    uint64_t high;
+} strm_count;
+
+/* A member of a set and what it was told: its handle, and a code, or STRM_NO_EVENT. */
+typedef struct {
+    uint32_t handle;
+    uint32_t code;
+} strm_member;
+
+/* The handles of a new stream's or future's two ends, each in the table of the guest that has it, and
+   the number of the stream or future: they are numbered from 0, and no number is given again. */
+typedef struct {
+    uint32_t read;
+    uint32_t write;
+    uint32_t stream;
+} strm_pair;
+
+/* A STORE AS A WHOLE: MADE, GIVEN UP, AND WHAT IT TELLS */
+
+/* Makes a store without guests, in a handle of none ({NULL}). It keeps `handles` live handles of all
+   guests together at most, and `places` places: a stream takes three, a waitable set and an error
+   context one each. `tag` is a number of the caller's own. STRM_OUT_OF_MEMORY. */
+strm_status strm_store_new(strm_store *store, uint64_t tag, size_t handles, uint32_t places);
+
+/* Gives a store up, with the memories of its guests, and leaves {NULL}. */
+void strm_store_free(strm_store *store);
+
+/* The number that the store was made with. */
+uint64_t strm_tag(strm_store *store);
+
+/* Whether an earlier call trapped the store, which then answers STRM_STORE_TRAPPED to all that
+   changes it. */
+bool strm_trapped(strm_store *store);
+
+/* How many streams and futures were made so far. */
+uint32_t strm_streams(strm_store *store);
+
+/* Puts at `out` how many items were received on a stream so far. STRM_UNKNOWN_STREAM where it was
+   never made. */
+strm_status strm_moved(strm_store *store, uint32_t stream, strm_count *out);
+
+/* Puts at `out` the type of a stream of which an end is there. STRM_UNKNOWN_STREAM of any other. */
+strm_status strm_transmit_index(strm_store *store, uint32_t stream, strm_type *out);
+
+/* GUESTS AND THEIR MEMORIES */
+
+/* Adds a guest with a memory of `size` zero bytes, and puts its number at `out`; the first is 0.
+   Refused: STRM_MEMORY_TOO_BIG (268,435,456 bytes of all guests together), STRM_FULL (1,048,576
+   guests). STRM_OUT_OF_MEMORY. */
+strm_status strm_add_guest(strm_store *store, uint32_t size, uint32_t *out);
+
+/* Copies `len` bytes into a guest's memory, from `address` on. Refused: STRM_UNKNOWN_GUEST,
+   STRM_OUT_OF_BOUNDS. */
+strm_status strm_memory_write(
+    strm_store *store, uint32_t guest, uint32_t address, const uint8_t *bytes, size_t len);
+
+/* Copies `len` bytes of a guest's memory out, from `address` on; also of a store that was trapped.
+   Refused: STRM_UNKNOWN_GUEST, STRM_OUT_OF_BOUNDS. */
+strm_status strm_memory_read(
+    strm_store *store, uint32_t guest, uint32_t address, uint8_t *out, size_t len);
+
+/* Puts at `out` where a guest's memory lies, and at `len` how many bytes it has; of no bytes `out`
+   stays. They lie there until the store is given up. The caller may read and write them between
+   calls, and must not during one. Refused: STRM_UNKNOWN_GUEST. */
+strm_status strm_memory_at(strm_store *store, uint32_t guest, uint8_t **out, size_t *len);
+
+/* STREAMS */
+
+/* Makes a stream whose two ends the guest gets, and puts their handles and the stream's number at
+   `out`. `canon stream.new`. Refused: STRM_UNKNOWN_GUEST, STRM_INDEX_OVERFLOW, STRM_HANDLE_LIMIT,
+   STRM_FULL. STRM_OUT_OF_MEMORY, STRM_UNKNOWN_PAYLOAD. */
+strm_status strm_stream_new(strm_store *store, uint32_t guest, strm_payload payload, strm_pair *out);
+
+/* Writes `count` items that lie from `address` of the guest's memory on, and puts the code at `out`.
+   A write that waits (STRM_BLOCKED) leaves its items where they are until they move. `canon
+   stream.write`. Refused: STRM_UNKNOWN_GUEST, STRM_STREAM_OP_TOO_BIG, STRM_OUT_OF_BOUNDS,
+   STRM_NOT_ALIGNED, STRM_UNKNOWN_HANDLE, STRM_WRONG_KIND, STRM_WRONG_TYPE,
+   STRM_CONCURRENT_FUTURE_STREAM_OP, STRM_WRITE_TO_DROPPED_STREAM, STRM_INTRA_COMPONENT.
+   STRM_BAD_ITEM, STRM_UNKNOWN_PAYLOAD. */
+strm_status strm_stream_write(
+    strm_store *store, uint32_t guest, strm_payload payload, uint32_t handle, uint32_t address, uint32_t count, uint32_t *out);
+
+/* Reads `count` items to `address` of the guest's memory on, and puts the code at `out`. `canon
+   stream.read`. Refused: STRM_UNKNOWN_GUEST, STRM_STREAM_OP_TOO_BIG, STRM_OUT_OF_BOUNDS,
+   STRM_NOT_ALIGNED, STRM_UNKNOWN_HANDLE, STRM_WRONG_KIND, STRM_WRONG_TYPE,
+   STRM_CONCURRENT_FUTURE_STREAM_OP, STRM_READ_FROM_DROPPED_STREAM, STRM_INTRA_COMPONENT.
+   STRM_BAD_ITEM, STRM_UNKNOWN_PAYLOAD. */
+strm_status strm_stream_read(
+    strm_store *store, uint32_t guest, strm_payload payload, uint32_t handle, uint32_t address, uint32_t count, uint32_t *out);
+
+/* Cancels the write that waits, and puts the code at `out`. `canon stream.cancel-write`. Refused:
+   STRM_UNKNOWN_GUEST, STRM_UNKNOWN_HANDLE, STRM_WRONG_KIND, STRM_WRONG_TYPE, STRM_WRONG_END,
+   STRM_NO_PENDING. STRM_UNKNOWN_PAYLOAD. */
+strm_status strm_stream_cancel_write(
+    strm_store *store, uint32_t guest, strm_payload payload, uint32_t handle, uint32_t *out);
+
+/* Cancels the read that waits, and puts the code at `out`. `canon stream.cancel-read`. Refused:
+   STRM_UNKNOWN_GUEST, STRM_UNKNOWN_HANDLE, STRM_WRONG_KIND, STRM_WRONG_TYPE, STRM_WRONG_END,
+   STRM_NO_PENDING. STRM_UNKNOWN_PAYLOAD. */
+strm_status strm_stream_cancel_read(
+    strm_store *store, uint32_t guest, strm_payload payload, uint32_t handle, uint32_t *out);
+
+/* Drops the write end. `canon stream.drop-writable`. Refused: STRM_UNKNOWN_GUEST,
+   STRM_UNKNOWN_HANDLE, STRM_WRONG_KIND, STRM_WRONG_TYPE, STRM_WRONG_END, STRM_BUSY.
+   STRM_UNKNOWN_PAYLOAD. */
+strm_status strm_stream_drop_writable(
+    strm_store *store, uint32_t guest, strm_payload payload, uint32_t handle);
+
+/* Drops the read end. `canon stream.drop-readable`. Refused: STRM_UNKNOWN_GUEST, STRM_UNKNOWN_HANDLE,
+   STRM_WRONG_KIND, STRM_WRONG_TYPE, STRM_WRONG_END, STRM_BUSY. STRM_UNKNOWN_PAYLOAD. */
+strm_status strm_stream_drop_readable(
+    strm_store *store, uint32_t guest, strm_payload payload, uint32_t handle);
+
+/* Puts what an end, of a stream or a future, is to be told at `out`: a code, or STRM_NO_EVENT. It
+   ends the read or write that it tells of. Refused: STRM_UNKNOWN_GUEST, STRM_UNKNOWN_HANDLE,
+   STRM_WRONG_KIND. */
+strm_status strm_take_event(strm_store *store, uint32_t guest, uint32_t handle, uint32_t *out);
+
+/* FUTURES, AS STREAMS OF ONE VALUE */
+
+/* Makes a future whose two ends the guest gets, and puts their handles and the future's number at
+   `out`. `canon future.new`. Refused: STRM_UNKNOWN_GUEST, STRM_INDEX_OVERFLOW, STRM_HANDLE_LIMIT,
+   STRM_FULL. STRM_OUT_OF_MEMORY, STRM_UNKNOWN_PAYLOAD. */
+strm_status strm_future_new(strm_store *store, uint32_t guest, strm_payload payload, strm_pair *out);
+
+/* Writes the value that lies at `address` of the guest's memory, and puts the code at `out`. `canon
+   future.write`. Refused: STRM_UNKNOWN_GUEST, STRM_OUT_OF_BOUNDS, STRM_NOT_ALIGNED,
+   STRM_UNKNOWN_HANDLE, STRM_WRONG_KIND, STRM_WRONG_TYPE, STRM_CONCURRENT_FUTURE_STREAM_OP,
+   STRM_WRITE_TO_DROPPED_FUTURE, STRM_INTRA_COMPONENT. STRM_BAD_ITEM, STRM_UNKNOWN_PAYLOAD. */
+strm_status strm_future_write(
+    strm_store *store, uint32_t guest, strm_payload payload, uint32_t handle, uint32_t address, uint32_t *out);
+
+/* Reads the value to `address` of the guest's memory, and puts the code at `out`. `canon
+   future.read`. Refused: STRM_UNKNOWN_GUEST, STRM_OUT_OF_BOUNDS, STRM_NOT_ALIGNED,
+   STRM_UNKNOWN_HANDLE, STRM_WRONG_KIND, STRM_WRONG_TYPE, STRM_CONCURRENT_FUTURE_STREAM_OP,
+   STRM_FUTURE_ALREADY_READ, STRM_INTRA_COMPONENT. STRM_BAD_ITEM, STRM_UNKNOWN_PAYLOAD. */
+strm_status strm_future_read(
+    strm_store *store, uint32_t guest, strm_payload payload, uint32_t handle, uint32_t address, uint32_t *out);
+
+/* Cancels the write that waits, and puts the code at `out`. `canon future.cancel-write`. Refused:
+   STRM_UNKNOWN_GUEST, STRM_UNKNOWN_HANDLE, STRM_WRONG_KIND, STRM_WRONG_TYPE, STRM_WRONG_END,
+   STRM_NO_PENDING. STRM_UNKNOWN_PAYLOAD. */
+strm_status strm_future_cancel_write(
+    strm_store *store, uint32_t guest, strm_payload payload, uint32_t handle, uint32_t *out);
+
+/* Cancels the read that waits, and puts the code at `out`. `canon future.cancel-read`. Refused:
+   STRM_UNKNOWN_GUEST, STRM_UNKNOWN_HANDLE, STRM_WRONG_KIND, STRM_WRONG_TYPE, STRM_WRONG_END,
+   STRM_NO_PENDING. STRM_UNKNOWN_PAYLOAD. */
+strm_status strm_future_cancel_read(
+    strm_store *store, uint32_t guest, strm_payload payload, uint32_t handle, uint32_t *out);
+
+/* Drops the write end. `canon future.drop-writable`. Refused: STRM_UNKNOWN_GUEST,
+   STRM_UNKNOWN_HANDLE, STRM_WRONG_KIND, STRM_WRONG_TYPE, STRM_WRONG_END, STRM_BUSY,
+   STRM_FUTURE_WITHOUT_VALUE. STRM_UNKNOWN_PAYLOAD. */
+strm_status strm_future_drop_writable(
+    strm_store *store, uint32_t guest, strm_payload payload, uint32_t handle);
+
+/* Drops the read end. `canon future.drop-readable`. Refused: STRM_UNKNOWN_GUEST, STRM_UNKNOWN_HANDLE,
+   STRM_WRONG_KIND, STRM_WRONG_TYPE, STRM_WRONG_END, STRM_BUSY. STRM_UNKNOWN_PAYLOAD. */
+strm_status strm_future_drop_readable(
+    strm_store *store, uint32_t guest, strm_payload payload, uint32_t handle);
+
+/* ENDS FROM GUEST TO GUEST */
+
+/* Makes a stream or future from one guest to another, which may be the same, and puts the handles of
+   its ends and its number at `out`. Refused: STRM_UNKNOWN_GUEST, STRM_INDEX_OVERFLOW,
+   STRM_HANDLE_LIMIT, STRM_FULL. STRM_OUT_OF_MEMORY, STRM_UNKNOWN_PAYLOAD. */
+strm_status strm_new_between(
+    strm_store *store, uint32_t writer, uint32_t reader, strm_type type, strm_pair *out);
+
+/* Moves an end of a stream, read or write, to the guest `to`, which may be the same, and puts its
+   handle there at `out`. Refused: STRM_UNKNOWN_GUEST, STRM_UNKNOWN_HANDLE, STRM_WRONG_KIND,
+   STRM_WRONG_TYPE, STRM_BUSY, STRM_LIFT_DROPPED, STRM_LIFT_IN_SET, STRM_INDEX_OVERFLOW.
+   STRM_OUT_OF_MEMORY, STRM_UNKNOWN_PAYLOAD. */
+strm_status strm_stream_transfer(
+    strm_store *store, uint32_t guest, strm_payload payload, uint32_t handle, uint32_t to, uint32_t *out);
+
+/* Moves an end of a future, read or write, to the guest `to`, which may be the same, and puts its
+   handle there at `out`. Refused: STRM_UNKNOWN_GUEST, STRM_UNKNOWN_HANDLE, STRM_WRONG_KIND,
+   STRM_WRONG_TYPE, STRM_BUSY, STRM_LIFT_DROPPED, STRM_LIFT_IN_SET, STRM_INDEX_OVERFLOW.
+   STRM_OUT_OF_MEMORY, STRM_UNKNOWN_PAYLOAD. */
+strm_status strm_future_transfer(
+    strm_store *store, uint32_t guest, strm_payload payload, uint32_t handle, uint32_t to, uint32_t *out);
+
+/* Takes a read end out of a guest, and puts the number of its stream at `out`, by which strm_lower
+   and strm_close name it. Refused: STRM_UNKNOWN_GUEST, STRM_UNKNOWN_HANDLE, STRM_WRONG_KIND,
+   STRM_WRONG_TYPE, STRM_WRONG_END, STRM_BUSY, STRM_LIFT_DROPPED, STRM_LIFT_IN_SET.
+   STRM_UNKNOWN_PAYLOAD. */
+strm_status strm_lift(
+    strm_store *store, uint32_t guest, strm_type type, uint32_t handle, uint32_t *out);
+
+/* Gives a guest the loose read end of a stream, and puts its handle at `out`. Refused:
+   STRM_UNKNOWN_GUEST, STRM_UNKNOWN_READER, STRM_WRONG_KIND, STRM_WRONG_TYPE, STRM_INDEX_OVERFLOW,
+   STRM_HANDLE_LIMIT. STRM_OUT_OF_MEMORY, STRM_UNKNOWN_PAYLOAD. */
+strm_status strm_lower(
+    strm_store *store, uint32_t reader, uint32_t guest, strm_type type, uint32_t *out);
+
+/* Drops the loose read end of a stream. Refused: STRM_UNKNOWN_READER. */
+strm_status strm_close(strm_store *store, uint32_t reader);
+
+/* WAITABLE SETS */
+
+/* Makes a waitable set, and puts its handle at `out`. `canon waitable-set.new`. Refused:
+   STRM_UNKNOWN_GUEST, STRM_INDEX_OVERFLOW, STRM_HANDLE_LIMIT, STRM_FULL. STRM_OUT_OF_MEMORY. */
+strm_status strm_set_new(strm_store *store, uint32_t guest, uint32_t *out);
+
+/* An end joins a set, and leaves the one that it was in; of set 0 it leaves that alone. `canon
+   waitable.join`. Refused: STRM_UNKNOWN_GUEST, STRM_UNKNOWN_HANDLE, STRM_WRONG_KIND.
+   STRM_OUT_OF_MEMORY. */
+strm_status strm_set_join(strm_store *store, uint32_t guest, uint32_t set, uint32_t handle);
+
+/* Tells the member of the least handle that has something to be told, and puts its handle and code at
+   `out`; where none has, the code is STRM_NO_EVENT, and the handle stays. `canon waitable-set.poll`.
+   Refused: STRM_UNKNOWN_GUEST, STRM_UNKNOWN_HANDLE, STRM_WRONG_KIND. */
+strm_status strm_set_poll(strm_store *store, uint32_t guest, uint32_t set, strm_member *out);
+
+/* Gives up a set without members. `canon waitable-set.drop`. Refused: STRM_UNKNOWN_GUEST,
+   STRM_UNKNOWN_HANDLE, STRM_WRONG_KIND, STRM_SET_NOT_EMPTY. */
+strm_status strm_set_drop(strm_store *store, uint32_t guest, uint32_t set);
+
+/* ERROR CONTEXTS */
+
+/* Makes an error context of `len` bytes from `address` of the guest's memory on, its message, and
+   puts its handle at `out`. `canon error-context.new`. Refused: STRM_UNKNOWN_GUEST,
+   STRM_MESSAGE_TOO_LONG, STRM_OUT_OF_BOUNDS, STRM_BAD_TEXT, STRM_INDEX_OVERFLOW, STRM_HANDLE_LIMIT,
+   STRM_FULL. STRM_OUT_OF_MEMORY. */
+strm_status strm_error_context_new(
+    strm_store *store, uint32_t guest, uint32_t address, uint32_t len, uint32_t *out);
+
+/* Puts the message of an error context at `address` of the guest's memory, and its bytes' number at
+   `out`. `canon error-context.debug-message`. Refused: STRM_UNKNOWN_GUEST, STRM_UNKNOWN_HANDLE,
+   STRM_WRONG_KIND, STRM_OUT_OF_BOUNDS. */
+strm_status strm_error_context_message(
+    strm_store *store, uint32_t guest, uint32_t handle, uint32_t address, uint32_t *out);
+
+/* Gives the guest `to` a handle to an error context, and puts it at `out`; the first guest keeps its
+   own. Refused: STRM_UNKNOWN_GUEST, STRM_UNKNOWN_HANDLE, STRM_WRONG_KIND, STRM_INDEX_OVERFLOW,
+   STRM_HANDLE_LIMIT. STRM_OUT_OF_MEMORY. */
+strm_status strm_error_context_transfer(
+    strm_store *store, uint32_t guest, uint32_t handle, uint32_t to, uint32_t *out);
+
+/* Puts the number of the error context of a handle at `out`, by which strm_error_context_lower names
+   it. Refused: STRM_UNKNOWN_GUEST, STRM_UNKNOWN_HANDLE, STRM_WRONG_KIND. */
+strm_status strm_error_context_rep(strm_store *store, uint32_t guest, uint32_t handle, uint32_t *out);
+
+/* Gives a guest a handle to the error context of a number, and puts it at `out`. Refused:
+   STRM_UNKNOWN_GUEST, STRM_UNKNOWN_HANDLE, STRM_INDEX_OVERFLOW, STRM_HANDLE_LIMIT.
+   STRM_OUT_OF_MEMORY. */
+strm_status strm_error_context_lower(strm_store *store, uint32_t rep, uint32_t guest, uint32_t *out);
+
+/* Gives up a handle of an error context, and the context with the last. `canon error-context.drop`.
+   Refused: STRM_UNKNOWN_GUEST, STRM_UNKNOWN_HANDLE, STRM_WRONG_KIND. */
+strm_status strm_error_context_drop(strm_store *store, uint32_t guest, uint32_t handle);
+
+#ifdef __cplusplus
+}
+#endif
+#endif
