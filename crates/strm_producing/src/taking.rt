@@ -17,17 +17,22 @@ use strm_buffers::readers::HostReader;
 use strm_codes::codes::TransmitKind;
 use strm_machine::streams::{Consumer, Operation, Side, Stream};
 use strm_turns::guests::Guest;
+use thiserror::Error;
 
 /// Why a turn of a host reader stops its step.
-#[derive(Clone, Copy, Debug, PartialEq, Eq)]
+#[derive(Clone, Copy, Debug, PartialEq, Eq, Error)]
 pub enum TakeError {
     /// The host reader failed.
+    #[error("the host reader failed")]
     Failed,
     /// Memory was wanting. No record was added.
+    #[error("out of memory")]
     OutOfMemory,
     /// The host reader asked for an item that is no Unicode scalar value.
+    #[error("the host reader asked for an item that is no Unicode scalar value")]
     BadItem,
     /// The host reader broke its rules.
+    #[error("the host reader broke its rules")]
     Broke,
 }
 

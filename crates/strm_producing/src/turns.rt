@@ -23,15 +23,19 @@ use strm_codes::codes::{StreamResult, TransmitKind};
 use strm_codes::counts::ItemCount;
 use strm_machine::streams::{Operation, Producer, Side, Stream};
 use strm_turns::guests::Guest;
+use thiserror::Error;
 
 /// Why a turn stops its step.
-#[derive(Clone, Copy, Debug, PartialEq, Eq)]
+#[derive(Clone, Copy, Debug, PartialEq, Eq, Error)]
 pub enum TurnError {
     /// The host writer failed.
+    #[error("the host writer failed")]
     Failed,
     /// Memory was wanting. No record was added.
+    #[error("out of memory")]
     OutOfMemory,
     /// The host writer broke its rules.
+    #[error("the host writer broke its rules")]
     Broke,
 }
 
