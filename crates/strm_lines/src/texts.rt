@@ -234,6 +234,14 @@ pub fn push_done(out: &mut TextBytes, steps: usize) -> Result<(), OutOfMemory>
     )
 }
 
+// Adds what every run ends with: the lines of its streams, and how many steps were done.
+fn push_ending(out: &mut TextBytes, moved: &[u128], steps: usize) -> Result<(), OutOfMemory>
+    ensures { OnOk result (out.new ≡ out.old ++ stream_lines 0 moved.now ++ ended (done_text steps)) }
+{
+    push_streams(out, moved)?;
+    push_done(out, steps)
+}
+
 /// The text of a run, from its replies and from how many items were received on each stream.
 pub fn transcript_text(
     alloc: Global,
@@ -244,8 +252,7 @@ pub fn transcript_text(
 {
     let mut out = TextBytes::new(alloc);
     push_replies(&mut out, replies)?;
-    push_streams(&mut out, moved)?;
-    push_done(&mut out, replies.len())?;
+    push_ending(&mut out, moved, replies.len())?;
     Ok(out)
 }
 
@@ -289,8 +296,7 @@ pub fn summary_text(
     out.push_slice(b"\nblocked ")?;
     push_number(&mut out, count_blocked(replies))?;
     out.push(b'\n')?;
-    push_streams(&mut out, moved)?;
-    push_done(&mut out, replies.len())?;
+    push_ending(&mut out, moved, replies.len())?;
     Ok(out)
 }
 

@@ -57,12 +57,12 @@ pub record IsTranscript (old new : Tells) (input text : List ℕ) : Type 0 where
   pub run : IsWhole old new steps replies state
   pub text_is : text ≡ transcript_text replies (counts_of state)
 
--- the summary of a run of the generator's steps, which are of guests alone
-pub record IsSummary (old new : Tells) (n seed : ℕ) (text : List ℕ) : Type 0 where
-  pub of_guests : AreOfGuests (generated n seed)
+-- the summary of a run of these steps, which are of guests alone
+pub record IsSummary (old new : Tells) (steps : List Step) (text : List ℕ) : Type 0 where
+  pub of_guests : AreOfGuests steps
   pub replies : List Reply
   pub state : State
-  pub run : IsWhole old new (generated n seed) replies state
+  pub run : IsWhole old new steps replies state
   pub text_is : text ≡ summary_text replies (counts_of state)
 
 -- the status by which a run stops, and the cause that it stands for
@@ -133,7 +133,7 @@ pub record IsOfInput (left rest : Option (List ℕ)) (old new : Tells)
 -- the same of a program that runs the generator's steps: it never stops, and is refused exactly where they
 -- and the four before them would be more than the lines of an input
 pub record IsOfNumbers (old new : Tells) (n seed status : ℕ) (text : List ℕ) : Type 0 where
-  pub done : n ≤ 262140 → (status ≡ 0) × IsSummary old new n seed text
+  pub done : n ≤ 262140 → (status ≡ 0) × IsSummary old new (generated n seed) text
   pub too_long : 262140 < n → (status ≡ 3) × (text ≡ too_long_text)
   pub hosts : new ≡ old
 

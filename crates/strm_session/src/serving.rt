@@ -172,6 +172,7 @@ fn answer_words<S: Source>(
 ) -> Result<Output, OutOfMemory>
     requires writers { length (tells_of writer_tells reader_tells hosts.old).writers ≤ 64 }
     requires readers { length (tells_of writer_tells reader_tells hosts.old).readers ≤ 64 }
+    ensures known { IfOk result (λ a. (a.status ≤ 4) ⊎ IsStop a.status) }
     ensures told { IfOk result (λ a.
         IsOutput (map string_bytes words.now.items) (S.left source.old) (S.left source.new)
         (tells_of writer_tells reader_tells hosts.old) (tells_of writer_tells reader_tells hosts.new) (S.faults source.old) (S.faults source.new) a.status a.text) }
@@ -181,7 +182,7 @@ fn answer_words<S: Source>(
     ensures unrun { ¬ IsRun (map string_bytes words.now.items) →
         tells_of writer_tells reader_tells hosts.new ≡ tells_of writer_tells reader_tells hosts.old }
 {
-    match command(words) {
+    match read_command(words) {
         Some(Command::Run) => answer_source(alloc, source, hosts),
         Some(Command::Generate { count, seed }) => answer_numbers(alloc, count, seed, hosts),
         None => fixed(alloc, USAGE, usage_text()),
@@ -189,7 +190,7 @@ fn answer_words<S: Source>(
 }
 
 // What the words tell the program to do.
-fn command(words: &Vec<String>) -> Option<Command>
+fn read_command(words: &Vec<String>) -> Option<Command>
     ensures run { (result ≡ Some Command.Run) ↔ IsRun (map string_bytes words.now.items) }
     ensures generate { (n seed : ℕ) → (result ≡ Some (Command.Generate n seed))
         ↔ IsGen (map string_bytes words.now.items) n seed }
@@ -333,7 +334,7 @@ fn answer_numbers(
     ensures hosts { tells_of writer_tells reader_tells hosts.new ≡ tells_of writer_tells reader_tells hosts.old }
 {
     match generate(alloc, count, seed) {
-        Ok(steps) => answer_generated(alloc, steps.as_slice(), hosts),
+        Ok(steps) => answer_drawn(alloc, steps.as_slice(), hosts),
         Err(ParseError::TooLong) => fixed(alloc, TOO_LONG, too_long_text()),
         Err(ParseError::OutOfMemory) => Err(OutOfMemory),
         Err(ParseError::BadLine { .. }) => unreachable!(),
@@ -341,26 +342,26 @@ fn answer_numbers(
 }
 
 // What is to be written for steps that were drawn: their run stops for want of memory alone.
-fn answer_generated(
-    alloc: Global,
-    steps: &[Step],
-    hosts: &mut Hosts,
-) -> Result<Output, OutOfMemory>
+fn answer_drawn(alloc: Global, steps: &[Step], hosts: &mut Hosts) -> Result<Output, OutOfMemory>
+    requires drawn { (n : ℕ) × (seed : ℕ) × (steps.now ≡ generated n seed) }
     requires few { length steps.now ≤ 4294967295 }
     requires writers { length (tells_of writer_tells reader_tells hosts.old).writers ≤ 64 }
     requires readers { length (tells_of writer_tells reader_tells hosts.old).readers ≤ 64 }
-    ensures done { IfOk result (λ a. a.status ≡ DONE) }
-    ensures told { (n seed : ℕ) → steps.now ≡ generated n seed → IfOk result (λ a.
-        IsSummary (tells_of writer_tells reader_tells hosts.old)
-        (tells_of writer_tells reader_tells hosts.new) n seed a.text) }
-    ensures hosts { AreOfGuests steps.now →
-        tells_of writer_tells reader_tells hosts.new ≡ tells_of writer_tells reader_tells hosts.old }
+    ensures done { IfOk result (λ a. (a.status ≡ DONE)
+        × IsSummary (tells_of writer_tells reader_tells hosts.old)
+        (tells_of writer_tells reader_tells hosts.new) steps.now a.text) }
+    ensures hosts { tells_of writer_tells reader_tells hosts.new ≡ tells_of writer_tells reader_tells hosts.old }
 {
     match run(alloc, steps, hosts) {
         Ok(transcript) => {
             let text = summary(alloc, &transcript)?;
             Ok(Output { status: DONE, text })
         }
-        Err(_) => Err(OutOfMemory),
+        Err(stop) => match stop.cause {
+            RunCause::OutOfMemory => Err(OutOfMemory),
+            RunCause::HostFailed { .. } => unreachable!(),
+            RunCause::HostBroke { .. } => unreachable!(),
+            RunCause::BadItem { .. } => unreachable!(),
+        },
     }
 }

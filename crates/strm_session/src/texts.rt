@@ -10,8 +10,8 @@ use std::alloc::Global;
 use strm_codes::counts::OutOfMemory;
 use strm_lines::lists::TextBytes;
 pub use strm_lines::texts::{
-    bad_line_text, push_done, push_replies, push_streams, read_fault_text, stopped_text, summary_text,
-    too_long_text, transcript_text, usage_text,
+    bad_line_text, push_done, push_replies, push_streams, read_fault_text, stopped_text,
+    summary_text, too_long_text, transcript_text, usage_text,
 };
 
 /// The text of a run.
