@@ -4,6 +4,7 @@
 //! lines. Nothing here knows what a step does.
 #![tactic(auto)]
 
+pub mod generator;
 mod lines;
 pub mod lists;
 pub mod parsing;

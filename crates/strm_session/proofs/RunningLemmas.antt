@@ -31,7 +31,7 @@ use Rattle.strm_machine.specs.declared.streams.Owner.TheVariants.{Host, Gone}
 use Rattle.strm_machine.specs.declared.streams.Side.{Side}
 use Rattle.strm_machine.specs.declared.streams.Side.TheVariants.{Writing, Reading}
 use Rattle.strm_machine.specs.declared.streams.Stream.{Stream}
-use Rattle.strm_world.specs.World.{World, stream_in, writer_at, reader_at, with_writer, with_consumer, with_reader, leaves_writer, leaves_reader, with_stream_in}
+use Rattle.strm_world.specs.World.{World, stream_in, writer_at, reader_at, with_writer, with_reader, leaves_writer, leaves_reader, with_stream_in}
 use Rattle.strm_world.specs.Ends.{polled_writer, polled_reader}
 use Rattle.strm_world.specs.Outcomes.{Outcome, Goes, Stops, Stuck, stops, done, then_on, of_reply}
 use Rattle.strm_world.specs.Polls.{AfterWriter, is_failed, is_writer_poll, writer_judged, writer_says, AfterReader, is_reader_poll, reader_judged, reader_says}
