@@ -41,6 +41,7 @@ pub fn copy_items(
 }
 
 /// The same from an address and to one, of any number of items.
+#[inline(always)]
 pub fn copy_region(
     source: &[u8],
     from: usize,
