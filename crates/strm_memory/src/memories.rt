@@ -137,6 +137,7 @@ impl GuestMemory {
     }
 
     /// Whether so many items may lie from an address on. Takes no memory.
+    #[inline(always)]
     pub fn region(
         &self,
         payload: Payload,
@@ -160,6 +161,7 @@ impl GuestMemory {
 
     /// Copies so many items from an address of another memory to one of this, as by lifting all of
     /// them and then lowering them. Takes no memory.
+    #[inline(always)]
     pub fn receive(
         &mut self,
         address: u32,

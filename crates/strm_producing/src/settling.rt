@@ -18,6 +18,7 @@ use strm_turns::sides::{opposite, set_operation};
 use strm_turns::turns::go_on;
 
 /// So many items as a count.
+#[inline(always)]
 pub fn count_of(items: u32) -> ItemCount
     requires { items < 2 ^ 28 }
     ensures { result ≡ items }
@@ -29,6 +30,7 @@ pub fn count_of(items: u32) -> ItemCount
 }
 
 /// How an answer settles an operation.
+#[inline(always)]
 pub fn result_of(answer: Answer) -> Option<StreamResult>
     ensures { result ≡ result_of answer }
 {
@@ -51,6 +53,7 @@ pub fn produced_result(answer: Answer, held: usize) -> Option<StreamResult>
 }
 
 // An operation that is settled so, if it is.
+#[inline(always)]
 fn settle(operation: Operation, outcome: Option<StreamResult>) -> Operation
     ensures { result ≡ settled outcome operation }
 {
@@ -64,6 +67,7 @@ fn settle(operation: Operation, outcome: Option<StreamResult>) -> Operation
 }
 
 /// So many items more were received, if any.
+#[inline(always)]
 pub fn receive_some(stream: &mut Stream, count: u32)
     ensures { stream.new ≡ with_some_received stream.old count }
 {
@@ -74,6 +78,7 @@ pub fn receive_some(stream: &mut Stream, count: u32)
 }
 
 // A host end that is done with the stream is gone.
+#[inline(always)]
 fn let_go(stream: &mut Stream, side: Side, outcome: Option<StreamResult>)
     ensures { stream.new ≡ let_go side outcome stream.old }
 {
@@ -87,6 +92,7 @@ fn let_go(stream: &mut Stream, side: Side, outcome: Option<StreamResult>)
 
 /// So many items of the operation on a side came from the host end on the other side, or went to it,
 /// and the operation is settled so, if it is.
+#[inline(always)]
 #[tactic(auto, unfolding(strm_world::specs::Settling::moved_on))]
 pub fn move_on(
     stream: &mut Stream,

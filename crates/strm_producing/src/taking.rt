@@ -37,6 +37,7 @@ pub enum TakeError {
 }
 
 /// Why a poll with this record stops the step, if it does.
+#[inline(always)]
 pub(crate) fn judge(kind: TransmitKind, said: &ReaderSaid) -> Result<(), TakeError>
     ensures { result ≡ judged kind said.now }
 {
@@ -64,6 +65,7 @@ pub(crate) fn since_after(answer: Answer, since: u32, taken: u32) -> u32
 }
 
 // One poll with the items that a write has left.
+#[inline(always)]
 fn poll_once(
     alloc: Global,
     guests: &mut Vec<Guest>,
@@ -96,6 +98,7 @@ fn poll_once(
 
 /// The turn of a stream's host reader for the open write on it: it is polled once with the items that
 /// the write has left. The guests stay as they are. Only the poll takes memory.
+#[inline(always)]
 pub fn consumer_turn(
     alloc: Global,
     guests: &mut Vec<Guest>,

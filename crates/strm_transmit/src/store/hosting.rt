@@ -241,7 +241,7 @@ impl Store {
     }
 
     /// Passes on bytes from outside to a host writer.
-    pub(crate) fn feed(&self, hosts: &mut Hosts, host: u32, bytes: &Chunk) -> Result<(), StoreError>
+    pub fn feed(&self, hosts: &mut Hosts, host: u32, bytes: &Chunk) -> Result<(), StoreError>
         requires fits { Fits self.now (tells_of writer_tells reader_tells hosts.old) }
         ensures meets { MeetsHosted self.now self.now (tells_of writer_tells reader_tells hosts.old)
             (tells_of writer_tells reader_tells hosts.new) (replied (λ _. replies.Done) result)
@@ -269,7 +269,7 @@ impl Store {
     }
 
     /// Passes on to a host reader that it may take so many items more.
-    pub(crate) fn grant(&self, hosts: &mut Hosts, host: u32, count: u32) -> Result<(), StoreError>
+    pub fn grant(&self, hosts: &mut Hosts, host: u32, count: u32) -> Result<(), StoreError>
         requires fits { Fits self.now (tells_of writer_tells reader_tells hosts.old) }
         ensures meets { MeetsHosted self.now self.now (tells_of writer_tells reader_tells hosts.old)
             (tells_of writer_tells reader_tells hosts.new) (replied (λ _. replies.Done) result)
