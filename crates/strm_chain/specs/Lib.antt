@@ -1,0 +1,9 @@
+pub mod Stages
+pub mod Faults
+pub mod Playing
+pub mod Turning
+pub mod Flowing
+pub mod Linking
+pub mod Keeping
+pub mod Turned
+pub mod Making
