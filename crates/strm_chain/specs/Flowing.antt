@@ -25,9 +25,9 @@ stage_at stages i = slice_index_or stages i Copy
 
 -- the streams of a chain carried these bytes: on stream 0 a front of the input, and behind each stage a
 -- front of what it makes of what was received before it
-pub record Flows (stages : List Stage) (input output : List ℕ) (steps : List Step) : Type 0 where
+pub record Flows (stages : List Stage) (input written : List ℕ) (steps : List Step) : Type 0 where
   pub bytes : ℕ → List ℕ
   pub received : (i : ℕ) → i ≤ length stages → got_on steps i ≡ as_items (bytes i)
   pub first : IsFront (bytes 0) input
   pub behind : (i : ℕ) → i < length stages → IsFront (bytes (i + 1)) (of (stage_at stages i) (bytes i))
-  pub output : output ≡ bytes (length stages)
+  pub output : written ≡ bytes (length stages)

@@ -1,11 +1,13 @@
 -- What a chain keeps from turn to turn: how its guests stand to the store. Ours.
-use Rattle.std.specs.Prelude.{◌≡◌, ◌≢◌, ℕ, ◌+◌, ◌-◌, ◌≤◌, ◌<◌, Bool, true, false, List, [], length, map, take, drop, slice_index_or, All, Option, Some, None}
+use Rattle.std.specs.Prelude.{◌≡◌, ◌≢◌, ℕ, ◌+◌, ◌-◌, ◌≤◌, ◌<◌, ℤ, Bool, true, false, List, [], length, map, take, drop, slice_index_or, All, Option, Some, None}
 use Rattle.strm_codes.specs.declared.codes.TransmitIndex.{TransmitIndex}
 use Rattle.strm_codes.specs.declared.codes.TransmitIndex.TheVariants as index
 use Rattle.strm_codes.specs.declared.payloads.Payload.TheVariants.{One}
 use Rattle.strm_codes.specs.declared.scalars.Scalar.TheVariants.{U8}
 use Rattle.strm_machine.specs.State.{State, memory_in, stream_at, is_gone}
 use Rattle.strm_machine.specs.Soundness.{type_of}
+use Rattle.strm_codes.specs.declared.codes.StreamResult.TheVariants.{Completed}
+use Rattle.strm_machine.specs.declared.streams.Operation.{Operation}
 use Rattle.strm_machine.specs.declared.streams.Owner.TheVariants.{Held}
 use Rattle.strm_chain.specs.declared.stages.Stage.{Stage}
 use Rattle.strm_chain.specs.declared.stages.Stage.TheVariants.{Copy}
@@ -56,33 +58,43 @@ input_of workers = (worker_at workers 0).made
 abbrev pub sink_of : List Worker → Worker
 sink_of workers = worker_at workers (length workers - 1)
 
--- guest g writes on stream g: it has handed over the front of what it put out, and while it has not ended
--- the end is its own; once it has, all was handed over and there is nothing more to read
-pub record WritesOn (g : ℕ) (w : Worker) (play : Play) : Type 0 where
+-- what guests receive
+abbrev pub Items : Type 0
+Items = List (Option (List ℤ))
+
+-- guest g writes on stream g, which has received this: it has handed over the front of what it put out,
+-- and while it has not ended the end is its own; once it has, all was handed over and there is nothing
+-- more to read
+pub record WritesOn (g : ℕ) (w : Worker) (state : State) (received : Items) : Type 0 where
   pub handle : ℕ
   pub has : w.write ≡ Some handle
-  pub owner : w.doing ≢ Ended → (stream_at play.state g).writer.owner ≡ Held g handle
-  pub sends : Sends g 64 w.sent w.made (memory_in play.state.guests g)
-      (stream_at play.state g).writer.operation (got_on play.steps g)
-  pub idle : w.doing ≢ Writing → (stream_at play.state g).writer.operation ≡ None
+  pub owner : w.doing ≢ Ended → (stream_at state g).writer.owner ≡ Held g handle
+  pub sends : Sends g 64 w.sent w.made (memory_in state.guests g) (stream_at state g).writer.operation received
+  pub idle : w.doing ≢ Writing → (stream_at state g).writer.operation ≡ None
   pub over : w.doing ≡ Ended → (w.closed ≡ true) × (w.sent ≡ length w.made)
 
--- guest s + 1 reads from stream s: it has put out what its stage makes of what it has taken, and where
--- there is nothing more to read, the other end is gone
-pub record ReadsFrom (s : ℕ) (w : Worker) (play : Play) : Type 0 where
+-- no operation has come out otherwise than with its items
+abbrev pub IsPlain : Option Operation → Type 0
+IsPlain None = Unit {0}
+IsPlain (Some operation) = operation.outcome ≡ Completed
+
+-- guest s + 1 reads from stream s, which has received this: it has put out what its stage makes of what it
+-- has taken, and where there is nothing more to read, the other end is gone
+pub record ReadsFrom (s : ℕ) (w : Worker) (state : State) (received : Items) : Type 0 where
   pub handle : ℕ
   pub has : w.read ≡ Some handle
-  pub owner : (stream_at play.state s).reader.owner ≡ Held (s + 1) handle
-  pub takes : Takes (s + 1) 0 (begun w.work.stage) w.work w.made (memory_in play.state.guests (s + 1))
-      (stream_at play.state s).reader.operation (got_on play.steps s)
-  pub idle : w.doing ≢ Reading → (stream_at play.state s).reader.operation ≡ None
-  pub gone : w.closed ≡ true → is_gone (stream_at play.state s).writer.owner ≡ true
+  pub owner : (stream_at state s).reader.owner ≡ Held (s + 1) handle
+  pub takes : Takes (s + 1) 0 (begun w.work.stage) w.work w.made (memory_in state.guests (s + 1))
+      (stream_at state s).reader.operation received
+  pub idle : w.doing ≢ Reading → (stream_at state s).reader.operation ≡ None
+  pub plain : IsPlain (stream_at state s).reader.operation
+  pub gone : w.closed ≡ true → is_gone (stream_at state s).writer.owner ≡ true
 
--- stream s is of bytes, and joins guest s, which is this one, to the next one
+-- stream s is of bytes, and joins guest s to the next one
 pub record Joins (s : ℕ) (writer reader : Worker) (play : Play) : Type 0 where
   pub typed : type_of (stream_at play.state s) ≡ bytes_type
-  pub writes : WritesOn s writer play
-  pub reads : ReadsFrom s reader play
+  pub writes : WritesOn s writer play.state (got_on play.steps s)
+  pub reads : ReadsFrom s reader play.state (got_on play.steps s)
 
 -- the last guest copies, and ends once it was told that there is no more
 pub record IsSink (w : Worker) : Type 0 where
