@@ -12,10 +12,10 @@ use strm_codes::payloads::{Payload, Shape};
 use strm_codes::scalars::Scalar;
 use strm_machine::chunks::Chunk;
 
-// What follows these bytes at the front of a line.
+/// What follows these bytes at the front of a line.
 #[inline(always)]
 #[tactic(auto, unfolding(crate::specs::Reading::behind))]
-pub(crate) fn behind<'a, const N: usize>(line: &'a [u8], front: &[u8; N]) -> Option<&'a [u8]>
+pub fn behind<'a, const N: usize>(line: &'a [u8], front: &[u8; N]) -> Option<&'a [u8]>
     ensures { option_map (λ rest. rest.now) result ≡ behind front.now line.now }
 {
     let (first, rest) = line.split_first_chunk::<N>()?;
@@ -57,9 +57,9 @@ pub(crate) fn number(word: &[u8]) -> Option<u32>
     Some(number)
 }
 
-// A number from `low` to `high`.
+/// A number from `low` to `high`, in decimal and without leading zeros.
 #[tactic(auto, unfolding(crate::specs::Reading::number_within))]
-pub(crate) fn number_within(word: &[u8], low: u32, high: u32) -> Option<u32>
+pub fn number_within(word: &[u8], low: u32, high: u32) -> Option<u32>
     ensures { result ≡ number_within low high word.now }
 {
     let number = number(word)?;

@@ -1,0 +1,287 @@
+-- What the steps of a turn leave of streams: owners, operations that come out plainly, and ends that are told
+-- Dropped only where the other one is gone.
+use Rattle.std.proofs.Common.{◌≡◌, ◌≢◌, ℕ, ◌<◌, Bool, true, false, cond, min, take, drop, List, length, get_or, set, Option, Some, None, refl, sym, ap, ◌∙◌, subst, inl, inr}
+use Rattle.std.specs.Prelude.{◌&&◌, not}
+use Rattle.std.proofs.lemmas.Bool.{cases_eq, cond_both}
+use Rattle.std.proofs.lemmas.List.{length-set, set-get_or, get_or-set_same, get_or-set_other}
+use Rattle.std.specs.Option.{option_map}
+use Rattle.strm_codes.specs.declared.codes.ReturnCode.{ReturnCode}
+use Rattle.strm_codes.specs.declared.codes.ReturnCode.TheVariants as codes
+use Rattle.strm_codes.specs.declared.codes.StreamResult.{StreamResult}
+use Rattle.strm_codes.specs.declared.codes.StreamResult.TheVariants.{Completed}
+use Rattle.strm_codes.specs.declared.codes.TransmitKind.{TransmitKind}
+use Rattle.strm_codes.specs.declared.codes.TransmitKind.TheVariants.{Stream as AStream, Future}
+use Rattle.strm_codes.specs.Codes.{completed_code}
+use Rattle.strm_events.specs.Reports.{is_dropped, report_of, operation_report, idle_report, outcome_code, left_pending}
+use Rattle.strm_machine.specs.State.{State, Guest, no_stream, memory_in, stream_at, is_gone}
+use Rattle.strm_machine.specs.Sides.{opposite, end_of, with_end, write_of, read_of}
+use Rattle.strm_machine.specs.Meetings.{meeting_of, begun}
+use Rattle.strm_machine.specs.Turns.{Turn, turn, finds, rendezvous_by, moves, completes_alone}
+use Rattle.strm_machine.specs.Tests.{named, end_named, stream_named, side_named, items_asked}
+use Rattle.strm_machine.specs.Endings.{report_on, pending_of, told_end, delivered, dropped}
+use Rattle.strm_machine.specs.Reactions.{Reaction, goes, written, written_back, with_stream_at, told, performs}
+use Rattle.strm_machine.specs.declared.streams.Side.{Side}
+use Rattle.strm_machine.specs.declared.streams.Side.TheVariants.{Writing, Reading}
+use Rattle.strm_machine.specs.declared.streams.Operation.{Operation}
+use Rattle.strm_machine.specs.declared.streams.Owner.{Owner}
+use Rattle.strm_machine.specs.declared.streams.Owner.TheVariants.{Gone}
+use Rattle.strm_machine.specs.declared.streams.Stream.{Stream}
+use Rattle.strm_machine.specs.declared.streams.Meeting.{Meeting}
+use Rattle.strm_machine.specs.declared.streams.Meeting.TheVariants.{BothComplete, WriteCompletes, ReadCompletes}
+use Rattle.strm_machine.specs.declared.acts.NamedEnd.{NamedEnd}
+use Rattle.strm_machine.specs.declared.acts.Act.TheVariants.{OnEnd, Event, OnMemory}
+use Rattle.strm_machine.specs.declared.acts.EndAct.TheVariants.{Operate, Drop}
+use Rattle.strm_machine.specs.declared.acts.MemoryAct.TheVariants.{Poke, Dump}
+use Rattle.strm_machine.specs.declared.replies.Reply.{Reply}
+use Rattle.strm_machine.specs.declared.replies.Reply.TheVariants as replies
+use Rattle.strm_machine.proofs.TableLemmas.{OwnersStay, with_end-owners, owner_in, owner-set_stays, owner-set_same, owner-set_other}
+use Rattle.strm_machine.specs.Moves.{without_handle}
+use Rattle.strm_chain.specs.Keeping.{IsPlain}
+use Rattle.strm_chain.proofs.NamingLemmas.{IsPerformed}
+
+-- ## A stream in the place of another
+
+-- what is kept of a stream: who has its ends, and that the read that waits comes out plainly
+pub record StaysOwned (old new : Stream) : Type 0 where
+  pub owners : OwnersStay old new
+  pub plain : IsPlain old.reader.operation → IsPlain new.reader.operation
+
+-- what a step keeps of all streams
+pub record Steady (old new : State) : Type 0 where
+  pub many : length new.streams ≡ length old.streams
+  pub owner : (s : ℕ) (side : Side) → owner_in new.streams s side ≡ owner_in old.streams s side
+  pub plain : (s : ℕ) → IsPlain (stream_at old s).reader.operation → IsPlain (stream_at new s).reader.operation
+
+plain-set : (streams : List Stream) (s : ℕ) (x : Stream) (k : ℕ) → s < length streams → (IsPlain (get_or streams s no_stream).reader.operation → IsPlain x.reader.operation) → IsPlain (get_or streams k no_stream).reader.operation → IsPlain (get_or (set streams s x) k no_stream).reader.operation
+plain-set streams s x k l h p =
+    elim (cases_eq k s) [
+      | inl e ↦ subst (λ n. IsPlain (get_or (set streams s x) n no_stream).reader.operation) (sym e)
+          (subst (λ (y : Stream). IsPlain y.reader.operation) (sym (get_or-set_same streams s x no_stream l)) (h (subst (λ n. IsPlain (get_or streams n no_stream).reader.operation) e p)))
+      | inr ne ↦ subst (λ (y : Stream). IsPlain y.reader.operation) (sym (get_or-set_other streams s k x no_stream ne)) p
+    ]
+
+steady_set : (old new : State) (s : ℕ) (x : Stream) → new.streams ≡ set old.streams s x → s < length old.streams → StaysOwned (stream_at old s) x → Steady old new
+steady_set old new s x e l h = record {
+  many = ap length e ∙ length-set old.streams s x;
+  owner = λ k side. ap (λ xs. owner_in xs k side) e ∙ owner-set_stays old.streams s x k side h.owners;
+  plain = λ k p. subst (λ xs. IsPlain (get_or xs k no_stream).reader.operation) (sym e) (plain-set old.streams s x k l h.plain p);
+}
+
+-- ## A read or write
+
+owned_same : (stream : Stream) → StaysOwned stream stream
+owned_same stream = record { owners = record { writer = refl; reader = refl }; plain = λ p. p }
+
+moves-owned : (side : Side) (guests : List Guest) (stream : Stream) (mine theirs : Operation) (n : ℕ) (after : Option (List Guest)) → StaysOwned stream (moves side guests stream mine theirs n after).stream
+moves-owned side guests stream mine theirs n None = owned_same stream
+moves-owned Writing guests stream mine theirs n (Some after) = record { owners = record { writer = refl; reader = refl }; plain = λ p. refl }
+moves-owned Reading guests stream mine theirs n (Some after) = record { owners = record { writer = refl; reader = refl }; plain = λ p. p }
+
+waits-owned : (side : Side) (stream : Stream) (mine : Operation) → mine.outcome ≡ Completed → StaysOwned stream (with_end side stream (record (end_of side stream) { operation = Some mine }))
+waits-owned Writing stream mine c = record { owners = record { writer = refl; reader = refl }; plain = λ p. p }
+waits-owned Reading stream mine c = record { owners = record { writer = refl; reader = refl }; plain = λ p. c }
+
+alone-owned : (who side : Side) (guests : List Guest) (stream : Stream) (mine theirs : Operation) → mine.outcome ≡ Completed → StaysOwned stream (completes_alone who side guests stream mine theirs).stream
+alone-owned Writing Writing guests stream mine theirs c = owned_same stream
+alone-owned Reading Reading guests stream mine theirs c = owned_same stream
+alone-owned Writing Reading guests stream mine theirs c = record { owners = record { writer = refl; reader = refl }; plain = λ p. c }
+alone-owned Reading Writing guests stream mine theirs c = record { owners = record { writer = refl; reader = refl }; plain = λ p. refl }
+
+meeting-owned : (m : Meeting) (side : Side) (guests : List Guest) (stream : Stream) (mine theirs : Operation) → mine.outcome ≡ Completed → StaysOwned stream (rendezvous_by m side guests stream mine theirs).stream
+meeting-owned BothComplete side guests stream mine theirs c = moves-owned side guests stream mine theirs _ _
+meeting-owned WriteCompletes side guests stream mine theirs c = alone-owned Writing side guests stream mine theirs c
+meeting-owned ReadCompletes side guests stream mine theirs c = alone-owned Reading side guests stream mine theirs c
+
+finds-owned : (side : Side) (guests : List Guest) (stream : Stream) (mine : Operation) (o : Option Operation) → mine.outcome ≡ Completed → StaysOwned stream (finds side guests stream mine o).stream
+finds-owned side guests stream mine None c = waits-owned side stream mine c
+finds-owned side guests stream mine (Some theirs) c =
+    cond_both theirs.is_open _ _ (λ (t : Turn). StaysOwned stream t.stream)
+    (λ e. meeting-owned (meeting_of (write_of side mine theirs).left (read_of side mine theirs).left) side guests stream mine theirs c)
+    (λ e. waits-owned side stream mine c)
+
+learns-owned : (side : Side) (stream : Stream) → StaysOwned stream (with_end side stream (record (end_of side stream) { told = true }))
+learns-owned Writing stream = record { owners = record { writer = refl; reader = refl }; plain = λ p. p }
+learns-owned Reading stream = record { owners = record { writer = refl; reader = refl }; plain = λ p. p }
+
+turn-owned : (side : Side) (guests : List Guest) (stream : Stream) (mine : Operation) → mine.outcome ≡ Completed → StaysOwned stream (turn side guests stream mine).stream
+unfolding turn
+turn-owned side guests stream mine c =
+    cond_both (is_gone (end_of (opposite side) stream).owner) _ _ (λ (t : Turn). StaysOwned stream t.stream)
+    (λ e. learns-owned side stream)
+    (λ e. finds-owned side guests stream mine (end_of (opposite side) stream).operation c)
+
+-- ## Dropped is told only where the other end is gone
+
+-- a code that is no Dropped
+abbrev IsOther : Option ReturnCode → Type 0
+IsOther None = Unit {0}
+IsOther (Some code) = is_dropped code ≡ false
+
+completed-other : (kind : TransmitKind) (n : ℕ) → IsOther (Some (completed_code kind n))
+completed-other AStream n = refl
+completed-other Future n = refl
+
+moves-other : (side : Side) (guests : List Guest) (stream : Stream) (mine theirs : Operation) (n : ℕ) (after : Option (List Guest)) → IsOther (moves side guests stream mine theirs n after).code
+moves-other side guests stream mine theirs n None = tt
+moves-other side guests stream mine theirs n (Some after) = completed-other stream.kind n
+
+alone-other : (who side : Side) (guests : List Guest) (stream : Stream) (mine theirs : Operation) → IsOther (completes_alone who side guests stream mine theirs).code
+alone-other Writing Writing guests stream mine theirs = completed-other stream.kind 0
+alone-other Reading Reading guests stream mine theirs = completed-other stream.kind 0
+alone-other Writing Reading guests stream mine theirs = refl
+alone-other Reading Writing guests stream mine theirs = refl
+
+meeting-other : (m : Meeting) (side : Side) (guests : List Guest) (stream : Stream) (mine theirs : Operation) → IsOther (rendezvous_by m side guests stream mine theirs).code
+meeting-other BothComplete side guests stream mine theirs = moves-other side guests stream mine theirs _ _
+meeting-other WriteCompletes side guests stream mine theirs = alone-other Writing side guests stream mine theirs
+meeting-other ReadCompletes side guests stream mine theirs = alone-other Reading side guests stream mine theirs
+
+finds-other : (side : Side) (guests : List Guest) (stream : Stream) (mine : Operation) (o : Option Operation) → IsOther (finds side guests stream mine o).code
+finds-other side guests stream mine None = refl
+finds-other side guests stream mine (Some theirs) =
+    cond_both theirs.is_open _ _ (λ (t : Turn). IsOther t.code)
+    (λ e. meeting-other (meeting_of (write_of side mine theirs).left (read_of side mine theirs).left) side guests stream mine theirs)
+    (λ e. refl)
+
+-- a Dropped is told, or the code is another
+abbrev OnlyGone : Side → Stream → Option ReturnCode → Type 0
+OnlyGone side stream code = (c : ReturnCode) → code ≡ Some c → is_dropped c ≡ true → is_gone (end_of (opposite side) stream).owner ≡ true
+
+other-only : (side : Side) (stream : Stream) (code : Option ReturnCode) → IsOther code → OnlyGone side stream code
+other-only side stream None o c e d = cc
+other-only side stream (Some x) o c e d = absurd (let same : x ≡ c = cc in let wrong : false ≡ true = sym o ∙ ap is_dropped same ∙ d in cc)
+
+turn-only : (side : Side) (guests : List Guest) (stream : Stream) (mine : Operation) → OnlyGone side stream (turn side guests stream mine).code
+unfolding turn
+turn-only side guests stream mine =
+    cond_both (is_gone (end_of (opposite side) stream).owner) _ _ (λ (t : Turn). OnlyGone side stream t.code)
+    (λ gone c e d. gone)
+    (λ e. other-only side stream _ (finds-other side guests stream mine (end_of (opposite side) stream).operation))
+
+pending-only : (stream : Stream) (gone : Bool) (o : Operation) → o.outcome ≡ Completed → (c : ReturnCode) → operation_report AStream (pending_of o) gone stream.passed ≡ Some c → is_dropped c ≡ true → gone ≡ true
+pending-only stream true o p c e d = refl
+pending-only stream false o p c e d = by o.met e
+  where
+    by : (b : Bool) → (cond b (Some (outcome_code AStream o.outcome o.moved)) None) ≡ Some c → false ≡ true
+    by true f = absurd (let same : outcome_code AStream o.outcome o.moved ≡ c = cc in let wrong : false ≡ true = sym (ap (λ x. is_dropped (outcome_code AStream x o.moved)) p) ∙ ap is_dropped same ∙ d in cc)
+    by false f = cc
+
+idle-only : (gone told passed : Bool) (c : ReturnCode) → idle_report gone told passed ≡ Some c → gone ≡ true
+idle-only true told passed c e = refl
+idle-only false told passed c e = cc
+
+report-only : (stream : Stream) → stream.kind ≡ AStream → IsPlain stream.reader.operation → OnlyGone Reading stream (report_on Reading stream)
+report-only stream k p c e d =
+    by stream.reader.operation p
+    (ap (λ kind. report_of kind (option_map pending_of stream.reader.operation) (is_gone stream.writer.owner) stream.reader.told stream.passed) (sym k) ∙ e)
+  where
+    by : (o : Option Operation) → IsPlain o → report_of AStream (option_map pending_of o) (is_gone stream.writer.owner) stream.reader.told stream.passed ≡ Some c → is_gone stream.writer.owner ≡ true
+    by None p f = idle-only (is_gone stream.writer.owner) stream.reader.told stream.passed c f
+    by (Some o) p f = pending-only stream (is_gone stream.writer.owner) o p c f d
+
+-- ## Whole steps
+
+written_is : (state next : State) (s : ℕ) (t : Turn) (o : Option ReturnCode) (code : ReturnCode) → written_back state s t o ≡ goes (replies.Code code) next → (o ≡ Some code) × (next ≡ written state s t)
+written_is state next s t None code e = absurd (let wrong = ap (λ (r : Reaction). r.reply) e in cc)
+written_is state next s t (Some x) code e =
+    let reply : replies.Code x ≡ replies.Code code = ap (λ (r : Reaction). r.reply) e in
+    let same : x ≡ code = cc in
+    (ap Some same, sym (ap (λ (r : Reaction). r.state) e))
+
+-- a read or write that answers a code
+pub record Operated (state next : State) (s : ℕ) (side : Side) (code : ReturnCode) : Type 0 where
+  pub steady : Steady state next
+  pub only : is_dropped code ≡ true → is_gone (end_of (opposite side) (stream_at state s)).owner ≡ true
+
+pub operate_after : (state next : State) (s : ℕ) (side : Side) (end : NamedEnd) (address count : ℕ) (code : ReturnCode) → IsPerformed state (OnEnd side end (Operate address count)) (replies.Code code) next → stream_named (named state end) ≡ s → s < length state.streams → Operated state next s side code
+unfolding performs
+operate_after state next s side end address count code p e l =
+    let n = stream_named (named state end) in
+    let mine = begun end.guest address (items_asked end.ty count) in
+    let t = turn side state.guests (stream_at state n) mine in
+    let w = written_is state next n t t.code code p.does in
+    record {
+      steady = steady_set state next n t.stream (ap (λ (x : State). x.streams) w.1) (subst (λ k. k < length state.streams) (sym e) l) (turn-owned side state.guests (stream_at state n) mine refl);
+      only = λ d. subst (λ k. is_gone (end_of (opposite side) (stream_at state k)).owner ≡ true) e (turn-only side state.guests (stream_at state n) mine code w.0 d);
+    }
+
+left_plain : (code : Option ReturnCode) (o : Option Operation) → IsPlain o → IsPlain (left_pending code o)
+left_plain None o p = p
+left_plain (Some code) o p = tt
+
+delivered-owned : (side : Side) (stream : Stream) → StaysOwned stream (delivered side stream)
+unfolding delivered
+delivered-owned Writing stream = record { owners = record { writer = refl; reader = refl }; plain = λ p. p }
+delivered-owned Reading stream = record { owners = record { writer = refl; reader = refl }; plain = left_plain (report_on Reading stream) stream.reader.operation }
+
+-- an event that answers this
+pub record Told (state next : State) (s : ℕ) (side : Side) (code : Option ReturnCode) : Type 0 where
+  pub steady : Steady state next
+  pub reports : report_on side (stream_at state s) ≡ code
+  pub is : next.streams ≡ set state.streams s (delivered side (stream_at state s))
+  pub guests : next.guests ≡ state.guests
+
+pub event_after : (state next : State) (g handle s : ℕ) (side : Side) (code : Option ReturnCode) → IsPerformed state (Event g handle) (replies.Event code) next → stream_named (end_named state g handle) ≡ s → side_named (end_named state g handle) ≡ side → s < length state.streams → Told state next s side code
+unfolding performs
+event_after state next g handle s side code p e f l =
+    let does = subst (λ d. goes (replies.Event (report_on d (stream_at state s))) (told state s d) ≡ goes (replies.Event code) next) f
+        (subst (λ k. goes (replies.Event (report_on (side_named (end_named state g handle)) (stream_at state k))) (told state k (side_named (end_named state g handle))) ≡ goes (replies.Event code) next) e p.does) in
+    let reply : replies.Event (report_on side (stream_at state s)) ≡ replies.Event code = ap (λ (r : Reaction). r.reply) does in
+    let next_is : next ≡ told state s side = sym (ap (λ (r : Reaction). r.state) does) in
+    let is : next.streams ≡ set state.streams s (delivered side (stream_at state s)) = ap (λ (x : State). x.streams) next_is in
+    record {
+      steady = steady_set state next s (delivered side (stream_at state s)) is l (delivered-owned side (stream_at state s));
+      reports = cc;
+      is = is;
+      guests = ap (λ (x : State). x.guests) next_is;
+    }
+
+-- one that answers none changes no stream
+undelivered : (side : Side) (stream : Stream) → report_on side stream ≡ None → delivered side stream ≡ stream
+unfolding delivered
+undelivered Writing stream e = ap (λ code. with_end Writing stream (told_end code (end_of Writing stream))) e
+undelivered Reading stream e = ap (λ code. with_end Reading stream (told_end code (end_of Reading stream))) e
+
+pub told_none : (state next : State) (s : ℕ) (side : Side) → Told state next s side None → next.streams ≡ state.streams
+told_none state next s side t = t.is ∙ ap (set state.streams s) (undelivered side (stream_at state s) t.reports) ∙ set-get_or state.streams s no_stream
+
+pub told_gone : (state next : State) (s : ℕ) (code : ReturnCode) → Told state next s Reading (Some code) → (stream_at state s).kind ≡ AStream → IsPlain (stream_at state s).reader.operation → is_dropped code ≡ true → is_gone (stream_at state s).writer.owner ≡ true
+told_gone state next s code t k p d = report-only (stream_at state s) k p code t.reports d
+
+-- the drop of a write end
+pub record Forsaken (state next : State) (s : ℕ) : Type 0 where
+  pub many : length next.streams ≡ length state.streams
+  pub readers : (k : ℕ) → owner_in next.streams k Reading ≡ owner_in state.streams k Reading
+  pub others : (k : ℕ) → k ≢ s → owner_in next.streams k Writing ≡ owner_in state.streams k Writing
+  pub gone : owner_in next.streams s Writing ≡ Gone
+  pub plain : (k : ℕ) → IsPlain (stream_at state k).reader.operation → IsPlain (stream_at next k).reader.operation
+
+pub drop_after : (state next : State) (s : ℕ) (end : NamedEnd) → IsPerformed state (OnEnd Writing end Drop) replies.Done next → stream_named (named state end) ≡ s → s < length state.streams → Forsaken state next s
+unfolding performs dropped
+drop_after state next s end p e l =
+    let does = subst (λ k. goes replies.Done (with_stream_at (without_handle state end.guest end.handle) k (dropped Writing (stream_at state k))) ≡ goes replies.Done next) e p.does in
+    let x = dropped Writing (stream_at state s) in
+    let is : next.streams ≡ set state.streams s x = sym (ap (λ (r : Reaction). r.state.streams) does) in
+    record {
+      many = ap length is ∙ length-set state.streams s x;
+      readers = λ k. ap (λ xs. owner_in xs k Reading) is ∙ owner-set_same state.streams s x k Reading refl;
+      others = λ k ne. ap (λ xs. owner_in xs k Writing) is ∙ owner-set_other state.streams s x k Writing ne;
+      gone = ap (λ xs. owner_in xs s Writing) is ∙ ap (λ (y : Stream). y.writer.owner) (get_or-set_same state.streams s x no_stream l);
+      plain = λ k q. subst (λ xs. IsPlain (get_or xs k no_stream).reader.operation) (sym is) (plain-set state.streams s x k l (λ y. y) q);
+    }
+
+-- bytes put into a memory, and bytes shown
+pub poke_after : (state next : State) (g address : ℕ) (bytes : List ℕ) → IsPerformed state (OnMemory g (Poke address bytes)) replies.Done next → next.streams ≡ state.streams
+unfolding performs
+poke_after state next g address bytes p = sym (ap (λ (r : Reaction). r.state.streams) p.does)
+
+pub dump_after : (state next : State) (g address len : ℕ) (bytes : List ℕ) → IsPerformed state (OnMemory g (Dump address len)) (replies.Bytes bytes) next → (next ≡ state) × (bytes ≡ take (min len 64) (drop address (memory_in state.guests g)))
+unfolding performs
+dump_after state next g address len bytes p =
+    let reply : replies.Bytes (take (min len 64) (drop address (memory_in state.guests g))) ≡ replies.Bytes bytes = ap (λ (r : Reaction). r.reply) p.does in
+    (sym (ap (λ (r : Reaction). r.state) p.does), sym (let same : take (min len 64) (drop address (memory_in state.guests g)) ≡ bytes = cc in same))
+
+-- an event that answers none changes nothing
+pub event_none : (state next : State) (g handle s : ℕ) (side : Side) → IsPerformed state (Event g handle) (replies.Event None) next → stream_named (end_named state g handle) ≡ s → side_named (end_named state g handle) ≡ side → s < length state.streams → (next.streams ≡ state.streams) × (next.guests ≡ state.guests)
+event_none state next g handle s side p e f l =
+    let t = event_after state next g handle s side None p e f l in (told_none state next s side t, t.guests)

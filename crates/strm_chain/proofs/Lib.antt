@@ -1,0 +1,14 @@
+pub mod AskingLemmas
+pub mod ServingLemmas
+pub mod StageLemmas
+pub mod PlayingLemmas
+pub mod TurningLemmas
+pub mod LinkLemmas
+pub mod UnnamedLemmas
+pub mod NamedLemmas
+pub mod RegionLemmas
+pub mod KeepLemmas
+pub mod PrefixLemmas
+pub mod NamingLemmas
+pub mod MomentLemmas
+pub mod AfterLemmas

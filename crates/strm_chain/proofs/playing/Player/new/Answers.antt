@@ -1,0 +1,6 @@
+use Rattle.strm_buffers.specs.Tells.{Tells}
+use Rattle.strm_chain.proofs.PlayingLemmas.{follows_start}
+use Rattle.strm_chain.proofs.playing.Player.new.Goals as goal
+
+pub invariant_of-result : goal.invariant_of-result
+invariant_of-result c = rw (c.new.ensures.exact, c.new-2.ensures, c.new-3.ensures) (follows_start (c.new.ensures.fits _))

@@ -1,0 +1,12 @@
+pub mod Stages
+pub mod Faults
+pub mod Playing
+pub mod Turning
+pub mod Flowing
+pub mod Linking
+pub mod Keeping
+pub mod Turned
+pub mod Making
+pub mod Asking
+pub mod WordReading
+pub mod Serving

@@ -1,0 +1,43 @@
+-- A store of guests that is played step by step. Ours.
+use Rattle.std.specs.Prelude.{◌≡◌, ℕ, ◌≤◌, false, List, [], ◌∷◌, ◌++◌, length, All}
+use Rattle.strm_machine.specs.State.{State, empty}
+use Rattle.strm_machine.specs.Reactions.{react, goes}
+use Rattle.strm_machine.specs.Plays.{play}
+use Rattle.strm_machine.specs.declared.steps.Step.{Step}
+use Rattle.strm_machine.specs.declared.replies.Reply.{Reply}
+use Rattle.strm_laws.specs.Laws.{HasBytes}
+use Rattle.strm_world.specs.Does.{Fits}
+use Rattle.strm_transmit.specs.Guests.{nobody, Unhosted}
+
+-- a chain begins with a store without guests, named 0, under these limits
+abbrev pub start : State
+start = empty 0 (record { handles = 1000000; places = 1000000 })
+
+-- these steps were answered so, and led from a new store to this one, which goes on and needs no host end
+pub record Follows (steps : List Step) (replies : List Reply) (state : State) : Type 0 where
+  pub led : (more : List Step) → play [] start (steps ++ more) ≡ play replies state more
+  pub running : state.trapped ≡ false
+  pub unhosted : Unhosted state
+  pub fits : Fits state nobody
+  pub few : length steps ≤ 4294967295
+  pub bytes : All HasBytes steps
+
+-- what was played: the steps, their replies and the state that they led to
+pub record Play : Type 0 where
+  pub steps : List Step
+  pub replies : List Reply
+  pub state : State
+
+-- nothing yet
+abbrev pub no_play : Play
+no_play = record { steps = []; replies = []; state = start }
+
+-- the steps of a play were answered so, and led to its state
+abbrev pub IsPlayed : Play → Type 0
+IsPlayed play = Follows play.steps play.replies play.state
+
+-- one step was played, and had this reply
+pub record Adds (play play' : Play) (step : Step) (reply : Reply) : Type 0 where
+  pub steps_are : play'.steps ≡ play.steps ++ step ∷ []
+  pub replies_are : play'.replies ≡ play.replies ++ reply ∷ []
+  pub reacts : react play.state step ≡ goes reply play'.state

@@ -1,0 +1,345 @@
+//! Chains of guests: the guests and streams are made first, and then guests take turns.
+//!
+//! Meaning: `Turning.antt`, `Flowing.antt`, `Faults.antt`. Ours.
+
+ghost use Rattle.std.specs.Prelude.{◌≡◌, ◌≢◌, ◌≤◌, ◌<◌, ◌+◌, ◌%◌, ◌↔◌, ◌++◌, ◌∷◌, ℕ, List, [], length, map, true, false, Ok, Err, IfOk, IfErr, IsErr, OnOk, All, count_by, None};
+ghost use Rattle.strm_machine.specs.Plays.{play, Ends};
+ghost use Rattle.strm_chain.specs.Playing.{start};
+ghost use Rattle.strm_chain.specs.Stages.{composed};
+ghost use Rattle.strm_chain.specs.Flowing.{Flows};
+ghost use Rattle.strm_chain.specs.Faults.{is_twice, fault_of, IsFault};
+ghost use Rattle.strm_chain.specs.Turning.{Makes, Moves, IsIdle, TakesTurns, TakesSome, IsRun};
+ghost use Rattle.strm_chain.specs.Keeping.{worker_at, sink_of, stages_of, input_of, IsJoined, GoesOn};
+ghost use Rattle.strm_chain.specs.Turned.{Turned};
+ghost use Rattle.strm_chain.specs.declared.workers.ChainTurn.TheVariants.{Moved, Idle};
+ghost use Rattle.strm_chain.specs.declared.workers.Doing.TheVariants.{Ended};
+
+use crate::lists::Bytes8;
+use crate::making::make_chain;
+use crate::playing::Player;
+use crate::stages::Stage;
+use crate::workers::{ChainTurn, Worker, take_turn};
+use std::alloc::{AllocError, Global};
+use std::marker::Model;
+use strm_codes::counts::OutOfMemory;
+use strm_lines::lists::{Replies, Steps};
+
+/// The most stages of a chain.
+pub const MAX_STAGES: usize = 8;
+
+/// The most of them that are `Twice`.
+pub const MAX_TWICE: usize = 2;
+
+/// The most bytes of an input.
+pub const MAX_INPUT: usize = 65_536;
+
+/// Why there is no chain, or no end of one.
+#[derive(Clone, Copy, Debug, PartialEq, Eq)]
+pub enum ChainError {
+    /// There are more than 8 stages.
+    TooManyStages,
+    /// More than 2 of them are `Twice`.
+    TooManyTwice,
+    /// The input has more than 65,536 bytes.
+    TooLong,
+    /// An allocation was refused, or a play has no room for a step more.
+    OutOfMemory,
+}
+
+impl From<OutOfMemory> for ChainError {
+    ghost use Rattle.strm_chain.specs.declared.chains.ChainError.TheVariants.{OutOfMemory as NoMemory};
+
+    ghost from_gives = { λ _ e. e ≡ NoMemory };
+
+    fn from(_error: OutOfMemory) -> ChainError {
+        ChainError::OutOfMemory
+    }
+}
+
+impl From<AllocError> for ChainError {
+    ghost use Rattle.strm_chain.specs.declared.chains.ChainError.TheVariants.{OutOfMemory as NoMemory};
+
+    ghost from_gives = { λ _ e. e ≡ NoMemory };
+
+    fn from(_error: AllocError) -> ChainError {
+        ChainError::OutOfMemory
+    }
+}
+
+/// Guests 0 to n + 1 for n stages, joined by streams.
+#[derive(Drop)]
+pub struct Chain {
+    player: Player,
+    workers: Vec<Worker>,
+    chunk: u32,
+    // Memory was wanting.
+    failed: bool,
+}
+
+impl Model for Chain {
+    ghost use Rattle.std.specs.Coded.{codes};
+    ghost use Rattle.strm_contexts.specs.Contexts.{contexts_code};
+    ghost use Rattle.strm_sets.specs.Sets.{sets_code};
+    ghost use Rattle.strm_chain.specs.Keeping.{ChainState, IsChain};
+
+    ghost Value = { ChainState };
+
+    ghost coded = { Prim.hlevel (codes, sets_code, contexts_code) };
+
+    ghost view = { λ c. record { play = c.player; workers = c.workers.items; chunk = c.chunk; failed = c.failed } };
+
+    ghost invariant = { λ c. IsChain (record { play = c.player; workers = c.workers.items; chunk = c.chunk; failed = c.failed }) };
+}
+
+/// What a chain has come to.
+#[derive(Drop)]
+pub struct ChainEnd {
+    /// What the sink received.
+    pub output: Bytes8,
+    /// The sink was told that there is no more.
+    pub ended: bool,
+    pub steps: Steps,
+    pub replies: Replies,
+}
+
+// Whether a stage is `Twice`.
+fn is_twice(stage: &Stage) -> bool
+    ensures { result ≡ is_twice stage.now }
+{
+    match stage {
+        Stage::Twice => true,
+        _ => false,
+    }
+}
+
+/// How many of the stages are `Twice`.
+pub fn count_twice(stages: &[Stage]) -> usize
+    ensures { result ≡ count_by is_twice stages.now }
+{
+    let mut count = 0usize;
+    for stage in stages {
+        if is_twice(stage) {
+            count += 1;
+        }
+    }
+    count
+}
+
+// Why these stages and this input make no chain.
+fn fault(stages: &[Stage], input: usize) -> Option<ChainError>
+    ensures { result ≡ fault_of stages.now input }
+{
+    if stages.len() > MAX_STAGES {
+        Some(ChainError::TooManyStages)
+    } else if count_twice(stages) > MAX_TWICE {
+        Some(ChainError::TooManyTwice)
+    } else if input > MAX_INPUT {
+        Some(ChainError::TooLong)
+    } else {
+        None
+    }
+}
+
+impl Chain {
+    ghost use Rattle.strm_chain.specs.Keeping.{Begins};
+
+    /// A chain in which no guest has had a turn.
+    pub fn new(
+        alloc: Global,
+        stages: &[Stage],
+        input: Vec<u8>,
+        chunk: u32,
+    ) -> Result<Chain, ChainError>
+        requires { (16 ≤ chunk) × (chunk ≤ 64) }
+        ensures begins { IfOk result (Begins stages.now input.items chunk) }
+        ensures err { IfErr result (IsFault stages.now (length input.items)) }
+        ensures ok { OnOk result (fault_of stages.now (length input.items) ≡ None) }
+    {
+        if let Some(error) = fault(stages, input.len()) {
+            return Err(error);
+        }
+        let (player, workers) = make_chain(alloc, stages, input)?;
+        Ok(Chain {
+            player,
+            workers,
+            chunk,
+            failed: false,
+        })
+    }
+
+    /// One turn of a guest. After want of memory each turn answers that.
+    pub fn turn(&mut self, who: u32) -> Result<ChainTurn, ChainError>
+        requires { who < length self.old.workers }
+
+        // Its steps are reads, writes, drops, pokes, dumps and at most one event, of this guest alone, and its
+        // reads and writes have counts from 1 to the chunk.
+        ensures makes { OnOk result (Makes who self.old.chunk self.old.play self.new.play) }
+
+        // It is idle exactly where the guest has ended, and where the guest has an operation of which the one
+        // event of the turn tells nothing.
+        ensures idle { result ≡ Ok Idle → IsIdle who (worker_at self.old.workers who) self.old.play self.new.play }
+        ensures exactly { IsIdle who (worker_at self.old.workers who) self.old.play self.new.play
+            → IfOk result (λ turn. turn ≡ Idle) }
+        ensures moved { result ≡ Ok Moved → Moves self.old.play self.new.play }
+
+        // The chain goes on with the same stages and input, and no other guest is changed.
+        ensures goes_on { OnOk result (GoesOn self.old self.new) }
+        ensures others { (g : ℕ) → g ≢ who → worker_at self.new.workers g ≡ worker_at self.old.workers g }
+        ensures many { length self.new.workers ≡ length self.old.workers }
+        ensures error { IfErr result (λ error. error ≡ ChainError.OutOfMemory) }
+        ensures failed { IsErr result ↔ (self.new.failed ≡ true) }
+        ensures again { self.old.failed ≡ true → result ≡ Err ChainError.OutOfMemory }
+    {
+        if self.failed {
+            return Err(ChainError::OutOfMemory);
+        }
+        match turn_at(&mut self.player, &mut self.workers, who, self.chunk) {
+            Ok(turn) => Ok(turn),
+            Err(_) => {
+                self.failed = true;
+                Err(ChainError::OutOfMemory)
+            }
+        }
+    }
+
+    /// The sink was told that there is no more.
+    pub fn ended(&self) -> bool
+        ensures { result ≡ (sink_of self.now.workers).closed }
+    {
+        match self.workers.as_slice() {
+            [.., sink] => sink.closed,
+            [] => false,
+        }
+    }
+
+    // What the chain has come to.
+    fn finish(self) -> Result<ChainEnd, ChainError>
+        requires { self.failed ≡ false }
+        ensures steps { IfOk result (λ end. end.steps ≡ self.play.steps) }
+        ensures replies { IfOk result (λ end. play [] start end.steps ≡ Ends end.replies self.play.state) }
+        ensures ended { IfOk result (λ end. end.ended ≡ (sink_of self.workers).closed) }
+        ensures flows { IfOk result (λ end. Flows (stages_of self.workers) (input_of self.workers) end.output end.steps) }
+        ensures composed { IfOk result (λ end. end.ended ≡ true → end.output ≡ composed (stages_of self.workers) (input_of self.workers)) }
+        ensures error { IfErr result (λ error. error ≡ ChainError.OutOfMemory) }
+    {
+        let ended = self.ended();
+        let Chain {
+            player,
+            mut workers,
+            ..
+        } = self;
+        let stream = workers.len() as u32 - 2;
+        let Some(sink) = workers.pop() else {
+            return Err(ChainError::OutOfMemory);
+        };
+        let mut output = sink.made;
+        player.add_received(stream, stream + 1, &mut output)?;
+        let (steps, replies) = player.finish();
+        Ok(ChainEnd {
+            output,
+            ended,
+            steps,
+            replies,
+        })
+    }
+}
+
+// One turn of the guest of a number.
+fn turn_at(
+    player: &mut Player,
+    workers: &mut [Worker],
+    who: u32,
+    chunk: u32,
+) -> Result<ChainTurn, OutOfMemory>
+    requires chunk { (16 ≤ chunk) × (chunk ≤ 64) }
+    requires there { who < length workers.old }
+    ensures turned { IfOk result (λ turn. Turned who chunk (worker_at workers.old who) player.old turn
+        (worker_at workers.new who) player.new) }
+    ensures others { (g : ℕ) → g ≢ who → worker_at workers.new g ≡ worker_at workers.old g }
+    ensures many { length workers.new ≡ length workers.old }
+    ensures kept { OnOk result (IsJoined player.old workers.old → IsJoined player.new workers.new) }
+    ensures stages { OnOk result (IsJoined player.old workers.old → stages_of workers.new ≡ stages_of workers.old) }
+    ensures input { OnOk result (IsJoined player.old workers.old → input_of workers.new ≡ input_of workers.old) }
+{
+    take_turn(player, &mut workers[who as usize], who, chunk)
+}
+
+// Turns by a schedule.
+fn take_turns(chain: &mut Chain, schedule: &[u32]) -> Result<(), ChainError>
+    ensures error { IfErr result (λ error. error ≡ ChainError.OutOfMemory) }
+    ensures turns { OnOk result (TakesTurns chain.old.chunk (map (λ s. s % length chain.old.workers) schedule.now)
+        chain.old.play chain.new.play) }
+    ensures goes_on { OnOk result (GoesOn chain.old chain.new) }
+    ensures runs { OnOk result (chain.old.failed ≡ false → chain.new.failed ≡ false) }
+{
+    for who in schedule {
+        let guests = chain.workers.len() as u32;
+        chain.turn(*who % guests)?;
+    }
+    Ok(())
+}
+
+// One round of all guests.
+fn take_round(chain: &mut Chain) -> Result<(), ChainError>
+    ensures error { IfErr result (λ error. error ≡ ChainError.OutOfMemory) }
+    ensures turns { OnOk result (TakesSome chain.old.chunk chain.old.play chain.new.play) }
+    ensures goes_on { OnOk result (GoesOn chain.old chain.new) }
+    ensures runs { OnOk result (chain.old.failed ≡ false → chain.new.failed ≡ false) }
+{
+    let guests = chain.workers.len() as u32;
+    for who in 0..guests {
+        chain.turn(who)?;
+    }
+    Ok(())
+}
+
+/// A chain in which guests take turns by a schedule, guest `s mod (n + 2)` for each of its numbers.
+pub fn chain_run(
+    alloc: Global,
+    stages: &[Stage],
+    input: Vec<u8>,
+    chunk: u32,
+    schedule: &[u32],
+) -> Result<ChainEnd, ChainError>
+    requires { (16 ≤ chunk) × (chunk ≤ 64) }
+
+    // The replies are those of the machine's play, and the steps those of these guests' turns, in order.
+    ensures runs { IfOk result (λ end. IsRun chunk (map (λ s. s % (length stages.now + 2)) schedule.now) end.steps end.replies) }
+
+    // What stream 0 received is a front of the input, and what each stream behind a stage received a front
+    // of what the stage makes of what was received before it. The output is what the last one received.
+    ensures flows { IfOk result (λ end. Flows stages.now input.items end.output end.steps) }
+
+    // Where the chain has ended, the output is what the stages make of the input.
+    ensures composed { IfOk result (λ end. end.ended ≡ true → end.output ≡ composed stages.now input.items) }
+    ensures err { IfErr result (IsFault stages.now (length input.items)) }
+{
+    let mut chain = Chain::new(alloc, stages, input, chunk)?;
+    take_turns(&mut chain, schedule)?;
+    chain.finish()
+}
+
+/// A chain in which all guests take turns, round by round, until the sink was told.
+pub fn chain_all(
+    alloc: Global,
+    stages: &[Stage],
+    input: Vec<u8>,
+    chunk: u32,
+) -> Result<ChainEnd, ChainError>
+    requires { (16 ≤ chunk) × (chunk ≤ 64) }
+
+    // The replies are those of the machine's play, and the steps those of guests' turns.
+    ensures runs { IfOk result (λ end. (whos : List ℕ) × IsRun chunk whos end.steps end.replies) }
+    ensures flows { IfOk result (λ end. Flows stages.now input.items end.output end.steps) }
+
+    // It ends, and the output is what the stages make of the input.
+    ensures ended { IfOk result (λ end. end.ended ≡ true) }
+    ensures composed { IfOk result (λ end. end.output ≡ composed stages.now input.items) }
+    ensures err { IfErr result (IsFault stages.now (length input.items)) }
+{
+    let mut chain = Chain::new(alloc, stages, input, chunk)?;
+    while !chain.ended() {
+        take_round(&mut chain)?;
+    }
+    chain.finish()
+}

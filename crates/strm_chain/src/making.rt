@@ -1,0 +1,120 @@
+//! The making of a chain: its guests, and the streams from each to the next.
+//!
+//! Meaning: `Making.antt`. Ours.
+
+ghost use Rattle.std.specs.Prelude.{◌≡◌, ◌≤◌, ◌+◌, ◌++◌, ◌∷◌, [], ℕ, length, IfOk, OnOk, Some};
+ghost use Rattle.strm_chain.specs.Keeping.{new_worker, IsJoined};
+ghost use Rattle.strm_chain.specs.Making.{AreMade, MakesPair, source_of, IsReady};
+
+use crate::lists::Bytes8;
+use crate::playing::Player;
+use crate::stages::{Stage, Work};
+use crate::workers::{BYTES, Doing, Worker};
+use std::alloc::Global;
+use strm_codes::counts::OutOfMemory;
+use strm_machine::replies::{Pair, Reply};
+use strm_machine::steps::Step;
+
+// The bytes of a guest's memory.
+const MEMORY: u32 = 8_192;
+
+/// The guests and the streams of a chain of these stages.
+pub(crate) fn make_chain(
+    alloc: Global,
+    stages: &[Stage],
+    input: Vec<u8>,
+) -> Result<(Player, Vec<Worker>), OutOfMemory>
+    requires { length stages.now ≤ 8 }
+    ensures ready { IfOk result (λ made. IsReady stages.now input.items made.0 made.1.items) }
+    ensures joined { IfOk result (λ made. IsJoined made.0 made.1.items) }
+{
+    let mut player = Player::new(alloc);
+    add_guests(&mut player, stages.len() as u32 + 2)?;
+    let mut workers = Vec::new(alloc);
+    let mut pair = make_pair(&mut player, 0)?;
+    add_worker(&mut workers, source(input, pair.write))?;
+    for (i, stage) in stages.iter().enumerate() {
+        let read = pair.read;
+        pair = make_pair(&mut player, i as u32 + 1)?;
+        add_worker(&mut workers, new_worker(alloc, *stage, read, Some(pair.write)))?;
+    }
+    add_worker(&mut workers, new_worker(alloc, Stage::Copy, pair.read, None))?;
+    player.played();
+    Ok((player, workers))
+}
+
+// So many guests.
+fn add_guests(player: &mut Player, count: u32) -> Result<(), OutOfMemory>
+    requires { AreMade 0 0 player.old }
+    ensures { OnOk result (AreMade count 0 player.new) }
+{
+    for _ in 0..count {
+        add_guest(player)?;
+    }
+    Ok(())
+}
+
+// A guest more.
+fn add_guest(player: &mut Player) -> Result<(), OutOfMemory>
+    ensures { (n : ℕ) → AreMade n 0 player.old → OnOk result (AreMade (n + 1) 0 player.new) }
+{
+    match player.play(&Step::Guest { size: MEMORY }) {
+        Ok(Reply::Number(_)) => Ok(()),
+        _ => Err(OutOfMemory),
+    }
+}
+
+// A stream from a guest to the next one.
+fn make_pair(player: &mut Player, writer: u32) -> Result<Pair, OutOfMemory>
+    requires { writer ≤ 8 }
+    ensures { IfOk result (λ pair. MakesPair writer player.old pair player.new) }
+{
+    match player.play(&Step::Between {
+        writer,
+        reader: writer + 1,
+        ty: BYTES,
+    }) {
+        Ok(Reply::Pair(pair)) => Ok(pair),
+        _ => Err(OutOfMemory),
+    }
+}
+
+// The source, which has all its bytes to write.
+fn source(input: Vec<u8>, write: u32) -> Worker
+    ensures { result ≡ source_of input.items write }
+{
+    Worker {
+        read: None,
+        write: Some(write),
+        work: Work::of(Stage::Copy),
+        made: Bytes8::from_vec(input),
+        sent: 0,
+        doing: Doing::Nothing,
+        closed: true,
+    }
+}
+
+// A guest that does a stage, or the sink.
+fn new_worker(alloc: Global, stage: Stage, read: u32, write: Option<u32>) -> Worker
+    ensures { result ≡ record (new_worker stage) { read = Some read; write = write } }
+{
+    Worker {
+        read: Some(read),
+        write,
+        work: Work::of(stage),
+        made: Bytes8::new(alloc),
+        sent: 0,
+        doing: Doing::Nothing,
+        closed: false,
+    }
+}
+
+// A guest more in the list.
+fn add_worker(workers: &mut Vec<Worker>, worker: Worker) -> Result<(), OutOfMemory>
+    ensures { OnOk result (workers.new.items ≡ workers.old.items ++ worker ∷ []) }
+{
+    match workers.push(worker) {
+        Ok(()) => Ok(()),
+        Err(_) => Err(OutOfMemory),
+    }
+}
