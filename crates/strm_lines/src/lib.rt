@@ -8,4 +8,4 @@ mod lines;
 pub mod lists;
 pub mod parsing;
 pub mod texts;
-mod words;
+pub mod words;

@@ -1,0 +1,6 @@
+pub mod Carrying
+pub mod Lines
+pub mod LineReading
+pub mod Texts
+pub mod Serving
+pub mod Answering
