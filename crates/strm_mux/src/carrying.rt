@@ -1,0 +1,60 @@
+//! Lanes carried from one guest to another, over one stream of bytes.
+//!
+//! Meaning: `OneStream.antt` of `strm_one_stream`, for the steps and what they move; `Carrying.antt`, for the
+//! lanes. Ours.
+
+ghost use Rattle.std.specs.Prelude.{◌≡◌, ◌≤◌, List, length, IfOk, IfErr};
+ghost use Rattle.strm_frames.specs.Demuxes.{IsFed};
+ghost use Rattle.strm_frames.specs.Frames.{Frame};
+ghost use Rattle.strm_frames.specs.Muxes.{Carries};
+ghost use Rattle.strm_laws.specs.Conservation.{got, moments, last};
+ghost use Rattle.strm_machine.specs.Moments.{received};
+ghost use Rattle.strm_machine.specs.Plays.{play, Ends};
+ghost use Rattle.strm_mux.specs.Carrying.{Delivers};
+ghost use Rattle.strm_one_stream.specs.OneStream.{script_of, items_of};
+ghost use Rattle.strm_session.specs.Runs.{start};
+
+use std::alloc::Global;
+use strm_frames::demuxes::Demux;
+use strm_frames::errors::MuxError;
+use strm_frames::muxes::Mux;
+use strm_lines::lists::{Replies, Steps};
+
+/// What was carried.
+#[derive(Drop)]
+pub struct Carried {
+    /// The lanes, taken apart again.
+    pub demux: Demux,
+    /// The steps by which they were carried.
+    pub steps: Steps,
+    /// The machine's replies.
+    pub replies: Replies,
+    /// How many bytes came over the stream.
+    pub moved: u64,
+}
+
+/// Carries all bytes of a mux over a new store, from guest 0 to guest 1, on one stream: they are written in
+/// pieces of `write` bytes, read in pieces of `read`, and fed to a new demux.
+pub fn carry(alloc: Global, mux: &Mux, write: u32, read: u32) -> Result<Carried, MuxError>
+    requires write { (16 ≤ write) × (write ≤ 64) }
+    requires read { (16 ≤ read) × (read ≤ 64) }
+    requires few { length mux.now.bytes ≤ 1048576 }
+
+    // The replies are those of the machine's play on these steps, with no host ends.
+    ensures steps { IfOk result (λ c. c.steps ≡ script_of write read mux.now.bytes) }
+    ensures played { IfOk result (λ c. play [] start c.steps ≡ Ends c.replies (last start c.steps)) }
+
+    // What the stream got is the mux's bytes, in order, and as many were received.
+    ensures got { IfOk result (λ c. got 0 (moments start c.steps) ≡ items_of mux.now.bytes) }
+    ensures moved { IfOk result (λ c. (c.moved ≡ length mux.now.bytes)
+        × (c.moved ≡ received 0 (last start c.steps))) }
+
+    // Each lane is what was put on it.
+    ensures fed { IfOk result (λ c. IsFed c.demux mux.now.bytes) }
+    ensures delivers { (given : List Frame) → Carries mux.now given → IfOk result (λ c. Delivers c.demux given) }
+
+    // Nothing but want of memory is an error.
+    ensures err { IfErr result (λ error. error ≡ MuxError.OutOfMemory) }
+{
+    unreachable!()
+}

@@ -1,0 +1,6 @@
+//! Many lanes carried on one stream of bytes from one guest to another.
+//!
+//! It stands on `strm_frames`, which knows nothing of the store, and on runs of the store.
+#![tactic(auto)]
+
+pub mod carrying;
