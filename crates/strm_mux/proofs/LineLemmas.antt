@@ -123,7 +123,7 @@ take_are : (n : ℕ) (earlier given : List Frame) → AreFramesAfter earlier giv
 unfolding AreFramesAfter
 take_are zero earlier given h = tt
 take_are (suc n) earlier [] h = tt
-take_are (suc n) earlier (f ∷ given) h = (h.0, (h.1.0, take_are n (earlier ++ f ∷ []) given h.1.1))
+take_are (suc n) earlier (f ∷ given) h = (h.0, h.1, take_are n (earlier ++ f ∷ []) given h.2)
 
 puts_first : (n : ℕ) (lines : List (List ℕ)) (given : List Frame) → Puts lines given → Puts (take n lines) (take n given)
 puts_first n lines given p = record {
@@ -173,7 +173,7 @@ spelling_more given f = flat_map-append spelled given (f ∷ []) ∙ ap (λ s. s
 
 are_more : (given : List Frame) (f : Frame) → AreFrames given → IsFrame f → ends (named f) given ≡ false → AreFrames (given ++ f ∷ [])
 unfolding AreFramesAfter
-are_more given f a i e = are_append [] given (f ∷ []) a (i, (e, tt))
+are_more given f a i e = are_append [] given (f ∷ []) a (i, e, tt)
 
 -- a line more
 pub held_more : (old new : Written) (bytes rest line after : List ℕ) (count : ℕ) → HoldsSoFar old bytes rest count → lines_of rest ≡ line ∷ lines_of after → Takes old new line → HoldsSoFar new bytes after (count + 1)
@@ -217,12 +217,12 @@ last_of earlier [] (y ∷ others) line e f g a =
       frame = y;
       same = heads (line_of y) line (map line_of others) [] e;
       has = All-head HasLine y others g;
-      unended = a.1.0;
+      unended = a.1;
     })
 last_of earlier (x ∷ given) [] line e f g a = cc
 last_of earlier (x ∷ given) (y ∷ others) line e f g a =
     let one : y ≡ x = same_frame y x (All-head HasLine y others g) (All-head HasLine x given f) (heads (line_of y) (line_of x) (map line_of others) (map line_of given ++ line ∷ []) e) in
-    let rest = last_of (earlier ++ y ∷ []) given others line (tails (line_of y) (line_of x) (map line_of others) (map line_of given ++ line ∷ []) e) (All-tail HasLine x given f) (All-tail HasLine y others g) a.1.1 in
+    let rest = last_of (earlier ++ y ∷ []) given others line (tails (line_of y) (line_of x) (map line_of others) (map line_of given ++ line ∷ []) e) (All-tail HasLine x given f) (All-tail HasLine y others g) a.2 in
     rw (append_assoc earlier (y ∷ []) given, one) at rest
 
 take_behind : (xs more : List (List ℕ)) (line : List ℕ) (n : ℕ) → n ≡ length xs → take (n + 1) (xs ++ line ∷ more) ≡ xs ++ line ∷ []

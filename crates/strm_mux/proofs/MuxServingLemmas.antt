@@ -66,29 +66,29 @@ Answered status = (status ≡ 0) ⊎ ((status ≡ 2) ⊎ (status ≡ 3))
 few : (status : ℕ) → Answered status → (status ≤ 3) × (status ≢ 1)
 few status a = ⊎_elim (λ e. (omega (arith, e), λ q. omega (arith, e, q))) (λ b. ⊎_elim (λ e. (omega (arith, e), λ q. omega (arith, e, q))) (λ e. (omega (arith, e), λ q. omega (arith, e, q))) b) a
 
-module _ {words : List (List ℕ)} {rest : Option (List ℕ)} {before after status : ℕ} {text : List ℕ} where
+module _ {words : List (List ℕ)} {write read : ℕ} {rest : Option (List ℕ)} {before after status : ℕ} {text : List ℕ} where
   -- what is told of an input that was read is told of its source, which is at its end then
-  pub told_of_source : (left : Option (List ℕ)) (input : List ℕ) → IsSizes words → IfSome left (λ bytes. input ≡ bytes) → IsAtEnd rest → AnswersInput input status text → IsOutput words left rest before after status text
+  pub told_of_source : (left : Option (List ℕ)) (input : List ℕ) → AreSizes words write read → IfSome left (λ bytes. input ≡ bytes) → IsAtEnd rest → AnswersInput write read input status text → IsOutput words left rest before after status text
   told_of_source None input r e end h =
       let few = few status h.known in
       record {
         known = omega (arith, few.0);
-        sizes = λ _. r;
+        sizes = λ _. (write, read, r);
         done = λ _. tt;
         usage = λ s. absurd (few.1 s);
-        bad_line = λ s. let bad = h.bad_line s in (bad.0, (tt, bad.1.1));
+        bad_line = λ s. let bad = h.bad_line s in (bad.0, tt, bad.2);
         too_long = λ s. (tt, (h.too_long s).1);
         read_fault = λ s. absurd (omega (arith, few.0, s));
         within = λ _ _ _. tt;
         whole = λ _ _ _. end;
       }
   told_of_source (Some bytes) input r e end h =
-      let k = subst (λ b. AnswersInput b status text) e h in
+      let k = subst (λ b. AnswersInput write read b status text) e h in
       let few = few status k.known in
       record {
         known = omega (arith, few.0);
-        sizes = λ _. r;
-        done = k.done;
+        sizes = λ _. (write, read, r);
+        done = λ s. (write, read, r, k.done s);
         usage = λ s. absurd (few.1 s);
         bad_line = k.bad_line;
         too_long = k.too_long;
@@ -111,13 +111,13 @@ module _ {words : List (List ℕ)} {rest : Option (List ℕ)} {before after stat
 
     done_of : (IsTooLong input → ⊥) → (given : List Frame) → Puts (lines_of input) given → status ≡ 0
     done_of long given p =
-        let no_bad : status ≢ 2 = λ q. let bad = h.bad_line q in puts_not_bad (lines_of input) given bad.0 p bad.1.0 in
+        let no_bad : status ≢ 2 = λ q. let bad = h.bad_line q in puts_not_bad (lines_of input) given bad.0 p bad.1 in
         let no_long : status ≢ 3 = λ q. long (h.too_long q).0 in
         omega (arith, h.known, not_usage, no_bad, no_long, not_fault)
 
     bad_line_of : (IsTooLong input → ⊥) → (line : ℕ) → IsFirstBad (lines_of input) line → status ≡ 2
     bad_line_of long line bad =
-        let not_done : status ≢ 0 = λ q. let done = h.done q in puts_not_bad (lines_of input) done.given line done.puts bad in
+        let not_done : status ≢ 0 = λ q. let done = h.done q in puts_not_bad (lines_of input) done.3.given line done.3.puts bad in
         let no_long : status ≢ 3 = λ q. long (h.too_long q).0 in
         omega (arith, h.known, not_usage, not_done, no_long, not_fault)
 

@@ -3,7 +3,7 @@ use Rattle.std.specs.Prelude.{ℕ, zero, suc, ◌==◌, ◌||◌, Bool, true, fa
 use Rattle.strm_lines.specs.Grammar.{words}
 use Rattle.strm_lines.specs.Words.{hex_pairs}
 use Rattle.strm_lines.specs.Text.{ended}
-use Rattle.strm_frames.specs.Frames.{Frame, named, spelling, lane_in, ends}
+use Rattle.strm_frames.specs.Frames.{Frame, named, lane_in, ends}
 
 -- one of these names the lane
 unfoldable pub names : ℕ → List Frame → Bool
@@ -40,9 +40,9 @@ lanes_below (suc lane) given = lanes_below lane given ++ lane_line lane given
 abbrev pub moved_text : ℕ → List ℕ
 moved_text moved = words (codes "moved" ∷ decimal moved ∷ [])
 
--- the whole text, where all frames of what was put came over the stream
-abbrev pub output_text : List Frame → List ℕ
-output_text given = lanes_below 256 given ++ ended (moved_text (length (spelling given)))
+-- the whole text: the lanes from 0 to 255, and how many bytes came
+abbrev pub output_text : List Frame → ℕ → List ℕ
+output_text given moved = lanes_below 256 given ++ ended (moved_text moved)
 
 -- what is written where the words of the program are no two sizes
 abbrev pub usage_text : List ℕ

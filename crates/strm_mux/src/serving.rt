@@ -2,14 +2,16 @@
 //!
 //! Meaning: `Serving.antt`. Ours.
 
-ghost use Rattle.std.specs.Prelude.{◌≡◌, ◌≢◌, ◌≤◌, ◌+◌, ◌⊎◌, ℕ, List, [], length, map, IfOk, SomeIff, Some, None, OnOk, string_bytes};
+ghost use Rattle.std.specs.Prelude.{◌≡◌, ◌≢◌, ◌≤◌, ◌+◌, ◌⊎◌, ℕ, List, [], length, map, IfOk, IfSome, None, string_bytes};
 ghost use Rattle.std.specs.Io.KnownBytes.{Appends, Consumes};
 ghost use Rattle.strm_frames.specs.Frames.{Frame};
 ghost use Rattle.strm_lines.specs.Lines.{lines_of};
+ghost use Rattle.strm_lines.specs.Reading.{number_within};
 ghost use Rattle.strm_ports.specs.Faults.{Rose, TakesPart};
+ghost use Rattle.strm_mux.specs.Answering.{AnswersInput};
 ghost use Rattle.strm_mux.specs.LineReading.{Holds};
 ghost use Rattle.strm_mux.specs.Lines.{Puts, IsFirstBad, IsTooLong};
-ghost use Rattle.strm_mux.specs.Serving.{AreSizes, IsSizes, IsCarried, IsOutput, IsStatus, IsFaultless};
+ghost use Rattle.strm_mux.specs.Serving.{AreSizes, IsSizes, IsCarriedBy, IsOutput, IsStatus, IsFaultless};
 
 use crate::carrying::carry;
 use crate::lines::{LinesError, mux_of};
@@ -173,7 +175,7 @@ fn fixed(alloc: Global, status: u8, text: &[u8]) -> Result<Output, OutOfMemory>
 fn answer_input(alloc: Global, input: &[u8], sizes: Sizes) -> Result<Output, OutOfMemory>
     requires write { (16 ≤ sizes.write) × (sizes.write ≤ 64) }
     requires read { (16 ≤ sizes.read) × (sizes.read ≤ 64) }
-    ensures told { IfOk result (λ a. AnswersInput input.now a.status a.text) }
+    ensures told { IfOk result (λ a. AnswersInput sizes.write sizes.read input.now a.status a.text) }
 {
     if input.len() > MAX_BYTES {
         return fixed(alloc, TOO_LONG, too_long_text());
@@ -198,7 +200,7 @@ fn answer_mux(alloc: Global, mux: &Mux, sizes: Sizes) -> Result<Output, OutOfMem
     requires few { length mux.now.bytes ≤ 1048576 }
     ensures done { IfOk result (λ a. a.status ≡ DONE) }
     ensures carried { (input : List ℕ) → Holds mux.now (lines_of input) →
-        IfOk result (λ a. IsCarried input a.text) }
+        IfOk result (λ a. IsCarriedBy sizes.write sizes.read input a.text) }
 {
     match carry(alloc, mux, sizes.write, sizes.read) {
         Ok(carried) => {

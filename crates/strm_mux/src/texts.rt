@@ -8,7 +8,7 @@ ghost use Rattle.strm_lines.specs.Text.{ended};
 ghost use Rattle.strm_frames.specs.Frames.{Frame};
 ghost use Rattle.strm_mux.specs.Carrying.{Delivers};
 ghost use Rattle.strm_mux.specs.Lines.{HasLine};
-ghost use Rattle.strm_mux.specs.Texts.{bytes_text, lane_text, lane_line, lanes_below, moved_text, usage_text};
+ghost use Rattle.strm_mux.specs.Texts.{bytes_text, lane_text, lane_line, lanes_below, output_text, usage_text};
 
 use std::alloc::Global;
 use strm_codes::counts::OutOfMemory;
@@ -19,7 +19,7 @@ use strm_lines::texts::{hex_digit, push_number};
 /// The text of the lanes that lines put something on or ended, and of how many bytes came.
 pub fn output_text(alloc: Global, demux: &Demux, moved: u64) -> Result<TextBytes, OutOfMemory>
     ensures { (given : List Frame) → Delivers demux.now given → All HasLine given →
-        IfOk result (λ text. text ≡ lanes_below 256 given ++ ended (moved_text moved)) }
+        IfOk result (λ text. text ≡ output_text given moved) }
 {
     let mut out = TextBytes::new(alloc);
     push_lanes(&mut out, demux)?;
