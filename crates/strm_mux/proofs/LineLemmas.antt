@@ -1,10 +1,10 @@
 -- A line is read as what it puts exactly where it spells it.
-use Rattle.std.proofs.Common.{◌≡◌, ◌≢◌, true, false, ℕ, zero, suc, ◌+◌, ◌-◌, ◌*◌, ◌<◌, ◌≤◌, List, [], ◌∷◌, ◌++◌, length, map, take, get_or, codes, Option, Some, None, refl, sym, ap, ◌∙◌, subst, arith, inl, inr, append_assoc, length-append}
+use Rattle.std.proofs.Common.{◌≡◌, ◌≢◌, Bool, true, false, ℕ, zero, suc, ◌+◌, ◌-◌, ◌*◌, ◌<◌, ◌≤◌, List, [], ◌∷◌, ◌++◌, length, map, take, get_or, codes, Option, Some, None, Result, Ok, Err, refl, drop, sym, ap, ◌∙◌, subst, arith, inl, inr, append_assoc, length-append}
 use Rattle.std.specs.Fmt.{decimal}
-use Rattle.std.specs.Prelude.{All}
+use Rattle.std.specs.Prelude.{All, OnOk, ◌↔◌, ◌==◌, if◌then◌else◌, slice_index_or}
 use Rattle.std.specs.List.{flat_map}
 use Rattle.std.proofs.lemmas.Bool.{cases_lt}
-use Rattle.std.proofs.lemmas.List.{append-nil, take_at, take_all, length-map, map-append, take-map}
+use Rattle.std.proofs.lemmas.List.{append-nil, take_at, take_all, drop_all, length-map, map-append, take-map}
 use Rattle.std.proofs.lemmas.List.Concat.{flat_map-append}
 use Rattle.std.proofs.lemmas.List.Elements.{All-nil, All-cons, All-push, All-head, All-tail, All-take}
 use Rattle.std.proofs.lemmas.Option.{same_Some}
@@ -17,8 +17,11 @@ use Rattle.strm_lines.proofs.HexLemmas.{length-hex_pairs}
 use Rattle.strm_lines.proofs.NumberLemmas.{IsWithout-decimal}
 use Rattle.strm_lines.proofs.ReadingLemmas.{IsReading, IsWord, IsReading-within, IsReading-hex, IsReading-followed_by, behind_sound, behind_complete}
 use Rattle.strm_frames.specs.Frames.{Frame, Data, End, named, spelled, spelling, IsFrame, ends, AreFrames, AreFramesAfter}
-use Rattle.strm_frames.specs.Muxes.{Written, Carries}
+use Rattle.strm_frames.specs.declared.errors.MuxError.{MuxError}
+use Rattle.strm_frames.specs.declared.errors.MuxError.TheVariants as errors
+use Rattle.strm_frames.specs.Muxes.{Written, pieces_of, Carries}
 use Rattle.strm_frames.proofs.DemuxLemmas.{are_append}
+use Rattle.strm_frames.proofs.MuxLemmas.{pieces_none, pieces_some}
 use Rattle.strm_mux.specs.Lines.{line_of, HasLine, Puts, IsFirstBad}
 use Rattle.strm_mux.specs.LineReading.{lane_read, data_read, end_read, other_read, front_read, line_read, Takes, IsRefused, Holds, HoldsSoFar}
 
@@ -154,6 +157,45 @@ one_bad lines line other b o =
       | inr h ↦ elim (cases_lt other line) [ inl i ↦ absurd (none_before lines other line o b i) | inr i ↦ omega arith ]
     ]
 
+-- WHAT A MUX TAKES OF A LINE
+
+-- so few bytes are one frame
+one_piece : (lane : ℕ) (bytes : List ℕ) → 0 < length bytes → length bytes ≤ 255 → spelling (pieces_of lane bytes) ≡ spelled (Data lane bytes)
+one_piece lane bytes some few =
+    let rest : drop 255 bytes ≡ [] = drop_all 255 bytes few in
+    let none : pieces_of lane (drop 255 bytes) ≡ [] = pieces_none lane (drop 255 bytes) (ap length rest) in
+    ap spelling (pieces_some lane bytes some) ∙ rw (none, take_all 255 bytes few) (append-nil (spelled (Data lane bytes)))
+
+-- a lane that is not said to have ended did not
+not_ended : (flag : Bool) (r : Result (Unit {0}) MuxError) (lane : ℕ) (u : Unit {0}) → r ≡ Ok u → ((r ≡ Err (errors.Ended lane)) ↔ (flag ≡ true)) → flag ≡ false
+not_ended false r lane u e f = refl
+not_ended true r lane u e f = let g : r ≡ Err (errors.Ended lane) = f.1 refl in cc
+
+on_ok : {P : Type 0} (r : Result (Unit {0}) MuxError) (u : Unit {0}) → r ≡ Ok u → OnOk r P → P
+on_ok (Ok v) u e p = p
+on_ok (Err error) u e p = cc
+
+pub takes_data : (old now new : Written) (line piece : List ℕ) (lane : ℕ) (bytes : List ℕ) (r : Result (Unit {0}) MuxError) (u : Unit {0}) → line_read line ≡ Some (Data lane bytes) → piece ≡ bytes → r ≡ Ok u → new ≡ now → OnOk r (now ≡ record old { bytes = old.bytes ++ spelling (pieces_of lane piece) }) → ((given : List Frame) → Carries old given → OnOk r (Carries now (given ++ Data lane piece ∷ []))) → ((r ≡ Err (errors.Ended lane)) ↔ (slice_index_or old.ended lane false ≡ true)) → Takes old new line
+takes_data old now new line piece lane bytes r u read same ok is put carries ended =
+    let has : HasLine (Data lane bytes) = (line_sound line (Data lane bytes) read).1 in
+    rw is (record {
+      frame = Data lane bytes;
+      read = read;
+      unended = not_ended (slice_index_or old.ended lane false) r lane u ok ended;
+      bytes = ap (λ (w : Written). w.bytes) (on_ok r u ok put) ∙ ap (λ s. old.bytes ++ s) (rw same (one_piece lane bytes has.1.some (omega (arith, has.1.most))));
+      carries = λ given c. on_ok r u ok (rw same at (carries given c));
+    })
+
+pub takes_end : (old now new : Written) (line : List ℕ) (lane : ℕ) (flags : List Bool) (r : Result (Unit {0}) MuxError) (u : Unit {0}) → line_read line ≡ Some (End lane) → r ≡ Ok u → new ≡ now → OnOk r (now ≡ record { bytes = old.bytes ++ spelled (End lane); ended = flags }) → ((given : List Frame) → Carries old given → OnOk r (Carries now (given ++ End lane ∷ []))) → ((r ≡ Err (errors.Ended lane)) ↔ (slice_index_or old.ended lane false ≡ true)) → Takes old new line
+takes_end old now new line lane flags r u read ok is put carries ended =
+    rw is (record {
+      frame = End lane;
+      read = read;
+      unended = not_ended (slice_index_or old.ended lane false) r lane u ok ended;
+      bytes = ap (λ (w : Written). w.bytes) (on_ok r u ok put);
+      carries = λ given c. on_ok r u ok (carries given c);
+    })
+
 -- WHAT A MUX HOLDS OF THEM
 
 pub nothing_held : (written : Written) (bytes : List ℕ) → written.bytes ≡ [] → Carries written [] → HoldsSoFar written bytes bytes 0
@@ -257,16 +299,16 @@ joined lines = flat_map (λ l. l) lines
 
 joined_first : (b : ℕ) (lines : List (List ℕ)) → length (joined (on_first b lines)) ≡ 1 + length (joined lines)
 joined_first b [] = refl
-joined_first b (l ∷ lines) = refl
+joined_first b (l ∷ lines) = omega arith
 
 length-lines : (bytes : List ℕ) → length (joined (lines_of bytes)) ≤ length bytes
 unfolding lines_of
 length-lines [] = omega arith
-length-lines (b ∷ bytes) = by (b == 10)
+length-lines (b ∷ bytes) = one_more (b == 10) (length-lines bytes)
   where
-    by : (t : Bool) → length (joined (if t then [] ∷ lines_of bytes else on_first b (lines_of bytes))) ≤ length (b ∷ bytes)
-    by true = omega (arith, length-lines bytes)
-    by false = omega (arith, joined_first b (lines_of bytes), length-lines bytes)
+    one_more : (t : Bool) → length (joined (lines_of bytes)) ≤ length bytes → length (joined (if t then [] ∷ lines_of bytes else on_first b (lines_of bytes))) ≤ length (b ∷ bytes)
+    one_more true h = omega (arith, h)
+    one_more false h = omega (arith, joined_first b (lines_of bytes), h)
 
 short_lines : (given : List Frame) → All HasLine given → length (spelling given) ≤ length (joined (map line_of given))
 short_lines [] h = omega arith

@@ -82,6 +82,7 @@ fn put_line(mux: &mut Mux, line: &[u8]) -> Result<(), Refused>
 }
 
 // What a line says, if it is in the grammar.
+#[tactic(auto, unfolding(crate::specs::LineReading::line_read))]
 fn read_line(line: &[u8]) -> Option<Line>
     ensures { option_map frame_of result ≡ line_read line.now }
 {
@@ -95,6 +96,7 @@ fn read_line(line: &[u8]) -> Option<Line>
 }
 
 // A lane and its bytes.
+#[tactic(auto, unfolding(strm_lines::specs::Reading::leading))]
 fn lane_and_bytes(rest: &[u8]) -> Option<(u8, Chunk)>
     ensures { result ≡ followed_by lane_read hex rest.now }
 {
