@@ -1,13 +1,13 @@
 -- A piece is fed: to what was fed before it adds itself.
-use Rattle.std.proofs.Common.{Some, Vec, Global, map, zero, suc, ◌≡◌, ◌≢◌, true, false, Bool, ◌||◌, ℕ, ◌+◌, ◌-◌, ◌<◌, ◌≤◌, List, [], ◌∷◌, ◌++◌, length, take, drop, get_or, set, refl, sym, ap, ◌∙◌, arith, inl, inr, length-append}
+use Rattle.std.proofs.Common.{Some, Vec, Global, map, zero, suc, ◌≡◌, ◌≢◌, true, false, Bool, ◌||◌, ℕ, ◌+◌, ◌<◌, List, [], ◌∷◌, ◌++◌, length, take, drop, get_or, set, refl, sym, ap, ◌∙◌, arith, inl, inr, length-append}
 use Rattle.std.proofs.lemmas.Bool.Decides.{eqb_tells}
-use Rattle.std.proofs.lemmas.List.{append-nil, append_assoc, get_or-set_same, get_or-set_other, length-set, take_at, drop_at, take-take, length-take, ext_get_or}
+use Rattle.std.proofs.lemmas.List.{append-nil, append_assoc, get_or-set_same, get_or-set_other, length-set, take_at, drop_at, take-append-drop}
 use Rattle.std.proofs.lemmas.List.Concat.{flat_map-append}
-use Rattle.strm_frames.specs.Frames.{Frame, Data, End, named, spelled, spelling, part_for, lane_in, is_end_of, ends, AreFramesAfter}
+use Rattle.strm_frames.specs.Frames.{Frame, Data, End, named, spelled, spelling, part_for, is_end_of, ends, AreFramesAfter}
 use Rattle.strm_frames.specs.Streams.{IsPartOfFrame, placed, IsFault, Faults}
 use Rattle.strm_frames.specs.Demuxes.{Heard, IsFed, are_unset, error_of}
 use Rattle.strm_frames.specs.Fronts.{Whole, front_of}
-use Rattle.strm_frames.specs.Taking.{flagged, flags_after, AreAllowed, AreEach, IsFlagged, Surveys, SurveysFault, IsHalted, Appends, AppendsSome, Retracts}
+use Rattle.strm_frames.specs.Taking.{flagged, flags_after, AreAllowed, AreEach, IsFlagged, Surveys, SurveysFault, IsHalted, Appends}
 use Rattle.strm_frames.specs.declared.errors.Fault.{Fault}
 use Rattle.strm_frames.specs.declared.errors.Fault.TheVariants.{BadKind, EmptyFrame, AfterEnd}
 use Rattle.strm_frames.specs.declared.errors.MuxError.{MuxError}
@@ -19,13 +19,13 @@ use Rattle.strm_frames.proofs.TakingLemmas.{halts_part}
 
 -- ONE LIST OF FRAMES
 
-each_allowed : (flags : List Bool) (frames : List Frame) → AreAllowed flags frames → AreEach frames
+pub each_allowed : (flags : List Bool) (frames : List Frame) → AreAllowed flags frames → AreEach frames
 unfolding AreAllowed AreEach
 each_allowed flags [] a = tt
 each_allowed flags (f ∷ fs) a = (a.0, a.1, each_allowed (flagged flags f) fs a.3)
 
 -- whole frames with none behind them are one list
-same_whole : (fs gs : List Frame) (r l : List ℕ) → spelling fs ++ r ≡ spelling gs ++ l → AreEach fs → AreEach gs → IsHalted r → IsHalted l → fs ≡ gs
+pub same_whole : (fs gs : List Frame) (r l : List ℕ) → spelling fs ++ r ≡ spelling gs ++ l → AreEach fs → AreEach gs → IsHalted r → IsHalted l → fs ≡ gs
 unfolding AreEach
 same_whole [] [] r l e a b p q = refl
 same_whole [] (g ∷ gs) r l e a b p q =
@@ -34,16 +34,16 @@ same_whole (f ∷ fs) [] r l e a b p q =
     absurd (q.none f (spelling fs ++ r) (ap front_of (sym e ∙ append_assoc (spelled f) (spelling fs) r) ∙ front-spelled f (spelling fs ++ r) a.0))
 same_whole (f ∷ fs) (g ∷ gs) r l e a b p q =
     let w : Whole f (spelling fs ++ r) ≡ Whole g (spelling gs ++ l) =
-        sym (front-spelled f (spelling fs ++ r) a.0) ∙ ap front_of (sym (append_assoc (spelled f) (spelling fs) r) ∙ e ∙ append_assoc (spelled g) (spelling gs) l) ∙ front-spelled g (spelling gs ++ l) b.0 in
+    sym (front-spelled f (spelling fs ++ r) a.0) ∙ ap front_of (sym (append_assoc (spelled f) (spelling fs) r) ∙ e ∙ append_assoc (spelled g) (spelling gs) l) ∙ front-spelled g (spelling gs ++ l) b.0 in
     let s : f ≡ g = cc in
     let t : spelling fs ++ r ≡ spelling gs ++ l = cc in
     let u : fs ≡ gs = same_whole fs gs r l t a.2 b.2 p q in
     cc
 
-nothing_halts : IsHalted []
+pub nothing_halts : IsHalted []
 nothing_halts = halts_part [] (front-none [] refl)
 
-same_spelled : (fs gs : List Frame) (b l : List ℕ) → b ≡ spelling fs → b ≡ spelling gs ++ l → AreEach fs → AreEach gs → IsHalted l → fs ≡ gs
+pub same_spelled : (fs gs : List Frame) (b l : List ℕ) → b ≡ spelling fs → b ≡ spelling gs ++ l → AreEach fs → AreEach gs → IsHalted l → fs ≡ gs
 same_spelled fs gs b l d e a c q = same_whole fs gs [] l (append-nil (spelling fs) ∙ sym d ∙ e) a c nothing_halts q
 
 -- FLAGS
@@ -70,15 +70,16 @@ tell_more flags earlier (Data l bytes) n b t = λ lane h. t lane h ∙ sym (ends
 tell_more flags earlier (End l) n b t = λ lane h.
     elim (eqb_tells l lane) [
       | inl y ↦ (let inside : l < length flags = omega arith in
-                 let one : get_or (set flags l true) lane false ≡ true = rw (← y.1) (get_or-set_same flags l true false inside) in
-                 one ∙ sym (ends_more lane earlier (End l) ∙ ended (ends lane earlier) (is_end_of lane (End l)) y.0))
+          let one : get_or (set flags l true) lane false ≡ true = rw (← y.1) (get_or-set_same flags l true false inside) in
+          one ∙ sym (ends_more lane earlier (End l) ∙ ended (ends lane earlier) (is_end_of lane (End l)) y.0))
       | inr y ↦ (let other : lane ≢ l = λ q. y.1 (sym q) in
-                 get_or-set_other flags l lane true false other ∙ t lane h ∙ sym (ends_more lane earlier (End l) ∙ unended (ends lane earlier) (is_end_of lane (End l)) y.0))
+          get_or-set_other flags l lane true false other ∙ t lane h ∙ sym (ends_more lane earlier (End l) ∙ unended (ends lane earlier) (is_end_of lane (End l)) y.0))
     ]
   where
     ended : (x y : Bool) → y ≡ true → (x || y) ≡ true
     ended true y e = refl
     ended false y e = e
+
     unended : (x y : Bool) → y ≡ false → (x || y) ≡ x
     unended x y e = rw e (or_false x)
 
@@ -110,7 +111,7 @@ are_append earlier (x ∷ xs) ys a b =
 
 -- A PIECE
 
-spelling_append : (xs ys : List Frame) → spelling (xs ++ ys) ≡ spelling xs ++ spelling ys
+pub spelling_append : (xs ys : List Frame) → spelling (xs ++ ys) ≡ spelling xs ++ spelling ys
 spelling_append xs ys = flat_map-append spelled xs ys
 
 -- the whole of what was fed
@@ -122,24 +123,37 @@ whole_of fs gs bytes piece rest b left d e w =
 place_on : (fs gs : List Frame) (place used : ℕ) → place ≡ placed (length (spelling fs)) → used ≡ length (spelling gs) → placed (place + used) ≡ placed (length (spelling (fs ++ gs)))
 place_on fs gs place used p u = omega (arith, p, u, ap length (spelling_append fs gs), length-append (spelling fs) (spelling gs))
 
-fed_ok : (h k : Heard) (bytes piece b : List ℕ) (used : ℕ) → b ≡ h.rest ++ piece → Surveys b h.ended k.ended used → Appends (take used b) h.lanes k.lanes → k.rest ≡ drop used b → k.place ≡ placed (h.place + used) → length h.ended ≡ 256 → IsFed h bytes → IsFed k (bytes ++ piece)
-fed_ok h k bytes piece b used e s a r p n d =
+-- so a piece is taken: the frames of the rest and the piece are allowed and put into the lanes, and what follows
+-- them is the rest
+pub record Takes (h k : Heard) (piece : List ℕ) : Type 0 where
+  pub bytes : List ℕ
+  pub used : ℕ
+  pub all : bytes ≡ h.rest ++ piece
+  pub surveys : Surveys bytes h.ended k.ended used
+  pub appends : Appends (take used bytes) h.lanes k.lanes
+  pub left : k.rest ≡ drop used bytes
+  pub place : k.place ≡ placed (h.place + used)
+
+fed_ok : (h k : Heard) (bytes piece : List ℕ) → Takes h k piece → length h.ended ≡ 256 → IsFed h bytes → IsFed k (bytes ++ piece)
+fed_ok h k bytes piece t n d =
     let fs = d.frames in
+    let s = t.surveys in
+    let a = t.appends in
     let gs = s.frames in
     let f = follows h.ended fs gs n d.ended s.allowed in
-    let front : take used b ≡ spelling gs = ap (take used) s.whole ∙ take_at (spelling gs) s.left used (sym s.used_is) in
-    let back : drop used b ≡ s.left = ap (drop used) s.whole ∙ drop_at (spelling gs) s.left used (sym s.used_is) in
-    let same : gs ≡ a.frames = same_spelled gs a.frames (take used b) a.left front a.whole (each_allowed h.ended gs s.allowed) a.are a.halts in
+    let front : take t.used t.bytes ≡ spelling gs = ap (take t.used) s.whole ∙ take_at (spelling gs) s.left t.used (sym s.used_is) in
+    let back : drop t.used t.bytes ≡ s.left = ap (drop t.used) s.whole ∙ drop_at (spelling gs) s.left t.used (sym s.used_is) in
+    let same : gs ≡ a.frames = same_spelled gs a.frames (take t.used t.bytes) a.left front a.whole (each_allowed h.ended gs s.allowed) a.are a.halts in
     record {
       frames = fs ++ gs;
-      splits = rw (r, back) (record {
-        whole = whole_of fs gs bytes piece h.rest b s.left d.splits.whole e s.whole;
+      splits = rw (t.left, back) (record {
+        whole = whole_of fs gs bytes piece h.rest t.bytes s.left d.splits.whole t.all s.whole;
         are = are_append [] fs gs d.splits.are f.are;
         part = s.part;
       });
       lanes = λ lane l. a.extends.each lane l ∙ rw (d.lanes lane l, ← same) (sym (flat_map-append (part_for lane) fs gs));
       ended = λ lane l. ap (λ (x : List Bool). get_or x lane false) s.flags_are ∙ f.tell lane l;
-      place = p ∙ place_on fs gs h.place used d.place s.used_is;
+      place = t.place ∙ place_on fs gs h.place t.used d.place s.used_is;
     }
 
 -- a fault by flags is one by frames
@@ -163,24 +177,6 @@ fed_fault h bytes piece b fault e s n d =
       is = fault_on fs gs (flags_after h.ended gs) h.place (length (spelling gs)) s.next fault d.place f.tell refl s.is;
     }
 
--- where memory was wanting the lanes are as they were
-lanes_again : (b : List ℕ) (used done : ℕ) (old mid new : List (List ℕ)) → AppendsSome (take used b) old mid done → Retracts (take done b) mid new → new ≡ old
-lanes_again b used done old mid new a r =
-    ext_get_or [] new old (r.same ∙ a.extends.same) (λ lane l. each lane (omega (arith, l, r.same, a.extends.same, a.long)))
-  where
-    front : take done b ≡ spelling a.frames
-    front =
-        let le : done ≤ used = omega (arith, a.done_is, ap length a.whole, length-append (spelling a.frames) a.left, length-take used b) in
-        sym (take-take done used b le) ∙ ap (take done) a.whole ∙ take_at (spelling a.frames) a.left done (sym a.done_is)
-    each : (lane : ℕ) → lane < 256 → get_or new lane [] ≡ get_or old lane []
-    each lane l =
-        let c = r.each lane l in
-        let same : a.frames ≡ c.1.frames = same_spelled a.frames c.1.frames (take done b) c.1.left front c.1.whole a.are c.1.are c.1.halts in
-        let count : c.0 ≡ length (lane_in lane a.frames) = c.1.count_is ∙ rw same refl in
-        let was = a.extends.each lane l in
-        let few : length (get_or mid lane []) - c.0 ≡ length (get_or old lane []) = omega (arith, count, ap length was, length-append (get_or old lane []) (lane_in lane a.frames)) in
-        c.2 ∙ rw (few, was) (take_at (get_or old lane []) (lane_in lane a.frames) (length (get_or old lane [])) refl)
-
 same_error : (x y : Fault) → error_of x ≡ error_of y → x ≡ y
 same_error (BadKind a) (BadKind b) e = cc
 same_error (EmptyFrame a) (EmptyFrame b) e = cc
@@ -194,22 +190,34 @@ same_error (AfterEnd a) (EmptyFrame b) e = cc
 
 -- WHAT A FEED LEAVES
 
-pub feeds_on : (h now k : Heard) (b piece : List ℕ) (used : ℕ) → h ≡ now → b ≡ h.rest ++ piece → Surveys b h.ended k.ended used → Appends (take used b) h.lanes k.lanes → k.rest ≡ drop used b → k.place ≡ placed (h.place + used) → length h.ended ≡ 256 → (bytes : List ℕ) → IsFed now bytes → IsFed k (bytes ++ piece)
-feeds_on h now k b piece used q e s a r p n = λ bytes d. fed_ok h k bytes piece b used e s a r p n (rw (← q) at d)
+pub feeds_on : (h now k : Heard) (piece : List ℕ) → h ≡ now → Takes h k piece → length h.ended ≡ 256 → (bytes : List ℕ) → IsFed now bytes → IsFed k (bytes ++ piece)
+feeds_on h now k piece q t n = λ bytes d. fed_ok h k bytes piece t n (rw (← q) at d)
+
+-- what was kept is less than a frame
+pub left_part : (bytes rest : List ℕ) (flags after : List Bool) (used : ℕ) → Surveys bytes flags after used → rest ≡ drop used bytes → IsPartOfFrame rest
+left_part bytes rest flags after used s e =
+    let back : drop used bytes ≡ s.left = ap (drop used) s.whole ∙ drop_at (spelling s.frames) s.left used (sym s.used_is) in
+    rw (e, back) s.part
+
+-- the completed frame and what follows are the rest and the piece
+pub both_all : (rest piece first more : List ℕ) (begun : ℕ) → first ≡ rest ++ take begun piece → more ≡ drop begun piece → first ++ more ≡ rest ++ piece
+both_all rest piece first more begun e d =
+    ap (λ (s : List ℕ). s ++ more) e ∙ append_assoc rest (take begun piece) more
+    ∙ ap (λ (s : List ℕ). rest ++ s) (ap (λ (s : List ℕ). take begun piece ++ s) d ∙ take-append-drop begun piece)
 
 -- where a fault was found
-pub fault_left : (h now : Heard) (b piece rest : List ℕ) (before : ℕ) (found fault : Fault) (error : MuxError) → h ≡ now → b ≡ h.rest ++ piece → SurveysFault b h.ended h.place found → before ≡ length h.rest → rest ≡ take before b → length h.ended ≡ 256 → error ≡ error_of found → error ≡ error_of fault → (record h { rest = rest; fault = Some found } ≡ record now { fault = Some fault }) × ((bytes : List ℕ) → IsFed now bytes → Faults (bytes ++ piece) fault)
-fault_left h now b piece rest before found fault error q e s l r n x y =
-    let same : found ≡ fault = same_error found fault (sym x ∙ y) in
-    let again : rest ≡ h.rest = r ∙ ap (take before) e ∙ take_at h.rest piece before (sym l) in
-    (rw (again, same, q) refl, λ bytes d. rw same at (fed_fault h bytes piece b found e s n (rw (← q) at d)))
+pub record FindsFault (h : Heard) (piece rest : List ℕ) (found : Fault) : Type 0 where
+  pub bytes : List ℕ
+  pub all : bytes ≡ h.rest ++ piece
+  pub surveys : SurveysFault bytes h.ended h.place found
+  pub again : rest ≡ h.rest
 
--- and where memory was wanting
-pub memory_left : (h now : Heard) (b piece rest : List ℕ) (before used done : ℕ) (mid new : List (List ℕ)) → h ≡ now → b ≡ h.rest ++ piece → before ≡ length h.rest → rest ≡ take before b → AppendsSome (take used b) h.lanes mid done → Retracts (take done b) mid new → record h { lanes = new; rest = rest } ≡ now
-memory_left h now b piece rest before used done mid new q e l r a t =
-    let again : rest ≡ h.rest = r ∙ ap (take before) e ∙ take_at h.rest piece before (sym l) in
-    let lanes : new ≡ h.lanes = lanes_again b used done h.lanes mid new a t in
-    rw (again, lanes) q
+pub fault_left : (h now : Heard) (piece rest : List ℕ) (found fault : Fault) → h ≡ now → FindsFault h piece rest found → length h.ended ≡ 256 → error_of found ≡ error_of fault →
+    (record h { rest = rest; fault = Some found } ≡ record now { fault = Some fault }) × ((bytes : List ℕ) → IsFed now bytes → Faults (bytes ++ piece) fault)
+fault_left h now piece rest found fault q w n e =
+    let same : found ≡ fault = same_error found fault e in
+    let again : rest ≡ h.rest = w.again in
+    (rw (again, same, q) refl, λ bytes d. rw same at (fed_fault h bytes piece w.bytes found w.all w.surveys n (rw (← q) at d)))
 
 -- NOTHING FED
 
@@ -219,12 +227,12 @@ nothing_part = record { frame = End 0; more = 1 ∷ 0 ∷ []; is = tt; some = om
 pub fed_nothing : (h : Heard) → ((lane : ℕ) → lane < 256 → get_or h.lanes lane [] ≡ []) → ((lane : ℕ) → lane < 256 → get_or h.ended lane false ≡ false) → h.rest ≡ [] → h.place ≡ 0 → IsFed h []
 unfolding AreFramesAfter ends
 fed_nothing h l e r p = record {
-      frames = [];
-      splits = rw r (record { whole = refl; are = tt; part = nothing_part });
-      lanes = l;
-      ended = e;
-      place = p;
-    }
+  frames = [];
+  splits = rw r (record { whole = refl; are = tt; part = nothing_part });
+  lanes = l;
+  ended = e;
+  place = p;
+}
 
 pub unset : (flags : List Bool) → are_unset flags ≡ true → (lane : ℕ) → get_or flags lane false ≡ false
 unset [] e lane = refl

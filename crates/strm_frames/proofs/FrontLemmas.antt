@@ -127,9 +127,9 @@ whole_sound (k ∷ b) f more t e =
     elim (eqb_tells k 0) [
       | inl z ↦ data_sound k z.1 b f more t (rw z.0 at e)
       | inr z ↦ elim (eqb_tells k 1) [
-          | inl o ↦ end_sound k o.1 b f more t (rw (z.0, o.0) at e)
-          | inr o ↦ (let q = rw (z.0, o.0) at e in cc)
-        ]
+        | inl o ↦ end_sound k o.1 b f more t (rw (z.0, o.0) at e)
+        | inr o ↦ (let q = rw (z.0, o.0) at e in cc)
+      ]
     ]
   where
     data_sound : (k : ℕ) → k ≡ 0 → (b : List ℕ) (f : Frame) (more : List ℕ) → IsBytes (k ∷ b) → Whole f more ≡ data_at b → (k ∷ b ≡ spelled f ++ more) × IsFrame f × (named f < 256)
@@ -139,15 +139,16 @@ whole_sound (k ∷ b) f more t e =
         elim (eqb_tells n 0) [
           | inl y ↦ (let q = rw y.0 at e in cc)
           | inr y ↦ elim (ltb_tells (length r) n) [
-              | inl w ↦ (let q = rw (y.0, w.0) at e in cc)
-              | inr w ↦ (
+            | inl w ↦ (let q = rw (y.0, w.0) at e in cc)
+            | inr w ↦ (
                 let q = rw (y.0, w.0) at e in
                 let have : length (take n r) ≡ n = length-take-le n r (omega arith) in
                 let ff : f ≡ Data l (take n r) = cc in
                 let mm : more ≡ drop n r = cc in
                 rw (ff, mm, z, have, take-append-drop n r) (refl, (omega (arith, have), omega (arith, have, t 2)), t 1))
-            ]
+          ]
         ]
+
     end_sound : (k : ℕ) → k ≡ 1 → (b : List ℕ) (f : Frame) (more : List ℕ) → IsBytes (k ∷ b) → Whole f more ≡ end_at b → (k ∷ b ≡ spelled f ++ more) × IsFrame f × (named f < 256)
     end_sound k z [] f more t e = cc
     end_sound k z (l ∷ r) f more t e =
@@ -163,9 +164,9 @@ part_sound (k ∷ b) t e =
     elim (eqb_tells k 0) [
       | inl z ↦ data_part k z.1 b t (rw z.0 at e)
       | inr z ↦ elim (eqb_tells k 1) [
-          | inl o ↦ end_part k o.1 b t (rw (z.0, o.0) at e)
-          | inr o ↦ (let q = rw (z.0, o.0) at e in cc)
-        ]
+        | inl o ↦ end_part k o.1 b t (rw (z.0, o.0) at e)
+        | inr o ↦ (let q = rw (z.0, o.0) at e in cc)
+      ]
     ]
   where
     data_part : (k : ℕ) → k ≡ 0 → (b : List ℕ) → IsBytes (k ∷ b) → Part ≡ data_at b → IsPartOfFrame (k ∷ b)
@@ -175,14 +176,15 @@ part_sound (k ∷ b) t e =
         elim (eqb_tells n 0) [
           | inl y ↦ (let q = rw y.0 at e in cc)
           | inr y ↦ elim (ltb_tells (length r) n) [
-              | inl w ↦ (
+            | inl w ↦ (
                 let pad : List ℕ = replicate (n - length r) 0 in
                 let len : length pad ≡ n - length r = length-replicate (n - length r) 0 in
                 let all : length (r ++ pad) ≡ n = omega (arith, length-append r pad) in
                 record { frame = Data l (r ++ pad); more = pad; is = (omega arith, omega (arith, all, t 2)); some = omega arith; begins = rw (z, all) refl })
-              | inr w ↦ (let q = rw (y.0, w.0) at e in cc)
-            ]
+            | inr w ↦ (let q = rw (y.0, w.0) at e in cc)
+          ]
         ]
+
     end_part : (k : ℕ) → k ≡ 1 → (b : List ℕ) → IsBytes (k ∷ b) → Part ≡ end_at b → IsPartOfFrame (k ∷ b)
     end_part k z [] t e = record { frame = End 0; more = 0 ∷ []; is = tt; some = omega arith; begins = rw z refl }
     end_part k z (l ∷ r) t e = cc
@@ -194,9 +196,9 @@ other_sound (k ∷ b) e =
     elim (eqb_tells k 0) [
       | inl z ↦ absurd (no_data b (rw z.0 at e))
       | inr z ↦ elim (eqb_tells k 1) [
-          | inl o ↦ absurd (no_end b (rw (z.0, o.0) at e))
-          | inr o ↦ (z.1, o.1)
-        ]
+        | inl o ↦ absurd (no_end b (rw (z.0, o.0) at e))
+        | inr o ↦ (z.1, o.1)
+      ]
     ]
   where
     no_data : (b : List ℕ) → Other ≡ data_at b → ⊥
@@ -206,10 +208,11 @@ other_sound (k ∷ b) e =
         elim (eqb_tells n 0) [
           | inl y ↦ (let q = rw y.0 at e in cc)
           | inr y ↦ elim (ltb_tells (length r) n) [
-              | inl w ↦ (let q = rw (y.0, w.0) at e in cc)
-              | inr w ↦ (let q = rw (y.0, w.0) at e in cc)
-            ]
+            | inl w ↦ (let q = rw (y.0, w.0) at e in cc)
+            | inr w ↦ (let q = rw (y.0, w.0) at e in cc)
+          ]
         ]
+
     no_end : (b : List ℕ) → Other ≡ end_at b → ⊥
     no_end [] e = cc
     no_end (l ∷ r) e = cc
@@ -221,9 +224,9 @@ empty_sound (k ∷ b) e =
     elim (eqb_tells k 0) [
       | inl z ↦ no_bytes k z.1 b (rw z.0 at e)
       | inr z ↦ elim (eqb_tells k 1) [
-          | inl o ↦ absurd (no_end b (rw (z.0, o.0) at e))
-          | inr o ↦ (let q = rw (z.0, o.0) at e in cc)
-        ]
+        | inl o ↦ absurd (no_end b (rw (z.0, o.0) at e))
+        | inr o ↦ (let q = rw (z.0, o.0) at e in cc)
+      ]
     ]
   where
     no_bytes : (k : ℕ) → k ≡ 0 → (b : List ℕ) → Empty ≡ data_at b → HasNoBytes (k ∷ b)
@@ -233,10 +236,11 @@ empty_sound (k ∷ b) e =
         elim (eqb_tells n 0) [
           | inl y ↦ (z, y.1)
           | inr y ↦ elim (ltb_tells (length r) n) [
-              | inl w ↦ (let q = rw (y.0, w.0) at e in cc)
-              | inr w ↦ (let q = rw (y.0, w.0) at e in cc)
-            ]
+            | inl w ↦ (let q = rw (y.0, w.0) at e in cc)
+            | inr w ↦ (let q = rw (y.0, w.0) at e in cc)
+          ]
         ]
+
     no_end : (b : List ℕ) → Empty ≡ end_at b → ⊥
     no_end [] e = cc
     no_end (l ∷ r) e = cc

@@ -23,7 +23,7 @@ enough zero m lane (b ∷ bytes) h k = absurd (omega arith)
 enough (suc n) zero lane (b ∷ bytes) h k = absurd (omega arith)
 enough (suc n) (suc m) lane (b ∷ bytes) h k =
     ap (λ (fs : List Frame). Data lane (take 255 (b ∷ bytes)) ∷ fs)
-      (enough n m lane (drop 255 (b ∷ bytes)) (omega (arith, length-drop 255 (b ∷ bytes))) (omega (arith, length-drop 255 (b ∷ bytes))))
+    (enough n m lane (drop 255 (b ∷ bytes)) (omega (arith, length-drop 255 (b ∷ bytes))) (omega (arith, length-drop 255 (b ∷ bytes))))
 
 pub pieces_none : (lane : ℕ) (bytes : List ℕ) → length bytes ≡ 0 → pieces_of lane bytes ≡ []
 unfolding pieces_of pieces_in
@@ -36,7 +36,7 @@ pieces_some lane [] h = absurd (omega arith)
 pieces_some lane (b ∷ bytes) h =
     let r : List ℕ = drop 255 (b ∷ bytes) in
     ap (λ (fs : List Frame). Data lane (take 255 (b ∷ bytes)) ∷ fs)
-      (enough (length bytes) (length r) lane r (omega (arith, length-drop 255 (b ∷ bytes))) (omega arith))
+    (enough (length bytes) (length r) lane r (omega (arith, length-drop 255 (b ∷ bytes))) (omega arith))
 
 -- so much was written of them
 pub record PushesSoFar (lane : ℕ) (bytes rest old now : List ℕ) : Type 0 where

@@ -21,10 +21,12 @@ fault_stuck frames place next (BadKind at) w = record { none = λ f more h n e. 
 fault_stuck frames place next (EmptyFrame at) w = record { none = λ f more h n e. let q : Empty ≡ Whole f more = sym (front-empty next w.1) ∙ ap front_of e ∙ front-spelled f more h in cc }
 fault_stuck frames place next (AfterEnd at) w =
     let v = w.1 in
-    record { none = λ f more h n e.
-        let q : Whole v.frame v.more ≡ Whole f more = sym (front-spelled v.frame v.more v.is) ∙ ap front_of (sym v.begins ∙ e) ∙ front-spelled f more h in
-        let s : v.frame ≡ f = cc in
-        both_ways (ends (named f) frames) n (rw s at v.ended) }
+    record {
+      none = λ f more h n e.
+          let q : Whole v.frame v.more ≡ Whole f more = sym (front-spelled v.frame v.more v.is) ∙ ap front_of (sym v.begins ∙ e) ∙ front-spelled f more h in
+          let s : v.frame ≡ f = cc in
+          both_ways (ends (named f) frames) n (rw s at v.ended);
+    }
 
 -- two readings are the same
 same_from : (earlier frames others : List Frame) (rest left : List ℕ) → spelling frames ++ rest ≡ spelling others ++ left → AreFramesAfter earlier frames → AreFramesAfter earlier others → IsStuck (earlier ++ frames) rest → IsStuck (earlier ++ others) left → (frames ≡ others) × (rest ≡ left)
@@ -38,7 +40,7 @@ same_from earlier (f ∷ fs) (g ∷ gs) rest left e a b p q =
     let ff = front-spelled f (spelling fs ++ rest) a.0 in
     let gg = front-spelled g (spelling gs ++ left) b.0 in
     let w : Whole f (spelling fs ++ rest) ≡ Whole g (spelling gs ++ left) =
-        sym ff ∙ ap front_of (sym (append_assoc (spelled f) (spelling fs) rest) ∙ e ∙ append_assoc (spelled g) (spelling gs) left) ∙ gg in
+    sym ff ∙ ap front_of (sym (append_assoc (spelled f) (spelling fs) rest) ∙ e ∙ append_assoc (spelled g) (spelling gs) left) ∙ gg in
     let s : f ≡ g = cc in
     let t : spelling fs ++ rest ≡ spelling gs ++ left = cc in
     let b2 : AreFramesAfter (earlier ++ f ∷ []) gs = rw s b.2 in
@@ -94,9 +96,9 @@ fault_on frames place (k ∷ x ∷ []) more (EmptyFrame at) w = absurd w.1
 
 pub stays : (bytes more : List ℕ) (fault : Fault) → Faults bytes fault → Faults (bytes ++ more) fault
 stays bytes more fault a = record {
-      frames = a.frames;
-      next = a.next ++ more;
-      whole = ap (λ (b : List ℕ). b ++ more) a.whole ∙ append_assoc (spelling a.frames) a.next more;
-      are = a.are;
-      is = fault_on a.frames (length (spelling a.frames)) a.next more fault a.is;
-    }
+  frames = a.frames;
+  next = a.next ++ more;
+  whole = ap (λ (b : List ℕ). b ++ more) a.whole ∙ append_assoc (spelling a.frames) a.next more;
+  are = a.are;
+  is = fault_on a.frames (length (spelling a.frames)) a.next more fault a.is;
+}

@@ -117,18 +117,19 @@ appends_none bytes lanes = record { frames = []; whole = refl; are = tt; extends
 
 pub extends_data : (old now new : List (List ℕ)) (frames : List Frame) (l : ℕ) (d : List ℕ) → Extends old now frames → l < length now → new ≡ set now l (get_or now l [] ++ d) → Extends old new (frames ++ Data l d ∷ [])
 extends_data old now new frames l d a h e = record {
-      same = ap length e ∙ length-set now l (get_or now l [] ++ d) ∙ a.same;
-      each = λ k below. elim (eqb_tells l k) [
-        | inl y ↦ same_lane k y.1 y.0 below
-        | inr y ↦ other_lane k (λ q. y.1 (sym q)) y.0 below
-      ];
-    }
+  same = ap length e ∙ length-set now l (get_or now l [] ++ d) ∙ a.same;
+  each = λ k below. elim (eqb_tells l k) [
+    | inl y ↦ same_lane k y.1 y.0 below
+    | inr y ↦ other_lane k (λ q. y.1 (sym q)) y.0 below
+  ];
+}
   where
     same_lane : (k : ℕ) → l ≡ k → eqb l k ≡ true → k < 256 → get_or new k [] ≡ get_or old k [] ++ lane_in k (frames ++ Data l d ∷ [])
     same_lane k q t below =
         let here : get_or new k [] ≡ get_or now k [] ++ d = ap (λ (s : List (List ℕ)). get_or s k []) e ∙ rw (← q) (get_or-set_same now l (get_or now l [] ++ d) [] h) in
         let part : part_for k (Data l d) ≡ d = rw t refl in
         here ∙ rw (a.each k below, lane_more k frames (Data l d), part) (append_assoc (get_or old k []) (lane_in k frames) d)
+
     other_lane : (k : ℕ) → k ≢ l → eqb l k ≡ false → k < 256 → get_or new k [] ≡ get_or old k [] ++ lane_in k (frames ++ Data l d ∷ [])
     other_lane k q t below =
         let here : get_or new k [] ≡ get_or now k [] = ap (λ (s : List (List ℕ)). get_or s k []) e ∙ get_or-set_other now l k (get_or now l [] ++ d) [] q in
@@ -160,14 +161,14 @@ appends_all bytes rest old new a h = record { frames = a.frames; left = rest; wh
 
 pub appends_some : (bytes rest : List ℕ) (old new : List (List ℕ)) (done : ℕ) → length old ≡ 256 → AppendsSoFar bytes rest old new → done ≡ length bytes - length rest → AppendsSome bytes old new done
 appends_some bytes rest old new done n a e = record {
-      frames = a.frames;
-      left = rest;
-      whole = a.whole;
-      are = a.are;
-      done_is = omega (arith, ap length a.whole, length-append (spelling a.frames) rest);
-      long = n;
-      extends = a.extends;
-    }
+  frames = a.frames;
+  left = rest;
+  whole = a.whole;
+  are = a.are;
+  done_is = omega (arith, ap length a.whole, length-append (spelling a.frames) rest);
+  long = n;
+  extends = a.extends;
+}
 
 -- SURVEYED
 
@@ -203,14 +204,14 @@ surveys_more bytes rest more flags now new f t a e z n =
 
 pub surveys_all : (bytes rest : List ℕ) (flags now : List Bool) (used : ℕ) → IsBytes bytes → SurveysSoFar bytes rest flags now → Part ≡ front_of rest → used ≡ length bytes - length rest → Surveys bytes flags now used
 surveys_all bytes rest flags now used t a p e = record {
-      frames = a.frames;
-      left = rest;
-      whole = a.whole;
-      used_is = omega (arith, ap length a.whole, length-append (spelling a.frames) rest);
-      allowed = a.allowed;
-      flags_are = a.flags_are;
-      part = part_sound rest (rest_bytes bytes (spelling a.frames) rest t a.whole) p;
-    }
+  frames = a.frames;
+  left = rest;
+  whole = a.whole;
+  used_is = omega (arith, ap length a.whole, length-append (spelling a.frames) rest);
+  allowed = a.allowed;
+  flags_are = a.flags_are;
+  part = part_sound rest (rest_bytes bytes (spelling a.frames) rest t a.whole) p;
+}
 
 place_of : (bytes rest : List ℕ) (frames : List Frame) (place at : ℕ) → bytes ≡ spelling frames ++ rest → at ≡ placed (place + (length bytes - length rest)) → at ≡ placed (place + length (spelling frames))
 place_of bytes rest frames place at e n =

@@ -1,8 +1,8 @@
 -- What passes over a piece find and do: by flags that say which lanes ended, and by lists of lanes. Ours.
-use Rattle.std.specs.Prelude.{◌≡◌, ℕ, ◌+◌, ◌-◌, ◌<◌, Bool, true, false, List, [], ◌∷◌, ◌++◌, length, take, slice_index_or, slice_set}
+use Rattle.std.specs.Prelude.{◌≡◌, ℕ, ◌+◌, ◌-◌, ◌<◌, Bool, true, false, List, [], ◌∷◌, ◌++◌, length, take, slice_index_or, slice_set, ◌≤◌, Option, Some, None}
 use Rattle.strm_frames.specs.Frames.{Frame, Data, End, named, spelled, IsFrame, spelling, lane_in}
 use Rattle.strm_frames.specs.Streams.{IsPartOfFrame, HasBadKind, HasNoBytes, placed}
-use Rattle.strm_frames.specs.Fronts.{Whole, front_of}
+use Rattle.strm_frames.specs.Fronts.{Whole, Part, front_of}
 use Rattle.strm_frames.specs.declared.errors.Fault.{Fault}
 use Rattle.strm_frames.specs.declared.errors.Fault.TheVariants.{BadKind, EmptyFrame, AfterEnd}
 
@@ -41,6 +41,32 @@ abbrev pub IsFlagged : List Bool → ℕ → List ℕ → Fault → Type 0
 IsFlagged flags place next (BadKind at) = (at ≡ placed place) × HasBadKind next
 IsFlagged flags place next (EmptyFrame at) = (at ≡ placed place) × HasNoBytes next
 IsFlagged flags place next (AfterEnd at) = (at ≡ placed place) × NamesFlagged flags next
+
+-- a whole frame with nothing behind it, a fault, or nothing
+pub record StopsAtFrame (bytes : List ℕ) : Type 0 where
+  pub no_part : Part ≡ front_of bytes → bytes ≡ []
+  pub no_more : (frame : Frame) (more : List ℕ) → Whole frame more ≡ front_of bytes → more ≡ []
+
+-- so much of a piece was added to the first bytes of a frame that this is whole, or a fault is found; or all of
+-- it, and less than a frame has come
+pub record IsCompleted (old new piece : List ℕ) (used : ℕ) : Type 0 where
+  pub within : used ≤ length piece
+  pub added : new ≡ old ++ take used piece
+  pub stops : StopsAtFrame new
+
+pub record IsShort (old new piece : List ℕ) : Type 0 where
+  pub added : new ≡ old ++ piece
+  pub part : IsPartOfFrame new
+
+abbrev pub IsBegun : List ℕ → List ℕ → List ℕ → Option ℕ → Type 0
+IsBegun old new piece None = IsShort old new piece
+IsBegun old new piece (Some used) = IsCompleted old new piece used
+
+-- the bytes are whole frames of lanes that are bytes
+pub record AreSpelled (bytes : List ℕ) : Type 0 where
+  pub frames : List Frame
+  pub spelled : bytes ≡ spelling frames
+  pub are : AreEach frames
 
 -- allowed frames, behind which comes less than a frame
 pub record Surveys (bytes : List ℕ) (flags after : List Bool) (used : ℕ) : Type 0 where

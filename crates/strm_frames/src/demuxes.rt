@@ -9,7 +9,7 @@ ghost use Rattle.strm_frames.specs.declared.errors.Fault.{Fault};
 
 use crate::errors::{Fault, MuxError};
 use crate::muxes::no_ends;
-use crate::taking::{append, retract, survey};
+use crate::taking::{complete, put_both, survey_both};
 use std::alloc::Global;
 use std::array;
 use std::marker::Model;
@@ -27,6 +27,7 @@ pub struct Demux {
 impl Model for Demux {
     ghost use Rattle.std.specs.Prelude.{map};
     ghost use Rattle.strm_frames.specs.Demuxes.{Heard};
+    ghost use Rattle.strm_frames.specs.Streams.{IsPartOfFrame};
 
     ghost Value = { Heard };
 
@@ -37,6 +38,8 @@ impl Model for Demux {
       place = d.place;
       fault = d.fault;
     } };
+
+    ghost invariant = { λ d. IsPartOfFrame d.rest.items };
 }
 
 impl Demux {
@@ -95,30 +98,27 @@ impl Demux {
             return Err(fault.error());
         }
         let before = self.rest.len();
-        match self.rest.extend_from_slice(piece) {
-            Ok(()) => {}
-            Err(_) => return Err(MuxError::OutOfMemory),
-        }
+        let Some(begun) = complete(&mut self.rest, piece)? else {
+            return Ok(());
+        };
+        let (_begun, more) = piece.split_at(begun);
+        let first = self.rest.len();
         let mut ended = self.ended;
-        match survey(&self.rest, self.place, &mut ended) {
+        match survey_both(&self.rest, more, self.place, &mut ended) {
             Err(fault) => {
                 self.rest.truncate(before);
                 self.fault = Some(fault);
                 Err(fault.error())
             }
-            Ok(used) => match append(&mut self.lanes, &self.rest[..used]) {
-                Err(done) => {
-                    retract(&mut self.lanes, &self.rest[..done]);
+            Ok(used) => {
+                if !put_both(&mut self.lanes, &mut self.rest, more, used) {
                     self.rest.truncate(before);
-                    Err(MuxError::OutOfMemory)
+                    return Err(MuxError::OutOfMemory);
                 }
-                Ok(()) => {
-                    self.ended = ended;
-                    self.place = self.place.saturating_add(used as u64);
-                    leave(&mut self.rest, used);
-                    Ok(())
-                }
-            },
+                self.ended = ended;
+                self.place = self.place.saturating_add((first + used) as u64);
+                Ok(())
+            }
         }
     }
 
@@ -138,25 +138,20 @@ impl Demux {
 
     /// How many bytes of the next frame have come.
     pub fn rest(&self) -> usize
-        ensures { result ≡ length self.now.rest }
+        ensures exact { result ≡ length self.now.rest }
+        ensures few { result < 258 }
     {
         self.rest.len()
     }
-}
-
-// Takes bytes off the front.
-fn leave(bytes: &mut Vec<u8>, used: usize)
-    requires { used ≤ length bytes.old.items }
-    ensures { bytes.new.items ≡ drop used bytes.old.items }
-{
-    let left = bytes.len() - used;
-    bytes.as_mut_slice().rotate_left(used);
-    bytes.truncate(left);
 }
 
 // So many lists without an item.
 fn empty_lanes(alloc: Global) -> [Vec<u8>; 256]
     ensures { All (λ v. v.items ≡ []) result }
 {
-    array::from_fn(|_lane: usize| -> Vec<u8> ensures { result.items ≡ [] } { Vec::new(alloc) })
+    array::from_fn(
+        |_lane: usize| -> Vec<u8>
+            ensures { result.items ≡ [] }
+        { Vec::new(alloc) },
+    )
 }

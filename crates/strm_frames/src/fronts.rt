@@ -13,7 +13,10 @@ pub(crate) enum Front<'a> {
         more: &'a [u8],
     },
     // The end of a lane.
-    End { lane: u8, more: &'a [u8] },
+    End {
+        lane: u8,
+        more: &'a [u8],
+    },
     // Less than a frame.
     Part,
     // Neither 00 nor 01.

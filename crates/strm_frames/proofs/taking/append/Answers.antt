@@ -25,4 +25,3 @@ pub returns-then-not-keep_in-clause-err : goal.returns-then-not-keep_in-clause-e
 returns-then-not-keep_in-clause-err c =
     let long : length (map (λ v. v.items) c.args.lanes.now) ≡ 256 = omega (arith, c.told-lanes, length-map c.args.lanes.now (λ v. v.items)) in
     appends_some c.args.bytes.now c.frames.rest.now _ _ _ long (rw (← (c.keep_in.ensures.unkept c.if-not-keep_in.true)) at c.frames.invariant) refl
-

@@ -1,25 +1,36 @@
-use Rattle.std.proofs.Common.{◌≡◌, ◌∙◌, sym, length, arith}
+use Rattle.std.proofs.Common.{◌≡◌, ◌++◌, ◌+◌, ◌∙◌, sym, ap, take, length, arith}
+use Rattle.std.proofs.lemmas.List.{take_at}
 use Rattle.strm_frames.specs.Demuxes.{error_of}
-use Rattle.strm_frames.proofs.DemuxLemmas.{feeds_on, fault_left, memory_left}
+use Rattle.strm_frames.specs.Taking.{IsCompleted}
+use Rattle.strm_frames.proofs.DemuxLemmas.{feeds_on, fault_left, left_part, both_all}
 use Rattle.strm_frames.proofs.demuxes.Demux.take_piece.Goals as goal
 
-pub returns-in-Ok-append-clause-ok : goal.returns-in-Ok-append-clause-ok
-returns-in-Ok-append-clause-ok c =
-    let all = c.deref.ensures.value ∙ c.in-Ok.ensures.items in
-    let same = c.deref-in-Ok-survey.ensures.value ∙ sym c.deref.ensures.value in
-    feeds_on _ _ _ c.deref.result.now c.args.piece.now c.in-Ok-survey.used c.self.view_is all c.in-Ok-survey.ensures.ok (rw same at c.in-Ok-append.ensures.ok) (rw c.deref.ensures.value c.leave.ensures) c.saturating_add-self-inside.ensures c.self.told
+pub invariant_of-self-in-Ok : goal.invariant_of-self-in-Ok
+invariant_of-self-in-Ok c =
+    let s = rw c.deref.ensures.value at c.in-Ok.ensures.ok in
+    left_part (c.complete.new.rest.items ++ c.split_at.result.1.now) _ _ _ (length c.complete.new.rest.items + c.in-Ok.used) s (c.put_both.ensures.left c.if-not-put_both.false)
 
-pub returns-in-Err-survey-clause-fault : goal.returns-in-Err-survey-clause-fault
-returns-in-Err-survey-clause-fault c = λ fault none e.
-    let all = c.deref.ensures.value ∙ c.in-Ok.ensures.items in
+pub returns-in-Err-clause-fault : goal.returns-in-Err-clause-fault
+returns-in-Err-clause-fault c = λ fault none e.
+    let b : IsCompleted c.self.inside.rest.items c.complete.new.rest.items c.args.piece.now c.in-Some-2.begun = rw c.in-Some-2.is at c.in_ok-begun.ensures.ok in
     let before : c.len-before.result ≡ length c.self.inside.rest.items = omega (arith, c.len-before.ensures, c.self.inside.rest.ok.0) in
-    let error : c.error-in-Err-survey.result ≡ error_of fault = cc in
-    fault_left _ _ c.deref.result.now c.args.piece.now _ c.len-before.result c.in-Err-survey.fault fault c.error-in-Err-survey.result c.self.view_is all c.in-Err-survey.ensures.fault before (rw c.deref.ensures.value c.truncate.ensures.items) c.self.told c.error-in-Err-survey.ensures error
+    let error : c.error-in-Err.result ≡ error_of fault = cc in
+    fault_left _ _ c.args.piece.now _ c.in-Err.fault fault c.self.view_is (record {
+      bytes = c.complete.new.rest.items ++ c.split_at.result.1.now;
+      all = both_all c.self.inside.rest.items c.args.piece.now _ _ c.in-Some-2.begun b.added c.split_at.ensures.back;
+      surveys = rw c.deref.ensures.value at c.in-Err.ensures.fault;
+      again = c.truncate.ensures.items ∙ ap (take c.len-before.result) b.added ∙ take_at c.self.inside.rest.items (take c.in-Some-2.begun c.args.piece.now) c.len-before.result (sym before);
+    }) c.self.told (sym c.error-in-Err.ensures ∙ error)
 
-pub returns-in-Err-append-clause-memory : goal.returns-in-Err-append-clause-memory
-returns-in-Err-append-clause-memory c = λ e.
-    let all = c.deref.ensures.value ∙ c.in-Ok.ensures.items in
-    let same = c.deref-in-Ok-survey.ensures.value ∙ sym c.deref.ensures.value in
-    let before : c.len-before.result ≡ length c.self.inside.rest.items = omega (arith, c.len-before.ensures, c.self.inside.rest.ok.0) in
-    let here = c.deref-in-Err-append.ensures.value ∙ sym c.deref.ensures.value in
-    memory_left _ _ c.deref.result.now c.args.piece.now _ c.len-before.result c.in-Ok-survey.used c.in-Err-append.done _ _ c.self.view_is all before (rw c.deref.ensures.value c.truncate-in-Err-append.ensures.items) (rw same at c.in-Err-append.ensures.err) (rw here at c.retract.ensures)
+pub returns-else-not-put_both-clause-ok : goal.returns-else-not-put_both-clause-ok
+returns-else-not-put_both-clause-ok c =
+    let b : IsCompleted c.self.inside.rest.items c.complete.new.rest.items c.args.piece.now c.in-Some-2.begun = rw c.in-Some-2.is at c.in_ok-begun.ensures.ok in
+    feeds_on _ _ _ c.args.piece.now c.self.view_is (record {
+      bytes = c.complete.new.rest.items ++ c.split_at.result.1.now;
+      used = length c.complete.new.rest.items + c.in-Ok.used;
+      all = both_all c.self.inside.rest.items c.args.piece.now _ _ c.in-Some-2.begun b.added c.split_at.ensures.back;
+      surveys = rw c.deref.ensures.value at c.in-Ok.ensures.ok;
+      appends = c.put_both.ensures.ok c.if-not-put_both.false;
+      left = c.put_both.ensures.left c.if-not-put_both.false;
+      place = omega (arith, c.saturating_add-self-inside.ensures, c.len-first.ensures, c.complete.new.rest.ok.0);
+    }) c.self.told
