@@ -1,6 +1,6 @@
 -- The words of the program, and what a status tells.
 use Rattle.std.specs.Prelude.{IfSome}
-use Rattle.std.proofs.Common.{◌≡◌, ◌≢◌, ◌⊎◌, ℕ, ◌+◌, ◌≤◌, ◌<◌, List, [], ◌∷◌, length, map, get_or, Option, Some, None, refl, sym, ap, ◌∙◌, subst, ⊎_elim, arith, inl, inr}
+use Rattle.std.proofs.Common.{◌≡◌, ◌≢◌, ◌⊎◌, ℕ, zero, suc, ◌+◌, ◌≤◌, ◌<◌, List, [], ◌∷◌, length, map, get_or, Option, Some, None, refl, sym, ap, ◌∙◌, subst, ⊎_elim, arith, inl, inr}
 use Rattle.std.specs.Fmt.{decimal}
 use Rattle.std.specs.Io.KnownBytes.{IsAtEnd}
 use Rattle.std.proofs.lemmas.Bool.{cases_eq}
@@ -10,10 +10,20 @@ use Rattle.strm_lines.specs.Lines.{lines_of}
 use Rattle.strm_lines.specs.Reading.{number_within}
 use Rattle.strm_lines.proofs.ReadingLemmas.{IsReading, IsReading-within}
 use Rattle.strm_ports.specs.Faults.{Rose}
-use Rattle.strm_frames.specs.Frames.{Frame}
+use Rattle.strm_frames.specs.Frames.{Frame, spelling}
+use Rattle.strm_frames.specs.Muxes.{Written}
+use Rattle.strm_laws.specs.Conservation.{got, moments, last}
+use Rattle.strm_machine.specs.Moments.{received}
+use Rattle.strm_machine.specs.Plays.{play, Ends}
+use Rattle.strm_machine.specs.declared.replies.Reply.{Reply}
+use Rattle.strm_machine.specs.declared.steps.Step.{Step}
+use Rattle.strm_one_stream.specs.OneStream.{script_of, items_of}
+use Rattle.strm_session.specs.Runs.{start}
+use Rattle.strm_mux.specs.LineReading.{Holds}
+use Rattle.strm_mux.specs.Texts.{output_text}
 use Rattle.strm_mux.specs.Answering.{AnswersInput}
 use Rattle.strm_mux.specs.Lines.{Puts, IsFirstBad, IsTooLong}
-use Rattle.strm_mux.specs.Serving.{AreSizes, IsSizes, IsOutput}
+use Rattle.strm_mux.specs.Serving.{AreSizes, IsSizes, IsCarriedBy, IsOutput}
 use Rattle.strm_mux.proofs.LineLemmas.{puts_not_bad}
 
 -- TWO SIZES
@@ -21,42 +31,60 @@ use Rattle.strm_mux.proofs.LineLemmas.{puts_not_bad}
 IsReading-size : IsReading (number_within 16 64) decimal (IsBetween 16 64)
 IsReading-size = IsReading-within 16 64 (omega arith)
 
--- a list of two, by its items
-pub two_items : {X : Type 0} (f : X → List ℕ) (items : List X) (x y : X) → length items ≡ 2 → x ≡ get_or items 0 x → y ≡ get_or items 1 y → map f items ≡ f x ∷ f y ∷ []
-two_items f [] x y l e d = absurd (omega (arith, l))
-two_items f (a ∷ []) x y l e d = absurd (omega (arith, l))
-two_items f (a ∷ b ∷ []) x y l e d = rw (e, d) refl
-two_items f (a ∷ b ∷ c ∷ more) x y l e d = absurd (omega (arith, l))
+-- an item of a list, as it is seen
+pub item_at : {X : Type 0} (f : X → List ℕ) (items : List X) (k : ℕ) (x : X) → k < length items → x ≡ get_or items k x → get_or (map f items) k [] ≡ f x
+item_at f [] k x h e = absurd (omega arith)
+item_at f (a ∷ items) zero x h e = ap f (sym e)
+item_at f (a ∷ items) (suc k) x h e = item_at f items k x (omega arith) e
 
--- words that are read as sizes are
-pub sizes_read : (words : List (List ℕ)) (a b : List ℕ) (write read : ℕ) → words ≡ a ∷ b ∷ [] → Some write ≡ number_within 16 64 a → Some read ≡ number_within 16 64 b → AreSizes words write read
-sizes_read words a b write read e f g =
+-- two words that are read as sizes are
+pub sizes_read : (words : List (List ℕ)) (a b : List ℕ) (write read : ℕ) → length words ≡ 2 → get_or words 0 [] ≡ a → get_or words 1 [] ≡ b → Some write ≡ number_within 16 64 a → Some read ≡ number_within 16 64 b → AreSizes words write read
+sizes_read [] a b write read l d e f g = absurd (omega (arith, l))
+sizes_read (x ∷ []) a b write read l d e f g = absurd (omega (arith, l))
+sizes_read (x ∷ y ∷ z ∷ words) a b write read l d e f g = absurd (omega (arith, l))
+sizes_read (x ∷ y ∷ []) a b write read l d e f g =
     let w = IsReading-size.sound a write (sym f) in
     let r = IsReading-size.sound b read (sym g) in
     record {
-      words_are = e ∙ rw (w.0, r.0) refl;
+      words_are = rw (d, e, w.0, r.0) refl;
       write_is = w.1;
       read_is = r.1;
     }
 
--- words that are sizes are two, and are read so
+-- words that are sizes are two
 pub two_words : (words : List (List ℕ)) → IsSizes words → length words ≡ 2
 two_words words s = ap length s.2.words_are
 
-first_of : (a b c d : List ℕ) → a ∷ b ∷ [] ≡ c ∷ d ∷ [] → (a ≡ c) × (b ≡ d)
-first_of a b c d e = (cc, cc)
-
-pub first_read : (words : List (List ℕ)) (a b : List ℕ) → words ≡ a ∷ b ∷ [] → number_within 16 64 a ≡ None → IsSizes words → ⊥
-first_read words a b e n s =
-    let same = first_of a b (decimal s.0) (decimal s.1) (sym e ∙ s.2.words_are) in
+-- and each is read as one
+pub first_read : (words : List (List ℕ)) (a : List ℕ) → get_or words 0 [] ≡ a → number_within 16 64 a ≡ None → IsSizes words → ⊥
+first_read words a e n s =
+    let same : decimal s.0 ≡ a = sym (ap (λ ws. get_or ws 0 []) s.2.words_are) ∙ e in
     let read = IsReading-size.complete s.0 s.2.write_is in
-    let both : Some s.0 ≡ None = sym read ∙ ap (number_within 16 64) (sym same.0) ∙ n in cc
+    let both : Some s.0 ≡ None = sym read ∙ ap (number_within 16 64) same ∙ n in cc
 
-pub second_read : (words : List (List ℕ)) (a b : List ℕ) → words ≡ a ∷ b ∷ [] → number_within 16 64 b ≡ None → IsSizes words → ⊥
-second_read words a b e n s =
-    let same = first_of a b (decimal s.0) (decimal s.1) (sym e ∙ s.2.words_are) in
+pub second_read : (words : List (List ℕ)) (a : List ℕ) → get_or words 1 [] ≡ a → number_within 16 64 a ≡ None → IsSizes words → ⊥
+second_read words a e n s =
+    let same : decimal s.1 ≡ a = sym (ap (λ ws. get_or ws 1 []) s.2.words_are) ∙ e in
     let read = IsReading-size.complete s.1 s.2.read_is in
-    let both : Some s.1 ≡ None = sym read ∙ ap (number_within 16 64) (sym same.1) ∙ n in cc
+    let both : Some s.1 ≡ None = sym read ∙ ap (number_within 16 64) same ∙ n in cc
+
+-- WHAT IS CARRIED
+
+-- what was carried is what the lines put
+pub carried_by : (write read moved : ℕ) (input text : List ℕ) (written : Written) (steps : List Step) (replies : List Reply) (h : Holds written (lines_of input)) → steps ≡ script_of write read written.bytes → play [] start steps ≡ Ends replies (last start steps) → got 0 (moments start steps) ≡ items_of written.bytes → (moved ≡ length written.bytes) × (moved ≡ received 0 (last start steps)) → text ≡ output_text h.given moved → IsCarriedBy write read input text
+carried_by write read moved input text written steps replies h e plays gets moves t =
+    let same : steps ≡ script_of write read (spelling h.given) = e ∙ ap (script_of write read) h.bytes in
+    record {
+      given = h.given;
+      puts = h.puts;
+      replies = replies;
+      played = subst (λ s. play [] start s ≡ Ends replies (last start s)) same plays;
+      received_is = subst (λ s. got 0 (moments start s) ≡ items_of (spelling h.given)) same (gets ∙ ap items_of h.bytes);
+      moved = moved;
+      moved_is = subst (λ s. moved ≡ received 0 (last start s)) same moves.1;
+      whole = moves.0 ∙ ap length h.bytes;
+      text_is = t;
+    }
 
 -- WHAT A STATUS TELLS
 
@@ -66,10 +94,15 @@ Answered status = (status ≡ 0) ⊎ ((status ≡ 2) ⊎ (status ≡ 3))
 few : (status : ℕ) → Answered status → (status ≤ 3) × (status ≢ 1)
 few status a = ⊎_elim (λ e. (omega (arith, e), λ q. omega (arith, e, q))) (λ b. ⊎_elim (λ e. (omega (arith, e), λ q. omega (arith, e, q))) (λ e. (omega (arith, e), λ q. omega (arith, e, q))) b) a
 
-module _ {words : List (List ℕ)} {write read : ℕ} {rest : Option (List ℕ)} {before after status : ℕ} {text : List ℕ} where
+-- more than all that is read is too long
+pub far_too_long : (left : Option (List ℕ)) → IfSome left (λ bytes. 16777216 < length bytes) → IfSome left IsTooLong
+far_too_long None h = tt
+far_too_long (Some bytes) h = omega (arith, h)
+
+module _ {words : List (List ℕ)} {rest : Option (List ℕ)} {before after status : ℕ} {text : List ℕ} where
   -- what is told of an input that was read is told of its source, which is at its end then
-  pub told_of_source : (left : Option (List ℕ)) (input : List ℕ) → AreSizes words write read → IfSome left (λ bytes. input ≡ bytes) → IsAtEnd rest → AnswersInput write read input status text → IsOutput words left rest before after status text
-  told_of_source None input r e end h =
+  pub told_of_source : (write read : ℕ) (left : Option (List ℕ)) (input : List ℕ) → AreSizes words write read → IfSome left (λ bytes. input ≡ bytes) → IsAtEnd rest → AnswersInput write read input status text → IsOutput words left rest before after status text
+  told_of_source write read None input r e end h =
       let few = few status h.known in
       record {
         known = omega (arith, few.0);
@@ -82,7 +115,7 @@ module _ {words : List (List ℕ)} {write read : ℕ} {rest : Option (List ℕ)}
         within = λ _ _ _. tt;
         whole = λ _ _ _. end;
       }
-  told_of_source (Some bytes) input r e end h =
+  told_of_source write read (Some bytes) input r e end h =
       let k = subst (λ b. AnswersInput write read b status text) e h in
       let few = few status k.known in
       record {
@@ -96,11 +129,6 @@ module _ {words : List (List ℕ)} {write read : ℕ} {rest : Option (List ℕ)}
         within = λ _ long _. k.within long;
         whole = λ _ _ _. end;
       }
-
-  -- more than all that is read is too long
-  pub far_too_long : (left : Option (List ℕ)) → IfSome left (λ bytes. 16777216 < length bytes) → IfSome left IsTooLong
-  far_too_long None h = tt
-  far_too_long (Some bytes) h = omega (arith, h)
 
   module _ (input : List ℕ) (h : IsOutput words (Some input) rest before after status text) (r : IsSizes words) (calm : Rose before after → ⊥) where
     not_usage : status ≢ 1

@@ -3,7 +3,7 @@
 //! Meaning: `OneStream.antt` of `strm_one_stream`, for the steps and what they move; `Carrying.antt`, for the
 //! lanes. Ours.
 
-ghost use Rattle.std.specs.Prelude.{◌≡◌, ◌≤◌, List, length, IfOk, IfErr};
+ghost use Rattle.std.specs.Prelude.{◌≡◌, ◌≤◌, List, [], length, IfOk, IfErr};
 ghost use Rattle.strm_frames.specs.Demuxes.{IsFed};
 ghost use Rattle.strm_frames.specs.Frames.{Frame};
 ghost use Rattle.strm_frames.specs.Muxes.{Carries};

@@ -113,3 +113,14 @@ fn lane_number(word: &[u8]) -> Option<u8>
     let number = number_within(word, 0, 255)?;
     Some(number as u8)
 }
+
+/// An input has one reading: its lines put one thing at most, lines that do have no bad line, and there is
+/// one first bad line at most.
+pub fn one_reading()
+    ensures given { (lines : List (List ℕ)) (given others : List Frame) →
+        Puts lines given → Puts lines others → given ≡ others }
+    ensures apart { (lines : List (List ℕ)) (given : List Frame) (line : ℕ) →
+        Puts lines given → ¬ IsFirstBad lines line }
+    ensures bad_line { (lines : List (List ℕ)) (line other : ℕ) →
+        IsFirstBad lines line → IsFirstBad lines other → line ≡ other }
+{}

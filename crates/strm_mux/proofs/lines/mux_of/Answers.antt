@@ -1,6 +1,5 @@
 use Rattle.std.proofs.Common.{◌≡◌, ◌+◌, length, Err, ap, sym, ◌∙◌, arith}
 use Rattle.std.proofs.lemmas.Bool.{eqb-true}
-use Rattle.strm_mux.specs.Lines.{IsFirstBad}
 use Rattle.strm_mux.proofs.LineLemmas.{nothing_held, held_more, all_held, refused_line}
 use Rattle.strm_mux.proofs.lines.mux_of.Goals as goal
 
