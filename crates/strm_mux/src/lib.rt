@@ -4,3 +4,6 @@
 #![tactic(auto)]
 
 pub mod carrying;
+pub mod lines;
+pub mod serving;
+pub mod texts;
