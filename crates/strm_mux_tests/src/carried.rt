@@ -1,20 +1,22 @@
 //! Lanes that are carried over the store, in pieces of the least and the most bytes.
 
+use std::alloc::Global;
 use crate::lanes::{is_answer, is_lane, is_rest};
+use std::process::Abort;
 use strm_frames::errors::MuxError;
 use strm_frames::muxes::Mux;
 use strm_mux::carrying::carry;
 
 // Two lanes, of which the first has more than one frame and ends.
-fn put(rt: &HostRuntime, mux: &mut Mux, long: &[u8]) {
+fn put(rt: &impl Abort, mux: &mut Mux, long: &[u8]) {
     is_answer(rt, mux.put(1, long), Ok(()));
     is_answer(rt, mux.put(2, &[255]), Ok(()));
     is_answer(rt, mux.put(1, &[11]), Ok(()));
     is_answer(rt, mux.end(1), Ok(()));
 }
 
-fn is_carried(rt: &HostRuntime, mux: &Mux, write: u32, read: u32) {
-    let Ok(carried) = carry(rt.alloc(), mux, write.clamp(16, 64), read.clamp(16, 64)) else {
+fn is_carried(rt: &impl Abort, alloc: Global, mux: &Mux, write: u32, read: u32) {
+    let Ok(carried) = carry(alloc, mux, write.clamp(16, 64), read.clamp(16, 64)) else {
         panic!(rt; "not carried")
     };
     assert!(rt; carried.moved == 273);
@@ -32,7 +34,7 @@ fn lanes_over_the_store(rt: HostRuntime) {
     let (long, _) = LANE.split_at(256);
     put(&rt, &mut mux, long);
     for (write, read) in [(16, 64), (64, 16), (16, 16), (64, 64), (17, 23)] {
-        is_carried(&rt, &mux, write, read);
+        is_carried(&rt, rt.alloc(), &mux, write, read);
     }
 }
 

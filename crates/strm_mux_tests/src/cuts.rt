@@ -1,13 +1,14 @@
 //! A stream that is fed in pieces: in every cut into two, and in pieces of 1 to 7 bytes.
 
 use crate::lanes::{is_answer, is_lane, is_rest};
+use std::process::Abort;
 use strm_frames::demuxes::Demux;
 use strm_frames::errors::MuxError;
 
 // A lane has 0a, another ff, the first one 0b, and it ends.
 const STREAM: [u8; 14] = [0, 1, 1, 10, 0, 2, 1, 255, 0, 1, 1, 11, 1, 1];
 
-fn is_whole(rt: &HostRuntime, demux: &Demux) {
+fn is_whole(rt: &impl Abort, demux: &Demux) {
     is_lane(rt, demux, 1, &[10, 11], true);
     is_lane(rt, demux, 2, &[255], false);
     is_lane(rt, demux, 0, &[], false);

@@ -1,6 +1,8 @@
 //! Every fault of a stream, fed in every cut into two pieces.
 
+use std::alloc::Global;
 use crate::lanes::{is_answer, is_lane, is_rest};
+use std::process::Abort;
 use strm_frames::demuxes::Demux;
 use strm_frames::errors::MuxError;
 
@@ -17,9 +19,9 @@ const FAULTS: [(&[u8], MuxError); 8] = [
 ];
 
 // Whether a stream that is cut here answers its fault, as soon as the last byte comes, and from then on.
-fn is_told(rt: &HostRuntime, stream: &[u8], cut: usize, fault: MuxError) {
+fn is_told(rt: &impl Abort, alloc: Global, stream: &[u8], cut: usize, fault: MuxError) {
     let (front, back) = stream.split_at(cut.min(stream.len()));
-    let mut demux = Demux::new(rt.alloc());
+    let mut demux = Demux::new(alloc);
     let first = if back.is_empty() { Err(fault) } else { Ok(()) };
     is_answer(rt, demux.feed(front), first);
     is_answer(rt, demux.feed(back), Err(fault));
@@ -32,7 +34,7 @@ fn is_told(rt: &HostRuntime, stream: &[u8], cut: usize, fault: MuxError) {
 fn each_fault_in_every_cut(rt: HostRuntime) {
     for (stream, fault) in FAULTS {
         for cut in 0..13usize {
-            is_told(&rt, stream, cut, fault);
+            is_told(&rt, rt.alloc(), stream, cut, fault);
         }
     }
 }

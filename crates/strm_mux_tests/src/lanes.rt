@@ -1,5 +1,6 @@
 //! Lanes that are put, fed and read again: a few bytes, long ones, and all 256 at once.
 
+use std::alloc::Global;
 use std::process::Abort;
 use strm_frames::demuxes::Demux;
 use strm_frames::errors::MuxError;
@@ -52,11 +53,11 @@ const LENGTHS: [(usize, usize); 6] = [
 ];
 
 // Whether so many bytes come back, fed byte by byte.
-fn come_back(rt: &HostRuntime, bytes: &[u8], wanted: usize) {
-    let mut mux = Mux::new(rt.alloc());
+fn come_back(rt: &impl Abort, alloc: Global, bytes: &[u8], wanted: usize) {
+    let mut mux = Mux::new(alloc);
     is_answer(rt, mux.put(9, bytes), Ok(()));
     assert!(rt; mux.bytes().len() == wanted);
-    let mut demux = Demux::new(rt.alloc());
+    let mut demux = Demux::new(alloc);
     for byte in mux.bytes() {
         is_answer(rt, demux.feed(&[*byte]), Ok(()));
     }
@@ -68,12 +69,12 @@ fn come_back(rt: &HostRuntime, bytes: &[u8], wanted: usize) {
 fn long_puts_are_cut_into_frames(rt: HostRuntime) {
     for (count, wanted) in LENGTHS {
         let (bytes, _) = LONG.split_at(count.min(LONG.len()));
-        come_back(&rt, bytes, wanted);
+        come_back(&rt, rt.alloc(), bytes, wanted);
     }
 }
 
 // Each lane has its own number twice, and the odd ones end between.
-fn fill(rt: &HostRuntime, mux: &mut Mux) {
+fn fill(rt: &impl Abort, mux: &mut Mux) {
     for number in 0..256usize {
         let lane = number as u8;
         is_answer(rt, mux.put(lane, &[lane]), Ok(()));
