@@ -4,3 +4,4 @@ pub mod LineReading
 pub mod Texts
 pub mod Serving
 pub mod Answering
+pub mod Hearing

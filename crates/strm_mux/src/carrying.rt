@@ -1,24 +1,30 @@
 //! Lanes carried from one guest to another, over one stream of bytes.
 //!
-//! Meaning: `OneStream.antt` of `strm_one_stream`, for the steps and what they move; `Carrying.antt`, for the
+//! Meaning: `OneStream.antt` of `strm_one_stream`, for the steps and what they bring; `Carrying.antt`, for the
 //! lanes. Ours.
 
-ghost use Rattle.std.specs.Prelude.{◌≡◌, ◌≤◌, List, [], length, IfOk, IfErr};
+ghost use Rattle.std.specs.Prelude.{◌≡◌, ◌≤◌, ◌<◌, ◌∷◌, [], List, ℕ, length, slice_index, IfOk, IfErr};
 ghost use Rattle.strm_frames.specs.Demuxes.{IsFed};
 ghost use Rattle.strm_frames.specs.Frames.{Frame};
 ghost use Rattle.strm_frames.specs.Muxes.{Carries};
-ghost use Rattle.strm_laws.specs.Conservation.{got, moments, last};
+ghost use Rattle.strm_laws.specs.Conservation.{got, moments, last, replies_of};
 ghost use Rattle.strm_machine.specs.Moments.{received};
 ghost use Rattle.strm_machine.specs.Plays.{play, Ends};
 ghost use Rattle.strm_mux.specs.Carrying.{Delivers};
-ghost use Rattle.strm_one_stream.specs.OneStream.{script_of, items_of};
-ghost use Rattle.strm_session.specs.Runs.{start};
+ghost use Rattle.strm_one_stream.specs.OneStream.{script_of, items_of, AreSettled};
+ghost use Rattle.strm_session.specs.Runs.{start, AreOfGuests, counts_of};
 
+use crate::hearing::heard;
+use crate::scripts::script;
 use std::alloc::Global;
+use strm_buffers::hosts::Hosts;
 use strm_frames::demuxes::Demux;
 use strm_frames::errors::MuxError;
 use strm_frames::muxes::Mux;
 use strm_lines::lists::{Replies, Steps};
+use strm_machine::steps::Step;
+use strm_one_stream::carries;
+use strm_session::runs::{RunCause, Transcript, run};
 
 /// What was carried.
 #[derive(Drop)]
@@ -56,5 +62,50 @@ pub fn carry(alloc: Global, mux: &Mux, write: u32, read: u32) -> Result<Carried,
     // Nothing but want of memory is an error.
     ensures err { IfErr result (λ error. error ≡ MuxError.OutOfMemory) }
 {
-    unreachable!()
+    carries();
+    let bytes = mux.bytes();
+    let steps = script(alloc, bytes, write, read)?;
+    let transcript = play_all(alloc, steps.as_slice())?;
+    let moved = first_count(transcript.moved.as_slice());
+    let demux = heard(alloc, transcript.replies.as_slice())?;
+    Ok(Carried {
+        demux,
+        steps,
+        replies: transcript.replies,
+        moved,
+    })
+}
+
+// The count of the first stream.
+fn first_count(counts: &[u128]) -> u64
+    requires some { 0 < length counts.now }
+    requires few { slice_index counts.now 0 ≤ 1048576 }
+    ensures { result ≡ slice_index counts.now 0 }
+{
+    counts[0] as u64
+}
+
+// A run of guests alone that goes on behind each reply.
+fn play_all(alloc: Global, steps: &[Step]) -> Result<Transcript, MuxError>
+    requires few { length steps.now ≤ 4294967295 }
+    requires guests { AreOfGuests steps.now }
+    requires settled { AreSettled (replies_of (moments start steps.now)) }
+    ensures played { IfOk result (λ t. play [] start steps.now ≡ Ends t.replies (last start steps.now)) }
+    ensures told { IfOk result (λ t. t.replies ≡ replies_of (moments start steps.now)) }
+    ensures moved { IfOk result (λ t. t.moved ≡ counts_of (last start steps.now)) }
+    ensures err { IfErr result (λ error. error ≡ MuxError.OutOfMemory) }
+{
+    let mut hosts = Hosts {
+        writers: Vec::new(alloc),
+        readers: Vec::new(alloc),
+    };
+    match run(alloc, steps, &mut hosts) {
+        Ok(transcript) => Ok(transcript),
+        Err(stop) => match stop.cause {
+            RunCause::OutOfMemory => Err(MuxError::OutOfMemory),
+            RunCause::HostFailed { .. } => unreachable!(),
+            RunCause::HostBroke { .. } => unreachable!(),
+            RunCause::BadItem { .. } => unreachable!(),
+        },
+    }
 }
