@@ -157,12 +157,12 @@ fed_ok h k bytes piece t n d =
     }
 
 -- a fault by flags is one by frames
-fault_on : (fs gs : List Frame) (flags : List Bool) (place used : ℕ) (next : List ℕ) (fault : Fault) → place ≡ placed (length (spelling fs)) → FlagsTell flags (fs ++ gs) → used ≡ length (spelling gs) → IsFlagged flags (place + used) next fault → IsFault (fs ++ gs) (length (spelling (fs ++ gs))) next fault
-fault_on fs gs flags place used next (BadKind at) p t u w = (w.0 ∙ place_on fs gs place used p u, w.1)
-fault_on fs gs flags place used next (EmptyFrame at) p t u w = (w.0 ∙ place_on fs gs place used p u, w.1)
-fault_on fs gs flags place used next (AfterEnd at) p t u w =
+fault_on : (fs gs : List Frame) (flags : List Bool) (place : ℕ) (next : List ℕ) (fault : Fault) → place ≡ placed (length (spelling fs)) → FlagsTell flags (fs ++ gs) → IsFlagged flags (place + length (spelling gs)) next fault → IsFault (fs ++ gs) (length (spelling (fs ++ gs))) next fault
+fault_on fs gs flags place next (BadKind at) p t w = (w.0 ∙ place_on fs gs place (length (spelling gs)) p refl, w.1)
+fault_on fs gs flags place next (EmptyFrame at) p t w = (w.0 ∙ place_on fs gs place (length (spelling gs)) p refl, w.1)
+fault_on fs gs flags place next (AfterEnd at) p t w =
     let v = w.1 in
-    (w.0 ∙ place_on fs gs place used p u, record { frame = v.frame; more = v.more; is = v.is; begins = v.begins; ended = sym (t (named v.frame) v.below) ∙ v.flag })
+    (w.0 ∙ place_on fs gs place (length (spelling gs)) p refl, record { frame = v.frame; more = v.more; is = v.is; begins = v.begins; ended = sym (t (named v.frame) v.below) ∙ v.flag })
 
 fed_fault : (h : Heard) (bytes piece b : List ℕ) (fault : Fault) → b ≡ h.rest ++ piece → SurveysFault b h.ended h.place fault → length h.ended ≡ 256 → IsFed h bytes → Faults (bytes ++ piece) fault
 fed_fault h bytes piece b fault e s n d =
@@ -174,7 +174,7 @@ fed_fault h bytes piece b fault e s n d =
       next = s.next;
       whole = whole_of fs gs bytes piece h.rest b s.next d.splits.whole e s.whole;
       are = are_append [] fs gs d.splits.are f.are;
-      is = fault_on fs gs (flags_after h.ended gs) h.place (length (spelling gs)) s.next fault d.place f.tell refl s.is;
+      is = fault_on fs gs (flags_after h.ended gs) h.place s.next fault d.place f.tell s.is;
     }
 
 same_error : (x y : Fault) → error_of x ≡ error_of y → x ≡ y
@@ -212,12 +212,19 @@ pub record FindsFault (h : Heard) (piece rest : List ℕ) (found : Fault) : Type
   pub surveys : SurveysFault bytes h.ended h.place found
   pub again : rest ≡ h.rest
 
-pub fault_left : (h now : Heard) (piece rest : List ℕ) (found fault : Fault) → h ≡ now → FindsFault h piece rest found → length h.ended ≡ 256 → error_of found ≡ error_of fault →
-    (record h { rest = rest; fault = Some found } ≡ record now { fault = Some fault }) × ((bytes : List ℕ) → IsFed now bytes → Faults (bytes ++ piece) fault)
+-- and what it leaves
+pub record LeavesFault (h now : Heard) (piece rest : List ℕ) (found fault : Fault) : Type 0 where
+  pub state : record h { rest = rest; fault = Some found } ≡ record now { fault = Some fault }
+  pub faults : (bytes : List ℕ) → IsFed now bytes → Faults (bytes ++ piece) fault
+
+pub fault_left : (h now : Heard) (piece rest : List ℕ) (found fault : Fault) → h ≡ now → FindsFault h piece rest found → length h.ended ≡ 256 → error_of found ≡ error_of fault → LeavesFault h now piece rest found fault
 fault_left h now piece rest found fault q w n e =
     let same : found ≡ fault = same_error found fault e in
     let again : rest ≡ h.rest = w.again in
-    (rw (again, same, q) refl, λ bytes d. rw same at (fed_fault h bytes piece w.bytes found w.all w.surveys n (rw (← q) at d)))
+    record {
+      state = rw (again, same, q) refl;
+      faults = λ bytes d. rw same at (fed_fault h bytes piece w.bytes found w.all w.surveys n (rw (← q) at d));
+    }
 
 -- NOTHING FED
 
@@ -245,16 +252,26 @@ empties [] h lane = refl
 empties (v ∷ vs) h zero = h 0 v (omega arith)
 empties (v ∷ vs) h (suc lane) = empties vs (λ k d l. h (suc k) d (omega arith)) lane
 
+-- what a feed answers
+pub record Answers (old new : Heard) (piece : List ℕ) (r : Result (Unit {0}) MuxError) : Type 0 where
+  pub ok : OnOk r ((bytes : List ℕ) → IsFed old bytes → IsFed new (bytes ++ piece))
+  pub fault : (fault : Fault) → old.fault ≡ None → r ≡ Err (error_of fault) → (new ≡ record old { fault = Some fault }) × ((bytes : List ℕ) → IsFed old bytes → Faults (bytes ++ piece) fault)
+  pub known : (lane : ℕ) → r ≡ Err (errors.Ended lane) → ⊥
+
+-- a fault that it found is the stream's
+one_found : (old new : Heard) (bytes piece : List ℕ) (found fault : Fault) → old.fault ≡ None → Answers old new piece (Err (error_of found)) → IsFed old bytes → Faults (bytes ++ piece) fault → found ≡ fault
+one_found old new bytes piece found fault n a f w = one_fault (bytes ++ piece) found fault ((a.fault found n refl).1 bytes f) w
+
 -- a fault that the stream has is answered, but for want of memory
-pub faults_exactly : (old new : Heard) (piece : List ℕ) (r : Result (Unit {0}) MuxError) → OnOk r ((bytes : List ℕ) → IsFed old bytes → IsFed new (bytes ++ piece)) → ((fault : Fault) → old.fault ≡ None → r ≡ Err (error_of fault) → (new ≡ record old { fault = Some fault }) × ((bytes : List ℕ) → IsFed old bytes → Faults (bytes ++ piece) fault)) → ((lane : ℕ) → r ≡ Err (errors.Ended lane) → ⊥) → (bytes : List ℕ) (fault : Fault) → old.fault ≡ None → IsFed old bytes → Faults (bytes ++ piece) fault → (r ≡ Err (error_of fault)) ⊎ (r ≡ Err errors.OutOfMemory)
-faults_exactly old new piece (Ok u) a b k bytes fault n f w =
-    let g = a bytes f in
+pub faults_exactly : (old new : Heard) (piece : List ℕ) (r : Result (Unit {0}) MuxError) → Answers old new piece r → (bytes : List ℕ) (fault : Fault) → old.fault ≡ None → IsFed old bytes → Faults (bytes ++ piece) fault → (r ≡ Err (error_of fault)) ⊎ (r ≡ Err errors.OutOfMemory)
+faults_exactly old new piece (Ok u) a bytes fault n f w =
+    let g = a.ok bytes f in
     absurd (apart (bytes ++ piece) g.frames new.rest fault g.splits w)
-faults_exactly old new piece (Err (errors.Ended lane)) a b k bytes fault n f w = absurd (k lane refl)
-faults_exactly old new piece (Err (errors.BadKind at)) a b k bytes fault n f w =
-    let s = one_fault (bytes ++ piece) (BadKind at) fault ((b (BadKind at) n refl).1 bytes f) w in inl (rw (← s) refl)
-faults_exactly old new piece (Err (errors.EmptyFrame at)) a b k bytes fault n f w =
-    let s = one_fault (bytes ++ piece) (EmptyFrame at) fault ((b (EmptyFrame at) n refl).1 bytes f) w in inl (rw (← s) refl)
-faults_exactly old new piece (Err (errors.AfterEnd at)) a b k bytes fault n f w =
-    let s = one_fault (bytes ++ piece) (AfterEnd at) fault ((b (AfterEnd at) n refl).1 bytes f) w in inl (rw (← s) refl)
-faults_exactly old new piece (Err errors.OutOfMemory) a b k bytes fault n f w = inr refl
+faults_exactly old new piece (Err (errors.Ended lane)) a bytes fault n f w = absurd (a.known lane refl)
+faults_exactly old new piece (Err (errors.BadKind at)) a bytes fault n f w =
+    let s = one_found old new bytes piece (BadKind at) fault n a f w in inl (rw (← s) refl)
+faults_exactly old new piece (Err (errors.EmptyFrame at)) a bytes fault n f w =
+    let s = one_found old new bytes piece (EmptyFrame at) fault n a f w in inl (rw (← s) refl)
+faults_exactly old new piece (Err (errors.AfterEnd at)) a bytes fault n f w =
+    let s = one_found old new bytes piece (AfterEnd at) fault n a f w in inl (rw (← s) refl)
+faults_exactly old new piece (Err errors.OutOfMemory) a bytes fault n f w = inr refl

@@ -48,12 +48,12 @@ front-few (k ∷ x ∷ n ∷ r) head rest h l e d z m =
     let no : n ≢ 0 = λ q. z (n0 ∙ q) in
     rw (h, ne_eqb n 0 no, lt-ltb (length r) n few) refl
 
-pub front-data : (b head rest bytes more : List ℕ) → HasKind 0 b → 3 ≤ length b → head ≡ take 3 b → rest ≡ drop 3 b → get_or head 2 0 ≢ 0 → get_or head 2 0 ≤ length rest → bytes ≡ take (get_or head 2 0) rest → more ≡ drop (get_or head 2 0) rest → Whole (Data (get_or head 1 0) bytes) more ≡ front_of b
+pub front-data : (b head rest body more : List ℕ) → HasKind 0 b → 3 ≤ length b → head ≡ take 3 b → rest ≡ drop 3 b → get_or head 2 0 ≢ 0 → get_or head 2 0 ≤ length rest → body ≡ take (get_or head 2 0) rest → more ≡ drop (get_or head 2 0) rest → Whole (Data (get_or head 1 0) body) more ≡ front_of b
 unfolding front_of
-front-data [] head rest bytes more h l e d z m f g = absurd h
-front-data (k ∷ []) head rest bytes more h l e d z m f g = absurd (omega arith)
-front-data (k ∷ x ∷ []) head rest bytes more h l e d z m f g = absurd (omega arith)
-front-data (k ∷ x ∷ n ∷ r) head rest bytes more h l e d z m f g =
+front-data [] head rest body more h l e d z m f g = absurd h
+front-data (k ∷ []) head rest body more h l e d z m f g = absurd (omega arith)
+front-data (k ∷ x ∷ []) head rest body more h l e d z m f g = absurd (omega arith)
+front-data (k ∷ x ∷ n ∷ r) head rest body more h l e d z m f g =
     let n0 : get_or head 2 0 ≡ n = ap (λ (s : List ℕ). get_or s 2 0) e in
     let x0 : get_or head 1 0 ≡ x = ap (λ (s : List ℕ). get_or s 1 0) e in
     let enough : n ≤ length r = omega (arith, ap length d) in

@@ -213,18 +213,22 @@ surveys_all bytes rest flags now used t a p e = record {
   part = part_sound rest (rest_bytes bytes (spelling a.frames) rest t a.whole) p;
 }
 
+-- the place of what is left
+abbrev pub IsAt : ℕ → List ℕ → List ℕ → ℕ → Type 0
+IsAt place bytes rest at = at ≡ placed (place + (length bytes - length rest))
+
 place_of : (bytes rest : List ℕ) (frames : List Frame) (place at : ℕ) → bytes ≡ spelling frames ++ rest → at ≡ placed (place + (length bytes - length rest)) → at ≡ placed (place + length (spelling frames))
 place_of bytes rest frames place at e n =
     let d : length bytes - length rest ≡ length (spelling frames) = omega (arith, ap length e, length-append (spelling frames) rest) in
     n ∙ ap (λ (k : ℕ). placed (place + k)) d
 
-pub survey_bad_kind : (bytes rest : List ℕ) (flags now : List Bool) (place at : ℕ) → SurveysSoFar bytes rest flags now → Other ≡ front_of rest → at ≡ placed (place + (length bytes - length rest)) → SurveysFault bytes flags place (BadKind at)
+pub survey_bad_kind : (bytes rest : List ℕ) (flags now : List Bool) (place at : ℕ) → SurveysSoFar bytes rest flags now → Other ≡ front_of rest → IsAt place bytes rest at → SurveysFault bytes flags place (BadKind at)
 survey_bad_kind bytes rest flags now place at a e n = record { frames = a.frames; next = rest; whole = a.whole; allowed = a.allowed; is = (place_of bytes rest a.frames place at a.whole n, other_sound rest e) }
 
-pub survey_empty : (bytes rest : List ℕ) (flags now : List Bool) (place at : ℕ) → SurveysSoFar bytes rest flags now → Empty ≡ front_of rest → at ≡ placed (place + (length bytes - length rest)) → SurveysFault bytes flags place (EmptyFrame at)
+pub survey_empty : (bytes rest : List ℕ) (flags now : List Bool) (place at : ℕ) → SurveysSoFar bytes rest flags now → Empty ≡ front_of rest → IsAt place bytes rest at → SurveysFault bytes flags place (EmptyFrame at)
 survey_empty bytes rest flags now place at a e n = record { frames = a.frames; next = rest; whole = a.whole; allowed = a.allowed; is = (place_of bytes rest a.frames place at a.whole n, empty_sound rest e) }
 
-pub survey_after_end : (bytes rest more : List ℕ) (flags now : List Bool) (place at : ℕ) (f : Frame) → IsBytes bytes → SurveysSoFar bytes rest flags now → Whole f more ≡ front_of rest → get_or now (named f) false ≡ true → at ≡ placed (place + (length bytes - length rest)) → SurveysFault bytes flags place (AfterEnd at)
+pub survey_after_end : (bytes rest more : List ℕ) (flags now : List Bool) (place at : ℕ) (f : Frame) → IsBytes bytes → SurveysSoFar bytes rest flags now → Whole f more ≡ front_of rest → get_or now (named f) false ≡ true → IsAt place bytes rest at → SurveysFault bytes flags place (AfterEnd at)
 survey_after_end bytes rest more flags now place at f t a e z n =
     let s = whole_sound rest f more (rest_bytes bytes (spelling a.frames) rest t a.whole) e in
     record {

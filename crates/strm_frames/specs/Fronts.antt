@@ -26,6 +26,7 @@ abbrev pub end_at : List ℕ → NextFrame
 end_at [] = Part
 end_at (lane ∷ more) = Whole (End lane) more
 
+-- the frame at the front of bytes, or why there is none
 unfoldable pub front_of : List ℕ → NextFrame
 front_of [] = Part
 front_of (kind ∷ more) =

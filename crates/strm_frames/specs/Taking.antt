@@ -37,6 +37,7 @@ pub record NamesFlagged (flags : List Bool) (next : List ℕ) : Type 0 where
   pub begins : next ≡ spelled frame ++ more
   pub flag : slice_index_or flags (named frame) false ≡ true
 
+-- behind frames after which the flags are these, at this place, comes this fault
 abbrev pub IsFlagged : List Bool → ℕ → List ℕ → Fault → Type 0
 IsFlagged flags place next (BadKind at) = (at ≡ placed place) × HasBadKind next
 IsFlagged flags place next (EmptyFrame at) = (at ≡ placed place) × HasNoBytes next
@@ -47,17 +48,18 @@ pub record StopsAtFrame (bytes : List ℕ) : Type 0 where
   pub no_part : Part ≡ front_of bytes → bytes ≡ []
   pub no_more : (frame : Frame) (more : List ℕ) → Whole frame more ≡ front_of bytes → more ≡ []
 
--- so much of a piece was added to the first bytes of a frame that this is whole, or a fault is found; or all of
--- it, and less than a frame has come
+-- so much of a piece was added to the first bytes of a frame that this is whole, or a fault is found
 pub record IsCompleted (old new piece : List ℕ) (used : ℕ) : Type 0 where
   pub within : used ≤ length piece
   pub added : new ≡ old ++ take used piece
   pub stops : StopsAtFrame new
 
+-- all of it was added, and less than a frame has come
 pub record IsShort (old new piece : List ℕ) : Type 0 where
   pub added : new ≡ old ++ piece
   pub part : IsPartOfFrame new
 
+-- the one where it is told how much that was, the other where not
 abbrev pub IsBegun : List ℕ → List ℕ → List ℕ → Option ℕ → Type 0
 IsBegun old new piece None = IsShort old new piece
 IsBegun old new piece (Some used) = IsCompleted old new piece used

@@ -15,12 +15,14 @@ returns-in-Err-clause-fault c = λ fault none e.
     let b : IsCompleted c.self.inside.rest.items c.complete.new.rest.items c.args.piece.now c.in-Some-2.begun = rw c.in-Some-2.is at c.in_ok-begun.ensures.ok in
     let before : c.len-before.result ≡ length c.self.inside.rest.items = omega (arith, c.len-before.ensures, c.self.inside.rest.ok.0) in
     let error : c.error-in-Err.result ≡ error_of fault = cc in
-    fault_left _ _ c.args.piece.now _ c.in-Err.fault fault c.self.view_is (record {
+    let same : error_of c.in-Err.fault ≡ error_of fault = sym c.error-in-Err.ensures ∙ error in
+    let left = fault_left _ _ c.args.piece.now _ c.in-Err.fault fault c.self.view_is (record {
       bytes = c.complete.new.rest.items ++ c.split_at.result.1.now;
       all = both_all c.self.inside.rest.items c.args.piece.now _ _ c.in-Some-2.begun b.added c.split_at.ensures.back;
       surveys = rw c.deref.ensures.value at c.in-Err.ensures.fault;
       again = c.truncate.ensures.items ∙ ap (take c.len-before.result) b.added ∙ take_at c.self.inside.rest.items (take c.in-Some-2.begun c.args.piece.now) c.len-before.result (sym before);
-    }) c.self.told (sym c.error-in-Err.ensures ∙ error)
+    }) c.self.told same in
+    (left.state, left.faults)
 
 pub returns-else-not-put_both-clause-ok : goal.returns-else-not-put_both-clause-ok
 returns-else-not-put_both-clause-ok c =
