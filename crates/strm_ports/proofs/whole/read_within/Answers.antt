@@ -1,6 +1,6 @@
 use Rattle.std.proofs.Common.{◌++◌, take, arith, length-append}
 use Rattle.strm_ports.proofs.PortLemmas.{Consumes-append}
-use Rattle.strm_ports.proofs.whole.read_all.Goals as goal
+use Rattle.strm_ports.proofs.whole.read_within.Goals as goal
 
 pub returns-in_err-push_slice-clause-read : goal.returns-in_err-push_slice-clause-read
 returns-in_err-push_slice-clause-read g c =
