@@ -1,12 +1,12 @@
 -- A line is read as what it puts exactly where it spells it.
-use Rattle.std.proofs.Common.{◌≡◌, ◌≢◌, Bool, true, false, ℕ, zero, suc, ◌+◌, ◌-◌, ◌*◌, ◌<◌, ◌≤◌, List, [], ◌∷◌, ◌++◌, length, map, take, get_or, codes, Option, Some, None, Result, Ok, Err, refl, drop, sym, ap, ◌∙◌, subst, arith, inl, inr, append_assoc, length-append}
+use Rattle.std.proofs.Common.{◌≡◌, Bool, true, false, ℕ, zero, suc, ◌+◌, ◌-◌, ◌<◌, ◌≤◌, List, [], ◌∷◌, ◌++◌, length, map, take, codes, Option, Some, None, Result, Ok, Err, refl, drop, sym, ap, ◌∙◌, arith, inl, inr, append_assoc, length-append}
 use Rattle.std.specs.Fmt.{decimal}
 use Rattle.std.specs.Prelude.{All, OnOk, ◌↔◌, ◌==◌, if◌then◌else◌, slice_index_or}
 use Rattle.std.specs.List.{flat_map}
 use Rattle.std.proofs.lemmas.Bool.{cases_lt}
 use Rattle.std.proofs.lemmas.List.{append-nil, take_at, take_all, drop_all, length-map, map-append, take-map}
 use Rattle.std.proofs.lemmas.List.Concat.{flat_map-append}
-use Rattle.std.proofs.lemmas.List.Elements.{All-nil, All-cons, All-push, All-head, All-tail, All-take}
+use Rattle.std.proofs.lemmas.List.Elements.{All-nil, All-push, All-head, All-tail, All-take}
 use Rattle.std.proofs.lemmas.Option.{same_Some}
 use Rattle.strm_lines.specs.Grammar.{IsBetween, IsLineBytes}
 use Rattle.strm_lines.specs.Lines.{on_first, lines_of}
@@ -175,25 +175,30 @@ on_ok : {P : Type 0} (r : Result (Unit {0}) MuxError) (u : Unit {0}) → r ≡ O
 on_ok (Ok v) u e p = p
 on_ok (Err error) u e p = cc
 
-pub takes_data : (old now new : Written) (line piece : List ℕ) (lane : ℕ) (bytes : List ℕ) (r : Result (Unit {0}) MuxError) (u : Unit {0}) → line_read line ≡ Some (Data lane bytes) → piece ≡ bytes → r ≡ Ok u → new ≡ now → OnOk r (now ≡ record old { bytes = old.bytes ++ spelling (pieces_of lane piece) }) → ((given : List Frame) → Carries old given → OnOk r (Carries now (given ++ Data lane piece ∷ []))) → ((r ≡ Err (errors.Ended lane)) ↔ (slice_index_or old.ended lane false ≡ true)) → Takes old new line
-takes_data old now new line piece lane bytes r u read same ok is put carries ended =
-    let has : HasLine (Data lane bytes) = (line_sound line (Data lane bytes) read).1 in
-    rw is (record {
-      frame = Data lane bytes;
-      read = read;
-      unended = not_ended (slice_index_or old.ended lane false) r lane u ok ended;
-      bytes = ap (λ (w : Written). w.bytes) (on_ok r u ok put) ∙ ap (λ s. old.bytes ++ s) (rw same (one_piece lane bytes has.1.some (omega (arith, has.1.most))));
-      carries = λ given c. on_ok r u ok (rw same at (carries given c));
-    })
+-- what was put is one frame
+pub data_taken : (old now : Written) (lane : ℕ) (piece : List ℕ) (r : Result (Unit {0}) MuxError) → HasLine (Data lane piece) → OnOk r (now ≡ record old { bytes = old.bytes ++ spelling (pieces_of lane piece) }) → OnOk r (now.bytes ≡ old.bytes ++ spelled (Data lane piece))
+data_taken old now lane piece (Ok u) h e =
+    ap (λ (w : Written). w.bytes) e ∙ ap (λ s. old.bytes ++ s) (one_piece lane piece h.1.some (omega (arith, h.1.most)))
+data_taken old now lane piece (Err error) h e = e
 
-pub takes_end : (old now new : Written) (line : List ℕ) (lane : ℕ) (flags : List Bool) (r : Result (Unit {0}) MuxError) (u : Unit {0}) → line_read line ≡ Some (End lane) → r ≡ Ok u → new ≡ now → OnOk r (now ≡ record { bytes = old.bytes ++ spelled (End lane); ended = flags }) → ((given : List Frame) → Carries old given → OnOk r (Carries now (given ++ End lane ∷ []))) → ((r ≡ Err (errors.Ended lane)) ↔ (slice_index_or old.ended lane false ≡ true)) → Takes old new line
-takes_end old now new line lane flags r u read ok is put carries ended =
+pub end_taken : (old now : Written) (lane : ℕ) (flags : List Bool) (r : Result (Unit {0}) MuxError) → OnOk r (now ≡ record { bytes = old.bytes ++ spelled (End lane); ended = flags }) → OnOk r (now.bytes ≡ old.bytes ++ spelled (End lane))
+end_taken old now lane flags (Ok u) e = ap (λ (w : Written). w.bytes) e
+end_taken old now lane flags (Err error) e = e
+
+-- what a put or an end of a frame answers, and leaves
+pub record Answers (old now : Written) (f : Frame) (r : Result (Unit {0}) MuxError) : Type 0 where
+  pub taken : OnOk r (now.bytes ≡ old.bytes ++ spelled f)
+  pub carries : (given : List Frame) → Carries old given → OnOk r (Carries now (given ++ f ∷ []))
+  pub ended : (r ≡ Err (errors.Ended (named f))) ↔ (slice_index_or old.ended (named f) false ≡ true)
+
+pub takes : (old now new : Written) (line : List ℕ) (f : Frame) (r : Result (Unit {0}) MuxError) (u : Unit {0}) → line_read line ≡ Some f → r ≡ Ok u → new ≡ now → Answers old now f r → Takes old new line
+takes old now new line f r u read ok is a =
     rw is (record {
-      frame = End lane;
+      frame = f;
       read = read;
-      unended = not_ended (slice_index_or old.ended lane false) r lane u ok ended;
-      bytes = ap (λ (w : Written). w.bytes) (on_ok r u ok put);
-      carries = λ given c. on_ok r u ok (carries given c);
+      unended = not_ended (slice_index_or old.ended (named f) false) r (named f) u ok a.ended;
+      bytes = on_ok r u ok a.taken;
+      carries = λ given c. on_ok r u ok (a.carries given c);
     })
 
 -- WHAT A MUX HOLDS OF THEM

@@ -1,10 +1,10 @@
 -- A lane is named exactly where it has bytes or ended.
-use Rattle.std.proofs.Common.{◌≡◌, ◌≢◌, eqb, true, false, Bool, ◌||◌, ◌&&◌, not, ℕ, zero, suc, ◌+◌, ◌<◌, List, [], ◌∷◌, ◌++◌, length, refl, sym, ap, ◌∙◌, arith, append_assoc, length-append}
-use Rattle.std.specs.Prelude.{All, ◌==◌, slice_index_or, cond, if◌then◌else◌}
+use Rattle.std.proofs.Common.{◌≡◌, eqb, true, false, Bool, ◌||◌, ℕ, suc, ◌+◌, ◌<◌, List, [], ◌∷◌, ◌++◌, length, refl, sym, ap, ◌∙◌, arith, append_assoc}
+use Rattle.std.specs.Prelude.{All, ◌==◌, cond, if◌then◌else◌}
 use Rattle.std.proofs.lemmas.List.{append-nil}
 use Rattle.std.proofs.lemmas.List.Elements.{All-head, All-tail}
 use Rattle.strm_lines.specs.Text.{ended}
-use Rattle.strm_frames.specs.Frames.{Frame, Data, End, named, part_for, lane_in, is_end_of, ends}
+use Rattle.strm_frames.specs.Frames.{Frame, Data, End, part_for, lane_in, ends}
 use Rattle.strm_mux.specs.Lines.{HasLine}
 use Rattle.strm_mux.specs.Texts.{names, lane_text, lane_line, lanes_below}
 

@@ -1,6 +1,6 @@
 -- How a line is read: the inverse of `line_of`; and what code knows of a mux and of lines. Ours.
 use Rattle.std.specs.Prelude.{◌≡◌, ℕ, true, false, List, [], ◌∷◌, ◌++◌, length, map, All, codes, slice_index_or, Option, Some, None}
-use Rattle.std.specs.Option.{option_map, option_map_or}
+use Rattle.std.specs.Option.{option_map}
 use Rattle.strm_lines.specs.Lines.{lines_of}
 use Rattle.strm_lines.specs.Reading.{behind, followed_by, number_within, hex}
 use Rattle.strm_frames.specs.Frames.{Frame, Data, End, named, spelled, spelling, AreFrames}
@@ -36,6 +36,7 @@ abbrev pub front_read : Option (List ℕ) → List ℕ → Option Frame
 front_read (Some rest) line = data_read rest
 front_read None line = other_read (behind (codes "end ") line)
 
+-- the same of a whole line
 unfoldable pub line_read : List ℕ → Option Frame
 line_read line = front_read (behind (codes "lane ") line) line
 

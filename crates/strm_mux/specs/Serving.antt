@@ -21,6 +21,7 @@ pub record AreSizes (words : List (List ℕ)) (write read : ℕ) : Type 0 where
   pub write_is : IsBetween 16 64 write
   pub read_is : IsBetween 16 64 read
 
+-- the words are two such sizes
 abbrev pub IsSizes : List (List ℕ) → Type 0
 IsSizes words = (write : ℕ) × (read : ℕ) × AreSizes words write read
 

@@ -9,4 +9,4 @@ mod hearing;
 pub mod lines;
 mod scripts;
 pub mod serving;
-pub mod texts;
+mod texts;

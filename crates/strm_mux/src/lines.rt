@@ -17,12 +17,12 @@ use strm_lines::parsing::first_line;
 use strm_lines::words::{behind, cut, hex, number_within};
 use strm_machine::chunks::Chunk;
 
-/// Why lines were not put on lanes.
-#[derive(Clone, Copy, Debug, PartialEq, Eq)]
-pub enum LinesError {
-    /// The first line that is not in the grammar, or names a lane that ended, counted from 1.
+// Why lines were not put on lanes.
+#[derive(Clone, Copy)]
+pub(crate) enum LinesError {
+    // The first line that is not in the grammar, or names a lane that ended, counted from 1.
     BadLine { line: u32 },
-    /// An allocation was refused.
+    // An allocation was refused.
     OutOfMemory,
 }
 
@@ -40,8 +40,8 @@ enum Refused {
     OutOfMemory,
 }
 
-/// A mux that was given what the lines of an input put, in order.
-pub fn mux_of(alloc: Global, bytes: &[u8]) -> Result<Mux, LinesError>
+// A mux that was given what the lines of an input put, in order.
+pub(crate) fn mux_of(alloc: Global, bytes: &[u8]) -> Result<Mux, LinesError>
     requires { length bytes.now ≤ 262144 }
     ensures ok { IfOk result (λ mux. Holds mux (lines_of bytes.now)) }
     ensures bad_line { (line : ℕ) → result ≡ Err (LinesError.BadLine line) → IsFirstBad (lines_of bytes.now) line }

@@ -20,11 +20,10 @@ use std::alloc::Global;
 use strm_codes::counts::OutOfMemory;
 use strm_frames::muxes::Mux;
 use strm_lines::lists::TextBytes;
-use strm_lines::parsing::MAX_BYTES as MOST_READ;
 use strm_lines::texts::{bad_line_text, read_fault_text, too_long_text};
 use strm_lines::words::number_within;
 use strm_ports::ports::{Sink, Source};
-use strm_ports::whole::{InputError, read_all, write_whole};
+use strm_ports::whole::{InputError, read_within, write_whole};
 
 /// The lanes were carried and written.
 pub const DONE: u8 = 0;
@@ -85,7 +84,7 @@ pub fn mux_serve<S: Source, K: Sink>(
     ensures write_fault { result ≡ WRITE_FAULT → Rose (K.faults sink.old) (K.faults sink.new) }
     ensures nothing { result ≡ OUT_OF_MEMORY → sink.new ≡ sink.old }
     ensures read { (front : List ℕ) × Consumes (S.left source.old) (S.left source.new) front
-        × (length front ≤ MOST_READ + 1) }
+        × (length front ≤ MAX_BYTES + 1) }
     ensures unread { ¬ IsSizes (map string_bytes words.now.items) → source.new ≡ source.old }
 
     // Lines that put something within the limit are carried and written, but for faults and want of
@@ -127,13 +126,13 @@ fn answer_words<S: Source>(
         IsOutput (map string_bytes words.now.items) (S.left source.old) (S.left source.new)
         (S.faults source.old) (S.faults source.new) a.status a.text) }
     ensures read { (front : List ℕ) × Consumes (S.left source.old) (S.left source.new) front
-        × (length front ≤ MOST_READ + 1) }
+        × (length front ≤ MAX_BYTES + 1) }
     ensures unread { ¬ IsSizes (map string_bytes words.now.items) → source.new ≡ source.old }
 {
     let Some(sizes) = sizes_of(words) else {
         return fixed(alloc, USAGE, usage_text());
     };
-    match read_all(alloc, source) {
+    match read_within(alloc, source, MAX_BYTES as u32) {
         Ok(input) => answer_input(alloc, input.as_slice(), sizes),
         Err(InputError::TooLong) => fixed(alloc, TOO_LONG, too_long_text()),
         Err(InputError::Fault) => fixed(alloc, READ_FAULT, read_fault_text()),
@@ -175,11 +174,9 @@ fn fixed(alloc: Global, status: u8, text: &[u8]) -> Result<Output, OutOfMemory>
 fn answer_input(alloc: Global, input: &[u8], sizes: Sizes) -> Result<Output, OutOfMemory>
     requires write { (16 ≤ sizes.write) × (sizes.write ≤ 64) }
     requires read { (16 ≤ sizes.read) × (sizes.read ≤ 64) }
+    requires few { length input.now ≤ MAX_BYTES }
     ensures told { IfOk result (λ a. AnswersInput sizes.write sizes.read input.now a.status a.text) }
 {
-    if input.len() > MAX_BYTES {
-        return fixed(alloc, TOO_LONG, too_long_text());
-    }
     match mux_of(alloc, input) {
         Ok(mux) => answer_mux(alloc, &mux, sizes),
         Err(LinesError::BadLine { line }) => {

@@ -16,8 +16,8 @@ use strm_frames::demuxes::Demux;
 use strm_lines::lists::TextBytes;
 use strm_lines::texts::{hex_digit, push_number};
 
-/// The text of the lanes that lines put something on or ended, and of how many bytes came.
-pub fn output_text(alloc: Global, demux: &Demux, moved: u64) -> Result<TextBytes, OutOfMemory>
+// The text of the lanes that lines put something on or ended, and of how many bytes came.
+pub(crate) fn output_text(alloc: Global, demux: &Demux, moved: u64) -> Result<TextBytes, OutOfMemory>
     ensures { (given : List Frame) → Delivers demux.now given → All HasLine given →
         IfOk result (λ text. text ≡ output_text given moved) }
 {
@@ -94,8 +94,8 @@ fn push_pairs(out: &mut TextBytes, bytes: &[u8]) -> Result<(), OutOfMemory>
     Ok(())
 }
 
-/// The text for words of the program that are no two sizes.
-pub fn usage_text() -> &'static [u8]
+// The text for words of the program that are no two sizes.
+pub(crate) fn usage_text() -> &'static [u8]
     ensures { result.now ≡ usage_text }
 {
     b"usage: mux WRITE READ\n"

@@ -1,5 +1,5 @@
 use Rattle.std.proofs.Common.{inl}
-use Rattle.strm_mux.proofs.MuxServingLemmas.{told_done, told_bad_line, told_too_long, told_usage}
+use Rattle.strm_mux.proofs.MuxServingLemmas.{told_done, told_bad_line}
 use Rattle.strm_mux.proofs.serving.mux_serve.Goals as goal
 
 pub returns-in-Ok-write_whole-clause-complete : goal.returns-in-Ok-write_whole-clause-complete
