@@ -17,7 +17,11 @@ use strm_lines::lists::TextBytes;
 use strm_lines::texts::{hex_digit, push_number};
 
 // The text of the lanes that lines put something on or ended, and of how many bytes came.
-pub(crate) fn output_text(alloc: Global, demux: &Demux, moved: u64) -> Result<TextBytes, OutOfMemory>
+pub(crate) fn output_text(
+    alloc: Global,
+    demux: &Demux,
+    moved: u64,
+) -> Result<TextBytes, OutOfMemory>
     ensures { (given : List Frame) → Delivers demux.now given → All HasLine given →
         IfOk result (λ text. text ≡ output_text given moved) }
 {

@@ -1,7 +1,7 @@
 //! Lanes that are carried over the store, in pieces of the least and the most bytes.
 
-use std::alloc::Global;
 use crate::lanes::{is_answer, is_lane, is_rest};
+use std::alloc::Global;
 use std::process::Abort;
 use strm_frames::muxes::Mux;
 use strm_mux::carrying::carry;

@@ -1,7 +1,7 @@
 //! Every fault of a stream, fed in every cut into two pieces.
 
-use std::alloc::Global;
 use crate::lanes::{is_answer, is_lane, is_rest};
+use std::alloc::Global;
 use std::process::Abort;
 use strm_frames::demuxes::Demux;
 use strm_frames::errors::MuxError;
@@ -15,7 +15,10 @@ const FAULTS: [(&[u8], MuxError); 8] = [
     (&[1, 3, 0, 3, 0], MuxError::EmptyFrame { at: 2 }),
     (&[1, 5, 1, 5], MuxError::AfterEnd { at: 2 }),
     (&[0, 5, 1, 7, 1, 5, 1, 5], MuxError::AfterEnd { at: 6 }),
-    (&[1, 5, 0, 6, 1, 9, 0, 5, 3, 7, 8, 9], MuxError::AfterEnd { at: 6 }),
+    (
+        &[1, 5, 0, 6, 1, 9, 0, 5, 3, 7, 8, 9],
+        MuxError::AfterEnd { at: 6 },
+    ),
 ];
 
 // Whether a stream that is cut here answers its fault, as soon as the last byte comes, and from then on.

@@ -52,15 +52,69 @@ fn holds(rt: &impl Abort, found: Result<bool, AllocError>, text: &str) {
 }
 
 const ROWS: [Row; 9] = [
-    Row { words: FEW_MANY, input: LINES, failing: NONE, status: 0, text: LANES },
-    Row { words: MANY_FEW, input: LINES, failing: NONE, status: 0, text: LANES },
-    Row { words: FEW_MANY, input: "", failing: NONE, status: 0, text: "moved 0\n" },
-    Row { words: FEW_MANY, input: "end 7", failing: NONE, status: 0, text: "lane 7 0 end\nmoved 2\n" },
-    Row { words: &["15", "64"], input: LINES, failing: NONE, status: 1, text: USAGE },
-    Row { words: FEW_MANY, input: "lane 1 00\nend 1\nlane 1 00\n", failing: NONE, status: 2, text: "bad line 3\n" },
-    Row { words: FEW_MANY, input: LINES, failing: (3, 999_999), status: 4, text: "read fault\n" },
-    Row { words: FEW_MANY, input: LINES, failing: (999_999, 1), status: 5, text: "" },
-    Row { words: FEW_MANY, input: LINES, failing: (999_999, 4), status: 5, text: "lane 1 2 " },
+    Row {
+        words: FEW_MANY,
+        input: LINES,
+        failing: NONE,
+        status: 0,
+        text: LANES,
+    },
+    Row {
+        words: MANY_FEW,
+        input: LINES,
+        failing: NONE,
+        status: 0,
+        text: LANES,
+    },
+    Row {
+        words: FEW_MANY,
+        input: "",
+        failing: NONE,
+        status: 0,
+        text: "moved 0\n",
+    },
+    Row {
+        words: FEW_MANY,
+        input: "end 7",
+        failing: NONE,
+        status: 0,
+        text: "lane 7 0 end\nmoved 2\n",
+    },
+    Row {
+        words: &["15", "64"],
+        input: LINES,
+        failing: NONE,
+        status: 1,
+        text: USAGE,
+    },
+    Row {
+        words: FEW_MANY,
+        input: "lane 1 00\nend 1\nlane 1 00\n",
+        failing: NONE,
+        status: 2,
+        text: "bad line 3\n",
+    },
+    Row {
+        words: FEW_MANY,
+        input: LINES,
+        failing: (3, 999_999),
+        status: 4,
+        text: "read fault\n",
+    },
+    Row {
+        words: FEW_MANY,
+        input: LINES,
+        failing: (999_999, 1),
+        status: 5,
+        text: "",
+    },
+    Row {
+        words: FEW_MANY,
+        input: LINES,
+        failing: (999_999, 4),
+        status: 5,
+        text: "lane 1 2 ",
+    },
 ];
 
 #[test]
