@@ -142,8 +142,8 @@ fn parse_lines(alloc: Global, bytes: &[u8], lines: usize) -> Result<Steps, Parse
     Ok(Steps::from_vec(steps))
 }
 
-// The first line, and what follows its line feed.
-fn first_line(bytes: &[u8]) -> (&[u8], &[u8])
+/// The first line, and what follows its line feed.
+pub fn first_line(bytes: &[u8]) -> (&[u8], &[u8])
     requires { 0 < length bytes.now }
     ensures lines { lines_of bytes.now ≡ result.0.now ∷ lines_of result.1.now }
     ensures less { length result.1.now < length bytes.now }

@@ -20,8 +20,8 @@ use strm_machine::streams::HostEnd;
 // The lower-case hexadecimal digits.
 const DIGITS: [u8; 16] = *b"0123456789abcdef";
 
-// A lower-case hexadecimal digit.
-fn hex_digit(nibble: u8) -> u8
+/// A lower-case hexadecimal digit.
+pub fn hex_digit(nibble: u8) -> u8
     requires { nibble < 16 }
     ensures { result ≡ hex_digit nibble }
 {
@@ -46,8 +46,8 @@ fn hex_line(word: u32) -> [u8; 9]
     ]
 }
 
-// Adds a number in decimal.
-fn push_number<I: Integer>(out: &mut TextBytes, number: I) -> Result<(), OutOfMemory>
+/// Adds a number in decimal.
+pub fn push_number<I: Integer>(out: &mut TextBytes, number: I) -> Result<(), OutOfMemory>
     ensures { OnOk result (out.new ≡ out.old ++ I.text number) }
 {
     let mut buffer = Buffer::new();

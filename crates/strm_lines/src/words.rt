@@ -119,8 +119,8 @@ fn behind_number(number: u32, line: &[u8], at: usize) -> Option<(u32, &[u8])>
     Some((number, rest))
 }
 
-// What comes before and after the first such byte.
-pub(crate) fn cut(byte: u8, bytes: &[u8]) -> Option<(&[u8], &[u8])>
+/// What comes before and after the first such byte.
+pub fn cut(byte: u8, bytes: &[u8]) -> Option<(&[u8], &[u8])>
     ensures { option_map (λ p. (p.0.now, p.1.now)) result ≡ cut_at byte bytes.now }
 {
     let at = memchr(byte, bytes)?;
@@ -299,9 +299,9 @@ fn pairs(word: &[u8]) -> Option<Chunk>
     Chunk::new(&bytes[..len])
 }
 
-// 1 to 64 bytes, as pairs of lower-case hexadecimal digits.
+/// 1 to 64 bytes, as pairs of lower-case hexadecimal digits.
 #[tactic(auto, unfolding(crate::specs::Reading::hex))]
-pub(crate) fn hex(word: &[u8]) -> Option<Chunk>
+pub fn hex(word: &[u8]) -> Option<Chunk>
     ensures { result ≡ hex word.now }
 {
     if word.is_empty() || word.len() > 128 || word.len() % 2 != 0 {

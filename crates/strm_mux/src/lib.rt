@@ -6,4 +6,7 @@
 
 pub mod carrying;
 mod hearing;
+pub mod lines;
 mod scripts;
+pub mod serving;
+mod texts;
