@@ -10,3 +10,6 @@ pub mod PrefixLemmas
 pub mod NamingLemmas
 pub mod MomentLemmas
 pub mod AfterLemmas
+pub mod StayLemmas
+pub mod JoinedLemmas
+pub mod OwnLemmas
