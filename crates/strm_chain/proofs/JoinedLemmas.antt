@@ -69,11 +69,15 @@ Each s = Unit {0}
 abbrev pub But : ℕ → ℕ → Type 0
 But other s = s ≢ other
 
--- a step that changes no state
+-- a step that changes no state brings nothing
+pub got_same : (p q : Play) (step : Step) (reply : Reply) (s : ℕ) → IsSeen (moment_at p q step reply) p.steps q.steps → q.state ≡ p.state → got_on q.steps s ≡ got_on p.steps s
+got_same p q step reply s seen same =
+    seen.got s ∙ ap (λ x. got_on p.steps s ++ x) (got_none s (moment_at p q step reply) (ap (λ (x : State). x.streams) same)) ∙ append-nil (got_on p.steps s)
+
+-- so all links stay
 pub same_passes : (count : ℕ) (p q : Play) (step : Step) (reply : Reply) → IsSeen (moment_at p q step reply) p.steps q.steps → q.state ≡ p.state → Frame count p.state → Passes count p q Each Each
 same_passes count p q step reply seen same f =
-    let got : (s : ℕ) → got_on q.steps s ≡ got_on p.steps s =
-    λ s. seen.got s ∙ ap (λ x. got_on p.steps s ++ x) (got_none s (moment_at p q step reply) (ap (λ (x : State). x.streams) same)) ∙ append-nil (got_on p.steps s) in
+    let got : (s : ℕ) → got_on q.steps s ≡ got_on p.steps s = λ s. got_same p q step reply s seen same in
     record {
       frame = subst (Frame count) (sym same) f;
       writes = λ s w l _ h. subst (WritesOn s w q.state) (sym (got s)) (subst (λ x. WritesOn s w x (got_on p.steps s)) (sym same) h);
@@ -150,6 +154,26 @@ module _ (p q : Play) (ws : List Worker) (step : Step) (reply : Reply) (a : Adds
             (owner k Reading) (λ x. ap is_gone (owner k Writing) ∙ x) (λ x. subst (λ xs. IsPlain (get_or xs k no_stream).reader.operation) (sym same) x) (seen.got k) h;
       }
 
+-- of fewer streams
+pub fewer : (count : ℕ) (p q : Play) (W R V S : ℕ → Type 0) → Passes count p q W R → ((s : ℕ) → V s → W s) → ((s : ℕ) → S s → R s) → Passes count p q V S
+fewer count p q W R V S x f h = record {
+  frame = x.frame;
+  writes = λ s w l v. x.writes s w l (f s v);
+  reads = λ s w l v. x.reads s w l (h s v);
+}
+
+-- one step after the other
+pub both_pass : (count : ℕ) (p q r : Play) (W R : ℕ → Type 0) → Passes count p q W R → Passes count q r W R → Passes count p r W R
+both_pass count p q r W R x y = record {
+  frame = y.frame;
+  writes = λ s w l v h. y.writes s w l v (x.writes s w l v h);
+  reads = λ s w l v h. y.reads s w l v (x.reads s w l v h);
+}
+
+-- no step
+pub none_pass : (count : ℕ) (p : Play) → Frame count p.state → Passes count p p Each Each
+none_pass count p f = record { frame = f; writes = λ s w l _ h. h; reads = λ s w l _ h. h }
+
 -- ## A chain with one guest changed
 
 -- what a turn leaves of its guest's part in the chain
@@ -172,6 +196,9 @@ either P g ws ws' k one same changed =
       | inl e ↦ subst (λ n. P (worker_at ws n) (worker_at ws' n)) (sym e) changed
       | inr ne ↦ subst (P (worker_at ws k)) (sym (one.others k ne)) (same (worker_at ws k))
     ]
+
+pub same_part : (w w' : Worker) → w' ≡ w → SamePart w w'
+same_part w w' e = subst (SamePart w) (sym e) (record { read = refl; write = refl; stage = refl; source = λ _. (refl, refl); sink = λ x. x })
 
 module _ (p q : Play) (ws ws' : List Worker) (g : ℕ) (j : IsJoined p ws) (one : OneChanged g ws ws') (part : SamePart (worker_at ws g) (worker_at ws' g)) where
   pub joined_again : Passes (length ws) p q (But g) (λ s. s + 1 ≢ g) → (g + 1 < length ws → WritesOn g (worker_at ws' g) q.state (got_on q.steps g)) → ((s : ℕ) → s + 1 < length ws → s + 1 ≡ g → ReadsFrom s (worker_at ws' g) q.state (got_on q.steps s)) → IsJoined q ws'
@@ -198,3 +225,15 @@ module _ (p q : Play) (ws ws' : List Worker) (g : ℕ) (j : IsJoined p ws) (one 
     sink = subst (λ n. IsSink (worker_at ws' (n - 1))) (sym one.many)
         (either (λ w w'. IsSink w → IsSink w') g ws ws' (length ws - 1) one (λ w x. x) part.sink j.sink);
   }
+
+-- and where its guest is as it was too
+pub joined_same : (p q : Play) (ws ws' : List Worker) (g : ℕ) → IsJoined p ws → OneChanged g ws ws' → worker_at ws' g ≡ worker_at ws g → Passes (length ws) p q Each Each → IsJoined q ws'
+joined_same p q ws ws' g j one e x =
+    joined_again p q ws ws' g j one (same_part (worker_at ws g) (worker_at ws' g) e)
+    (fewer (length ws) p q Each Each (But g) (λ s. s + 1 ≢ g) x (λ s _. tt) (λ s _. tt))
+    (λ l. subst (λ w. WritesOn g w q.state (got_on q.steps g)) (sym e) (x.writes g (worker_at ws g) l tt (j.joins g l).writes))
+    (λ s l f. subst (λ w. ReadsFrom s w q.state (got_on q.steps s)) (sym e)
+    (x.reads s (worker_at ws g) l tt (subst (λ n. ReadsFrom s (worker_at ws n) p.state (got_on p.steps s)) f (j.joins s l).reads)))
+
+pub unchanged : (g : ℕ) (ws : List Worker) → OneChanged g ws ws
+unchanged g ws = record { many = refl; others = λ k _. refl }

@@ -13,3 +13,5 @@ pub mod AfterLemmas
 pub mod StayLemmas
 pub mod JoinedLemmas
 pub mod OwnLemmas
+pub mod TurnedLemmas
+pub mod ReadTurnLemmas
