@@ -15,3 +15,4 @@ pub mod JoinedLemmas
 pub mod OwnLemmas
 pub mod TurnedLemmas
 pub mod ReadTurnLemmas
+pub mod TurnLemmas
