@@ -16,3 +16,4 @@ pub mod OwnLemmas
 pub mod TurnedLemmas
 pub mod ReadTurnLemmas
 pub mod TurnLemmas
+pub mod OutcomeLemmas
