@@ -260,6 +260,9 @@ begins = record {
   opens = λ w s stream e r. ap (λ v. (reader_at v r).closed) (with_stream_in-same w s stream e.owners);
   polls = λ w n room said more e r. refl;
   takes = λ w r took said more e k. set-keeps (λ (x : Reader). x.closed) w.readers r k (polled_reader (reader_at w r) took more) no_reader refl;
+  overs = λ w n answer r. refl;
+  gives = λ w n k r. refl;
+  keeps = λ w n items r. refl;
 }
 
 -- whatever becomes of it where it goes on
@@ -268,12 +271,11 @@ Any w v = Unit {0}
 
 any_rules : Rules Any
 any_rules = record {
-  begins = record { stays = λ w. tt; joins = λ a b c f g. tt; opens = λ w s stream e. tt; polls = λ w n room said more e. tt; takes = λ w r took said more e. tt };
+  begins = record { stays = λ w. tt; joins = λ a b c f g. tt; opens = λ w s stream e. tt; polls = λ w n room said more e. tt; takes = λ w r took said more e. tt; overs = λ w n answer. tt; gives = λ w n k. tt; keeps = λ w n items. tt };
   reacts = λ w act. tt;
   lowers = λ w guests. tt;
-  overs = λ w n answer. tt;
-  gives = λ w n k. tt;
   counts = λ w r answer taken. tt;
+  rests = λ w r answer taken. tt;
   leaves = λ w s stream l. tt;
   hosts = λ w n e. tt;
   pipes = λ w s r e. tt;
