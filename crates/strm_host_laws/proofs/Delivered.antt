@@ -234,7 +234,7 @@ module _ (first : World) where
 
   -- what became of its write end is kept
   moment_taken : (s : ℕ) (m : HostMoment) → Follows m.before m → Lives first m.before → IsTaken Writing m.before.state s → IsTaken Writing m.after.state s
-  moment_taken s m f l = effect_taken Writing m.before.state m.after.state m.part m.reply s l.holds (follows_effect m.before m f)
+  moment_taken s m f l = effect_taken Writing m.before.state m.after.state m.part m.reply s l.holds (follows_effect m.before m l.holds.hosts f)
 
   gone_run : (s : ℕ) (w : World) (all : List HostMoment) → Chain w all → Lives first w → (stream_in w s).writer.owner ≡ Gone → IsTaken Writing w.state s → GoneRun s w all
   gone_run s w [] c l e taken = record { got = refl; made = refl; count = refl; owner = e; unhosted = refl }
@@ -423,7 +423,7 @@ module _ (first : World) where
         let num = eq-eqb (length w.state.streams) s (sym h.number) in
         let made : made_of s w m.part m.reply ≡ (writer_at w n).holds = ap (λ x. made_of s w x m.reply) h.part_is ∙ ap (made_of s w (Acts (OnHost n New))) h.reply_is ∙ ap (λ b. cond b (writer_at w n).holds []) num in
         let by : is_made_by s m.part m.reply ≡ true = ap (λ x. is_made_by s x m.reply) h.part_is ∙ ap (is_made_by s (Acts (OnHost n New))) h.reply_is ∙ num in
-        let taken = effect_makes w.state m.after.state m.part m.reply s (follows_effect w m f) by in
+        let taken = effect_makes w.state m.after.state m.part m.reply s (follows_effect w m l.holds.hosts f) by in
         let k = hosted_run s n m.after more c (moment_lives m f l) (ap (λ (x : Stream). x.writer.owner) now) taken (omega (arith, none, room)) in
         let unwritten : produced_in s m ≡ [] = ap (λ (x : Stream). produced_by m x.writer.owner) (past s w le) in
         let held : (writer_at m.after n).holds ≡ (writer_at w n).holds = ap (λ x. (writer_at x n).holds) h.is in

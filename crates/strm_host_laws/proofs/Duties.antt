@@ -21,7 +21,7 @@ use Rattle.strm_machine.proofs.HostLemmas.{serving_known}
 use Rattle.strm_machine.proofs.ShapeLemmas.{reaction-consumers}
 use Rattle.strm_world.proofs.SettleLemmas.{is_done_with}
 use Rattle.strm_host_laws.specs.HostMoments.{Part, Acts}
-use Rattle.strm_host_laws.proofs.Effects.{opened_by, piped_in, ByStaying, ByGone, ByDry, Pipes, Effect, ByReaction, ByRest, ByHosting, ByPiping, ByDriving, ByCalling, ByForsaking}
+use Rattle.strm_host_laws.proofs.Effects.{opened_by, piped_in, ByStaying, ByGone, ByDry, Pipes, Effect, ByReaction, ByRest, ByHosting, ByPiping, ByDriving, ByPassing, ByCalling, ByForsaking}
 use Rattle.strm_host_laws.proofs.HostsAgree.{known_all}
 use Rattle.strm_host_laws.proofs.HostTurns.{known_on, Leaves, leaves_ended, with_ended, Turned}
 use Rattle.strm_host_laws.proofs.Standing.{Holds, Holds-reaction}
@@ -109,6 +109,18 @@ effect_duty k old new part reply h (ByPiping t r p x) =
     ]
 effect_duty k old new part reply h (ByDriving side t p done d) =
     of_either k old new part reply (turned_duty side old new t d.host d.operation d.turned (known_owner (opposite side) old t d.host h d.owner) k)
+effect_duty k old new part reply h (ByPassing t p done x) =
+    let same : duty x.mid k ≡ duty old k = x.duties.same Reading k in
+    elim x.ends [
+      | inl e ↦ Stays (ap (λ (y : State). duty y k) e ∙ same)
+      | inr e ↦
+          let read = known_owner Reading old t x.reader h x.read in
+          let known : x.reader < known_on Reading x.mid = (let all = x.duties.all Reading in omega (arith, read, all)) in
+          of_either k old new part reply
+          (subst (λ d. StaysOrEnds d (duty new k)) same
+          (subst (λ d. StaysOrEnds (duty x.mid k) d) (sym (ap (λ (y : State). duty y k) e))
+          (leaves_duty Reading true x.reader x.mid (with_ended Reading x.mid x.reader) (leaves_ended Reading x.reader x.mid) known k)))
+    ]
 effect_duty k old new part reply h (ByCalling side end address count p c) =
     let at = stream_named (named old end) in
     let operation = begun end.guest address (items_asked end.ty count) in

@@ -227,13 +227,32 @@ with_stream_in-same w s stream e =
     ∙ ap (leaves_writer old.writer.owner old.writer.owner) (leaves_reader-stays old.reader.owner after)
     ∙ leaves_writer-stays old.writer.owner after
 
+-- what holds of a stream and once items more were received holds where it may have been so
+pub some_received-by : (P : Stream → Type 0) (stream : Stream) (n : ℕ) → P stream → P (with_received stream n) → P (with_some_received stream n)
+some_received-by P stream n h k = by (n == 0)
+  where
+    by : (none : Bool) → P (cond none stream (with_received stream n))
+    by true = h
+    by false = k
+
 -- of which so many items more were received
 some_received-owned : (stream : Stream) (n : ℕ) → SameOwned stream (with_some_received stream n)
-some_received-owned stream n = by (n == 0)
-  where
-    by : (none : Bool) → SameOwned stream (cond none stream (with_received stream n))
-    by true = record { owners = record { writer = refl; reader = refl }; payload = refl }
-    by false = record { owners = record { writer = refl; reader = refl }; payload = refl }
+some_received-owned stream n =
+    some_received-by (SameOwned stream) stream n
+    (record { owners = record { writer = refl; reader = refl }; payload = refl })
+    (record { owners = record { writer = refl; reader = refl }; payload = refl })
+
+-- both its ends stay
+pub some_received-end : (side : Side) (stream : Stream) (n : ℕ) → end_of side (with_some_received stream n) ≡ end_of side stream
+some_received-end Writing stream n = some_received-by (λ x. x.writer ≡ stream.writer) stream n refl refl
+some_received-end Reading stream n = some_received-by (λ x. x.reader ≡ stream.reader) stream n refl refl
+
+-- it is no other kind of stream
+pub some_received-payload : (stream : Stream) (n : ℕ) → (with_some_received stream n).payload ≡ stream.payload
+some_received-payload stream n = some_received-by (λ x. x.payload ≡ stream.payload) stream n refl refl
+
+pub some_received-kind : (stream : Stream) (n : ℕ) → (with_some_received stream n).kind ≡ stream.kind
+some_received-kind stream n = some_received-by (λ x. x.kind ≡ stream.kind) stream n refl refl
 
 -- both ends may go
 without_ends-left : (stream : Stream) → LeftBy stream (without_ends stream)

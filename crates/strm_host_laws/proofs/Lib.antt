@@ -3,6 +3,7 @@ pub mod Goings
 pub mod Closed
 pub mod Fed
 pub mod ReadersFed
+pub mod Rounds
 pub mod HostTurns
 pub mod Effects
 pub mod TurnMoves

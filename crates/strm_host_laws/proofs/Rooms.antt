@@ -8,7 +8,7 @@ use Rattle.strm_host_laws.specs.HostMoments.{Part, Acts, Turns}
 use Rattle.strm_host_laws.proofs.StepsLeft.{left_after, Pays}
 use Rattle.strm_host_laws.proofs.Effects.{Effect}
 use Rattle.strm_host_laws.proofs.Standing.{Holds}
-use Rattle.strm_host_laws.proofs.HostBytes.{effect_most, effect_still}
+use Rattle.strm_host_laws.proofs.HostBytes.{NoPipe, effect_most, effect_still}
 
 -- it has room for what a part may move on it
 abbrev pub HasRoom : State → ℕ → Part → Type 0
@@ -32,7 +32,7 @@ module _ (s n : ℕ) (old new : State) (reply : Reply) (h : Holds old) (room : r
             omega (arith, b, room, still j refl ne)
       ]
 
-  pub room_next : (part : Part) → Pays s part n → Effect old part reply new → received s new + 2 ^ 28 * left_after s part n < 2 ^ 128
-  room_next part p effect =
-      room_after part p (effect_most old new reply h part s effect)
+  pub room_next : (part : Part) → Pays s part n → NoPipe old s → Effect old part reply new → received s new + 2 ^ 28 * left_after s part n < 2 ^ 128
+  room_next part p no effect =
+      room_after part p (effect_most old new reply h part s no effect)
       (λ j e ne. effect_still old new reply h j s ne (subst (λ q. Effect old q reply new) e effect))

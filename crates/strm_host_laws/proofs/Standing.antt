@@ -2,6 +2,7 @@
 -- and a read end that is loose has no operation.
 use Rattle.std.proofs.Common.{◌≡◌, ◌≢◌, ℕ, ◌<◌, ◌≤◌, Bool, true, false, cond, List, [], ◌∷◌, ◌++◌, length, get_or, set, Option, Some, None, refl, sym, ap, subst, ◌∙◌, inl, inr, arith, length-set, ◌⊎◌, zero, suc}
 use Rattle.std.proofs.lemmas.Bool.{cases_eq}
+use Rattle.std.specs.Prelude.{ℤ}
 use Rattle.std.proofs.lemmas.List.{get_or-set_same, get_or-set_other, get_or_past, get_or_append_left, map-append, set-set}
 use Rattle.std.proofs.lemmas.List.Elements.{All-push, All-weaker}
 use Rattle.strm_machine.specs.State.{State, Guest, empty, host_limit, no_stream, no_producer, no_consumer, idle_end, stream_at, producer_at, kept_at, consumer_at, is_host, is_held, is_loose, is_gone}
@@ -41,7 +42,7 @@ use Rattle.strm_machine.proofs.HeldLemmas.{StateIsHeld, reaction-held}
 use Rattle.strm_machine.proofs.TurnLemmas.{GuestsKeep, all_kept}
 use Rattle.strm_machine.proofs.EndLemmas.{IsLeft, left_by, each_side, with_end-type}
 use Rattle.strm_machine.proofs.EmptyLemmas.{HostsHold-empty, IsSound-empty, StateIsHeld-empty}
-use Rattle.strm_machine.proofs.HostLemmas.{reaction-hosts, serving_made, turn_idle, unless_host}
+use Rattle.strm_machine.proofs.HostLemmas.{reaction-hosts, serving_known, serving_made, turn_idle, unless_host}
 use Rattle.strm_machine.proofs.ShapeLemmas.{operate-fits, reaction-shape}
 use Rattle.strm_machine.proofs.Shapes.{stream_on, begun_on, turn_on, set_by, owned_by, Shape, ByTurn, BySetting, ByOwner, ByTable, ByPair, ByGuest, ByPut, ByRest as ByRestShape}
 use Rattle.strm_machine.proofs.NamedEndLemmas.{IsFound}
@@ -54,12 +55,14 @@ use Rattle.strm_buffers.specs.Tells.{Tells}
 use Rattle.std.specs.Option.{option_map}
 use Rattle.strm_world.specs.World.{World}
 use Rattle.strm_world.specs.Does.{start}
+use Rattle.strm_world.specs.Settling.{with_some_received}
 use Rattle.strm_world.specs.Attaching.{withdrawn, piped, without_ends, forsaken}
+use Rattle.strm_host_laws.proofs.Goings.{some_received-by, some_received-end, some_received-payload, some_received-kind}
 use Rattle.strm_world.proofs.SettleLemmas.{is_done_with}
 use Rattle.strm_host_laws.specs.HostMoments.{Part, HostMoment, host_moments, last_of}
 use Rattle.strm_host_laws.proofs.Chains.{Follows, Chain, moments-chain}
 use Rattle.strm_host_laws.proofs.HostTurns.{leaves_ended, both_ended, with_done, turned_stream, turned_by, Fills, Turned, end_twice}
-use Rattle.strm_host_laws.proofs.Effects.{opened_by, Driven, Calls, Hosts, piped_in, Piped, ByStaying, ByGone, ByDry, Effect, ByReaction, ByRest, ByHosting, ByPiping, ByDriving, ByCalling, ByForsaking, host_made, follows_effect}
+use Rattle.strm_host_laws.proofs.Effects.{opened_by, Driven, Calls, Hosts, piped_in, Piped, ByStaying, ByGone, ByDry, Effect, ByReaction, ByRest, ByHosting, ByPiping, ByDriving, ByPassing, ByCalling, ByForsaking, both_over, Passes, passing_made, host_made, follows_effect}
 use Rattle.strm_host_laws.proofs.TurnMoves.{Moves, moved_on-moves, moved-theirs, moved-mine, moves-placed}
 use Rattle.strm_host_laws.proofs.HostsAgree.{StaysOrFree, IsHeld-either, set_either, no_two, one_stream, HostsHold-changed, StaysIdle, HostsHold-set}
 use Rattle.strm_world.proofs.LoweredLemmas.{lowered-keeps}
@@ -704,6 +707,90 @@ module _ (old : State) (s r : ℕ) (h : Holds old) (known : r < host_limit) (unu
   Holds-piped new (ByDry n g e) =
       subst Holds (sym e) (Holds-both_left with_pipe s n r the_pipe pipe_here (omega (arith, made, length-set old.streams s the_pipe)) g refl (pipe_empty n g) Holds-pipe)
 
+-- ## The round of a pipe
+
+module _ (old new : State) (s : ℕ) (p : Passes old new s) (h : Holds old) where
+  abbrev received_stream : Stream
+  received_stream = with_some_received (stream_at old s) p.count
+
+  -- the state with these items kept, before the pipe may end
+  abbrev passed_by : List (List (List ℤ)) → State
+  passed_by ks = record old { streams = set old.streams s received_stream; producers = p.mid.producers; kept = ks; consumers = p.mid.consumers }
+
+  -- all ends are as they were
+  passed_end : (ks : List (List (List ℤ))) (k : ℕ) (side : Side) → end_of side (stream_at (passed_by ks) k) ≡ end_of side (stream_at old k)
+  passed_end ks k side = set-keeps (λ (x : Stream). end_of side x) old.streams s k received_stream no_stream (some_received-end side (stream_at old s) p.count)
+
+  piped_as : (ks : List (List (List ℤ))) (duty : Duty) → is_piped (passed_by ks) duty ≡ is_piped old duty
+  piped_as ks (Serves k) = ap (λ (x : End). is_host x.owner) (passed_end ks k Reading)
+  piped_as ks duty = refl
+
+  module _ (ks : List (List (List ℤ))) (many : length ks ≡ length old.kept) (others : (k : ℕ) → k ≢ p.writer → get_or ks k [] ≡ kept_at old k) where
+    passed_serve : (side : Side) (m k : ℕ) → ServesOne (passed_by ks) side m k
+    passed_serve side m k =
+        let was = h.hosts.serve side m k in
+        let same = passed_end ks k side in
+        record {
+          serves = λ e. p.duties.same side m ∙ was.serves (ap (λ (x : End). x.owner) (sym same) ∙ e);
+          owns = λ d. ap (λ (x : End). x.owner) same ∙ was.owns (sym (p.duties.same side m) ∙ d);
+          idle = λ e. ap (λ (x : End). x.operation) same ∙ was.idle (ap (λ (x : End). x.owner) (sym same) ∙ e);
+        }
+
+    passed_keeps : (m : ℕ) → KeepsForPipe (passed_by ks) m
+    passed_keeps m u =
+        elim (cases_eq m p.writer) [
+          | inl e ↦
+              let duty : duty_of Writing old m ≡ Serves s = ap (duty_of Writing old) e ∙ (h.hosts.serve Writing p.writer s).serves p.wrote in
+              let unread : is_host (Host p.reader) ≡ false = ap is_host (sym p.read) ∙ ap (is_piped old) (sym duty) ∙ before m u in
+              absurd (let wrong : true ≡ false = unread in cc)
+          | inr ne ↦ others m ne ∙ h.hosts.keeps m (before m u)
+        ]
+      where
+        before : (m : ℕ) → is_piped (passed_by ks) (producer_at (passed_by ks) m).duty ≡ false → is_piped old (producer_at old m).duty ≡ false
+        before m u = ap (is_piped old) (sym (p.duties.same Writing m)) ∙ sym (piped_as ks (producer_at (passed_by ks) m).duty) ∙ u
+
+    Holds-passed_by : Holds (passed_by ks)
+    Holds-passed_by =
+        let made = passing_made old new s p in
+        let placed = placed_at old s made h.sound in
+        let sound = IsSound-stream old s received_stream (type_of-same received_stream (stream_at old s) (some_received-payload (stream_at old s) p.count) (some_received-kind (stream_at old s) p.count))
+        (some_received-by (StreamIsPlaced (sizes_of old.guests)) (stream_at old s) p.count placed (record { writer = placed.writer; reader = placed.reader })) h.sound in
+        record {
+          sound = record { named = sound.named; placed = sound.placed; small = sound.small; sets = sound.sets; contexts = sound.contexts };
+          held =
+              IsHeld-either old.guests old.guests old.streams (set old.streams s received_stream) (λ g. refl)
+              (set_either old.streams s received_stream made (λ side. inl (ap (λ (x : End). x.owner) (some_received-end side (stream_at old s) p.count)))) h.held;
+          hosts = record {
+            all = p.duties.all Writing ∙ h.hosts.all;
+            all_kept = many ∙ h.hosts.all_kept;
+            all_readers = p.duties.all Reading ∙ h.hosts.all_readers;
+            serve = passed_serve;
+            keeps = passed_keeps;
+          };
+          loose =
+              loose_set old (passed_by ks) s received_stream refl
+              (λ l. absurd (let wrong : is_loose (Host p.reader) ≡ true = ap is_loose (sym p.read) ∙ ap (λ (x : End). is_loose x.owner) (sym (some_received-end Reading (stream_at old s) p.count)) ∙ l in cc)) h.loose;
+        }
+
+  -- once nothing is kept any more, and both ends are gone
+  passing_over : Holds (both_over (passed_by p.mid.kept) s p.writer p.reader)
+  passing_over =
+      let none = set p.mid.kept p.writer [] in
+      let state = passed_by none in
+      let made = passing_made old new s p in
+      let known = serving_known old Writing p.writer s h.hosts ((h.hosts.serve Writing p.writer s).serves p.wrote) in
+      let own : (side : Side) → (end_of side (stream_at state s)).owner ≡ (end_of side (stream_at old s)).owner = λ side. ap (λ (x : End). x.owner) (passed_end none s side) in
+      Holds-both_left state s p.writer p.reader (stream_at state s) refl (omega (arith, made, length-set old.streams s received_stream)) (own Writing ∙ p.wrote) (own Reading ∙ p.read)
+      (get_or-set_same p.mid.kept p.writer [] [] (omega (arith, known, p.as_many, h.hosts.all_kept)))
+      (Holds-passed_by none (length-set p.mid.kept p.writer [] ∙ p.as_many) (λ k ne. get_or-set_other p.mid.kept p.writer k [] [] ne ∙ p.others k ne))
+
+  pub Holds-passing : Holds new
+  Holds-passing =
+      elim p.ends [
+        | inl e ↦ subst Holds (sym (e ∙ p.mid_is)) (Holds-passed_by p.mid.kept p.as_many p.others)
+        | inr e ↦ subst Holds (sym (e ∙ ap (λ x. both_over x s p.writer p.reader) p.mid_is)) passing_over
+      ]
+
 -- ## Every part
 
 -- nothing is kept of a host writer whose stream has an end that is gone
@@ -773,6 +860,7 @@ module _ (old new : State) (reply : Reply) (h : Holds old) where
   Holds-effect part (ByHosting n p x) = Holds-hosted old new n reply x h
   Holds-effect part (ByPiping s r p x) = Holds-piped old s r h x.known x.unused x.loose x.made new x.ends
   Holds-effect part (ByDriving side s p e d) = Holds-driven side s d
+  Holds-effect part (ByPassing s p e x) = Holds-passing old new s x h
   Holds-effect part (ByCalling side end address count p r) = Holds-call side end address count r
   Holds-effect part (ByForsaking act p f) =
       let state = (reaction old act).state in
@@ -781,7 +869,7 @@ module _ (old new : State) (reply : Reply) (h : Holds old) where
 -- ## Runs
 
 pub Holds-next : (world : World) (m : HostMoment) → Follows world m → Holds world.state → Holds m.after.state
-Holds-next world m f h = Holds-effect world.state m.after.state m.reply h m.part (follows_effect world m f)
+Holds-next world m f h = Holds-effect world.state m.after.state m.reply h m.part (follows_effect world m h.hosts f)
 
 pub Holds-chain : (world : World) (all : List HostMoment) → Chain world all → Holds world.state → Holds (last_of world all).state
 Holds-chain world [] c h = h

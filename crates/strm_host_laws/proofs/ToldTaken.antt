@@ -39,12 +39,12 @@ use Rattle.strm_host_laws.proofs.Goings.{IfGoes}
 use Rattle.strm_host_laws.proofs.GuestsSeen.{effect_pipes}
 use Rattle.strm_host_laws.proofs.HostAccounts.{all_front, all_back, taken_unread}
 use Rattle.strm_host_laws.proofs.Moments.{nothing_by}
-use Rattle.strm_host_laws.proofs.PartsSeen.{IsTaken, effect_taken}
+use Rattle.strm_host_laws.proofs.PartsSeen.{IsTaken, owner_taken, effect_taken}
 use Rattle.strm_host_laws.proofs.ReadSeen.{taken_at, entering}
 use Rattle.strm_host_laws.proofs.Rooms.{HasRoom, has_room, room_next}
 use Rattle.strm_host_laws.proofs.Standing.{Holds, Holds-next, Holds-empty}
 use Rattle.strm_host_laws.proofs.StepsLeft.{left_after, Costs, moments_cost}
-use Rattle.strm_host_laws.proofs.Took.{TakesOn, Took, Rests, Takes, owner_taken, form_took}
+use Rattle.strm_host_laws.proofs.Took.{TakesOn, Took, Rests, Takes, form_took}
 
 -- ## Items
 
@@ -274,7 +274,7 @@ known w m s r f holds =
     let form = subst (λ o. IfGoes o (Form m.before m.part)) f.goes (part-formed m.before before m.part f.part) in
     record {
       holds = before;
-      effect = subst (λ (x : World). Effect x.state m.part m.reply m.after.state) (sym f.begins) (follows_effect w m f);
+      effect = subst (λ (x : World). Effect x.state m.part m.reply m.after.state) (sym f.begins) (follows_effect w m holds.hosts f);
       took = form_took m before form s r;
     }
 
@@ -353,7 +353,7 @@ module _ (s r : ℕ) where
           by false f = f
 
       unread : is_host (stream_in m.before s).reader.owner ≡ false
-      unread = unless_host (stream_in m.before s).reader.owner (λ j f. apart (inr (owner_taken m.before.state s j k.holds f)))
+      unread = unless_host (stream_in m.before s).reader.owner (λ j f. apart (inr (owner_taken Reading m.before.state s j k.holds f)))
 
       later : received s m.after.state + 2 ^ 28 * left_after s m.part n < 2 ^ 128
       later = room_next s n m.before.state m.after.state m.reply k.holds has m.part p.0 k.effect

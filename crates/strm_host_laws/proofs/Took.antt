@@ -34,7 +34,7 @@ use Rattle.strm_host_laws.proofs.Goings.{piped_to}
 use Rattle.strm_host_laws.proofs.HostBytes.{placed_small}
 use Rattle.strm_host_laws.proofs.HostTurns.{taken_few}
 use Rattle.strm_host_laws.proofs.Moments.{moved_on-received}
-use Rattle.strm_host_laws.proofs.PartsSeen.{IsTaken}
+use Rattle.strm_host_laws.proofs.PartsSeen.{owner_taken}
 use Rattle.strm_host_laws.proofs.Rooms.{HasRoom}
 use Rattle.strm_host_laws.proofs.Standing.{Holds, waiting_placed}
 use Rattle.strm_host_laws.proofs.Touched.{told_stream}
@@ -63,16 +63,6 @@ pub data Took (s r : ℕ) (m : HostMoment) : Type 0 where
 
 one_host : (a b : ℕ) → Host a ≡ Host b → a ≡ b
 one_host a b e = cc
-
--- a stream whose read end a host reader has
-pub owner_taken : (state : State) (s r : ℕ) → Holds state → (stream_at state s).reader.owner ≡ Host r → IsTaken Reading state s
-owner_taken state s r h e = record {
-  made = serving_made state Reading r s h.hosts ((h.hosts.serve Reading r s).serves e);
-  idle = (h.hosts.serve Reading r s).idle e;
-  unheld = ap is_held e;
-  tied = ap is_loose e;
-  parted = λ u v. absurd (true≢false (sym (ap is_host e) ∙ u));
-}
 
 -- ## Places
 
@@ -171,7 +161,7 @@ module _ (m : HostMoment) (h : Holds m.before.state) where
           unhosted = busy_unhosted t write i.operation_is;
           place = drive_source t (plain m) write (ap act_in i.part_is) i.operation_is;
           counts = λ has.
-              let made = (owner_taken w.state t j h i.owner).made in
+              let made = (owner_taken Reading w.state t j h i.owner).made in
               let room : HasRoom w.state t (Turns t) = subst (HasRoom w.state t) i.part_is has in
               counts_here w v t j write i.turned made (placed_small (sizes_of w.state.guests) (stream_in w t).payload write (waiting_placed Writing w.state t write made i.operation_is h.sound)) (room refl);
           holds = holds_here w v t j write i.turned;
@@ -302,7 +292,7 @@ module _ (m : HostMoment) (h : Holds m.before.state) where
       Rests (record {
         holds = ap (λ x. (reader_at x r).holds) f.is ∙ back-holds u t gone r;
         counts = λ e.
-            ap (λ x. received s x.state) f.is ∙ back-received u t gone (forsaken_counts side (stream_in u t)) s ∙ reaction-counts w.state act s h (owner_taken w.state s r h e);
+            ap (λ x. received s x.state) f.is ∙ back-received u t gone (forsaken_counts side (stream_in u t)) s ∙ reaction-counts w.state act s h (owner_taken Reading w.state s r h e);
       })
 
   -- A PIPE
@@ -331,14 +321,14 @@ module _ (m : HostMoment) (h : Holds m.before.state) where
   form_took (BySame n e) s r = same_took s r w refl refl e
   form_took (ByReacting act n e) s r = Rests (record {
     holds = ap (λ x. (reader_at x r).holds) e;
-    counts = λ o. ap (λ x. received s x.state) e ∙ reaction-counts w.state act s h (owner_taken w.state s r h o);
+    counts = λ o. ap (λ x. received s x.state) e ∙ reaction-counts w.state act s h (owner_taken Reading w.state s r h o);
   })
   form_took (ByForsaking act side t n u f) s r = forsaken_took act side t n f s r
   form_took (ByHosting n p x u e) s r = Rests (record {
     holds = ap (λ y. (reader_at y r).holds) e;
     counts = λ o.
         ap (λ y. received s y.state) e
-        ∙ ap (λ (y : Stream). y.received) (get_or_append_left w.state.streams (hosted_stream (writer_at w n) n ∷ []) no_stream s (owner_taken w.state s r h o).made);
+        ∙ ap (λ (y : Stream). y.received) (get_or_append_left w.state.streams (hosted_stream (writer_at w n) n ∷ []) no_stream s (owner_taken Reading w.state s r h o).made);
   })
   form_took (ByFeeding n bytes u e) s r = Rests (record { holds = ap (λ x. (reader_at x r).holds) e; counts = λ o. ap (λ x. received s x.state) e })
   form_took (ByGranting j count u e) s r = Rests (record {

@@ -252,6 +252,11 @@ abbrev pub all_used_by : ℕ → List HostMoment → List ReaderSaid
 all_used_by r [] = []
 all_used_by r (m ∷ more) = used_by r m ++ all_used_by r more
 
+-- the items that these records say were taken
+abbrev pub count_taken : List ReaderSaid → ℕ
+count_taken [] = 0
+count_taken (said ∷ more) = said.taken + count_taken more
+
 -- what a grant gives host reader r, if it is accepted: so many items, behind so many records
 abbrev pub granted_in : ℕ → ℕ → Part → Reply → List (ℕ × ℕ)
 granted_in r spoken (Acts (OnHost host (Grant count))) replies.Done =
