@@ -481,11 +481,11 @@ module _ (old new : State) (s : ℕ) (p : Passes old new s) where
       elim p.ends [
         | inl e ↦ inl (ap (λ (x : State). x.streams) e ∙ mid)
         | inr e ↦ inr (
-          ap (λ (x : State). x.streams) e
-          ∙ ap (λ xs. set xs s (without_ends (stream_at p.mid s))) mid
-          ∙ set-set old.streams s (with_some_received (stream_at old s) p.count) (without_ends (stream_at p.mid s))
-          ∙ ap (λ x. set old.streams s (without_ends x)) passing_here
-        )
+            ap (λ (x : State). x.streams) e
+            ∙ ap (λ xs. set xs s (without_ends (stream_at p.mid s))) mid
+            ∙ set-set old.streams s (with_some_received (stream_at old s) p.count) (without_ends (stream_at p.mid s))
+            ∙ ap (λ x. set old.streams s (without_ends x)) passing_here
+            )
       ]
 
   -- no memory changes

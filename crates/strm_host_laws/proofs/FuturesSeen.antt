@@ -5,7 +5,7 @@ use Rattle.std.specs.Option.{option_map}
 use Rattle.std.proofs.lemmas.Bool.{cases_eq, true≢false}
 use Rattle.std.proofs.lemmas.List.{get_or-set_same, get_or-set_other, get_or_append_left, length-set}
 use Rattle.strm_codes.specs.declared.codes.TransmitKind.TheVariants.{Future}
-use Rattle.strm_machine.specs.State.{State, no_stream, no_consumer, stream_at, consumer_at, is_held, is_loose}
+use Rattle.strm_machine.specs.State.{State, no_stream, no_consumer, stream_at, consumer_at, is_host, is_held, is_loose}
 use Rattle.strm_machine.specs.Sides.{opposite, with_operation}
 use Rattle.strm_machine.specs.Meetings.{begun}
 use Rattle.strm_machine.specs.Endings.{delivered, dropped}

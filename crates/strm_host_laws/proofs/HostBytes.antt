@@ -148,21 +148,21 @@ module _ (old new : State) (reply : Reply) (h : Holds old) where
   call_placed side end address count r = (call_begun side old end address count h.sound r.unrefused).placed
 
   pub effect_most : (part : Part) (s : ℕ) → NoPipe old s → Effect old part reply new → received s new ≤ received s old + 2 ^ 28
-  effect_most part s no (ByReaction act p i r e) = omega (arith, ap (received s) e, (reaction_streams old act h.sound).most s)
-  effect_most part s no (ByRest q e) = omega (arith, ap (received s) e)
-  effect_most part s no (ByHosting n p x) =
+  effect_most part s off (ByReaction act p i r e) = omega (arith, ap (received s) e, (reaction_streams old act h.sound).most s)
+  effect_most part s off (ByRest q e) = omega (arith, ap (received s) e)
+  effect_most part s off (ByHosting n p x) =
       omega (arith, ap (received s) x.is, at_push old.streams x.stream no_stream s (λ y. y.received ≤ received s old + 2 ^ 28) (λ q. omega (arith, x.none)) (λ ne. omega arith))
-  effect_most part s no (ByPiping k r p x) = omega (arith, piped_count old new k r s reply x)
-  effect_most part s no (ByPassing k p done x) =
-      omega (arith, passing_still k s x (λ q. no x.writer x.reader (ap (λ i. (stream_at old i).writer.owner) q ∙ x.wrote) (ap (λ i. (stream_at old i).reader.owner) q ∙ x.read)))
-  effect_most part s no (ByDriving side k p done d) = turned_most side old new k d.host d.operation d.turned (driven_small side k d) s
-  effect_most part s no (ByCalling side end address count p r) =
+  effect_most part s off (ByPiping k r p x) = omega (arith, piped_count old new k r s reply x)
+  effect_most part s off (ByPassing k p done x) =
+      omega (arith, passing_still k s x (λ q. off x.writer x.reader (ap (λ i. (stream_at old i).writer.owner) q ∙ x.wrote) (ap (λ i. (stream_at old i).reader.owner) q ∙ x.read)))
+  effect_most part s off (ByDriving side k p done d) = turned_most side old new k d.host d.operation d.turned (driven_small side k d) s
+  effect_most part s off (ByCalling side end address count p r) =
       let k = stream_named (named old end) in
       let operation = begun end.guest address (items_asked end.ty count) in
       let opened = opened_by side old k operation in
       let second = turned_most side opened r.mid k r.host operation r.turned (placed_small (sizes_of old.guests) (stream_at old k).payload operation (call_placed side end address count r)) s in
       omega (arith, opened_count side old k s operation, second, ap (received s) r.is, told_count side r.mid k s)
-  effect_most part s no (ByForsaking act p f) =
+  effect_most part s off (ByForsaking act p f) =
       omega (arith, ap (received s) f.is, forsaken_count f.side (reaction old act).state f.stream f.host s, (reaction_streams old act h.sound).most s)
 
   -- the turn of another stream brings none
@@ -316,8 +316,12 @@ abbrev pub Concerns : Part → ℕ → Type 0
 Concerns (Acts act) s = Unit {0}
 Concerns (Turns k) s = k ≡ s
 
+-- a host reader has, or had, the read end of a stream, or its count has room for what a part brings
+abbrev pub ReadOrRoomy : State → ℕ → Type 0
+ReadOrRoomy state s = IsTaken Reading state s ⊎ (received s state + 2 ^ 28 < 2 ^ 128)
+
 module _ (old new : State) (reply : Reply) (h : Holds old) where
-  driven_aside : (side : Side) (k : ℕ) → IsTaken Reading old k ⊎ ((stream_at old k).received + 2 ^ 28 < 2 ^ 128) → Driven side old new k → StaysAside (moment_in old (Turns k) reply new)
+  driven_aside : (side : Side) (k : ℕ) → ReadOrRoomy old k → Driven side old new k → StaysAside (moment_in old (Turns k) reply new)
   driven_aside Writing k room d =
       StaysAside-same (moment_in old (Turns k) reply new) (ap (λ (x : State). x.guests) d.turned.is ∙ d.turned.fills)
   driven_aside Reading k (inl taken) d = absurd (let none = taken.idle in let wrong : Some d.operation ≡ None = sym d.waits ∙ none in cc)
@@ -332,7 +336,7 @@ module _ (old new : State) (reply : Reply) (h : Holds old) where
       received_aside m k payload d.operation items (record { guests = ap (λ (x : State). x.guests) t.is ∙ t.fills.is; placed = placed; few = omega (arith, t.few, t.fills.long) })
       (region_same (target k m) (place_of (Some d.operation)) _ _ (ap place_of d.waits) (ap (λ n. item_size (scalars_of payload) * n) rises))
 
-  call_aside : (side : Side) (end : NamedEnd) (address count : ℕ) → IsTaken Reading old (stream_named (named old end)) ⊎ (received (stream_named (named old end)) old + 2 ^ 28 < 2 ^ 128) → Calls side old end address count reply new → StaysAside (moment_in old (Acts (OnEnd side end (Operate address count))) reply new)
+  call_aside : (side : Side) (end : NamedEnd) (address count : ℕ) → ReadOrRoomy old (stream_named (named old end)) → Calls side old end address count reply new → StaysAside (moment_in old (Acts (OnEnd side end (Operate address count))) reply new)
   call_aside Writing end address count room r =
       StaysAside-same (moment_in old (Acts (OnEnd Writing end (Operate address count))) reply new) (ap (λ (x : State). x.guests) r.is ∙ ap (λ (x : State). x.guests) r.turned.is ∙ r.turned.fills)
   call_aside Reading end address count (inl taken) r =
@@ -382,7 +386,7 @@ module _ (old new : State) (reply : Reply) (h : Holds old) where
 
   -- a host reader has, or had, the read end of each stream that a part has to do with, or its count has room
   abbrev RoomFor : Part → Type 0
-  RoomFor part = (s : ℕ) → Concerns part s → IsTaken Reading old s ⊎ (received s old + 2 ^ 28 < 2 ^ 128)
+  RoomFor part = (s : ℕ) → Concerns part s → ReadOrRoomy old s
 
   -- so that what a guest calls finds room
   called_room : (act : Act) → RoomFor (Acts act) → FindsRoomFor old act
@@ -454,14 +458,14 @@ all_there w (m ∷ more) c h =
     (all_there m.after more c.1 (holds_after w m c.0 h))
 
 -- a host reader has, or had, the read end of a stream, or its count has room for what is left for it
-abbrev ReadOrRoom : State → ℕ → ℕ → Type 0
-ReadOrRoom state s n = IsTaken Reading state s ⊎ (received s state + 2 ^ 28 * n < 2 ^ 128)
+abbrev pub ReadOrRoomFor : State → ℕ → ℕ → Type 0
+ReadOrRoomFor state s n = IsTaken Reading state s ⊎ (received s state + 2 ^ 28 * n < 2 ^ 128)
 
 abbrev HasRoomFor : World → (ℕ → ℕ) → Type 0
-HasRoomFor w left = (s : ℕ) → ReadOrRoom w.state s (left s)
+HasRoomFor w left = (s : ℕ) → ReadOrRoomFor w.state s (left s)
 
-module _ (old new : State) (part : Part) (reply : Reply) (left : ℕ → ℕ) (h : Holds old) (pays : (s : ℕ) → Pays s part (left s)) (room : (s : ℕ) → ReadOrRoom old s (left s)) (effect : Effect old part reply new) where
-  room_now : (s : ℕ) → Concerns part s → IsTaken Reading old s ⊎ (received s old + 2 ^ 28 < 2 ^ 128)
+module _ (old new : State) (part : Part) (reply : Reply) (left : ℕ → ℕ) (h : Holds old) (pays : (s : ℕ) → Pays s part (left s)) (room : (s : ℕ) → ReadOrRoomFor old s (left s)) (effect : Effect old part reply new) where
+  room_now : (s : ℕ) → Concerns part s → ReadOrRoomy old s
   room_now s c = elim (room s) [
     | inl taken ↦ inl taken
     | inr l ↦ inr (by part (pays s) c l)
@@ -472,27 +476,27 @@ module _ (old new : State) (part : Part) (reply : Reply) (left : ℕ → ℕ) (h
       by (Turns k) p c l = omega (arith, p c, l)
 
   room_then : (s : ℕ) → received s old + 2 ^ 28 * left s < 2 ^ 128 → NoPipe old s → received s new + 2 ^ 28 * left_after s part (left s) < 2 ^ 128
-  room_then s room no = by part (pays s) effect
+  room_then s room off = by part (pays s) effect
     where
       turn : (k : ℕ) → (k ≡ s → 0 < left s) → Effect old (Turns k) reply new → (k ≡ s) ⊎ (k ≢ s) → received s new + 2 ^ 28 * cond (k == s) (left s - 1) (left s) < 2 ^ 128
       turn k p x (inl e) =
           let b : cond (k == s) (left s - 1) (left s) ≡ left s - 1 = ap (λ b. cond b (left s - 1) (left s)) (eq-eqb k s e) in
-          omega (arith, b, p e, room, effect_most old new reply h (Turns k) s no x)
+          omega (arith, b, p e, room, effect_most old new reply h (Turns k) s off x)
       turn k p x (inr ne) =
           let b : cond (k == s) (left s - 1) (left s) ≡ left s = ap (λ b. cond b (left s - 1) (left s)) (ne_eqb k s ne) in
           omega (arith, b, room, effect_still old new reply h k s ne x)
 
       by : (part : Part) → Pays s part (left s) → Effect old part reply new → received s new + 2 ^ 28 * left_after s part (left s) < 2 ^ 128
-      by (Acts act) p x = omega (arith, p.0, room, effect_most old new reply h (Acts act) s no x)
+      by (Acts act) p x = omega (arith, p.0, room, effect_most old new reply h (Acts act) s off x)
       by (Turns k) p x = turn k p x (cases_eq k s)
 
-  room_next : (s : ℕ) → ReadOrRoom new s (left_after s part (left s))
+  room_next : (s : ℕ) → ReadOrRoomFor new s (left_after s part (left s))
   room_next s = elim (room s) [
     | inl taken ↦ inl (effect_taken Reading old new part reply s h effect taken)
     | inr l ↦ by (stream_at old s).reader.owner refl l
   ]
     where
-      by : (owner : Owner) → (stream_at old s).reader.owner ≡ owner → received s old + 2 ^ 28 * left s < 2 ^ 128 → ReadOrRoom new s (left_after s part (left s))
+      by : (owner : Owner) → (stream_at old s).reader.owner ≡ owner → received s old + 2 ^ 28 * left s < 2 ^ 128 → ReadOrRoomFor new s (left_after s part (left s))
       by (Host r) e l = inl (effect_taken Reading old new part reply s h effect (owner_taken Reading old s r h e))
       by owner e l = inr (room_then s l (λ n r f g. let wrong = sym e ∙ g in cc))
 

@@ -24,6 +24,7 @@ pub mod Lowered
 pub mod Unmoved
 pub mod Unread
 pub mod Took
+pub mod KeptItems
 pub mod Duties
 pub mod ToldTaken
 pub mod Forms

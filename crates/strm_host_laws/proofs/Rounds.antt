@@ -163,6 +163,7 @@ pub record Passed (w : World) (s n r : ℕ) (v : World) : Type 0 where
   pub ends : (v ≡ mid) ⊎ (v ≡ both_gone mid s n)
   pub duty : producer.duty ≡ (producer_at w.state n).duty
   pub serves : consumer.duty ≡ (consumer_at w.state r).duty
+  pub open_ : reader.closed ≡ (reader_at w r).closed
   pub coming : (writer_at w n).coming ≡ said ++ (writer_at but n).coming
   pub balance : held_of w n ++ items_of said ≡ items ++ held_of but n
   pub records : (reader_at w r).coming ≡ told ++ (reader_at but r).coming
@@ -225,6 +226,7 @@ module _ (w : World) (s n r : ℕ) (known : n < length w.state.kept) (producer :
       ends = ends;
       duty = duty;
       serves = refl;
+      open_ = refl;
       coming = coming;
       balance = balance;
       records = refl;
@@ -302,6 +304,7 @@ module _ (w : World) (s n r : ℕ) (known : n < length w.state.kept) (producer :
         ends = ends;
         duty = duty;
         serves = refl;
+        open_ = refl;
         coming = coming ∙ ap (λ xs. said ++ xs) (sym (set-keeps (λ (x : Writer). x.coming) f.writers n n gave no_writer refl));
         balance = balance ∙ sym (take-append-drop one.taken held) ∙ ap (λ xs. take one.taken held ++ xs) (sym held_then);
         records = c ∙ ap (λ (x : Reader). one ∷ x.coming) (sym reader_now);

@@ -149,7 +149,7 @@ Holds-reaction state act h = record {
 }
 
 -- nothing is kept of the host writer of a stream that no host reader reads
-nothing_kept : (state : State) (s n : ℕ) → HostsHold state → (stream_at state s).writer.owner ≡ Host n → is_host (stream_at state s).reader.owner ≡ false → kept_at state n ≡ []
+pub nothing_kept : (state : State) (s n : ℕ) → HostsHold state → (stream_at state s).writer.owner ≡ Host n → is_host (stream_at state s).reader.owner ≡ false → kept_at state n ≡ []
 nothing_kept state s n h e u = h.keeps n (ap (is_piped state) ((h.serve Writing n s).serves e) ∙ u)
 
 -- ## The turn of a host end
