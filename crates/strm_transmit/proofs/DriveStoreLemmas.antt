@@ -136,7 +136,11 @@ module _ (world : World) (s : ℕ) where
       drive_turn-idle_write world s r.0 r.1 e (waits_not r.0 stream.writer.owner stream.writer.operation due e)
   idle_by false false e f h = drive_turn-alone world s (record { writer = e; reader = f })
 
-pub idle-turn : (state : State) (tells : Tells) (s : ℕ) → ◌≡◌ {A = Option (ℕ × ℕ)} (pipe_ends (stream_at state s)) None → ◌≡◌ {A = Due} (due_on Reading (stream_at state s)) None → ◌≡◌ {A = Due} (due_on Writing (stream_at state s)) None
+-- nothing is due on a side of stream s
+abbrev pub NoneDue : State → ℕ → Side → Type 0
+NoneDue state s side = ◌≡◌ {A = Due} (due_on side (stream_at state s)) None
+
+pub idle-turn : (state : State) (tells : Tells) (s : ℕ) → ◌≡◌ {A = Option (ℕ × ℕ)} (pipe_ends (stream_at state s)) None → NoneDue state s Reading → NoneDue state s Writing
     → Does state state tells tells (Ok replies.Done) (λ w. drive_turn w s)
 idle-turn state tells s p a b =
     Does-untold state state tells (Ok replies.Done) (λ w. drive_turn w s)
@@ -149,7 +153,8 @@ is_pipe state tells s n r made e fits =
     record { made = made; writer = ends.0; reader = ends.1; fits = fits }
 
 -- its round is the turn of its stream
-pub piped-turn : (state : State) (tells : Tells) (s n r : ℕ) → ◌≡◌ {A = Option (ℕ × ℕ)} (pipe_ends (stream_at state s)) (Some (n, r)) → (logs : Logs) → drive_turn (world_of state tells logs) s ≡ pipe_round (world_of state tells logs) s n r
+pub piped-turn : (state : State) (tells : Tells) (s n r : ℕ) → ◌≡◌ {A = Option (ℕ × ℕ)} (pipe_ends (stream_at state s)) (Some (n, r)) → (logs : Logs)
+    → drive_turn (world_of state tells logs) s ≡ pipe_round (world_of state tells logs) s n r
 piped-turn state tells s n r e logs =
     let ends = ends_are (stream_at state s).writer.owner (stream_at state s).reader.owner n r e in
     drive_turn-piped (world_of state tells logs) s n r ends.0 ends.1

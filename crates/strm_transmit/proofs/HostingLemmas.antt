@@ -386,9 +386,13 @@ IsStore-grown old new h i =
     })
     (IsSound-same (state_of old) (state_of new) (ap (λ (g : _). seen g.items) h.guests) h.streams h.contexts i.sound) i
 
+-- a state with a stream more, which host writer n serves
+abbrev pub with_hosted : State → ℕ → Stream → Producer → State
+with_hosted state n x q = record state { streams = state.streams ++ x ∷ []; producers = set state.producers n q }
+
 -- the state with a stream more, by what the calls say
-pub hosted_is : (old new : Inside) (n : ℕ) (stream : Stream) (p : Producer) → HostsStream old new n stream p → (state : State) → state_of old ≡ state → IsStore old → (x : Stream) → stream ≡ x → (q : Producer) → p ≡ q
-    → state_of new ≡ record state { streams = state.streams ++ x ∷ []; producers = set state.producers n q }
+pub hosted_is : (old new : Inside) (n : ℕ) (stream : Stream) (p : Producer) → HostsStream old new n stream p → (state : State) → state_of old ≡ state → IsStore old
+    → (x : Stream) → stream ≡ x → (q : Producer) → p ≡ q → state_of new ≡ with_hosted state n x q
 hosted_is old new n stream p h state e i x f q g =
     state_of-hosted old new n stream p h (view_made old.producers old.kept.items old.streams.items i.kept new.kept.items n stream.payload h.unused h.place)
     ∙ ap (λ y. record (state_of old) { streams = old.streams.items ++ y ∷ []; producers = set old.producers n p }) f

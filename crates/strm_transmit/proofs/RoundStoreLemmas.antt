@@ -57,6 +57,10 @@ given_up inside state n x y e l d =
     ap (λ ks. record (state_of inside) { kept = ks }) (padded-set inside.kept.items n y l ∙ ap (set (padded inside.kept.items) n) (d ∙ drop-length x.items))
     ∙ ap (λ (v : State). record v { kept = set v.kept n [] }) e
 
+-- what comes of a fetch
+abbrev pub Fetched : Type 0
+Fetched = Result (Unit {0}) TurnError
+
 -- ## A pipe of a store
 
 module _ (inside : Inside) (state : State) (tells : Tells) (s n r : ℕ) (e : state_of inside ≡ state) (i : IsStore inside) (p : IsPipe state tells s n r) where
@@ -100,27 +104,72 @@ module _ (inside : Inside) (state : State) (tells : Tells) (s n r : ℕ) (e : st
 
   -- a fetch, of what its place has
   module _ (x : TypedItems) (is : x ≡ get_or inside.kept.items n x) where
-    pub fetches_in : (kind : TransmitKind) → kind ≡ (stream_at state s).kind → (result : Result (Unit {0}) TurnError) (q : Producer) (y : TypedItems) (w : WriterTells)
-        → Fetches result kind (fetching (producer_at (state_of inside) n) x.items (told_by tells n)) (fetching q y.items w)
-        → (new : State) → new ≡ record (state_of inside) { producers = set inside.producers n q; kept = padded (set inside.kept.items n y) }
-        → (told : Tells) → told ≡ with_told tells n w → FetchesStream state new tells told s n result
-    fetches_in kind k result q y w f new m told t = record {
-      after = fetching q y.items w;
-      fetches = subst (λ (v : State). Fetches result (stream_at state s).kind (fetching (producer_at v n) (kept_at state n) (told_by tells n)) (fetching q y.items w)) e
-          (subst (λ a. Fetches result a (fetching (producer_at (state_of inside) n) (kept_at state n) (told_by tells n)) (fetching q y.items w)) k
-          (subst (λ xs. Fetches result kind (fetching (producer_at (state_of inside) n) xs (told_by tells n)) (fetching q y.items w)) (entry_items x is) f));
-      state = m
-          ∙ ap (λ ks. record (state_of inside) { producers = set inside.producers n q; kept = ks }) (padded-set inside.kept.items n y place.there)
-          ∙ ap (λ (v : State). record v { producers = set v.producers n q; kept = set v.kept n y.items }) e;
-      ends = t;
+    -- what a fetch left: what is kept of the writer and of its items, and what it tells
+    pub record FetchLeft : Type 0 where
+      pub producer : Producer
+      pub items : TypedItems
+      pub writer : WriterTells
+
+    -- what it did to what it touches, a writer's kind being this
+    abbrev pub FetchedFrom : TransmitKind → Fetched → FetchLeft → Type 0
+    FetchedFrom kind result left =
+        Fetches result kind (fetching (producer_at (state_of inside) n) x.items (told_by tells n)) (fetching left.producer left.items.items left.writer)
+
+    -- the state that it left
+    abbrev pub fetch_left : FetchLeft → State
+    fetch_left left = record (state_of inside) { producers = set inside.producers n left.producer; kept = padded (set inside.kept.items n left.items) }
+
+    pub fetches_in : (kind : TransmitKind) → kind ≡ (stream_at state s).kind → (result : Fetched) (left : FetchLeft) → FetchedFrom kind result left
+        → (new : State) → new ≡ fetch_left left → (told : Tells) → told ≡ with_told tells n left.writer → FetchesStream state new tells told s n result
+    fetches_in kind k result left f new m told t =
+        let q = left.producer in
+        let y = left.items in
+        let w = left.writer in
+        record {
+          after = fetching q y.items w;
+          fetches = subst (λ (v : State). Fetches result (stream_at state s).kind (fetching (producer_at v n) (kept_at state n) (told_by tells n)) (fetching q y.items w)) e
+              (subst (λ a. Fetches result a (fetching (producer_at (state_of inside) n) (kept_at state n) (told_by tells n)) (fetching q y.items w)) k
+              (subst (λ xs. Fetches result kind (fetching (producer_at (state_of inside) n) xs (told_by tells n)) (fetching q y.items w)) (entry_items x is) f));
+          state = m
+              ∙ ap (λ ks. record (state_of inside) { producers = set inside.producers n q; kept = ks }) (padded-set inside.kept.items n y place.there)
+              ∙ ap (λ (v : State). record v { producers = set v.producers n q; kept = set v.kept n y.items }) e;
+          ends = t;
+        }
+
+    -- what an offer left: the stream, what is kept of the reader and of the items, and what both ends tell
+    pub record OfferLeft : Type 0 where
+      pub stream : Stream
+      pub consumer : Consumer
+      pub items : TypedItems
+      pub writer : WriterTells
+      pub reader : ReaderTells
+
+    -- what it did to what it touches
+    abbrev pub OfferedFrom : Stream → Result Answer TakeError → OfferLeft → Type 0
+    OfferedFrom v result left =
+        Offers result (offering v (consumer_at (state_of inside) r) x.items (told_by tells n) (told_by_reader tells r))
+        (offering left.stream left.consumer left.items.items left.writer left.reader)
+
+    -- the state that it left
+    abbrev pub offer_left : OfferLeft → State
+    offer_left left = record (state_of inside) {
+      streams = set inside.streams.items s left.stream;
+      kept = padded (set inside.kept.items n left.items);
+      consumers = set inside.consumers r left.consumer;
     }
 
-    -- an offer
-    pub offers_in : (v : Stream) → v ≡ get_or inside.streams.items s v → (result : Result Answer TakeError) (after : Stream) (c : Consumer) (y : TypedItems) (w : WriterTells) (t : ReaderTells)
-        → Offers result (offering v (consumer_at (state_of inside) r) x.items (told_by tells n) (told_by_reader tells r)) (offering after c y.items w t)
-        → (new : State) → new ≡ record (state_of inside) { streams = set inside.streams.items s after; kept = padded (set inside.kept.items n y); consumers = set inside.consumers r c }
-        → (told : Tells) → told ≡ with_told_reader (with_told tells n w) r t → OffersStream state new tells told s n r result
-    offers_in v there result after c y w t f new m told ends =
+    -- and what all host ends tell
+    abbrev pub offer_told : OfferLeft → Tells
+    offer_told left = with_told_reader (with_told tells n left.writer) r left.reader
+
+    pub offers_in : (v : Stream) → v ≡ get_or inside.streams.items s v → (result : Result Answer TakeError) (left : OfferLeft) → OfferedFrom v result left
+        → (new : State) → new ≡ offer_left left → (told : Tells) → told ≡ offer_told left → OffersStream state new tells told s n r result
+    offers_in v there result left f new m told ends =
+        let after = left.stream in
+        let c = left.consumer in
+        let y = left.items in
+        let w = left.writer in
+        let t = left.reader in
         let made = subst (λ (z : State). s < length z.streams) (sym e) p.made in
         let here : stream_at (state_of inside) s ≡ v = get_or_default inside.streams.items s no_stream v made ∙ sym there in
         record {

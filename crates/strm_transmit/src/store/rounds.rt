@@ -104,7 +104,9 @@ impl Store {
     {
         let served = self.stream(stream);
         match (served.writer.owner, served.reader.owner) {
-            (Owner::Host { number: writer }, Owner::Host { number: reader }) => Some((writer, reader)),
+            (Owner::Host { number: writer }, Owner::Host { number: reader }) => Some((
+                writer, reader,
+            )),
             _ => None,
         }
     }

@@ -53,4 +53,6 @@ invariant_of-self g c =
 
 pub returns : goal.returns
 returns g c =
-    offers_in c.self.inside c.args.self.now _ c.args.stream c.args.writer c.args.reader c.self.view_is c.self.invariant c.requires.pipe c.index_mut-kept.result.now c.index_mut-kept.ensures.value c.index_mut-served.result.now c.index_mut-served.ensures.value _ _ _ _ _ _ c.offer_of-offered.ensures.offers _ refl _ c.offer_of-offered.ensures.others
+    offers_in c.self.inside c.args.self.now _ c.args.stream c.args.writer c.args.reader c.self.view_is c.self.invariant c.requires.pipe c.index_mut-kept.result.now c.index_mut-kept.ensures.value c.index_mut-served.result.now c.index_mut-served.ensures.value _
+    (record { stream = c.offer_of-offered.new.stream; consumer = c.offer_of-offered.new.consumer; items = c.offer_of-offered.new.kept; writer = _; reader = _ })
+    c.offer_of-offered.ensures.offers _ refl _ c.offer_of-offered.ensures.others
