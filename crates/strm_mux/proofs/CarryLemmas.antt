@@ -1,11 +1,11 @@
 -- A script is of guests alone, and is played to its end; what was fed is what was given.
-use Rattle.std.proofs.Common.{◌≡◌, ◌≢◌, true, ℕ, zero, suc, ◌+◌, ◌*◌, ◌-◌, ◌<◌, ◌≤◌, List, [], ◌∷◌, ◌++◌, length, min, take, drop, get_or, map, refl, sym, ap, ◌∙◌, arith, length-append, length-take, length-drop}
+use Rattle.std.proofs.Common.{◌≡◌, true, ℕ, zero, suc, ◌+◌, ◌*◌, ◌-◌, ◌<◌, ◌≤◌, List, [], ◌∷◌, ◌++◌, length, min, take, drop, get_or, map, refl, sym, ap, ◌∙◌, arith, length-append, length-take, length-drop}
 use Rattle.std.proofs.lemmas.List.{append-nil, append_assoc}
 use Rattle.std.proofs.lemmas.List.Elements.{All-append}
 use Rattle.strm_memory.specs.Bytes.{IsBytes}
 use Rattle.strm_machine.specs.Acts.{act_of}
 use Rattle.strm_machine.specs.State.{State, no_stream}
-use Rattle.strm_machine.specs.Plays.{play, Ends, Halts, is_settled}
+use Rattle.strm_machine.specs.Plays.{play, Ends, Halts}
 use Rattle.strm_machine.specs.Reactions.{react}
 use Rattle.strm_machine.specs.Moments.{received}
 use Rattle.strm_machine.specs.declared.streams.Stream.{Stream}
@@ -13,7 +13,8 @@ use Rattle.strm_machine.specs.declared.replies.Reply.{Reply}
 use Rattle.strm_machine.specs.declared.steps.Step.{Step}
 use Rattle.strm_machine.specs.declared.steps.Step.TheVariants as steps
 use Rattle.strm_laws.specs.Conservation.{last, moments, replies_of}
-use Rattle.strm_session.specs.Runs.{start, is_of_guests, AreOfGuests, counts_of, StopsAt, StopsBy}
+use Rattle.strm_transmit.specs.Guests.{is_of_guests}
+use Rattle.strm_session.specs.Runs.{start, AreOfGuests, counts_of, StopsAt, StopsBy}
 use Rattle.strm_session.specs.declared.runs.RunCause.{RunCause}
 use Rattle.strm_session.specs.declared.runs.RunCause.TheVariants as causes
 use Rattle.strm_session.proofs.PlayLemmas.{play-goes}
@@ -45,9 +46,9 @@ few_more x run m n g a l = record { guests = one a.guests; few = omega (arith, a
 
 few_both : (xs ys : List Step) (m n k : ℕ) → AreFew xs m → AreFew ys n → m + n ≤ k → AreFew (xs ++ ys) k
 few_both xs ys m n k a b l = record {
-      guests = All-append (λ s. is_of_guests (act_of s) ≡ true) xs ys a.guests b.guests;
-      few = omega (arith, a.few, b.few, length-append xs ys);
-    }
+  guests = All-append (λ s. is_of_guests (act_of s) ≡ true) xs ys a.guests b.guests;
+  few = omega (arith, a.few, b.few, length-append xs ys);
+}
 
 few_reads : (f r j : ℕ) → 0 < r → AreFew (reads_of f r j) (2 * j)
 unfolding reads_of
@@ -57,7 +58,7 @@ few_reads (suc f) r (suc j) o =
     let k : ℕ = min r (suc j) in
     let more = few_reads f r (suc j - k) o in
     few_more (steps.Read 1 byte_stream 1 0 r) (steps.Dump 1 0 k ∷ reads_of f r (suc j - k)) (2 * (suc j - k) + 1) (2 * suc j) refl
-      (few_more (steps.Dump 1 0 k) (reads_of f r (suc j - k)) (2 * (suc j - k)) (2 * (suc j - k) + 1) refl more (omega arith)) (omega arith)
+    (few_more (steps.Dump 1 0 k) (reads_of f r (suc j - k)) (2 * (suc j - k)) (2 * (suc j - k) + 1) refl more (omega arith)) (omega arith)
 
 few_piece : (r : ℕ) (p : List ℕ) → 0 < r → 0 < length p → AreFew (piece_of r p) (5 * length p)
 few_piece r p o h =
@@ -65,7 +66,7 @@ few_piece r p o h =
     let told = few_more (steps.Event 0 1) [] 0 1 refl (few_none 0) (omega arith) in
     let late = few_both (reads_of n r n) (steps.Event 0 1 ∷ []) (2 * n) 1 (2 * n + 1) (few_reads n r n o) told (omega arith) in
     few_more (steps.Poke 0 0 p) (steps.Write 0 byte_stream 1 0 n ∷ (reads_of n r n ++ steps.Event 0 1 ∷ [])) (2 * n + 2) (5 * n) refl
-      (few_more (steps.Write 0 byte_stream 1 0 n) (reads_of n r n ++ steps.Event 0 1 ∷ []) (2 * n + 1) (2 * n + 2) refl late (omega arith)) (omega arith)
+    (few_more (steps.Write 0 byte_stream 1 0 n) (reads_of n r n ++ steps.Event 0 1 ∷ []) (2 * n + 1) (2 * n + 2) refl late (omega arith)) (omega arith)
 
 few_pieces : (f w r : ℕ) (bytes : List ℕ) → 0 < w → 0 < r → AreFew (pieces_of f w r bytes) (5 * length bytes)
 unfolding pieces_of
@@ -76,15 +77,15 @@ few_pieces (suc f) w r (b ∷ bytes) o p =
     let rest : List ℕ = drop w (b ∷ bytes) in
     let long : length front ≡ min w (length (b ∷ bytes)) = length-take w (b ∷ bytes) in
     few_both (piece_of r front) (pieces_of f w r rest) (5 * length front) (5 * length rest) (5 * length (b ∷ bytes))
-      (few_piece r front p (omega (arith, long))) (few_pieces f w r rest o p) (omega (arith, long, length-drop w (b ∷ bytes)))
+    (few_piece r front p (omega (arith, long))) (few_pieces f w r rest o p) (omega (arith, long, length-drop w (b ∷ bytes)))
 
 few_script : (w r : ℕ) (bytes : List ℕ) → CanCarry w r bytes → AreFew (script_of w r bytes) (5 * length bytes + 3)
 few_script w r bytes c =
     let n : ℕ = 5 * length bytes in
     let all : List Step = pieces_of (length bytes) w r bytes in
     few_more (steps.Guest 64) (steps.Guest 64 ∷ steps.Between 0 1 byte_stream ∷ all) (n + 2) (n + 3) refl
-      (few_more (steps.Guest 64) (steps.Between 0 1 byte_stream ∷ all) (n + 1) (n + 2) refl
-        (few_more (steps.Between 0 1 byte_stream) all n (n + 1) refl (few_pieces (length bytes) w r bytes c.some_written c.some_read) (omega arith)) (omega arith)) (omega arith)
+    (few_more (steps.Guest 64) (steps.Between 0 1 byte_stream ∷ all) (n + 1) (n + 2) refl
+    (few_more (steps.Between 0 1 byte_stream) all n (n + 1) refl (few_pieces (length bytes) w r bytes c.some_written c.some_read) (omega arith)) (omega arith)) (omega arith)
 
 pub can_carry : (w r : ℕ) (bytes : List ℕ) → IsBytes bytes → length bytes ≤ 1048576 → (16 ≤ w) × (w ≤ 64) → (16 ≤ r) × (r ≤ 64) → CanCarry w r bytes
 can_carry w r bytes b l h k = record { are_bytes = b; few = l; some_written = omega (arith, h.0); most_written = h.1; some_read = omega (arith, k.0); most_read = k.1 }

@@ -1,14 +1,13 @@
 -- Whole frames in pieces have no fault.
-use Rattle.std.proofs.Common.{◌≡◌, ℕ, ◌+◌, ◌<◌, List, [], ◌∷◌, ◌++◌, length, take, drop, get_or, refl, sym, ap, ◌∙◌, arith}
-use Rattle.std.specs.Prelude.{None, Result, Err}
+use Rattle.std.proofs.Common.{◌≡◌, ℕ, ◌+◌, ◌<◌, List, [], ◌∷◌, ◌++◌, length, take, drop, get_or, sym, ap, ◌∙◌}
+use Rattle.std.specs.Prelude.{None}
 use Rattle.std.proofs.Math.Seq.{take-length}
-use Rattle.std.proofs.lemmas.List.{append-nil, append_assoc, take-append-drop, take_more, drop_more}
+use Rattle.std.proofs.lemmas.List.{append-nil, take-append-drop, take_more}
 use Rattle.std.proofs.lemmas.List.Concat.{flat_map-append}
 use Rattle.strm_frames.specs.Frames.{spelling}
 use Rattle.strm_frames.specs.Streams.{AreWhole, Splits, Faults}
-use Rattle.strm_frames.specs.Demuxes.{Heard, IsFed, error_of}
+use Rattle.strm_frames.specs.Demuxes.{Heard, IsFed}
 use Rattle.strm_frames.specs.declared.errors.Fault.{Fault}
-use Rattle.strm_frames.specs.declared.errors.MuxError.{MuxError}
 use Rattle.strm_frames.proofs.DemuxLemmas.{nothing_part}
 use Rattle.strm_frames.proofs.ReadingLemmas.{apart, stays}
 use Rattle.strm_machine.specs.declared.replies.Reply.{Reply}
@@ -38,7 +37,7 @@ dumped-take all k r h e =
 pub hears_on : (all : List Reply) (k : ℕ) (r : Reply) (heard : Heard) → k < length all → r ≡ get_or all k r → AreWhole (dumped all) → HearsSoFar all k heard → HearsOn heard (dumped_in r)
 hears_on all k r heard h e w a =
     let parts : dumped all ≡ dumped (take (k + 1) all) ++ dumped (drop (k + 1) all) =
-        ap dumped (sym (take-append-drop (k + 1) all)) ∙ flat_map-append dumped_in (take (k + 1) all) (drop (k + 1) all) in
+    ap dumped (sym (take-append-drop (k + 1) all)) ∙ flat_map-append dumped_in (take (k + 1) all) (drop (k + 1) all) in
     record {
       before = dumped (take k all);
       more = dumped (drop (k + 1) all);

@@ -1,5 +1,5 @@
 -- The script as it grows.
-use Rattle.std.proofs.Common.{◌≡◌, ◌≢◌, ℕ, zero, suc, ◌+◌, ◌-◌, ◌<◌, ◌≤◌, List, [], ◌∷◌, ◌++◌, length, min, take, drop, refl, sym, ap, ◌∙◌, arith, length-drop}
+use Rattle.std.proofs.Common.{◌≡◌, ℕ, zero, suc, ◌-◌, ◌<◌, ◌≤◌, List, [], ◌∷◌, ◌++◌, length, min, take, drop, refl, sym, ap, ◌∙◌, arith, length-drop}
 use Rattle.std.proofs.lemmas.List.{append-nil, append_assoc, take_min, drop_min, nil_from_length}
 use Rattle.strm_machine.specs.declared.steps.Step.{Step}
 use Rattle.strm_machine.specs.declared.steps.Step.TheVariants as steps
@@ -16,7 +16,7 @@ reads_enough (suc f) zero r (suc j) o h k = absurd (omega arith)
 reads_enough (suc f) (suc g) r zero o h k = refl
 reads_enough (suc f) (suc g) r (suc j) o h k =
     ap (λ (more : List Step). steps.Read 1 byte_stream 1 0 r ∷ steps.Dump 1 0 (min r (suc j)) ∷ more)
-      (reads_enough f g r (suc j - min r (suc j)) o (omega arith) (omega arith))
+    (reads_enough f g r (suc j - min r (suc j)) o (omega arith) (omega arith))
 
 reads_none : (r : ℕ) → reads_of 0 r 0 ≡ []
 unfolding reads_of
@@ -27,7 +27,7 @@ unfolding reads_of
 reads_some r zero o p = absurd (omega arith)
 reads_some r (suc j) o p =
     ap (λ (more : List Step). steps.Read 1 byte_stream 1 0 r ∷ steps.Dump 1 0 (min r (suc j)) ∷ more)
-      (reads_enough j (suc j - min r (suc j)) r (suc j - min r (suc j)) o (omega arith) (omega arith))
+    (reads_enough j (suc j - min r (suc j)) r (suc j - min r (suc j)) o (omega arith) (omega arith))
 
 -- the steps so far, and the reads of what is left, are all
 pub record ReadsSoFar (old now : List Step) (r len left : ℕ) : Type 0 where
@@ -41,8 +41,8 @@ reads_more old now new r len left count o p c n a =
     let here : reads_of left r left ≡ steps.Read 1 byte_stream 1 0 r ∷ steps.Dump 1 0 count ∷ reads_of (left - count) r (left - count) = rw c (reads_some r left o p) in
     record {
       goes_on = ap (λ (s : List Step). s ++ reads_of (left - count) r (left - count)) n
-        ∙ append_assoc now (steps.Read 1 byte_stream 1 0 r ∷ steps.Dump 1 0 count ∷ []) (reads_of (left - count) r (left - count))
-        ∙ ap (λ (s : List Step). now ++ s) (sym here) ∙ a.goes_on;
+          ∙ append_assoc now (steps.Read 1 byte_stream 1 0 r ∷ steps.Dump 1 0 count ∷ []) (reads_of (left - count) r (left - count))
+          ∙ ap (λ (s : List Step). now ++ s) (sym here) ∙ a.goes_on;
     }
 
 pub reads_end : (old now : List Step) (r len left : ℕ) → left ≡ 0 → ReadsSoFar old now r len left → now ≡ old ++ reads_of len r len
@@ -62,7 +62,7 @@ pieces_enough (suc f) zero w r (b ∷ bytes) o h k = absurd (omega arith)
 pieces_enough (suc f) (suc g) w r [] o h k = refl
 pieces_enough (suc f) (suc g) w r (b ∷ bytes) o h k =
     ap (λ (more : List Step). piece_of r (take w (b ∷ bytes)) ++ more)
-      (pieces_enough f g w r (drop w (b ∷ bytes)) o (omega (arith, length-drop w (b ∷ bytes))) (omega (arith, length-drop w (b ∷ bytes))))
+    (pieces_enough f g w r (drop w (b ∷ bytes)) o (omega (arith, length-drop w (b ∷ bytes))) (omega (arith, length-drop w (b ∷ bytes))))
 
 pieces_none : (w r : ℕ) → pieces_of 0 w r [] ≡ []
 unfolding pieces_of
@@ -74,7 +74,7 @@ pieces_some w r [] o p = absurd (omega arith)
 pieces_some w r (b ∷ bytes) o p =
     let rest : List ℕ = drop w (b ∷ bytes) in
     ap (λ (more : List Step). piece_of r (take w (b ∷ bytes)) ++ more)
-      (pieces_enough (length bytes) (length rest) w r rest o (omega (arith, length-drop w (b ∷ bytes))) (omega arith))
+    (pieces_enough (length bytes) (length rest) w r rest o (omega (arith, length-drop w (b ∷ bytes))) (omega arith))
 
 -- the steps so far, and those of the pieces of what is left, are all
 pub record PiecesSoFar (now : List Step) (w r : ℕ) (bytes left : List ℕ) : Type 0 where
@@ -97,7 +97,7 @@ pieces_more now new w r bytes left piece more o c n a =
     let here : pieces_of (length left) w r left ≡ piece_of r piece ++ pieces_of (length more) w r more = rw (p, q) (pieces_some w r left o c.some) in
     record {
       goes_on = ap (λ (s : List Step). s ++ pieces_of (length more) w r more) n
-        ∙ append_assoc now (piece_of r piece) (pieces_of (length more) w r more) ∙ ap (λ (s : List Step). now ++ s) (sym here) ∙ a.goes_on;
+          ∙ append_assoc now (piece_of r piece) (pieces_of (length more) w r more) ∙ ap (λ (s : List Step). now ++ s) (sym here) ∙ a.goes_on;
     }
 
 pub pieces_end : (now : List Step) (w r : ℕ) (bytes left : List ℕ) → length left ≡ 0 → PiecesSoFar now w r bytes left → now ≡ script_of w r bytes

@@ -10,6 +10,7 @@ ghost use Rattle.strm_frames.specs.Muxes.{Carries};
 ghost use Rattle.strm_laws.specs.Conservation.{got, moments, last, replies_of};
 ghost use Rattle.strm_machine.specs.Moments.{received};
 ghost use Rattle.strm_machine.specs.Plays.{play, Ends};
+ghost use Rattle.strm_memory.specs.Bytes.{IsBytes};
 ghost use Rattle.strm_mux.specs.Carrying.{Delivers};
 ghost use Rattle.strm_one_stream.specs.OneStream.{script_of, items_of, AreSettled};
 ghost use Rattle.strm_session.specs.Runs.{start, AreOfGuests, counts_of};
@@ -64,6 +65,7 @@ pub fn carry(alloc: Global, mux: &Mux, write: u32, read: u32) -> Result<Carried,
 {
     carries();
     let bytes = mux.bytes();
+    hold_bytes(bytes);
     let steps = script(alloc, bytes, write, read)?;
     let transcript = play_all(alloc, steps.as_slice())?;
     let moved = first_count(transcript.moved.as_slice());
@@ -75,6 +77,11 @@ pub fn carry(alloc: Global, mux: &Mux, write: u32, read: u32) -> Result<Carried,
         moved,
     })
 }
+
+// What lies behind a slice of bytes is bytes.
+fn hold_bytes(bytes: &[u8])
+    ensures { IsBytes bytes.now }
+{}
 
 // The count of the first stream.
 fn first_count(counts: &[u128]) -> u64

@@ -37,8 +37,24 @@ fn push_read(steps: &mut Steps, read: u32, count: u32) -> Result<(), MuxError>
     ensures ok { OnOk result (steps.new ≡ steps.old ++ step_of.Read 1 byte_stream 1 0 read ∷ step_of.Dump 1 0 count ∷ []) }
     ensures err { IfErr result (λ error. error ≡ MuxError.OutOfMemory) }
 {
-    push(steps, Step::Read { guest: 1, ty: BYTES, handle: 1, address: 0, count: read })?;
-    push(steps, Step::Dump { guest: 1, address: 0, len: count })
+    push(
+        steps,
+        Step::Read {
+            guest: 1,
+            ty: BYTES,
+            handle: 1,
+            address: 0,
+            count: read,
+        },
+    )?;
+    push(
+        steps,
+        Step::Dump {
+            guest: 1,
+            address: 0,
+            len: count,
+        },
+    )
 }
 
 // The reads of a piece of so many bytes that was written, with what they read.
@@ -67,10 +83,32 @@ fn push_piece(steps: &mut Steps, piece: &[u8], read: u32) -> Result<(), MuxError
         unreachable!()
     };
     let count = piece.len() as u32;
-    push(steps, Step::Poke { guest: 0, address: 0, bytes })?;
-    push(steps, Step::Write { guest: 0, ty: BYTES, handle: 1, address: 0, count })?;
+    push(
+        steps,
+        Step::Poke {
+            guest: 0,
+            address: 0,
+            bytes,
+        },
+    )?;
+    push(
+        steps,
+        Step::Write {
+            guest: 0,
+            ty: BYTES,
+            handle: 1,
+            address: 0,
+            count,
+        },
+    )?;
     push_reads(steps, count, read)?;
-    push(steps, Step::Event { guest: 0, handle: 1 })
+    push(
+        steps,
+        Step::Event {
+            guest: 0,
+            handle: 1,
+        },
+    )
 }
 
 // Two guests and a stream from the first to the second.
@@ -80,7 +118,14 @@ fn push_guests(steps: &mut Steps) -> Result<(), MuxError>
 {
     push(steps, Step::Guest { size: SIZE })?;
     push(steps, Step::Guest { size: SIZE })?;
-    push(steps, Step::Between { writer: 0, reader: 1, ty: BYTES })
+    push(
+        steps,
+        Step::Between {
+            writer: 0,
+            reader: 1,
+            ty: BYTES,
+        },
+    )
 }
 
 // All steps: the bytes are written in pieces of so many, and read in such.

@@ -17,7 +17,7 @@ made = last new_store (steps.Guest 64 ∷ steps.Guest 64 ∷ steps.Between 0 1 b
 abbrev pub rests : List ℕ → List ℕ → ℕ → State
 rests m0 m1 n = record made {
   guests = (record (slice_index_or made.guests 0 no_guest) { memory = m0 })
-    ∷ (record (slice_index_or made.guests 1 no_guest) { memory = m1 }) ∷ [];
+      ∷ (record (slice_index_or made.guests 1 no_guest) { memory = m1 }) ∷ [];
   streams = (record (stream_at made 0) { received = n }) ∷ [];
 }
 

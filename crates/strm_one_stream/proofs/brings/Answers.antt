@@ -1,4 +1,4 @@
-use Rattle.std.proofs.Common.{◌≡◌, ◌+◌, ℕ, Bool, true, false, List, [], ◌∷◌, ◌++◌, length, take, drop, refl, ap, arith, length-append, length-drop, ◌∙◌}
+use Rattle.std.proofs.Common.{◌≡◌, ◌+◌, ℕ, Bool, true, false, List, [], ◌∷◌, ◌++◌, length, take, drop, refl, ap, arith, length-append, length-drop}
 use Rattle.std.proofs.lemmas.List.{take_at, append-nil}
 use Rattle.strm_memory.specs.Bytes.{IsBytes, put_at}
 use Rattle.strm_machine.specs.State.{State}
@@ -38,5 +38,5 @@ returns c = λ r m0 m1 p n t u h g o l q x y.
       long = wl;
       long_too = d.long;
       runs = runs_as s0 s4 s4 _ (p ++ []) p (p ++ []) p refl (append-nil p) (append-nil p)
-        (runs_both s0 s2 s4 (steps.Poke 0 0 p ∷ steps.Write 0 byte_stream 1 0 k ∷ []) (reads ++ steps.Event 0 1 ∷ []) [] (p ++ []) [] (p ++ []) early late);
+          (runs_both s0 s2 s4 (steps.Poke 0 0 p ∷ steps.Write 0 byte_stream 1 0 k ∷ []) (reads ++ steps.Event 0 1 ∷ []) [] (p ++ []) [] (p ++ []) early late);
     }

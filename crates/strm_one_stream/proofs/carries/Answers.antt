@@ -1,4 +1,4 @@
-use Rattle.std.proofs.Common.{◌≡◌, ◌<◌, ◌≤◌, ◌+◌, ◌∷◌, [], ℕ, List, length, map, replicate, refl, ap, arith, ◌∙◌}
+use Rattle.std.proofs.Common.{◌≡◌, ◌+◌, ◌∷◌, [], ℕ, List, length, map, replicate, refl, ap, arith, ◌∙◌}
 use Rattle.strm_machine.specs.Reactions.{reaction, performs}
 use Rattle.strm_machine.specs.Refusals.{refusal}
 use Rattle.strm_machine.specs.Making.{with_stream}
@@ -6,7 +6,7 @@ use Rattle.strm_machine.specs.Moments.{decoded}
 use Rattle.strm_machine.specs.State.{State}
 use Rattle.strm_machine.proofs.ArrivalLemmas.{IsBytes-zeros}
 use Rattle.strm_laws.specs.Conservation.{last, moments, got}
-use Rattle.strm_one_stream.specs.OneStream.{new_store, pieces_of, script_of, CanCarry, dumped, AreSettled}
+use Rattle.strm_one_stream.specs.OneStream.{new_store, pieces_of, script_of, CanCarry}
 use Rattle.strm_one_stream.specs.Serving.{rests, Brings}
 use Rattle.strm_one_stream.proofs.carries.Goals as goal
 
@@ -27,10 +27,10 @@ brought c w r bytes u = c.brings_all.ensures (length bytes) w r (replicate 64 0)
 pub returns : goal.returns
 unfolding reaction performs refusal with_stream
 returns c = record {
-      got = λ w r bytes u. begun w r bytes ∙ (brought c w r bytes u).runs.gets;
-      received = λ w r bytes u.
-        let none : 0 + length bytes ≡ length bytes = omega arith in
-        ap (λ (s : State). map (λ x. x.received) s.streams) (ended w r bytes ∙ (brought c w r bytes u).runs.ends) ∙ ap (λ (n : ℕ). n ∷ []) none;
-      dumped = λ w r bytes u. (brought c w r bytes u).runs.dumps;
-      settled = λ w r bytes u. (refl, (refl, (refl, (brought c w r bytes u).runs.settles)));
-    }
+  got = λ w r bytes u. begun w r bytes ∙ (brought c w r bytes u).runs.gets;
+  received = λ w r bytes u.
+      let none : 0 + length bytes ≡ length bytes = omega arith in
+      ap (λ (s : State). map (λ x. x.received) s.streams) (ended w r bytes ∙ (brought c w r bytes u).runs.ends) ∙ ap (λ (n : ℕ). n ∷ []) none;
+  dumped = λ w r bytes u. (brought c w r bytes u).runs.dumps;
+  settled = λ w r bytes u. (refl, (refl, (refl, (brought c w r bytes u).runs.settles)));
+}

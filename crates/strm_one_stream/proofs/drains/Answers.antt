@@ -24,7 +24,7 @@ drain_none m0 m1 n a i met g =
     let nn : n ≡ n + 0 = omega arith in
     let ii : i ≡ i + 0 = omega arith in
     let same : serving m0 m1 n a 0 i met ≡ serving m0 m1 (n + 0) a 0 (i + 0) met =
-        ap (λ (x : ℕ). serving m0 m1 x a 0 i met) nn ∙ ap (λ (x : ℕ). serving m0 m1 (n + 0) a 0 x met) ii in
+    ap (λ (x : ℕ). serving m0 m1 x a 0 i met) nn ∙ ap (λ (x : ℕ). serving m0 m1 (n + 0) a 0 x met) ii in
     record {
       memory = m1;
       address = a;
@@ -51,10 +51,10 @@ pair c m0 m1 n a i j r met t h g u p q x y =
     let s1 : State = serving m0 mid (n + k) (a + k) (j - k) (i + k) true in
     let one = runs_step s0 (steps.Read 1 byte_stream 1 0 r) _ b (c.serves.ensures m0 m1 n a i j r met t h g u p q x y) refl (c.gets.ensures.read m0 m1 n a i j r met t h g u p q x y) in
     let first : Runs s0 s1 (steps.Read 1 byte_stream 1 0 r ∷ []) b [] =
-        runs_as s0 _ s1 (steps.Read 1 byte_stream 1 0 r ∷ []) b b [] [] (ap (λ (z : ℕ). serving m0 mid (n + k) z (j - k) (i + k) true) place) refl refl one in
+    runs_as s0 _ s1 (steps.Read 1 byte_stream 1 0 r ∷ []) b b [] [] (ap (λ (z : ℕ). serving m0 mid (n + k) z (j - k) (i + k) true) place) refl refl one in
     let second = runs_step s1 (steps.Dump 1 0 k) _ [] (c.dumps.ensures m0 mid (n + k) (a + k) (j - k) (i + k) k true long (omega arith) (omega arith)) refl (c.gets.ensures.dump m0 mid (n + k) (a + k) (j - k) (i + k) k true long (omega arith) (omega arith)) in
     runs_as s0 s1 s1 (steps.Read 1 byte_stream 1 0 r ∷ steps.Dump 1 0 k ∷ []) (b ++ []) b (take k mid) b refl (append-nil b) (take_at b (drop k m1) k size)
-      (runs_both s0 s1 s1 (steps.Read 1 byte_stream 1 0 r ∷ []) (steps.Dump 1 0 k ∷ []) b [] [] (take k mid) first second)
+    (runs_both s0 s1 s1 (steps.Read 1 byte_stream 1 0 r ∷ []) (steps.Dump 1 0 k ∷ []) b [] [] (take k mid) first second)
 
 drain_more : (m0 m1 mid : List ℕ) (n a i j k : ℕ) (met : Bool) (run more : List Step) → k ≤ j → 0 < k → let b = take k (drop a m0) in
     Runs (serving m0 m1 n a j i met) (serving m0 mid (n + k) (a + k) (j - k) (i + k) true) run b b → Drains m0 mid (n + k) (a + k) (j - k) (i + k) true more → Drains m0 m1 n a j i met (run ++ more)
@@ -91,7 +91,7 @@ drain c (suc f) r (suc j) m0 m1 n a i met l t h g u q x y =
     let long : length mid ≡ 64 = omega (arith, length-append b (drop k m1), length-take-le k (drop a m0) within, length-drop k m1) in
     let next = drain c f r (suc j - k) m0 mid (n + k) (a + k) (i + k) true (omega arith) t h long (omega (arith, u)) (omega arith) x y in
     drain_more m0 m1 mid n a i (suc j) k met (steps.Read 1 byte_stream 1 0 r ∷ steps.Dump 1 0 k ∷ []) (reads_of f r (suc j - k)) (omega arith) (omega arith)
-      (pair c m0 m1 n a i (suc j) r met t h g (omega (arith, u)) (omega arith) q x y) next
+    (pair c m0 m1 n a i (suc j) r met t h g (omega (arith, u)) (omega arith) q x y) next
 
 pub returns : goal.returns
 returns c = drain c

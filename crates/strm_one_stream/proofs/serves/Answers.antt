@@ -18,9 +18,9 @@ returns c = λ m0 m1 n a i j r met t h g u p q x y.
     let b : List ℕ = take (min r j) (drop a m0) in
     let room : length b ≤ length m1 = omega (arith, long) in
     let bytes_b : (k d : ℕ) → k < length b → get_or b k d < 256 = λ k d l.
-        let k1 : k < min r j = omega (arith, long) in
-        let k2 : a + k < length m0 = omega (arith, k1) in
-        omega (arith, t (a + k), get_or-take (min r j) (drop a m0) k d k1, get_or-drop a m0 k d, get_or_default m0 (a + k) d 0 k2) in
+    let k1 : k < min r j = omega (arith, long) in
+    let k2 : a + k < length m0 = omega (arith, k1) in
+    omega (arith, t (a + k), get_or-take (min r j) (drop a m0) k d k1, get_or-drop a m0 k d, get_or_default m0 (a + k) d 0 k2) in
     let no_w : j ≢ 0 = omega arith in
     let no_r : r ≢ 0 = omega arith in
     let top : min (n + min r j) (2 ^ 128 - 1) ≡ n + min r j = omega (arith, u) in

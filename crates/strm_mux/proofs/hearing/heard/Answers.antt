@@ -1,5 +1,4 @@
-use Rattle.std.proofs.Common.{◌∙◌, sym, arith}
-use Rattle.strm_mux.proofs.HearingLemmas.{hears_on, hears_more, hears_all}
+use Rattle.strm_mux.proofs.HearingLemmas.{hears_on}
 use Rattle.strm_mux.proofs.hearing.heard.Goals as goal
 
 pub hear-requires : goal.hear-requires

@@ -1,4 +1,3 @@
-use Rattle.std.proofs.Common.{◌≤◌}
 use Rattle.strm_mux.proofs.ScriptLemmas.{ReadsSoFar}
 use Rattle.strm_mux.proofs.scripts.push_reads.Given as goal
 
