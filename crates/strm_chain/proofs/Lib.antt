@@ -17,3 +17,4 @@ pub mod TurnedLemmas
 pub mod ReadTurnLemmas
 pub mod TurnLemmas
 pub mod OutcomeLemmas
+pub mod EndLemmas
