@@ -19,3 +19,5 @@ pub mod TurnedLemmas
 pub mod ReadTurnLemmas
 pub mod TurnLemmas
 pub mod OutcomeLemmas
+pub mod EndLemmas
+pub mod MakingLemmas
