@@ -218,7 +218,6 @@ delivered-owned Reading stream = record { owners = record { writer = refl; reade
 pub record Told (state next : State) (s : ℕ) (side : Side) (code : Option ReturnCode) : Type 0 where
   pub steady : Steady state next
   pub reports : report_on side (stream_at state s) ≡ code
-  pub is : next.streams ≡ set state.streams s (delivered side (stream_at state s))
   pub guests : next.guests ≡ state.guests
 
 pub event_after : (state next : State) (g handle s : ℕ) (side : Side) (code : Option ReturnCode) → IsPerformed state (Event g handle) (replies.Event code) next → stream_named (end_named state g handle) ≡ s → side_named (end_named state g handle) ≡ side → s < length state.streams → Told state next s side code
@@ -232,7 +231,6 @@ event_after state next g handle s side code p e f l =
     record {
       steady = steady_set state next s (delivered side (stream_at state s)) is l (delivered-owned side (stream_at state s));
       reports = cc;
-      is = is;
       guests = ap (λ (x : State). x.guests) next_is;
     }
 
@@ -242,8 +240,9 @@ unfolding delivered
 undelivered Writing stream e = ap (λ code. with_end Writing stream (told_end code (end_of Writing stream))) e
 undelivered Reading stream e = ap (λ code. with_end Reading stream (told_end code (end_of Reading stream))) e
 
-pub told_none : (state next : State) (s : ℕ) (side : Side) → Told state next s side None → next.streams ≡ state.streams
-told_none state next s side t = t.is ∙ ap (set state.streams s) (undelivered side (stream_at state s) t.reports) ∙ set-get_or state.streams s no_stream
+untold : (state : State) (s : ℕ) (side : Side) → report_on side (stream_at state s) ≡ None → told state s side ≡ state
+untold state s side e =
+    ap (λ xs. record state { streams = xs }) (ap (set state.streams s) (undelivered side (stream_at state s) e) ∙ set-get_or state.streams s no_stream)
 
 pub told_gone : (state next : State) (s : ℕ) (code : ReturnCode) → Told state next s Reading (Some code) → (stream_at state s).kind ≡ AStream → IsPlain (stream_at state s).reader.operation → is_dropped code ≡ true → is_gone (stream_at state s).writer.owner ≡ true
 told_gone state next s code t k p d = report-only (stream_at state s) k p code t.reports d
@@ -282,6 +281,10 @@ dump_after state next g address len bytes p =
     (sym (ap (λ (r : Reaction). r.state) p.does), sym (let same : take (min len 64) (drop address (memory_in state.guests g)) ≡ bytes = cc in same))
 
 -- an event that answers none changes nothing
-pub event_none : (state next : State) (g handle s : ℕ) (side : Side) → IsPerformed state (Event g handle) (replies.Event None) next → stream_named (end_named state g handle) ≡ s → side_named (end_named state g handle) ≡ side → s < length state.streams → (next.streams ≡ state.streams) × (next.guests ≡ state.guests)
-event_none state next g handle s side p e f l =
-    let t = event_after state next g handle s side None p e f l in (told_none state next s side t, t.guests)
+pub event_none : (state next : State) (g handle : ℕ) → IsPerformed state (Event g handle) (replies.Event None) next → next ≡ state
+unfolding performs
+event_none state next g handle p =
+    let s = stream_named (end_named state g handle) in
+    let side = side_named (end_named state g handle) in
+    let reply : replies.Event (report_on side (stream_at state s)) ≡ replies.Event None = ap (λ (r : Reaction). r.reply) p.does in
+    sym (ap (λ (r : Reaction). r.state) p.does) ∙ untold state s side (let none : report_on side (stream_at state s) ≡ None = cc in none)

@@ -12,3 +12,10 @@ pub mod PrefixLemmas
 pub mod NamingLemmas
 pub mod MomentLemmas
 pub mod AfterLemmas
+pub mod StayLemmas
+pub mod JoinedLemmas
+pub mod OwnLemmas
+pub mod TurnedLemmas
+pub mod ReadTurnLemmas
+pub mod TurnLemmas
+pub mod OutcomeLemmas
