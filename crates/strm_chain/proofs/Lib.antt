@@ -19,3 +19,4 @@ pub mod TurnedLemmas
 pub mod ReadTurnLemmas
 pub mod TurnLemmas
 pub mod OutcomeLemmas
+pub mod EndLemmas

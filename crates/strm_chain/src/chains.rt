@@ -261,7 +261,10 @@ fn turn_at(
     ensures stages { OnOk result (IsJoined player.old workers.old → stages_of workers.new ≡ stages_of workers.old) }
     ensures input { OnOk result (IsJoined player.old workers.old → input_of workers.new ≡ input_of workers.old) }
 {
-    take_turn(player, &mut workers[who as usize], who, chunk)
+    player.played();
+    let turn = take_turn(player, &mut workers[who as usize], who, chunk);
+    player.played();
+    turn
 }
 
 // Turns by a schedule.

@@ -1,6 +1,9 @@
-use Rattle.strm_buffers.specs.Tells.{Tells}
+use Rattle.std.proofs.Common.{subst}
+use Rattle.strm_world.specs.Does.{Fits}
+use Rattle.strm_transmit.specs.Guests.{nobody}
 use Rattle.strm_chain.proofs.PlayingLemmas.{follows_start}
 use Rattle.strm_chain.proofs.playing.Player.new.Goals as goal
 
 pub invariant_of-result : goal.invariant_of-result
-invariant_of-result c = rw (c.new.ensures.exact, c.new-2.ensures, c.new-3.ensures) (follows_start (c.new.ensures.fits _))
+invariant_of-result c =
+    rw (c.new.ensures.exact, c.new-2.ensures, c.new-3.ensures) (follows_start (subst (λ s. Fits s nobody) c.new.ensures.exact (c.new.ensures.fits _)))
