@@ -1,5 +1,7 @@
 //! Stages, each alone and one behind the other, against lists that were worked out by hand.
 
+ghost use Rattle.std.specs.Prelude.{◌≤◌};
+
 use std::alloc::Global;
 use std::process::Abort;
 use strm_chain::chains::{ChainError, chain_all};
