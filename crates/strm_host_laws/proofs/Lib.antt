@@ -25,6 +25,7 @@ pub mod Unmoved
 pub mod Unread
 pub mod Took
 pub mod KeptItems
+pub mod FutureWritten
 pub mod Duties
 pub mod ToldTaken
 pub mod Forms
