@@ -47,7 +47,7 @@ use Rattle.strm_world.specs.HostRefusals.{is_used}
 use Rattle.strm_world.specs.Piping.{both_gone}
 use Rattle.strm_world.specs.Settling.{went, settled, with_some_received}
 use Rattle.strm_world.specs.World.{World, stream_in, writer_at, held_of, with_consumer, leaves_writer, leaves_reader, with_stream_in}
-use Rattle.strm_host_laws.specs.HostMoments.{Part}
+use Rattle.strm_host_laws.specs.HostMoments.{Part, HostMoment}
 use Rattle.strm_host_laws.specs.HostLaws.{items_of}
 use Rattle.strm_host_laws.proofs.Closed.{is_new_reader}
 use Rattle.strm_host_laws.proofs.Effects.{loose_made}
@@ -55,12 +55,12 @@ use Rattle.strm_host_laws.proofs.Fed.{set-relates}
 use Rattle.strm_host_laws.proofs.Forms.{HasTurned, opened, called, reacted_to, stream_of, IsTurn, IsRound, IsCall, IsPiping, Form, BySame, ByReacting, ByForsaking, ByHosting, ByFeeding, ByGranting, ByPiping, ByTurning, ByPassing, ByCalling}
 use Rattle.strm_host_laws.proofs.Goings.{piped_to}
 use Rattle.strm_host_laws.proofs.HostsAgree.{no_two, one_stream}
-use Rattle.strm_host_laws.proofs.KeptItems.{turned_kept}
+use Rattle.strm_host_laws.proofs.KeptItems.{turned_kept, Rested, rested_or_passing}
 use Rattle.strm_host_laws.proofs.Lives.{Lives, owned_made, drive_can, opened_here, read_can, mid_made}
 use Rattle.strm_host_laws.proofs.PartsSeen.{IsTaken, owner_taken}
 use Rattle.strm_host_laws.proofs.Rounds.{Passed}
 use Rattle.strm_host_laws.proofs.Standing.{Holds, nothing_kept}
-use Rattle.strm_host_laws.proofs.Touched.{told_stream}
+use Rattle.strm_host_laws.proofs.Touched.{Touch, NotTouched, IsLost, HasTurn, HasRound, HasRead, told_stream}
 use Rattle.strm_host_laws.proofs.TurnMoves.{Moves, moved_on-moves}
 use Rattle.strm_host_laws.proofs.Turned.{turned, stream_moved, Turned, taken_by, stream_taken}
 use Rattle.strm_host_laws.proofs.WrittenBack.{set_back, back-streams, back-kept, back-here, back-other, back-length, back-stays, back-received, CanTurn, turned-here, turned-other, turned-ends, taken-other, mid_end, round_other, round_length, round_keeps, round_ends}
@@ -838,3 +838,28 @@ module _ (first w : World) (s n : ℕ) (l : Lives first w) (o : (stream_in w s).
       let call = subst (λ a. IsCall Reading w part v end address count a) (who_is k owner) c in
       subst (λ a. Onward v a n) e
       (call_onward first w n l part v end address count call (ap (λ a. (stream_in w a).kind) e ∙ future) (subst (λ a. OneWritten w a n) (sym e) h))
+
+  -- a moment in which nothing is received, and no record used
+  rested_onward : (m : HostMoment) → m.before ≡ w → Quiet s w m.after → Rested s n m → Touch s w m.part m.after → Onward m.after s n
+  rested_onward m b q rested (NotTouched a) =
+      let held : held_of m.after n ≡ held_of w n = ap (λ ks. ks ++ (writer_at m.after n).holds) (rested.kept ∙ ap (λ (x : World). kept_at x.state n) b) ∙ ap (λ xs. kept_at w.state n ++ xs) (a.writer n o).holds in
+      let after = one_step w m.after s n q.step held q.rest h in
+      record { most = one_most m.after s n after; one = λ e. after }
+  rested_onward m b q rested (IsLost k f) =
+      let count = f.received in
+      let before = one_most w s n h in
+      record { most = omega (arith, count, before); one = λ e. absurd (let wrong : Gone ≡ Host n = sym f.gone ∙ e in cc) }
+  rested_onward m b q rested (HasTurn k read i) = busy_onward m.part m.after (BusyTurn k read i)
+  rested_onward m b q rested (HasRound k r i) = busy_onward m.part m.after (BusyRound k r i)
+  rested_onward m b q rested (HasRead end address count k at c) = busy_onward m.part m.after (BusyCall end address count k at c)
+
+-- any moment
+pub moment_onward : (first : World) (m : HostMoment) (s n : ℕ) → Lives first m.before → (stream_in m.before s).writer.owner ≡ Host n → (stream_in m.before s).kind ≡ Future → OneWritten m.before s n → Form m.before m.part m.reply m.after → Touch s m.before m.part m.after → Onward m.after s n
+moment_onward first m s n l o future h form touch =
+    elim (form_quiet first m.before s n l o future h m.part m.reply m.after form) [
+      | inl q ↦ elim (rested_or_passing s n m l.holds o form) [
+        | inl rested ↦ rested_onward first m.before s n l o future h m refl q rested touch
+        | inr passing ↦ busy_onward first m.before s n l o future h m.part m.after (BusyRound n passing.reader passing.round)
+      ]
+      | inr busy ↦ busy_onward first m.before s n l o future h m.part m.after busy
+    ]
