@@ -501,18 +501,18 @@ module _ (first : World) where
           count = λ q v. (let rest = k.exact unread (or_parts (is_piped_in s m.part m.reply) (is_piped s more) v).1 in omega (arith, rest, none, long));
           capped_count = λ q. omega (arith, k.count, none, long);
           one = λ q future few. (
-            let passed : (stream_in m.after s).passed ≡ false = ap (λ (x : Stream). x.passed) now in
-            let long = length-append (made_of s w m.part m.reply) (held_first s more) in
-            let same = ap length made in
-            let most : length (writer_at w n).holds ≤ 1 = omega (arith, few, long, same) in
-            k.one (sym k.kind ∙ future)
-            (record {
-              count = none ∙ ap (λ p. cond p 1 0) (sym passed);
-              held = λ e. subst (λ xs. length xs ≤ 1) (sym held) most;
-              loose = λ e. passed;
-              reads = subst (λ x. ReadsOne x (stream_in m.after s).passed) (sym (ap (λ (x : Stream). x.reader.operation) now)) tt;
-              rests = λ r e p. absurd (true≢false (sym p ∙ passed));
-            }));
+              let passed : (stream_in m.after s).passed ≡ false = ap (λ (x : Stream). x.passed) now in
+              let long = length-append (made_of s w m.part m.reply) (held_first s more) in
+              let same = ap length made in
+              let most : length (writer_at w n).holds ≤ 1 = omega (arith, few, long, same) in
+              k.one (sym k.kind ∙ future)
+              (record {
+                count = none ∙ ap (λ p. cond p 1 0) (sym passed);
+                held = λ e. subst (λ xs. length xs ≤ 1) (sym held) most;
+                loose = λ e. passed;
+                reads = subst (λ x. ReadsOne x (stream_in m.after s).passed) (sym (ap (λ (x : Stream). x.reader.operation) now)) tt;
+                rests = λ r e p. absurd (true≢false (sym p ∙ passed));
+              }));
         }
 
     -- it is made with a guest's write end, or not yet

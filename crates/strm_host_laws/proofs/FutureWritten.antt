@@ -1,18 +1,18 @@
 -- A future that a host writer writes: it passes one item at most, if its writer held no more than one when it was
 -- made.
-use Rattle.std.proofs.Common.{◌≡◌, ◌≢◌, ℕ, ◌+◌, ◌-◌, ◌^◌, ◌<◌, ◌≤◌, ◌==◌, ◌||◌, Bool, true, false, cond, List, [], ◌∷◌, ◌++◌, length, get_or, set, Option, Some, None, refl, sym, ap, subst, ◌∙◌, ◌⊎◌, inl, inr, arith, length-append}
+use Rattle.std.proofs.Common.{◌≡◌, ◌≢◌, ℕ, ◌+◌, ◌<◌, ◌≤◌, ◌==◌, ◌||◌, Bool, true, false, cond, List, [], ◌∷◌, ◌++◌, length, get_or, set, Option, Some, None, refl, sym, ap, subst, ◌∙◌, ◌⊎◌, inl, inr, arith, length-append}
 use Rattle.std.specs.Prelude.{if◌then◌else◌}
-use Rattle.std.proofs.lemmas.Bool.{cases_eq, cases_lt, cond_both, eqb-true, eq-eqb, ne_eqb, true≢false}
+use Rattle.std.proofs.lemmas.Bool.{cases_eq, cases_lt, cond_both, eq-eqb, ne_eqb, true≢false}
 use Rattle.std.proofs.lemmas.List.{get_or-set_same, get_or-set_other, get_or_append_left}
 use Rattle.strm_codes.specs.declared.codes.ReturnCode.{ReturnCode}
 use Rattle.strm_codes.specs.declared.codes.StreamResult.{StreamResult}
 use Rattle.strm_codes.specs.declared.codes.TransmitKind.TheVariants.{Future}
 use Rattle.strm_buffers.specs.Listing.{Item}
 use Rattle.strm_machine.specs.State.{State, Guest, no_stream, no_consumer, stream_at, kept_at, consumer_at, is_gone, is_held, is_host, is_loose}
-use Rattle.strm_machine.specs.Sides.{opposite, end_of, with_end, with_operation}
+use Rattle.strm_machine.specs.Sides.{end_of, with_end, with_operation}
 use Rattle.strm_machine.specs.Moves.{with_owner}
 use Rattle.strm_machine.specs.Making.{made_stream, made_pair, with_stream}
-use Rattle.strm_machine.specs.Endings.{asked_to_finish, delivered}
+use Rattle.strm_machine.specs.Endings.{delivered}
 use Rattle.strm_machine.specs.Turns.{Turn, is_future, with_received, finds, turn}
 use Rattle.strm_machine.specs.Reactions.{Reaction, written_back, reaction}
 use Rattle.strm_machine.specs.Tests.{named, stream_named}
@@ -32,7 +32,6 @@ use Rattle.strm_machine.proofs.HostLemmas.{no_host}
 use Rattle.strm_machine.proofs.TallyLemmas.{begins_by}
 use Rattle.strm_machine.proofs.Shapes.{stream_on, begun_on, turn_on, Operates, Shape, ByTurn, BySetting, ByOwner, ByTable, ByPair, ByGuest, ByPut, ByRest as ByRestShape}
 use Rattle.strm_machine.proofs.ShapeLemmas.{reaction-shape}
-use Rattle.strm_machine.specs.Hosting.{HostsHold}
 use Rattle.strm_machine.specs.Moments.{received}
 use Rattle.strm_machine.specs.declared.streams.Duty.TheVariants.{Serves, Ended}
 use Rattle.strm_machine.specs.declared.replies.Reply.{Reply}
@@ -63,7 +62,7 @@ use Rattle.strm_host_laws.proofs.Standing.{Holds, nothing_kept}
 use Rattle.strm_host_laws.proofs.Touched.{Touch, NotTouched, IsLost, HasTurn, HasRound, HasRead, told_stream}
 use Rattle.strm_host_laws.proofs.TurnMoves.{Moves, moved_on-moves}
 use Rattle.strm_host_laws.proofs.Turned.{turned, stream_moved, Turned, taken_by, stream_taken}
-use Rattle.strm_host_laws.proofs.WrittenBack.{set_back, back-streams, back-kept, back-here, back-other, back-length, back-stays, back-received, CanTurn, turned-here, turned-other, turned-ends, taken-other, mid_end, round_other, round_length, round_keeps, round_ends}
+use Rattle.strm_host_laws.proofs.WrittenBack.{set_back, back-streams, back-kept, back-here, back-other, back-length, back-stays, back-received, CanTurn, turned-here, turned-other, turned-ends, taken-other, mid_end, round_other, round_keeps, round_ends}
 
 -- ## What is known of its stream
 
@@ -485,15 +484,13 @@ value_one old new m k fresh none few count passed = by (cases_lt 0 m)
     by (inl l) =
         let some : (m == 0) ≡ false = ne_eqb m 0 (λ e. omega (arith, e, l)) in
         let now : new.passed ≡ true = passed ∙ ap (λ b. cond b old.passed (with_received old m).passed) some ∙ was old.passed in
-        let one : (with_received old m).received ≡ 1 = omega (arith, none, few, l) in
-        (
+        let one : (with_received old m).received ≡ 1 = omega (arith, none, few, l) in (
           count ∙ ap (λ b. cond b old.received (with_received old m).received) some ∙ one ∙ ap (λ p. if p then 1 else 0) (sym now),
           ((λ e. absurd (true≢false (sym now ∙ e))), (λ e. absurd (omega (arith, e, l)))),
         )
     by (inr l) =
         let zero_is : (m == 0) ≡ true = eq-eqb m 0 (omega (arith, l)) in
-        let now : new.passed ≡ false = passed ∙ ap (λ b. cond b old.passed (with_received old m).passed) zero_is ∙ fresh in
-        (
+        let now : new.passed ≡ false = passed ∙ ap (λ b. cond b old.passed (with_received old m).passed) zero_is ∙ fresh in (
           count ∙ ap (λ b. cond b old.received (with_received old m).received) zero_is ∙ none ∙ ap (λ p. if p then 1 else 0) (sym now),
           ((λ e. omega (arith, l)), (λ e. now)),
         )
@@ -545,9 +542,9 @@ module _ (x : World) (s n : ℕ) (read : Operation) (y : World) (t : Turned x s 
   -- a read that is open yet got none
   open_yet : (result : Option StreamResult) → t.result ≡ result → ReadsOne (Some (settled result (went (stream_in x s).payload read m))) (stream_in y s).passed
   open_yet None e = λ f. (
-    let none : m ≡ 0 = ap length (t.none e) in
-    let left = asks.left in
-    record { left = omega (arith, left); fresh = value.1.1 none })
+      let none : m ≡ 0 = ap length (t.none e) in
+      let left = asks.left in
+      record { left = omega (arith, left); fresh = value.1.1 none })
   open_yet (Some result) e = λ f. cc
 
   turn_onward : Onward y s n

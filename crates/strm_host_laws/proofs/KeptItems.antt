@@ -1,6 +1,6 @@
 -- What a moment does to the items that are kept of a host writer, and to the records of the host reader of its
 -- stream: nothing, unless it is the round of that stream.
-use Rattle.std.proofs.Common.{◌≡◌, ℕ, false, [], get_or, refl, sym, ap, subst, ◌∙◌, ◌⊎◌, inl, inr}
+use Rattle.std.proofs.Common.{◌≡◌, ℕ, [], get_or, refl, sym, ap, subst, ◌∙◌, ◌⊎◌, inl, inr}
 use Rattle.std.proofs.lemmas.Bool.{cases_eq, true≢false}
 use Rattle.strm_buffers.specs.declared.answers.ReaderSaid.{ReaderSaid}
 use Rattle.strm_buffers.specs.Listing.{Item}
