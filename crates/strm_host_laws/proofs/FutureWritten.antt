@@ -470,28 +470,34 @@ pub record Onward (v : World) (s n : ℕ) : Type 0 where
   pub most : received s v.state ≤ 1
   pub one : (stream_in v s).writer.owner ≡ Host n → OneWritten v s n
 
--- so many items more, of which the first is the value
-value_one : (old new : Stream) (m : ℕ) → old.kind ≡ Future → old.passed ≡ false → old.received ≡ 0 → m ≤ 1
-    → new.received ≡ cond (m == 0) old.received (with_received old m).received → new.passed ≡ cond (m == 0) old.passed (with_received old m).passed
-    → (new.received ≡ (if new.passed then 1 else 0)) × ((new.passed ≡ false → m ≡ 0) × (m ≡ 0 → new.passed ≡ false))
-value_one old new m k fresh none few count passed = by (cases_lt 0 m)
+-- so many items more were received on a stream
+abbrev GotMore : Stream → Stream → ℕ → Type 0
+GotMore old new m = (new.received ≡ cond (m == 0) old.received (with_received old m).received) × (new.passed ≡ cond (m == 0) old.passed (with_received old m).passed)
+
+-- its value was received where it passed, which it did where there were items
+abbrev IsValue : Stream → ℕ → Type 0
+IsValue new m = (new.received ≡ (if new.passed then 1 else 0)) × ((new.passed ≡ false → m ≡ 0) × (m ≡ 0 → new.passed ≡ false))
+
+-- of a future that has not passed the first of these items is the value
+value_one : (old new : Stream) (m : ℕ) → old.kind ≡ Future → old.passed ≡ false → old.received ≡ 0 → m ≤ 1 → GotMore old new m → IsValue new m
+value_one old new m k fresh none few more = by (cases_lt 0 m)
   where
     was : (b : Bool) → (b || is_future old.kind) ≡ true
     was true = refl
     was false = ap is_future k
 
-    by : (0 < m) ⊎ (m ≤ 0) → (new.received ≡ (if new.passed then 1 else 0)) × ((new.passed ≡ false → m ≡ 0) × (m ≡ 0 → new.passed ≡ false))
+    by : (0 < m) ⊎ (m ≤ 0) → IsValue new m
     by (inl l) =
         let some : (m == 0) ≡ false = ne_eqb m 0 (λ e. omega (arith, e, l)) in
-        let now : new.passed ≡ true = passed ∙ ap (λ b. cond b old.passed (with_received old m).passed) some ∙ was old.passed in
+        let now : new.passed ≡ true = more.1 ∙ ap (λ b. cond b old.passed (with_received old m).passed) some ∙ was old.passed in
         let one : (with_received old m).received ≡ 1 = omega (arith, none, few, l) in (
-          count ∙ ap (λ b. cond b old.received (with_received old m).received) some ∙ one ∙ ap (λ p. if p then 1 else 0) (sym now),
+          more.0 ∙ ap (λ b. cond b old.received (with_received old m).received) some ∙ one ∙ ap (λ p. if p then 1 else 0) (sym now),
           ((λ e. absurd (true≢false (sym now ∙ e))), (λ e. absurd (omega (arith, e, l)))),
         )
     by (inr l) =
         let zero_is : (m == 0) ≡ true = eq-eqb m 0 (omega (arith, l)) in
-        let now : new.passed ≡ false = passed ∙ ap (λ b. cond b old.passed (with_received old m).passed) zero_is ∙ fresh in (
-          count ∙ ap (λ b. cond b old.received (with_received old m).received) zero_is ∙ none ∙ ap (λ p. if p then 1 else 0) (sym now),
+        let now : new.passed ≡ false = more.1 ∙ ap (λ b. cond b old.passed (with_received old m).passed) zero_is ∙ fresh in (
+          more.0 ∙ ap (λ b. cond b old.received (with_received old m).received) zero_is ∙ none ∙ ap (λ p. if p then 1 else 0) (sym now),
           ((λ e. omega (arith, l)), (λ e. now)),
         )
 
@@ -531,10 +537,10 @@ module _ (x : World) (s n : ℕ) (read : Operation) (y : World) (t : Turned x s 
   few : m + length t.writer.holds ≤ 1
   few = t.one future (subst (λ ks. length (ks ++ (writer_at x n).holds) ≤ 1) g.none (h.held asks.fresh))
 
-  value : ((stream_in y s).received ≡ (if (stream_in y s).passed then 1 else 0)) × (((stream_in y s).passed ≡ false → m ≡ 0) × (m ≡ 0 → (stream_in y s).passed ≡ false))
+  value : IsValue (stream_in y s) m
   value =
       value_one (stream_in x s) (stream_in y s) m future asks.fresh (unpassed_none x s n h asks.fresh) (let all = few in omega (arith, all))
-      (ap (λ (z : Stream). z.received) here ∙ moves.count) (ap (λ (z : Stream). z.passed) here ∙ moves.passed)
+      (ap (λ (z : Stream). z.received) here ∙ moves.count, ap (λ (z : Stream). z.passed) here ∙ moves.passed)
 
   reader_owner : (stream_in y s).reader.owner ≡ (stream_in x s).reader.owner
   reader_owner = ap (λ (z : Stream). z.reader.owner) here ∙ ap (λ (e : End). e.owner) moves.mine
@@ -632,7 +638,7 @@ module _ (w : World) (part : Part) (s n r : ℕ) (v : World) (i : IsRound w part
   round_value false e =
       let few = round_few false e in
       let long = p.long in
-      let k = value_one (stream_in w s) (stream_in v s) taken_count future e (unpassed_none w s n h e) (omega (arith, few, long)) received_then passed_then in
+      let k = value_one (stream_in w s) (stream_in v s) taken_count future e (unpassed_none w s n h e) (omega (arith, few, long)) (received_then, passed_then) in
       record {
         value = k.0;
         held = λ f. omega (arith, few);

@@ -6,6 +6,7 @@ use Rattle.std.proofs.lemmas.Bool.Decides.{nat_tests}
 use Rattle.std.proofs.lemmas.List.{get_or-set_same, get_or_past, length-set, set-set}
 use Rattle.std.specs.Prelude.{zero, suc, slice_set, nat_lt, nat_le, not}
 use Rattle.std.specs.Option.{option_map}
+use Rattle.strm_codes.specs.declared.codes.TransmitKind.{TransmitKind}
 use Rattle.strm_codes.specs.declared.codes.TransmitKind.TheVariants.{Future}
 use Rattle.strm_buffers.specs.declared.answers.Answer.{Answer}
 use Rattle.strm_buffers.specs.declared.answers.Answer.TheVariants as answers
@@ -60,9 +61,17 @@ record Fetched (w : World) (s n r : ℕ) (f : World) : Type 0 where
   balance : held_of w n ++ items_of said ≡ held_of f n
   wants : FetchesOnce w s n r said
 
+-- a record that does not say Failed, and breaks no rule
+abbrev pub IsGoodSaid : TransmitKind → WriterSaid → Type 0
+IsGoodSaid kind said = (is_failed said.answer ≡ false) × (breaks_as_writer kind said ≡ false)
+
+-- the same of a host reader's
+abbrev IsGoodTold : TransmitKind → ReaderSaid → Type 0
+IsGoodTold kind said = (is_failed said.answer ≡ false) × (breaks_as_reader kind said ≡ false)
+
 -- a record by the rules of a future has one item at most
-pub one_said : (said : WriterSaid) → is_failed said.answer ≡ false → breaks_as_writer Future said ≡ false → length said.items ≤ 1
-one_said said f e = by said.answer f e
+pub one_said : (said : WriterSaid) → IsGoodSaid Future said → length said.items ≤ 1
+one_said said good = by said.answer good.0 good.1
   where
     by : (answer : Answer) → is_failed answer ≡ false → writer_breaks Future answer said.room said.finish (length said.items) ≡ false → length said.items ≤ 1
     by answers.Pending f e = grind (arith, nat_tests)
@@ -117,10 +126,12 @@ module _ (w : World) (s n r : ℕ) (known : n < length w.state.kept) where
     wants = record { one = λ e. omega arith; none = inl refl };
   }
 
-  -- with this record
-  fetched_by : (said : WriterSaid) (more : List WriterSaid) → (writer_at w n).coming ≡ said ∷ more → held_of w n ≡ [] → (consumer_at w.state r).resting ≡ false → is_failed said.answer ≡ false → breaks_as_writer (stream_in w s).kind said ≡ false
-      → Fetched w s n r (with_kept (with_over (with_writer w n (polled_writer (writer_at w n) None said more)) n said.answer) n said.items)
-  fetched_by said more c e rest unfailed unbroken =
+  -- the world after this record
+  abbrev fetched_now : WriterSaid → List WriterSaid → World
+  fetched_now said more = with_kept (with_over (with_writer w n (polled_writer (writer_at w n) None said more)) n said.answer) n said.items
+
+  fetched_by : (said : WriterSaid) (more : List WriterSaid) → (writer_at w n).coming ≡ said ∷ more → held_of w n ≡ [] → (consumer_at w.state r).resting ≡ false → IsGoodSaid (stream_in w s).kind said → Fetched w s n r (fetched_now said more)
+  fetched_by said more c e rest good =
       let writer = polled_writer (writer_at w n) None said more in
       let now = get_or-set_same w.writers n writer no_writer (writer_there w n said more c) in
       record {
@@ -136,7 +147,7 @@ module _ (w : World) (s n r : ℕ) (known : n < length w.state.kept) where
             ∙ ap (λ xs. xs ++ []) (sym (get_or-set_same w.state.kept n said.items [] known))
             ∙ ap (λ (x : Writer). get_or (set w.state.kept n said.items) n [] ++ x.holds) (sym now);
         wants = record {
-          one = λ k. (let one = one_said said unfailed (ap (λ x. breaks_as_writer x said) (sym k) ∙ unbroken) in let none = ap length (append-nil said.items) in omega (arith, one, none));
+          one = λ k. (let one = one_said said (good.0, ap (λ x. breaks_as_writer x said) (sym k) ∙ good.1) in let none = ap length (append-nil said.items) in omega (arith, one, none));
           none = inr (e, rest);
         };
       }
@@ -147,7 +158,7 @@ module _ (w : World) (s n r : ℕ) (known : n < length w.state.kept) where
   fetched_after (said ∷ more) c e rest =
       cond_both (is_writer_poll None false said) _ _ IsFetched
       (λ f. cond_both (is_failed said.answer) _ _ IsFetched (λ g. tt)
-      (λ g. cond_both (breaks_as_writer (stream_in w s).kind said) _ _ IsFetched (λ k. tt) (λ k. fetched_by said more c e rest g k)))
+      (λ g. cond_both (breaks_as_writer (stream_in w s).kind said) _ _ IsFetched (λ k. tt) (λ k. fetched_by said more c e rest (g, k))))
       (λ f. tt)
 
   fetches_is : IsFetched (fetches w s n r)
@@ -244,8 +255,8 @@ finish_is offered since finish said e =
     flag false false e = refl
 
 -- of a future, a reader that is not done with it waits
-rests_else : (said : ReaderSaid) → said.finish ≡ false → is_failed said.answer ≡ false → breaks_as_reader Future said ≡ false → is_done_with Future (Some said.answer) ≡ false → is_resting said.answer ≡ true
-rests_else said finish f e d = by said.answer f e d
+rests_else : (said : ReaderSaid) → said.finish ≡ false → IsGoodTold Future said → is_done_with Future (Some said.answer) ≡ false → is_resting said.answer ≡ true
+rests_else said finish good d = by said.answer good.0 good.1 d
   where
     by : (answer : Answer) → is_failed answer ≡ false → reader_breaks Future answer said.offered said.since said.finish said.taken ≡ false → is_done_with Future (Some answer) ≡ false → is_resting answer ≡ true
     by answers.Pending f e d = refl
@@ -393,9 +404,16 @@ module _ (w : World) (s n r : ℕ) (known : n < length w.state.kept) (producer :
         (λ e. (h (both_gone u s n) (inl refl) (inr refl), refl))
         (λ e. (h u (inr (or_parts (is_done_with (stream_in u s).kind answer) (is_run_dry u n r) e).0) (inl refl), refl))
 
-    by : (one : ReaderSaid) (more : List ReaderSaid) → (reader_at w r).coming ≡ one ∷ more → is_reader_poll (length held) (consumer_at w.state r).since false one ≡ true → is_failed one.answer ≡ false → breaks_as_reader (stream_in w s).kind one ≡ false
-        → GoesSo (ends_if_done (passed_on (with_reader offered r (polled_reader (reader_at w r) (take one.taken held) more)) s n r one.answer one.taken) s n r (Some one.answer))
-    by one more c e g k =
+    -- the record is of this poll
+    abbrev IsOffered : ReaderSaid → Type 0
+    IsOffered one = is_reader_poll (length held) (consumer_at w.state r).since false one ≡ true
+
+    -- the world after this record
+    abbrev passed_now : ReaderSaid → List ReaderSaid → World
+    passed_now one more = passed_on (with_reader offered r (polled_reader (reader_at w r) (take one.taken held) more)) s n r one.answer one.taken
+
+    passed_by : (one : ReaderSaid) (more : List ReaderSaid) → (reader_at w r).coming ≡ one ∷ more → IsOffered one → IsGoodTold (stream_in w s).kind one → GoesSo (ends_if_done (passed_now one more) s n r (Some one.answer))
+    passed_by one more c e good =
         let few = took_few (length held) (consumer_at w.state r).since false one e in
         let u = passed one more c few in
         let kind : (stream_in u s).kind ≡ (stream_in w s).kind =
@@ -405,7 +423,7 @@ module _ (w : World) (s n r : ℕ) (known : n < length w.state.kept) (producer :
         (λ v ends. taken_so one more c few v
         (λ f. elim ends [
           | inl x ↦ inl x
-          | inr x ↦ inr (rests_else one (finish_is (length held) (consumer_at w.state r).since false one e) g (ap (λ q. breaks_as_reader q one) (sym f) ∙ k) (ap (λ q. is_done_with q (Some one.answer)) (sym (kind ∙ f)) ∙ x))
+          | inr x ↦ inr (rests_else one (finish_is (length held) (consumer_at w.state r).since false one e) (good.0, ap (λ q. breaks_as_reader q one) (sym f) ∙ good.1) (ap (λ q. is_done_with q (Some one.answer)) (sym (kind ∙ f)) ∙ x))
         ]))
 
     passed_after : (coming : List ReaderSaid) → (reader_at w r).coming ≡ coming
@@ -416,7 +434,7 @@ module _ (w : World) (s n r : ℕ) (known : n < length w.state.kept) (producer :
         (λ e. cond_both (is_failed one.answer) _ _ GoesSo (λ g. tt)
         (λ g. cond_both one.bad _ _ GoesSo (λ b. tt)
         (λ b. cond_both (breaks_as_reader (stream_in w s).kind one) _ _ GoesSo (λ k. tt)
-        (λ k. by one more c e g k))))
+        (λ k. passed_by one more c e (g, k)))))
         (λ e. tt)
 
     offers_is : GoesSo (offers f s n r (λ u answer. ends_if_done u s n r answer))

@@ -30,7 +30,7 @@ use Rattle.strm_world.specs.Producing.{lowered, receives, is_last, with_over, pr
 use Rattle.strm_world.proofs.WorldLemmas.{set-same}
 use Rattle.strm_host_laws.specs.HostLaws.{items_of}
 use Rattle.strm_host_laws.proofs.Goings.{gave_up, IfGoes}
-use Rattle.strm_host_laws.proofs.Rounds.{one_said}
+use Rattle.strm_host_laws.proofs.Rounds.{IsGoodSaid, one_said}
 
 -- the world after a turn, but for the stream: these items were lowered, and this is kept of the writer
 abbrev pub turned : World → ℕ → ℕ → Operation → List Item → Producer → Writer → World
@@ -149,9 +149,9 @@ module _ (w : World) (s n : ℕ) (read : Operation) where
   abbrev next : AfterWriter
   next after said = done (receives (with_over after n said.answer) s read (take read.left said.items) (produced_result said.answer (drop read.left said.items)))
 
-  by_record : (said : WriterSaid) (more : List WriterSaid) → (writer_at w n).holds ≡ [] → (writer_at w n).coming ≡ said ∷ more → is_failed said.answer ≡ false → breaks_as_writer (stream_in w s).kind said ≡ false
+  by_record : (said : WriterSaid) (more : List WriterSaid) → (writer_at w n).holds ≡ [] → (writer_at w n).coming ≡ said ∷ more → IsGoodSaid (stream_in w s).kind said
       → IfGoes (next (with_writer w n (polled_writer (writer_at w n) (Some read.left) said more)) said) AsTurned
-  by_record said more e c unfailed unbroken =
+  by_record said more e c good =
       let items = said.items in
       record {
         items = take read.left items;
@@ -164,8 +164,8 @@ module _ (w : World) (s n : ℕ) (read : Operation) where
         duty = refl;
         coming = c;
         balance = ap (λ xs. xs ++ (items ++ [])) e ∙ append-nil items ∙ sym (take-append-drop read.left items);
-        one = λ k l. parts_long read.left items (one_said said unfailed (ap (λ x. breaks_as_writer x said) (sym k) ∙ unbroken));
-        none = λ r. nothing_said (stream_in w s).kind said.answer said.room said.finish items read.left unfailed unbroken r;
+        one = λ k l. parts_long read.left items (one_said said (good.0, ap (λ x. breaks_as_writer x said) (sym k) ∙ good.1));
+        none = λ r. nothing_said (stream_in w s).kind said.answer said.room said.finish items read.left good.0 good.1 r;
       }
 
   by_saying : (coming : List WriterSaid) → (writer_at w n).holds ≡ [] → (writer_at w n).coming ≡ coming
@@ -174,7 +174,7 @@ module _ (w : World) (s n : ℕ) (read : Operation) where
   by_saying (said ∷ more) e c =
       cond_both (is_writer_poll (Some read.left) read.asked said) _ _ (λ o. IfGoes o AsTurned)
       (λ f. cond_both (is_failed said.answer) _ _ (λ o. IfGoes o AsTurned) (λ g. tt)
-      (λ g. cond_both (breaks_as_writer (stream_in w s).kind said) _ _ (λ o. IfGoes o AsTurned) (λ k. tt) (λ k. by_record said more e c g k)))
+      (λ g. cond_both (breaks_as_writer (stream_in w s).kind said) _ _ (λ o. IfGoes o AsTurned) (λ k. tt) (λ k. by_record said more e c (g, k))))
       (λ f. tt)
 
   by_held : (held : List Item) → (writer_at w n).holds ≡ held → IfGoes (produces w s n read held) AsTurned
