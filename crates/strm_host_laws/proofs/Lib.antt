@@ -38,3 +38,4 @@ pub mod Delivered
 pub mod Counted
 pub mod HostRows
 pub mod ReaderRows
+pub mod PipeRows
