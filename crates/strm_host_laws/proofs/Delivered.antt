@@ -1,7 +1,8 @@
 -- What a host writer produced is what was received and what is held, over the moments of a run.
 use Rattle.std.proofs.Common.{◌≡◌, ◌≢◌, ℕ, ◌+◌, ◌-◌, ◌*◌, ◌^◌, ◌<◌, ◌≤◌, ◌||◌, Bool, true, false, cond, List, [], ◌∷◌, ◌++◌, length, map, take, get_or, Option, Some, refl, sym, ap, subst, ◌∙◌, ◌⊎◌, inl, inr, arith, append_assoc, append-nil, length-append}
-use Rattle.std.proofs.lemmas.Bool.{cases_eq, cases_lt, eq-eqb, ne_eqb, or_parts}
+use Rattle.std.proofs.lemmas.Bool.{cases_eq, cases_lt, eq-eqb, ne_eqb, or_parts, true≢false}
 use Rattle.std.proofs.lemmas.List.{map-append, get_or_past, get_or_push}
+use Rattle.strm_codes.specs.declared.codes.TransmitKind.TheVariants.{Future}
 use Rattle.strm_buffers.specs.Listing.{Item}
 use Rattle.strm_machine.specs.State.{no_stream, no_consumer, is_host}
 use Rattle.strm_machine.specs.Moments.{received}
@@ -28,7 +29,7 @@ use Rattle.strm_world.specs.World.{World, stream_in, writer_at, held_of, with_co
 use Rattle.strm_world.specs.Settling.{result_of}
 use Rattle.strm_world.specs.Attaching.{piped, without_ends, forsaken, hosted_stream}
 use Rattle.strm_host_laws.specs.HostMoments.{Part, Acts, HostMoment, host_moments, last_of}
-use Rattle.strm_host_laws.specs.HostLaws.{used_in, items_of, made_of, produced_by, produced_in, produced, host_got_in, host_got, is_made_by, is_hosted, is_piped_in, is_piped, held_by, DeliversAll}
+use Rattle.strm_host_laws.specs.HostLaws.{used_in, items_of, made_of, produced_by, produced_in, produced, host_got_in, host_got, is_made_by, is_hosted, is_piped_in, is_piped, held_by, held_first, DeliversAll}
 use Rattle.strm_host_laws.proofs.Chains.{Follows, Chain, moments-chain}
 use Rattle.strm_host_laws.proofs.Closed.{Stands-start}
 use Rattle.strm_host_laws.proofs.Counted.{moments_few}
@@ -39,7 +40,8 @@ use Rattle.strm_host_laws.proofs.Effects.{Effect, follows_effect}
 use Rattle.strm_host_laws.proofs.GuestsSeen.{effect_makes}
 use Rattle.strm_host_laws.proofs.PartsSeen.{IsTaken, owner_taken, effect_taken}
 use Rattle.strm_host_laws.proofs.Duties.{effect_unread_by}
-use Rattle.strm_host_laws.proofs.HostBytes.{ReadOrRoomy, ReadOrRoomFor}
+use Rattle.strm_host_laws.proofs.HostBytes.{ReadOrRoomy, ReadOrRoomFor, effect_kind}
+use Rattle.strm_host_laws.proofs.FutureWritten.{ReadsOne, OneWritten, one_most, moment_onward}
 use Rattle.strm_host_laws.proofs.Turned.{taken_by, stream_taken, Taken}
 use Rattle.strm_host_laws.proofs.TurnMoves.{moved-mine}
 use Rattle.strm_host_laws.proofs.Lives.{AllSupply, Lives, owned_made, owned_quiet, drive_can, read_can, goes_form, follows_lives}
@@ -231,6 +233,7 @@ module _ (first : World) where
     count : received s (last_of w all).state ≡ received s w.state
     owner : (stream_in (last_of w all) s).writer.owner ≡ Gone
     unhosted : is_hosted s all ≡ false
+    kind : (stream_in (last_of w all) s).kind ≡ (stream_in w s).kind
 
   gone_stays : (s : ℕ) (m : HostMoment) → (stream_in m.before s).writer.owner ≡ Gone → Touch s m.before m.part m.after
       → ((stream_in m.after s).writer.owner ≡ Gone) × (received s m.after.state ≡ received s m.before.state)
@@ -245,7 +248,7 @@ module _ (first : World) where
   moment_taken s m f l = effect_taken Writing m.before.state m.after.state m.part m.reply s l.holds (follows_effect m.before m l.holds.hosts f)
 
   gone_run : (s : ℕ) (w : World) (all : List HostMoment) → Chain w all → Lives first w → (stream_in w s).writer.owner ≡ Gone → IsTaken Writing w.state s → GoneRun s w all
-  gone_run s w [] c l e taken = record { got = refl; made = refl; count = refl; owner = e; unhosted = refl }
+  gone_run s w [] c l e taken = record { got = refl; made = refl; count = refl; owner = e; unhosted = refl; kind = refl }
   gone_run s w (m ∷ more) c l e taken =
       subst (λ x. GoneRun s x (m ∷ more)) c.0.begins
       (here (from_itself w m c.0) (subst (Lives first) (sym c.0.begins) l) (ap (λ x. (stream_in x s).writer.owner) c.0.begins ∙ e) (subst (λ (x : World). IsTaken Writing x.state s) (sym c.0.begins) taken)
@@ -264,6 +267,7 @@ module _ (first : World) where
             count = rest.count ∙ stays.1;
             owner = rest.owner;
             unhosted = or_both (is_made_by s m.part m.reply) (is_hosted s more) not.by rest.unhosted;
+            kind = rest.kind ∙ effect_kind m.before.state m.after.state m.part m.reply s l.holds taken.made (follows_effect m.before m l.holds.hosts f);
           }
 
   -- A STREAM OF A HOST WRITER
@@ -275,6 +279,8 @@ module _ (first : World) where
     exact : is_host (stream_in w s).reader.owner ≡ false → is_piped s all ≡ false → received s (last_of w all).state ≡ received s w.state + length (host_got s all)
     ends : is_host (stream_in (last_of w all) s).writer.owner ≡ true → rest ≡ held_by (last_of w all) (stream_in (last_of w all) s).writer.owner
     unhosted : is_hosted s all ≡ false
+    kind : (stream_in (last_of w all) s).kind ≡ (stream_in w s).kind
+    one : (stream_in w s).kind ≡ Future → OneWritten w s n → received s (last_of w all).state ≤ 1
 
   -- counts are in their type, and have room for the items of these moments, unless a host reader has, or had, the
   -- read end
@@ -315,6 +321,7 @@ module _ (first : World) where
       let live = moment_lives m f l in
       let effect = follows_effect m.before m l.holds.hosts f in
       let here : produced s (m ∷ more) ≡ items_of (used_in n m) ++ produced s more = produced_split s m more not.made (items_of (used_in n m)) (ap (produced_by m) o) in
+      let kinds = effect_kind m.before.state m.after.state m.part m.reply s l.holds made effect in
       let g = host_got_in s m in
       elim d.ends [
         | inl gone ↦ (
@@ -330,6 +337,8 @@ module _ (first : World) where
               exact = λ u v. (let once = (d.exact u).counted in omega (arith, k.count, once, left));
               ends = λ h. absurd (let wrong : is_host Gone ≡ true = ap is_host (sym k.owner) ∙ h in cc);
               unhosted = or_both (is_made_by s m.part m.reply) (is_hosted s more) not.by k.unhosted;
+              kind = k.kind ∙ kinds;
+              one = λ future h. (let most = (moment_onward first m s n l o future h form touch).most in omega (arith, most, k.count));
             })
         | inr stays ↦ (
             let k = next live stays.0 (moment_taken s m f l taken) (room_after d effect room.room) in
@@ -347,6 +356,8 @@ module _ (first : World) where
                   omega (arith, once, rest, long));
               ends = k.ends;
               unhosted = or_both (is_made_by s m.part m.reply) (is_hosted s more) not.by k.unhosted;
+              kind = k.kind ∙ kinds;
+              one = λ future h. k.one (kinds ∙ future) ((moment_onward first m s n l o future h form touch).one stays.0);
             })
       ]
     where
@@ -376,6 +387,8 @@ module _ (first : World) where
     exact = λ u v. omega arith;
     ends = λ h. ap (held_by w) (sym o);
     unhosted = refl;
+    kind = refl;
+    one = λ future h. one_most w s n h;
   }
   hosted_run s n w (m ∷ more) c l o taken room =
       subst (λ x. HostedRun s n x (m ∷ more)) c.0.begins
@@ -413,6 +426,7 @@ module _ (first : World) where
     shares : is_hosted s all ≡ true → Shares s all
     count : is_hosted s all ≡ true → is_piped s all ≡ false → length (host_got s all) ≡ received s (last_of w all).state
     capped_count : is_hosted s all ≡ true → received s (last_of w all).state ≡ capped (length (host_got s all))
+    one : is_hosted s all ≡ true → (stream_in (last_of w all) s).kind ≡ Future → length (held_first s all) ≤ 1 → received s (last_of w all).state ≤ 1
 
   -- nothing stands past the last stream
   past : (s : ℕ) (w : World) → length w.state.streams ≤ s → stream_in w s ≡ no_stream
@@ -486,6 +500,19 @@ module _ (first : World) where
           shares = λ q. record { rest = k.rest; balance = balance };
           count = λ q v. (let rest = k.exact unread (or_parts (is_piped_in s m.part m.reply) (is_piped s more) v).1 in omega (arith, rest, none, long));
           capped_count = λ q. omega (arith, k.count, none, long);
+          one = λ q future few. (
+              let passed : (stream_in m.after s).passed ≡ false = ap (λ (x : Stream). x.passed) now in
+              let long = length-append (made_of s w m.part m.reply) (held_first s more) in
+              let same = ap length made in
+              let most : length (writer_at w n).holds ≤ 1 = omega (arith, few, long, same) in
+              k.one (sym k.kind ∙ future)
+              (record {
+                count = none ∙ ap (λ p. cond p 1 0) (sym passed);
+                held = λ e. subst (λ xs. length xs ≤ 1) (sym held) most;
+                loose = λ e. passed;
+                reads = subst (λ x. ReadsOne x (stream_in m.after s).passed) (sym (ap (λ (x : Stream). x.reader.operation) now)) tt;
+                rests = λ r e p. absurd (true≢false (sym p ∙ passed));
+              }));
         }
 
     -- it is made with a guest's write end, or not yet
@@ -500,6 +527,7 @@ module _ (first : World) where
                 shares = λ h. absurd (let wrong : true ≡ false = sym h ∙ none in cc);
                 count = λ h v. absurd (let wrong : true ≡ false = sym h ∙ none in cc);
                 capped_count = λ h. absurd (let wrong : true ≡ false = sym h ∙ none in cc);
+                one = λ h future few. absurd (let wrong : true ≡ false = sym h ∙ none in cc);
               })
           | inr after ↦ (
               let k = next after in
@@ -514,6 +542,7 @@ module _ (first : World) where
                 shares = λ h. (let x = k.shares (sym hosted_later ∙ h) in record { rest = x.rest; balance = ap (map Some) all_made ∙ x.balance ∙ ap (λ xs. xs ++ map Some x.rest) (sym all_got) });
                 count = λ h v. long ∙ k.count (sym hosted_later ∙ h) (or_parts (is_piped_in s m.part m.reply) (is_piped s more) v).1;
                 capped_count = λ h. k.capped_count (sym hosted_later ∙ h) ∙ ap capped (sym long);
+                one = λ h future few. k.one (sym hosted_later ∙ h) future (subst (λ xs. length (xs ++ held_first s more) ≤ 1) not.made few);
               })
         ]
 
@@ -530,6 +559,7 @@ module _ (first : World) where
     shares = λ h. cc;
     count = λ h v. cc;
     capped_count = λ h. cc;
+    one = λ h future few. cc;
   }
   new_run s w (m ∷ more) c l le room =
       subst (λ x. NewRun s x (m ∷ more)) c.0.begins
@@ -549,6 +579,7 @@ module _ (first : World) where
         given_up = λ h. (let x = k.shares h in first_of_all (host_got s all) (map Some x.rest) (map Some (produced s all)) x.balance);
         count = k.count;
         capped = k.capped_count;
+        one = λ h future few. (let most = k.one h future few in let counted = k.capped_count h in omega (arith, most, counted));
       }
 
 -- RUNS FROM AN UNUSED STORE

@@ -1,6 +1,6 @@
 -- What a moment does to the items that are kept of a host writer, and to the records of the host reader of its
 -- stream: nothing, unless it is the round of that stream.
-use Rattle.std.proofs.Common.{◌≡◌, ℕ, false, [], get_or, refl, sym, ap, subst, ◌∙◌, ◌⊎◌, inl, inr}
+use Rattle.std.proofs.Common.{◌≡◌, ℕ, [], get_or, refl, sym, ap, subst, ◌∙◌, ◌⊎◌, inl, inr}
 use Rattle.std.proofs.lemmas.Bool.{cases_eq, true≢false}
 use Rattle.strm_buffers.specs.declared.answers.ReaderSaid.{ReaderSaid}
 use Rattle.strm_buffers.specs.Listing.{Item}
@@ -37,7 +37,7 @@ data KeptOrRound (w : World) (part : Part) (v : World) : Type 0 where
 
 module _ (w : World) (part : Part) (reply : Reply) (v : World) where
   -- the turn of a host end
-  turned_kept : (side : Side) (u x : World) (s n : ℕ) (operation : Operation) → HasTurned side u s n operation x → x.state.kept ≡ u.state.kept
+  pub turned_kept : (side : Side) (u x : World) (s n : ℕ) (operation : Operation) → HasTurned side u s n operation x → x.state.kept ≡ u.state.kept
   turned_kept Reading u x s n operation t =
       ap (λ (y : World). y.state.kept) t.is ∙ back-kept (turned u s n operation t.items t.producer t.writer) s (stream_moved u s operation t.items t.result)
   turned_kept Writing u x s n operation t =

@@ -25,6 +25,7 @@ pub mod Unmoved
 pub mod Unread
 pub mod Took
 pub mod KeptItems
+pub mod FutureWritten
 pub mod Duties
 pub mod ToldTaken
 pub mod Forms
@@ -37,3 +38,4 @@ pub mod Delivered
 pub mod Counted
 pub mod HostRows
 pub mod ReaderRows
+pub mod PipeRows

@@ -13,7 +13,7 @@ use Rattle.strm_memory.specs.Items.{AreItems}
 use Rattle.strm_memory.proofs.AppendLemmas.{AreItems-append}
 use Rattle.strm_buffers.specs.Listing.{Item}
 use Rattle.strm_buffers.specs.Said.{WriterSaid}
-use Rattle.strm_machine.specs.State.{State, Guest, kept_at, stream_at, is_host, is_held}
+use Rattle.strm_machine.specs.State.{Guest, kept_at, stream_at, is_host, is_held}
 use Rattle.strm_machine.specs.Moments.{Moment, Place, received, rise, place_of, target, is_named, items_in, got_in}
 use Rattle.strm_machine.specs.Sides.{with_operation}
 use Rattle.strm_machine.specs.Endings.{delivered}
@@ -26,7 +26,6 @@ use Rattle.strm_machine.specs.declared.acts.NamedEnd.{NamedEnd}
 use Rattle.strm_machine.specs.declared.streams.Owner.{Owner}
 use Rattle.strm_machine.specs.declared.streams.Owner.TheVariants.{Host, Gone}
 use Rattle.strm_machine.specs.declared.streams.Operation.{Operation}
-use Rattle.strm_machine.specs.declared.streams.Side.{Side}
 use Rattle.strm_machine.specs.declared.streams.Side.TheVariants.{Reading}
 use Rattle.strm_machine.specs.declared.streams.Stream.{Stream}
 use Rattle.strm_machine.proofs.MomentLemmas.{nothing_got}

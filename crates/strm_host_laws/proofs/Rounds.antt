@@ -1,17 +1,20 @@
 -- What the round of a pipe does where it goes on: the records that its two host ends used, the items that the
 -- reader took, and what is held then.
-use Rattle.std.proofs.Common.{◌≡◌, ℕ, ◌+◌, ◌<◌, ◌≤◌, ◌==◌, ◌||◌, ◌&&◌, Bool, true, false, cond, List, [], ◌∷◌, ◌++◌, length, take, drop, get_or, set, Option, Some, None, refl, sym, ap, subst, ◌∙◌, ◌⊎◌, inl, inr, arith, append-nil, take-append-drop, length-take}
-use Rattle.std.proofs.lemmas.Bool.{cond_both, cases_lt, and_parts}
+use Rattle.std.proofs.Common.{◌≡◌, ℕ, ◌<◌, ◌≤◌, ◌==◌, ◌||◌, ◌&&◌, Bool, true, false, List, [], ◌∷◌, ◌++◌, length, take, drop, get_or, set, Option, Some, None, refl, sym, ap, subst, ◌∙◌, ◌⊎◌, inl, inr, arith, append-nil, take-append-drop, length-take}
+use Rattle.std.proofs.lemmas.Bool.{cond_both, cases_lt, and_parts, or_parts, eqb-true, not-false}
 use Rattle.std.proofs.lemmas.Bool.Decides.{nat_tests}
 use Rattle.std.proofs.lemmas.List.{get_or-set_same, get_or_past, length-set, set-set}
-use Rattle.std.specs.Prelude.{zero, suc, slice_set, nat_le, not}
+use Rattle.std.specs.Prelude.{zero, suc, slice_set, nat_lt, nat_le, not}
 use Rattle.std.specs.Option.{option_map}
+use Rattle.strm_codes.specs.declared.codes.TransmitKind.{TransmitKind}
+use Rattle.strm_codes.specs.declared.codes.TransmitKind.TheVariants.{Future}
 use Rattle.strm_buffers.specs.declared.answers.Answer.{Answer}
+use Rattle.strm_buffers.specs.declared.answers.Answer.TheVariants as answers
 use Rattle.strm_buffers.specs.declared.answers.ReaderSaid.{ReaderSaid}
-use Rattle.strm_buffers.specs.HostRules.{breaks_as_writer, breaks_as_reader}
+use Rattle.strm_buffers.specs.HostRules.{is_untouched, writer_breaks, reader_breaks, breaks_as_writer, breaks_as_reader}
 use Rattle.strm_buffers.specs.Listing.{Item}
 use Rattle.strm_buffers.specs.Said.{WriterSaid}
-use Rattle.strm_machine.specs.State.{no_producer, no_consumer, producer_at, kept_at, consumer_at}
+use Rattle.strm_machine.specs.State.{no_stream, no_producer, no_consumer, producer_at, kept_at, consumer_at}
 use Rattle.strm_machine.specs.declared.streams.Producer.{Producer}
 use Rattle.strm_machine.specs.declared.streams.Consumer.{Consumer}
 use Rattle.strm_machine.specs.declared.streams.Stream.{Stream}
@@ -28,7 +31,7 @@ use Rattle.strm_world.specs.Attaching.{has_items}
 use Rattle.strm_world.specs.Piping.{wants_items, fetches, gathered, is_resting, passed_on, offers, is_done_with, is_run_dry, both_gone, ends_if_done, pipe_round}
 use Rattle.strm_world.proofs.WorldLemmas.{set-same}
 use Rattle.strm_host_laws.specs.HostLaws.{items_of, count_taken}
-use Rattle.strm_host_laws.proofs.Goings.{with_state, IfGoes, with_stream_in-same}
+use Rattle.strm_host_laws.proofs.Goings.{with_state, IfGoes, some_received-kind, written-streams, with_stream_in-same}
 
 -- FETCHING
 
@@ -40,8 +43,14 @@ fetched_world w n producer kept writer = record {
   readers = w.readers;
 }
 
+-- a host writer is polled where nothing is held and the reader does not wait; on a future it produces one item at
+-- most
+pub record FetchesOnce (w : World) (s n r : ℕ) (said : List WriterSaid) : Type 0 where
+  pub one : (stream_in w s).kind ≡ Future → length (items_of said) ≤ 1
+  pub none : (said ≡ []) ⊎ ((held_of w n ≡ []) × ((consumer_at w.state r).resting ≡ false))
+
 -- it used these records, and their items are kept
-record Fetched (w : World) (n : ℕ) (f : World) : Type 0 where
+record Fetched (w : World) (s n r : ℕ) (f : World) : Type 0 where
   said : List WriterSaid
   producer : Producer
   kept : List Item
@@ -50,6 +59,31 @@ record Fetched (w : World) (n : ℕ) (f : World) : Type 0 where
   duty : producer.duty ≡ (producer_at w.state n).duty
   coming : (writer_at w n).coming ≡ said ++ (writer_at f n).coming
   balance : held_of w n ++ items_of said ≡ held_of f n
+  wants : FetchesOnce w s n r said
+
+-- a record that does not say Failed, and breaks no rule
+abbrev pub IsGoodSaid : TransmitKind → WriterSaid → Type 0
+IsGoodSaid kind said = (is_failed said.answer ≡ false) × (breaks_as_writer kind said ≡ false)
+
+-- the same of a host reader's
+abbrev IsGoodTold : TransmitKind → ReaderSaid → Type 0
+IsGoodTold kind said = (is_failed said.answer ≡ false) × (breaks_as_reader kind said ≡ false)
+
+-- a record by the rules of a future has one item at most
+pub one_said : (said : WriterSaid) → IsGoodSaid Future said → length said.items ≤ 1
+one_said said good = by said.answer good.0 good.1
+  where
+    by : (answer : Answer) → is_failed answer ≡ false → writer_breaks Future answer said.room said.finish (length said.items) ≡ false → length said.items ≤ 1
+    by answers.Pending f e = grind (arith, nat_tests)
+    by answers.Completed f e = let one = not-false (length said.items == 1) e in omega (arith, eqb-true (length said.items) 1 one)
+    by answers.Cancelled f e = let none = (or_parts (nat_lt 0 (length said.items)) (not said.finish) e).0 in grind (arith, nat_tests)
+    by answers.Dropped f e = cc
+    by answers.Failed f e = cc
+
+-- what is not so
+not_true : (b : Bool) → not b ≡ true → b ≡ false
+not_true true e = cc
+not_true false e = refl
 
 -- nothing is held
 none_held : (xs : List Item) → not (has_items xs) ≡ true → xs ≡ []
@@ -71,12 +105,12 @@ reader_there w r said more e =
       | inr l ↦ absurd (let past = ap (λ (x : Reader). x.coming) (get_or_past w.readers r no_reader l) in let wrong : [] ≡ said ∷ more = sym past ∙ e in cc)
     ]
 
-module _ (w : World) (s n : ℕ) (known : n < length w.state.kept) where
+module _ (w : World) (s n r : ℕ) (known : n < length w.state.kept) where
   -- a part that goes on fetched so
   abbrev IsFetched : Outcome → Type 0
-  IsFetched o = IfGoes o (λ reply f. Fetched w n f)
+  IsFetched o = IfGoes o (λ reply f. Fetched w s n r f)
 
-  unfetched : Fetched w n w
+  unfetched : Fetched w s n r w
   unfetched = record {
     said = [];
     producer = producer_at w.state n;
@@ -89,12 +123,15 @@ module _ (w : World) (s n : ℕ) (known : n < length w.state.kept) where
     duty = refl;
     coming = refl;
     balance = append-nil (held_of w n);
+    wants = record { one = λ e. omega arith; none = inl refl };
   }
 
-  -- with this record
-  fetched_by : (said : WriterSaid) (more : List WriterSaid) → (writer_at w n).coming ≡ said ∷ more → held_of w n ≡ []
-      → Fetched w n (with_kept (with_over (with_writer w n (polled_writer (writer_at w n) None said more)) n said.answer) n said.items)
-  fetched_by said more c e =
+  -- the world after this record
+  abbrev fetched_now : WriterSaid → List WriterSaid → World
+  fetched_now said more = with_kept (with_over (with_writer w n (polled_writer (writer_at w n) None said more)) n said.answer) n said.items
+
+  fetched_by : (said : WriterSaid) (more : List WriterSaid) → (writer_at w n).coming ≡ said ∷ more → held_of w n ≡ [] → (consumer_at w.state r).resting ≡ false → IsGoodSaid (stream_in w s).kind said → Fetched w s n r (fetched_now said more)
+  fetched_by said more c e rest good =
       let writer = polled_writer (writer_at w n) None said more in
       let now = get_or-set_same w.writers n writer no_writer (writer_there w n said more c) in
       record {
@@ -109,24 +146,28 @@ module _ (w : World) (s n : ℕ) (known : n < length w.state.kept) where
             ap (λ xs. xs ++ (said.items ++ [])) e
             ∙ ap (λ xs. xs ++ []) (sym (get_or-set_same w.state.kept n said.items [] known))
             ∙ ap (λ (x : Writer). get_or (set w.state.kept n said.items) n [] ++ x.holds) (sym now);
+        wants = record {
+          one = λ k. (let one = one_said said (good.0, ap (λ x. breaks_as_writer x said) (sym k) ∙ good.1) in let none = ap length (append-nil said.items) in omega (arith, one, none));
+          none = inr (e, rest);
+        };
       }
 
-  fetched_after : (coming : List WriterSaid) → (writer_at w n).coming ≡ coming → held_of w n ≡ []
+  fetched_after : (coming : List WriterSaid) → (writer_at w n).coming ≡ coming → held_of w n ≡ [] → (consumer_at w.state r).resting ≡ false
       → IsFetched (writer_says w s n None false coming (λ after said. done (with_kept (with_over after n said.answer) n said.items)))
-  fetched_after [] c e = tt
-  fetched_after (said ∷ more) c e =
+  fetched_after [] c e rest = tt
+  fetched_after (said ∷ more) c e rest =
       cond_both (is_writer_poll None false said) _ _ IsFetched
       (λ f. cond_both (is_failed said.answer) _ _ IsFetched (λ g. tt)
-      (λ g. cond_both (breaks_as_writer (stream_in w s).kind said) _ _ IsFetched (λ k. tt) (λ k. fetched_by said more c e)))
+      (λ g. cond_both (breaks_as_writer (stream_in w s).kind said) _ _ IsFetched (λ k. tt) (λ k. fetched_by said more c e rest (g, k))))
       (λ f. tt)
 
-  fetches_is : (r : ℕ) → IsFetched (fetches w s n r)
-  fetches_is r =
+  fetches_is : IsFetched (fetches w s n r)
+  fetches_is =
       cond_both (wants_items w n r) _ _ IsFetched
       (λ e.
       let wants = and_parts (not (consumer_at w.state r).resting) (not (has_items (held_of w n)) && not (producer_at w.state n).over) e in
       let held = and_parts (not (has_items (held_of w n))) (not (producer_at w.state n).over) wants.1 in
-      fetched_after (writer_at w n).coming refl (none_held (held_of w n) held.0))
+      fetched_after (writer_at w n).coming refl (none_held (held_of w n) held.0) (not_true (consumer_at w.state r).resting wants.0))
       (λ e. unfetched)
 
 -- PASSING ON
@@ -142,6 +183,10 @@ between w n r producer kept consumer writer reader = record {
   writers = slice_set w.writers n writer;
   readers = slice_set w.readers r reader;
 }
+
+-- the reader waits then, or it did not wait and took nothing
+abbrev pub Waits : World → ℕ → Consumer → ℕ → Type 0
+Waits w r consumer count = (consumer.resting ≡ true) ⊎ ((count ≡ 0) × ((consumer_at w.state r).resting ≡ false))
 
 -- the round of stream s, from host writer n to host reader r: the records that they used, the items that the
 -- reader took, and so many of them
@@ -168,6 +213,8 @@ pub record Passed (w : World) (s n r : ℕ) (v : World) : Type 0 where
   pub balance : held_of w n ++ items_of said ≡ items ++ held_of but n
   pub records : (reader_at w r).coming ≡ told ++ (reader_at but r).coming
   pub holds : (reader_at but r).holds ≡ option_map (λ xs. xs ++ items) (reader_at w r).holds
+  pub wants : FetchesOnce w s n r said
+  pub stays : (stream_in w s).kind ≡ Future → (v ≡ both_gone mid s n) ⊎ Waits w r consumer count
   pub long : length items ≡ count
   pub taken : count ≡ count_taken told
 
@@ -195,19 +242,45 @@ took_few offered since finish said e =
     let few = three.1 in
     grind (arith, nat_tests)
 
+-- it is asked so to finish
+finish_is : (offered since : ℕ) (finish : Bool) (said : ReaderSaid) → is_reader_poll offered since finish said ≡ true → said.finish ≡ finish
+finish_is offered since finish said e =
+    let one = and_parts (said.offered == offered) ((said.since == since) && (same_flag said.finish finish && nat_le said.taken offered)) e in
+    let two = and_parts (said.since == since) (same_flag said.finish finish && nat_le said.taken offered) one.1 in
+    flag said.finish finish (and_parts (same_flag said.finish finish) (nat_le said.taken offered) two.1).0
+  where
+    flag : (a b : Bool) → same_flag a b ≡ true → a ≡ b
+    flag true b e = sym e
+    flag false true e = cc
+    flag false false e = refl
+
+-- of a future, a reader that is not done with it waits
+rests_else : (said : ReaderSaid) → said.finish ≡ false → IsGoodTold Future said → is_done_with Future (Some said.answer) ≡ false → is_resting said.answer ≡ true
+rests_else said finish good d = by said.answer good.0 good.1 d
+  where
+    by : (answer : Answer) → is_failed answer ≡ false → reader_breaks Future answer said.offered said.since said.finish said.taken ≡ false → is_done_with Future (Some answer) ≡ false → is_resting answer ≡ true
+    by answers.Pending f e d = refl
+    by answers.Completed f e d = cc
+    by answers.Cancelled f e d =
+        let asked = (or_parts (not said.finish) (not (is_untouched said.taken said.since)) e).0 in
+        let wrong : true ≡ false = ap not (sym finish) ∙ asked in
+        cc
+    by answers.Dropped f e d = cc
+    by answers.Failed f e d = cc
+
 module _ (w : World) (s n r : ℕ) (known : n < length w.state.kept) (producer : Producer) (kept : List Item) (writer : Writer) (said : List WriterSaid) where
   -- the world after fetching
   abbrev f : World
   f = fetched_world w n producer kept writer
 
-  module _ (duty : producer.duty ≡ (producer_at w.state n).duty) (coming : (writer_at w n).coming ≡ said ++ (writer_at f n).coming) (balance : held_of w n ++ items_of said ≡ held_of f n) where
+  module _ (duty : producer.duty ≡ (producer_at w.state n).duty) (coming : (writer_at w n).coming ≡ said ++ (writer_at f n).coming) (balance : held_of w n ++ items_of said ≡ held_of f n) (wants : FetchesOnce w s n r said) where
     -- what comes of a part that goes on
     abbrev GoesSo : Outcome → Type 0
     GoesSo o = IfGoes o (HasPassed w s n r)
 
     -- the reader is not polled
-    unpolled : (v : World) → (v ≡ f) ⊎ (v ≡ both_gone f s n) → Passed w s n r v
-    unpolled v ends = record {
+    unpolled : (consumer_at w.state r).resting ≡ false → (v : World) → (v ≡ f) ⊎ (v ≡ both_gone f s n) → Passed w s n r v
+    unpolled rest v ends = record {
       said = said;
       told = [];
       items = [];
@@ -231,6 +304,8 @@ module _ (w : World) (s n r : ℕ) (known : n < length w.state.kept) (producer :
       balance = balance;
       records = refl;
       holds = held_more (reader_at w r).holds;
+      wants = wants;
+      stays = λ k. inr (inr (refl, rest));
       long = refl;
       taken = refl;
     }
@@ -284,8 +359,8 @@ module _ (w : World) (s n r : ℕ) (known : n < length w.state.kept) (producer :
       abbrev passed : World
       passed = with_stream_in but s (with_some_received (stream_in w s) one.taken)
 
-      taken_so : (v : World) → (v ≡ passed) ⊎ (v ≡ both_gone passed s n) → Passed w s n r v
-      taken_so v ends = record {
+      taken_so : (v : World) → ((stream_in w s).kind ≡ Future → (v ≡ both_gone passed s n) ⊎ (is_resting one.answer ≡ true)) → (v ≡ passed) ⊎ (v ≡ both_gone passed s n) → Passed w s n r v
+      taken_so v rest ends = record {
         said = said;
         told = one ∷ [];
         items = take one.taken held;
@@ -309,16 +384,47 @@ module _ (w : World) (s n r : ℕ) (known : n < length w.state.kept) (producer :
         balance = balance ∙ sym (take-append-drop one.taken held) ∙ ap (λ xs. take one.taken held ++ xs) (sym held_then);
         records = c ∙ ap (λ (x : Reader). one ∷ x.coming) (sym reader_now);
         holds = ap (λ (x : Reader). x.holds) reader_now;
+        wants = wants;
+        stays = λ k. elim (rest k) [
+          | inl e ↦ inl e
+          | inr e ↦ inr (inl e)
+        ];
         long = omega (arith, length-take one.taken held, few);
         taken = omega arith;
       }
 
+    -- it ends, or the reader is not done with it
+    abbrev EndsSo : World → Option Answer → World → Type 0
+    EndsSo u answer v = (v ≡ both_gone u s n) ⊎ (is_done_with (stream_in u s).kind answer ≡ false)
+
     -- it may end then
-    ended : (u : World) (answer : Option Answer) → ((v : World) → (v ≡ u) ⊎ (v ≡ both_gone u s n) → Passed w s n r v) → GoesSo (ends_if_done u s n r answer)
+    ended : (u : World) (answer : Option Answer) → ((v : World) → EndsSo u answer v → (v ≡ u) ⊎ (v ≡ both_gone u s n) → Passed w s n r v) → GoesSo (ends_if_done u s n r answer)
     ended u answer h =
         cond_both (is_done_with (stream_in u s).kind answer || is_run_dry u n r) _ _ GoesSo
-        (λ e. (h (both_gone u s n) (inr refl), refl))
-        (λ e. (h u (inl refl), refl))
+        (λ e. (h (both_gone u s n) (inl refl) (inr refl), refl))
+        (λ e. (h u (inr (or_parts (is_done_with (stream_in u s).kind answer) (is_run_dry u n r) e).0) (inl refl), refl))
+
+    -- the record is of this poll
+    abbrev IsOffered : ReaderSaid → Type 0
+    IsOffered one = is_reader_poll (length held) (consumer_at w.state r).since false one ≡ true
+
+    -- the world after this record
+    abbrev passed_now : ReaderSaid → List ReaderSaid → World
+    passed_now one more = passed_on (with_reader offered r (polled_reader (reader_at w r) (take one.taken held) more)) s n r one.answer one.taken
+
+    passed_by : (one : ReaderSaid) (more : List ReaderSaid) → (reader_at w r).coming ≡ one ∷ more → IsOffered one → IsGoodTold (stream_in w s).kind one → GoesSo (ends_if_done (passed_now one more) s n r (Some one.answer))
+    passed_by one more c e good =
+        let few = took_few (length held) (consumer_at w.state r).since false one e in
+        let u = passed one more c few in
+        let kind : (stream_in u s).kind ≡ (stream_in w s).kind =
+        ap (λ xs. (get_or xs s no_stream).kind) (written-streams (but one more c few) s (with_some_received (stream_in w s) one.taken))
+        ∙ set-keeps (λ (x : Stream). x.kind) w.state.streams s s (with_some_received (stream_in w s) one.taken) no_stream (some_received-kind (stream_in w s) one.taken) in
+        ended u (Some one.answer)
+        (λ v ends. taken_so one more c few v
+        (λ f. elim ends [
+          | inl x ↦ inl x
+          | inr x ↦ inr (rests_else one (finish_is (length held) (consumer_at w.state r).since false one e) (good.0, ap (λ q. breaks_as_reader q one) (sym f) ∙ good.1) (ap (λ q. is_done_with q (Some one.answer)) (sym (kind ∙ f)) ∙ x))
+        ]))
 
     passed_after : (coming : List ReaderSaid) → (reader_at w r).coming ≡ coming
         → GoesSo (reader_says offered s r (length held) false (λ k. take k held) coming (λ u one. ends_if_done (passed_on u s n r one.answer one.taken) s n r (Some one.answer)))
@@ -328,27 +434,27 @@ module _ (w : World) (s n r : ℕ) (known : n < length w.state.kept) (producer :
         (λ e. cond_both (is_failed one.answer) _ _ GoesSo (λ g. tt)
         (λ g. cond_both one.bad _ _ GoesSo (λ b. tt)
         (λ b. cond_both (breaks_as_reader (stream_in w s).kind one) _ _ GoesSo (λ k. tt)
-        (λ k. ended (passed one more c (took_few (length held) (consumer_at w.state r).since false one e)) (Some one.answer) (taken_so one more c (took_few (length held) (consumer_at w.state r).since false one e))))))
+        (λ k. passed_by one more c e (g, k)))))
         (λ e. tt)
 
     offers_is : GoesSo (offers f s n r (λ u answer. ends_if_done u s n r answer))
     offers_is =
         cond_both (has_items held || (consumer_at w.state r).resting) _ _ GoesSo
         (λ e. passed_after (reader_at w r).coming refl)
-        (λ e. ended f None unpolled)
+        (λ e. ended f None (λ v ends. unpolled (or_parts (has_items held) (consumer_at w.state r).resting e).1 v))
 
 module _ (w : World) (s n r : ℕ) (known : n < length w.state.kept) where
-  after_fetching : (f : World) → Fetched w n f → IfGoes (offers f s n r (λ u answer. ends_if_done u s n r answer)) (HasPassed w s n r)
+  after_fetching : (f : World) → Fetched w s n r f → IfGoes (offers f s n r (λ u answer. ends_if_done u s n r answer)) (HasPassed w s n r)
   after_fetching f x =
       subst (λ u. IfGoes (offers u s n r (λ u answer. ends_if_done u s n r answer)) (HasPassed w s n r)) (sym x.is)
       (offers_is w s n r known x.producer x.kept x.writer x.said x.duty
-      (x.coming ∙ ap (λ u. x.said ++ (writer_at u n).coming) x.is) (x.balance ∙ ap (λ u. held_of u n) x.is))
+      (x.coming ∙ ap (λ u. x.said ++ (writer_at u n).coming) x.is) (x.balance ∙ ap (λ u. held_of u n) x.is) x.wants)
 
   pub round_is : IfGoes (pipe_round w s n r) (HasPassed w s n r)
   unfolding pipe_round
-  round_is = by (fetches w s n r) (fetches_is w s n known r)
+  round_is = by (fetches w s n r) (fetches_is w s n r known)
     where
-      by : (o : Outcome) → IfGoes o (λ reply f. Fetched w n f) → IfGoes (then_on o (λ f. offers f s n r (λ u answer. ends_if_done u s n r answer))) (HasPassed w s n r)
+      by : (o : Outcome) → IfGoes o (λ reply f. Fetched w s n r f) → IfGoes (then_on o (λ f. offers f s n r (λ u answer. ends_if_done u s n r answer))) (HasPassed w s n r)
       by (Goes reply f) x = after_fetching f x
       by (Stops stop writers readers) x = tt
       by Stuck x = tt

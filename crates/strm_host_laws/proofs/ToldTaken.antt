@@ -1,5 +1,5 @@
 -- A host reader tells exactly what was taken of its stream, behind what it told at first.
-use Rattle.std.proofs.Common.{◌≡◌, ℕ, ◌+◌, ◌*◌, ◌^◌, ◌<◌, ◌==◌, ◌||◌, ◌&&◌, Bool, true, false, zero, suc, List, [], ◌∷◌, ◌++◌, length, map, drop, Option, Some, None, refl, sym, ap, subst, ◌∙◌, ◌⊎◌, inl, inr, arith, append_assoc, append-nil}
+use Rattle.std.proofs.Common.{◌≡◌, ℕ, ◌==◌, ◌||◌, ◌&&◌, Bool, true, false, zero, suc, List, [], ◌∷◌, ◌++◌, length, map, drop, Option, Some, None, refl, sym, ap, subst, ◌∙◌, ◌⊎◌, inl, inr, arith, append_assoc, append-nil}
 use Rattle.std.specs.Prelude.{All, IsSome}
 use Rattle.std.specs.Option.{option_map}
 use Rattle.std.proofs.lemmas.Bool.{and_parts, eqb-true, true≢false}
@@ -11,7 +11,7 @@ use Rattle.strm_memory.specs.Items.{decode, items}
 use Rattle.strm_buffers.specs.declared.answers.ReaderSaid.{ReaderSaid}
 use Rattle.strm_buffers.specs.Listing.{Item, listed}
 use Rattle.strm_buffers.specs.Tells.{Tells}
-use Rattle.strm_machine.specs.Moments.{decoded, received}
+use Rattle.strm_machine.specs.Moments.{decoded}
 use Rattle.strm_machine.specs.State.{State, memory_in, stream_at, is_host, is_loose}
 use Rattle.strm_machine.specs.declared.acts.Act.TheVariants.{OnHost}
 use Rattle.strm_machine.specs.declared.acts.HostAct.TheVariants.{Pipe}

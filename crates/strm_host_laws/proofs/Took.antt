@@ -9,7 +9,7 @@ use Rattle.strm_machine.specs.Endings.{delivered}
 use Rattle.strm_machine.specs.Moments.{Moment, Place, received, place_of, is_named}
 use Rattle.strm_machine.specs.Sides.{with_operation}
 use Rattle.strm_machine.specs.Soundness.{sizes_of}
-use Rattle.strm_machine.specs.State.{State, no_stream, no_consumer, stream_at, consumer_at, is_host, is_held, is_loose}
+use Rattle.strm_machine.specs.State.{no_stream, no_consumer, stream_at, consumer_at, is_host, is_held}
 use Rattle.strm_machine.specs.declared.acts.Act.{Act}
 use Rattle.strm_machine.specs.declared.acts.Act.TheVariants.{OnEnd, Drive}
 use Rattle.strm_machine.specs.declared.acts.EndAct.TheVariants.{Operate}
@@ -20,7 +20,7 @@ use Rattle.strm_machine.specs.declared.streams.Owner.TheVariants.{Held, Host}
 use Rattle.strm_machine.specs.declared.streams.Side.{Side}
 use Rattle.strm_machine.specs.declared.streams.Side.TheVariants.{Writing, Reading}
 use Rattle.strm_machine.specs.declared.streams.Stream.{Stream}
-use Rattle.strm_machine.proofs.HostLemmas.{serving_made, unless_host}
+use Rattle.strm_machine.proofs.HostLemmas.{unless_host}
 use Rattle.strm_machine.proofs.NamedEndLemmas.{named_itself}
 use Rattle.strm_machine.proofs.Shapes.{operating}
 use Rattle.strm_machine.proofs.TableLemmas.{set-keeps}

@@ -274,13 +274,18 @@ module _ (w : World) (s n r : ℕ) (v : World) (p : Passed w s n r v) where
         | inr e ↦ ap (λ (x : World). length x.state.streams) e ∙ back-length p.mid s both_left ∙ mid
       ]
 
-  pub round_received : s < length w.state.streams → (stream_in v s).received ≡ passed_stream.received
-  round_received l =
+  -- what ends that go leave as it is
+  pub round_keeps : {A : Type 0} (f : Stream → A) → ((x : Stream) → f (without_ends x) ≡ f x) → s < length w.state.streams → f (stream_in v s) ≡ f passed_stream
+  round_keeps f same l =
       let mid : stream_in p.mid s ≡ passed_stream = ap (λ xs. get_or xs s no_stream) mid_streams ∙ get_or-set_same w.state.streams s passed_stream no_stream l in
+      let long = ap length mid_streams ∙ length-set w.state.streams s passed_stream in
       elim p.ends [
-        | inl e ↦ ap (λ x. (stream_in x s).received) e ∙ ap (λ (x : Stream). x.received) mid
-        | inr e ↦ ap (λ x. (stream_in x s).received) e ∙ back-received p.mid s both_left refl s ∙ ap (λ (x : Stream). x.received) mid
+        | inl e ↦ ap (λ x. f (stream_in x s)) e ∙ ap f mid
+        | inr e ↦ ap (λ x. f (stream_in x s)) e ∙ ap f (back-here p.mid s both_left (omega (arith, l, long))) ∙ same (stream_in p.mid s) ∙ ap f mid
       ]
+
+  pub round_received : s < length w.state.streams → (stream_in v s).received ≡ passed_stream.received
+  round_received l = round_keeps (λ x. x.received) (λ x. refl) l
 
   -- the host writer
   pub round_coming : (writer_at v n).coming ≡ (writer_at p.but n).coming

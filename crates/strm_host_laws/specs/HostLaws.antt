@@ -1,7 +1,8 @@
 -- What holds of every run with host ends. Ours.
-use Rattle.std.specs.Prelude.{◌≡◌, ℕ, ◌+◌, ◌-◌, ◌^◌, min, ◌==◌, Bool, true, false, ◌&&◌, ◌||◌, if◌then◌else◌, List, [], ◌∷◌, ◌++◌, length, map, take, All, Option, Some, IsSome}
+use Rattle.std.specs.Prelude.{◌≡◌, ℕ, ◌+◌, ◌-◌, ◌^◌, ◌≤◌, min, ◌==◌, Bool, true, false, ◌&&◌, ◌||◌, if◌then◌else◌, List, [], ◌∷◌, ◌++◌, length, map, take, All, Option, Some, IsSome}
 use Rattle.std.specs.Option.{option_map}
 use Rattle.strm_codes.specs.Layout.{scalars_of}
+use Rattle.strm_codes.specs.declared.codes.TransmitKind.TheVariants.{Future}
 use Rattle.strm_memory.specs.Items.{AreItems}
 use Rattle.strm_buffers.specs.Listing.{Item}
 use Rattle.strm_buffers.specs.Said.{WriterSaid}
@@ -91,6 +92,11 @@ abbrev pub made_of : ℕ → World → Part → Reply → List Item
 made_of s world (Acts (OnHost host New)) (replies.Number n) =
     if n == s then (writer_at world host).holds else []
 made_of s world part reply = []
+
+-- and in one of these moments
+abbrev pub held_first : ℕ → List HostMoment → List Item
+held_first s [] = []
+held_first s (m ∷ more) = made_of s m.before m.part m.reply ++ held_first s more
 
 -- the items of the records that a write end of this owner used in a moment
 abbrev pub produced_by : HostMoment → Owner → List Item
@@ -224,7 +230,8 @@ pub record Supplies (writer : Writer) : Type 0 where
 
 -- what the host writer of stream s produced is, in order, what was received and what is held, while it is
 -- an end of the stream; from then on what was received comes first of it, and the rest is given up. As
--- many items were counted, up to the end of the count's type, which is not reached where no host reader reads
+-- many items were counted, up to the end of the count's type, which is not reached where no host reader reads.
+-- A future passes one item at most, if its writer held no more when the future was made
 pub record DeliversAll (s : ℕ) (all : List HostMoment) (last : World) : Type 0 where
   pub there :
       is_host (stream_in last s).writer.owner ≡ true →
@@ -235,6 +242,8 @@ pub record DeliversAll (s : ℕ) (all : List HostMoment) (last : World) : Type 0
       length (host_got s all) ≡ received s last.state
   pub capped : is_hosted s all ≡ true →
       received s last.state ≡ min (length (host_got s all)) (2 ^ 128 - 1)
+  pub one : is_hosted s all ≡ true → (stream_in last s).kind ≡ Future → length (held_first s all) ≤ 1 →
+      length (host_got s all) ≤ 1
 
 -- HOST READERS
 
