@@ -31,6 +31,25 @@ fn front_len(bytes: &[u8]) -> Option<usize>
     }
 }
 
+// Adds bytes at the end of a list. A single one, as a stream may come, is not copied as a slice.
+#[inline(always)]
+fn add(kept: &mut Vec<u8>, bytes: &[u8]) -> Result<(), MuxError>
+    ensures ok { OnOk result (kept.new.items ≡ kept.old.items ++ bytes.now) }
+    ensures err { OnErr result (kept.new.items ≡ kept.old.items) }
+    ensures memory { IfErr result (λ error. error ≡ MuxError.OutOfMemory) }
+{
+    if bytes.len() == 1 {
+        return match kept.push(bytes[0]) {
+            Ok(()) => Ok(()),
+            Err(_) => Err(MuxError::OutOfMemory),
+        };
+    }
+    match kept.extend_from_slice(bytes) {
+        Ok(()) => Ok(()),
+        Err(_) => Err(MuxError::OutOfMemory),
+    }
+}
+
 // Adds to the first bytes of a frame what of a piece completes it, and answers how many bytes that were; none,
 // where the whole piece doesn't.
 #[inline(always)]
@@ -45,10 +64,7 @@ pub(crate) fn complete(rest: &mut Vec<u8>, piece: &[u8]) -> Result<Option<usize>
         return Ok(Some(0));
     }
     let (front, _more) = piece.split_at(piece.len().min(MOST));
-    match rest.extend_from_slice(front) {
-        Ok(()) => {}
-        Err(_) => return Err(MuxError::OutOfMemory),
-    }
+    add(rest, front)?;
     match front_len(rest) {
         None => Ok(None),
         Some(len) => {

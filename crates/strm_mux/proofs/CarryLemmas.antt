@@ -1,5 +1,5 @@
 -- A script is of guests alone, and is played to its end; what was fed is what was given.
-use Rattle.std.proofs.Common.{◌≡◌, true, ℕ, zero, suc, ◌+◌, ◌*◌, ◌-◌, ◌<◌, ◌≤◌, List, [], ◌∷◌, ◌++◌, length, min, take, drop, get_or, map, refl, sym, ap, ◌∙◌, arith, length-append, length-take, length-drop}
+use Rattle.std.proofs.Common.{◌≡◌, true, ℕ, zero, suc, ◌+◌, ◌*◌, ◌-◌, ◌<◌, ◌≤◌, List, [], ◌∷◌, ◌++◌, length, min, take, drop, get_or, map, refl, sym, ap, ◌∙◌, arith, subst, length-append, length-take, length-drop}
 use Rattle.std.proofs.lemmas.List.{append-nil, append_assoc}
 use Rattle.std.proofs.lemmas.List.Elements.{All-append}
 use Rattle.strm_memory.specs.Bytes.{IsBytes}
@@ -25,7 +25,7 @@ use Rattle.strm_frames.specs.Muxes.{Written, Carries}
 use Rattle.strm_frames.proofs.ReadingLemmas.{one_split}
 use Rattle.strm_frames.proofs.DemuxLemmas.{nothing_part}
 use Rattle.strm_one_stream.specs.OneStream.{byte_stream, reads_of, piece_of, pieces_of, script_of, CanCarry, AreSettled}
-use Rattle.strm_mux.specs.Carrying.{Delivers}
+use Rattle.strm_mux.specs.Carrying.{Delivers, IsOneCount}
 
 -- THE SCRIPT
 
@@ -134,9 +134,20 @@ fed_delivers heard written given f c =
 
 -- THE COUNT
 
+pub one_count : (counts : List ℕ) (n : ℕ) → counts ≡ n ∷ [] → n ≤ 1048576 → IsOneCount counts
+one_count counts n e l = subst (λ (all : List ℕ). IsOneCount all) (sym e) l
+
+pub count_only : (counts : List ℕ) (n : ℕ) → IsOneCount counts → n ≡ get_or counts 0 0 → n ∷ [] ≡ counts
+count_only [] n c e = absurd c
+count_only (x ∷ []) n c e = ap (λ (k : ℕ). k ∷ []) e
+count_only (x ∷ y ∷ more) n c e = absurd c
+
 first_received : (streams : List Stream) → get_or (map (λ s. s.received) streams) 0 0 ≡ (get_or streams 0 no_stream).received
 first_received [] = refl
 first_received (s ∷ more) = refl
 
-pub received_first : (state : State) (n : ℕ) → counts_of state ≡ n ∷ [] → received 0 state ≡ n
-received_first state n e = sym (first_received state.streams) ∙ ap (λ (all : List ℕ). get_or all 0 0) e
+pub received_first : (state : State) (n : ℕ) → n ∷ [] ≡ counts_of state → n ≡ received 0 state
+received_first state n e = ap (λ (all : List ℕ). get_or all 0 0) e ∙ first_received state.streams
+
+pub same_count : (n m : ℕ) → n ∷ [] ≡ m ∷ [] → n ≡ m
+same_count n m e = ap (λ (all : List ℕ). get_or all 0 0) e

@@ -3,7 +3,7 @@
 //! Meaning: `OneStream.antt` of `strm_one_stream`, for the steps and what they bring; `Carrying.antt`, for the
 //! lanes. Ours.
 
-ghost use Rattle.std.specs.Prelude.{◌≡◌, ◌≤◌, ◌<◌, ◌∷◌, [], List, ℕ, length, slice_index, IfOk, IfErr};
+ghost use Rattle.std.specs.Prelude.{◌≡◌, ◌≤◌, ◌∷◌, [], List, ℕ, length, IfOk, IfErr};
 ghost use Rattle.strm_frames.specs.Demuxes.{IsFed};
 ghost use Rattle.strm_frames.specs.Frames.{Frame};
 ghost use Rattle.strm_frames.specs.Muxes.{Carries};
@@ -11,7 +11,7 @@ ghost use Rattle.strm_laws.specs.Conservation.{got, moments, last, replies_of};
 ghost use Rattle.strm_machine.specs.Moments.{received};
 ghost use Rattle.strm_machine.specs.Plays.{play, Ends};
 ghost use Rattle.strm_memory.specs.Bytes.{IsBytes};
-ghost use Rattle.strm_mux.specs.Carrying.{Delivers};
+ghost use Rattle.strm_mux.specs.Carrying.{Delivers, IsOneCount};
 ghost use Rattle.strm_one_stream.specs.OneStream.{script_of, items_of, AreSettled};
 ghost use Rattle.strm_session.specs.Runs.{start, AreOfGuests, counts_of};
 
@@ -67,14 +67,13 @@ pub fn carry(alloc: Global, mux: &Mux, write: u32, read: u32) -> Result<Carried,
     let bytes = mux.bytes();
     hold_bytes(bytes);
     let steps = script(alloc, bytes, write, read)?;
-    let transcript = play_all(alloc, steps.as_slice())?;
-    let moved = first_count(transcript.moved.as_slice());
-    let demux = heard(alloc, transcript.replies.as_slice())?;
+    let played = play_all(alloc, steps.as_slice())?;
+    let demux = heard(alloc, played.replies.as_slice())?;
     Ok(Carried {
         demux,
         steps,
-        replies: transcript.replies,
-        moved,
+        replies: played.replies,
+        moved: played.moved,
     })
 }
 
@@ -83,23 +82,42 @@ fn hold_bytes(bytes: &[u8])
     ensures { IsBytes bytes.now }
 {}
 
-// The count of the first stream.
-fn first_count(counts: &[u128]) -> u64
-    requires some { 0 < length counts.now }
-    requires few { slice_index counts.now 0 ≤ 1048576 }
-    ensures { result ≡ slice_index counts.now 0 }
+// What a run on one stream told.
+#[derive(Drop)]
+struct Played {
+    replies: Replies,
+    moved: u64,
+}
+
+// The count of the only stream.
+fn only_count(counts: &[u128]) -> u64
+    requires { IsOneCount counts.now }
+    ensures { result ∷ [] ≡ counts.now }
 {
     counts[0] as u64
 }
 
-// A run of guests alone that goes on behind each reply.
-fn play_all(alloc: Global, steps: &[Step]) -> Result<Transcript, MuxError>
+// What is kept of a run on one stream.
+fn told(transcript: Transcript) -> Played
+    requires { IsOneCount transcript.moved }
+    ensures replies { result.replies ≡ transcript.replies }
+    ensures moved { result.moved ∷ [] ≡ transcript.moved }
+{
+    Played {
+        moved: only_count(transcript.moved.as_slice()),
+        replies: transcript.replies,
+    }
+}
+
+// A run of guests alone that goes on behind each reply, on one stream.
+fn play_all(alloc: Global, steps: &[Step]) -> Result<Played, MuxError>
     requires few { length steps.now ≤ 4294967295 }
     requires guests { AreOfGuests steps.now }
     requires settled { AreSettled (replies_of (moments start steps.now)) }
-    ensures played { IfOk result (λ t. play [] start steps.now ≡ Ends t.replies (last start steps.now)) }
-    ensures told { IfOk result (λ t. t.replies ≡ replies_of (moments start steps.now)) }
-    ensures moved { IfOk result (λ t. t.moved ≡ counts_of (last start steps.now)) }
+    requires one { IsOneCount (counts_of (last start steps.now)) }
+    ensures played { IfOk result (λ p. play [] start steps.now ≡ Ends p.replies (last start steps.now)) }
+    ensures told { IfOk result (λ p. p.replies ≡ replies_of (moments start steps.now)) }
+    ensures moved { IfOk result (λ p. p.moved ∷ [] ≡ counts_of (last start steps.now)) }
     ensures err { IfErr result (λ error. error ≡ MuxError.OutOfMemory) }
 {
     let mut hosts = Hosts {
@@ -107,7 +125,7 @@ fn play_all(alloc: Global, steps: &[Step]) -> Result<Transcript, MuxError>
         readers: Vec::new(alloc),
     };
     match run(alloc, steps, &mut hosts) {
-        Ok(transcript) => Ok(transcript),
+        Ok(transcript) => Ok(told(transcript)),
         Err(stop) => match stop.cause {
             RunCause::OutOfMemory => Err(MuxError::OutOfMemory),
             RunCause::HostFailed { .. } => unreachable!(),
