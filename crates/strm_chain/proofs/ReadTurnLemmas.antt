@@ -186,19 +186,20 @@ module _ (p : Play) (ws : List Worker) (g chunk : ℕ) (j : IsJoined p ws) (l : 
         }
 
   -- the turn of a guest whose read is over
-  pub read_turn : (mid q : Play) (ws' : List Worker) (code : ReturnCode) (handle : ℕ) → AreSteps q.steps → AreSteps mid.steps → IsRunOf mid → OneChanged g ws ws' → w.read ≡ Some handle → w.doing ≢ Ended → w.doing ≢ Writing → TakesIn g w code mid (worker_at ws' g) q → BeforeIt ws g (g - 1) → ReadIsOver mid (g - 1) code → IsJoined q ws'
-  read_turn mid q ws' code handle are are_mid run_mid one has a c x b over =
-      let s = g - 1 in
-      let w' = worker_at ws' g in
-      let frame = over.passes.frame in
-      let dump = dump_passes mid q (length ws) s g w w' code b.is run_mid are frame x in
-      let all = both_pass (length ws) p mid q Each (But s) over.passes (fewer (length ws) mid q Each Each Each (But s) dump (λ k _. tt) (λ k _. tt)) in
-      joined_again p q ws ws' g j one (part_taken g handle w w' code mid q x has)
-      (fewer (length ws) p q Each (But s) (But g) (λ k. k + 1 ≢ g) all (λ k _. tt) (λ k ne f. ne (ap (λ n. n + 1) f ∙ sym b.is)))
-      (λ more. writes_taken g w w' code mid q q.state (got_on q.steps g) x a c (all.writes g w more tt (j.joins g more).writes))
-      (λ k more f.
-        let same : k ≡ s = omega (arith, f) in
-        subst (λ n. ReadsFrom n w' q.state (got_on q.steps n)) (sym same) (dump_reads mid q (length ws) s g w w' code b.is run_mid are frame x over.arrives))
+  module _ (mid q : Play) (ws' : List Worker) (code : ReturnCode) (handle : ℕ) where
+    pub read_turn : AreSteps q.steps → AreSteps mid.steps → IsRunOf mid → OneChanged g ws ws' → w.read ≡ Some handle → w.doing ≢ Ended → w.doing ≢ Writing → TakesIn g w code mid (worker_at ws' g) q → BeforeIt ws g (g - 1) → ReadIsOver mid (g - 1) code → IsJoined q ws'
+    read_turn are are_mid run_mid one has a c x b over =
+        let s = g - 1 in
+        let w' = worker_at ws' g in
+        let frame = over.passes.frame in
+        let dump = dump_passes mid q (length ws) s g w w' code b.is run_mid are frame x in
+        let all = both_pass (length ws) p mid q Each (But s) over.passes (fewer (length ws) mid q Each Each Each (But s) dump (λ k _. tt) (λ k _. tt)) in
+        joined_again p q ws ws' g j one (part_taken g handle w w' code mid q x has)
+        (fewer (length ws) p q Each (But s) (But g) (λ k. k + 1 ≢ g) all (λ k _. tt) (λ k ne f. ne (ap (λ n. n + 1) f ∙ sym b.is)))
+        (λ more. writes_taken g w w' code mid q q.state (got_on q.steps g) x a c (all.writes g w more tt (j.joins g more).writes))
+        (λ k more f.
+          let same : k ≡ s = omega (arith, f) in
+          subst (λ n. ReadsFrom n w' q.state (got_on q.steps n)) (sym same) (dump_reads mid q (length ws) s g w w' code b.is run_mid are frame x over.arrives))
 
   -- the turn of a guest whose read waits
   pub wait_turn : (q : Play) (ws' : List Worker) → AreSteps q.steps → OneChanged g ws ws' → (x : Reads g chunk w p q codes.Blocked) → worker_at ws' g ≡ record w { doing = Reading } → IsJoined q ws'

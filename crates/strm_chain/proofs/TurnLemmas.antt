@@ -98,22 +98,24 @@ module _ (p : Play) (ws : List Worker) (g chunk : ℕ) (j : IsJoined p ws) (l : 
         (λ t. low_unless mid ws (moment_at mid q step reply) t refl jm (look.change t ARead) (unnamed_reader (moment_at mid q step reply) g t only))
 
   -- the guest goes on from a step on its write end, with so many bytes sent and doing this
-  writer_again : (q : Play) (ws' : List Worker) (sent : ℕ) (d : Doing) → OneChanged g ws ws' → g + 1 < length ws → Passes (length ws) p q (But g) Each → worker_at ws' g ≡ record w { doing = d; sent = sent } → w.doing ≢ Reading → (handle : ℕ) → w.write ≡ Some handle → (d ≡ Ended → w.closed ≡ true) → WritesOn g (record w { doing = d; sent = sent }) q.state (got_on q.steps g) → IsJoined q ws'
-  writer_again q ws' sent d one more passes is a handle has closed writes =
-      let v : Worker = record w { doing = d; sent = sent } in
-      joined_again p q ws ws' g j one
-      (subst (SamePart w) (sym is) (record {
-        read = refl;
-        write = refl;
-        stage = refl;
-        source = λ none. (refl, refl);
-        sink = λ k. record { write = k.write; copies = k.copies; ends = closed };
-      }))
-      (fewer (length ws) p q (But g) Each (But g) (λ k. k + 1 ≢ g) passes (λ k ne. ne) (λ k _. tt))
-      (λ _. subst (λ u. WritesOn g u q.state (got_on q.steps g)) (sym is) writes)
-      (λ s there e. subst (λ u. ReadsFrom s u q.state (got_on q.steps s)) (sym is)
-      (reads_doing s w d sent q.state (got_on q.steps s) a
-      (passes.reads s w there tt (subst (λ n. ReadsFrom s (worker_at ws n) p.state (got_on p.steps s)) e (j.joins s there).reads))))
+  module _ (q : Play) (ws' : List Worker) (sent : ℕ) (d : Doing) (one : OneChanged g ws ws')
+      (more : g + 1 < length ws) where
+    writer_again : Passes (length ws) p q (But g) Each → worker_at ws' g ≡ record w { doing = d; sent = sent } → w.doing ≢ Reading → (handle : ℕ) → w.write ≡ Some handle → (d ≡ Ended → w.closed ≡ true) → WritesOn g (record w { doing = d; sent = sent }) q.state (got_on q.steps g) → IsJoined q ws'
+    writer_again passes is a handle has closed writes =
+        let v : Worker = record w { doing = d; sent = sent } in
+        joined_again p q ws ws' g j one
+        (subst (SamePart w) (sym is) (record {
+          read = refl;
+          write = refl;
+          stage = refl;
+          source = λ none. (refl, refl);
+          sink = λ k. record { write = k.write; copies = k.copies; ends = closed };
+        }))
+        (fewer (length ws) p q (But g) Each (But g) (λ k. k + 1 ≢ g) passes (λ k ne. ne) (λ k _. tt))
+        (λ _. subst (λ u. WritesOn g u q.state (got_on q.steps g)) (sym is) writes)
+        (λ s there e. subst (λ u. ReadsFrom s u q.state (got_on q.steps s)) (sym is)
+        (reads_doing s w d sent q.state (got_on q.steps s) a
+        (passes.reads s w there tt (subst (λ n. ReadsFrom s (worker_at ws n) p.state (got_on p.steps s)) e (j.joins s there).reads))))
 
   -- a write is called
   module _ (q : Play) (code : ReturnCode) (are : AreSteps q.steps) (x : Writes g chunk w p q code) where
