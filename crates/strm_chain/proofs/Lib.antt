@@ -20,3 +20,4 @@ pub mod ReadTurnLemmas
 pub mod TurnLemmas
 pub mod OutcomeLemmas
 pub mod EndLemmas
+pub mod MakingLemmas

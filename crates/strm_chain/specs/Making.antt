@@ -6,6 +6,7 @@ use Rattle.strm_machine.specs.declared.replies.Pair.{Pair}
 use Rattle.strm_chain.specs.declared.stages.Stage.{Stage}
 use Rattle.strm_chain.specs.declared.stages.Stage.TheVariants.{Copy}
 use Rattle.strm_chain.specs.declared.workers.Worker.{Worker}
+use Rattle.strm_chain.specs.declared.workers.Doing.TheVariants.{Nothing}
 use Rattle.strm_chain.specs.Turning.{IsMaking}
 use Rattle.strm_chain.specs.Playing.{Play}
 use Rattle.strm_chain.specs.Keeping.{bytes_type, new_worker, worker_at}
@@ -33,6 +34,7 @@ pub record HasWrite (s : ℕ) (w : Worker) (play : Play) : Type 0 where
   pub read : ℕ
   pub has : w.write ≡ Some write
   pub new : IsNew play s write read
+  pub rests : (w.sent ≡ 0) × (w.doing ≡ Nothing)
 
 -- guest s + 1 was given the read end of stream s
 pub record HasRead (s : ℕ) (w : Worker) (play : Play) : Type 0 where
