@@ -226,7 +226,7 @@ module _ (state next : State) (g handle s : ℕ) (side : Side) (code : Option Re
   unfolding performs
   event_after p e f l =
       let does = subst (λ d. goes (replies.Event (report_on d (stream_at state s))) (told state s d) ≡ goes (replies.Event code) next) f
-          (subst (λ k. goes (replies.Event (report_on (side_named (end_named state g handle)) (stream_at state k))) (told state k (side_named (end_named state g handle))) ≡ goes (replies.Event code) next) e p.does) in
+      (subst (λ k. goes (replies.Event (report_on (side_named (end_named state g handle)) (stream_at state k))) (told state k (side_named (end_named state g handle))) ≡ goes (replies.Event code) next) e p.does) in
       let reply : replies.Event (report_on side (stream_at state s)) ≡ replies.Event code = ap (λ (r : Reaction). r.reply) does in
       let next_is : next ≡ told state s side = sym (ap (λ (r : Reaction). r.state) does) in
       let is : next.streams ≡ set state.streams s (delivered side (stream_at state s)) = ap (λ (x : State). x.streams) next_is in

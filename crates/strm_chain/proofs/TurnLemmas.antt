@@ -181,9 +181,9 @@ module _ (p : Play) (ws : List Worker) (g chunk : ℕ) (j : IsJoined p ws) (l : 
         let ty = (pk.joined.joins g more_there).typed in
         let old : Sends g 64 w.sent w.made (memory_in x.mid.state.guests g) None (got_on x.mid.steps g) = subst (λ o. Sends g 64 w.sent w.made (memory_in x.mid.state.guests g) o (got_on x.mid.steps g)) k.idle k.writes.sends in
         let own = own_write_waits mw g w.sent w.made (got_on x.mid.steps g) ty (k.only g AWrite ∙ end_itself g AWrite) (k.look.change g AWrite)
-            (size_after x.mid q pk.joined write_step (replies.Code code) x.adds k.look put k.only)
-            (same_after x.mid q pk.joined write_step (replies.Code code) x.adds k.look put k.only)
-            write_end (length x.bytes) refl refl refl old pk.lies pk.within size_mid (ap replies.Code blocked) in
+        (size_after x.mid q pk.joined write_step (replies.Code code) x.adds k.look put k.only)
+        (same_after x.mid q pk.joined write_step (replies.Code code) x.adds k.look put k.only)
+        write_end (length x.bytes) refl refl refl old pk.lies pk.within size_mid (ap replies.Code blocked) in
         writer_again q ws' w.sent Writing one more_there k.passes is (apart_doing w Nothing Reading x.pokes.rests (λ e. cc)) x.handle x.has (λ e. absurd (let wrong = e in cc))
         (record {
           handle = k.writes.handle;
@@ -203,9 +203,9 @@ module _ (p : Play) (ws : List Worker) (g chunk : ℕ) (j : IsJoined p ws) (l : 
         let ty = (pk.joined.joins g more_there).typed in
         let old : Sends g 64 w.sent w.made (memory_in x.mid.state.guests g) None (got_on x.mid.steps g) = subst (λ o. Sends g 64 w.sent w.made (memory_in x.mid.state.guests g) o (got_on x.mid.steps g)) k.idle k.writes.sends in
         let own = own_write_serves mw g w.sent w.made (got_on x.mid.steps g) ty (k.only g AWrite ∙ end_itself g AWrite) (k.look.change g AWrite)
-            (size_after x.mid q pk.joined write_step (replies.Code code) x.adds k.look put k.only)
-            (same_after x.mid q pk.joined write_step (replies.Code code) x.adds k.look put k.only)
-            write_end (length x.bytes) refl refl refl old pk.lies pk.within size_mid code (not_blocked code h.count h.ends) refl in
+        (size_after x.mid q pk.joined write_step (replies.Code code) x.adds k.look put k.only)
+        (same_after x.mid q pk.joined write_step (replies.Code code) x.adds k.look put k.only)
+        write_end (length x.bytes) refl refl refl old pk.lies pk.within size_mid code (not_blocked code h.count h.ends) refl in
         writer_again q ws' (w.sent + h.count) Nothing one more_there k.passes h.is (apart_doing w Nothing Reading x.pokes.rests (λ e. cc)) x.handle x.has (λ e. absurd (let wrong = e in cc))
         (record {
           handle = k.writes.handle;
@@ -231,8 +231,8 @@ module _ (p : Play) (ws : List Worker) (g chunk : ℕ) (j : IsJoined p ws) (l : 
       let after = event_after p.state q.state g x.handle g AWrite (Some code) does names.stream names.on (omega (arith, more, j.streams)) in
       let put = λ (r : Region). nothing_put r (put_by (act_of step) reply) refl in
       let own = own_write_settles m g w.sent w.made (got_on p.steps g) at.typed (names.only g AWrite ∙ end_itself g AWrite) (look.change g AWrite)
-          (size_after p q j step reply x.adds look put names.only) (same_after p q j step reply x.adds look put names.only)
-          g x.handle code (not_blocked code h.count h.ends) refl refl at.writes.sends in
+      (size_after p q j step reply x.adds look put names.only) (same_after p q j step reply x.adds look put names.only)
+      g x.handle code (not_blocked code h.count h.ends) refl refl at.writes.sends in
       writer_again q ws' (w.sent + h.count) Nothing one more (writer_passes p q ws step reply x.adds j look g after.steady put names.only) h.is (apart_doing w Writing Reading x.waits (λ e. cc)) x.handle x.has (λ e. absurd (let wrong = e in cc))
       (record {
         handle = at.writes.handle;

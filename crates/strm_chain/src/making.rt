@@ -36,9 +36,15 @@ pub(crate) fn make_chain(
     for (i, stage) in stages.iter().enumerate() {
         let read = pair.read;
         pair = make_pair(&mut player, i as u32 + 1)?;
-        add_worker(&mut workers, new_worker(alloc, *stage, read, Some(pair.write)))?;
+        add_worker(
+            &mut workers,
+            new_worker(alloc, *stage, read, Some(pair.write)),
+        )?;
     }
-    add_worker(&mut workers, new_worker(alloc, Stage::Copy, pair.read, None))?;
+    add_worker(
+        &mut workers,
+        new_worker(alloc, Stage::Copy, pair.read, None),
+    )?;
     player.played();
     Ok((player, workers))
 }
