@@ -21,3 +21,4 @@ pub mod TurnLemmas
 pub mod OutcomeLemmas
 pub mod EndLemmas
 pub mod MakingLemmas
+pub mod ChainLemmas

@@ -2,9 +2,9 @@
 //!
 //! Meaning: `Turning.antt`, `Flowing.antt`, `Faults.antt`. Ours.
 
-ghost use Rattle.std.specs.Prelude.{◌≡◌, ◌≢◌, ◌≤◌, ◌<◌, ◌+◌, ◌%◌, ◌↔◌, ◌++◌, ◌∷◌, ℕ, List, [], length, map, true, false, Ok, Err, IfOk, IfErr, IsErr, OnOk, All, count_by, None};
+ghost use Rattle.std.specs.Prelude.{◌≡◌, ◌≢◌, ◌≤◌, ◌<◌, ◌+◌, ◌%◌, ◌↔◌, ◌++◌, ◌∷◌, ℕ, List, [], length, map, true, false, Ok, Err, IfOk, IfSome, IfErr, IsErr, OnOk, count_by, None};
 ghost use Rattle.strm_machine.specs.Plays.{play, Ends};
-ghost use Rattle.strm_chain.specs.Playing.{start};
+ghost use Rattle.strm_chain.specs.Playing.{start, IsPlayed};
 ghost use Rattle.strm_chain.specs.Stages.{composed};
 ghost use Rattle.strm_chain.specs.Flowing.{Flows};
 ghost use Rattle.strm_chain.specs.Faults.{is_twice, fault_of, IsFault};
@@ -22,6 +22,7 @@ use crate::workers::{ChainTurn, Worker, take_turn};
 use std::alloc::{AllocError, Global};
 use std::marker::Model;
 use strm_codes::counts::OutOfMemory;
+use strm_laws::laws::conservation;
 use strm_lines::lists::{Replies, Steps};
 
 /// The most stages of a chain.
@@ -168,6 +169,7 @@ impl Chain {
     }
 
     /// One turn of a guest. After want of memory each turn answers that.
+    #[tactic(auto, using(crate::proofs::ChainLemmas::joined_of))]
     pub fn turn(&mut self, who: u32) -> Result<ChainTurn, ChainError>
         requires { who < length self.old.workers }
 
@@ -187,19 +189,31 @@ impl Chain {
         ensures others { (g : ℕ) → g ≢ who → worker_at self.new.workers g ≡ worker_at self.old.workers g }
         ensures many { length self.new.workers ≡ length self.old.workers }
         ensures error { IfErr result (λ error. error ≡ ChainError.OutOfMemory) }
+        ensures more { OnOk result ((worker_at self.old.workers who).doing ≢ Ended
+            → length self.old.play.steps < length self.new.play.steps) }
+        ensures few { OnOk result (length self.new.play.steps ≤ 4294967295) }
+        ensures runs { OnOk result (self.new.failed ≡ false) }
         ensures failed { IsErr result ↔ (self.new.failed ≡ true) }
         ensures again { self.old.failed ≡ true → result ≡ Err ChainError.OutOfMemory }
     {
         if self.failed {
             return Err(ChainError::OutOfMemory);
         }
-        match turn_at(&mut self.player, &mut self.workers, who, self.chunk) {
+        match turn_in(&mut self.player, &mut self.workers, who, self.chunk) {
             Ok(turn) => Ok(turn),
             Err(_) => {
                 self.failed = true;
                 Err(ChainError::OutOfMemory)
             }
         }
+    }
+
+    /// How many guests take turns, the source and the sink included.
+    pub fn guests(&self) -> u32
+        ensures count { result ≡ length self.now.workers }
+        ensures some { 2 ≤ result }
+    {
+        self.workers.len() as u32
     }
 
     /// The sink was told that there is no more.
@@ -212,7 +226,15 @@ impl Chain {
         }
     }
 
+    // A sink that was not told has not ended. It does nothing.
+    fn sink_rests(&self)
+        ensures { self.now.failed ≡ false → (sink_of self.now.workers).closed ≡ false → (sink_of self.now.workers).doing ≢ Ended }
+    {
+        let _ = &self.workers;
+    }
+
     // What the chain has come to.
+    #[tactic(auto, using(crate::proofs::ChainLemmas::joined_of))]
     fn finish(self) -> Result<ChainEnd, ChainError>
         requires { self.failed ≡ false }
         ensures steps { IfOk result (λ end. end.steps ≡ self.play.steps) }
@@ -222,26 +244,47 @@ impl Chain {
         ensures composed { IfOk result (λ end. end.ended ≡ true → end.output ≡ composed (stages_of self.workers) (input_of self.workers)) }
         ensures error { IfErr result (λ error. error ≡ ChainError.OutOfMemory) }
     {
-        let ended = self.ended();
         let Chain {
-            player,
-            mut workers,
-            ..
+            player, workers, ..
         } = self;
-        let stream = workers.len() as u32 - 2;
-        let Some(sink) = workers.pop() else {
-            return Err(ChainError::OutOfMemory);
-        };
-        let mut output = sink.made;
-        player.add_received(stream, stream + 1, &mut output)?;
-        let (steps, replies) = player.finish();
-        Ok(ChainEnd {
-            output,
-            ended,
-            steps,
-            replies,
-        })
+        end_of(player, workers)
     }
+}
+
+// The sink of these guests.
+fn take_sink(workers: Vec<Worker>) -> Option<Worker>
+    ensures { IfSome result (λ sink. sink ≡ sink_of workers.items) }
+{
+    let mut workers = workers;
+    workers.pop()
+}
+
+// What a chain of these guests has come to.
+fn end_of(player: Player, workers: Vec<Worker>) -> Result<ChainEnd, ChainError>
+    requires some { (2 ≤ length workers.items) × (length workers.items ≤ 10) }
+    requires joined { IsJoined player workers.items }
+    ensures steps { IfOk result (λ end. end.steps ≡ player.steps) }
+    ensures replies { IfOk result (λ end. play [] start end.steps ≡ Ends end.replies player.state) }
+    ensures ended { IfOk result (λ end. end.ended ≡ (sink_of workers.items).closed) }
+    ensures flows { IfOk result (λ end. Flows (stages_of workers.items) (input_of workers.items) end.output end.steps) }
+    ensures composed { IfOk result (λ end. end.ended ≡ true → end.output ≡ composed (stages_of workers.items) (input_of workers.items)) }
+    ensures error { IfErr result (λ error. error ≡ ChainError.OutOfMemory) }
+{
+    conservation();
+    let stream = workers.len() as u32 - 2;
+    let Some(sink) = take_sink(workers) else {
+        return Err(ChainError::OutOfMemory);
+    };
+    let ended = sink.closed;
+    let mut output = sink.made;
+    player.add_received(stream, stream + 1, &mut output)?;
+    let (steps, replies) = player.finish();
+    Ok(ChainEnd {
+        output,
+        ended,
+        steps,
+        replies,
+    })
 }
 
 // One turn of the guest of a number.
@@ -257,9 +300,8 @@ fn turn_at(
         (worker_at workers.new who) player.new) }
     ensures others { (g : ℕ) → g ≢ who → worker_at workers.new g ≡ worker_at workers.old g }
     ensures many { length workers.new ≡ length workers.old }
-    ensures kept { OnOk result (IsJoined player.old workers.old → IsJoined player.new workers.new) }
-    ensures stages { OnOk result (IsJoined player.old workers.old → stages_of workers.new ≡ stages_of workers.old) }
-    ensures input { OnOk result (IsJoined player.old workers.old → input_of workers.new ≡ input_of workers.old) }
+    ensures before { IsPlayed player.old }
+    ensures after { IsPlayed player.new }
 {
     player.played();
     let turn = take_turn(player, &mut workers[who as usize], who, chunk);
@@ -267,16 +309,42 @@ fn turn_at(
     turn
 }
 
+// One turn in a chain, which stays joined.
+fn turn_in(
+    player: &mut Player,
+    workers: &mut [Worker],
+    who: u32,
+    chunk: u32,
+) -> Result<ChainTurn, OutOfMemory>
+    requires chunk { (16 ≤ chunk) × (chunk ≤ 64) }
+    requires there { who < length workers.old }
+    requires joined { IsJoined player.old workers.old }
+    ensures joined { OnOk result (IsJoined player.new workers.new) }
+    ensures stages { OnOk result (stages_of workers.new ≡ stages_of workers.old) }
+    ensures input { OnOk result (input_of workers.new ≡ input_of workers.old) }
+    ensures makes { OnOk result (Makes who chunk player.old player.new) }
+    ensures idle { result ≡ Ok Idle → IsIdle who (worker_at workers.old who) player.old player.new }
+    ensures exactly { IsIdle who (worker_at workers.old who) player.old player.new → IfOk result (λ turn. turn ≡ Idle) }
+    ensures moved { result ≡ Ok Moved → Moves player.old player.new }
+    ensures more { OnOk result ((worker_at workers.old who).doing ≢ Ended → length player.old.steps < length player.new.steps) }
+    ensures few { length player.new.steps ≤ 4294967295 }
+    ensures others { (g : ℕ) → g ≢ who → worker_at workers.new g ≡ worker_at workers.old g }
+    ensures many { length workers.new ≡ length workers.old }
+{
+    turn_at(player, workers, who, chunk)
+}
+
 // Turns by a schedule.
 fn take_turns(chain: &mut Chain, schedule: &[u32]) -> Result<(), ChainError>
+    requires { chain.old.failed ≡ false }
     ensures error { IfErr result (λ error. error ≡ ChainError.OutOfMemory) }
     ensures turns { OnOk result (TakesTurns chain.old.chunk (map (λ s. s % length chain.old.workers) schedule.now)
         chain.old.play chain.new.play) }
     ensures goes_on { OnOk result (GoesOn chain.old chain.new) }
-    ensures runs { OnOk result (chain.old.failed ≡ false → chain.new.failed ≡ false) }
+    ensures runs { OnOk result (chain.new.failed ≡ false) }
 {
     for who in schedule {
-        let guests = chain.workers.len() as u32;
+        let guests = chain.guests();
         chain.turn(*who % guests)?;
     }
     Ok(())
@@ -284,15 +352,20 @@ fn take_turns(chain: &mut Chain, schedule: &[u32]) -> Result<(), ChainError>
 
 // One round of all guests.
 fn take_round(chain: &mut Chain) -> Result<(), ChainError>
+    requires runs { chain.old.failed ≡ false }
+    requires rests { (sink_of chain.old.workers).doing ≢ Ended }
     ensures error { IfErr result (λ error. error ≡ ChainError.OutOfMemory) }
     ensures turns { OnOk result (TakesSome chain.old.chunk chain.old.play chain.new.play) }
     ensures goes_on { OnOk result (GoesOn chain.old chain.new) }
-    ensures runs { OnOk result (chain.old.failed ≡ false → chain.new.failed ≡ false) }
+    ensures runs { OnOk result (chain.new.failed ≡ false) }
+    ensures more { OnOk result (length chain.old.play.steps < length chain.new.play.steps) }
+    ensures few { OnOk result (length chain.new.play.steps ≤ 4294967295) }
 {
-    let guests = chain.workers.len() as u32;
-    for who in 0..guests {
+    let sink = chain.guests() - 1;
+    for who in 0..sink {
         chain.turn(who)?;
     }
+    chain.turn(sink)?;
     Ok(())
 }
 
@@ -342,6 +415,7 @@ pub fn chain_all(
 {
     let mut chain = Chain::new(alloc, stages, input, chunk)?;
     while !chain.ended() {
+        chain.sink_rests();
         take_round(&mut chain)?;
     }
     chain.finish()

@@ -12,6 +12,7 @@ use crate::stages::{Stage, Work};
 use crate::workers::{BYTES, Doing, Worker};
 use std::alloc::Global;
 use strm_codes::counts::OutOfMemory;
+use strm_laws::laws::conservation;
 use strm_machine::replies::{Pair, Reply};
 use strm_machine::steps::Step;
 
@@ -46,6 +47,7 @@ pub(crate) fn make_chain(
         new_worker(alloc, Stage::Copy, pair.read, None),
     )?;
     player.played();
+    conservation();
     Ok((player, workers))
 }
 
@@ -54,7 +56,7 @@ fn add_guests(player: &mut Player, count: u32) -> Result<(), OutOfMemory>
     requires { AreMade 0 0 player.old }
     ensures { OnOk result (AreMade count 0 player.new) }
 {
-    for _ in 0..count {
+    for _made in 0..count {
         add_guest(player)?;
     }
     Ok(())

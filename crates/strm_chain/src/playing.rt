@@ -120,7 +120,9 @@ impl Player {
     // What was played led to the state. It does nothing.
     pub(crate) fn played(&self)
         ensures { IsPlayed self.now }
-    {}
+    {
+        let _ = &self.store;
+    }
 
     // The steps and the replies.
     pub(crate) fn finish(self) -> (Steps, Replies)

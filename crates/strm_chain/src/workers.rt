@@ -13,7 +13,6 @@ ghost use Rattle.strm_chain.specs.Playing.{Adds};
 ghost use Rattle.strm_chain.specs.Stages.{left, done};
 ghost use Rattle.strm_chain.specs.Turning.{IsCount};
 ghost use Rattle.strm_chain.specs.Turned.{Turned, TakesIn, HandsOver};
-ghost use Rattle.strm_chain.specs.declared.workers.ChainTurn.TheVariants.{Moved};
 ghost use Rattle.strm_chain.specs.declared.workers.Doing.TheVariants as doing;
 
 use crate::lists::Bytes8;
@@ -127,7 +126,10 @@ fn hear_of_read(
         return Err(OutOfMemory);
     };
     match play_event(player, guest, handle) {
-        Ok(Some(code)) => take_read(player, worker, guest, code),
+        Ok(Some(code)) => {
+            take_read(player, worker, guest, code)?;
+            Ok(ChainTurn::Moved)
+        }
         Ok(None) => Ok(ChainTurn::Idle),
         Err(error) => Err(error),
     }
@@ -146,7 +148,10 @@ fn hear_of_write(
         return Err(OutOfMemory);
     };
     match play_event(player, guest, handle) {
-        Ok(Some(code)) => hand_over(worker, code),
+        Ok(Some(code)) => {
+            hand_over(worker, code)?;
+            Ok(ChainTurn::Moved)
+        }
         Ok(None) => Ok(ChainTurn::Idle),
         Err(error) => Err(error),
     }
@@ -177,7 +182,10 @@ fn begin_read(
             worker.doing = Doing::Reading;
             Ok(ChainTurn::Moved)
         }
-        Ok(code) => take_read(player, worker, guest, code),
+        Ok(code) => {
+            take_read(player, worker, guest, code)?;
+            Ok(ChainTurn::Moved)
+        }
         Err(error) => Err(error),
     }
 }
@@ -211,7 +219,10 @@ fn begin_write(
             worker.doing = Doing::Writing;
             Ok(ChainTurn::Moved)
         }
-        Ok(code) => hand_over(worker, code),
+        Ok(code) => {
+            hand_over(worker, code)?;
+            Ok(ChainTurn::Moved)
+        }
         Err(error) => Err(error),
     }
 }
@@ -243,9 +254,8 @@ fn take_read(
     worker: &mut Worker,
     guest: u32,
     code: ReturnCode,
-) -> Result<ChainTurn, OutOfMemory>
-    ensures moved { IfOk result (λ turn. turn ≡ Moved) }
-    ensures takes { OnOk result (TakesIn guest worker.old code player.old worker.new player.new) }
+) -> Result<(), OutOfMemory>
+    ensures { OnOk result (TakesIn guest worker.old code player.old worker.new player.new) }
 {
     let (count, dropped) = match code {
         ReturnCode::Completed(count) => (count, false),
@@ -267,7 +277,7 @@ fn take_read(
     } else {
         Doing::Nothing
     };
-    Ok(ChainTurn::Moved)
+    Ok(())
 }
 
 // The stage takes the bytes that a reply tells.
@@ -282,9 +292,8 @@ fn take_reply(worker: &mut Worker, reply: &Reply) -> Result<(), OutOfMemory>
 }
 
 // The guest's write is over with this code: what it says was handed over.
-fn hand_over(worker: &mut Worker, code: ReturnCode) -> Result<ChainTurn, OutOfMemory>
-    ensures moved { IfOk result (λ turn. turn ≡ Moved) }
-    ensures hands { OnOk result (HandsOver worker.old code worker.new) }
+fn hand_over(worker: &mut Worker, code: ReturnCode) -> Result<(), OutOfMemory>
+    ensures { OnOk result (HandsOver worker.old code worker.new) }
 {
     let ReturnCode::Completed(count) = code else {
         return Err(OutOfMemory);
@@ -294,7 +303,7 @@ fn hand_over(worker: &mut Worker, code: ReturnCode) -> Result<ChainTurn, OutOfMe
     };
     worker.sent = sent;
     worker.doing = Doing::Nothing;
-    Ok(ChainTurn::Moved)
+    Ok(())
 }
 
 // Plays a step that is answered by a code.
