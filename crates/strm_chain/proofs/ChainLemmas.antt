@@ -35,7 +35,7 @@ same_stages : (ws ws' : List Worker) (g : ℕ) → OneChanged g ws ws' → (work
 same_stages ws ws' g one e =
     let all : map stage_of ws' ≡ map stage_of ws =
     ext_get_or Copy (map stage_of ws') (map stage_of ws) (length-map ws' stage_of ∙ one.many ∙ sym (length-map ws stage_of))
-        (λ i l. get_or-map stage_of ws' i (new_worker Copy) ∙ either (λ w w'. stage_of w' ≡ stage_of w) g ws ws' i one (λ w. refl) e ∙ sym (get_or-map stage_of ws i (new_worker Copy))) in
+    (λ i l. get_or-map stage_of ws' i (new_worker Copy) ∙ either (λ w w'. stage_of w' ≡ stage_of w) g ws ws' i one (λ w. refl) e ∙ sym (get_or-map stage_of ws i (new_worker Copy))) in
     sym (part ws') ∙ ap (λ xs. take (length ws' - 2) (drop 1 xs)) all ∙ ap (λ n. take (n - 2) (drop 1 (map stage_of ws))) one.many ∙ part ws
   where
     part : (xs : List Worker) → take (length xs - 2) (drop 1 (map stage_of xs)) ≡ map stage_of (take (length xs - 2) (drop 1 xs))
@@ -129,12 +129,14 @@ pub makes_longer : (g chunk : ℕ) (p q : Play) → Makes g chunk p q → length
 makes_longer g chunk p q m = omega (arith, ap length m.steps_are, length-append p.steps m.made)
 
 -- a run by a schedule
-pub run_turned : (stages : List Stage) (input : List ℕ) (chunk : ℕ) (schedule : List ℕ) (a b : ChainState) (steps : List Step) (told : List Reply) (state : State) → Begins stages input chunk a → TakesTurns a.chunk (map (λ s. s % length a.workers) schedule) a.play b.play → steps ≡ b.play.steps → play [] start steps ≡ Ends told state → IsRun chunk (map (λ s. s % (length stages + 2)) schedule) steps told
-run_turned stages input chunk schedule a b steps told state x t e p =
-    run_of chunk (map (λ s. s % (length stages + 2)) schedule) a.play b.play steps told state x.makes
-    (subst (λ n. TakesTurns n (map (λ s. s % (length stages + 2)) schedule) a.play b.play) x.chunk_is
-    (subst (λ n. TakesTurns a.chunk (map (λ s. s % n) schedule) a.play b.play) x.many t))
-    e p
+module _ (stages : List Stage) (input : List ℕ) (chunk : ℕ) (schedule : List ℕ) (a b : ChainState) (steps : List Step)
+    (told : List Reply) (state : State) where
+  pub run_turned : Begins stages input chunk a → TakesTurns a.chunk (map (λ s. s % length a.workers) schedule) a.play b.play → steps ≡ b.play.steps → play [] start steps ≡ Ends told state → IsRun chunk (map (λ s. s % (length stages + 2)) schedule) steps told
+  run_turned x t e p =
+      run_of chunk (map (λ s. s % (length stages + 2)) schedule) a.play b.play steps told state x.makes
+      (subst (λ n. TakesTurns n (map (λ s. s % (length stages + 2)) schedule) a.play b.play) x.chunk_is
+      (subst (λ n. TakesTurns a.chunk (map (λ s. s % n) schedule) a.play b.play) x.many t))
+      e p
 
 -- what flowed, of the stages and the input that it began with
 pub flows_begun : (stages : List Stage) (input : List ℕ) (chunk : ℕ) (a b : ChainState) (out : List ℕ) (steps : List Step) → Begins stages input chunk a → GoesOn a b → Flows (stages_of b.workers) (input_of b.workers) out steps → Flows stages input out steps
