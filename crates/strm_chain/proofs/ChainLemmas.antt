@@ -1,10 +1,14 @@
 -- What the calls of a chain promise, from what each turn does.
-use Rattle.std.proofs.Common.{◌≡◌, ◌≢◌, ℕ, ◌+◌, ◌-◌, ◌%◌, ◌<◌, ◌≤◌, Bool, true, false, List, length, take, drop, get_or, refl, sym, ap, ◌∙◌, subst, inl, inr, arith}
+use Rattle.std.proofs.Common.{◌≡◌, ◌≢◌, ℕ, ◌+◌, ◌-◌, ◌%◌, ◌<◌, ◌≤◌, Bool, true, false, List, [], ◌++◌, length, take, drop, refl, sym, ap, ◌∙◌, subst, inl, inr, arith}
 use Rattle.std.specs.Prelude.{Result, Ok, Err, IfOk, OnOk, map, None}
 use Rattle.std.proofs.Math.ListN.{get_or-map}
 use Rattle.std.proofs.lemmas.List.{ext_get_or, take-map, drop-map, length-map, length-append}
 use Rattle.strm_machine.specs.Plays.{play, Ends}
-use Rattle.strm_machine.specs.State.{State}
+use Rattle.strm_machine.specs.State.{State, empty, memory_in}
+use Rattle.strm_machine.specs.Moments.{received}
+use Rattle.strm_machine.specs.declared.limits.Limits.{Limits}
+use Rattle.strm_laws.specs.Conservation.{moments, last}
+use Rattle.strm_laws.specs.Laws.{AreSteps, Conserves}
 use Rattle.strm_machine.specs.declared.steps.Step.{Step}
 use Rattle.strm_machine.specs.declared.replies.Reply.{Reply}
 use Rattle.strm_chain.specs.declared.stages.Stage.{Stage}
@@ -15,8 +19,8 @@ use Rattle.strm_chain.specs.declared.workers.ChainTurn.{ChainTurn}
 use Rattle.strm_chain.specs.declared.workers.ChainTurn.TheVariants.{Moved, Idle}
 use Rattle.strm_chain.specs.Stages.{composed}
 use Rattle.strm_chain.specs.Playing.{start, Play, IsPlayed}
-use Rattle.strm_chain.specs.Flowing.{Flows}
-use Rattle.strm_chain.specs.Turning.{Makes, Moves, IsIdle, TakesTurns, IsRun}
+use Rattle.strm_chain.specs.Flowing.{got_on, Flows}
+use Rattle.strm_chain.specs.Turning.{Makes, Moves, IsIdle, TakesTurns, TakesSome, IsRun}
 use Rattle.strm_chain.specs.Turned.{Turned}
 use Rattle.strm_chain.specs.Making.{IsReady}
 use Rattle.strm_chain.specs.Keeping.{ChainState, new_worker, worker_at, sink_of, stages_of, input_of, IsJoined, IsJoinedUnless, IsChain, Begins, GoesOn}
@@ -25,6 +29,7 @@ use Rattle.strm_chain.proofs.JoinedLemmas.{OneChanged, either}
 use Rattle.strm_chain.proofs.TurnLemmas.{turn_joined}
 use Rattle.strm_chain.proofs.OutcomeLemmas.{turned_makes, turned_moves, turned_idle, turned_exactly, turned_stage, turned_source, turned_steps}
 use Rattle.strm_chain.proofs.TurningLemmas.{run_of}
+use Rattle.strm_chain.proofs.EndLemmas.{plain_of, counts_are, output_is, flows, all_composed}
 
 -- ## A turn
 
@@ -161,3 +166,63 @@ begins_ready stages input chunk p ws r = record {
 -- the sink is as it was where another guest took a turn
 pub sink_stays : (ws ws' : List Worker) (who : ℕ) → length ws' ≡ length ws → ((g : ℕ) → g ≢ who → worker_at ws' g ≡ worker_at ws g) → who < length ws - 1 → sink_of ws' ≡ sink_of ws
 sink_stays ws ws' who many others l = ap (λ n. worker_at ws' (n - 1)) many ∙ others (length ws - 1) (λ e. omega (arith, e, l))
+
+-- ## The end
+
+module _ (p : Play) (ws : List Worker) (some : (2 ≤ length ws) × (length ws ≤ 10)) (j : IsJoined p ws) (played : IsPlayed p)
+    (law : (tag : ℕ) (limits : Limits) (run : List Step) (k : ℕ) → AreSteps run → Conserves k (moments (empty tag limits) run) (last (empty tag limits) run))
+    (stream : ℕ) (sink : Worker) (out : List ℕ) (last_one : stream ≡ length ws - 2) (is : sink ≡ sink_of ws)
+    (e : out ≡ sink.made ++ take (received stream p.state - length sink.made) (memory_in p.state.guests (stream + 1))) where
+  out_is : out ≡ plain_of (got_on p.steps (length ws - 2))
+  out_is =
+      output_is p ws some.0 j out (counts_are p (length ws - 2) (played_run p played) law)
+      (subst (λ n. out ≡ (sink_of ws).made ++ take (received n p.state - length (sink_of ws).made) (memory_in p.state.guests (n + 1))) last_one
+      (subst (λ (s : Worker). out ≡ s.made ++ take (received stream p.state - length s.made) (memory_in p.state.guests (stream + 1))) is e))
+
+  pub end_flows : Flows (stages_of ws) (input_of ws) out p.steps
+  end_flows = flows p ws some.0 j out out_is
+
+  pub end_composed : sink.closed ≡ true → out ≡ composed (stages_of ws) (input_of ws)
+  end_composed closed = all_composed p ws some.0 j out out_is (ap (λ (s : Worker). s.closed) (sym is) ∙ closed)
+
+-- ## A chain that came to an end
+
+module _ {T E : Type 0} (steps : T → List Step) (replies : T → List Reply) (out : T → List ℕ) (ended : T → Bool)
+    (stages : List Stage) (input : List ℕ) (chunk : ℕ) (a b : ChainState) (r : Result T E) (begins : Begins stages input chunk a) where
+  module _ (schedule : List ℕ) where
+    pub run_ok : TakesTurns a.chunk (map (λ s. s % length a.workers) schedule) a.play b.play → IfOk r (λ e. steps e ≡ b.play.steps) → IfOk r (λ e. play [] start (steps e) ≡ Ends (replies e) b.play.state) → IfOk r (λ e. IsRun chunk (map (λ s. s % (length stages + 2)) schedule) (steps e) (replies e))
+    run_ok turns = by r
+      where
+        by : (x : Result T E) → IfOk x (λ e. steps e ≡ b.play.steps) → IfOk x (λ e. play [] start (steps e) ≡ Ends (replies e) b.play.state) → IfOk x (λ e. IsRun chunk (map (λ s. s % (length stages + 2)) schedule) (steps e) (replies e))
+        by (Ok e) s p = run_turned stages input chunk schedule a b (steps e) (replies e) b.play.state begins turns s p
+        by (Err e) s p = tt
+
+  -- by some schedule
+  pub some_run_ok : TakesSome a.chunk a.play b.play → IfOk r (λ e. steps e ≡ b.play.steps) → IfOk r (λ e. play [] start (steps e) ≡ Ends (replies e) b.play.state) → IfOk r (λ e. (whos : List ℕ) × IsRun chunk whos (steps e) (replies e))
+  some_run_ok turns = by r
+    where
+      by : (x : Result T E) → IfOk x (λ e. steps e ≡ b.play.steps) → IfOk x (λ e. play [] start (steps e) ≡ Ends (replies e) b.play.state) → IfOk x (λ e. (whos : List ℕ) × IsRun chunk whos (steps e) (replies e))
+      by (Ok e) s p = (turns.0, run_of chunk turns.0 a.play b.play (steps e) (replies e) b.play.state begins.makes (subst (λ n. TakesTurns n turns.0 a.play b.play) begins.chunk_is turns.1) s p)
+      by (Err e) s p = tt
+
+  pub flows_ok : GoesOn a b → IfOk r (λ e. Flows (stages_of b.workers) (input_of b.workers) (out e) (steps e)) → IfOk r (λ e. Flows stages input (out e) (steps e))
+  flows_ok goes = by r
+    where
+      by : (x : Result T E) → IfOk x (λ e. Flows (stages_of b.workers) (input_of b.workers) (out e) (steps e)) → IfOk x (λ e. Flows stages input (out e) (steps e))
+      by (Ok e) f = flows_begun stages input chunk a b (out e) (steps e) begins goes f
+      by (Err e) f = tt
+
+  pub composed_ok : GoesOn a b → IfOk r (λ e. ended e ≡ true → out e ≡ composed (stages_of b.workers) (input_of b.workers)) → IfOk r (λ e. ended e ≡ true → out e ≡ composed stages input)
+  composed_ok goes = by r
+    where
+      by : (x : Result T E) → IfOk x (λ e. ended e ≡ true → out e ≡ composed (stages_of b.workers) (input_of b.workers)) → IfOk x (λ e. ended e ≡ true → out e ≡ composed stages input)
+      by (Ok e) f = λ d. composed_begun stages input chunk a b (out e) begins goes (f d)
+      by (Err e) f = tt
+
+  -- and where the sink was told
+  pub all_ok : GoesOn a b → (sink_of b.workers).closed ≡ true → IfOk r (λ e. ended e ≡ (sink_of b.workers).closed) → IfOk r (λ e. ended e ≡ true → out e ≡ composed (stages_of b.workers) (input_of b.workers)) → IfOk r (λ e. out e ≡ composed stages input)
+  all_ok goes told = by r
+    where
+      by : (x : Result T E) → IfOk x (λ e. ended e ≡ (sink_of b.workers).closed) → IfOk x (λ e. ended e ≡ true → out e ≡ composed (stages_of b.workers) (input_of b.workers)) → IfOk x (λ e. out e ≡ composed stages input)
+      by (Ok e) d f = composed_begun stages input chunk a b (out e) begins goes (f (d ∙ told))
+      by (Err e) d f = tt

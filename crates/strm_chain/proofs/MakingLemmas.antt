@@ -248,3 +248,19 @@ ready_joined stages input p ws r counts = record {
     ends = λ e. absurd (let wrong : Nothing ≡ Ended = sym (ap (λ (x : Worker). x.doing) r.sink.1) ∙ e in cc);
   };
 }
+
+-- ## The steps of the making
+
+pub source_added : (input : List ℕ) (stages : List Stage) (guests : ℕ) (p q : Play) (pair : Pair) (ws : List Worker) → AreMade guests 0 p → MakesPair 0 p pair q → ws ≡ source_of input pair.write ∷ [] → AreJoined input 0 pair.read stages q ws × AreMade guests 1 q
+source_added input stages guests p q pair ws m x e =
+    (subst (AreJoined input 0 pair.read stages q) (sym e) (joined_first input stages q pair.write pair.read (x.new m.streams_are)), x.made guests m)
+
+module _ (input : List ℕ) (stages : List Stage) (guests i s read : ℕ) (stage : Stage) (p q : Play) (pair : Pair)
+    (ws new : List Worker) (l : i < length stages) (at : stage ≡ get_or stages i Copy) where
+  pub stage_added : AreJoined input i read stages p ws → AreMade guests (i + 1) p → s ≡ length ws → MakesPair s p pair q → new ≡ ws ++ record (new_worker stage) { read = Some read; write = Some pair.write } ∷ [] → AreJoined input (i + 1) pair.read stages q new × AreMade guests (i + 2) q
+  stage_added j m e x is =
+      let y : MakesPair (i + 1) p pair q = subst (λ k. MakesPair k p pair q) (e ∙ j.many) x in
+      let z : AreMade guests ((i + 1) + 1) q = y.made guests m in (
+        subst (AreJoined input (i + 1) pair.read stages q) (sym is) (joined_more input i read stages stage p q ws _ pair j y m.streams_are l at refl),
+        subst (λ k. AreMade guests k q) (omega arith) z,
+      )

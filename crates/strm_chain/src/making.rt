@@ -2,9 +2,11 @@
 //!
 //! Meaning: `Making.antt`. Ours.
 
-ghost use Rattle.std.specs.Prelude.{◌≡◌, ◌≤◌, ◌+◌, ◌++◌, ◌∷◌, [], ℕ, length, IfOk, OnOk, Some};
+ghost use Rattle.std.specs.Prelude.{◌≡◌, ◌≤◌, ◌<◌, ◌+◌, ◌++◌, ◌∷◌, [], ℕ, List, length, slice_index_or, IfOk, OnOk, Some};
 ghost use Rattle.strm_chain.specs.Keeping.{new_worker, IsJoined};
-ghost use Rattle.strm_chain.specs.Making.{AreMade, MakesPair, source_of, IsReady};
+ghost use Rattle.strm_chain.specs.declared.stages.Stage.{Stage};
+ghost use Rattle.strm_chain.specs.declared.stages.Stage.TheVariants.{Copy};
+ghost use Rattle.strm_chain.specs.Making.{AreMade, MakesPair, source_of, AreJoined, IsReady};
 
 use crate::lists::Bytes8;
 use crate::playing::Player;
@@ -32,23 +34,48 @@ pub(crate) fn make_chain(
     let mut player = Player::new(alloc);
     add_guests(&mut player, stages.len() as u32 + 2)?;
     let mut workers = Vec::new(alloc);
-    let mut pair = make_pair(&mut player, 0)?;
-    add_worker(&mut workers, source(input, pair.write))?;
-    for (i, stage) in stages.iter().enumerate() {
-        let read = pair.read;
-        pair = make_pair(&mut player, i as u32 + 1)?;
-        add_worker(
-            &mut workers,
-            new_worker(alloc, *stage, read, Some(pair.write)),
-        )?;
+    let mut read = add_source(&mut player, &mut workers, input)?;
+    for stage in stages {
+        read = add_stage(alloc, &mut player, &mut workers, *stage, read)?;
     }
-    add_worker(
-        &mut workers,
-        new_worker(alloc, Stage::Copy, pair.read, None),
-    )?;
+    add_worker(&mut workers, new_worker(alloc, Stage::Copy, read, None))?;
     player.played();
     conservation();
     Ok((player, workers))
+}
+
+// The source, and the stream that it writes on; the answer is the handle of the read end.
+fn add_source(
+    player: &mut Player,
+    workers: &mut Vec<Worker>,
+    input: Vec<u8>,
+) -> Result<u32, OutOfMemory>
+    requires { workers.old.items ≡ [] }
+    ensures { (stages : List Stage) (guests : ℕ) → AreMade guests 0 player.old → IfOk result (λ read.
+        AreJoined input.items 0 read stages player.new workers.new.items × AreMade guests 1 player.new) }
+{
+    let pair = make_pair(player, 0)?;
+    add_worker(workers, source(input, pair.write))?;
+    Ok(pair.read)
+}
+
+// A guest that does a stage: it reads under this handle, and a stream more is made, which it writes on; the
+// answer is the handle of the read end.
+fn add_stage(
+    alloc: Global,
+    player: &mut Player,
+    workers: &mut Vec<Worker>,
+    stage: Stage,
+    read: u32,
+) -> Result<u32, OutOfMemory>
+    requires { length workers.old.items ≤ 8 }
+    ensures { (input : List ℕ) (stages : List Stage) (guests i : ℕ) → i < length stages → stage ≡ slice_index_or stages i Copy
+        → AreJoined input i read stages player.old workers.old.items → AreMade guests (i + 1) player.old → IfOk result (λ next.
+        AreJoined input (i + 1) next stages player.new workers.new.items × AreMade guests (i + 2) player.new) }
+{
+    let pair = make_pair(player, workers.len() as u32)?;
+    add_worker(workers, new_worker(alloc, stage, read, Some(pair.write)))?;
+    Ok(pair.read)
 }
 
 // So many guests.

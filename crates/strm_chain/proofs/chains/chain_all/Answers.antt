@@ -1,0 +1,41 @@
+use Rattle.std.proofs.Common.{rules, ◌∙◌, arith, length}
+use Rattle.strm_chain.proofs.ChainLemmas.{goes_nowhere, goes_further, some_run_ok, flows_ok, all_ok}
+use Rattle.strm_chain.proofs.TurningLemmas.{some_none, some_join}
+use Rattle.strm_chain.proofs.chains.chain_all.Goals as goal
+
+pub loop-chain-init : goal.loop-chain-init
+loop-chain-init c = record {
+  from = (c.in_ok-chain.chain, c.in_ok-chain.ensures.begins, some_none c.in_ok-chain.chain.chunk c.in_ok-chain.chain.play, goes_nowhere c.in_ok-chain.chain);
+  runs = c.in_ok-chain.ensures.begins.runs;
+  none = search rules;
+}
+
+pub loop-chain-preserved : goal.loop-chain-preserved
+loop-chain-preserved c =
+    let i = c.loop-chain.invariant in
+    let e = c.in_ok-take_round.ensures in
+    record {
+      from = (
+        i.from.0,
+        i.from.1,
+        some_join i.from.0.chunk c.loop-chain.chain.chunk i.from.0.play c.loop-chain.chain.play c.take_round.new.chain.play i.from.3.chunk i.from.2 e.turns,
+        goes_further i.from.0 c.loop-chain.chain c.take_round.new.chain i.from.3 e.goes_on,
+      );
+      runs = e.runs;
+      none = i.none;
+    }
+
+pub loop-chain-smaller : goal.loop-chain-smaller
+loop-chain-smaller c = omega (arith, c.in_ok-take_round.ensures.more, c.in_ok-take_round.ensures.few)
+
+pub returns-clause-runs : goal.returns-clause-runs
+returns-clause-runs c =
+    let i = c.loop-chain.invariant in
+    some_run_ok (λ e. e.steps) (λ e. e.replies) (λ e. e.output) (λ e. e.ended) c.args.stages.now c.args.input.items c.args.chunk i.from.0 c.loop-chain.chain c.finish.result
+    i.from.1 i.from.2 c.finish.ensures.steps c.finish.ensures.replies
+
+pub returns-clause-flows : goal.returns-clause-flows
+returns-clause-flows c =
+    let i = c.loop-chain.invariant in
+    flows_ok (λ e. e.steps) (λ e. e.replies) (λ e. e.output) (λ e. e.ended) c.args.stages.now c.args.input.items c.args.chunk i.from.0 c.loop-chain.chain c.finish.result
+    i.from.1 i.from.3 c.finish.ensures.flows
