@@ -3,6 +3,7 @@ pub mod Goings
 pub mod Closed
 pub mod Fed
 pub mod ReadersFed
+pub mod Rounds
 pub mod HostTurns
 pub mod Effects
 pub mod TurnMoves
@@ -23,6 +24,7 @@ pub mod Lowered
 pub mod Unmoved
 pub mod Unread
 pub mod Took
+pub mod KeptItems
 pub mod Duties
 pub mod ToldTaken
 pub mod Forms

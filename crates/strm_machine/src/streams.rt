@@ -65,6 +65,9 @@ pub struct Consumer {
     /// Items that it took since its last answer of Completed or Cancelled; it stays at 2^32 - 1 once
     /// there.
     pub since: u32,
+    /// It reads from a host writer, and its last answer was Pending: it is polled again before the
+    /// writer is.
+    pub resting: bool,
 }
 
 /// A host end, by its number.
