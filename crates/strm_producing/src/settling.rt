@@ -11,11 +11,11 @@ ghost use Rattle.strm_world.specs.Producing.{produced_result};
 ghost use Rattle.strm_world.specs.Settling.{result_of, settled, with_some_received, let_go, moved_on};
 
 use strm_buffers::answers::Answer;
-use strm_codes::codes::StreamResult;
+use strm_codes::codes::{StreamResult, TransmitKind};
 use strm_codes::counts::ItemCount;
 use strm_machine::streams::{Operation, Owner, Side, Stream};
 use strm_turns::sides::{opposite, set_operation};
-use strm_turns::turns::{go_on, receive};
+use strm_turns::turns::go_on;
 
 /// So many items as a count.
 pub fn count_of(items: u32) -> ItemCount
@@ -63,12 +63,13 @@ fn settle(operation: Operation, outcome: Option<StreamResult>) -> Operation
     next
 }
 
-// So many items more were received, if any.
-fn receive_some(stream: &mut Stream, count: ItemCount)
+/// So many items more were received, if any.
+pub fn receive_some(stream: &mut Stream, count: u32)
     ensures { stream.new ≡ with_some_received stream.old count }
 {
-    if count.as_u32() > 0 {
-        receive(stream, count);
+    if count > 0 {
+        stream.passed = stream.passed || stream.kind == TransmitKind::Future;
+        stream.received = stream.received.saturating_add(u128::from(count));
     }
 }
 
@@ -100,7 +101,7 @@ pub fn move_on(
     ensures { stream.new ≡ moved_on side stream.old operation.now count outcome }
 {
     let gone = go_on(stream.payload, operation, count);
-    receive_some(stream, count);
+    receive_some(stream, count.as_u32());
     set_operation(stream, side, settle(gone, outcome));
     let_go(stream, opposite(side), outcome);
 }

@@ -31,8 +31,8 @@ pub enum TakeError {
     Broke,
 }
 
-// Why a poll with this record stops the step, if it does.
-fn judge(kind: TransmitKind, said: &ReaderSaid) -> Result<(), TakeError>
+/// Why a poll with this record stops the step, if it does.
+pub(crate) fn judge(kind: TransmitKind, said: &ReaderSaid) -> Result<(), TakeError>
     ensures { result ≡ judged kind said.now }
 {
     if said.answer == Answer::Failed {
@@ -47,9 +47,9 @@ fn judge(kind: TransmitKind, said: &ReaderSaid) -> Result<(), TakeError>
     Ok(())
 }
 
-// How many items were taken since the host reader was last ready, once it took so many more and
-// answered so.
-fn since_after(answer: Answer, since: u32, taken: u32) -> u32
+/// How many items were taken since the host reader was last ready, once it took so many more and
+/// answered so.
+pub(crate) fn since_after(answer: Answer, since: u32, taken: u32) -> u32
     ensures { result ≡ since_after answer since taken }
 {
     match answer {

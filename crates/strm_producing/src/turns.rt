@@ -35,8 +35,8 @@ pub enum TurnError {
     Broke,
 }
 
-// A writer that answered Dropped has no more to come.
-fn note_last(producer: &mut Producer, answer: Answer)
+/// A writer that answered Dropped has no more to come.
+pub(crate) fn note_last(producer: &mut Producer, answer: Answer)
     ensures { producer.new ≡
         record producer.old { over = producer.old.over || is_last answer } }
 {

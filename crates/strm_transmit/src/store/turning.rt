@@ -37,7 +37,7 @@ use strm_turns::owners::is_live;
 use strm_turns::sides::set_operation;
 
 // Why a turn of a host writer stops a call.
-fn stop_of(error: TurnError, number: u32) -> StoreError
+pub(crate) fn stop_of(error: TurnError, number: u32) -> StoreError
     ensures { result ≡ stops_by error number }
 {
     let end = HostEnd::Writer(number);
@@ -84,7 +84,7 @@ fn turn_of(
 }
 
 // Why a turn of a host reader stops a call.
-fn stop_taking(error: TakeError, number: u32, stream: u32) -> StoreError
+pub(crate) fn stop_taking(error: TakeError, number: u32, stream: u32) -> StoreError
     ensures { result ≡ stops_taking error number stream }
 {
     let end = HostEnd::Reader(number);
@@ -209,7 +209,7 @@ impl Store {
     }
 
     // Nothing is done any more but to say that the store is trapped.
-    fn trap(&mut self)
+    pub(crate) fn trap(&mut self)
         ensures { self.new ≡ record self.old { trapped = true } }
     {
         self.is_trapped = true;

@@ -50,6 +50,7 @@ invariant_of-self g c =
       guests = refl;
       streams = refl;
       producers = refl;
+      kept = refl;
       consumers = refl;
     })
     c.self.invariant
