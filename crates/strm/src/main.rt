@@ -1,4 +1,5 @@
-//! The program: runs the lines of its input, and writes their replies.
+//! The program: runs the lines of its input, and writes their replies; or runs steps that are drawn, and
+//! writes a summary.
 #![tactic(auto)]
 
 ghost use Rattle.std.specs.Prelude.{◌≡◌, ◌≢◌, ◌∷◌, [], ℕ, List, Option, IfOk, map, string_bytes};
@@ -121,7 +122,7 @@ fn main(rt: HostRuntime) -> io::Result<ExitCode> {
         Err(error) if error.kind() == io::ErrorKind::OutOfMemory => {
             return Ok(ExitCode::from(OUT_OF_MEMORY));
         }
-        // A word that is no UTF-8 is not `run`.
+        // A word that is no UTF-8 is none of the program's.
         Err(_) => {}
     }
     match served_among_ends(alloc, &words, rt.stdin(), rt.stdout()) {

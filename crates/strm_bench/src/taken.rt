@@ -6,12 +6,11 @@ ghost use Rattle.strm_buffers.specs.AllTells.{tells_of};
 ghost use Rattle.strm_transmit.specs.Hosted.{StillFits};
 ghost use Rattle.strm_world.specs.Does.{Fits};
 
-use crate::hosted::{BYTES, FED, FEED, LISTED, PIECE, done, touch};
+use crate::hosted::{BYTES, FED, FEED, LISTED, PIECE, touch};
 use std::alloc::Global;
 use strm_buffers::hosts::Hosts;
 use strm_codes::codes::TransmitIndex;
 use strm_machine::limits::Limits;
-use strm_machine::steps::Step;
 use strm_transmit::errors::StoreError;
 use strm_transmit::store::Store;
 
@@ -91,12 +90,8 @@ impl Writing {
         requires { Fits self.old.store (tells_of writer_tells reader_tells hosts.old) }
         ensures fits { Fits self.new.store (tells_of writer_tells reader_tells hosts.new) }
     {
-        let step = Step::Grant {
-            host: 0,
-            count: FEED,
-        };
         for round in 0..rounds {
-            done(&mut self.store, hosts, &step)?;
+            self.store.grant(hosts, 0, FEED)?;
             let address = round % (FED / FEED) * FEED;
             self.store
                 .stream_write(hosts, 0, BYTES, self.handle, address, FEED)?;

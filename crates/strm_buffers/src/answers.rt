@@ -28,6 +28,7 @@ pub type HostTurn = Turn<StreamResult>;
 
 impl Turn<StreamResult> {
     /// The answer of this turn; none where memory was wanting.
+    #[inline(always)]
     pub fn answer(self) -> Option<Answer>
         ensures answered { IfAnswered self (λ answer. result ≡ Some answer) }
         ensures no_memory { IfNoMemory self (result ≡ None) }
@@ -61,6 +62,7 @@ pub enum Answer {
 
 impl Answer {
     /// The turn of a poll that has this answer.
+    #[inline(always)]
     pub fn turn(self) -> HostTurn
         ensures { result ≡ turn_of self }
     {

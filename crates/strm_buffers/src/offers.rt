@@ -44,6 +44,7 @@ impl Model for Offer {
 impl Offer {
     /// Lends so many items of a memory from an address on. `since` is how many were taken since the
     /// end was last ready.
+    #[inline(always)]
     pub fn of_memory(
         memory: GuestMemory,
         payload: Payload,
@@ -82,6 +83,7 @@ impl Offer {
     }
 
     /// Gives the memory back, and the number taken.
+    #[inline(always)]
     pub fn into_memory(self) -> (GuestMemory, u32)
         requires { IsRegion self.source }
         ensures memory { IsMemoryOf self.source result.0 }
@@ -175,6 +177,7 @@ impl Offer {
     }
 
     /// How many items are left.
+    #[inline(always)]
     pub fn remaining(&self) -> u32
         ensures { result ≡ items_lent self.now.source - self.now.taken }
     {
@@ -185,6 +188,7 @@ impl Offer {
     }
 
     /// How many items were taken since the end was last ready, before this offer.
+    #[inline(always)]
     pub fn since(&self) -> u32
         ensures { result ≡ self.now.since }
     {
@@ -192,6 +196,7 @@ impl Offer {
     }
 
     /// How many items are taken.
+    #[inline(always)]
     pub fn taken(&self) -> u32
         ensures exact { result ≡ self.now.taken }
         ensures most { result ≤ items_lent self.now.source }
@@ -200,6 +205,7 @@ impl Offer {
     }
 
     /// Whether a bad item was asked for: it is the next one.
+    #[inline(always)]
     pub fn bad(&self) -> bool
         ensures exact { result ≡ self.now.bad }
         ensures next { IsTrue result → IsBadNext (scalars_of self.now.payload) self.now.source self.now.taken }

@@ -193,17 +193,18 @@ pub record Operated (state next : State) (s : ℕ) (side : Side) (code : ReturnC
   pub steady : Steady state next
   pub only : is_dropped code ≡ true → is_gone (end_of (opposite side) (stream_at state s)).owner ≡ true
 
-pub operate_after : (state next : State) (s : ℕ) (side : Side) (end : NamedEnd) (address count : ℕ) (code : ReturnCode) → IsPerformed state (OnEnd side end (Operate address count)) (replies.Code code) next → stream_named (named state end) ≡ s → s < length state.streams → Operated state next s side code
-unfolding performs
-operate_after state next s side end address count code p e l =
-    let n = stream_named (named state end) in
-    let mine = begun end.guest address (items_asked end.ty count) in
-    let t = turn side state.guests (stream_at state n) mine in
-    let w = written_is state next n t t.code code p.does in
-    record {
-      steady = steady_set state next n t.stream (ap (λ (x : State). x.streams) w.1) (subst (λ k. k < length state.streams) (sym e) l) (turn-owned side state.guests (stream_at state n) mine refl);
-      only = λ d. subst (λ k. is_gone (end_of (opposite side) (stream_at state k)).owner ≡ true) e (turn-only side state.guests (stream_at state n) mine code w.0 d);
-    }
+module _ (state next : State) (s : ℕ) (side : Side) (end : NamedEnd) (address count : ℕ) (code : ReturnCode) where
+  pub operate_after : IsPerformed state (OnEnd side end (Operate address count)) (replies.Code code) next → stream_named (named state end) ≡ s → s < length state.streams → Operated state next s side code
+  unfolding performs
+  operate_after p e l =
+      let n = stream_named (named state end) in
+      let mine = begun end.guest address (items_asked end.ty count) in
+      let t = turn side state.guests (stream_at state n) mine in
+      let w = written_is state next n t t.code code p.does in
+      record {
+        steady = steady_set state next n t.stream (ap (λ (x : State). x.streams) w.1) (subst (λ k. k < length state.streams) (sym e) l) (turn-owned side state.guests (stream_at state n) mine refl);
+        only = λ d. subst (λ k. is_gone (end_of (opposite side) (stream_at state k)).owner ≡ true) e (turn-only side state.guests (stream_at state n) mine code w.0 d);
+      }
 
 left_plain : (code : Option ReturnCode) (o : Option Operation) → IsPlain o → IsPlain (left_pending code o)
 left_plain None o p = p
@@ -220,19 +221,20 @@ pub record Told (state next : State) (s : ℕ) (side : Side) (code : Option Retu
   pub reports : report_on side (stream_at state s) ≡ code
   pub guests : next.guests ≡ state.guests
 
-pub event_after : (state next : State) (g handle s : ℕ) (side : Side) (code : Option ReturnCode) → IsPerformed state (Event g handle) (replies.Event code) next → stream_named (end_named state g handle) ≡ s → side_named (end_named state g handle) ≡ side → s < length state.streams → Told state next s side code
-unfolding performs
-event_after state next g handle s side code p e f l =
-    let does = subst (λ d. goes (replies.Event (report_on d (stream_at state s))) (told state s d) ≡ goes (replies.Event code) next) f
-        (subst (λ k. goes (replies.Event (report_on (side_named (end_named state g handle)) (stream_at state k))) (told state k (side_named (end_named state g handle))) ≡ goes (replies.Event code) next) e p.does) in
-    let reply : replies.Event (report_on side (stream_at state s)) ≡ replies.Event code = ap (λ (r : Reaction). r.reply) does in
-    let next_is : next ≡ told state s side = sym (ap (λ (r : Reaction). r.state) does) in
-    let is : next.streams ≡ set state.streams s (delivered side (stream_at state s)) = ap (λ (x : State). x.streams) next_is in
-    record {
-      steady = steady_set state next s (delivered side (stream_at state s)) is l (delivered-owned side (stream_at state s));
-      reports = cc;
-      guests = ap (λ (x : State). x.guests) next_is;
-    }
+module _ (state next : State) (g handle s : ℕ) (side : Side) (code : Option ReturnCode) where
+  pub event_after : IsPerformed state (Event g handle) (replies.Event code) next → stream_named (end_named state g handle) ≡ s → side_named (end_named state g handle) ≡ side → s < length state.streams → Told state next s side code
+  unfolding performs
+  event_after p e f l =
+      let does = subst (λ d. goes (replies.Event (report_on d (stream_at state s))) (told state s d) ≡ goes (replies.Event code) next) f
+      (subst (λ k. goes (replies.Event (report_on (side_named (end_named state g handle)) (stream_at state k))) (told state k (side_named (end_named state g handle))) ≡ goes (replies.Event code) next) e p.does) in
+      let reply : replies.Event (report_on side (stream_at state s)) ≡ replies.Event code = ap (λ (r : Reaction). r.reply) does in
+      let next_is : next ≡ told state s side = sym (ap (λ (r : Reaction). r.state) does) in
+      let is : next.streams ≡ set state.streams s (delivered side (stream_at state s)) = ap (λ (x : State). x.streams) next_is in
+      record {
+        steady = steady_set state next s (delivered side (stream_at state s)) is l (delivered-owned side (stream_at state s));
+        reports = cc;
+        guests = ap (λ (x : State). x.guests) next_is;
+      }
 
 -- one that answers none changes no stream
 undelivered : (side : Side) (stream : Stream) → report_on side stream ≡ None → delivered side stream ≡ stream

@@ -40,7 +40,7 @@ same_stages : (ws ws' : List Worker) (g : ℕ) → OneChanged g ws ws' → (work
 same_stages ws ws' g one e =
     let all : map stage_of ws' ≡ map stage_of ws =
     ext_get_or Copy (map stage_of ws') (map stage_of ws) (length-map ws' stage_of ∙ one.many ∙ sym (length-map ws stage_of))
-        (λ i l. get_or-map stage_of ws' i (new_worker Copy) ∙ either (λ w w'. stage_of w' ≡ stage_of w) g ws ws' i one (λ w. refl) e ∙ sym (get_or-map stage_of ws i (new_worker Copy))) in
+    (λ i l. get_or-map stage_of ws' i (new_worker Copy) ∙ either (λ w w'. stage_of w' ≡ stage_of w) g ws ws' i one (λ w. refl) e ∙ sym (get_or-map stage_of ws i (new_worker Copy))) in
     sym (part ws') ∙ ap (λ xs. take (length ws' - 2) (drop 1 xs)) all ∙ ap (λ n. take (n - 2) (drop 1 (map stage_of ws))) one.many ∙ part ws
   where
     part : (xs : List Worker) → take (length xs - 2) (drop 1 (map stage_of xs)) ≡ map stage_of (take (length xs - 2) (drop 1 xs))
@@ -134,12 +134,14 @@ pub makes_longer : (g chunk : ℕ) (p q : Play) → Makes g chunk p q → length
 makes_longer g chunk p q m = omega (arith, ap length m.steps_are, length-append p.steps m.made)
 
 -- a run by a schedule
-pub run_turned : (stages : List Stage) (input : List ℕ) (chunk : ℕ) (schedule : List ℕ) (a b : ChainState) (steps : List Step) (told : List Reply) (state : State) → Begins stages input chunk a → TakesTurns a.chunk (map (λ s. s % length a.workers) schedule) a.play b.play → steps ≡ b.play.steps → play [] start steps ≡ Ends told state → IsRun chunk (map (λ s. s % (length stages + 2)) schedule) steps told
-run_turned stages input chunk schedule a b steps told state x t e p =
-    run_of chunk (map (λ s. s % (length stages + 2)) schedule) a.play b.play steps told state x.makes
-    (subst (λ n. TakesTurns n (map (λ s. s % (length stages + 2)) schedule) a.play b.play) x.chunk_is
-    (subst (λ n. TakesTurns a.chunk (map (λ s. s % n) schedule) a.play b.play) x.many t))
-    e p
+module _ (stages : List Stage) (input : List ℕ) (chunk : ℕ) (schedule : List ℕ) (a b : ChainState) (steps : List Step)
+    (told : List Reply) (state : State) where
+  pub run_turned : Begins stages input chunk a → TakesTurns a.chunk (map (λ s. s % length a.workers) schedule) a.play b.play → steps ≡ b.play.steps → play [] start steps ≡ Ends told state → IsRun chunk (map (λ s. s % (length stages + 2)) schedule) steps told
+  run_turned x t e p =
+      run_of chunk (map (λ s. s % (length stages + 2)) schedule) a.play b.play steps told state x.makes
+      (subst (λ n. TakesTurns n (map (λ s. s % (length stages + 2)) schedule) a.play b.play) x.chunk_is
+      (subst (λ n. TakesTurns a.chunk (map (λ s. s % n) schedule) a.play b.play) x.many t))
+      e p
 
 -- what flowed, of the stages and the input that it began with
 pub flows_begun : (stages : List Stage) (input : List ℕ) (chunk : ℕ) (a b : ChainState) (out : List ℕ) (steps : List Step) → Begins stages input chunk a → GoesOn a b → Flows (stages_of b.workers) (input_of b.workers) out steps → Flows stages input out steps
@@ -187,12 +189,13 @@ module _ (p : Play) (ws : List Worker) (some : (2 ≤ length ws) × (length ws �
 
 module _ {T E : Type 0} (steps : T → List Step) (replies : T → List Reply) (out : T → List ℕ) (ended : T → Bool)
     (stages : List Stage) (input : List ℕ) (chunk : ℕ) (a b : ChainState) (r : Result T E) (begins : Begins stages input chunk a) where
-  pub run_ok : (schedule : List ℕ) → TakesTurns a.chunk (map (λ s. s % length a.workers) schedule) a.play b.play → IfOk r (λ e. steps e ≡ b.play.steps) → IfOk r (λ e. play [] start (steps e) ≡ Ends (replies e) b.play.state) → IfOk r (λ e. IsRun chunk (map (λ s. s % (length stages + 2)) schedule) (steps e) (replies e))
-  run_ok schedule turns = by r
-    where
-      by : (x : Result T E) → IfOk x (λ e. steps e ≡ b.play.steps) → IfOk x (λ e. play [] start (steps e) ≡ Ends (replies e) b.play.state) → IfOk x (λ e. IsRun chunk (map (λ s. s % (length stages + 2)) schedule) (steps e) (replies e))
-      by (Ok e) s p = run_turned stages input chunk schedule a b (steps e) (replies e) b.play.state begins turns s p
-      by (Err e) s p = tt
+  module _ (schedule : List ℕ) where
+    pub run_ok : TakesTurns a.chunk (map (λ s. s % length a.workers) schedule) a.play b.play → IfOk r (λ e. steps e ≡ b.play.steps) → IfOk r (λ e. play [] start (steps e) ≡ Ends (replies e) b.play.state) → IfOk r (λ e. IsRun chunk (map (λ s. s % (length stages + 2)) schedule) (steps e) (replies e))
+    run_ok turns = by r
+      where
+        by : (x : Result T E) → IfOk x (λ e. steps e ≡ b.play.steps) → IfOk x (λ e. play [] start (steps e) ≡ Ends (replies e) b.play.state) → IfOk x (λ e. IsRun chunk (map (λ s. s % (length stages + 2)) schedule) (steps e) (replies e))
+        by (Ok e) s p = run_turned stages input chunk schedule a b (steps e) (replies e) b.play.state begins turns s p
+        by (Err e) s p = tt
 
   -- by some schedule
   pub some_run_ok : TakesSome a.chunk a.play b.play → IfOk r (λ e. steps e ≡ b.play.steps) → IfOk r (λ e. play [] start (steps e) ≡ Ends (replies e) b.play.state) → IfOk r (λ e. (whos : List ℕ) × IsRun chunk whos (steps e) (replies e))

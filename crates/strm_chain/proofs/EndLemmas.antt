@@ -110,7 +110,7 @@ module _ (p : Play) (ws : List Worker) (some : 2 ≤ length ws) (j : IsJoined p 
       let r = (j.joins i here).reads in
       let h = (j.joins (i + 1) next).writes in
       let x = passes w.work.stage (i + 1) 0 64 w.sent w.work w.made (memory_in p.state.guests (i + 1)) (stream_at p.state i).reader.operation (stream_at p.state (i + 1)).writer.operation
-          (got_on p.steps i) (got_on p.steps (i + 1)) r.takes h.sends in
+      (got_on p.steps i) (got_on p.steps (i + 1)) r.takes h.sends in
       let before : x.bytes ≡ bytes i = sym (plain-items x.bytes) ∙ ap plain_of (sym x.before) in
       front_of x.count (of (stage_at (stages_of ws) i) (bytes i)) (bytes (i + 1))
       (ap plain_of x.behind ∙ plain-items _ ∙ ap (λ s. take x.count (of s x.bytes)) (sym (stage_behind ws i l)) ∙ ap (λ b. take x.count (of (stage_at (stages_of ws) i) b)) before)
@@ -204,8 +204,8 @@ module _ (p : Play) (ws : List Worker) (some : 2 ≤ length ws) (j : IsJoined p 
       let write_idle = h.idle (λ f. let wrong : Writing ≡ Ended = sym f ∙ ended in cc) in
       let memory = memory_in p.state.guests (s + 1) in
       let x = passes_all w.work.stage (s + 1) 0 64 w.sent w.work w.made memory [] (got_on p.steps s) (got_on p.steps (s + 1))
-          (subst (λ o. Takes (s + 1) 0 (begun w.work.stage) w.work w.made memory o (got_on p.steps s)) read_idle r.takes)
-          (subst (λ o. Sends (s + 1) 64 w.sent w.made memory o (got_on p.steps (s + 1))) write_idle h.sends) (h.over ended).1 in
+      (subst (λ o. Takes (s + 1) 0 (begun w.work.stage) w.work w.made memory o (got_on p.steps s)) read_idle r.takes)
+      (subst (λ o. Sends (s + 1) 64 w.sent w.made memory o (got_on p.steps (s + 1))) write_idle h.sends) (h.over ended).1 in
       let before = composed (take s (stages_of ws)) (input_of ws) in
       let taken : x.0 ≡ before = sym (plain-items x.0) ∙ ap plain_of (sym x.1 ∙ made_of s here e) ∙ plain-items before in
       subst (λ k. got_on p.steps k ≡ as_items (composed (take k (stages_of ws)) (input_of ws))) (let e1 : s + 1 ≡ suc s = omega arith in e1)

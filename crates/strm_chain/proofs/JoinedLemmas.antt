@@ -139,20 +139,21 @@ module _ (p q : Play) (ws : List Worker) (step : Step) (reply : Reply) (a : Adds
       }
 
   -- a poke of guest g from byte 64 of its memory on, where it has no write that waits
-  pub poke_passes : (g : ℕ) → q.state.streams ≡ p.state.streams → ((k : ℕ) (side : Side) → is_named k side m ≡ false) → ((r : Region) → (r.place.guest ≡ g → 0 < r.size → r.place.address + r.size ≤ 64) → LiesApart r (put_by (act_of step) reply)) → (stream_at p.state g).writer.operation ≡ None → Passes (length ws) p q Each Each
-  poke_passes g same none put idle =
-      let low : (t : ℕ) → ReceivesLow m t = λ t. low_unless p ws m t refl j (seen.change t Reading) (none t Reading) in
-      let owner : (k : ℕ) (side : Side) → owner_in q.state.streams k side ≡ owner_in p.state.streams k side = λ k side. ap (λ xs. owner_in xs k side) same in
-      record {
-        frame = frame_stays (length ws) p q step reply a seen (ap length same) (frame_of p ws j);
-        writes = λ k w l _ h. elim (cases_eq k g) [
-          | inl e ↦ writes_idle m k w _ _ (seen.change k Writing) (none k Writing) (ap (λ n. (stream_at p.state n).writer.operation) e ∙ idle) (owner k Writing) (seen.got k) h
-          | inr ne ↦ writes_stay m k w _ _ (j.joins k l).typed (seen.change k Writing) (none k Writing) seen.aside (there k (omega (arith, l))) (λ c. put _ (λ e some. absurd (ne e))) low
-              (owner k Writing) (seen.got k) h
-        ];
-        reads = λ k w l _ h. reads_stay m k w _ _ (j.joins k l).typed (seen.change k Reading) (none k Reading) seen.aside (there (k + 1) (omega (arith, l))) (λ c few. put _ (λ e some. omega (arith, few))) low
-            (owner k Reading) (λ x. ap is_gone (owner k Writing) ∙ x) (λ x. subst (λ xs. IsPlain (get_or xs k no_stream).reader.operation) (sym same) x) (seen.got k) h;
-      }
+  module _ (g : ℕ) (same : q.state.streams ≡ p.state.streams) where
+    pub poke_passes : ((k : ℕ) (side : Side) → is_named k side m ≡ false) → ((r : Region) → (r.place.guest ≡ g → 0 < r.size → r.place.address + r.size ≤ 64) → LiesApart r (put_by (act_of step) reply)) → (stream_at p.state g).writer.operation ≡ None → Passes (length ws) p q Each Each
+    poke_passes none put idle =
+        let low : (t : ℕ) → ReceivesLow m t = λ t. low_unless p ws m t refl j (seen.change t Reading) (none t Reading) in
+        let owner : (k : ℕ) (side : Side) → owner_in q.state.streams k side ≡ owner_in p.state.streams k side = λ k side. ap (λ xs. owner_in xs k side) same in
+        record {
+          frame = frame_stays (length ws) p q step reply a seen (ap length same) (frame_of p ws j);
+          writes = λ k w l _ h. elim (cases_eq k g) [
+            | inl e ↦ writes_idle m k w _ _ (seen.change k Writing) (none k Writing) (ap (λ n. (stream_at p.state n).writer.operation) e ∙ idle) (owner k Writing) (seen.got k) h
+            | inr ne ↦ writes_stay m k w _ _ (j.joins k l).typed (seen.change k Writing) (none k Writing) seen.aside (there k (omega (arith, l))) (λ c. put _ (λ e some. absurd (ne e))) low
+                (owner k Writing) (seen.got k) h
+          ];
+          reads = λ k w l _ h. reads_stay m k w _ _ (j.joins k l).typed (seen.change k Reading) (none k Reading) seen.aside (there (k + 1) (omega (arith, l))) (λ c few. put _ (λ e some. omega (arith, few))) low
+              (owner k Reading) (λ x. ap is_gone (owner k Writing) ∙ x) (λ x. subst (λ xs. IsPlain (get_or xs k no_stream).reader.operation) (sym same) x) (seen.got k) h;
+        }
 
 -- of fewer streams
 pub fewer : (count : ℕ) (p q : Play) (W R V S : ℕ → Type 0) → Passes count p q W R → ((s : ℕ) → V s → W s) → ((s : ℕ) → S s → R s) → Passes count p q V S

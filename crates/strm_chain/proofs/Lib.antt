@@ -1,3 +1,5 @@
+pub mod AskingLemmas
+pub mod ServingLemmas
 pub mod StageLemmas
 pub mod PlayingLemmas
 pub mod TurningLemmas

@@ -62,26 +62,27 @@ front_goes_on sent m n made received got e f =
     ∙ ap (λ k. as_items (take k made)) (omega arith)
 
 -- the write waits on, with n more items moved
-pub sends_on : (g at sent n : ℕ) (made memory : List ℕ) (o p : Operation) (received got : List (Option (List ℤ))) → Sends g at sent made memory (Some o) received → p.guest ≡ o.guest → p.address ≡ o.address + 1 * n → p.moved ≡ o.moved + n → p.left + n ≡ o.left → got ≡ decoded (U8 ∷ []) (drop o.address memory) n → Sends g at sent made memory (Some p) (received ++ got)
-sends_on g at sent n made memory o p received got h guest address moved rest is =
-    let f = h.offers in
-    let l : n ≤ o.left = omega (arith, rest) in
-    record {
-      front = front_goes_on sent o.moved n made received got h.front (is ∙ offers_next g at sent n made memory o f l)
-          ∙ ap (λ k. as_items (take (sent + k) made)) (sym moved);
-      within = omega (arith, moved, l, f.within, f.begun.whole);
-      offers = record {
-        count = f.count;
-        begun = record {
-          guest = guest ∙ f.begun.guest;
-          place = omega (arith, address, moved, f.begun.place);
-          whole = omega (arith, moved, rest, f.begun.whole);
+module _ (g at sent n : ℕ) (made memory : List ℕ) (o p : Operation) (received got : List (Option (List ℤ))) where
+  pub sends_on : Sends g at sent made memory (Some o) received → p.guest ≡ o.guest → p.address ≡ o.address + 1 * n → p.moved ≡ o.moved + n → p.left + n ≡ o.left → got ≡ decoded (U8 ∷ []) (drop o.address memory) n → Sends g at sent made memory (Some p) (received ++ got)
+  sends_on h guest address moved rest is =
+      let f = h.offers in
+      let l : n ≤ o.left = omega (arith, rest) in
+      record {
+        front = front_goes_on sent o.moved n made received got h.front (is ∙ offers_next g at sent n made memory o f l)
+            ∙ ap (λ k. as_items (take (sent + k) made)) (sym moved);
+        within = omega (arith, moved, l, f.within, f.begun.whole);
+        offers = record {
+          count = f.count;
+          begun = record {
+            guest = guest ∙ f.begun.guest;
+            place = omega (arith, address, moved, f.begun.place);
+            whole = omega (arith, moved, rest, f.begun.whole);
+          };
+          within = f.within;
+          inside = f.inside;
+          lies = f.lies;
         };
-        within = f.within;
-        inside = f.inside;
-        lies = f.lies;
-      };
-    }
+      }
 
 -- the write ends with its report, whose count is what it has moved: the guest has handed over so many more
 pub sends_told : (g at sent k : ℕ) (made memory : List ℕ) (o : Operation) (received : List (Option (List ℤ))) → Sends g at sent made memory (Some o) received → k ≡ o.moved → Sends g at (sent + k) made memory None received
@@ -92,60 +93,65 @@ sends_told g at sent k made memory o received h e = record {
 }
 
 -- a write is begun on bytes that were put where it writes from, and has moved n of them
-pub sends_begun : (g at sent count n : ℕ) (made memory : List ℕ) (p : Operation) (received got : List (Option (List ℤ))) → Sends g at sent made memory None received → bytes_at memory at count ≡ take count (drop sent made) → sent + count ≤ length made → at + count ≤ length memory → p.guest ≡ g → p.address ≡ at + 1 * n → p.moved ≡ n → n + p.left ≡ count → got ≡ decoded (U8 ∷ []) (drop at memory) n → Sends g at sent made memory (Some p) (received ++ got)
-sends_begun g at sent count n made memory p received got h lies within inside guest address moved rest is =
-    let zero_front : received ≡ as_items (take (sent + 0) made) = h.front in
-    let next = decoded-bytes (drop at memory) n (rw (length-drop at memory) (omega (arith, rest, inside))) ∙ ap as_items (parts_agree count 0 n (drop at memory) (drop sent made) (omega (arith, rest)) lies) in
-    record {
-      front = front_goes_on sent 0 n made received got zero_front (is ∙ next ∙ ap (λ k. as_items (take n (drop k made))) (omega arith))
-          ∙ ap (λ k. as_items (take (sent + k) made)) (omega (arith, moved));
-      within = omega (arith, moved, rest, within);
-      offers = record {
-        count = count;
-        begun = record { guest = guest; place = omega (arith, address, moved); whole = omega (arith, moved, rest) };
-        within = within;
-        inside = inside;
-        lies = lies;
-      };
-    }
+module _ (g at sent count n : ℕ) (made memory : List ℕ) (p : Operation) (received got : List (Option (List ℤ)))
+    (h : Sends g at sent made memory None received) (lies : bytes_at memory at count ≡ take count (drop sent made)) where
+  pub sends_begun : sent + count ≤ length made → at + count ≤ length memory → p.guest ≡ g → p.address ≡ at + 1 * n → p.moved ≡ n → n + p.left ≡ count → got ≡ decoded (U8 ∷ []) (drop at memory) n → Sends g at sent made memory (Some p) (received ++ got)
+  sends_begun within inside guest address moved rest is =
+      let zero_front : received ≡ as_items (take (sent + 0) made) = h.front in
+      let next = decoded-bytes (drop at memory) n (rw (length-drop at memory) (omega (arith, rest, inside))) ∙ ap as_items (parts_agree count 0 n (drop at memory) (drop sent made) (omega (arith, rest)) lies) in
+      record {
+        front = front_goes_on sent 0 n made received got zero_front (is ∙ next ∙ ap (λ k. as_items (take n (drop k made))) (omega arith))
+            ∙ ap (λ k. as_items (take (sent + k) made)) (omega (arith, moved));
+        within = omega (arith, moved, rest, within);
+        offers = record {
+          count = count;
+          begun = record { guest = guest; place = omega (arith, address, moved); whole = omega (arith, moved, rest) };
+          within = within;
+          inside = inside;
+          lies = lies;
+        };
+      }
 
 -- a write is begun and has its report at once, of k items
-pub sends_served : (g at sent count k : ℕ) (made memory : List ℕ) (received got : List (Option (List ℤ))) → Sends g at sent made memory None received → bytes_at memory at count ≡ take count (drop sent made) → sent + count ≤ length made → at + count ≤ length memory → k ≤ count → got ≡ decoded (U8 ∷ []) (drop at memory) k → Sends g at (sent + k) made memory None (received ++ got)
-sends_served g at sent count k made memory received got h lies within inside l is =
-    let next = decoded-bytes (drop at memory) k (rw (length-drop at memory) (omega (arith, l, inside))) ∙ ap as_items (parts_agree count 0 k (drop at memory) (drop sent made) (omega (arith, l)) lies) in
-    record {
-      front = front_goes_on sent 0 k made received got h.front (is ∙ next ∙ ap (λ n. as_items (take k (drop n made))) (omega arith))
-          ∙ ap (λ n. as_items (take n made)) (omega arith);
-      within = omega (arith, l, within);
-      offers = tt;
-    }
+module _ (g at sent count k : ℕ) (made memory : List ℕ) (received got : List (Option (List ℤ))) where
+  pub sends_served : Sends g at sent made memory None received → bytes_at memory at count ≡ take count (drop sent made) → sent + count ≤ length made → at + count ≤ length memory → k ≤ count → got ≡ decoded (U8 ∷ []) (drop at memory) k → Sends g at (sent + k) made memory None (received ++ got)
+  sends_served h lies within inside l is =
+      let next = decoded-bytes (drop at memory) k (rw (length-drop at memory) (omega (arith, l, inside))) ∙ ap as_items (parts_agree count 0 k (drop at memory) (drop sent made) (omega (arith, l)) lies) in
+      record {
+        front = front_goes_on sent 0 k made received got h.front (is ∙ next ∙ ap (λ n. as_items (take k (drop n made))) (omega arith))
+            ∙ ap (λ n. as_items (take n made)) (omega arith);
+        within = omega (arith, l, within);
+        offers = tt;
+      }
 
 -- ## A read takes items
 
 -- what a read has moved lies where it reads to, and the items that it moves next lie behind it
-pub holds_on : (g at n : ℕ) (memory after : List ℕ) (o p : Operation) (rest got : List (Option (List ℤ))) → Holds g at memory o rest → p.guest ≡ o.guest → p.address ≡ o.address + 1 * n → p.moved ≡ o.moved + n → p.left + n ≡ o.left → bytes_at after at o.moved ≡ bytes_at memory at o.moved → length after ≡ length memory → got ≡ decoded (U8 ∷ []) (drop o.address after) n → Holds g at after p (rest ++ got)
-holds_on g at n memory after o p rest got h guest address moved left stays size is =
-    let m = o.moved in
-    let inside : o.address + n ≤ length after = omega (arith, size, left, h.inside, h.begun.place, h.begun.whole) in
-    let next : got ≡ as_items (take n (drop m (drop at after))) =
-    is ∙ decoded-bytes (drop o.address after) n (rw (length-drop o.address after) (omega (arith, inside)))
-    ∙ ap (λ a. as_items (take n (drop a after))) h.begun.place ∙ ap (λ xs. as_items (take n xs)) (sym (drop-drop m at after)) in
-    record {
-      count = h.count;
-      begun = record {
-        guest = guest ∙ h.begun.guest;
-        place = omega (arith, address, moved, h.begun.place);
-        whole = omega (arith, moved, left, h.begun.whole);
-      };
-      inside = omega (arith, size, h.inside);
-      few = h.few;
-      lies =
-          ap (λ r. r ++ got) h.lies ∙ ap (λ xs. as_items xs ++ got) (sym stays)
-          ∙ ap (λ r. as_items (bytes_at after at m) ++ r) next
-          ∙ sym (as_items-append (bytes_at after at m) (take n (drop m (drop at after))))
-          ∙ ap as_items (sym (take-plus m n (drop at after)))
-          ∙ ap (λ k. as_items (bytes_at after at k)) (sym moved);
-    }
+module _ (g at n : ℕ) (memory after : List ℕ) (o p : Operation) (rest got : List (Option (List ℤ)))
+    (h : Holds g at memory o rest) where
+  pub holds_on : p.guest ≡ o.guest → p.address ≡ o.address + 1 * n → p.moved ≡ o.moved + n → p.left + n ≡ o.left → bytes_at after at o.moved ≡ bytes_at memory at o.moved → length after ≡ length memory → got ≡ decoded (U8 ∷ []) (drop o.address after) n → Holds g at after p (rest ++ got)
+  holds_on guest address moved left stays size is =
+      let m = o.moved in
+      let inside : o.address + n ≤ length after = omega (arith, size, left, h.inside, h.begun.place, h.begun.whole) in
+      let next : got ≡ as_items (take n (drop m (drop at after))) =
+      is ∙ decoded-bytes (drop o.address after) n (rw (length-drop o.address after) (omega (arith, inside)))
+      ∙ ap (λ a. as_items (take n (drop a after))) h.begun.place ∙ ap (λ xs. as_items (take n xs)) (sym (drop-drop m at after)) in
+      record {
+        count = h.count;
+        begun = record {
+          guest = guest ∙ h.begun.guest;
+          place = omega (arith, address, moved, h.begun.place);
+          whole = omega (arith, moved, left, h.begun.whole);
+        };
+        inside = omega (arith, size, h.inside);
+        few = h.few;
+        lies =
+            ap (λ r. r ++ got) h.lies ∙ ap (λ xs. as_items xs ++ got) (sym stays)
+            ∙ ap (λ r. as_items (bytes_at after at m) ++ r) next
+            ∙ sym (as_items-append (bytes_at after at m) (take n (drop m (drop at after))))
+            ∙ ap as_items (sym (take-plus m n (drop at after)))
+            ∙ ap (λ k. as_items (bytes_at after at k)) (sym moved);
+      }
 
 -- a read is begun, and has moved n items
 pub holds_begun : (g at count n : ℕ) (after : List ℕ) (p : Operation) (got : List (Option (List ℤ))) → p.guest ≡ g → p.address ≡ at + 1 * n → p.moved ≡ n → n + p.left ≡ count → at + count ≤ length after → count ≤ 64 → got ≡ decoded (U8 ∷ []) (drop at after) n → Holds g at after p got

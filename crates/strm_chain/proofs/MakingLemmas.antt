@@ -127,69 +127,72 @@ joined_first input stages q write read new = record {
 }
 
 -- a guest of a stage
-pub joined_more : (input : List ℕ) (i read : ℕ) (stages : List Stage) (stage : Stage) (p q : Play) (ws : List Worker) (w : Worker) (pair : Pair) → AreJoined input i read stages p ws → MakesPair (i + 1) p pair q → length p.state.streams ≡ i + 1 → i < length stages → stage ≡ get_or stages i Copy → w ≡ record (new_worker stage) { read = Some read; write = Some pair.write } → AreJoined input (i + 1) pair.read stages q (ws ++ w ∷ [])
-joined_more input i read stages stage p q ws w pair j m count l at is =
-    let all = ws ++ w ∷ [] in
-    let carry : (s write read : ℕ) → s < i + 1 → IsNew p s write read → IsNew q s write read = λ s write read b. new_on p q s write read (m.others s (omega (arith, b, count))) in
-    record {
-      many = length_push ws w ∙ ap (λ n. n + 1) j.many;
-      stages_are =
-          ap (map stage_of) (behind_push ws w (omega (arith, j.many))) ∙ map_push stage_of (drop 1 ws) w
-          ∙ ap (λ xs. xs ++ stage_of w ∷ []) j.stages_are ∙ ap (λ x. take i stages ++ x ∷ []) (ap stage_of is ∙ at) ∙ sym (take_more stages i Copy l);
-      source = (j.source.0, pushed_same ws w 0 (omega (arith, j.many)) ∙ j.source.1);
-      writes = λ s b. elim (cases_lt s (i + 1)) [
-        | inl c ↦ (let h = j.writes s c in
-            subst (λ v. HasWrite s v q) (sym (pushed_same ws w s (omega (arith, c, j.many))))
-            (record { write = h.write; read = h.read; has = h.has; new = carry s h.write h.read c h.new; rests = h.rests }))
-        | inr c ↦ (let e : i + 1 ≡ s = omega (arith, b, c) in
-            subst (λ k. HasWrite k (worker_at all k) q) e
-            (subst (λ v. HasWrite (i + 1) v q) (sym (pushed_last ws w (i + 1) (sym j.many)))
-            (subst (λ v. HasWrite (i + 1) v q) (sym is) (record { write = pair.write; read = pair.read; has = refl; new = m.new count; rests = (refl, refl) }))))
-      ];
-      reads = λ s b. elim (cases_lt s i) [
-        | inl c ↦ (let h = j.reads s c in
-            subst (λ v. HasRead s v q) (sym (pushed_same ws w (s + 1) (omega (arith, c, j.many))))
-            (record { write = h.write; read = h.read; has = h.has; new = carry s h.write h.read (omega (arith, c)) h.new; fresh = h.fresh }))
-        | inr c ↦ (let e : i ≡ s = omega (arith, b, c) in
-            subst (λ k. HasRead k (worker_at all (k + 1)) q) e
-            (subst (λ v. HasRead i v q) (sym (pushed_last ws w (i + 1) (sym j.many)))
-            (subst (λ v. HasRead i v q) (sym is) (record { write = j.next.0; read = read; has = refl; new = carry i j.next.0 read (omega arith) j.next.1; fresh = refl }))))
-      ];
-      next = (pair.write, m.new count);
-    }
+module _ (input : List ℕ) (i read : ℕ) (stages : List Stage) (stage : Stage) (p q : Play) (ws : List Worker)
+    (w : Worker) (pair : Pair) (j : AreJoined input i read stages p ws) where
+  pub joined_more : MakesPair (i + 1) p pair q → length p.state.streams ≡ i + 1 → i < length stages → stage ≡ get_or stages i Copy → w ≡ record (new_worker stage) { read = Some read; write = Some pair.write } → AreJoined input (i + 1) pair.read stages q (ws ++ w ∷ [])
+  joined_more m count l at is =
+      let all = ws ++ w ∷ [] in
+      let carry : (s write read : ℕ) → s < i + 1 → IsNew p s write read → IsNew q s write read = λ s write read b. new_on p q s write read (m.others s (omega (arith, b, count))) in
+      record {
+        many = length_push ws w ∙ ap (λ n. n + 1) j.many;
+        stages_are =
+            ap (map stage_of) (behind_push ws w (omega (arith, j.many))) ∙ map_push stage_of (drop 1 ws) w
+            ∙ ap (λ xs. xs ++ stage_of w ∷ []) j.stages_are ∙ ap (λ x. take i stages ++ x ∷ []) (ap stage_of is ∙ at) ∙ sym (take_more stages i Copy l);
+        source = (j.source.0, pushed_same ws w 0 (omega (arith, j.many)) ∙ j.source.1);
+        writes = λ s b. elim (cases_lt s (i + 1)) [
+          | inl c ↦ (let h = j.writes s c in
+              subst (λ v. HasWrite s v q) (sym (pushed_same ws w s (omega (arith, c, j.many))))
+              (record { write = h.write; read = h.read; has = h.has; new = carry s h.write h.read c h.new; rests = h.rests }))
+          | inr c ↦ (let e : i + 1 ≡ s = omega (arith, b, c) in
+              subst (λ k. HasWrite k (worker_at all k) q) e
+              (subst (λ v. HasWrite (i + 1) v q) (sym (pushed_last ws w (i + 1) (sym j.many)))
+              (subst (λ v. HasWrite (i + 1) v q) (sym is) (record { write = pair.write; read = pair.read; has = refl; new = m.new count; rests = (refl, refl) }))))
+        ];
+        reads = λ s b. elim (cases_lt s i) [
+          | inl c ↦ (let h = j.reads s c in
+              subst (λ v. HasRead s v q) (sym (pushed_same ws w (s + 1) (omega (arith, c, j.many))))
+              (record { write = h.write; read = h.read; has = h.has; new = carry s h.write h.read (omega (arith, c)) h.new; fresh = h.fresh }))
+          | inr c ↦ (let e : i ≡ s = omega (arith, b, c) in
+              subst (λ k. HasRead k (worker_at all (k + 1)) q) e
+              (subst (λ v. HasRead i v q) (sym (pushed_last ws w (i + 1) (sym j.many)))
+              (subst (λ v. HasRead i v q) (sym is) (record { write = j.next.0; read = read; has = refl; new = carry i j.next.0 read (omega arith) j.next.1; fresh = refl }))))
+        ];
+        next = (pair.write, m.new count);
+      }
 
 -- the sink
-pub joined_last : (input : List ℕ) (read : ℕ) (stages : List Stage) (p : Play) (ws : List Worker) (w : Worker) → AreJoined input (length stages) read stages p ws → AreMade (length stages + 2) (length stages + 1) p → w ≡ record (new_worker Copy) { read = Some read } → IsReady stages input p (ws ++ w ∷ [])
-joined_last input read stages p ws w j m is =
-    let all = ws ++ w ∷ [] in
-    let n = length stages in
-    let many : length all ≡ n + 2 = length_push ws w ∙ ap (λ k. k + 1) j.many ∙ omega arith in
-    let behind : length (drop 1 ws) ≡ n = sym (length-map (drop 1 ws) stage_of) ∙ ap length (j.stages_are ∙ take_all n stages (omega arith)) in
-    record {
-      many = many;
-      stages_are =
-          ap (λ k. map stage_of (take k (drop 1 all))) (let e : length all - 2 ≡ n = omega (arith, many) in e)
-          ∙ ap (λ xs. map stage_of (take n xs)) (behind_push ws w (omega (arith, j.many)))
-          ∙ ap (map stage_of) (front_push n (drop 1 ws) w behind)
-          ∙ j.stages_are ∙ take_all n stages (omega arith);
-      made = subst (λ k. AreMade k (n + 1) p) (sym many) m;
-      source = (j.source.0, pushed_same ws w 0 (omega (arith, j.many)) ∙ j.source.1);
-      writes = λ s l. subst (λ v. HasWrite s v p) (sym (pushed_same ws w s (omega (arith, l, j.many)))) (j.writes s l);
-      reads = λ s l. elim (cases_lt s n) [
-        | inl c ↦ subst (λ v. HasRead s v p) (sym (pushed_same ws w (s + 1) (omega (arith, c, j.many)))) (j.reads s c)
-        | inr c ↦ (let e : n ≡ s = omega (arith, l, c) in
-            subst (λ k. HasRead k (worker_at all (k + 1)) p) e
-            (subst (λ v. HasRead n v p) (sym (pushed_last ws w (n + 1) (sym j.many)))
-            (subst (λ v. HasRead n v p) (sym is) (record { write = j.next.0; read = read; has = refl; new = j.next.1; fresh = refl }))))
-      ];
-      sink = (read, pushed_last ws w (length all - 1) (omega (arith, many, j.many)) ∙ is);
-    }
-  where
-    front_push : (n : ℕ) (xs : List Worker) (x : Worker) → length xs ≡ n → take n (xs ++ x ∷ []) ≡ xs
-    front_push zero [] x e = refl
-    front_push (suc n) [] x e = absurd (omega (arith, e))
-    front_push zero (y ∷ xs) x e = absurd (omega (arith, e))
-    front_push (suc n) (y ∷ xs) x e = ap (λ more. y ∷ more) (front_push n xs x (omega (arith, e)))
+module _ (input : List ℕ) (read : ℕ) (stages : List Stage) (p : Play) (ws : List Worker) (w : Worker) where
+  pub joined_last : AreJoined input (length stages) read stages p ws → AreMade (length stages + 2) (length stages + 1) p → w ≡ record (new_worker Copy) { read = Some read } → IsReady stages input p (ws ++ w ∷ [])
+  joined_last j m is =
+      let all = ws ++ w ∷ [] in
+      let n = length stages in
+      let many : length all ≡ n + 2 = length_push ws w ∙ ap (λ k. k + 1) j.many ∙ omega arith in
+      let behind : length (drop 1 ws) ≡ n = sym (length-map (drop 1 ws) stage_of) ∙ ap length (j.stages_are ∙ take_all n stages (omega arith)) in
+      record {
+        many = many;
+        stages_are =
+            ap (λ k. map stage_of (take k (drop 1 all))) (let e : length all - 2 ≡ n = omega (arith, many) in e)
+            ∙ ap (λ xs. map stage_of (take n xs)) (behind_push ws w (omega (arith, j.many)))
+            ∙ ap (map stage_of) (front_push n (drop 1 ws) w behind)
+            ∙ j.stages_are ∙ take_all n stages (omega arith);
+        made = subst (λ k. AreMade k (n + 1) p) (sym many) m;
+        source = (j.source.0, pushed_same ws w 0 (omega (arith, j.many)) ∙ j.source.1);
+        writes = λ s l. subst (λ v. HasWrite s v p) (sym (pushed_same ws w s (omega (arith, l, j.many)))) (j.writes s l);
+        reads = λ s l. elim (cases_lt s n) [
+          | inl c ↦ subst (λ v. HasRead s v p) (sym (pushed_same ws w (s + 1) (omega (arith, c, j.many)))) (j.reads s c)
+          | inr c ↦ (let e : n ≡ s = omega (arith, l, c) in
+              subst (λ k. HasRead k (worker_at all (k + 1)) p) e
+              (subst (λ v. HasRead n v p) (sym (pushed_last ws w (n + 1) (sym j.many)))
+              (subst (λ v. HasRead n v p) (sym is) (record { write = j.next.0; read = read; has = refl; new = j.next.1; fresh = refl }))))
+        ];
+        sink = (read, pushed_last ws w (length all - 1) (omega (arith, many, j.many)) ∙ is);
+      }
+    where
+      front_push : (n : ℕ) (xs : List Worker) (x : Worker) → length xs ≡ n → take n (xs ++ x ∷ []) ≡ xs
+      front_push zero [] x e = refl
+      front_push (suc n) [] x e = absurd (omega (arith, e))
+      front_push zero (y ∷ xs) x e = absurd (omega (arith, e))
+      front_push (suc n) (y ∷ xs) x e = ap (λ more. y ∷ more) (front_push n xs x (omega (arith, e)))
 
 -- ## A chain that was made is joined
 
@@ -252,10 +255,12 @@ pub source_added : (input : List ℕ) (stages : List Stage) (guests : ℕ) (p q 
 source_added input stages guests p q pair ws m x e =
     (subst (AreJoined input 0 pair.read stages q) (sym e) (joined_first input stages q pair.write pair.read (x.new m.streams_are)), x.made guests m)
 
-pub stage_added : (input : List ℕ) (stages : List Stage) (guests i s read : ℕ) (stage : Stage) (p q : Play) (pair : Pair) (ws new : List Worker) → i < length stages → stage ≡ get_or stages i Copy → AreJoined input i read stages p ws → AreMade guests (i + 1) p → s ≡ length ws → MakesPair s p pair q → new ≡ ws ++ record (new_worker stage) { read = Some read; write = Some pair.write } ∷ [] → AreJoined input (i + 1) pair.read stages q new × AreMade guests (i + 2) q
-stage_added input stages guests i s read stage p q pair ws new l at j m e x is =
-    let y : MakesPair (i + 1) p pair q = subst (λ k. MakesPair k p pair q) (e ∙ j.many) x in
-    let z : AreMade guests ((i + 1) + 1) q = y.made guests m in (
-      subst (AreJoined input (i + 1) pair.read stages q) (sym is) (joined_more input i read stages stage p q ws _ pair j y m.streams_are l at refl),
-      subst (λ k. AreMade guests k q) (omega arith) z,
-    )
+module _ (input : List ℕ) (stages : List Stage) (guests i s read : ℕ) (stage : Stage) (p q : Play) (pair : Pair)
+    (ws new : List Worker) (l : i < length stages) (at : stage ≡ get_or stages i Copy) where
+  pub stage_added : AreJoined input i read stages p ws → AreMade guests (i + 1) p → s ≡ length ws → MakesPair s p pair q → new ≡ ws ++ record (new_worker stage) { read = Some read; write = Some pair.write } ∷ [] → AreJoined input (i + 1) pair.read stages q new × AreMade guests (i + 2) q
+  stage_added j m e x is =
+      let y : MakesPair (i + 1) p pair q = subst (λ k. MakesPair k p pair q) (e ∙ j.many) x in
+      let z : AreMade guests ((i + 1) + 1) q = y.made guests m in (
+        subst (AreJoined input (i + 1) pair.read stages q) (sym is) (joined_more input i read stages stage p q ws _ pair j y m.streams_are l at refl),
+        subst (λ k. AreMade guests k q) (omega arith) z,
+      )

@@ -93,28 +93,34 @@ module _ (s g at sent : ℕ) (made after : List ℕ) (m : Moment) (got : List (O
   brought n e = e ∙ ap (λ ss. decoded (scalars_of ss) (drop at (memory_in m.before.guests g)) n) payload
 
   -- a write that waits
-  pub write_opens : (count n : ℕ) (p : Operation) → Opens Writing (scene s Writing m) g at count p n → Sends g at sent made (memory_in m.before.guests g) None got → bytes_at (memory_in m.before.guests g) at count ≡ take count (drop sent made) → sent + count ≤ length made → at + count ≤ length (memory_in m.before.guests g) → Sends g at sent made after (stream_at m.after s).writer.operation (got ++ got_in s m)
-  write_opens count n p x h lies within inside =
-      let memory = memory_in m.before.guests g in
-      let place : p.address ≡ at + 1 * n = x.place ∙ ap (λ ss. at + item_size (scalars_of ss) * n) payload in
-      rw x.is
-      (sends_in g at sent made memory after (got ++ got_in s m) (Some p)
-      (sends_begun g at sent count n made memory p got (got_in s m) h lies within inside x.guest place x.moved x.left (brought n (x.brings refl))) size same)
+  module _ (count n : ℕ) (p : Operation) (x : Opens Writing (scene s Writing m) g at count p n)
+      (h : Sends g at sent made (memory_in m.before.guests g) None got) where
+    pub write_opens : bytes_at (memory_in m.before.guests g) at count ≡ take count (drop sent made) → sent + count ≤ length made → at + count ≤ length (memory_in m.before.guests g) → Sends g at sent made after (stream_at m.after s).writer.operation (got ++ got_in s m)
+    write_opens lies within inside =
+        let memory = memory_in m.before.guests g in
+        let place : p.address ≡ at + 1 * n = x.place ∙ ap (λ ss. at + item_size (scalars_of ss) * n) payload in
+        rw x.is
+        (sends_in g at sent made memory after (got ++ got_in s m) (Some p)
+        (sends_begun g at sent count n made memory p got (got_in s m) h lies within inside x.guest place x.moved x.left (brought n (x.brings refl))) size same)
 
   -- a write that is over at once
-  pub write_serves : (count k : ℕ) (code : ReturnCode) → Serves Writing (scene s Writing m) g at count code → k ≡ count_reported (stream_at m.before s).kind code → Sends g at sent made (memory_in m.before.guests g) None got → bytes_at (memory_in m.before.guests g) at count ≡ take count (drop sent made) → sent + count ≤ length made → at + count ≤ length (memory_in m.before.guests g) → Sends g at (sent + k) made after (stream_at m.after s).writer.operation (got ++ got_in s m)
-  write_serves count k code x e h lies within inside =
-      let memory = memory_in m.before.guests g in
-      rw x.is
-      (sends_in g at (sent + k) made memory after (got ++ got_in s m) None
-      (sends_served g at sent count k made memory got (got_in s m) h lies within inside (omega (arith, x.within, e)) (brought k (x.brings refl ∙ ap (λ n. items_in (stream_at m.before s).payload m.before.guests g at n) (sym e)))) size same)
+  module _ (count k : ℕ) (code : ReturnCode) (x : Serves Writing (scene s Writing m) g at count code)
+      (e : k ≡ count_reported (stream_at m.before s).kind code)
+      (h : Sends g at sent made (memory_in m.before.guests g) None got) where
+    pub write_serves : bytes_at (memory_in m.before.guests g) at count ≡ take count (drop sent made) → sent + count ≤ length made → at + count ≤ length (memory_in m.before.guests g) → Sends g at (sent + k) made after (stream_at m.after s).writer.operation (got ++ got_in s m)
+    write_serves lies within inside =
+        let memory = memory_in m.before.guests g in
+        rw x.is
+        (sends_in g at (sent + k) made memory after (got ++ got_in s m) None
+        (sends_served g at sent count k made memory got (got_in s m) h lies within inside (omega (arith, x.within, e)) (brought k (x.brings refl ∙ ap (λ n. items_in (stream_at m.before s).payload m.before.guests g at n) (sym e)))) size same)
 
   -- a write that waited is told
-  pub write_settles : (k : ℕ) (o : Operation) (code : ReturnCode) → Settles Writing (scene s Writing m) o code → k ≡ count_reported (stream_at m.before s).kind code → Sends g at sent made (memory_in m.before.guests g) (Some o) got → Sends g at (sent + k) made after (stream_at m.after s).writer.operation (got ++ got_in s m)
-  write_settles k o code x e h =
-      let memory = memory_in m.before.guests g in
-      rw (x.is, x.nothing, append-nil got)
-      (sends_in g at (sent + k) made memory after got None (sends_told g at sent k made memory o got h (e ∙ x.counts)) size same)
+  module _ (k : ℕ) (o : Operation) (code : ReturnCode) where
+    pub write_settles : Settles Writing (scene s Writing m) o code → k ≡ count_reported (stream_at m.before s).kind code → Sends g at sent made (memory_in m.before.guests g) (Some o) got → Sends g at (sent + k) made after (stream_at m.after s).writer.operation (got ++ got_in s m)
+    write_settles x e h =
+        let memory = memory_in m.before.guests g in
+        rw (x.is, x.nothing, append-nil got)
+        (sends_in g at (sent + k) made memory after got None (sends_told g at sent k made memory o got h (e ∙ x.counts)) size same)
 
 -- ## What the step tells
 
@@ -147,28 +153,35 @@ module _ (s g at : ℕ) (first work : Work) (made : List ℕ) (m : Moment) (got 
       ∙ ap (λ k. decoded (U8 ∷ []) (drop at (memory_in m.after.guests k)) n) guest
 
   -- a read that waits
-  pub read_opens : (end : NamedEnd) (count n : ℕ) (p : Operation) → m.act ≡ OnEnd Reading end (Operate at count) → end.guest ≡ g → is_named s Reading m ≡ true → Opens Reading (scene s Reading m) g at count p n → Takes g at first work made (memory_in m.before.guests g) None got → at + count ≤ length (memory_in m.after.guests g) → count ≤ 64 → Takes g at first work made (memory_in m.after.guests g) (stream_at m.after s).reader.operation (got ++ got_in s m)
-  read_opens end count n p act guest named x t inside few =
-      let after = memory_in m.after.guests g in
-      let is = called_there end count n act guest named x.more in
-      let place : p.address ≡ at + 1 * n = x.place ∙ ap (λ ss. at + item_size (scalars_of ss) * n) payload in
-      rw x.is
-      (record {
-        taken = t.taken;
-        rest = got_in s m;
-        split = ap (λ xs. xs ++ got_in s m) (t.split ∙ ap (λ xs. as_items t.taken ++ xs) t.holds ∙ append-nil (as_items t.taken));
-        holds = holds_begun g at count n after p (got_in s m) x.guest place x.moved x.left inside few is;
-        makes = t.makes;
-        goes_on = t.goes_on;
-      })
+  module _ (end : NamedEnd) (count n : ℕ) (p : Operation) (act : m.act ≡ OnEnd Reading end (Operate at count))
+      (guest : end.guest ≡ g) (named : is_named s Reading m ≡ true)
+      (x : Opens Reading (scene s Reading m) g at count p n) where
+    pub read_opens : Takes g at first work made (memory_in m.before.guests g) None got → at + count ≤ length (memory_in m.after.guests g) → count ≤ 64 → Takes g at first work made (memory_in m.after.guests g) (stream_at m.after s).reader.operation (got ++ got_in s m)
+    read_opens t inside few =
+        let after = memory_in m.after.guests g in
+        let is = called_there end count n act guest named x.more in
+        let place : p.address ≡ at + 1 * n = x.place ∙ ap (λ ss. at + item_size (scalars_of ss) * n) payload in
+        rw x.is
+        (record {
+          taken = t.taken;
+          rest = got_in s m;
+          split = ap (λ xs. xs ++ got_in s m) (t.split ∙ ap (λ xs. as_items t.taken ++ xs) t.holds ∙ append-nil (as_items t.taken));
+          holds = holds_begun g at count n after p (got_in s m) x.guest place x.moved x.left inside few is;
+          makes = t.makes;
+          goes_on = t.goes_on;
+        })
 
   -- a read that is over at once
-  pub read_serves : (end : NamedEnd) (count k : ℕ) (code : ReturnCode) → m.act ≡ OnEnd Reading end (Operate at count) → end.guest ≡ g → is_named s Reading m ≡ true → Serves Reading (scene s Reading m) g at count code → k ≡ count_reported (stream_at m.before s).kind code → Takes g at first work made (memory_in m.before.guests g) None got → at + count ≤ length (memory_in m.after.guests g) → Arrived at k first work made (memory_in m.after.guests g) (got ++ got_in s m)
-  read_serves end count k code act guest named x e t inside =
-      let is = called_there end count k act guest named (x.more ∙ ap (λ n. (stream_at m.before s).received + n) (sym e)) in
-      arrived_served g at k first work made (memory_in m.before.guests g) (memory_in m.after.guests g) got (got_in s m) t (omega (arith, x.within, e, inside)) is
+  module _ (end : NamedEnd) (count k : ℕ) (code : ReturnCode) (act : m.act ≡ OnEnd Reading end (Operate at count))
+      (guest : end.guest ≡ g) (named : is_named s Reading m ≡ true)
+      (x : Serves Reading (scene s Reading m) g at count code) where
+    pub read_serves : k ≡ count_reported (stream_at m.before s).kind code → Takes g at first work made (memory_in m.before.guests g) None got → at + count ≤ length (memory_in m.after.guests g) → Arrived at k first work made (memory_in m.after.guests g) (got ++ got_in s m)
+    read_serves e t inside =
+        let is = called_there end count k act guest named (x.more ∙ ap (λ n. (stream_at m.before s).received + n) (sym e)) in
+        arrived_served g at k first work made (memory_in m.before.guests g) (memory_in m.after.guests g) got (got_in s m) t (omega (arith, x.within, e, inside)) is
 
   -- a read that waited is told, by an event, which changes no memory
-  pub read_settles : (k : ℕ) (o : Operation) (code : ReturnCode) → Settles Reading (scene s Reading m) o code → k ≡ count_reported (stream_at m.before s).kind code → Takes g at first work made (memory_in m.before.guests g) (Some o) got → memory_in m.after.guests g ≡ memory_in m.before.guests g → Arrived at k first work made (memory_in m.after.guests g) (got ++ got_in s m)
-  read_settles k o code x e t stays =
-      rw (x.nothing, append-nil got, stays) (arrived_told g at k first work made (memory_in m.before.guests g) o got t (e ∙ x.counts))
+  module _ (k : ℕ) (o : Operation) (code : ReturnCode) (x : Settles Reading (scene s Reading m) o code) where
+    pub read_settles : k ≡ count_reported (stream_at m.before s).kind code → Takes g at first work made (memory_in m.before.guests g) (Some o) got → memory_in m.after.guests g ≡ memory_in m.before.guests g → Arrived at k first work made (memory_in m.after.guests g) (got ++ got_in s m)
+    read_settles e t stays =
+        rw (x.nothing, append-nil got, stays) (arrived_told g at k first work made (memory_in m.before.guests g) o got t (e ∙ x.counts))

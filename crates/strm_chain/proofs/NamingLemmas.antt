@@ -71,20 +71,22 @@ pub record NamesHeld (state : State) (act : Act) (reply : Reply) (name : Name) (
   pub only : NamesEnd state act reply s side
   pub stream : stream_named name ≡ s
 
-pub operate_names : (state : State) (side : Side) (end : NamedEnd) (address count s : ℕ) (reply : Reply) → IsSound state → HandlesHold state → refusal state (OnEnd side end (Operate address count)) ≡ None → (end_of side (stream_at state s)).owner ≡ Held end.guest end.handle → NamesHeld state (OnEnd side end (Operate address count)) reply (named state end) s side
-operate_names state side end address count s reply h holds free owner =
-    let act = OnEnd side end (Operate address count) in
-    let o = operate-fits state side end address count h (sym (refusal-on_end state side end (Operate address count)) ∙ free) in
-    let n = names_held state act reply end.guest end.handle s (stream_named (named state end)) side side holds o.found owner in
-    record { only = n.0; stream = n.1 }
+module _ (state : State) (side : Side) (end : NamedEnd) (address count s : ℕ) (reply : Reply) where
+  pub operate_names : IsSound state → HandlesHold state → refusal state (OnEnd side end (Operate address count)) ≡ None → (end_of side (stream_at state s)).owner ≡ Held end.guest end.handle → NamesHeld state (OnEnd side end (Operate address count)) reply (named state end) s side
+  operate_names h holds free owner =
+      let act = OnEnd side end (Operate address count) in
+      let o = operate-fits state side end address count h (sym (refusal-on_end state side end (Operate address count)) ∙ free) in
+      let n = names_held state act reply end.guest end.handle s (stream_named (named state end)) side side holds o.found owner in
+      record { only = n.0; stream = n.1 }
 
-pub drop_names : (state : State) (side : Side) (end : NamedEnd) (s : ℕ) (reply : Reply) → IsSound state → HandlesHold state → refusal state (OnEnd side end Drop) ≡ None → (end_of side (stream_at state s)).owner ≡ Held end.guest end.handle → NamesHeld state (OnEnd side end Drop) reply (named state end) s side
-drop_names state side end s reply h holds free owner =
-    let act = OnEnd side end Drop in
-    let f = drop_fits state side end (sym (refusal-on_end state side end Drop) ∙ free) in
-    let found = on_end-found state side end Drop h f.there (named_ok state end f.found) (same_side_is side (side_named (named state end)) f.same) in
-    let n = names_held state act reply end.guest end.handle s (stream_named (named state end)) side side holds found owner in
-    record { only = n.0; stream = n.1 }
+module _ (state : State) (side : Side) (end : NamedEnd) (s : ℕ) (reply : Reply) where
+  pub drop_names : IsSound state → HandlesHold state → refusal state (OnEnd side end Drop) ≡ None → (end_of side (stream_at state s)).owner ≡ Held end.guest end.handle → NamesHeld state (OnEnd side end Drop) reply (named state end) s side
+  drop_names h holds free owner =
+      let act = OnEnd side end Drop in
+      let f = drop_fits state side end (sym (refusal-on_end state side end Drop) ∙ free) in
+      let found = on_end-found state side end Drop h f.there (named_ok state end f.found) (same_side_is side (side_named (named state end)) f.same) in
+      let n = names_held state act reply end.guest end.handle s (stream_named (named state end)) side side holds found owner in
+      record { only = n.0; stream = n.1 }
 
 -- the same of an event, which also tells the side
 pub record EventNames (state : State) (g handle : ℕ) (reply : Reply) (s : ℕ) (side : Side) : Type 0 where

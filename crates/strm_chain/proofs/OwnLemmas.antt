@@ -74,56 +74,60 @@ module _ (m : Moment) (s : ℕ) (first work : Work) (made : List ℕ) (got : Ite
         )
 
     -- a read that is over at once
-    pub own_read_serves : (code : ReturnCode) → code ≢ codes.Blocked → m.reply ≡ replies.Code code → Takes (s + 1) 0 first work made (memory_in m.before.guests (s + 1)) None got → Arrived 0 (count_of code) first work made (memory_in m.after.guests (s + 1)) (got ++ got_in s m) × ReceivesLow m s × ((stream_at m.after s).reader.operation ≡ None) × (count_of code ≤ 64)
-    own_read_serves code ne reply t =
-        let x = served Reading (scene s Reading m) (s + 1) 0 count code change (called code reply) (call_report s Reading m code reply named ∙ reported code ne) in
-        let k = counted m s code ty in (
-          read_serves s (s + 1) 0 first work made m got (payload_is m.before s ty) end count (count_of code) code act guest named x k t (omega (arith, room, few)),
-          low_at (count_reported (stream_at m.before s).kind code) x.more x.within,
-          x.is,
-          omega (arith, k, x.within, few),
-        )
+    module _ (code : ReturnCode) (ne : code ≢ codes.Blocked) (reply : m.reply ≡ replies.Code code) where
+      pub own_read_serves : Takes (s + 1) 0 first work made (memory_in m.before.guests (s + 1)) None got → Arrived 0 (count_of code) first work made (memory_in m.after.guests (s + 1)) (got ++ got_in s m) × ReceivesLow m s × ((stream_at m.after s).reader.operation ≡ None) × (count_of code ≤ 64)
+      own_read_serves t =
+          let x = served Reading (scene s Reading m) (s + 1) 0 count code change (called code reply) (call_report s Reading m code reply named ∙ reported code ne) in
+          let k = counted m s code ty in (
+            read_serves s (s + 1) 0 first work made m got (payload_is m.before s ty) end count (count_of code) code act guest named x k t (omega (arith, room, few)),
+            low_at (count_reported (stream_at m.before s).kind code) x.more x.within,
+            x.is,
+            omega (arith, k, x.within, few),
+          )
 
   -- a read that waited is told of
-  pub own_read_settles : (g handle : ℕ) (code : ReturnCode) → code ≢ codes.Blocked → m.act ≡ Event g handle → m.reply ≡ replies.Event (Some code) → memory_in m.after.guests (s + 1) ≡ memory_in m.before.guests (s + 1) → Takes (s + 1) 0 first work made (memory_in m.before.guests (s + 1)) before got → Arrived 0 (count_of code) first work made (memory_in m.after.guests (s + 1)) (got ++ got_in s m) × ReceivesLow m s × ((stream_at m.after s).reader.operation ≡ None) × (count_of code ≤ 64)
-  own_read_settles g handle code ne act reply stays t = by change
-    where
-      tells : report_in s Reading m ≡ Some code
-      tells = event_report s Reading m code reply named ∙ reported code ne
+  module _ (g handle : ℕ) (code : ReturnCode) (ne : code ≢ codes.Blocked) (act : m.act ≡ Event g handle)
+      (reply : m.reply ≡ replies.Event (Some code))
+      (stays : memory_in m.after.guests (s + 1) ≡ memory_in m.before.guests (s + 1)) where
+    pub own_read_settles : Takes (s + 1) 0 first work made (memory_in m.before.guests (s + 1)) before got → Arrived 0 (count_of code) first work made (memory_in m.after.guests (s + 1)) (got ++ got_in s m) × ReceivesLow m s × ((stream_at m.after s).reader.operation ≡ None) × (count_of code ≤ 64)
+    own_read_settles t = by change
+      where
+        tells : report_in s Reading m ≡ Some code
+        tells = event_report s Reading m code reply named ∙ reported code ne
 
-      none_taken : accepted_in s Reading m (report_in s Reading m) ≡ []
-      none_taken = event_takes s Reading m (Some code) (report_in s Reading m) reply named
+        none_taken : accepted_in s Reading m (report_in s Reading m) ≡ []
+        none_taken = event_takes s Reading m (Some code) (report_in s Reading m) reply named
 
-      k : count_of code ≡ count_reported (stream_at m.before s).kind code
-      k = counted m s code ty
+        k : count_of code ≡ count_reported (stream_at m.before s).kind code
+        k = counted m s code ty
 
-      by : Change Reading (scene s Reading m) → Arrived 0 (count_of code) first work made (memory_in m.after.guests (s + 1)) (got ++ got_in s m) × ReceivesLow m s × ((stream_at m.after s).reader.operation ≡ None) × (count_of code ≤ 64)
-      by (ByGoing o p n x) = absurd (let wrong : None ≡ Some code = sym x.unreported ∙ tells in cc)
-      by (ByOpening g' address asked p n x) = absurd (let wrong = sym x.takes ∙ none_taken in cc)
-      by (ByServing g' address asked c x) = absurd (let wrong = sym x.takes ∙ none_taken in cc)
-      by (BySettling o c x) =
-          let same : c ≡ code = (let y : Some c ≡ Some code = sym x.report ∙ tells in cc) in
-          let y = subst (λ z. Settles Reading (scene s Reading m) o z) same x in
-          let some : Takes (s + 1) 0 first work made (memory_in m.before.guests (s + 1)) (Some o) got = subst (λ q. Takes (s + 1) 0 first work made (memory_in m.before.guests (s + 1)) q got) y.was t in (
-            read_settles s (s + 1) 0 first work made m got (payload_is m.before s ty) (count_of code) o code y k some stays,
-            Nothing (omega (arith, y.same)),
-            y.is,
-            omega (arith, k, y.counts, some.holds.begun.whole, some.holds.few),
-          )
-      by (ByRest x) =
-          let none : Takes (s + 1) 0 first work made (memory_in m.before.guests (s + 1)) None got = subst (λ q. Takes (s + 1) 0 first work made (memory_in m.before.guests (s + 1)) q got) x.was t in
-          let nothing : count_of code ≡ 0 = k ∙ sym (ap (k_of (stream_at m.before s).kind 0) tells) ∙ x.counts in (
-            record {
-              taken = none.taken;
-              split = ap (λ z. got ++ z) x.nothing ∙ append-nil got ∙ none.split ∙ ap (λ z. as_items none.taken ++ z) none.holds
-                  ∙ ap (λ n. as_items none.taken ++ as_items (bytes_at (memory_in m.after.guests (s + 1)) 0 n)) (sym nothing);
-              makes = none.makes;
-              goes_on = none.goes_on;
-            },
-            Nothing (omega (arith, x.same)),
-            x.is,
-            omega (arith, nothing),
-          )
+        by : Change Reading (scene s Reading m) → Arrived 0 (count_of code) first work made (memory_in m.after.guests (s + 1)) (got ++ got_in s m) × ReceivesLow m s × ((stream_at m.after s).reader.operation ≡ None) × (count_of code ≤ 64)
+        by (ByGoing o p n x) = absurd (let wrong : None ≡ Some code = sym x.unreported ∙ tells in cc)
+        by (ByOpening g' address asked p n x) = absurd (let wrong = sym x.takes ∙ none_taken in cc)
+        by (ByServing g' address asked c x) = absurd (let wrong = sym x.takes ∙ none_taken in cc)
+        by (BySettling o c x) =
+            let same : c ≡ code = (let y : Some c ≡ Some code = sym x.report ∙ tells in cc) in
+            let y = subst (λ z. Settles Reading (scene s Reading m) o z) same x in
+            let some : Takes (s + 1) 0 first work made (memory_in m.before.guests (s + 1)) (Some o) got = subst (λ q. Takes (s + 1) 0 first work made (memory_in m.before.guests (s + 1)) q got) y.was t in (
+              read_settles s (s + 1) 0 first work made m got (payload_is m.before s ty) (count_of code) o code y k some stays,
+              Nothing (omega (arith, y.same)),
+              y.is,
+              omega (arith, k, y.counts, some.holds.begun.whole, some.holds.few),
+            )
+        by (ByRest x) =
+            let none : Takes (s + 1) 0 first work made (memory_in m.before.guests (s + 1)) None got = subst (λ q. Takes (s + 1) 0 first work made (memory_in m.before.guests (s + 1)) q got) x.was t in
+            let nothing : count_of code ≡ 0 = k ∙ sym (ap (k_of (stream_at m.before s).kind 0) tells) ∙ x.counts in (
+              record {
+                taken = none.taken;
+                split = ap (λ z. got ++ z) x.nothing ∙ append-nil got ∙ none.split ∙ ap (λ z. as_items none.taken ++ z) none.holds
+                    ∙ ap (λ n. as_items none.taken ++ as_items (bytes_at (memory_in m.after.guests (s + 1)) 0 n)) (sym nothing);
+                makes = none.makes;
+                goes_on = none.goes_on;
+              },
+              Nothing (omega (arith, x.same)),
+              x.is,
+              omega (arith, nothing),
+            )
 
 -- ## Writes
 
@@ -174,55 +178,61 @@ module _ (m : Moment) (g sent : ℕ) (made : List ℕ) (got : Items)
         )
 
   -- a write that waited is told of
-  pub own_write_settles : (h handle : ℕ) (code : ReturnCode) → code ≢ codes.Blocked → m.act ≡ Event h handle → m.reply ≡ replies.Event (Some code) → Sends g 64 sent made (memory_in m.before.guests g) (stream_at m.before g).writer.operation got → Sends g 64 (sent + count_of code) made (memory_in m.after.guests g) (stream_at m.after g).writer.operation (got ++ got_in g m) × ((stream_at m.after g).writer.operation ≡ None)
-  own_write_settles h handle code ne act reply t = by change
-    where
-      tells : report_in g Writing m ≡ Some code
-      tells = event_report g Writing m code reply named ∙ reported code ne
+  module _ (h handle : ℕ) (code : ReturnCode) (ne : code ≢ codes.Blocked) (act : m.act ≡ Event h handle)
+      (reply : m.reply ≡ replies.Event (Some code))
+      (t : Sends g 64 sent made (memory_in m.before.guests g) (stream_at m.before g).writer.operation got) where
+    pub own_write_settles : Sends g 64 (sent + count_of code) made (memory_in m.after.guests g) (stream_at m.after g).writer.operation (got ++ got_in g m) × ((stream_at m.after g).writer.operation ≡ None)
+    own_write_settles = by change
+      where
+        tells : report_in g Writing m ≡ Some code
+        tells = event_report g Writing m code reply named ∙ reported code ne
 
-      none_taken : accepted_in g Writing m (report_in g Writing m) ≡ []
-      none_taken = event_takes g Writing m (Some code) (report_in g Writing m) reply named
+        none_taken : accepted_in g Writing m (report_in g Writing m) ≡ []
+        none_taken = event_takes g Writing m (Some code) (report_in g Writing m) reply named
 
-      k : count_of code ≡ count_reported (stream_at m.before g).kind code
-      k = counted m g code ty
+        k : count_of code ≡ count_reported (stream_at m.before g).kind code
+        k = counted m g code ty
 
-      by : Change Writing (scene g Writing m) → Sends g 64 (sent + count_of code) made (memory_in m.after.guests g) (stream_at m.after g).writer.operation (got ++ got_in g m) × ((stream_at m.after g).writer.operation ≡ None)
-      by (ByGoing o p n x) = absurd (let wrong : None ≡ Some code = sym x.unreported ∙ tells in cc)
-      by (ByOpening g' address asked p n x) = absurd (let wrong = sym x.takes ∙ none_taken in cc)
-      by (ByServing g' address asked c x) = absurd (let wrong = sym x.takes ∙ none_taken in cc)
-      by (BySettling o c x) =
-          let eq : c ≡ code = (let y : Some c ≡ Some code = sym x.report ∙ tells in cc) in
-          let y = subst (λ z. Settles Writing (scene g Writing m) o z) eq x in
-          let some : Sends g 64 sent made (memory_in m.before.guests g) (Some o) got = subst (λ q. Sends g 64 sent made (memory_in m.before.guests g) q got) y.was t in (
-            write_settles g g 64 sent made (memory_in m.after.guests g) m got (payload_is m.before g ty) size (λ c l. same c) (count_of code) o code y k some,
-            y.is,
-          )
-      by (ByRest x) =
-          let none : Sends g 64 sent made (memory_in m.before.guests g) None got = subst (λ q. Sends g 64 sent made (memory_in m.before.guests g) q got) x.was t in
-          let nothing : count_of code ≡ 0 = k ∙ sym (ap (k_of (stream_at m.before g).kind 0) tells) ∙ x.counts in (
-            rw (x.is, x.nothing, append-nil got, nothing) (record {
-              front = none.front ∙ ap (λ n. as_items (take n made)) (omega arith);
-              within = omega (arith, none.within);
-              offers = tt;
-            }),
-            x.is,
-          )
+        by : Change Writing (scene g Writing m) → Sends g 64 (sent + count_of code) made (memory_in m.after.guests g) (stream_at m.after g).writer.operation (got ++ got_in g m) × ((stream_at m.after g).writer.operation ≡ None)
+        by (ByGoing o p n x) = absurd (let wrong : None ≡ Some code = sym x.unreported ∙ tells in cc)
+        by (ByOpening g' address asked p n x) = absurd (let wrong = sym x.takes ∙ none_taken in cc)
+        by (ByServing g' address asked c x) = absurd (let wrong = sym x.takes ∙ none_taken in cc)
+        by (BySettling o c x) =
+            let eq : c ≡ code = (let y : Some c ≡ Some code = sym x.report ∙ tells in cc) in
+            let y = subst (λ z. Settles Writing (scene g Writing m) o z) eq x in
+            let some : Sends g 64 sent made (memory_in m.before.guests g) (Some o) got = subst (λ q. Sends g 64 sent made (memory_in m.before.guests g) q got) y.was t in (
+              write_settles g g 64 sent made (memory_in m.after.guests g) m got (payload_is m.before g ty) size (λ c l. same c) (count_of code) o code y k some,
+              y.is,
+            )
+        by (ByRest x) =
+            let none : Sends g 64 sent made (memory_in m.before.guests g) None got = subst (λ q. Sends g 64 sent made (memory_in m.before.guests g) q got) x.was t in
+            let nothing : count_of code ≡ 0 = k ∙ sym (ap (k_of (stream_at m.before g).kind 0) tells) ∙ x.counts in (
+              rw (x.is, x.nothing, append-nil got, nothing) (record {
+                front = none.front ∙ ap (λ n. as_items (take n made)) (omega arith);
+                within = omega (arith, none.within);
+                offers = tt;
+              }),
+              x.is,
+            )
 
 -- an end without an operation that a drop names
-pub dropped_sends : (m : Moment) (g sent : ℕ) (made : List ℕ) (got : Items) → m.reply ≡ replies.Done → is_named g Writing m ≡ true → Change Writing (scene g Writing m) → Sends g 64 sent made (memory_in m.before.guests g) (stream_at m.before g).writer.operation got → (stream_at m.before g).writer.operation ≡ None → Sends g 64 sent made (memory_in m.after.guests g) (stream_at m.after g).writer.operation (got ++ got_in g m) × ((stream_at m.after g).writer.operation ≡ None)
-dropped_sends m g sent made got reply named change t idle = by change
-  where
-    untold : report_in g Writing m ≡ None
-    untold = rw (named, reply) refl
+module _ (m : Moment) (g sent : ℕ) (made : List ℕ) (got : Items) (reply : m.reply ≡ replies.Done)
+    (named : is_named g Writing m ≡ true) (change : Change Writing (scene g Writing m))
+    (t : Sends g 64 sent made (memory_in m.before.guests g) (stream_at m.before g).writer.operation got) where
+  pub dropped_sends : (stream_at m.before g).writer.operation ≡ None → Sends g 64 sent made (memory_in m.after.guests g) (stream_at m.after g).writer.operation (got ++ got_in g m) × ((stream_at m.after g).writer.operation ≡ None)
+  dropped_sends idle = by change
+    where
+      untold : report_in g Writing m ≡ None
+      untold = rw (named, reply) refl
 
-    none_taken : (r : Option ReturnCode) → accepted_in g Writing m r ≡ []
-    none_taken r = rw (named, reply) refl
+      none_taken : (r : Option ReturnCode) → accepted_in g Writing m r ≡ []
+      none_taken r = rw (named, reply) refl
 
-    by : Change Writing (scene g Writing m) → Sends g 64 sent made (memory_in m.after.guests g) (stream_at m.after g).writer.operation (got ++ got_in g m) × ((stream_at m.after g).writer.operation ≡ None)
-    by (ByGoing o p n x) = absurd (let wrong : Some o ≡ None = sym x.was ∙ idle in cc)
-    by (BySettling o c x) = absurd (let wrong : Some o ≡ None = sym x.was ∙ idle in cc)
-    by (ByOpening g' address asked p n x) = absurd (let wrong = sym x.takes ∙ none_taken (report_in g Writing m) in cc)
-    by (ByServing g' address asked c x) = absurd (let wrong = sym x.takes ∙ none_taken (report_in g Writing m) in cc)
-    by (ByRest x) =
-        let none : Sends g 64 sent made (memory_in m.before.guests g) None got = subst (λ q. Sends g 64 sent made (memory_in m.before.guests g) q got) idle t in
-        (rw (x.is, x.nothing, append-nil got) (record { front = none.front; within = none.within; offers = tt }), x.is)
+      by : Change Writing (scene g Writing m) → Sends g 64 sent made (memory_in m.after.guests g) (stream_at m.after g).writer.operation (got ++ got_in g m) × ((stream_at m.after g).writer.operation ≡ None)
+      by (ByGoing o p n x) = absurd (let wrong : Some o ≡ None = sym x.was ∙ idle in cc)
+      by (BySettling o c x) = absurd (let wrong : Some o ≡ None = sym x.was ∙ idle in cc)
+      by (ByOpening g' address asked p n x) = absurd (let wrong = sym x.takes ∙ none_taken (report_in g Writing m) in cc)
+      by (ByServing g' address asked c x) = absurd (let wrong = sym x.takes ∙ none_taken (report_in g Writing m) in cc)
+      by (ByRest x) =
+          let none : Sends g 64 sent made (memory_in m.before.guests g) None got = subst (λ q. Sends g 64 sent made (memory_in m.before.guests g) q got) idle t in
+          (rw (x.is, x.nothing, append-nil got) (record { front = none.front; within = none.within; offers = tt }), x.is)

@@ -47,20 +47,21 @@ follows_start fits = record {
 pub touches_none : (steps : List Step) (replies : List Reply) (state : State) (step : Step) → Follows steps replies state → is_of_guests (act_of step) ≡ true → touches (lone state) (act_of step) ≡ false
 touches_none steps replies state step f e = touches-none state (act_of step) f.unhosted e
 
-pub follows_more : (steps : List Step) (replies : List Reply) (state : State) (step : Step) (reply : Reply) (next : State) → Follows steps replies state → HasBytes step → length steps < 4294967295 → react state step ≡ goes reply next → is_settled reply ≡ true → Fits next nobody → Follows (steps ++ step ∷ []) (replies ++ reply ∷ []) next
-follows_more steps replies state step reply next f bytes room e settled fits =
-    let after : (react state step).state ≡ next = ap (λ (r : Reaction). r.state) e in
-    let told : (react state step).reply ≡ reply = ap (λ (r : Reaction). r.reply) e in
-    record {
-      led = λ more.
-          ap (play [] start) (append_assoc steps (step ∷ []) more) ∙ f.led (step ∷ more)
-          ∙ play-goes replies state next step more reply settled e;
-      running = subst (λ (s : State). s.trapped ≡ false) after (stays_running state step f.running (ap is_settled told ∙ settled));
-      unhosted = subst Unhosted after (reaction-unhosted state (act_of step) f.unhosted);
-      fits = fits;
-      few = omega (arith, room, length_push steps step);
-      bytes = All-push HasBytes steps step f.bytes bytes;
-    }
+module _ (steps : List Step) (replies : List Reply) (state : State) (step : Step) (reply : Reply) (next : State) where
+  pub follows_more : Follows steps replies state → HasBytes step → length steps < 4294967295 → react state step ≡ goes reply next → is_settled reply ≡ true → Fits next nobody → Follows (steps ++ step ∷ []) (replies ++ reply ∷ []) next
+  follows_more f bytes room e settled fits =
+      let after : (react state step).state ≡ next = ap (λ (r : Reaction). r.state) e in
+      let told : (react state step).reply ≡ reply = ap (λ (r : Reaction). r.reply) e in
+      record {
+        led = λ more.
+            ap (play [] start) (append_assoc steps (step ∷ []) more) ∙ f.led (step ∷ more)
+            ∙ play-goes replies state next step more reply settled e;
+        running = subst (λ (s : State). s.trapped ≡ false) after (stays_running state step f.running (ap is_settled told ∙ settled));
+        unhosted = subst Unhosted after (reaction-unhosted state (act_of step) f.unhosted);
+        fits = fits;
+        few = omega (arith, room, length_push steps step);
+        bytes = All-push HasBytes steps step f.bytes bytes;
+      }
 
 -- the replies are those of the machine's play
 pub follows_plays : (steps : List Step) (replies : List Reply) (state : State) → Follows steps replies state → play [] start steps ≡ Ends replies state

@@ -41,9 +41,11 @@ passes stage g at from sent work made memory read write received got t h =
     }
 
 -- where a stage has taken all and handed all over, what is received behind it is what it makes of the whole
-pub passes_all : (stage : Stage) (g at from sent : ℕ) (work : Work) (made memory bytes : List ℕ) (received got : List (Option (List ℤ))) → Takes g at (begun stage) work made memory None received → Sends g from sent made memory None got → sent ≡ length made → (taken : List ℕ) × (received ≡ as_items taken) × (got ≡ as_items (of stage taken))
-passes_all stage g at from sent work made memory bytes received got t h e = (
-  t.taken,
-  t.split ∙ ap (λ r. as_items t.taken ++ r) t.holds ∙ append-nil (as_items t.taken),
-  h.front ∙ ap as_items (take_all (sent + 0) made (omega (arith, e))) ∙ ap as_items (t.makes ∙ of_is_done stage t.taken),
-)
+module _ (stage : Stage) (g at from sent : ℕ) (work : Work) (made memory bytes : List ℕ)
+    (received got : List (Option (List ℤ))) where
+  pub passes_all : Takes g at (begun stage) work made memory None received → Sends g from sent made memory None got → sent ≡ length made → (taken : List ℕ) × (received ≡ as_items taken) × (got ≡ as_items (of stage taken))
+  passes_all t h e = (
+    t.taken,
+    t.split ∙ ap (λ r. as_items t.taken ++ r) t.holds ∙ append-nil (as_items t.taken),
+    h.front ∙ ap as_items (take_all (sent + 0) made (omega (arith, e))) ∙ ap as_items (t.makes ∙ of_is_done stage t.taken),
+  )

@@ -54,7 +54,7 @@ pub record BeforeIt (ws : List Worker) (g s : ℕ) : Type 0 where
 pub before_it : (p : Play) (ws : List Worker) (g handle : ℕ) → IsJoined p ws → g < length ws → (worker_at ws g).read ≡ Some handle → BeforeIt ws g (g - 1)
 before_it p ws g handle j l has =
     let some : g ≢ 0 = λ e. no_handle (worker_at ws 0).read handle j.source.0 (ap (λ n. (worker_at ws n).read) (sym e) ∙ has) in
-    let more : 0 < g = elim (cases_lt 0 g) [ | inl x ↦ x | inr x ↦ absurd (some (omega (arith, x))) ] in
+    let more : 0 < g = elim (cases_lt 0 g) [ inl x ↦ x | inr x ↦ absurd (some (omega (arith, x))) ] in
     record { is = omega (arith, more); there = omega (arith, more, l) }
 
 -- a guest with a write end is not the last one
@@ -62,7 +62,7 @@ pub behind_it : (p : Play) (ws : List Worker) (g handle : ℕ) → IsJoined p ws
 behind_it p ws g handle j l has =
     elim (cases_eq g (length ws - 1)) [
       | inl e ↦ absurd (no_handle (sink_of ws).write handle j.sink.write (ap (λ n. (worker_at ws n).write) (sym e) ∙ has))
-      | inr ne ↦ elim (cases_lt (g + 1) (length ws)) [ | inl x ↦ x | inr x ↦ absurd (ne (omega (arith, x, l))) ]
+      | inr ne ↦ elim (cases_lt (g + 1) (length ws)) [ inl x ↦ x | inr x ↦ absurd (ne (omega (arith, x, l))) ]
     ]
 
 -- what a turn of a guest that reads needs to know of the chain
@@ -111,8 +111,8 @@ module _ (p : Play) (ws : List Worker) (g chunk : ℕ) (j : IsJoined p ws) (l : 
         let after = operate_after p.state mid.state s ARead (end_at x.handle) 0 chunk codes.Blocked does names.stream there in
         let idle : (stream_at p.state s).reader.operation ≡ None = r.idle (apart_doing w Nothing Reading x.rests (λ e. cc)) in
         let own = own_read_waits m s (begun w.work.stage) w.work w.made (got_on p.steps s) ty named (look.change s ARead) (room_after step reply look)
-            (end_at x.handle) chunk refl b.is refl most refl
-            (subst (λ o. Takes (s + 1) 0 (begun w.work.stage) w.work w.made (memory_in p.state.guests (s + 1)) o (got_on p.steps s)) idle r.takes) in (
+        (end_at x.handle) chunk refl b.is refl most refl
+        (subst (λ o. Takes (s + 1) 0 (begun w.work.stage) w.work w.made (memory_in p.state.guests (s + 1)) o (got_on p.steps s)) idle r.takes) in (
           reader_passes p mid ws step reply x.adds j look s after.steady (λ q. nothing_put q (put_by (act_of step) reply) refl) names.only own.1,
           record {
             handle = r.handle;
@@ -141,8 +141,8 @@ module _ (p : Play) (ws : List Worker) (g chunk : ℕ) (j : IsJoined p ws) (l : 
         let after = operate_after p.state mid.state s ARead (end_at x.handle) 0 chunk code does names.stream there in
         let idle : (stream_at p.state s).reader.operation ≡ None = r.idle (apart_doing w Nothing Reading x.rests (λ e. cc)) in
         let own = own_read_serves m s (begun w.work.stage) w.work w.made (got_on p.steps s) ty named (look.change s ARead) (room_after step reply look)
-            (end_at x.handle) chunk refl b.is refl most code ne refl
-            (subst (λ o. Takes (s + 1) 0 (begun w.work.stage) w.work w.made (memory_in p.state.guests (s + 1)) o (got_on p.steps s)) idle r.takes) in
+        (end_at x.handle) chunk refl b.is refl most code ne refl
+        (subst (λ o. Takes (s + 1) 0 (begun w.work.stage) w.work w.made (memory_in p.state.guests (s + 1)) o (got_on p.steps s)) idle r.takes) in
         record {
           passes = reader_passes p mid ws step reply x.adds j look s after.steady (λ q. nothing_put q (put_by (act_of step) reply) refl) names.only own.1;
           arrives = record {
@@ -171,7 +171,7 @@ module _ (p : Play) (ws : List Worker) (g chunk : ℕ) (j : IsJoined p ws) (l : 
         let there : s < length p.state.streams = omega (arith, b.there, j.streams) in
         let after = event_after p.state mid.state g x.handle s ARead (Some code) does names.stream names.on there in
         let own = own_read_settles m s (begun w.work.stage) w.work w.made (got_on p.steps s) ty named (look.change s ARead) (room_after step reply look)
-            g x.handle code ne refl refl (ap (λ xs. memory_in xs (s + 1)) after.guests) r.takes in
+        g x.handle code ne refl refl (ap (λ xs. memory_in xs (s + 1)) after.guests) r.takes in
         record {
           passes = reader_passes p mid ws step reply x.adds j look s after.steady (λ q. nothing_put q (put_by (act_of step) reply) refl) names.only own.1;
           arrives = record {
@@ -186,17 +186,18 @@ module _ (p : Play) (ws : List Worker) (g chunk : ℕ) (j : IsJoined p ws) (l : 
         }
 
   -- the turn of a guest whose read is over
-  pub read_turn : (mid q : Play) (ws' : List Worker) (code : ReturnCode) (handle : ℕ) → AreSteps q.steps → AreSteps mid.steps → IsRunOf mid → OneChanged g ws ws' → w.read ≡ Some handle → w.doing ≢ Ended → w.doing ≢ Writing → TakesIn g w code mid (worker_at ws' g) q → BeforeIt ws g (g - 1) → ReadIsOver mid (g - 1) code → IsJoined q ws'
-  read_turn mid q ws' code handle are are_mid run_mid one has a c x b over =
-      let s = g - 1 in
-      let w' = worker_at ws' g in
-      let frame = over.passes.frame in
-      let dump = dump_passes mid q (length ws) s g w w' code b.is run_mid are frame x in
-      let all = both_pass (length ws) p mid q Each (But s) over.passes (fewer (length ws) mid q Each Each Each (But s) dump (λ k _. tt) (λ k _. tt)) in
-      joined_again p q ws ws' g j one (part_taken g handle w w' code mid q x has)
-      (fewer (length ws) p q Each (But s) (But g) (λ k. k + 1 ≢ g) all (λ k _. tt) (λ k ne f. ne (ap (λ n. n + 1) f ∙ sym b.is)))
-      (λ more. writes_taken g w w' code mid q q.state (got_on q.steps g) x a c (all.writes g w more tt (j.joins g more).writes))
-      (λ k more f.
+  module _ (mid q : Play) (ws' : List Worker) (code : ReturnCode) (handle : ℕ) where
+    pub read_turn : AreSteps q.steps → AreSteps mid.steps → IsRunOf mid → OneChanged g ws ws' → w.read ≡ Some handle → w.doing ≢ Ended → w.doing ≢ Writing → TakesIn g w code mid (worker_at ws' g) q → BeforeIt ws g (g - 1) → ReadIsOver mid (g - 1) code → IsJoined q ws'
+    read_turn are are_mid run_mid one has a c x b over =
+        let s = g - 1 in
+        let w' = worker_at ws' g in
+        let frame = over.passes.frame in
+        let dump = dump_passes mid q (length ws) s g w w' code b.is run_mid are frame x in
+        let all = both_pass (length ws) p mid q Each (But s) over.passes (fewer (length ws) mid q Each Each Each (But s) dump (λ k _. tt) (λ k _. tt)) in
+        joined_again p q ws ws' g j one (part_taken g handle w w' code mid q x has)
+        (fewer (length ws) p q Each (But s) (But g) (λ k. k + 1 ≢ g) all (λ k _. tt) (λ k ne f. ne (ap (λ n. n + 1) f ∙ sym b.is)))
+        (λ more. writes_taken g w w' code mid q q.state (got_on q.steps g) x a c (all.writes g w more tt (j.joins g more).writes))
+        (λ k more f.
         let same : k ≡ s = omega (arith, f) in
         subst (λ n. ReadsFrom n w' q.state (got_on q.steps n)) (sym same) (dump_reads mid q (length ws) s g w w' code b.is run_mid are frame x over.arrives))
 
@@ -220,6 +221,6 @@ module _ (p : Play) (ws : List Worker) (g chunk : ℕ) (j : IsJoined p ws) (l : 
       (writes_doing g w Reading q.state (got_on q.steps g) (apart_doing w Nothing Ended x.rests (λ e. cc)) (apart_doing w Nothing Writing x.rests (λ e. cc)) (λ e. cc)
       (waits.0.writes g w more tt (j.joins g more).writes)))
       (λ k more f.
-        let same : k ≡ s = omega (arith, f) in
-        subst (λ n. ReadsFrom n (worker_at ws' g) q.state (got_on q.steps n)) (sym same)
-        (subst (λ u. ReadsFrom s u q.state (got_on q.steps s)) (sym is) waits.1))
+      let same : k ≡ s = omega (arith, f) in
+      subst (λ n. ReadsFrom n (worker_at ws' g) q.state (got_on q.steps n)) (sym same)
+      (subst (λ u. ReadsFrom s u q.state (got_on q.steps s)) (sym is) waits.1))

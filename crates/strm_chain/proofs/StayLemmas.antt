@@ -83,44 +83,56 @@ low_unless p ws m t e j change unnamed =
 -- ## The two sides of a stream
 
 -- a guest that writes, where the step puts nothing where it writes from
-pub writes_stay : (m : Moment) (s : ℕ) (w : Worker) (got new : Items) → type_of (stream_at m.before s) ≡ bytes_type → Change Writing (scene s Writing m) → is_named s Writing m ≡ false → StaysAside m → s < length m.before.guests → ((c : ℕ) → LiesApart (record { place = record { guest = s; address = 64 }; size = c }) (put_by m.act m.reply)) → ((t : ℕ) → ReceivesLow m t) → (stream_at m.after s).writer.owner ≡ (stream_at m.before s).writer.owner → new ≡ got ++ got_in s m → WritesOn s w m.before got → WritesOn s w m.after new
-writes_stay m s w got new ty change unnamed aside there put low owner e h = record {
-  handle = h.handle;
-  has = h.has;
-  owner = λ n. owner ∙ h.owner n;
-  sends = subst (Sends s 64 w.sent w.made (memory_in m.after.guests s) (stream_at m.after s).writer.operation) (sym e)
-      (writer_keeps m s w.sent w.made got (payload_is m.before s ty) unnamed change aside there put low h.sends);
-  idle = λ n. idle_stays Writing (scene s Writing m) (still s Writing m unnamed change) (h.idle n);
-  over = h.over;
-}
+module _ (m : Moment) (s : ℕ) (w : Worker) (got new : Items) (ty : type_of (stream_at m.before s) ≡ bytes_type)
+    (change : Change Writing (scene s Writing m)) (unnamed : is_named s Writing m ≡ false) (aside : StaysAside m)
+    (there : s < length m.before.guests)
+    (put : (c : ℕ) → LiesApart (record { place = record { guest = s; address = 64 }; size = c }) (put_by m.act m.reply)) where
+  pub writes_stay : ((t : ℕ) → ReceivesLow m t) → (stream_at m.after s).writer.owner ≡ (stream_at m.before s).writer.owner → new ≡ got ++ got_in s m → WritesOn s w m.before got → WritesOn s w m.after new
+  writes_stay low owner e h = record {
+    handle = h.handle;
+    has = h.has;
+    owner = λ n. owner ∙ h.owner n;
+    sends = subst (Sends s 64 w.sent w.made (memory_in m.after.guests s) (stream_at m.after s).writer.operation) (sym e)
+        (writer_keeps m s w.sent w.made got (payload_is m.before s ty) unnamed change aside there put low h.sends);
+    idle = λ n. idle_stays Writing (scene s Writing m) (still s Writing m unnamed change) (h.idle n);
+    over = h.over;
+  }
 
 -- a guest that writes but has no write that waits, whatever is put into its memory
-pub writes_idle : (m : Moment) (s : ℕ) (w : Worker) (got new : Items) → Change Writing (scene s Writing m) → is_named s Writing m ≡ false → (stream_at m.before s).writer.operation ≡ None → (stream_at m.after s).writer.owner ≡ (stream_at m.before s).writer.owner → new ≡ got ++ got_in s m → WritesOn s w m.before got → WritesOn s w m.after new
-writes_idle m s w got new change unnamed none owner e h = by (still s Writing m unnamed change)
-  where
-    by : Still Writing (scene s Writing m) → WritesOn s w m.after new
-    by (Going o p n x) = absurd (some_none _ o x.was none)
-    by (Resting r) =
-        let old : Sends s 64 w.sent w.made (memory_in m.before.guests s) None got = subst (λ o. Sends s 64 w.sent w.made (memory_in m.before.guests s) o got) none h.sends in
-        record {
-          handle = h.handle;
-          has = h.has;
-          owner = λ n. owner ∙ h.owner n;
-          sends = subst (Sends s 64 w.sent w.made (memory_in m.after.guests s) (stream_at m.after s).writer.operation) (sym (e ∙ ap (λ x. got ++ x) r.nothing ∙ append-nil got))
-              (subst (λ o. Sends s 64 w.sent w.made (memory_in m.after.guests s) o got) (sym r.is) (record { front = old.front; within = old.within; offers = tt }));
-          idle = λ n. r.is;
-          over = h.over;
-        }
+module _ (m : Moment) (s : ℕ) (w : Worker) (got new : Items) where
+  pub writes_idle : Change Writing (scene s Writing m) → is_named s Writing m ≡ false → (stream_at m.before s).writer.operation ≡ None → (stream_at m.after s).writer.owner ≡ (stream_at m.before s).writer.owner → new ≡ got ++ got_in s m → WritesOn s w m.before got → WritesOn s w m.after new
+  writes_idle change unnamed none owner e h = by (still s Writing m unnamed change)
+    where
+      by : Still Writing (scene s Writing m) → WritesOn s w m.after new
+      by (Going o p n x) = absurd (some_none _ o x.was none)
+      by (Resting r) =
+          let old : Sends s 64 w.sent w.made (memory_in m.before.guests s) None got = subst (λ o. Sends s 64 w.sent w.made (memory_in m.before.guests s) o got) none h.sends in
+          record {
+            handle = h.handle;
+            has = h.has;
+            owner = λ n. owner ∙ h.owner n;
+            sends = subst (Sends s 64 w.sent w.made (memory_in m.after.guests s) (stream_at m.after s).writer.operation) (sym (e ∙ ap (λ x. got ++ x) r.nothing ∙ append-nil got))
+                (subst (λ o. Sends s 64 w.sent w.made (memory_in m.after.guests s) o got) (sym r.is) (record { front = old.front; within = old.within; offers = tt }));
+            idle = λ n. r.is;
+            over = h.over;
+          }
 
 -- a guest that reads, where the step puts nothing below byte 64 of its memory
-pub reads_stay : (m : Moment) (s : ℕ) (w : Worker) (got new : Items) → type_of (stream_at m.before s) ≡ bytes_type → Change Reading (scene s Reading m) → is_named s Reading m ≡ false → StaysAside m → s + 1 < length m.before.guests → ((c : ℕ) → c ≤ 64 → LiesApart (record { place = record { guest = s + 1; address = 0 }; size = c }) (put_by m.act m.reply)) → ((t : ℕ) → ReceivesLow m t) → (stream_at m.after s).reader.owner ≡ (stream_at m.before s).reader.owner → (is_gone (stream_at m.before s).writer.owner ≡ true → is_gone (stream_at m.after s).writer.owner ≡ true) → (IsPlain (stream_at m.before s).reader.operation → IsPlain (stream_at m.after s).reader.operation) → new ≡ got ++ got_in s m → ReadsFrom s w m.before got → ReadsFrom s w m.after new
-reads_stay m s w got new ty change unnamed aside there put low owner gone plain e h = record {
-  handle = h.handle;
-  has = h.has;
-  owner = owner ∙ h.owner;
-  takes = subst (Takes (s + 1) 0 (begun w.work.stage) w.work w.made (memory_in m.after.guests (s + 1)) (stream_at m.after s).reader.operation) (sym e)
-      (reader_keeps m s (begun w.work.stage) w.work w.made got (payload_is m.before s ty) unnamed change aside there put low h.takes);
-  idle = λ n. idle_stays Reading (scene s Reading m) (still s Reading m unnamed change) (h.idle n);
-  plain = plain h.plain;
-  gone = λ c. gone (h.gone c);
-}
+module _ (m : Moment) (s : ℕ) (w : Worker) (got new : Items) (ty : type_of (stream_at m.before s) ≡ bytes_type)
+    (change : Change Reading (scene s Reading m)) (unnamed : is_named s Reading m ≡ false) (aside : StaysAside m)
+    (there : s + 1 < length m.before.guests)
+    (put : (c : ℕ) → c ≤ 64 → LiesApart (record { place = record { guest = s + 1; address = 0 }; size = c }) (put_by m.act m.reply))
+    (low : (t : ℕ) → ReceivesLow m t)
+    (owner : (stream_at m.after s).reader.owner ≡ (stream_at m.before s).reader.owner)
+    (gone : is_gone (stream_at m.before s).writer.owner ≡ true → is_gone (stream_at m.after s).writer.owner ≡ true) where
+  pub reads_stay : (IsPlain (stream_at m.before s).reader.operation → IsPlain (stream_at m.after s).reader.operation) → new ≡ got ++ got_in s m → ReadsFrom s w m.before got → ReadsFrom s w m.after new
+  reads_stay plain e h = record {
+    handle = h.handle;
+    has = h.has;
+    owner = owner ∙ h.owner;
+    takes = subst (Takes (s + 1) 0 (begun w.work.stage) w.work w.made (memory_in m.after.guests (s + 1)) (stream_at m.after s).reader.operation) (sym e)
+        (reader_keeps m s (begun w.work.stage) w.work w.made got (payload_is m.before s ty) unnamed change aside there put low h.takes);
+    idle = λ n. idle_stays Reading (scene s Reading m) (still s Reading m unnamed change) (h.idle n);
+    plain = plain h.plain;
+    gone = λ c. gone (h.gone c);
+  }

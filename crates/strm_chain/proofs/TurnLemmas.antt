@@ -98,22 +98,24 @@ module _ (p : Play) (ws : List Worker) (g chunk : ℕ) (j : IsJoined p ws) (l : 
         (λ t. low_unless mid ws (moment_at mid q step reply) t refl jm (look.change t ARead) (unnamed_reader (moment_at mid q step reply) g t only))
 
   -- the guest goes on from a step on its write end, with so many bytes sent and doing this
-  writer_again : (q : Play) (ws' : List Worker) (sent : ℕ) (d : Doing) → OneChanged g ws ws' → g + 1 < length ws → Passes (length ws) p q (But g) Each → worker_at ws' g ≡ record w { doing = d; sent = sent } → w.doing ≢ Reading → (handle : ℕ) → w.write ≡ Some handle → (d ≡ Ended → w.closed ≡ true) → WritesOn g (record w { doing = d; sent = sent }) q.state (got_on q.steps g) → IsJoined q ws'
-  writer_again q ws' sent d one more passes is a handle has closed writes =
-      let v : Worker = record w { doing = d; sent = sent } in
-      joined_again p q ws ws' g j one
-      (subst (SamePart w) (sym is) (record {
-        read = refl;
-        write = refl;
-        stage = refl;
-        source = λ none. (refl, refl);
-        sink = λ k. record { write = k.write; copies = k.copies; ends = closed };
-      }))
-      (fewer (length ws) p q (But g) Each (But g) (λ k. k + 1 ≢ g) passes (λ k ne. ne) (λ k _. tt))
-      (λ _. subst (λ u. WritesOn g u q.state (got_on q.steps g)) (sym is) writes)
-      (λ s there e. subst (λ u. ReadsFrom s u q.state (got_on q.steps s)) (sym is)
-      (reads_doing s w d sent q.state (got_on q.steps s) a
-      (passes.reads s w there tt (subst (λ n. ReadsFrom s (worker_at ws n) p.state (got_on p.steps s)) e (j.joins s there).reads))))
+  module _ (q : Play) (ws' : List Worker) (sent : ℕ) (d : Doing) (one : OneChanged g ws ws')
+      (more : g + 1 < length ws) where
+    writer_again : Passes (length ws) p q (But g) Each → worker_at ws' g ≡ record w { doing = d; sent = sent } → w.doing ≢ Reading → (handle : ℕ) → w.write ≡ Some handle → (d ≡ Ended → w.closed ≡ true) → WritesOn g (record w { doing = d; sent = sent }) q.state (got_on q.steps g) → IsJoined q ws'
+    writer_again passes is a handle has closed writes =
+        let v : Worker = record w { doing = d; sent = sent } in
+        joined_again p q ws ws' g j one
+        (subst (SamePart w) (sym is) (record {
+          read = refl;
+          write = refl;
+          stage = refl;
+          source = λ none. (refl, refl);
+          sink = λ k. record { write = k.write; copies = k.copies; ends = closed };
+        }))
+        (fewer (length ws) p q (But g) Each (But g) (λ k. k + 1 ≢ g) passes (λ k ne. ne) (λ k _. tt))
+        (λ _. subst (λ u. WritesOn g u q.state (got_on q.steps g)) (sym is) writes)
+        (λ s there e. subst (λ u. ReadsFrom s u q.state (got_on q.steps s)) (sym is)
+        (reads_doing s w d sent q.state (got_on q.steps s) a
+        (passes.reads s w there tt (subst (λ n. ReadsFrom s (worker_at ws n) p.state (got_on p.steps s)) e (j.joins s there).reads))))
 
   -- a write is called
   module _ (q : Play) (code : ReturnCode) (are : AreSteps q.steps) (x : Writes g chunk w p q code) where
@@ -179,9 +181,9 @@ module _ (p : Play) (ws : List Worker) (g chunk : ℕ) (j : IsJoined p ws) (l : 
         let ty = (pk.joined.joins g more_there).typed in
         let old : Sends g 64 w.sent w.made (memory_in x.mid.state.guests g) None (got_on x.mid.steps g) = subst (λ o. Sends g 64 w.sent w.made (memory_in x.mid.state.guests g) o (got_on x.mid.steps g)) k.idle k.writes.sends in
         let own = own_write_waits mw g w.sent w.made (got_on x.mid.steps g) ty (k.only g AWrite ∙ end_itself g AWrite) (k.look.change g AWrite)
-            (size_after x.mid q pk.joined write_step (replies.Code code) x.adds k.look put k.only)
-            (same_after x.mid q pk.joined write_step (replies.Code code) x.adds k.look put k.only)
-            write_end (length x.bytes) refl refl refl old pk.lies pk.within size_mid (ap replies.Code blocked) in
+        (size_after x.mid q pk.joined write_step (replies.Code code) x.adds k.look put k.only)
+        (same_after x.mid q pk.joined write_step (replies.Code code) x.adds k.look put k.only)
+        write_end (length x.bytes) refl refl refl old pk.lies pk.within size_mid (ap replies.Code blocked) in
         writer_again q ws' w.sent Writing one more_there k.passes is (apart_doing w Nothing Reading x.pokes.rests (λ e. cc)) x.handle x.has (λ e. absurd (let wrong = e in cc))
         (record {
           handle = k.writes.handle;
@@ -201,9 +203,9 @@ module _ (p : Play) (ws : List Worker) (g chunk : ℕ) (j : IsJoined p ws) (l : 
         let ty = (pk.joined.joins g more_there).typed in
         let old : Sends g 64 w.sent w.made (memory_in x.mid.state.guests g) None (got_on x.mid.steps g) = subst (λ o. Sends g 64 w.sent w.made (memory_in x.mid.state.guests g) o (got_on x.mid.steps g)) k.idle k.writes.sends in
         let own = own_write_serves mw g w.sent w.made (got_on x.mid.steps g) ty (k.only g AWrite ∙ end_itself g AWrite) (k.look.change g AWrite)
-            (size_after x.mid q pk.joined write_step (replies.Code code) x.adds k.look put k.only)
-            (same_after x.mid q pk.joined write_step (replies.Code code) x.adds k.look put k.only)
-            write_end (length x.bytes) refl refl refl old pk.lies pk.within size_mid code (not_blocked code h.count h.ends) refl in
+        (size_after x.mid q pk.joined write_step (replies.Code code) x.adds k.look put k.only)
+        (same_after x.mid q pk.joined write_step (replies.Code code) x.adds k.look put k.only)
+        write_end (length x.bytes) refl refl refl old pk.lies pk.within size_mid code (not_blocked code h.count h.ends) refl in
         writer_again q ws' (w.sent + h.count) Nothing one more_there k.passes h.is (apart_doing w Nothing Reading x.pokes.rests (λ e. cc)) x.handle x.has (λ e. absurd (let wrong = e in cc))
         (record {
           handle = k.writes.handle;
@@ -229,8 +231,8 @@ module _ (p : Play) (ws : List Worker) (g chunk : ℕ) (j : IsJoined p ws) (l : 
       let after = event_after p.state q.state g x.handle g AWrite (Some code) does names.stream names.on (omega (arith, more, j.streams)) in
       let put = λ (r : Region). nothing_put r (put_by (act_of step) reply) refl in
       let own = own_write_settles m g w.sent w.made (got_on p.steps g) at.typed (names.only g AWrite ∙ end_itself g AWrite) (look.change g AWrite)
-          (size_after p q j step reply x.adds look put names.only) (same_after p q j step reply x.adds look put names.only)
-          g x.handle code (not_blocked code h.count h.ends) refl refl at.writes.sends in
+      (size_after p q j step reply x.adds look put names.only) (same_after p q j step reply x.adds look put names.only)
+      g x.handle code (not_blocked code h.count h.ends) refl refl at.writes.sends in
       writer_again q ws' (w.sent + h.count) Nothing one more (writer_passes p q ws step reply x.adds j look g after.steady put names.only) h.is (apart_doing w Writing Reading x.waits (λ e. cc)) x.handle x.has (λ e. absurd (let wrong = e in cc))
       (record {
         handle = at.writes.handle;

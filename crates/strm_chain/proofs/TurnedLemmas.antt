@@ -140,7 +140,7 @@ module _ (p q : Play) (count s g : ℕ) (w w' : Worker) (code : ReturnCode) (e :
       } in
       let taken : Takes (s + 1) 0 (begun w.work.stage) (left w.work x.bytes) (w.made ++ done w.work x.bytes) memory None (got_on p.steps s) =
       subst (λ b. Takes (s + 1) 0 (begun w.work.stage) (left w.work b) (w.made ++ done w.work b) memory None (got_on p.steps s)) (sym bytes_are)
-          (takes_arrived (s + 1) 0 (count_of code) (begun w.work.stage) w.work w.made memory memory (got_on p.steps s) h.arrived) in
+      (takes_arrived (s + 1) 0 (count_of code) (begun w.work.stage) w.work w.made memory memory (got_on p.steps s) h.arrived) in
       let there : ReadsFrom s v p.state (got_on p.steps s) = record {
         handle = h.handle;
         has = h.has;

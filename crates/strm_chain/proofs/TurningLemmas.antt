@@ -34,10 +34,11 @@ makes_as : (g chunk chunk' : ℕ) (a b : Play) → chunk' ≡ chunk → Makes g 
 makes_as g chunk chunk' a b e m = subst (λ c. Makes g c a b) e m
 
 -- a guest is named by the remainder of a number of the schedule
-pub turns_mod : (chunk chunk' n r : ℕ) (schedule : List ℕ) (i d : ℕ) (a b c : Play) → i < length schedule → chunk' ≡ chunk → r ≡ n → TakesTurns chunk (map (λ s. s % n) (take i schedule)) a b → Makes (get_or schedule i d % r) chunk' b c → TakesTurns chunk (map (λ s. s % n) (take (i + 1) schedule)) a c
-turns_mod chunk chunk' n r schedule i d a b c l e k t m =
-    turns_at chunk (λ s. s % n) schedule i d a b c l t
-    (makes_as (get_or schedule i d % n) chunk chunk' b c e (subst (λ x. Makes (get_or schedule i d % x) chunk' b c) k m))
+module _ (chunk chunk' n r : ℕ) (schedule : List ℕ) (i d : ℕ) (a b c : Play) where
+  pub turns_mod : i < length schedule → chunk' ≡ chunk → r ≡ n → TakesTurns chunk (map (λ s. s % n) (take i schedule)) a b → Makes (get_or schedule i d % r) chunk' b c → TakesTurns chunk (map (λ s. s % n) (take (i + 1) schedule)) a c
+  turns_mod l e k t m =
+      turns_at chunk (λ s. s % n) schedule i d a b c l t
+      (makes_as (get_or schedule i d % n) chunk chunk' b c e (subst (λ x. Makes (get_or schedule i d % x) chunk' b c) k m))
 
 -- what was made first, and then turns
 pub run_of : (chunk : ℕ) (whos : List ℕ) (a b : Play) (steps : List Step) (told : List Reply) (state : State) → All IsMaking a.steps → TakesTurns chunk whos a b → steps ≡ b.steps → play [] start steps ≡ Ends told state → IsRun chunk whos steps told

@@ -7,3 +7,6 @@ pub mod Linking
 pub mod Keeping
 pub mod Turned
 pub mod Making
+pub mod Asking
+pub mod WordReading
+pub mod Serving

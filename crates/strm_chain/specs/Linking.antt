@@ -48,6 +48,8 @@ abbrev pub HoldsIf : ℕ → ℕ → List ℕ → Option Operation → List (Opt
 HoldsIf g at memory None rest = rest ≡ []
 HoldsIf g at memory (Some o) rest = Holds g at memory o rest
 
+-- a guest that reads to this place has taken bytes of what it received, and its stage has put out what it makes
+-- of them; the rest lies where the read that waits reads to
 pub record Takes (g at : ℕ) (first work : Work) (made memory : List ℕ) (o : Option Operation) (received : List (Option (List ℤ))) : Type 0 where
   pub taken : List ℕ
   pub rest : List (Option (List ℤ))

@@ -245,7 +245,9 @@ impl Chain {
         ensures error { IfErr result (λ error. error ≡ ChainError.OutOfMemory) }
     {
         let Chain {
-            player, workers, ..
+            player,
+            workers,
+            ..
         } = self;
         end_of(player, workers)
     }

@@ -4,9 +4,11 @@
 //! to guest i + 1. All that they do are steps of one store.
 #![tactic(auto)]
 
+mod asking;
 pub mod chains;
 pub mod lists;
 mod making;
 mod playing;
+pub mod serving;
 pub mod stages;
 pub mod workers;

@@ -108,7 +108,8 @@ impl Player {
         ensures { OnOk result (bytes.new ≡ bytes.old
             ++ take ((stream_at self.now.state stream).received - length bytes.old) (memory_in self.now.state.guests guest)) }
     {
-        let (Some(received), Some(memory)) = (self.store.moved(stream), self.store.memory(guest)) else {
+        let (Some(received), Some(memory)) = (self.store.moved(stream), self.store.memory(guest))
+        else {
             return Err(OutOfMemory);
         };
         let count = received.saturating_sub(bytes.as_slice().len() as u128);

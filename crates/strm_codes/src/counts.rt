@@ -9,13 +9,16 @@ ghost use Rattle.std.specs.Prelude.{Some, decimal};
 use std::cmp::Ordering;
 use std::fmt;
 use std::marker::Model;
+use thiserror::Error;
 
 /// A count reached 2^28, which the packed result of a read or write cannot say.
-#[derive(Clone, Copy, Debug, PartialEq, Eq)]
+#[derive(Clone, Copy, Debug, PartialEq, Eq, Error)]
+#[error("the count is 2^28 or more")]
 pub struct StreamOpTooBig;
 
 /// An allocation was refused.
-#[derive(Clone, Copy, Debug, PartialEq, Eq)]
+#[derive(Clone, Copy, Debug, PartialEq, Eq, Error)]
+#[error("out of memory")]
 pub struct OutOfMemory;
 
 /// A number of items, below [`ItemCount::MAX`].

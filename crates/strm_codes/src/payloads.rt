@@ -85,6 +85,7 @@ impl Shape {
     }
 
     // The bytes of an item.
+    #[inline(always)]
     fn size(&self) -> u32
         ensures exact { result ≡ item_size self.now }
         ensures most { result ≤ 64 }
@@ -93,6 +94,7 @@ impl Shape {
     }
 
     // The alignment of an item.
+    #[inline(always)]
     fn align(&self) -> u32
         ensures exact { result ≡ align_of self.now }
         ensures some { 1 ≤ result }
@@ -148,6 +150,7 @@ impl Payload {
     }
 
     /// The bytes of an item, padding included.
+    #[inline(always)]
     pub fn size(&self) -> u32
         ensures exact { result ≡ item_size (scalars_of self.now) }
         ensures most { result ≤ 64 }
@@ -160,6 +163,7 @@ impl Payload {
     }
 
     /// The alignment of an item, in bytes.
+    #[inline(always)]
     pub fn align(&self) -> u32
         ensures exact { result ≡ align_of (scalars_of self.now) }
         ensures some { 1 ≤ result }
@@ -173,6 +177,7 @@ impl Payload {
     }
 
     /// Whether an address is a multiple of the alignment of an item.
+    #[inline(always)]
     pub fn is_aligned(&self, address: u32) -> bool
         ensures { IsTrue result ↔ (address % align_of (scalars_of self.now) ≡ 0) }
     {
@@ -294,12 +299,14 @@ fn fields_in(form: u8) -> usize
     form as usize % 8 + 1
 }
 
+#[inline(always)]
 fn align_in(form: u8) -> u32
     ensures { result ≡ align_in form }
 {
     1 << (u32::from(form) / 8 % 4)
 }
 
+#[inline(always)]
 fn size_in(form: u8) -> u32
     ensures { result ≡ size_in form }
 {

@@ -36,7 +36,7 @@ pub enum ReaderError {
         found: TransmitKind,
     },
     /// The store did not answer, and what has changed is as it says.
-    #[error("the store did not answer")]
+    #[error("the store did not answer: {0}")]
     Store(StoreError),
 }
 

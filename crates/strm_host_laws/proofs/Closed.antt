@@ -26,13 +26,13 @@ use Rattle.strm_world.specs.Producing.{is_last}
 use Rattle.strm_world.specs.Consuming.{with_taken}
 use Rattle.strm_world.specs.Attaching.{hosted_stream, piped}
 use Rattle.strm_world.specs.HostPlays.{Ends, Halts, play}
-use Rattle.strm_world.specs.World.{World, stream_in, writer_at, reader_at, with_guests, with_consumer, with_writer, with_reader, without_writer, leaves_writer, leaves_reader, with_stream_in}
+use Rattle.strm_world.specs.World.{World, stream_in, writer_at, reader_at, with_guests, with_kept, with_consumer, with_writer, with_reader, without_writer, leaves_writer, leaves_reader, with_stream_in}
 use Rattle.strm_world.specs.HostRefusals.{is_unknown_host, is_used, refusal_in}
 use Rattle.strm_world.specs.Does.{start}
 use Rattle.strm_host_laws.specs.HostMoments.{Part, Acts, HostMoment, part_on, host_moments, last_of}
 use Rattle.strm_host_laws.specs.HostLaws.{is_ended, ClosesExactly}
 use Rattle.strm_host_laws.proofs.Chains.{is_part, Chain, moments-chain, StopsAt, play-ends, play-halts}
-use Rattle.strm_host_laws.proofs.Goings.{with_state, LeftBy, Begins, hosted, Rules, Halted, Comes, with_stream_in-same, part-comes, feed-comes, grant-comes}
+use Rattle.strm_host_laws.proofs.Goings.{with_state, with_passed, LeftBy, Begins, hosted, Rules, Halted, Comes, with_stream_in-same, part-comes, feed-comes, grant-comes}
 use Rattle.strm_machine.proofs.Ways.{HostsFrom, HostsFromIn, set-from}
 use Rattle.strm_machine.proofs.ShapeLemmas.{reaction-producers, reaction-from}
 use Rattle.strm_machine.proofs.TableLemmas.{set-keeps}
@@ -270,12 +270,14 @@ module _ (first : World) where
       opens = λ w s stream e. Stands-stream w s stream (λ n f. (sym e.owners.writer ∙ f, e.payload));
       polls = λ w n room said more e. Stands-writer w n (polled_writer (writer_at w n) room said more) refl refl;
       takes = λ w r took said more e. Stands-still w (with_reader w r (polled_reader (reader_at w r) took more)) refl refl (from_same w.state.streams);
+      overs = λ w n answer. Stands-producer w n (with_over_producer w n answer) refl;
+      gives = λ w n k. Stands-writer w n (given_writer (writer_at w n) k) refl refl;
+      keeps = λ w n items. Stands-still w (with_kept w n items) refl refl (from_same w.state.streams);
     };
     reacts = λ w act. Stands-still w (with_state w (reaction w.state act).state) refl (reaction-producers w.state act) (reaction-from w.state act);
     lowers = λ w guests. Stands-still w (with_guests w guests) refl refl (from_same w.state.streams);
-    overs = λ w n answer. Stands-producer w n (with_over_producer w n answer) refl;
-    gives = λ w n k. Stands-writer w n (given_writer (writer_at w n) k) refl refl;
     counts = λ w r answer taken. Stands-still w (with_taken w r answer taken) refl refl (from_same w.state.streams);
+    rests = λ w r answer taken. Stands-still w (with_passed w r answer taken) refl refl (from_same w.state.streams);
     leaves = λ w s stream l. Stands-stream w s stream (left_from (stream_in w s) stream l);
     hosts = λ w n e. new_stands w n (is_new w n e);
     pipes = λ w s r e h.
@@ -296,6 +298,9 @@ begins = record {
   opens = λ w s stream e n. ap (λ v. (writer_at v n).closed) (with_stream_in-same w s stream e.owners);
   polls = λ w n room said more e k. set-keeps (λ (x : Writer). x.closed) w.writers n k (polled_writer (writer_at w n) room said more) no_writer refl;
   takes = λ w r took said more e n. refl;
+  overs = λ w n answer k. refl;
+  gives = λ w n k j. set-keeps (λ (x : Writer). x.closed) w.writers n j (given_writer (writer_at w n) k) no_writer refl;
+  keeps = λ w n items k. refl;
 }
 
 -- RUNS

@@ -23,11 +23,15 @@ use Rattle.strm_world.specs.Driving.{if_open, driven_by, drive_turn, numbers_fro
 use Rattle.strm_world.proofs.OutcomeLemmas.{outcome-trapped}
 use Rattle.strm_host_laws.specs.HostMoments.{Part, Acts, Turns, HostMoment, parts_of, part_on, followed, acted, host_moments}
 use Rattle.strm_host_laws.proofs.Chains.{is_part}
-use Rattle.strm_host_laws.proofs.Forms.{HasTurned, reacted_to, Form, BySame, ByReacting, ByForsaking, ByHosting, ByFeeding, ByGranting, ByPiping, ByTurning, ByCalling}
+use Rattle.strm_host_laws.proofs.Forms.{HasTurned, reacted_to, Form, BySame, ByReacting, ByForsaking, ByHosting, ByFeeding, ByGranting, ByPiping, ByTurning, ByPassing, ByCalling}
 use Rattle.strm_host_laws.proofs.Goings.{IfGoes}
+use Rattle.strm_machine.proofs.HostLemmas.{serving_known}
+use Rattle.strm_world.specs.Piping.{pipe_round}
+use Rattle.strm_host_laws.proofs.Rounds.{HasPassed, round_is}
+use Rattle.strm_host_laws.proofs.Standing.{Holds}
 use Rattle.strm_host_laws.proofs.Lives.{Lives, goes_form, goes_lives}
 use Rattle.strm_host_laws.proofs.Turned.{turn_is, taking_is}
-use Rattle.strm_host_laws.proofs.WrittenBack.{back-length, turned_length, call_length, pipe_length}
+use Rattle.strm_host_laws.proofs.WrittenBack.{back-length, round_length, turned_length, call_length, pipe_length}
 
 -- the streams made
 abbrev pub streams_in : World → ℕ
@@ -55,11 +59,12 @@ module _ (first w : World) (l : Lives first w) where
   form_grows part reply v (ByGranting r count m e) = as_many v (ap streams_in e)
   form_grows part reply v (ByPiping t r m p) = as_many v (pipe_length w v t r p)
   form_grows part reply v (ByTurning side t n operation m i) = as_many v (turned_length side w t n operation v i.turned)
+  form_grows part reply v (ByPassing t n r m i) = as_many v (round_length w t n r v i.passed)
   form_grows part reply v (ByCalling side end address count n m r) = as_many v (call_length side w part v end address count n r)
 
 -- A TURN MAKES NONE
 
-module _ (w : World) (s : ℕ) where
+module _ (w : World) (s : ℕ) (holds : Holds w.state) where
   abbrev MakesNone : Outcome → Type 0
   MakesNone o = IfGoes o (λ reply v. streams_in v ≡ streams_in w)
 
@@ -73,15 +78,26 @@ module _ (w : World) (s : ℕ) where
       by (Stops stop writers readers) t = tt
       by Stuck t = tt
 
-  driven_makes_none : (stream : Stream) (writer reader : Owner) → MakesNone (driven_by w s stream writer reader)
-  driven_makes_none stream (Host n) (Host r) = refl
-  driven_makes_none stream (Host n) _ = open_makes_none Reading n stream.reader.operation (producer_turn w s n) (turn_is w s n)
-  driven_makes_none stream _ (Host r) = open_makes_none Writing r stream.writer.operation (consumer_turn w s r) (taking_is w s r)
-  driven_makes_none stream _ _ = refl
+  round_makes_none : (n r : ℕ) → (stream_in w s).writer.owner ≡ Host n → MakesNone (pipe_round w s n r)
+  round_makes_none n r e =
+      let known = serving_known w.state Writing n s holds.hosts ((holds.hosts.serve Writing n s).serves e) in
+      let all = holds.hosts.all_kept in
+      by (pipe_round w s n r) (round_is w s n r (omega (arith, known, all)))
+    where
+      by : (o : Outcome) → IfGoes o (HasPassed w s n r) → MakesNone o
+      by (Goes reply v) p = round_length w s n r v p.0
+      by (Stops stop writers readers) p = tt
+      by Stuck p = tt
+
+  driven_makes_none : (stream : Stream) (writer reader : Owner) → (stream_in w s).writer.owner ≡ writer → MakesNone (driven_by w s stream writer reader)
+  driven_makes_none stream (Host n) (Host r) e = round_makes_none n r e
+  driven_makes_none stream (Host n) _ e = open_makes_none Reading n stream.reader.operation (producer_turn w s n) (turn_is w s n)
+  driven_makes_none stream _ (Host r) e = open_makes_none Writing r stream.writer.operation (consumer_turn w s r) (taking_is w s r)
+  driven_makes_none stream _ _ e = refl
 
   turn_makes_none : MakesNone (drive_turn w s)
   unfolding drive_turn
-  turn_makes_none = driven_makes_none (stream_in w s) (stream_in w s).writer.owner (stream_in w s).reader.owner
+  turn_makes_none = driven_makes_none (stream_in w s) (stream_in w s).writer.owner (stream_in w s).reader.owner refl
 
 -- MOMENTS
 
@@ -98,7 +114,7 @@ module _ (first : World) where
       → length (acted w (map Turns xs) next) ≤ length xs + most
   turns_few [] w streams most next l few h = omega (arith, h w l few)
   turns_few (s ∷ xs) w streams most next l few h =
-      by (drive_turn w s) refl (turn_makes_none w s) (λ v k f. turns_few xs v streams most next k f h)
+      by (drive_turn w s) refl (turn_makes_none w s l.holds) (λ v k f. turns_few xs v streams most next k f h)
     where
       by : (o : Outcome) → drive_turn w s ≡ o → IfGoes o (λ reply v. streams_in v ≡ streams_in w) → ((v : World) → Lives first v → streams_in v ≤ streams → length (acted v (map Turns xs) next) ≤ length xs + most)
           → length (followed w (Turns s) o (λ v. acted v (map Turns xs) next)) ≤ suc (length xs) + most

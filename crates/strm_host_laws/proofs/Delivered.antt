@@ -1,7 +1,8 @@
 -- What a host writer produced is what was received and what is held, over the moments of a run.
-use Rattle.std.proofs.Common.{◌≡◌, ◌≢◌, ℕ, ◌+◌, ◌*◌, ◌^◌, ◌<◌, ◌≤◌, ◌||◌, Bool, true, false, cond, List, [], ◌∷◌, ◌++◌, length, map, take, get_or, Option, Some, refl, sym, ap, subst, ◌∙◌, ◌⊎◌, inl, inr, arith, append_assoc, append-nil, length-append}
-use Rattle.std.proofs.lemmas.Bool.{cases_eq, cases_lt, eq-eqb, ne_eqb}
+use Rattle.std.proofs.Common.{◌≡◌, ◌≢◌, ℕ, ◌+◌, ◌-◌, ◌*◌, ◌^◌, ◌<◌, ◌≤◌, ◌||◌, Bool, true, false, cond, List, [], ◌∷◌, ◌++◌, length, map, take, get_or, Option, Some, refl, sym, ap, subst, ◌∙◌, ◌⊎◌, inl, inr, arith, append_assoc, append-nil, length-append}
+use Rattle.std.proofs.lemmas.Bool.{cases_eq, cases_lt, eq-eqb, ne_eqb, or_parts, true≢false}
 use Rattle.std.proofs.lemmas.List.{map-append, get_or_past, get_or_push}
+use Rattle.strm_codes.specs.declared.codes.TransmitKind.TheVariants.{Future}
 use Rattle.strm_buffers.specs.Listing.{Item}
 use Rattle.strm_machine.specs.State.{no_stream, no_consumer, is_host}
 use Rattle.strm_machine.specs.Moments.{received}
@@ -12,6 +13,7 @@ use Rattle.strm_machine.specs.declared.acts.Act.TheVariants.{OnHost}
 use Rattle.strm_machine.specs.declared.acts.HostAct.TheVariants.{New}
 use Rattle.strm_machine.specs.declared.acts.NamedEnd.{NamedEnd}
 use Rattle.strm_machine.specs.declared.limits.Limits.{Limits}
+use Rattle.strm_machine.specs.declared.streams.Owner.{Owner}
 use Rattle.strm_machine.specs.declared.streams.Owner.TheVariants.{Host, Gone}
 use Rattle.strm_machine.specs.declared.streams.Side.{Side}
 use Rattle.strm_machine.specs.declared.streams.Side.TheVariants.{Writing, Reading}
@@ -23,30 +25,33 @@ use Rattle.strm_machine.specs.declared.replies.Reply.TheVariants as replies
 use Rattle.strm_buffers.specs.Tells.{Tells}
 use Rattle.strm_machine.specs.declared.steps.Step.{Step}
 use Rattle.strm_world.specs.Does.{start}
-use Rattle.strm_world.specs.World.{World, stream_in, writer_at, with_consumer, with_stream_in}
+use Rattle.strm_world.specs.World.{World, stream_in, writer_at, held_of, with_consumer, with_stream_in}
 use Rattle.strm_world.specs.Settling.{result_of}
 use Rattle.strm_world.specs.Attaching.{piped, without_ends, forsaken, hosted_stream}
 use Rattle.strm_host_laws.specs.HostMoments.{Part, Acts, HostMoment, host_moments, last_of}
-use Rattle.strm_host_laws.specs.HostLaws.{used_in, items_of, made_of, produced_by, produced_in, produced, host_got_in, host_got, is_made_by, is_hosted, held_by, DeliversAll}
+use Rattle.strm_host_laws.specs.HostLaws.{used_in, items_of, made_of, produced_by, produced_in, produced, host_got_in, host_got, is_made_by, is_hosted, is_piped_in, is_piped, held_by, held_first, DeliversAll}
 use Rattle.strm_host_laws.proofs.Chains.{Follows, Chain, moments-chain}
 use Rattle.strm_host_laws.proofs.Closed.{Stands-start}
 use Rattle.strm_host_laws.proofs.Counted.{moments_few}
 use Rattle.strm_host_laws.proofs.Fed.{take-front}
-use Rattle.strm_host_laws.proofs.Forms.{opened, called, reacted_to, stream_of, is_making, IsCall, IsPiping, Form, BySame, ByReacting, ByForsaking, ByHosting, ByFeeding, ByGranting, ByPiping, ByTurning, ByCalling}
+use Rattle.strm_host_laws.proofs.Forms.{opened, called, reacted_to, stream_of, is_making, IsCall, IsPiping, Form, BySame, ByReacting, ByForsaking, ByHosting, ByFeeding, ByGranting, ByPiping, ByTurning, ByPassing, ByCalling}
 use Rattle.strm_host_laws.proofs.Goings.{hosted, piped_to, moved_on-payload}
-use Rattle.strm_host_laws.proofs.Effects.{follows_effect}
+use Rattle.strm_host_laws.proofs.Effects.{Effect, follows_effect}
 use Rattle.strm_host_laws.proofs.GuestsSeen.{effect_makes}
-use Rattle.strm_host_laws.proofs.PartsSeen.{IsTaken, effect_taken}
+use Rattle.strm_host_laws.proofs.PartsSeen.{IsTaken, owner_taken, effect_taken}
+use Rattle.strm_host_laws.proofs.Duties.{effect_unread_by}
+use Rattle.strm_host_laws.proofs.HostBytes.{ReadOrRoomy, ReadOrRoomFor, effect_kind}
+use Rattle.strm_host_laws.proofs.FutureWritten.{ReadsOne, OneWritten, one_most, moment_onward}
 use Rattle.strm_host_laws.proofs.Turned.{taken_by, stream_taken, Taken}
 use Rattle.strm_host_laws.proofs.TurnMoves.{moved-mine}
 use Rattle.strm_host_laws.proofs.Lives.{AllSupply, Lives, owned_made, owned_quiet, drive_can, read_can, goes_form, follows_lives}
-use Rattle.strm_host_laws.proofs.Moments.{holds_before, nothing_by, touch_delivers}
+use Rattle.strm_host_laws.proofs.Moments.{holds_before, capped, Delivers, nothing_unhosted, touch_delivers}
 use Rattle.strm_machine.proofs.Ways.{HostsFrom, set-from, delivered-from}
 use Rattle.strm_machine.proofs.ShapeLemmas.{reaction-from}
-use Rattle.strm_host_laws.proofs.Standing.{Holds-empty}
-use Rattle.strm_host_laws.proofs.Touched.{reaction-made, Touch, NotTouched, IsLost, HasTurn, HasRead, form_touch}
+use Rattle.strm_host_laws.proofs.Standing.{Holds-empty, nothing_kept}
+use Rattle.strm_host_laws.proofs.Touched.{reaction-made, Touch, NotTouched, IsLost, HasTurn, HasRound, HasRead, form_touch}
 use Rattle.strm_host_laws.proofs.Unmoved.{push-other, WriterGone}
-use Rattle.strm_host_laws.proofs.WrittenBack.{back-streams, back-other, back-length, turned-other, turned_length, call_length, pipe_length}
+use Rattle.strm_host_laws.proofs.WrittenBack.{round_other, round_length, back-streams, back-other, back-length, turned-other, turned_length, call_length, pipe_length}
 use Rattle.strm_machine.proofs.HostLemmas.{no_host, unless_host}
 
 -- MOMENTS THAT MAKE NO STREAM OF A NUMBER
@@ -77,6 +82,7 @@ form_makes_not s w part reply v ne (ByFeeding n bytes m e) = unmaking s w part r
 form_makes_not s w part reply v ne (ByGranting r count m e) = unmaking s w part reply m
 form_makes_not s w part reply v ne (ByPiping t r m p) = unmaking s w part reply m
 form_makes_not s w part reply v ne (ByTurning side t n operation m i) = unmaking s w part reply m
+form_makes_not s w part reply v ne (ByPassing t n r m i) = unmaking s w part reply m
 form_makes_not s w part reply v ne (ByCalling side end address count n m r) = unmaking s w part reply m
 
 -- A STREAM THAT NO HOST WRITER WRITES
@@ -170,6 +176,8 @@ module _ (first w : World) (s : ℕ) (l : Lives first w) (u : IsUnhosted s w) wh
   form_unhosted part reply v ne (ByTurning Reading t n read m i) =
       ap (λ (x : Stream). is_host x.writer.owner) (turned-other w t n read v i.turned (drive_can first w part v t n read l i) s (off t n i.owner)) ∙ u
   form_unhosted part reply v ne (ByTurning Writing t r write m i) = taken_unhosted w v t r write i.turned u
+  form_unhosted part reply v ne (ByPassing t n r m i) =
+      ap (λ (x : Stream). is_host x.writer.owner) (round_other w t n r v i.passed s (off t n i.wrote)) ∙ u
   form_unhosted part reply v ne (ByCalling Reading end address count n m r) =
       ap (λ (x : Stream). is_host x.writer.owner) (read_same part v end address count n r) ∙ u
   form_unhosted part reply v ne (ByCalling Writing end address count n m r) = write_unhosted part v end address count n r
@@ -192,6 +200,7 @@ module _ (first w : World) (s : ℕ) (l : Lives first w) (made : s < length w.st
   form_made part reply v (ByGranting r count m e) = long_as v (ap (λ (x : World). length x.state.streams) e)
   form_made part reply v (ByPiping t r m p) = long_as v (pipe_length w v t r p)
   form_made part reply v (ByTurning side t n operation m i) = long_as v (turned_length side w t n operation v i.turned)
+  form_made part reply v (ByPassing t n r m i) = long_as v (round_length w t n r v i.passed)
   form_made part reply v (ByCalling side end address count n m r) = long_as v (call_length side w part v end address count n r)
 
 -- RUNS
@@ -224,20 +233,22 @@ module _ (first : World) where
     count : received s (last_of w all).state ≡ received s w.state
     owner : (stream_in (last_of w all) s).writer.owner ≡ Gone
     unhosted : is_hosted s all ≡ false
+    kind : (stream_in (last_of w all) s).kind ≡ (stream_in w s).kind
 
   gone_stays : (s : ℕ) (m : HostMoment) → (stream_in m.before s).writer.owner ≡ Gone → Touch s m.before m.part m.after
       → ((stream_in m.after s).writer.owner ≡ Gone) × (received s m.after.state ≡ received s m.before.state)
   gone_stays s m e (NotTouched a) = (a.stream.writer ∙ e, a.stream.received)
   gone_stays s m e (IsLost n f) = let wrong : Gone ≡ Host n = sym e ∙ f.was in cc
   gone_stays s m e (HasTurn n read i) = let wrong : Gone ≡ Host n = sym e ∙ i.owner in cc
+  gone_stays s m e (HasRound n r i) = let wrong : Gone ≡ Host n = sym e ∙ i.wrote in cc
   gone_stays s m e (HasRead end address count n at r) = let wrong : Gone ≡ Host n = sym e ∙ ap (λ k. (stream_in m.before k).writer.owner) (sym at) ∙ r.owner in cc
 
   -- what became of its write end is kept
   moment_taken : (s : ℕ) (m : HostMoment) → Follows m.before m → Lives first m.before → IsTaken Writing m.before.state s → IsTaken Writing m.after.state s
-  moment_taken s m f l = effect_taken Writing m.before.state m.after.state m.part m.reply s l.holds (follows_effect m.before m f)
+  moment_taken s m f l = effect_taken Writing m.before.state m.after.state m.part m.reply s l.holds (follows_effect m.before m l.holds.hosts f)
 
   gone_run : (s : ℕ) (w : World) (all : List HostMoment) → Chain w all → Lives first w → (stream_in w s).writer.owner ≡ Gone → IsTaken Writing w.state s → GoneRun s w all
-  gone_run s w [] c l e taken = record { got = refl; made = refl; count = refl; owner = e; unhosted = refl }
+  gone_run s w [] c l e taken = record { got = refl; made = refl; count = refl; owner = e; unhosted = refl; kind = refl }
   gone_run s w (m ∷ more) c l e taken =
       subst (λ x. GoneRun s x (m ∷ more)) c.0.begins
       (here (from_itself w m c.0) (subst (Lives first) (sym c.0.begins) l) (ap (λ x. (stream_in x s).writer.owner) c.0.begins ∙ e) (subst (λ (x : World). IsTaken Writing x.state s) (sym c.0.begins) taken)
@@ -251,25 +262,31 @@ module _ (first : World) where
           let stays = gone_stays s m e (form_touch first m.before s l taken.made (WriterGone e taken.idle) m.part m.reply m.after form) in
           let rest = next (moment_lives m f l) stays.0 (moment_taken s m f l taken) in
           record {
-            got = ap (λ g. g ++ host_got s more) (nothing_by s m stays.1 (stream_in m.before s).reader.owner) ∙ rest.got;
+            got = ap (λ g. g ++ host_got s more) (nothing_unhosted s m stays.1 (ap is_host e) (stream_in m.before s).reader.owner) ∙ rest.got;
             made = produced_split s m more not.made [] (ap (produced_by m) e) ∙ rest.made;
             count = rest.count ∙ stays.1;
             owner = rest.owner;
             unhosted = or_both (is_made_by s m.part m.reply) (is_hosted s more) not.by rest.unhosted;
+            kind = rest.kind ∙ effect_kind m.before.state m.after.state m.part m.reply s l.holds taken.made (follows_effect m.before m l.holds.hosts f);
           }
 
   -- A STREAM OF A HOST WRITER
 
   record HostedRun (s n : ℕ) (w : World) (all : List HostMoment) : Type 0 where
     rest : List Item
-    balance : map Some ((writer_at w n).holds ++ produced s all) ≡ host_got s all ++ map Some rest
-    count : received s (last_of w all).state ≡ received s w.state + length (host_got s all)
+    balance : map Some (held_of w n ++ produced s all) ≡ host_got s all ++ map Some rest
+    count : received s (last_of w all).state ≡ capped (received s w.state + length (host_got s all))
+    exact : is_host (stream_in w s).reader.owner ≡ false → is_piped s all ≡ false → received s (last_of w all).state ≡ received s w.state + length (host_got s all)
     ends : is_host (stream_in (last_of w all) s).writer.owner ≡ true → rest ≡ held_by (last_of w all) (stream_in (last_of w all) s).writer.owner
     unhosted : is_hosted s all ≡ false
+    kind : (stream_in (last_of w all) s).kind ≡ (stream_in w s).kind
+    one : (stream_in w s).kind ≡ Future → OneWritten w s n → received s (last_of w all).state ≤ 1
 
-  -- counts have room for the items of these moments
-  abbrev HasRoom : ℕ → World → List HostMoment → Type 0
-  HasRoom s w all = received s w.state + 2 ^ 28 * length all < 2 ^ 128
+  -- counts are in their type, and have room for the items of these moments, unless a host reader has, or had, the
+  -- read end
+  record HasRoom (s : ℕ) (w : World) (all : List HostMoment) : Type 0 where
+    bound : received s w.state ≤ 2 ^ 128 - 1
+    room : ReadOrRoomFor w.state s (length all)
 
   -- what one moment and those behind it produced
   balance_both : (held p q r t h : List Item) (x y : List (Option Item)) → map Some (held ++ p) ≡ x ++ map Some r → r ≡ h → map Some (h ++ q) ≡ y ++ map Some t
@@ -282,6 +299,13 @@ module _ (first : World) where
       ∙ ap (λ zs. x ++ zs) (sym (map-append Some r q) ∙ ap (λ zs. map Some (zs ++ q)) f ∙ k)
       ∙ sym (append_assoc x y (map Some t))
 
+  -- counts that stop at the end of their type
+  under_cap : (a n : ℕ) → a ≡ capped n → a ≤ 2 ^ 128 - 1
+  under_cap a n e = omega (arith, e)
+
+  twice_capped : (a b c g k : ℕ) → b ≡ capped (a + g) → c ≡ capped (b + k) → c ≡ capped (a + (g + k))
+  twice_capped a b c g k e f = omega (arith, e, f)
+
   -- by what comes of the moments behind the first
   abbrev Behind : ℕ → ℕ → HostMoment → List HostMoment → Type 0
   Behind s n m more = Lives first m.after → (stream_in m.after s).writer.owner ≡ Host n → IsTaken Writing m.after.state s → HasRoom s m.after more → HostedRun s n m.after more
@@ -293,9 +317,11 @@ module _ (first : World) where
       let form = moment_form m f l in
       let not = form_makes_not s m.before m.part m.reply m.after (λ g. absurd (omega (arith, made, g))) form in
       let touch = form_touch first m.before s l made (owned_quiet m.before.state s n l.holds o) m.part m.reply m.after form in
-      let d = touch_delivers first m l s n o (omega (arith, room)) touch in
+      let d = touch_delivers first m l s n o room.bound (room_here room.room) form touch in
       let live = moment_lives m f l in
+      let effect = follows_effect m.before m l.holds.hosts f in
       let here : produced s (m ∷ more) ≡ items_of (used_in n m) ++ produced s more = produced_split s m more not.made (items_of (used_in n m)) (ap (produced_by m) o) in
+      let kinds = effect_kind m.before.state m.after.state m.part m.reply s l.holds made effect in
       let g = host_got_in s m in
       elim d.ends [
         | inl gone ↦ (
@@ -307,31 +333,62 @@ module _ (first : World) where
                   ap (λ xs. map Some (holds_before n m ++ xs)) (here ∙ ap (λ xs. items_of (used_in n m) ++ xs) k.made ∙ append-nil (items_of (used_in n m)))
                   ∙ d.balance
                   ∙ ap (λ xs. xs ++ map Some d.rest) (sym (append-nil g) ∙ ap (λ xs. g ++ xs) (sym k.got));
-              count = omega (arith, k.count, d.count, left);
+              count = k.count ∙ d.count ∙ ap (λ j. capped (received s m.before.state + j)) (sym left);
+              exact = λ u v. (let once = (d.exact u).counted in omega (arith, k.count, once, left));
               ends = λ h. absurd (let wrong : is_host Gone ≡ true = ap is_host (sym k.owner) ∙ h in cc);
               unhosted = or_both (is_made_by s m.part m.reply) (is_hosted s more) not.by k.unhosted;
+              kind = k.kind ∙ kinds;
+              one = λ future h. (let most = (moment_onward first m s n l o future h form touch).most in omega (arith, most, k.count));
             })
         | inr stays ↦ (
-            let k = next live stays.0 (moment_taken s m f l taken) (omega (arith, room, d.count, d.few)) in
+            let k = next live stays.0 (moment_taken s m f l taken) (room_after d effect room.room) in
             let long = length-append g (host_got s more) in
             record {
               rest = k.rest;
               balance =
                   ap (λ xs. map Some (holds_before n m ++ xs)) here
-                  ∙ balance_both (holds_before n m) (items_of (used_in n m)) (produced s more) d.rest k.rest (writer_at m.after n).holds g (host_got s more) d.balance (sym stays.1) k.balance;
-              count = omega (arith, k.count, d.count, long);
+                  ∙ balance_both (holds_before n m) (items_of (used_in n m)) (produced s more) d.rest k.rest (held_of m.after n) g (host_got s more) d.balance (sym stays.1) k.balance;
+              count = twice_capped (received s m.before.state) (received s m.after.state) (received s (last_of m.after more).state) (length g) (length (host_got s more)) d.count k.count ∙ ap (λ j. capped (received s m.before.state + j)) (sym long);
+              exact = λ u v. (
+                  let parts = or_parts (is_piped_in s m.part m.reply) (is_piped s more) v in
+                  let once = (d.exact u).counted in
+                  let rest = k.exact (effect_unread_by m.before.state m.after.state m.part m.reply s l.holds live.holds effect u parts.0) parts.1 in
+                  omega (arith, once, rest, long));
               ends = k.ends;
               unhosted = or_both (is_made_by s m.part m.reply) (is_hosted s more) not.by k.unhosted;
+              kind = k.kind ∙ kinds;
+              one = λ future h. k.one (kinds ∙ future) ((moment_onward first m s n l o future h form touch).one stays.0);
             })
       ]
+    where
+      -- there is room for the items of this moment
+      room_here : ReadOrRoomFor m.before.state s (length (m ∷ more)) → ReadOrRoomy m.before.state s
+      room_here (inl read) = inl read
+      room_here (inr b) = inr (omega (arith, b))
+
+      -- and for those of the others
+      room_after : Delivers s n m → Effect m.before.state m.part m.reply m.after.state → ReadOrRoomFor m.before.state s (length (m ∷ more)) → HasRoom s m.after more
+      room_after d effect (inl read) = record { bound = under_cap (received s m.after.state) _ d.count; room = inl (effect_taken Reading m.before.state m.after.state m.part m.reply s l.holds effect read) }
+      room_after d effect (inr b) = record { bound = under_cap (received s m.after.state) _ d.count; room = by (stream_in m.before s).reader.owner refl }
+        where
+          by : (owner : Owner) → (stream_in m.before s).reader.owner ≡ owner → ReadOrRoomFor m.after.state s (length more)
+          by (Host r) e = inl (effect_taken Reading m.before.state m.after.state m.part m.reply s l.holds effect (owner_taken Reading m.before.state s r l.holds e))
+          by owner e = (
+              let x = d.exact (unless_host (stream_in m.before s).reader.owner (λ r g. let wrong = sym e ∙ g in cc)) in
+              let once = x.counted in
+              let few = x.few in
+              inr (omega (arith, b, once, few)))
 
   hosted_run : (s n : ℕ) (w : World) (all : List HostMoment) → Chain w all → Lives first w → (stream_in w s).writer.owner ≡ Host n → IsTaken Writing w.state s → HasRoom s w all → HostedRun s n w all
   hosted_run s n w [] c l o taken room = record {
-    rest = (writer_at w n).holds;
-    balance = ap (map Some) (append-nil (writer_at w n).holds);
-    count = omega arith;
+    rest = held_of w n;
+    balance = ap (map Some) (append-nil (held_of w n));
+    count = (let bound = room.bound in omega (arith, bound));
+    exact = λ u v. omega arith;
     ends = λ h. ap (held_by w) (sym o);
     unhosted = refl;
+    kind = refl;
+    one = λ future h. one_most w s n h;
   }
   hosted_run s n w (m ∷ more) c l o taken room =
       subst (λ x. HostedRun s n x (m ∷ more)) c.0.begins
@@ -367,7 +424,9 @@ module _ (first : World) where
   record NewRun (s : ℕ) (w : World) (all : List HostMoment) : Type 0 where
     there : is_host (stream_in (last_of w all) s).writer.owner ≡ true → map Some (produced s all) ≡ host_got s all ++ map Some (held_by (last_of w all) (stream_in (last_of w all) s).writer.owner)
     shares : is_hosted s all ≡ true → Shares s all
-    count : is_hosted s all ≡ true → length (host_got s all) ≡ received s (last_of w all).state
+    count : is_hosted s all ≡ true → is_piped s all ≡ false → length (host_got s all) ≡ received s (last_of w all).state
+    capped_count : is_hosted s all ≡ true → received s (last_of w all).state ≡ capped (length (host_got s all))
+    one : is_hosted s all ≡ true → (stream_in (last_of w all) s).kind ≡ Future → length (held_first s all) ≤ 1 → received s (last_of w all).state ≤ 1
 
   -- nothing stands past the last stream
   past : (s : ℕ) (w : World) → length w.state.streams ≤ s → stream_in w s ≡ no_stream
@@ -401,6 +460,7 @@ module _ (first : World) where
   making_form s w part reply v l le t (ByGranting r count m e) = absurd (let wrong : true ≡ false = sym t ∙ m in cc)
   making_form s w part reply v l le t (ByPiping k r m p) = absurd (let wrong : true ≡ false = sym t ∙ m in cc)
   making_form s w part reply v l le t (ByTurning side k n operation m i) = absurd (let wrong : true ≡ false = sym t ∙ m in cc)
+  making_form s w part reply v l le t (ByPassing k n r m i) = absurd (let wrong : true ≡ false = sym t ∙ m in cc)
   making_form s w part reply v l le t (ByCalling side end address count n m r) = absurd (let wrong : true ≡ false = sym t ∙ m in cc)
 
   made_or_not : (s : ℕ) (w : World) (part : Part) (reply : Reply) (v : World) (b : Bool) → is_making part reply ≡ b → Lives first w → length w.state.streams ≤ s → Form w part reply v → MadeOrNot s w part reply v
@@ -419,22 +479,40 @@ module _ (first : World) where
         let now : stream_in m.after s ≡ stream = ap (λ x. stream_in x s) h.is ∙ ap (λ k. get_or (w.state.streams ++ stream ∷ []) k no_stream) h.number ∙ get_or_push w.state.streams stream no_stream (length w.state.streams) refl in
         let none : received s m.after.state ≡ 0 = ap (λ (x : Stream). x.received) now in
         let before : received s w.state ≡ 0 = ap (λ (x : Stream). x.received) (past s w le) in
-        let nothing = nothing_by s m (none ∙ sym before) (stream_in w s).reader.owner in
+        let nothing = nothing_unhosted s m (none ∙ sym before) (past_unhosted s w le) (stream_in w s).reader.owner in
         let num = eq-eqb (length w.state.streams) s (sym h.number) in
         let made : made_of s w m.part m.reply ≡ (writer_at w n).holds = ap (λ x. made_of s w x m.reply) h.part_is ∙ ap (made_of s w (Acts (OnHost n New))) h.reply_is ∙ ap (λ b. cond b (writer_at w n).holds []) num in
         let by : is_made_by s m.part m.reply ≡ true = ap (λ x. is_made_by s x m.reply) h.part_is ∙ ap (is_made_by s (Acts (OnHost n New))) h.reply_is ∙ num in
-        let taken = effect_makes w.state m.after.state m.part m.reply s (follows_effect w m f) by in
-        let k = hosted_run s n m.after more c (moment_lives m f l) (ap (λ (x : Stream). x.writer.owner) now) taken (omega (arith, none, room)) in
+        let taken = effect_makes w.state m.after.state m.part m.reply s (follows_effect w m l.holds.hosts f) by in
+        let own : (stream_in m.after s).writer.owner ≡ Host n = ap (λ (x : Stream). x.writer.owner) now in
+        let unread : is_host (stream_in m.after s).reader.owner ≡ false = ap (λ (x : Stream). is_host x.reader.owner) now in
+        let live = moment_lives m f l in
+        let k = hosted_run s n m.after more c live own taken (record { bound = omega (arith, none); room = inr (omega (arith, none, room)) }) in
         let unwritten : produced_in s m ≡ [] = ap (λ (x : Stream). produced_by m x.writer.owner) (past s w le) in
-        let held : (writer_at m.after n).holds ≡ (writer_at w n).holds = ap (λ x. (writer_at x n).holds) h.is in
-        let all_made : produced s (m ∷ more) ≡ (writer_at m.after n).holds ++ produced s more = ap (λ xs. xs ++ (produced_in s m ++ produced s more)) (made ∙ sym held) ∙ ap (λ xs. (writer_at m.after n).holds ++ (xs ++ produced s more)) unwritten in
+        let held : held_of m.after n ≡ (writer_at w n).holds =
+        ap (λ ks. ks ++ (writer_at m.after n).holds) (nothing_kept m.after.state s n live.holds.hosts own unread) ∙ ap (λ x. (writer_at x n).holds) h.is in
+        let all_made : produced s (m ∷ more) ≡ held_of m.after n ++ produced s more = ap (λ xs. xs ++ (produced_in s m ++ produced s more)) (made ∙ sym held) ∙ ap (λ xs. held_of m.after n ++ (xs ++ produced s more)) unwritten in
         let all_got : host_got s (m ∷ more) ≡ host_got s more = ap (λ xs. xs ++ host_got s more) nothing in
         let balance : map Some (produced s (m ∷ more)) ≡ host_got s (m ∷ more) ++ map Some k.rest = ap (map Some) all_made ∙ k.balance ∙ ap (λ xs. xs ++ map Some k.rest) (sym all_got) in
         let long = ap length all_got in
         record {
           there = λ q. balance ∙ ap (λ xs. host_got s (m ∷ more) ++ map Some xs) (k.ends q);
           shares = λ q. record { rest = k.rest; balance = balance };
-          count = λ q. omega (arith, k.count, none, long);
+          count = λ q v. (let rest = k.exact unread (or_parts (is_piped_in s m.part m.reply) (is_piped s more) v).1 in omega (arith, rest, none, long));
+          capped_count = λ q. omega (arith, k.count, none, long);
+          one = λ q future few. (
+              let passed : (stream_in m.after s).passed ≡ false = ap (λ (x : Stream). x.passed) now in
+              let long = length-append (made_of s w m.part m.reply) (held_first s more) in
+              let same = ap length made in
+              let most : length (writer_at w n).holds ≤ 1 = omega (arith, few, long, same) in
+              k.one (sym k.kind ∙ future)
+              (record {
+                count = none ∙ ap (λ p. cond p 1 0) (sym passed);
+                held = λ e. subst (λ xs. length xs ≤ 1) (sym held) most;
+                loose = λ e. passed;
+                reads = subst (λ x. ReadsOne x (stream_in m.after s).passed) (sym (ap (λ (x : Stream). x.reader.operation) now)) tt;
+                rests = λ r e p. absurd (true≢false (sym p ∙ passed));
+              }));
         }
 
     -- it is made with a guest's write end, or not yet
@@ -447,12 +525,14 @@ module _ (first : World) where
               record {
                 there = λ h. absurd (let wrong : true ≡ false = sym h ∙ k.owner in cc);
                 shares = λ h. absurd (let wrong : true ≡ false = sym h ∙ none in cc);
-                count = λ h. absurd (let wrong : true ≡ false = sym h ∙ none in cc);
+                count = λ h v. absurd (let wrong : true ≡ false = sym h ∙ none in cc);
+                capped_count = λ h. absurd (let wrong : true ≡ false = sym h ∙ none in cc);
+                one = λ h future few. absurd (let wrong : true ≡ false = sym h ∙ none in cc);
               })
           | inr after ↦ (
               let k = next after in
               let same : received s m.after.state ≡ received s m.before.state = ap (λ (x : Stream). x.received) (past s m.after after ∙ sym (past s m.before le)) in
-              let nothing = nothing_by s m same (stream_in m.before s).reader.owner in
+              let nothing = nothing_unhosted s m same (past_unhosted s m.before le) (stream_in m.before s).reader.owner in
               let all_got : host_got s (m ∷ more) ≡ host_got s more = ap (λ xs. xs ++ host_got s more) nothing in
               let all_made : produced s (m ∷ more) ≡ produced s more = produced_split s m more not.made [] (ap (λ (x : Stream). produced_by m x.writer.owner) (past s m.before le)) in
               let hosted_later : is_hosted s (m ∷ more) ≡ is_hosted s more = ap (λ b. b || is_hosted s more) not.by in
@@ -460,7 +540,9 @@ module _ (first : World) where
               record {
                 there = λ h. ap (map Some) all_made ∙ k.there h ∙ ap (λ xs. xs ++ map Some (held_by (last_of m.after more) (stream_in (last_of m.after more) s).writer.owner)) (sym all_got);
                 shares = λ h. (let x = k.shares (sym hosted_later ∙ h) in record { rest = x.rest; balance = ap (map Some) all_made ∙ x.balance ∙ ap (λ xs. xs ++ map Some x.rest) (sym all_got) });
-                count = λ h. long ∙ k.count (sym hosted_later ∙ h);
+                count = λ h v. long ∙ k.count (sym hosted_later ∙ h) (or_parts (is_piped_in s m.part m.reply) (is_piped s more) v).1;
+                capped_count = λ h. k.capped_count (sym hosted_later ∙ h) ∙ ap capped (sym long);
+                one = λ h future few. k.one (sym hosted_later ∙ h) future (subst (λ xs. length (xs ++ held_first s more) ≤ 1) not.made few);
               })
         ]
 
@@ -475,7 +557,9 @@ module _ (first : World) where
   new_run s w [] c l le room = record {
     there = λ h. absurd (let wrong : is_host Gone ≡ true = ap (λ (x : Stream). is_host x.writer.owner) (sym (past s w le)) ∙ h in cc);
     shares = λ h. cc;
-    count = λ h. cc;
+    count = λ h v. cc;
+    capped_count = λ h. cc;
+    one = λ h future few. cc;
   }
   new_run s w (m ∷ more) c l le room =
       subst (λ x. NewRun s x (m ∷ more)) c.0.begins
@@ -494,6 +578,8 @@ module _ (first : World) where
         there = k.there;
         given_up = λ h. (let x = k.shares h in first_of_all (host_got s all) (map Some x.rest) (map Some (produced s all)) x.balance);
         count = k.count;
+        capped = k.capped_count;
+        one = λ h future few. (let most = k.one h future few in let counted = k.capped_count h in omega (arith, most, counted));
       }
 
 -- RUNS FROM AN UNUSED STORE

@@ -1,8 +1,8 @@
 -- What becomes of what a host reader does: it stays, or it is over, or the reader gets its stream.
-use Rattle.std.proofs.Common.{◌≡◌, ◌≢◌, ℕ, ◌<◌, Bool, true, false, cond, length, get_or, sym, ap, subst, ◌∙◌, ◌⊎◌, inl, inr, arith}
-use Rattle.std.proofs.lemmas.Bool.{cases_eq}
+use Rattle.std.proofs.Common.{◌≡◌, ◌≢◌, ℕ, ◌<◌, ◌==◌, Bool, true, false, cond, length, get_or, sym, ap, subst, ◌∙◌, ◌⊎◌, inl, inr, arith}
+use Rattle.std.proofs.lemmas.Bool.{cases_eq, eq-eqb, true≢false}
 use Rattle.std.proofs.lemmas.List.{get_or-set_same, get_or-set_other, length-set}
-use Rattle.strm_machine.specs.State.{State, no_consumer, stream_at, consumer_at}
+use Rattle.strm_machine.specs.State.{State, no_consumer, stream_at, consumer_at, is_host}
 use Rattle.strm_machine.specs.Sides.{opposite, end_of}
 use Rattle.strm_machine.specs.Meetings.{begun}
 use Rattle.strm_machine.specs.Reactions.{reaction}
@@ -17,12 +17,13 @@ use Rattle.strm_machine.specs.declared.streams.Operation.{Operation}
 use Rattle.strm_machine.specs.declared.streams.Owner.TheVariants.{Host}
 use Rattle.strm_machine.specs.declared.streams.Side.{Side}
 use Rattle.strm_machine.specs.declared.streams.Side.TheVariants.{Writing, Reading}
-use Rattle.strm_machine.proofs.HostLemmas.{serving_known}
+use Rattle.strm_machine.proofs.HostLemmas.{serving_known, no_host, unless_host}
 use Rattle.strm_machine.proofs.ShapeLemmas.{reaction-consumers}
 use Rattle.strm_world.proofs.SettleLemmas.{is_done_with}
 use Rattle.strm_host_laws.specs.HostMoments.{Part, Acts}
-use Rattle.strm_host_laws.proofs.Effects.{opened_by, piped_in, ByStaying, ByGone, ByDry, Pipes, Effect, ByReaction, ByRest, ByHosting, ByPiping, ByDriving, ByCalling, ByForsaking}
-use Rattle.strm_host_laws.proofs.HostsAgree.{known_all}
+use Rattle.strm_host_laws.specs.HostLaws.{is_piped_in}
+use Rattle.strm_host_laws.proofs.Effects.{opened_by, piped_in, ByStaying, ByGone, ByDry, Pipes, Effect, ByReaction, ByRest, ByHosting, ByPiping, ByDriving, ByPassing, ByCalling, ByForsaking}
+use Rattle.strm_host_laws.proofs.HostsAgree.{known_all, one_stream}
 use Rattle.strm_host_laws.proofs.HostTurns.{known_on, Leaves, leaves_ended, with_ended, Turned}
 use Rattle.strm_host_laws.proofs.Standing.{Holds, Holds-reaction}
 
@@ -109,6 +110,18 @@ effect_duty k old new part reply h (ByPiping t r p x) =
     ]
 effect_duty k old new part reply h (ByDriving side t p done d) =
     of_either k old new part reply (turned_duty side old new t d.host d.operation d.turned (known_owner (opposite side) old t d.host h d.owner) k)
+effect_duty k old new part reply h (ByPassing t p done x) =
+    let same : duty x.mid k ≡ duty old k = x.duties.same Reading k in
+    elim x.ends [
+      | inl e ↦ Stays (ap (λ (y : State). duty y k) e ∙ same)
+      | inr e ↦
+          let read = known_owner Reading old t x.reader h x.read in
+          let known : x.reader < known_on Reading x.mid = (let all = x.duties.all Reading in omega (arith, read, all)) in
+          of_either k old new part reply
+          (subst (λ d. StaysOrEnds d (duty new k)) same
+          (subst (λ d. StaysOrEnds (duty x.mid k) d) (sym (ap (λ (y : State). duty y k) e))
+          (leaves_duty Reading true x.reader x.mid (with_ended Reading x.mid x.reader) (leaves_ended Reading x.reader x.mid) known k)))
+    ]
 effect_duty k old new part reply h (ByCalling side end address count p c) =
     let at = stream_named (named old end) in
     let operation = begun end.guest address (items_asked end.ty count) in
@@ -123,3 +136,21 @@ effect_duty k old new part reply h (ByForsaking act p f) =
     (subst (λ d. StaysOrEnds d (duty new k)) same
     (subst (λ d. StaysOrEnds (duty mid k) d) (sym (ap (λ (x : State). duty x k) f.is))
     (leaves_duty other true f.host mid (with_ended other mid f.host) (leaves_ended other f.host mid) (known_owner other mid f.stream f.host (Holds-reaction old act h) f.owner) k)))
+
+-- a stream whose read end goes to no host reader has none
+pub effect_unread_by : (old new : State) (part : Part) (reply : Reply) (s : ℕ) → Holds old → Holds new → Effect old part reply new → is_host (stream_at old s).reader.owner ≡ false → is_piped_in s part reply ≡ false → is_host (stream_at new s).reader.owner ≡ false
+effect_unread_by old new part reply s h after effect u v =
+    unless_host (stream_at new s).reader.owner
+    (λ k e.
+    let serves = (after.hosts.serve Reading k s).serves e in
+    elim (effect_duty k old new part reply h effect) [
+      | Stays same ↦ no_host (stream_at old s).reader.owner k u ((h.hosts.serve Reading k s).owns (sym same ∙ serves))
+      | Ends over ↦ let wrong : Ended ≡ Serves s = sym over ∙ serves in cc
+      | Gets t p x ↦ elim (pipes_duty old new t k reply h x) [
+        | inl is ↦
+            let here : (t == s) ≡ true = eq-eqb t s (one_stream t s (sym is ∙ serves)) in
+            let piped : is_piped_in s part reply ≡ (t == s) = ap (λ q. is_piped_in s q reply) p ∙ ap (is_piped_in s (Acts (OnHost k (Pipe t)))) x.reply_is in
+            true≢false (sym (piped ∙ here) ∙ v)
+        | inr over ↦ let wrong : Ended ≡ Serves s = sym over ∙ serves in cc
+      ]
+    ])

@@ -1,10 +1,11 @@
 -- What a part of a run does to the state: the few ways, and what is known of each.
-use Rattle.std.proofs.Common.{◌≡◌, ◌≢◌, ℕ, ◌<◌, Bool, true, false, [], ◌∷◌, ◌++◌, length, get_or, set, Option, Some, None, refl, sym, ap, subst, ◌∙◌, ◌⊎◌, inl, inr}
+use Rattle.std.proofs.Common.{◌≡◌, ◌≢◌, ℕ, ◌<◌, Bool, true, false, [], ◌∷◌, ◌++◌, length, get_or, set, Option, Some, None, refl, sym, ap, subst, ◌∙◌, ◌⊎◌, inl, inr, arith}
 use Rattle.std.proofs.lemmas.Bool.{cond_both, cases_lt}
-use Rattle.std.proofs.lemmas.List.{get_or-set_same, get_or-set_other, get_or_past, set-set}
+use Rattle.std.proofs.lemmas.List.{get_or-set_same, get_or-set_other, get_or_past, length-set, set-set}
 use Rattle.strm_codes.specs.declared.codes.ReturnCode.{ReturnCode}
 use Rattle.strm_codes.specs.declared.refusals.Refusal.{Refusal}
-use Rattle.strm_machine.specs.State.{State, host_limit, no_producer, no_consumer, no_stream, idle_end, producer_at, consumer_at, stream_at, is_loose, is_host, is_gone}
+use Rattle.strm_machine.specs.State.{State, host_limit, no_producer, no_consumer, no_stream, idle_end, producer_at, kept_at, consumer_at, stream_at, is_loose, is_host, is_gone}
+use Rattle.strm_machine.specs.Hosting.{duty_of, HostsHold}
 use Rattle.strm_machine.specs.Sides.{opposite, end_of, with_operation}
 use Rattle.strm_machine.specs.Meetings.{begun}
 use Rattle.strm_machine.specs.Moments.{code_told}
@@ -25,16 +26,19 @@ use Rattle.strm_machine.specs.declared.streams.Owner.TheVariants.{Loose, Host, G
 use Rattle.strm_machine.specs.declared.streams.Operation.{Operation}
 use Rattle.strm_machine.specs.declared.streams.Side.{Side}
 use Rattle.strm_machine.specs.declared.streams.Side.TheVariants.{Writing, Reading}
+use Rattle.strm_machine.specs.declared.streams.Producer.{Producer}
+use Rattle.strm_machine.specs.declared.streams.Consumer.{Consumer}
 use Rattle.strm_machine.specs.declared.streams.Stream.{Stream}
 use Rattle.strm_machine.specs.declared.replies.Reply.{Reply}
 use Rattle.strm_machine.specs.declared.replies.Reply.TheVariants as replies
 use Rattle.strm_machine.proofs.ReactionLemmas.{reaction-performs, reaction-refused}
 use Rattle.strm_world.specs.World.{World, stream_in, writer_at, with_consumer, leaves_writer, leaves_reader, with_stream_in}
 use Rattle.strm_world.specs.Outcomes.{Outcome, Goes, Stops, Stuck, then_on, of_reply}
-use Rattle.strm_world.specs.Settling.{answered_with, answered}
+use Rattle.strm_world.specs.Settling.{with_some_received, answered_with, answered}
 use Rattle.strm_world.specs.Producing.{producer_turn}
 use Rattle.strm_world.specs.Consuming.{consumer_turn}
 use Rattle.strm_world.specs.Attaching.{hosted_stream, hosts_new, piped, is_dry, without_ends, pipes, forsaken, forsakes}
+use Rattle.strm_world.specs.Piping.{both_gone, pipe_round}
 use Rattle.strm_world.specs.Driving.{if_open, driven_by, drive_turn}
 use Rattle.strm_world.specs.HostRefusals.{is_used, refusal_in}
 use Rattle.strm_world.specs.Steps.{reacts, reads_from, writes_to, operates_by, drops_in, on_host, performs_by, performs_in, unless_refused_in, outcome}
@@ -43,11 +47,12 @@ use Rattle.strm_world.proofs.TouchLemmas.{names_none, refusal-none, IsDrop, touc
 use Rattle.strm_world.proofs.OutcomeLemmas.{refusal_in-on_end}
 use Rattle.strm_host_laws.specs.HostMoments.{Part, Acts, Turns, HostMoment, part_on}
 use Rattle.strm_host_laws.proofs.Chains.{is_part, Follows}
-use Rattle.strm_host_laws.proofs.Goings.{with_state, written-streams}
-use Rattle.strm_machine.proofs.TableLemmas.{with_end-owners, set-keeps}
+use Rattle.strm_host_laws.proofs.Goings.{with_state, IfGoes, some_received-by, written-streams}
+use Rattle.strm_host_laws.proofs.Rounds.{between, Passed, HasPassed, round_is}
+use Rattle.strm_machine.proofs.TableLemmas.{OwnersStay, with_end-owners, set-keeps}
 use Rattle.strm_host_laws.proofs.Closed.{is_new, is_new_reader}
-use Rattle.strm_host_laws.proofs.HostTurns.{Turned, Going, TurnsDone, turn_done, taking_done, with_ended, with_done, with_stream_in-gone, with_stream_in-both, with_stream_in-kept}
-use Rattle.strm_machine.proofs.HostLemmas.{host_number}
+use Rattle.strm_host_laws.proofs.HostTurns.{known_on, SameDuties, since_of, both_ended, Turned, Going, TurnsDone, turn_done, taking_done, with_ended, with_done, with_stream_in-gone, with_stream_in-both, with_stream_in-kept}
+use Rattle.strm_machine.proofs.HostLemmas.{serving_known, host_number}
 
 -- ## All ways
 
@@ -121,6 +126,25 @@ pub record Pipes (old : State) (s r : ℕ) (reply : Reply) (new : State) : Type 
   pub reply_is : reply ≡ replies.Done
   pub ends : Piped old s r new
 
+-- both host ends of stream s have ended, and what was kept of the writer is given up
+abbrev pub both_over : State → (s n r : ℕ) → State
+both_over state s n r = record (with_stream_at (both_ended state n r) s (without_ends (stream_at state s))) { kept = set state.kept n [] }
+
+-- the round of stream s, a pipe: so many items more were received, duties stay, and then both ends may go
+pub record Passes (old new : State) (s : ℕ) : Type 0 where
+  pub writer : ℕ
+  pub reader : ℕ
+  pub wrote : (stream_at old s).writer.owner ≡ Host writer
+  pub read : (stream_at old s).reader.owner ≡ Host reader
+  pub count : ℕ
+  pub mid : State
+  pub mid_is : mid ≡ record old { streams = set old.streams s (with_some_received (stream_at old s) count); producers = mid.producers; kept = mid.kept; consumers = mid.consumers }
+  pub duties : SameDuties old mid
+  pub as_many : length mid.kept ≡ length old.kept
+  pub others : (k : ℕ) → k ≢ writer → kept_at mid k ≡ kept_at old k
+  pub since : (k : ℕ) → k ≢ reader → since_of mid k ≡ since_of old k
+  pub ends : (new ≡ mid) ⊎ (new ≡ both_over mid s writer reader)
+
 -- after the end on a side of stream s was dropped, the other one is gone, and host end n has ended
 abbrev pub forsaken_by : Side → State → ℕ → ℕ → State
 forsaken_by side state s n = with_done (opposite side) state s n (forsaken side (stream_at state s))
@@ -158,6 +182,7 @@ pub data Effect (old : State) (part : Part) (reply : Reply) (new : State) : Type
   ByHosting : (n : ℕ) → part ≡ Acts (OnHost n New) → Hosts old n reply new → Effect old part reply new
   ByPiping : (s r : ℕ) → part ≡ Acts (OnHost r (Pipe s)) → Pipes old s r reply new → Effect old part reply new
   ByDriving : (side : Side) (s : ℕ) → part ≡ Turns s → reply ≡ replies.Done → Driven side old new s → Effect old part reply new
+  ByPassing : (s : ℕ) → part ≡ Turns s → reply ≡ replies.Done → Passes old new s → Effect old part reply new
   ByCalling : (side : Side) (end : NamedEnd) (address count : ℕ) → part ≡ Acts (OnEnd side end (Operate address count)) → Calls side old end address count reply new → Effect old part reply new
   ByForsaking : (act : Act) → part ≡ Acts act → Forsakes old act reply new → Effect old part reply new
 
@@ -171,6 +196,72 @@ Going_maps P Q (Stops stop writers readers) f h = tt
 Going_maps P Q Stuck f h = tt
 
 -- ## A turn in a drive round
+
+-- the stream of a pipe after its round has the owners that it had
+some_received-owners : (stream : Stream) (n : ℕ) → OwnersStay stream (with_some_received stream n)
+some_received-owners stream n = some_received-by (OwnersStay stream) stream n (record { writer = refl; reader = refl }) (record { writer = refl; reader = refl })
+
+module _ (w v : World) (s n r : ℕ) (p : Passed w s n r v) where
+  abbrev passed : Stream
+  passed = with_some_received (stream_in w s) p.count
+
+  abbrev between_them : World
+  between_them = between w n r p.producer p.kept p.consumer p.writer p.reader
+
+  -- the state before the pipe may end
+  abbrev mid_state : State
+  mid_state = with_stream_at between_them.state s passed
+
+  mid_state_is : p.mid.state ≡ mid_state
+  mid_state_is =
+      ap (λ (x : World). x.state) p.mid_is
+      ∙ ap (λ x. (with_stream_in x s passed).state) p.but_is
+      ∙ with_stream_in-kept between_them s passed (some_received-owners (stream_in w s) p.count)
+
+  passed_duties : SameDuties w.state mid_state
+  passed_duties = record { all = all; same = same }
+    where
+      all : (k : Side) → known_on k mid_state ≡ known_on k w.state
+      all Writing = length-set w.state.producers n p.producer
+      all Reading = length-set w.state.consumers r p.consumer
+
+      same : (k : Side) (m : ℕ) → duty_of k mid_state m ≡ duty_of k w.state m
+      same Writing m = set-keeps (λ (x : Producer). x.duty) w.state.producers n m p.producer no_producer p.duty
+      same Reading m = set-keeps (λ (x : Consumer). x.duty) w.state.consumers r m p.consumer no_consumer p.serves
+
+  -- both ends go
+  module _ (wrote : (stream_in w s).writer.owner ≡ Host n) (read : (stream_in w s).reader.owner ≡ Host r) where
+    owners_then : OwnersStay (stream_in w s) (stream_at mid_state s)
+    owners_then = record {
+      writer = set-keeps (λ (x : Stream). x.writer.owner) w.state.streams s s passed no_stream (some_received-owners (stream_in w s) p.count).writer;
+      reader = set-keeps (λ (x : Stream). x.reader.owner) w.state.streams s s passed no_stream (some_received-owners (stream_in w s) p.count).reader;
+    }
+
+    over_state : (both_gone p.mid s n).state ≡ both_over mid_state s n r
+    over_state =
+        let gone = without_ends (stream_in p.mid s) in
+        ap (λ (x : State). record x { kept = set x.kept n [] })
+        (with_stream_in-both p.mid s n r gone (ap (λ (x : State). (stream_at x s).writer.owner) mid_state_is ∙ owners_then.writer ∙ wrote) refl (ap (λ (x : State). (stream_at x s).reader.owner) mid_state_is ∙ owners_then.reader ∙ read) refl)
+        ∙ ap (λ (x : State). both_over x s n r) mid_state_is
+
+    pub passes_from : Passes w.state v.state s
+    passes_from = record {
+      writer = n;
+      reader = r;
+      wrote = wrote;
+      read = read;
+      count = p.count;
+      mid = mid_state;
+      mid_is = refl;
+      duties = passed_duties;
+      as_many = length-set w.state.kept n p.kept;
+      others = λ k ne. get_or-set_other w.state.kept n k p.kept [] ne;
+      since = λ k ne. ap (λ (x : Consumer). x.since) (get_or-set_other w.state.consumers r k p.consumer no_consumer ne);
+      ends = elim p.ends [
+        | inl e ↦ inl (ap (λ (x : World). x.state) e ∙ mid_state_is)
+        | inr e ↦ inr (ap (λ (x : World). x.state) e ∙ over_state)
+      ];
+    }
 
 -- nothing is done
 rests : (w : World) (s : ℕ) → EffectIn w (Turns s) replies.Done w
@@ -190,15 +281,27 @@ open_effect w s n side (Some operation) turn h e f =
     (h operation))
     (λ shut. rests w s)
 
-driven_effect : (w : World) (s : ℕ) (writer reader : Owner) → (stream_in w s).writer.owner ≡ writer → (stream_in w s).reader.owner ≡ reader → Going (EffectIn w (Turns s)) (driven_by w s (stream_in w s) writer reader)
-driven_effect w s (Host n) (Host r) e f = rests w s
-driven_effect w s (Host n) _ e f = open_effect w s n Reading (stream_in w s).reader.operation (producer_turn w s n) (λ read. turn_done s n read w e) e refl
-driven_effect w s _ (Host r) e f = open_effect w s r Writing (stream_in w s).writer.operation (consumer_turn w s r) (λ write. taking_done s r write w f) f refl
-driven_effect w s _ _ e f = rests w s
+-- one of a host writer is known
+written_known : (w : World) (s n : ℕ) → HostsHold w.state → (stream_in w s).writer.owner ≡ Host n → n < length w.state.kept
+written_known w s n h e = let known = serving_known w.state Writing n s h ((h.serve Writing n s).serves e) in omega (arith, known, h.all_kept)
 
-drive_effect : (w : World) (s : ℕ) → Going (EffectIn w (Turns s)) (drive_turn w s)
+passing_effect : (w : World) (s n r : ℕ) → HostsHold w.state → (stream_in w s).writer.owner ≡ Host n → (stream_in w s).reader.owner ≡ Host r → Going (EffectIn w (Turns s)) (pipe_round w s n r)
+passing_effect w s n r h e f = by (pipe_round w s n r) (round_is w s n r (written_known w s n h e))
+  where
+    by : (o : Outcome) → IfGoes o (HasPassed w s n r) → Going (EffectIn w (Turns s)) o
+    by (Goes reply v) p = ByPassing s refl p.1 (passes_from w v s n r p.0 e f)
+    by (Stops stop writers readers) p = tt
+    by Stuck p = tt
+
+driven_effect : (w : World) (s : ℕ) → HostsHold w.state → (writer reader : Owner) → (stream_in w s).writer.owner ≡ writer → (stream_in w s).reader.owner ≡ reader → Going (EffectIn w (Turns s)) (driven_by w s (stream_in w s) writer reader)
+driven_effect w s h (Host n) (Host r) e f = passing_effect w s n r h e f
+driven_effect w s h (Host n) _ e f = open_effect w s n Reading (stream_in w s).reader.operation (producer_turn w s n) (λ read. turn_done s n read w e) e refl
+driven_effect w s h _ (Host r) e f = open_effect w s r Writing (stream_in w s).writer.operation (consumer_turn w s r) (λ write. taking_done s r write w f) f refl
+driven_effect w s h _ _ e f = rests w s
+
+drive_effect : (w : World) (s : ℕ) → HostsHold w.state → Going (EffectIn w (Turns s)) (drive_turn w s)
 unfolding drive_turn
-drive_effect w s = driven_effect w s (stream_in w s).writer.owner (stream_in w s).reader.owner refl refl
+drive_effect w s h = driven_effect w s h (stream_in w s).writer.owner (stream_in w s).reader.owner refl refl
 
 -- ## What the machine does without host ends
 
@@ -364,6 +467,58 @@ host_made state s side e =
     nobody Writing = refl
     nobody Reading = refl
 
+-- its stream is another then
+module _ (old new : State) (s : ℕ) (p : Passes old new s) where
+  pub passing_made : s < length old.streams
+  passing_made = host_made old s Writing (ap is_host p.wrote)
+
+  pub passing_here : stream_at p.mid s ≡ with_some_received (stream_at old s) p.count
+  passing_here = ap (λ (x : State). stream_at x s) p.mid_is ∙ get_or-set_same old.streams s (with_some_received (stream_at old s) p.count) no_stream passing_made
+
+  pub passing_streams : (new.streams ≡ set old.streams s (with_some_received (stream_at old s) p.count)) ⊎ (new.streams ≡ set old.streams s (without_ends (with_some_received (stream_at old s) p.count)))
+  passing_streams =
+      let mid = ap (λ (x : State). x.streams) p.mid_is in
+      elim p.ends [
+        | inl e ↦ inl (ap (λ (x : State). x.streams) e ∙ mid)
+        | inr e ↦ inr (
+            ap (λ (x : State). x.streams) e
+            ∙ ap (λ xs. set xs s (without_ends (stream_at p.mid s))) mid
+            ∙ set-set old.streams s (with_some_received (stream_at old s) p.count) (without_ends (stream_at p.mid s))
+            ∙ ap (λ x. set old.streams s (without_ends x)) passing_here
+            )
+      ]
+
+  -- no memory changes
+  pub passing_guests : new.guests ≡ old.guests
+  passing_guests =
+      let mid = ap (λ (x : State). x.guests) p.mid_is in
+      elim p.ends [
+        | inl e ↦ ap (λ (x : State). x.guests) e ∙ mid
+        | inr e ↦ ap (λ (x : State). x.guests) e ∙ mid
+      ]
+
+  -- a property of streams that the round keeps
+  pub passing_keeps : {A : Type 0} (f : Stream → A) → f (with_some_received (stream_at old s) p.count) ≡ f (stream_at old s) → f (without_ends (with_some_received (stream_at old s) p.count)) ≡ f (stream_at old s) → (k : ℕ) → f (stream_at new k) ≡ f (stream_at old k)
+  passing_keeps f e g k =
+      elim passing_streams [
+        | inl x ↦ ap (λ xs. f (get_or xs k no_stream)) x ∙ set-keeps f old.streams s k (with_some_received (stream_at old s) p.count) no_stream e
+        | inr x ↦ ap (λ xs. f (get_or xs k no_stream)) x ∙ set-keeps f old.streams s k (without_ends (with_some_received (stream_at old s) p.count)) no_stream g
+      ]
+
+  pub passing_other : (k : ℕ) → k ≢ s → stream_at new k ≡ stream_at old k
+  passing_other k ne =
+      elim passing_streams [
+        | inl x ↦ ap (λ xs. get_or xs k no_stream) x ∙ get_or-set_other old.streams s k (with_some_received (stream_at old s) p.count) no_stream ne
+        | inr x ↦ ap (λ xs. get_or xs k no_stream) x ∙ get_or-set_other old.streams s k (without_ends (with_some_received (stream_at old s) p.count)) no_stream ne
+      ]
+
+  pub passing_many : length new.streams ≡ length old.streams
+  passing_many =
+      elim passing_streams [
+        | inl x ↦ ap length x ∙ length-set old.streams s (with_some_received (stream_at old s) p.count)
+        | inr x ↦ ap length x ∙ length-set old.streams s (without_ends (with_some_received (stream_at old s) p.count))
+      ]
+
 -- a part that names no host end
 part_busy : (act : Act) → names_none act ≡ true → is_idle (Acts act) ≡ false
 part_busy (OnHost n act) e = cc
@@ -526,12 +681,12 @@ outcome_effect w act p =
     (λ t. tt)
     (λ t. unless_effect w t act (refusal_in w act) p refl)
 
-part_effect : (w : World) (part : Part) → is_part part ≡ true → Going (EffectIn w part) (part_on w part)
-part_effect w (Acts act) p = outcome_effect w act p
-part_effect w (Turns s) p = drive_effect w s
+part_effect : (w : World) (part : Part) → HostsHold w.state → is_part part ≡ true → Going (EffectIn w part) (part_on w part)
+part_effect w (Acts act) h p = outcome_effect w act p
+part_effect w (Turns s) h p = drive_effect w s h
 
 -- what a moment of a run did to the state
-pub follows_effect : (world : World) (m : HostMoment) → Follows world m → Effect world.state m.part m.reply m.after.state
-follows_effect world m f =
+pub follows_effect : (world : World) (m : HostMoment) → HostsHold world.state → Follows world m → Effect world.state m.part m.reply m.after.state
+follows_effect world m h f =
     let goes = subst (λ (w : World). part_on w m.part ≡ Goes m.reply m.after) f.begins f.goes in
-    subst (Going (EffectIn world m.part)) goes (part_effect world m.part f.part)
+    subst (Going (EffectIn world m.part)) goes (part_effect world m.part h f.part)

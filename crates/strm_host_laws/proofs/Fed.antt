@@ -83,6 +83,9 @@ module _ (P : Writer → Writer → Type 0) (of : OfWriters P) where
     opens = λ w s stream e. stream-each w w s stream refl;
     polls = λ w n room said more e. with-each w n (polled_writer (writer_at w n) room said more) (of.polled (writer_at w n) room said more e);
     takes = λ w r took said more e n. of.same (writer_at w n);
+    overs = λ w n answer k. of.same (writer_at w k);
+    gives = λ w n k. with-each w n (given_writer (writer_at w n) k) (of.given (writer_at w n) k);
+    keeps = λ w n items k. of.same (writer_at w k);
   }
 
   pub rules-each : Rules OfEach
@@ -90,9 +93,8 @@ module _ (P : Writer → Writer → Type 0) (of : OfWriters P) where
     begins = begins-each;
     reacts = λ w act n. of.same (writer_at w n);
     lowers = λ w guests n. of.same (writer_at w n);
-    overs = λ w n answer k. of.same (writer_at w k);
-    gives = λ w n k. with-each w n (given_writer (writer_at w n) k) (of.given (writer_at w n) k);
     counts = λ w r answer taken n. of.same (writer_at w n);
+    rests = λ w r answer taken n. of.same (writer_at w n);
     leaves = λ w s stream l. stream-each w w s stream refl;
     hosts = λ w n e k. of.same (writer_at w k);
     pipes = λ w s r e. stream-each w (with_consumer w r (record no_consumer { duty = Serves s })) s (piped (stream_in w s) r) refl;

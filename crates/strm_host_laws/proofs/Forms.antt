@@ -1,5 +1,5 @@
 -- What a moment of a run is, by what it does to the world: one of few forms.
-use Rattle.std.proofs.Common.{◌≡◌, ℕ, Bool, true, false, List, length, Option, Some, None, refl, sym, ◌∙◌, ◌⊎◌, inl, inr}
+use Rattle.std.proofs.Common.{◌≡◌, ℕ, Bool, true, false, List, length, Option, Some, None, refl, sym, ◌∙◌, ◌⊎◌, inl, inr, arith}
 use Rattle.std.proofs.lemmas.Bool.{cond_both}
 use Rattle.strm_codes.specs.declared.codes.ReturnCode.{ReturnCode}
 use Rattle.strm_codes.specs.declared.refusals.Refusal.{Refusal}
@@ -39,8 +39,10 @@ use Rattle.strm_host_laws.specs.HostMoments.{Part, Acts, Turns, part_on}
 use Rattle.strm_host_laws.proofs.Chains.{is_part}
 use Rattle.strm_host_laws.proofs.Goings.{with_state, hosted, piped_to, IfGoes}
 use Rattle.strm_host_laws.proofs.Standing.{Holds, Begun, call_begun}
+use Rattle.strm_world.specs.Piping.{pipe_round}
+use Rattle.strm_host_laws.proofs.Rounds.{Passed, HasPassed, round_is}
 use Rattle.strm_host_laws.proofs.Turned.{Turned, turn_is, Taken, taking_is}
-use Rattle.strm_machine.proofs.HostLemmas.{host_number}
+use Rattle.strm_machine.proofs.HostLemmas.{serving_known, host_number}
 
 -- a stream of a host writer is made, and its number answered
 abbrev pub is_making : Part → Reply → Bool
@@ -76,6 +78,13 @@ pub record IsTurn (side : Side) (w : World) (part : Part) (v : World) (s n : ℕ
   pub is_open : operation.is_open ≡ true
   pub turned : HasTurned side w s n operation v
 
+-- it has its round in a drive round, where both its ends are host ends
+pub record IsRound (w : World) (part : Part) (v : World) (s n r : ℕ) : Type 0 where
+  pub part_is : part ≡ Turns s
+  pub wrote : (stream_in w s).writer.owner ≡ Host n
+  pub read : (stream_in w s).reader.owner ≡ Host r
+  pub passed : Passed w s n r v
+
 -- a read or write is called, for which the host end has its turn, and whose report is told
 pub record IsCall (side : Side) (w : World) (part : Part) (v : World) (end : NamedEnd) (address count n : ℕ) : Type 0 where
   pub part_is : part ≡ Acts (OnEnd side end (Operate address count))
@@ -105,6 +114,7 @@ pub data Form (w : World) (part : Part) (reply : Reply) (v : World) : Type 0 whe
   ByGranting : (r count : ℕ) → is_making part reply ≡ false → v ≡ with_reader w r (granted_reader (reader_at w r) count) → Form w part reply v
   ByPiping : (s r : ℕ) → is_making part reply ≡ false → IsPiping w v s r → Form w part reply v
   ByTurning : (side : Side) (s n : ℕ) (operation : Operation) → is_making part reply ≡ false → IsTurn side w part v s n operation → Form w part reply v
+  ByPassing : (s n r : ℕ) → is_making part reply ≡ false → IsRound w part v s n r → Form w part reply v
   ByCalling : (side : Side) (end : NamedEnd) (address count n : ℕ) → is_making part reply ≡ false → IsCall side w part v end address count n → Form w part reply v
 
 -- an act that makes no stream of a host writer, whatever its reply
@@ -154,8 +164,19 @@ module _ (w : World) (h : Holds w.state) where
       by (Stops stop writers readers) t g = tt
       by Stuck t g = tt
 
+  round-formed : (s n r : ℕ) → (stream_in w s).writer.owner ≡ Host n → (stream_in w s).reader.owner ≡ Host r → Formed (Turns s) (pipe_round w s n r)
+  round-formed s n r e f =
+      let known = serving_known w.state Writing n s h.hosts ((h.hosts.serve Writing n s).serves e) in
+      let all = h.hosts.all_kept in
+      by (pipe_round w s n r) (round_is w s n r (omega (arith, known, all)))
+    where
+      by : (o : Outcome) → IfGoes o (HasPassed w s n r) → Formed (Turns s) o
+      by (Goes reply v) p = ByPassing s n r refl (record { part_is = refl; wrote = e; read = f; passed = p.0 })
+      by (Stops stop writers readers) p = tt
+      by Stuck p = tt
+
   driven-formed : (s : ℕ) (writer reader : Owner) → (stream_in w s).writer.owner ≡ writer → (stream_in w s).reader.owner ≡ reader → Formed (Turns s) (driven_by w s (stream_in w s) writer reader)
-  driven-formed s (Host n) (Host r) e f = BySame refl refl
+  driven-formed s (Host n) (Host r) e f = round-formed s n r e f
   driven-formed s (Host n) _ e f = open-formed s n Reading (stream_in w s).reader.operation (producer_turn w s n) (λ read. turn_is w s n read) e refl
   driven-formed s _ (Host r) e f = open-formed s r Writing (stream_in w s).writer.operation (consumer_turn w s r) (λ write. taking_is w s r write) f refl
   driven-formed s _ _ e f = BySame refl refl

@@ -5,7 +5,7 @@ use Rattle.std.specs.Option.{option_map}
 use Rattle.std.proofs.lemmas.Bool.{cases_eq, true≢false}
 use Rattle.std.proofs.lemmas.List.{get_or-set_same, get_or-set_other, get_or_append_left, length-set}
 use Rattle.strm_codes.specs.declared.codes.TransmitKind.TheVariants.{Future}
-use Rattle.strm_machine.specs.State.{State, no_stream, no_consumer, stream_at, consumer_at, is_held, is_loose}
+use Rattle.strm_machine.specs.State.{State, no_stream, no_consumer, stream_at, consumer_at, is_host, is_held, is_loose}
 use Rattle.strm_machine.specs.Sides.{opposite, with_operation}
 use Rattle.strm_machine.specs.Meetings.{begun}
 use Rattle.strm_machine.specs.Endings.{delivered, dropped}
@@ -24,14 +24,14 @@ use Rattle.strm_machine.specs.declared.streams.Side.TheVariants.{Writing, Readin
 use Rattle.strm_machine.specs.declared.streams.Stream.{Stream}
 use Rattle.strm_machine.proofs.EndLemmas.{Unchanged}
 use Rattle.strm_machine.proofs.EndingLemmas.{IsToldOne, AreToldOne, one_as_told, told-becomes}
-use Rattle.strm_machine.proofs.HostLemmas.{serving_known}
+use Rattle.strm_machine.proofs.HostLemmas.{serving_known, no_host}
 use Rattle.strm_machine.proofs.ShapeLemmas.{reaction-consumers}
 use Rattle.strm_machine.proofs.StreamSteps.{reaction_streams}
 use Rattle.strm_machine.proofs.TallyLemmas.{AreOne, PassesOne, begins_by}
 use Rattle.strm_world.specs.Attaching.{withdrawn, piped, without_ends, forsaken}
 use Rattle.strm_world.specs.HostRefusals.{is_used}
 use Rattle.strm_host_laws.specs.HostMoments.{Part}
-use Rattle.strm_host_laws.proofs.Effects.{opened_by, Driven, Calls, piped_in, Piped, ByStaying, ByGone, ByDry, piped_streams, Pipes, forsaken_by, Forsakes, Effect, ByReaction, ByRest, ByHosting, ByPiping, ByDriving, ByCalling, ByForsaking}
+use Rattle.strm_host_laws.proofs.Effects.{opened_by, Driven, Calls, piped_in, Piped, ByStaying, ByGone, ByDry, piped_streams, Pipes, forsaken_by, Forsakes, Effect, ByReaction, ByRest, ByHosting, ByPiping, ByDriving, ByPassing, ByCalling, ByForsaking, Passes, passing_other}
 use Rattle.strm_host_laws.proofs.FutureRead.{OpenOne, AreOpenOne, FutureRead, BeginsOne, FutureStep, Leaves, Opens, still_step, future_step, reaction_future, turned_future}
 use Rattle.strm_host_laws.proofs.GuestsSeen.{IsGuests, turned_other}
 use Rattle.strm_host_laws.proofs.HostTurns.{since_of, since_ended, Turned}
@@ -240,15 +240,29 @@ module _ (old new : State) (reply : Reply) (s : ℕ) (h : Holds old) (k : IsTake
       by Writing y t n = refl
       by Reading y t n = refl
 
-  pub effect_future : (part : Part) → Effect old part reply new → FutureRead new s
-  effect_future part (ByReaction act p i r e) = subst (λ x. FutureRead x s) (sym e) (reaction_future old s h.held k future act h f)
-  effect_future part (ByRest q e) = subst (λ x. FutureRead x s) (sym e) f
-  effect_future part (ByHosting n p x) =
+  -- a pipe is another stream
+  passing_future : (t : ℕ) → is_host (stream_at old s).writer.owner ≡ false → Passes old new t → FutureRead new s
+  passing_future t u x =
+      let ne : s ≢ t = λ q. no_host (stream_at old s).writer.owner x.writer u (ap (λ i. (stream_at old i).writer.owner) q ∙ x.wrote) in
+      stays old new s f (passing_other old new t x s ne) (λ r e. since r (two_readers old s t r x.reader h e x.read ne))
+    where
+      since : (r : ℕ) → r ≢ x.reader → since_of new r ≡ since_of old r
+      since r ne =
+          elim x.ends [
+            | inl e ↦ ap (λ (y : State). since_of y r) e ∙ x.since r ne
+            | inr e ↦ ap (λ (y : State). since_of y r) e ∙ since_ended Reading x.mid x.reader r ∙ x.since r ne
+          ]
+
+  pub effect_future : (part : Part) → is_host (stream_at old s).writer.owner ≡ false → Effect old part reply new → FutureRead new s
+  effect_future part u (ByReaction act p i r e) = subst (λ x. FutureRead x s) (sym e) (reaction_future old s h.held k future act h f)
+  effect_future part u (ByRest q e) = subst (λ x. FutureRead x s) (sym e) f
+  effect_future part u (ByHosting n p x) =
       stays old new s f (ap (λ (y : State). stream_at y s) x.is ∙ get_or_append_left old.streams (x.stream ∷ []) no_stream s k.made) (λ r e. ap (λ (y : State). since_of y r) x.is)
-  effect_future part (ByPiping t j p x) = piped_future t j x
-  effect_future part (ByDriving side t p done d) = driven_future side t d
-  effect_future part (ByCalling side end address count p c) = called_future side end address count c
-  effect_future part (ByForsaking act p x) = forsaken_future act x
+  effect_future part u (ByPiping t j p x) = piped_future t j x
+  effect_future part u (ByPassing t p done x) = passing_future t u x
+  effect_future part u (ByDriving side t p done d) = driven_future side t d
+  effect_future part u (ByCalling side end address count p c) = called_future side end address count c
+  effect_future part u (ByForsaking act p x) = forsaken_future act x
 
 -- ## The part in which it goes to a host reader
 

@@ -1,6 +1,6 @@
 -- What comes of a part of a run, by the changes that it is made of: what holds of each of them and from
 -- one to the next holds of the whole.
-use Rattle.std.proofs.Common.{◌≡◌, ℕ, Bool, true, false, cond, List, [], ◌∷◌, length, take, drop, get_or, set, Option, Some, None, refl, sym, ap, subst, ◌∙◌, ◌⊎◌, inl, inr}
+use Rattle.std.proofs.Common.{◌≡◌, ℕ, ◌==◌, ◌||◌, Bool, true, false, cond, List, [], ◌∷◌, length, take, drop, get_or, set, Option, Some, None, refl, sym, ap, subst, ◌∙◌, ◌⊎◌, inl, inr}
 use Rattle.std.proofs.lemmas.Bool.{cond_both}
 use Rattle.std.specs.Prelude.{slice_set}
 use Rattle.strm_codes.specs.declared.codes.ReturnCode.{ReturnCode}
@@ -12,7 +12,7 @@ use Rattle.strm_buffers.specs.declared.answers.ReaderSaid.{ReaderSaid}
 use Rattle.strm_buffers.specs.HostRules.{breaks_as_writer, breaks_as_reader}
 use Rattle.strm_buffers.specs.Listing.{Item}
 use Rattle.strm_buffers.specs.Said.{WriterSaid}
-use Rattle.strm_machine.specs.State.{State, Guest, no_stream, no_producer, no_consumer, producer_at, consumer_at, is_host}
+use Rattle.strm_machine.specs.State.{State, Guest, no_stream, no_producer, no_consumer, producer_at, kept_at, consumer_at, is_host}
 use Rattle.strm_machine.specs.Sides.{opposite, end_of, with_operation}
 use Rattle.strm_machine.specs.Meetings.{begun}
 use Rattle.strm_machine.specs.Endings.{report_on, delivered}
@@ -34,18 +34,20 @@ use Rattle.strm_machine.specs.declared.streams.Stream.{Stream}
 use Rattle.strm_machine.specs.declared.replies.Reply.{Reply}
 use Rattle.strm_machine.specs.declared.replies.Reply.TheVariants as replies
 use Rattle.strm_world.specs.Ends.{Writer, Reader, polled_writer, given_writer, fed_writer, polled_reader, granted_reader}
-use Rattle.strm_world.specs.World.{World, stream_in, writer_at, reader_at, with_guests, with_producer, with_consumer, with_writer, with_reader, leaves_writer, leaves_reader, with_stream_in}
+use Rattle.strm_world.specs.World.{World, stream_in, writer_at, reader_at, held_of, with_guests, with_producer, with_kept, with_consumer, with_writer, with_reader, leaves_writer, leaves_reader, with_stream_in}
 use Rattle.strm_world.specs.Outcomes.{Outcome, Goes, Stops, Stuck, then_on, done, of_reply}
 use Rattle.strm_world.specs.Polls.{AfterWriter, is_failed, is_writer_poll, writer_says, is_reader_poll, reader_says}
-use Rattle.strm_world.specs.Settling.{result_of, moved_on, answered_with, answered}
+use Rattle.strm_world.specs.Settling.{result_of, with_some_received, moved_on, since_after, answered_with, answered}
 use Rattle.strm_world.specs.Producing.{lowered, receives, with_over, produced_result, hands_over, produces, producer_turn}
 use Rattle.strm_world.specs.Consuming.{lifted, with_taken, gives_up, consumer_turn}
-use Rattle.strm_world.specs.Attaching.{hosted_stream, with_new_stream, hosts_new, piped, is_dry, without_ends, pipes, forsaken, forsakes}
+use Rattle.strm_world.specs.Attaching.{hosted_stream, with_new_stream, hosts_new, piped, has_items, is_dry, without_ends, pipes, forsaken, forsakes}
+use Rattle.strm_world.specs.Piping.{wants_items, fetches, gathered, is_resting, passed_on, offers, is_done_with, is_run_dry, both_gone, ends_if_done, pipe_round}
+use Rattle.strm_machine.specs.Turns.{with_received}
 use Rattle.strm_world.specs.Driving.{if_open, driven_by, drive_turn}
 use Rattle.strm_world.proofs.TouchLemmas.{touch-by}
 use Rattle.strm_world.specs.HostRefusals.{refusal_in}
 use Rattle.strm_world.specs.Steps.{reacts, reads_from, writes_to, operates_by, drops_in, on_host, performs_by, performs_in, unless_refused_in, outcome}
-use Rattle.strm_world.proofs.SettleLemmas.{is_done_with, leaves_writer-stays, leaves_reader-stays, delivered-owners}
+use Rattle.strm_world.proofs.SettleLemmas.{is_done_with as is_settled_done, leaves_writer-stays, leaves_reader-stays, delivered-owners}
 use Rattle.strm_host_laws.specs.HostMoments.{Part, Acts, Turns, part_on}
 use Rattle.strm_host_laws.proofs.Chains.{is_part}
 use Rattle.strm_machine.proofs.EndLemmas.{each_side}
@@ -62,6 +64,11 @@ with_state w state = record w { state = state }
 abbrev pub gave_up : ℕ → ℕ → Operation → World → ReaderSaid → World
 gave_up s r write after said = gives_up (with_taken after r said.answer said.taken) s write said.taken said.answer
 
+-- what is kept of host reader r after its answer in the round of a pipe, and after so many items that it took
+abbrev pub with_passed : World → ℕ → Answer → ℕ → World
+with_passed w r answer taken =
+    with_consumer w r (record (consumer_at w.state r) { since = since_after answer (consumer_at w.state r).since taken; resting = is_resting answer })
+
 -- another stream has the same owners and payload
 pub record SameOwned (old new : Stream) : Type 0 where
   pub owners : OwnersStay old new
@@ -76,13 +83,17 @@ pub record LeftBy (old new : Stream) : Type 0 where
   pub owners : (side : Side) → StaysOrGone (end_of side old).owner (end_of side new).owner
   pub payload : new.payload ≡ old.payload
 
--- what is done before the first end may go: a read or write opens, and a host end is polled
+-- what is done before the first end may go: a read or write opens, a host end is polled, and items are kept for
+-- a host reader
 pub record Begins (K : World → World → Type 0) : Type 0 where
   pub stays : (w : World) → K w w
   pub joins : (a b c : World) → K a b → K b c → K a c
   pub opens : (w : World) (s : ℕ) (stream : Stream) → SameOwned (stream_in w s) stream → K w (with_stream_in w s stream)
   pub polls : (w : World) (n : ℕ) (room : Option ℕ) (said : WriterSaid) (more : List WriterSaid) → (writer_at w n).coming ≡ said ∷ more → K w (with_writer w n (polled_writer (writer_at w n) room said more))
   pub takes : (w : World) (r : ℕ) (took : List Item) (said : ReaderSaid) (more : List ReaderSaid) → (reader_at w r).coming ≡ said ∷ more → K w (with_reader w r (polled_reader (reader_at w r) took more))
+  pub overs : (w : World) (n : ℕ) (answer : Answer) → K w (with_over w n answer)
+  pub gives : (w : World) (n k : ℕ) → K w (with_writer w n (given_writer (writer_at w n) k))
+  pub keeps : (w : World) (n : ℕ) (items : List Item) → K w (with_kept w n items)
 
 -- host writer n has a stream more
 abbrev pub hosted : World → ℕ → World
@@ -97,9 +108,8 @@ pub record Rules (R : World → World → Type 0) : Type 0 where
   pub begins : Begins R
   pub reacts : (w : World) (act : Act) → R w (with_state w (reaction w.state act).state)
   pub lowers : (w : World) (guests : List Guest) → R w (with_guests w guests)
-  pub overs : (w : World) (n : ℕ) (answer : Answer) → R w (with_over w n answer)
-  pub gives : (w : World) (n k : ℕ) → R w (with_writer w n (given_writer (writer_at w n) k))
   pub counts : (w : World) (r : ℕ) (answer : Answer) (taken : ℕ) → R w (with_taken w r answer taken)
+  pub rests : (w : World) (r : ℕ) (answer : Answer) (taken : ℕ) → R w (with_passed w r answer taken)
   pub leaves : (w : World) (s : ℕ) (stream : Stream) → LeftBy (stream_in w s) stream → R w (with_stream_in w s stream)
   pub hosts : (w : World) (n : ℕ) → refusal_in w (OnHost n New) ≡ None → R w (hosted w n)
   pub pipes : (w : World) (s r : ℕ) → refusal_in w (OnHost r (Pipe s)) ≡ None → R w (piped_to w s r)
@@ -141,7 +151,7 @@ moved_on-left : (side : Side) (stream : Stream) (operation : Operation) (n : ℕ
 moved_on-left side stream operation n result = record {
   owners = each_side (λ k. StaysOrGone (end_of k stream).owner (end_of k (moved_on side stream operation n result)).owner) side
       (inl (moved-mine stream operation n side result))
-      (subst (StaysOrGone (end_of (opposite side) stream).owner) (sym (moved-theirs stream operation n side result)) (cond_gone (is_done_with result) (end_of (opposite side) stream).owner));
+      (subst (StaysOrGone (end_of (opposite side) stream).owner) (sym (moved-theirs stream operation n side result)) (cond_gone (is_settled_done result) (end_of (opposite side) stream).owner));
   payload = moved_on-payload side stream operation n result;
 }
 
@@ -217,6 +227,75 @@ with_stream_in-same w s stream e =
     ∙ ap (leaves_writer old.writer.owner old.writer.owner) (leaves_reader-stays old.reader.owner after)
     ∙ leaves_writer-stays old.writer.owner after
 
+-- what holds of a stream and once items more were received holds where it may have been so
+pub some_received-by : (P : Stream → Type 0) (stream : Stream) (n : ℕ) → P stream → P (with_received stream n) → P (with_some_received stream n)
+some_received-by P stream n h k = by (n == 0)
+  where
+    by : (none : Bool) → P (cond none stream (with_received stream n))
+    by true = h
+    by false = k
+
+-- of which so many items more were received
+some_received-owned : (stream : Stream) (n : ℕ) → SameOwned stream (with_some_received stream n)
+some_received-owned stream n =
+    some_received-by (SameOwned stream) stream n
+    (record { owners = record { writer = refl; reader = refl }; payload = refl })
+    (record { owners = record { writer = refl; reader = refl }; payload = refl })
+
+-- both its ends stay
+pub some_received-end : (side : Side) (stream : Stream) (n : ℕ) → end_of side (with_some_received stream n) ≡ end_of side stream
+some_received-end Writing stream n = some_received-by (λ x. x.writer ≡ stream.writer) stream n refl refl
+some_received-end Reading stream n = some_received-by (λ x. x.reader ≡ stream.reader) stream n refl refl
+
+-- it is no other kind of stream
+pub some_received-payload : (stream : Stream) (n : ℕ) → (with_some_received stream n).payload ≡ stream.payload
+some_received-payload stream n = some_received-by (λ x. x.payload ≡ stream.payload) stream n refl refl
+
+pub some_received-kind : (stream : Stream) (n : ℕ) → (with_some_received stream n).kind ≡ stream.kind
+some_received-kind stream n = some_received-by (λ x. x.kind ≡ stream.kind) stream n refl refl
+
+-- both ends may go
+without_ends-left : (stream : Stream) → LeftBy stream (without_ends stream)
+without_ends-left stream = record { owners = gone; payload = refl }
+  where
+    gone : (side : Side) → StaysOrGone (end_of side stream).owner (end_of side (without_ends stream)).owner
+    gone Writing = inr refl
+    gone Reading = inr refl
+
+-- FETCHING FOR A PIPE
+
+module _ (K : World → World → Type 0) (begins : Begins K) where
+  fetched-comes : (w : World) (s n : ℕ) (coming : List WriterSaid) → (writer_at w n).coming ≡ coming
+      → Comes K K w (writer_says w s n None false coming (λ after said. done (with_kept (with_over after n said.answer) n said.items)))
+  fetched-comes w s n [] e = tt
+  fetched-comes w s n (said ∷ more) e =
+      let after = with_writer w n (polled_writer (writer_at w n) None said more) in
+      let polled = begins.polls w n None said more e in
+      let halted : Halted K w after.writers after.readers = record { at = after; kept = polled; is = refl; read = refl } in
+      let over = with_over after n said.answer in
+      let kept = with_kept over n said.items in
+      cond_both (is_writer_poll None false said) _ _ (Comes K K w)
+      (λ f. cond_both (is_failed said.answer) _ _ (Comes K K w) (λ g. halted)
+      (λ g. cond_both (breaks_as_writer (stream_in w s).kind said) _ _ (Comes K K w) (λ k. halted)
+      (λ k. begins.joins w after kept polled (begins.joins after over kept (begins.overs after n said.answer) (begins.keeps over n said.items)))))
+      (λ f. tt)
+
+  pub fetches-comes : (w : World) (s n r : ℕ) → Comes K K w (fetches w s n r)
+  fetches-comes w s n r =
+      cond_both (wants_items w n r) _ _ (Comes K K w) (λ e. fetched-comes w s n (writer_at w n).coming refl) (λ e. begins.stays w)
+
+  -- all that is held is kept
+  pub gathered-comes : (w : World) (n : ℕ) → K w (gathered w n)
+  gathered-comes w n =
+      let kept = with_kept w n (held_of w n) in
+      let writer = writer_at w n in
+      begins.joins w kept (gathered w n) (begins.keeps w n (held_of w n))
+      (subst (λ xs. K kept (with_writer kept n (record writer { holds = xs }))) (drop-all writer.holds) (begins.gives kept n (length writer.holds)))
+    where
+      drop-all : (xs : List Item) → drop (length xs) xs ≡ []
+      drop-all [] = refl
+      drop-all (x ∷ xs) = drop-all xs
+
 module _ (R K : World → World → Type 0) (rules : Rules R) (begins : Begins K) where
   -- what holds of an outcome from this world
   abbrev Is : World → Outcome → Type 0
@@ -259,7 +338,7 @@ module _ (R K : World → World → Type 0) (rules : Rules R) (begins : Begins K
   produces-comes w s n read (item ∷ items) =
       let writer = writer_at w n in
       let v = with_writer w n (given_writer writer read.left) in
-      joined w v (hands_over w s n read) (rules.gives w n read.left)
+      joined w v (hands_over w s n read) (rules.begins.gives w n read.left)
       (receives-comes v s read (take read.left writer.holds) (Some results.Completed))
   produces-comes w s n read [] =
       cond_both (producer_at w.state n).over _ _ (Is w)
@@ -273,7 +352,7 @@ module _ (R K : World → World → Type 0) (rules : Rules R) (begins : Begins K
       let items = take read.left said.items in
       let result = produced_result said.answer (drop read.left said.items) in
       joined w after (receives over s read items result) (rules.begins.polls w n (Some read.left) said more f)
-      (joined after over (receives over s read items result) (rules.overs after n said.answer) (receives-comes over s read items result))))
+      (joined after over (receives over s read items result) (rules.begins.overs after n said.answer) (receives-comes over s read items result))))
 
   turn-comes : (w : World) (s n : ℕ) (read : Operation) → Is w (producer_turn w s n read)
   unfolding producer_turn
@@ -305,6 +384,61 @@ module _ (R K : World → World → Type 0) (rules : Rules R) (begins : Begins K
   unfolding consumer_turn
   consumer-comes w s r write = taken-comes w s r write write.asked (lifted w.state.guests (stream_in w s).payload write) (reader_at w r).coming refl
 
+  -- THE ROUND OF A PIPE
+
+  -- it is done, or goes on
+  ends-comes : (w v : World) (s n r : ℕ) (answer : Option Answer) → R w v → Is w (ends_if_done v s n r answer)
+  ends-comes w v s n r answer h =
+      let gone = with_stream_in v s (without_ends (stream_in v s)) in
+      cond_both (is_done_with (stream_in v s).kind answer || is_run_dry v n r) _ _ (Is w)
+      (λ e. joined w v (both_gone v s n) h (joined v gone (both_gone v s n) (rules.leaves v s (without_ends (stream_in v s)) (without_ends-left (stream_in v s))) (rules.begins.keeps gone n [])))
+      (λ e. h)
+
+  -- the reader took so many items
+  passed-comes : (w : World) (s n r : ℕ) (answer : Answer) (taken : ℕ) → R w (passed_on w s n r answer taken)
+  passed-comes w s n r answer taken =
+      let kept = with_kept w n (drop taken (kept_at w.state n)) in
+      let rested = with_passed kept r answer taken in
+      joined w kept (passed_on w s n r answer taken) (rules.begins.keeps w n (drop taken (kept_at w.state n)))
+      (joined kept rested (passed_on w s n r answer taken) (rules.rests kept r answer taken)
+      (rules.begins.opens rested s (with_some_received (stream_in w s) taken) (some_received-owned (stream_in w s) taken)))
+
+  -- what is done after its poll
+  abbrev after_passing : ℕ → ℕ → ℕ → World → ReaderSaid → Outcome
+  after_passing s n r after said = ends_if_done (passed_on after s n r said.answer said.taken) s n r (Some said.answer)
+
+  offered-comes : (w u : World) (s n r offered : ℕ) (first : ℕ → List Item) (coming : List ReaderSaid) → (reader_at u r).coming ≡ coming → R w u → K w u
+      → Is w (reader_says u s r offered false first coming (after_passing s n r))
+  offered-comes w u s n r offered first [] e h k = tt
+  offered-comes w u s n r offered first (said ∷ more) e h k =
+      let after = with_reader u r (polled_reader (reader_at u r) (first said.taken) more) in
+      let halted : Halted K w after.writers after.readers = record { at = after; kept = begins.joins w u after k (begins.takes u r (first said.taken) said more e); is = refl; read = refl } in
+      let passed = passed_on after s n r said.answer said.taken in
+      cond_both (is_reader_poll offered (consumer_at u.state r).since false said) _ _ (Is w)
+      (λ f. cond_both (is_failed said.answer) _ _ (Is w) (λ g. halted)
+      (λ g. cond_both said.bad _ _ (Is w) (λ b. halted)
+      (λ b. cond_both (breaks_as_reader (stream_in u s).kind said) _ _ (Is w) (λ x. halted)
+      (λ x. ends-comes w passed s n r (Some said.answer) (joined w u passed h (joined u after passed (rules.begins.takes u r (first said.taken) said more e) (passed-comes after s n r said.answer said.taken)))))))
+      (λ f. tt)
+
+  offers-comes : (w v : World) (s n r : ℕ) → R w v → K w v → Is w (offers v s n r (λ after answer. ends_if_done after s n r answer))
+  offers-comes w v s n r h k =
+      let held = held_of v n in
+      let u = gathered v n in
+      cond_both (has_items held || (consumer_at v.state r).resting) _ _ (Is w)
+      (λ e. offered-comes w u s n r (length held) (λ taken. take taken held) (reader_at u r).coming refl
+      (joined w v u h (gathered-comes R rules.begins v n)) (begins.joins w v u k (gathered-comes K begins v n)))
+      (λ e. ends-comes w v s n r None h)
+
+  round-comes : (w : World) (s n r : ℕ) → Is w (pipe_round w s n r)
+  unfolding pipe_round
+  round-comes w s n r = by (fetches w s n r) (fetches-comes R rules.begins w s n r) (fetches-comes K begins w s n r)
+    where
+      by : (o : Outcome) → Comes R R w o → Comes K K w o → Is w (then_on o (λ fetched. offers fetched s n r (λ after answer. ends_if_done after s n r answer)))
+      by (Goes reply v) h k = offers-comes w v s n r h k
+      by (Stops stop writers readers) h k = k
+      by Stuck h k = tt
+
   -- A DRIVE ROUND
 
   open-comes : (w : World) (o : Option Operation) (turn : Operation → Outcome) → ((operation : Operation) → Is w (turn operation)) → Is w (if_open w o turn)
@@ -313,7 +447,7 @@ module _ (R K : World → World → Type 0) (rules : Rules R) (begins : Begins K
       cond_both operation.is_open _ _ (Is w) (λ e. h operation) (λ e. rules.begins.stays w)
 
   driven-comes : (w : World) (s : ℕ) (stream : Stream) (writer reader : Owner) → Is w (driven_by w s stream writer reader)
-  driven-comes w s stream (Host n) (Host r) = rules.begins.stays w
+  driven-comes w s stream (Host n) (Host r) = round-comes w s n r
   driven-comes w s stream (Host n) _ = open-comes w stream.reader.operation (producer_turn w s n) (turn-comes w s n)
   driven-comes w s stream _ (Host r) = open-comes w stream.writer.operation (consumer_turn w s r) (consumer-comes w s r)
   driven-comes w s stream _ _ = rules.begins.stays w

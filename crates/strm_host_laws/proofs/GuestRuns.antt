@@ -32,7 +32,8 @@ use Rattle.strm_host_laws.proofs.StepsLeft.{left_after, Pays, Costs, moments_cos
 use Rattle.strm_host_laws.proofs.Effects.{Effect, follows_effect}
 use Rattle.strm_host_laws.proofs.Standing.{Holds, Holds-effect, Holds-empty}
 use Rattle.strm_host_laws.proofs.PartsSeen.{IsTaken, effect_taken}
-use Rattle.strm_host_laws.proofs.HostBytes.{effect_kind}
+use Rattle.strm_host_laws.proofs.HostBytes.{NoPipe, effect_kind}
+use Rattle.strm_machine.proofs.HostLemmas.{no_host}
 use Rattle.strm_host_laws.proofs.GuestsSeen.{IsGuests, SeenIn, guests_after, effect_in, effect_makes, effect_pipes, PutsPart, effect_bytes}
 use Rattle.strm_host_laws.proofs.Moments.{got_unread}
 use Rattle.strm_host_laws.proofs.Rooms.{has_room, room_next}
@@ -52,7 +53,7 @@ pub record IsUnhosted (s : ℕ) (all : List HostMoment) : Type 0 where
 pub record RunKeeps (s : ℕ) (all : List HostMoment) (state : State) (n : ℕ) : Type 0 where
   pub holds : Holds state
   pub bytes : AreBytes state.guests
-  pub room : received s state + 2 ^ 28 * n < 2 ^ 128
+  pub room : is_hosted s all ≡ false → received s state + 2 ^ 28 * n < 2 ^ 128
   pub hosted : is_hosted s all ≡ true → IsTaken Writing state s
   pub piped : is_piped s all ≡ true → IsTaken Reading state s
   pub guests : IsUnhosted s all → IsGuests state s
@@ -99,7 +100,7 @@ module _ (s : ℕ) (all : List HostMoment) (m : HostMoment) (n : ℕ) (pays : Pa
       seen : SeenIn old m.part m.reply new s
       seen =
           effect_in old new m.reply s k.holds k.bytes (k.guests aside) m.part (unmade_before unmade).1 unpiped_now
-          (λ act e. let paid : Pays s (Acts act) n = subst (λ p. Pays s p n) e pays in omega (arith, paid.0, k.room)) effect
+          (λ act e. let paid : Pays s (Acts act) n = subst (λ p. Pays s p n) e pays in omega (arith, paid.0, k.room aside.unmade)) effect
 
       guests_account : (side : Side) → HostAccount s side (all ++ m ∷ []) new
       guests_account side = account_guests s side all m seen.made (λ l. seen.unmade l side) unreads (seen.seen.change side) (k.accounts aside.unmade side)
@@ -142,8 +143,8 @@ module _ (s : ℕ) (all : List HostMoment) (m : HostMoment) (n : ℕ) (pays : Pa
       by true c e f =
           let now : is_piped s (all ++ m ∷ []) ≡ true = is_piped-push s all m ∙ ap (λ b. b || is_piped_in s m.part m.reply) e in
           let read = k.read (unmade_before a).0 e in
-          Reads now read.taken.idle read.taken.made read.unhosted (effect_read old new m.reply s k.holds read m.part (has_room s n old new m.reply k.holds k.room m.part pays) k.bytes effect)
-          (λ q. let future = was read.taken.made q in effect_future old new m.reply s k.holds read.taken future (read.one future) m.part effect)
+          Reads now read.taken.idle read.taken.made read.unhosted (effect_read old new m.reply s k.holds read m.part (has_room s n old new m.reply k.holds (k.room (unmade_before a).0) m.part pays) k.bytes effect)
+          (λ q. let future = was read.taken.made q in effect_future old new m.reply s k.holds read.taken future (read.one future) m.part read.unhosted effect)
       by false true e f =
           let now : is_piped s (all ++ m ∷ []) ≡ true = is_piped-push s all m ∙ ap (λ b. b || is_piped_in s m.part m.reply) e ∙ f in
           let g = k.guests (aside a e) in
@@ -192,11 +193,22 @@ module _ (s : ℕ) (all : List HostMoment) (m : HostMoment) (n : ℕ) (pays : Pa
         ∙ ap (λ l. l ++ host_taken_in s m) (k.untaken (aside u.unmade unpiped.0))
         ∙ taken_unread s m (stream_in m.before s).reader.owner (unreads u.unmade unpiped.0)
 
+  -- no host writer has its write end
+  no_pipe : is_hosted s all ≡ false → NoPipe old s
+  no_pipe a n r e f = by (is_piped s all) refl
+    where
+      by : (b : Bool) → is_piped s all ≡ b → ⊥
+      by true p = no_host (stream_at old s).writer.owner n (k.read a p).unhosted e
+      by false p = no_host (stream_at old s).writer.owner n ((k.guests (record { unmade = a; unpiped = p })).unhosted Writing) e
+
+  room_next_to : is_hosted s (all ++ m ∷ []) ≡ false → received s new + 2 ^ 28 * left_after s m.part n < 2 ^ 128
+  room_next_to a = let unmade = (unmade_before a).0 in room_next s n old new m.reply k.holds (k.room unmade) m.part pays (no_pipe unmade) effect
+
   keeps_next : RunKeeps s (all ++ m ∷ []) new (left_after s m.part n)
   keeps_next = record {
     holds = Holds-effect old new m.reply k.holds m.part effect;
     bytes = effect_bytes old new m.part m.reply k.holds (puts m.part pays) k.bytes effect;
-    room = room_next s n old new m.reply k.holds k.room m.part pays effect;
+    room = room_next_to;
     hosted = λ e. hosted_next (is_hosted s all) refl (sym (is_hosted-push s all m) ∙ e);
     piped = piped_now;
     guests = λ u. guests_after old new m.part m.reply s (seen u.unmade (unpiped u).0 (unpiped u).1);
@@ -219,8 +231,9 @@ keeps_from s all w [] n c p k = rw (append-nil all) k
 keeps_from s all w (m ∷ more) n c p k =
     let f = c.0 in
     let here : RunKeeps s all m.before.state n = subst (λ (v : World). RunKeeps s all v.state n) (sym f.begins) k in
+    let k_hosts = k.holds.hosts in
     let effect : Effect m.before.state m.part m.reply m.after.state =
-    subst (λ (v : World). Effect v.state m.part m.reply m.after.state) (sym f.begins) (follows_effect w m f) in
+    subst (λ (v : World). Effect v.state m.part m.reply m.after.state) (sym f.begins) (follows_effect w m k_hosts f) in
     let next = keeps_from s (all ++ m ∷ []) m.after more (left_after s m.part n) c.1 p.1 (keeps_next s all m n p.0 here effect) in
     subst (λ l. RunKeeps s l (last_of m.after more).state (left_at s more (left_after s m.part n))) (append_assoc all (m ∷ []) more) next
 
@@ -230,7 +243,7 @@ keeps_empty : (s tag : ℕ) (limits : Limits) (run : List Step) → AreSteps run
 keeps_empty s tag limits run a = record {
   holds = Holds-empty tag limits;
   bytes = All-nil _;
-  room = omega (arith, a.few);
+  room = λ u. omega (arith, a.few);
   hosted = λ e. cc;
   piped = λ e. cc;
   guests = λ u. record { apart = refl; tallies = record { writing = tt; reading = tt; one = λ q. cc }; unhosted = nobody };

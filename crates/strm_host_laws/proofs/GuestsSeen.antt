@@ -37,7 +37,7 @@ use Rattle.strm_machine.proofs.ShapeLemmas.{reaction-from, reaction-consumers}
 use Rattle.strm_machine.proofs.EndLemmas.{each_side}
 use Rattle.strm_machine.proofs.TableLemmas.{at_push}
 use Rattle.strm_host_laws.proofs.HostTurns.{Fills, Turned, turned_stream}
-use Rattle.strm_host_laws.proofs.Effects.{opened_by, Driven, Calls, Hosts, piped_streams, piped_guests, Pipes, forsaken_by, Forsakes, Rests, Effect, ByReaction, ByRest, ByHosting, ByPiping, ByDriving, ByCalling, ByForsaking, is_idle}
+use Rattle.strm_host_laws.proofs.Effects.{opened_by, Driven, Calls, Hosts, piped_streams, piped_guests, Pipes, forsaken_by, Forsakes, Rests, Effect, ByReaction, ByRest, ByHosting, ByPiping, ByDriving, ByPassing, ByCalling, ByForsaking, Passes, passing_guests, passing_many, passing_other, is_idle}
 use Rattle.strm_machine.proofs.StreamSteps.{reaction_streams}
 use Rattle.strm_machine.proofs.SeenSteps.{same_seen, named_other, reaction_seen}
 use Rattle.strm_machine.proofs.ByteSteps.{reaction_bytes}
@@ -124,6 +124,13 @@ module _ (old new : State) (reply : Reply) (s : ℕ) (h : Holds old) (b : AreByt
       same_in old new (Turns k) reply s b g (omega (arith, turned_many side old new k d.host d.operation d.turned)) (turned_other side old new s k d.host d.operation d.turned ne)
       (λ other. untold s other (moment_in old (Turns k) reply new) (ap code_told done))
 
+  -- a pipe is another stream
+  passing_in : (k : ℕ) → reply ≡ replies.Done → Passes old new k → SeenIn old (Turns k) reply new s
+  passing_in k done x =
+      let ne = other_stream old Writing s k x.writer g.unhosted x.wrote in
+      same_in old new (Turns k) reply s b g (omega (arith, passing_many old new k x)) (passing_other old new k x s ne)
+      (λ other. untold s other (moment_in old (Turns k) reply new) (ap code_told done))
+
   call_in : (side : Side) (end : NamedEnd) (address count : ℕ) → Calls side old end address count reply new → SeenIn old (Acts (OnEnd side end (Operate address count))) reply new s
   call_in side end address count r =
       let k = stream_named (named old end) in
@@ -193,6 +200,7 @@ module _ (old new : State) (reply : Reply) (s : ℕ) (h : Holds old) (b : AreByt
       subst (λ q. SeenIn old q reply new s) (sym p) (hosted_in n (ap (λ q. is_made_by s q reply) (sym p) ∙ u) x)
   effect_in part u v room (ByPiping k r p x) =
       subst (λ q. SeenIn old q reply new s) (sym p) (piped_aside k r (ap (λ q. is_piped_in s q reply) (sym p) ∙ v) x)
+  effect_in part u v room (ByPassing k p done x) = subst (λ q. SeenIn old q reply new s) (sym p) (passing_in k done x)
   effect_in part u v room (ByDriving side k p done d) = subst (λ q. SeenIn old q reply new s) (sym p) (driven_in side k done d)
   effect_in part u v room (ByCalling side end address count p r) = subst (λ q. SeenIn old q reply new s) (sym p) (call_in side end address count r)
   effect_in part u v room (ByForsaking act p f) = subst (λ q. SeenIn old q reply new s) (sym p) (forsaken_in act (room act p) f)
@@ -229,6 +237,7 @@ effect_makes old new part reply s (ByRest q e) u = absurd (let none = q.unmade s
 effect_makes old new part reply s (ByHosting n p x) u = made_hosted old new n s reply x (ap (λ q. is_made_by s q reply) (sym p) ∙ u)
 effect_makes old new part reply s (ByPiping k r p x) u = absurd (let wrong : is_made_by s (Acts (OnHost r (Pipe k))) reply ≡ true = ap (λ q. is_made_by s q reply) (sym p) ∙ u in cc)
 effect_makes old new part reply s (ByDriving side k p done d) u = absurd (let wrong : is_made_by s (Turns k) reply ≡ true = ap (λ q. is_made_by s q reply) (sym p) ∙ u in cc)
+effect_makes old new part reply s (ByPassing k p done x) u = absurd (let wrong : is_made_by s (Turns k) reply ≡ true = ap (λ q. is_made_by s q reply) (sym p) ∙ u in cc)
 effect_makes old new part reply s (ByCalling side end address count p r) u =
     absurd (let wrong : is_made_by s (Acts (OnEnd side end (Operate address count))) reply ≡ true = ap (λ q. is_made_by s q reply) (sym p) ∙ u in cc)
 effect_makes old new part reply s (ByForsaking act p f) u = absurd (made_idle act reply s f.drops (ap (λ q. is_made_by s q reply) (sym p) ∙ u))
@@ -242,6 +251,7 @@ effect_pipes old new part reply s h (ByPiping k r p x) u =
     let same : (k == s) ≡ true = ap (is_piped_in s (Acts (OnHost r (Pipe k)))) (sym x.reply_is) ∙ ap (λ q. is_piped_in s q reply) (sym p) ∙ u in
     subst (IsTaken Reading new) (eqb-true k s same) (pipe_taken old new k r reply h x)
 effect_pipes old new part reply s h (ByDriving side k p done d) u = absurd (let wrong : is_piped_in s (Turns k) reply ≡ true = ap (λ q. is_piped_in s q reply) (sym p) ∙ u in cc)
+effect_pipes old new part reply s h (ByPassing k p done x) u = absurd (let wrong : is_piped_in s (Turns k) reply ≡ true = ap (λ q. is_piped_in s q reply) (sym p) ∙ u in cc)
 effect_pipes old new part reply s h (ByCalling side end address count p r) u =
     absurd (let wrong : is_piped_in s (Acts (OnEnd side end (Operate address count))) reply ≡ true = ap (λ q. is_piped_in s q reply) (sym p) ∙ u in cc)
 effect_pipes old new part reply s h (ByForsaking act p f) u = absurd (piped_idle act reply s f.drops (ap (λ q. is_piped_in s q reply) (sym p) ∙ u))
@@ -272,6 +282,7 @@ effect_bytes old new part reply h p b (ByRest q e) = subst (λ (x : State). AreB
 effect_bytes old new part reply h p b (ByHosting n q x) = subst (λ (y : State). AreBytes y.guests) (sym x.is) b
 effect_bytes old new part reply h p b (ByPiping k r q x) = subst AreBytes (sym (piped_guests old new k r x.ends)) b
 effect_bytes old new part reply h p b (ByDriving side k q done d) = turned_bytes side old new k d.host d.operation d.turned b
+effect_bytes old new part reply h p b (ByPassing k q done x) = subst AreBytes (sym (passing_guests old new k x)) b
 effect_bytes old new part reply h p b (ByCalling side end address count q r) =
     let k = stream_named (named old end) in
     let operation = begun end.guest address (items_asked end.ty count) in

@@ -158,12 +158,12 @@ module _ (s : ℕ) (side : Side) (all : List HostMoment) (m : HostMoment) (made 
 
 module _ (s : ℕ) (m : HostMoment) (unhosted : is_host (stream_in m.before s).writer.owner ≡ false) (x : ReadIn m.before.state m.part m.reply m.after.state s) where
   -- a guest has its items where it writes
-  from_guest : (owner : Owner) → is_host owner ≡ false → taken_from s m owner ≡ taken_in s (plain m)
-  from_guest (Host n) e = cc
-  from_guest _ e = refl
+  from_guest : (r : ℕ) (owner : Owner) → is_host owner ≡ false → taken_from s m r owner ≡ taken_in s (plain m)
+  from_guest r (Host n) e = cc
+  from_guest r _ e = refl
 
   got_as : (owner : Owner) → owner ≡ (stream_in m.before s).reader.owner → got_by s m owner ≡ taken_in s (plain m)
-  got_as (Host r) e = from_guest (stream_in m.before s).writer.owner unhosted
+  got_as (Host r) e = from_guest r (stream_in m.before s).writer.owner unhosted
   got_as _ e = let same = x.still (ap is_host (sym e)) in (nothing_got s (plain m) same).0 ∙ sym (taken_none s (plain m) same)
 
   pub got_is : host_got_in s m ≡ taken_in s (plain m)
@@ -171,7 +171,7 @@ module _ (s : ℕ) (m : HostMoment) (unhosted : is_host (stream_in m.before s).w
 
   taken_as : (owner : Owner) → owner ≡ (stream_in m.before s).reader.owner → length (taken_by s m owner) ≡ rise s (plain m)
   taken_as (Host r) e =
-      ap length (from_guest (stream_in m.before s).writer.owner unhosted)
+      ap length (from_guest r (stream_in m.before s).writer.owner unhosted)
       ∙ length-decoded (scalars_of (stream_in m.before s).payload) _ (rise s (plain m))
   taken_as _ e = let same = x.still (ap is_host (sym e)) in omega (arith, same)
 

@@ -1,8 +1,8 @@
 -- Memories in a run with host ends: the bytes that are put lie there, and those that are not touched stay; what
 -- a host writer hands over touches those where its items are received, and a host reader touches none.
-use Rattle.std.proofs.Common.{◌≡◌, ◌≢◌, ℕ, zero, suc, ◌+◌, ◌-◌, ◌*◌, ◌^◌, ◌<◌, ◌≤◌, ◌==◌, Bool, true, false, cond, List, [], ◌∷◌, ◌++◌, length, take, drop, get_or, set, Some, refl, sym, ap, subst, ◌∙◌, ◌⊎◌, inl, inr, arith, length-set}
+use Rattle.std.proofs.Common.{◌≡◌, ◌≢◌, ℕ, zero, suc, ◌+◌, ◌-◌, ◌*◌, ◌^◌, ◌<◌, ◌≤◌, ◌==◌, Bool, true, false, cond, List, [], ◌∷◌, ◌++◌, length, take, drop, get_or, set, Some, None, refl, sym, ap, subst, ◌∙◌, ◌⊎◌, inl, inr, arith, length-set}
 use Rattle.std.specs.Prelude.{All}
-use Rattle.std.proofs.lemmas.Bool.{cases_eq, cases_lt, eqb-true, eq-eqb, ne_eqb}
+use Rattle.std.proofs.lemmas.Bool.{cases_eq, cases_lt, eqb-true, eq-eqb, ne_eqb, true≢false}
 use Rattle.std.proofs.lemmas.List.{get_or-set_same, get_or-set_other, get_or_append_left, length-map, take-append-drop}
 use Rattle.std.proofs.lemmas.List.Elements.{All-nil, All-cons}
 use Rattle.strm_codes.specs.Layout.{scalars_of, item_size}
@@ -17,9 +17,9 @@ use Rattle.strm_machine.specs.Meetings.{begun}
 use Rattle.strm_machine.specs.Moments.{Moment, Place, place_of, read_place, received, rise, target, is_named}
 use Rattle.strm_machine.specs.Endings.{delivered}
 use Rattle.strm_machine.specs.Reactions.{told, reaction}
-use Rattle.strm_machine.specs.Sides.{opposite, with_operation}
+use Rattle.strm_machine.specs.Sides.{opposite, end_of, with_operation}
 use Rattle.strm_machine.specs.Soundness.{IsPlaced, sizes_of}
-use Rattle.strm_machine.specs.State.{State, Guest, no_stream, memory_in, stream_at, is_host}
+use Rattle.strm_machine.specs.State.{State, Guest, no_stream, memory_in, stream_at, is_host, is_held}
 use Rattle.strm_machine.specs.Tests.{named, stream_named, items_asked}
 use Rattle.strm_machine.specs.Turns.{with_received}
 use Rattle.strm_machine.specs.Untouched.{Region, bytes_of, LiesApart, put_by, LieThere, received_by, StaysAside}
@@ -30,6 +30,8 @@ use Rattle.strm_machine.specs.declared.acts.NamedEnd.{NamedEnd}
 use Rattle.strm_machine.specs.declared.limits.Limits.{Limits}
 use Rattle.strm_machine.specs.declared.replies.Reply.{Reply}
 use Rattle.strm_machine.specs.declared.steps.Step.{Step}
+use Rattle.strm_machine.specs.declared.streams.Owner.{Owner}
+use Rattle.strm_machine.specs.declared.streams.Owner.TheVariants.{Held, Host}
 use Rattle.strm_machine.specs.declared.streams.Operation.{Operation}
 use Rattle.strm_machine.specs.declared.streams.Side.{Side}
 use Rattle.strm_machine.specs.declared.streams.Side.TheVariants.{Writing, Reading}
@@ -41,7 +43,7 @@ use Rattle.strm_machine.proofs.NamedEndLemmas.{named_itself}
 use Rattle.strm_machine.proofs.PutLemmas.{reaction-there}
 use Rattle.strm_machine.proofs.StateLemmas.{memory_in-with_memory, memory_in-with_memory_other}
 use Rattle.strm_machine.proofs.TurnLemmas.{front_inside, size_in}
-use Rattle.strm_machine.proofs.UntouchedLemmas.{reaction-stays, StaysAside-same}
+use Rattle.strm_machine.proofs.UntouchedLemmas.{FindsRoom, FindsRoomFor, reaction-stays_at, StaysAside-same}
 use Rattle.strm_machine.proofs.StreamSteps.{most_of, set_most, reaction_streams}
 use Rattle.strm_world.specs.Attaching.{piped, without_ends, forsaken}
 use Rattle.strm_world.specs.Producing.{lowered}
@@ -53,7 +55,9 @@ use Rattle.strm_host_laws.specs.HostLaws.{plain, plains}
 use Rattle.strm_host_laws.proofs.Chains.{Follows, Chain, moments-chain}
 use Rattle.strm_machine.proofs.TableLemmas.{set-keeps, at_push}
 use Rattle.strm_host_laws.proofs.HostTurns.{Turned, turned_stream}
-use Rattle.strm_host_laws.proofs.Effects.{opened_by, Driven, Calls, piped_streams, piped_guests, Pipes, forsaken_by, Forsakes, Effect, ByReaction, ByRest, ByHosting, ByPiping, ByDriving, ByCalling, ByForsaking, is_idle, host_made, follows_effect}
+use Rattle.strm_host_laws.proofs.Effects.{opened_by, Driven, Calls, piped_streams, piped_guests, Pipes, forsaken_by, Forsakes, Effect, ByReaction, ByRest, ByHosting, ByPiping, ByDriving, ByPassing, ByCalling, ByForsaking, Passes, passing_keeps, passing_guests, passing_other, is_idle, host_made, follows_effect}
+use Rattle.strm_host_laws.proofs.Goings.{some_received-kind}
+use Rattle.strm_host_laws.proofs.PartsSeen.{IsTaken, owner_taken, effect_taken}
 use Rattle.strm_host_laws.proofs.GuestsSeen.{moment_in, forsaken_guests}
 use Rattle.strm_host_laws.proofs.Standing.{Holds, Holds-effect, Holds-empty, call_begun, opened_payload, waiting_placed}
 use Rattle.strm_host_laws.proofs.StepsLeft.{left_after, Pays, Costs, moments_cost}
@@ -125,30 +129,40 @@ piped_count old new k r s reply x =
       | inr e ↦ ap (λ xs. (get_or xs s no_stream).received) e ∙ set-keeps (λ (y : Stream). y.received) old.streams k s (without_ends (piped (stream_at old k) r)) no_stream refl
     ]
 
+-- no pipe from a host writer to a host reader
+abbrev pub NoPipe : State → ℕ → Type 0
+NoPipe state s = (n r : ℕ) → (stream_at state s).writer.owner ≡ Host n → (stream_at state s).reader.owner ≡ Host r → ⊥
+
 module _ (old new : State) (reply : Reply) (h : Holds old) where
   pub driven_small : (side : Side) (k : ℕ) → (d : Driven side old new k) → d.operation.left < 2 ^ 28
   driven_small side k d =
       placed_small (sizes_of old.guests) (stream_at old k).payload d.operation
       (waiting_placed side old k d.operation (host_made old k (opposite side) (ap is_host d.owner)) d.waits h.sound)
 
+  -- the round of a pipe brings none to another stream
+  passing_still : (k s : ℕ) → Passes old new k → s ≢ k → received s new ≡ received s old
+  passing_still k s x ne = ap (λ (y : Stream). y.received) (passing_other old new k x s ne)
+
   call_placed : (side : Side) (end : NamedEnd) (address count : ℕ) → Calls side old end address count reply new
       → IsPlaced (sizes_of old.guests) (stream_at old (stream_named (named old end))).payload (begun end.guest address (items_asked end.ty count))
   call_placed side end address count r = (call_begun side old end address count h.sound r.unrefused).placed
 
-  pub effect_most : (part : Part) (s : ℕ) → Effect old part reply new → received s new ≤ received s old + 2 ^ 28
-  effect_most part s (ByReaction act p i r e) = omega (arith, ap (received s) e, (reaction_streams old act h.sound).most s)
-  effect_most part s (ByRest q e) = omega (arith, ap (received s) e)
-  effect_most part s (ByHosting n p x) =
+  pub effect_most : (part : Part) (s : ℕ) → NoPipe old s → Effect old part reply new → received s new ≤ received s old + 2 ^ 28
+  effect_most part s off (ByReaction act p i r e) = omega (arith, ap (received s) e, (reaction_streams old act h.sound).most s)
+  effect_most part s off (ByRest q e) = omega (arith, ap (received s) e)
+  effect_most part s off (ByHosting n p x) =
       omega (arith, ap (received s) x.is, at_push old.streams x.stream no_stream s (λ y. y.received ≤ received s old + 2 ^ 28) (λ q. omega (arith, x.none)) (λ ne. omega arith))
-  effect_most part s (ByPiping k r p x) = omega (arith, piped_count old new k r s reply x)
-  effect_most part s (ByDriving side k p done d) = turned_most side old new k d.host d.operation d.turned (driven_small side k d) s
-  effect_most part s (ByCalling side end address count p r) =
+  effect_most part s off (ByPiping k r p x) = omega (arith, piped_count old new k r s reply x)
+  effect_most part s off (ByPassing k p done x) =
+      omega (arith, passing_still k s x (λ q. off x.writer x.reader (ap (λ i. (stream_at old i).writer.owner) q ∙ x.wrote) (ap (λ i. (stream_at old i).reader.owner) q ∙ x.read)))
+  effect_most part s off (ByDriving side k p done d) = turned_most side old new k d.host d.operation d.turned (driven_small side k d) s
+  effect_most part s off (ByCalling side end address count p r) =
       let k = stream_named (named old end) in
       let operation = begun end.guest address (items_asked end.ty count) in
       let opened = opened_by side old k operation in
       let second = turned_most side opened r.mid k r.host operation r.turned (placed_small (sizes_of old.guests) (stream_at old k).payload operation (call_placed side end address count r)) s in
       omega (arith, opened_count side old k s operation, second, ap (received s) r.is, told_count side r.mid k s)
-  effect_most part s (ByForsaking act p f) =
+  effect_most part s off (ByForsaking act p f) =
       omega (arith, ap (received s) f.is, forsaken_count f.side (reaction old act).state f.stream f.host s, (reaction_streams old act h.sound).most s)
 
   -- the turn of another stream brings none
@@ -157,6 +171,7 @@ module _ (old new : State) (reply : Reply) (h : Holds old) where
   effect_still k s ne (ByRest q e) = ap (received s) e
   effect_still k s ne (ByHosting n p x) = cc
   effect_still k s ne (ByPiping t r p x) = cc
+  effect_still k s ne (ByPassing j p done x) = let same : k ≡ j = cc in passing_still j s x (λ e. ne (same ∙ sym e))
   effect_still k s ne (ByDriving side j p done d) =
       let same : k ≡ j = cc in
       turned_still side old new j d.host d.operation d.turned (driven_small side j d) s (λ e. ne (same ∙ sym e))
@@ -195,6 +210,8 @@ effect_kind old new part reply s h made (ByPiping k r p x) =
       | inr e ↦ ap (λ xs. (get_or xs s no_stream).kind) e ∙ set-keeps (λ (y : Stream). y.kind) old.streams k s (without_ends (piped (stream_at old k) r)) no_stream refl
     ]
 effect_kind old new part reply s h made (ByDriving side k p done d) = turned_kind side old new k d.host s d.operation d.turned
+effect_kind old new part reply s h made (ByPassing k p done x) =
+    passing_keeps old new k x (λ (y : Stream). y.kind) (some_received-kind (stream_at old k) x.count) (some_received-kind (stream_at old k) x.count) s
 effect_kind old new part reply s h made (ByCalling side end address count p r) =
     let k = stream_named (named old end) in
     let operation = begun end.guest address (items_asked end.ty count) in
@@ -299,11 +316,16 @@ abbrev pub Concerns : Part → ℕ → Type 0
 Concerns (Acts act) s = Unit {0}
 Concerns (Turns k) s = k ≡ s
 
+-- a host reader has, or had, the read end of a stream, or its count has room for what a part brings
+abbrev pub ReadOrRoomy : State → ℕ → Type 0
+ReadOrRoomy state s = IsTaken Reading state s ⊎ (received s state + 2 ^ 28 < 2 ^ 128)
+
 module _ (old new : State) (reply : Reply) (h : Holds old) where
-  driven_aside : (side : Side) (k : ℕ) → (stream_at old k).received + 2 ^ 28 < 2 ^ 128 → Driven side old new k → StaysAside (moment_in old (Turns k) reply new)
+  driven_aside : (side : Side) (k : ℕ) → ReadOrRoomy old k → Driven side old new k → StaysAside (moment_in old (Turns k) reply new)
   driven_aside Writing k room d =
       StaysAside-same (moment_in old (Turns k) reply new) (ap (λ (x : State). x.guests) d.turned.is ∙ d.turned.fills)
-  driven_aside Reading k room d =
+  driven_aside Reading k (inl taken) d = absurd (let none = taken.idle in let wrong : Some d.operation ≡ None = sym d.waits ∙ none in cc)
+  driven_aside Reading k (inr room) d =
       let m = moment_in old (Turns k) reply new in
       let payload = (stream_at old k).payload in
       let made = host_made old k Writing (ap is_host d.owner) in
@@ -314,10 +336,13 @@ module _ (old new : State) (reply : Reply) (h : Holds old) where
       received_aside m k payload d.operation items (record { guests = ap (λ (x : State). x.guests) t.is ∙ t.fills.is; placed = placed; few = omega (arith, t.few, t.fills.long) })
       (region_same (target k m) (place_of (Some d.operation)) _ _ (ap place_of d.waits) (ap (λ n. item_size (scalars_of payload) * n) rises))
 
-  call_aside : (side : Side) (end : NamedEnd) (address count : ℕ) → ((s : ℕ) → received s old + 2 ^ 28 < 2 ^ 128) → Calls side old end address count reply new → StaysAside (moment_in old (Acts (OnEnd side end (Operate address count))) reply new)
+  call_aside : (side : Side) (end : NamedEnd) (address count : ℕ) → ReadOrRoomy old (stream_named (named old end)) → Calls side old end address count reply new → StaysAside (moment_in old (Acts (OnEnd side end (Operate address count))) reply new)
   call_aside Writing end address count room r =
       StaysAside-same (moment_in old (Acts (OnEnd Writing end (Operate address count))) reply new) (ap (λ (x : State). x.guests) r.is ∙ ap (λ (x : State). x.guests) r.turned.is ∙ r.turned.fills)
-  call_aside Reading end address count room r =
+  call_aside Reading end address count (inl taken) r =
+      let own = h.held.agree.named end.guest end.handle (stream_named (named old end)) Reading (call_begun Reading old end address count h.sound r.unrefused).found.held in
+      absurd (true≢false (sym (ap is_held own) ∙ taken.unheld))
+  call_aside Reading end address count (inr room) r =
       let act = OnEnd Reading end (Operate address count) in
       let m = moment_in old (Acts act) reply new in
       let k = stream_named (named old end) in
@@ -330,7 +355,7 @@ module _ (old new : State) (reply : Reply) (h : Holds old) where
       let same : (stream_at opened k).payload ≡ payload = opened_payload Reading old k read in
       let first = opened_count Reading old k k read in
       let many : k < length opened.streams = omega (arith, b.found.made, length-set old.streams k (with_operation Reading (stream_at old k) read)) in
-      let second = turned_count Reading opened r.mid k r.host read t (placed_small (sizes_of old.guests) payload read b.placed) (omega (arith, first, room k)) many in
+      let second = turned_count Reading opened r.mid k r.host read t (placed_small (sizes_of old.guests) payload read b.placed) (omega (arith, first, room)) many in
       let last : received k new ≡ received k r.mid = ap (received k) r.is ∙ told_count Reading r.mid k k in
       let rises : rise k m ≡ length items = rise_is (received k new) (received k old) (length items) (last ∙ second ∙ ap (λ n. n + t.count) first ∙ ap (λ n. received k old + n) t.fills.long) in
       let guests : m.after.guests ≡ lowered old.guests payload read items =
@@ -359,20 +384,35 @@ module _ (old new : State) (reply : Reply) (h : Holds old) where
       subst (λ (y : State). StaysAside (moment_in old (Acts act) reply y)) (sym f.is)
       (subst (λ q. StaysAside (moment_in old (Acts act) q last)) (sym f.reply_is) aside)
 
-  pub effect_aside : (part : Part) → ((s : ℕ) → Concerns part s → received s old + 2 ^ 28 < 2 ^ 128) → Effect old part reply new → StaysAside (moment_in old part reply new)
+  -- a host reader has, or had, the read end of each stream that a part has to do with, or its count has room
+  abbrev RoomFor : Part → Type 0
+  RoomFor part = (s : ℕ) → Concerns part s → ReadOrRoomy old s
+
+  -- so that what a guest calls finds room
+  called_room : (act : Act) → RoomFor (Acts act) → FindsRoomFor old act
+  called_room act room side end address count e o =
+      elim (room (stream_named (named old end)) tt) [
+        | inl taken ↦ unread side taken (h.held.agree.named end.guest end.handle (stream_named (named old end)) side o.found.held)
+        | inr l ↦ inr l
+      ]
+    where
+      unread : (side : Side) → IsTaken Reading old (stream_named (named old end)) → (end_of side (stream_at old (stream_named (named old end)))).owner ≡ Held end.guest end.handle → FindsRoom old side end
+      unread Writing taken own = inl (refl, taken.idle)
+      unread Reading taken own = absurd (true≢false (sym (ap is_held own) ∙ taken.unheld))
+
+  pub effect_aside : (part : Part) → RoomFor part → Effect old part reply new → StaysAside (moment_in old part reply new)
   effect_aside part room (ByReaction act p i r e) =
-      let all : (s : ℕ) → received s old + 2 ^ 28 < 2 ^ 128 = λ s. room s (subst (λ q. Concerns q s) (sym p) tt) in
-      rw (p, r, e) (reaction-stays old act h.sound all)
+      rw (p, r, e) (reaction-stays_at old act h.sound (called_room act (subst RoomFor p room)))
   effect_aside part room (ByRest q e) = StaysAside-same (moment_in old part reply new) (ap (λ (x : State). x.guests) e)
   effect_aside part room (ByHosting n p x) = StaysAside-same (moment_in old part reply new) (ap (λ (y : State). y.guests) x.is)
   effect_aside part room (ByPiping k r p x) = StaysAside-same (moment_in old part reply new) (piped_guests old new k r x.ends)
+  effect_aside part room (ByPassing k p done x) = StaysAside-same (moment_in old part reply new) (passing_guests old new k x)
   effect_aside part room (ByDriving side k p done d) =
       subst (λ q. StaysAside (moment_in old q reply new)) (sym p) (driven_aside side k (room k (subst (λ q. Concerns q k) (sym p) refl)) d)
   effect_aside part room (ByCalling side end address count p r) =
-      subst (λ q. StaysAside (moment_in old q reply new)) (sym p) (call_aside side end address count (λ s. room s (subst (λ q. Concerns q s) (sym p) tt)) r)
+      subst (λ q. StaysAside (moment_in old q reply new)) (sym p) (call_aside side end address count (room (stream_named (named old end)) (subst (λ q. Concerns q (stream_named (named old end))) (sym p) tt)) r)
   effect_aside part room (ByForsaking act p f) =
-      let all : (s : ℕ) → received s old + 2 ^ 28 < 2 ^ 128 = λ s. room s (subst (λ q. Concerns q s) (sym p) tt) in
-      subst (λ q. StaysAside (moment_in old q reply new)) (sym p) (forsaken_aside act (reaction-stays old act h.sound all) f)
+      subst (λ q. StaysAside (moment_in old q reply new)) (sym p) (forsaken_aside act (reaction-stays_at old act h.sound (called_room act (subst RoomFor p room))) f)
 
   -- what is put lies there
   idle_there : (part : Part) → is_idle part ≡ true → LieThere (moment_in old part reply new)
@@ -386,6 +426,7 @@ module _ (old new : State) (reply : Reply) (h : Holds old) where
   effect_there part (ByHosting n p x) = idle_there part (ap is_idle p)
   effect_there part (ByPiping k r p x) = idle_there part (ap is_idle p)
   effect_there part (ByDriving side k p done d) = idle_there part (ap is_idle p)
+  effect_there part (ByPassing k p done x) = idle_there part (ap is_idle p)
   effect_there part (ByCalling side end address count p r) = subst (λ q. LieThere (moment_in old q reply new)) (sym p) refl
   effect_there part (ByForsaking act p f) =
       let r = reaction old act in
@@ -402,7 +443,7 @@ module _ (old new : State) (reply : Reply) (h : Holds old) where
 
 module _ (w : World) (m : HostMoment) (f : Follows w m) (h : Holds w.state) where
   effect_of : Effect m.before.state m.part m.reply m.after.state
-  effect_of = subst (λ (v : World). Effect v.state m.part m.reply m.after.state) (sym f.begins) (follows_effect w m f)
+  effect_of = subst (λ (v : World). Effect v.state m.part m.reply m.after.state) (sym f.begins) (follows_effect w m h.hosts f)
 
   holds_before : Holds m.before.state
   holds_before = subst (λ (v : World). Holds v.state) (sym f.begins) h
@@ -416,32 +457,48 @@ all_there w (m ∷ more) c h =
     All-cons LieThere (plain m) (plains more) (effect_there m.before.state m.after.state m.reply (holds_before w m c.0 h) m.part (effect_of w m c.0 h))
     (all_there m.after more c.1 (holds_after w m c.0 h))
 
--- counts have room for what is left for their streams
+-- a host reader has, or had, the read end of a stream, or its count has room for what is left for it
+abbrev pub ReadOrRoomFor : State → ℕ → ℕ → Type 0
+ReadOrRoomFor state s n = IsTaken Reading state s ⊎ (received s state + 2 ^ 28 * n < 2 ^ 128)
+
 abbrev HasRoomFor : World → (ℕ → ℕ) → Type 0
-HasRoomFor w left = (s : ℕ) → received s w.state + 2 ^ 28 * left s < 2 ^ 128
+HasRoomFor w left = (s : ℕ) → ReadOrRoomFor w.state s (left s)
 
-module _ (old new : State) (part : Part) (reply : Reply) (left : ℕ → ℕ) (h : Holds old) (pays : (s : ℕ) → Pays s part (left s)) (room : (s : ℕ) → received s old + 2 ^ 28 * left s < 2 ^ 128) (effect : Effect old part reply new) where
-  room_now : (s : ℕ) → Concerns part s → received s old + 2 ^ 28 < 2 ^ 128
-  room_now s = by part (pays s)
+module _ (old new : State) (part : Part) (reply : Reply) (left : ℕ → ℕ) (h : Holds old) (pays : (s : ℕ) → Pays s part (left s)) (room : (s : ℕ) → ReadOrRoomFor old s (left s)) (effect : Effect old part reply new) where
+  room_now : (s : ℕ) → Concerns part s → ReadOrRoomy old s
+  room_now s c = elim (room s) [
+    | inl taken ↦ inl taken
+    | inr l ↦ inr (by part (pays s) c l)
+  ]
     where
-      by : (part : Part) → Pays s part (left s) → Concerns part s → received s old + 2 ^ 28 < 2 ^ 128
-      by (Acts act) p c = omega (arith, p.0, room s)
-      by (Turns k) p c = omega (arith, p c, room s)
+      by : (part : Part) → Pays s part (left s) → Concerns part s → received s old + 2 ^ 28 * left s < 2 ^ 128 → received s old + 2 ^ 28 < 2 ^ 128
+      by (Acts act) p c l = omega (arith, p.0, l)
+      by (Turns k) p c l = omega (arith, p c, l)
 
-  room_next : (s : ℕ) → received s new + 2 ^ 28 * left_after s part (left s) < 2 ^ 128
-  room_next s = by part (pays s) effect
+  room_then : (s : ℕ) → received s old + 2 ^ 28 * left s < 2 ^ 128 → NoPipe old s → received s new + 2 ^ 28 * left_after s part (left s) < 2 ^ 128
+  room_then s room off = by part (pays s) effect
     where
       turn : (k : ℕ) → (k ≡ s → 0 < left s) → Effect old (Turns k) reply new → (k ≡ s) ⊎ (k ≢ s) → received s new + 2 ^ 28 * cond (k == s) (left s - 1) (left s) < 2 ^ 128
       turn k p x (inl e) =
           let b : cond (k == s) (left s - 1) (left s) ≡ left s - 1 = ap (λ b. cond b (left s - 1) (left s)) (eq-eqb k s e) in
-          omega (arith, b, p e, room s, effect_most old new reply h (Turns k) s x)
+          omega (arith, b, p e, room, effect_most old new reply h (Turns k) s off x)
       turn k p x (inr ne) =
           let b : cond (k == s) (left s - 1) (left s) ≡ left s = ap (λ b. cond b (left s - 1) (left s)) (ne_eqb k s ne) in
-          omega (arith, b, room s, effect_still old new reply h k s ne x)
+          omega (arith, b, room, effect_still old new reply h k s ne x)
 
       by : (part : Part) → Pays s part (left s) → Effect old part reply new → received s new + 2 ^ 28 * left_after s part (left s) < 2 ^ 128
-      by (Acts act) p x = omega (arith, p.0, room s, effect_most old new reply h (Acts act) s x)
+      by (Acts act) p x = omega (arith, p.0, room, effect_most old new reply h (Acts act) s off x)
       by (Turns k) p x = turn k p x (cases_eq k s)
+
+  room_next : (s : ℕ) → ReadOrRoomFor new s (left_after s part (left s))
+  room_next s = elim (room s) [
+    | inl taken ↦ inl (effect_taken Reading old new part reply s h effect taken)
+    | inr l ↦ by (stream_at old s).reader.owner refl l
+  ]
+    where
+      by : (owner : Owner) → (stream_at old s).reader.owner ≡ owner → received s old + 2 ^ 28 * left s < 2 ^ 128 → ReadOrRoomFor new s (left_after s part (left s))
+      by (Host r) e l = inl (effect_taken Reading old new part reply s h effect (owner_taken Reading old s r h e))
+      by owner e l = inr (room_then s l (λ n r f g. let wrong = sym e ∙ g in cc))
 
 all_aside : (w : World) (all : List HostMoment) (left : ℕ → ℕ) → Chain w all → ((s : ℕ) → Costs s all (left s)) → Holds w.state → HasRoomFor w left → All StaysAside (plains all)
 all_aside w [] left c p h room = All-nil StaysAside
@@ -465,4 +522,4 @@ module _ (tag : ℕ) (limits : Limits) (tells said : Tells) (run : List Step) wh
   pub other_bytes_stay : AreSteps run → All StaysAside (plains all_moments)
   other_bytes_stay a =
       all_aside (start tag limits tells said) all_moments (λ s. length run) (moments-chain (start tag limits tells said) run)
-      (λ s. moments_cost s (start tag limits tells said) run a.bytes) (Holds-empty tag limits) (λ s. omega (arith, a.few))
+      (λ s. moments_cost s (start tag limits tells said) run a.bytes) (Holds-empty tag limits) (λ s. inr (omega (arith, a.few)))

@@ -1,16 +1,17 @@
 -- Handles and ends, host ends and streams still agree after a stream is another or goes.
-use Rattle.std.proofs.Common.{◌≡◌, ◌≢◌, ℕ, ◌<◌, Bool, true, false, cond, List, length, get_or, set, None, refl, sym, ap, subst, ◌∙◌, ◌⊎◌, inl, inr}
+use Rattle.std.proofs.Common.{◌≡◌, ◌≢◌, ℕ, ◌<◌, Bool, true, false, cond, List, [], length, get_or, set, None, refl, sym, ap, subst, ◌∙◌, ◌⊎◌, inl, inr}
 use Rattle.std.proofs.lemmas.Bool.{cases_eq}
 use Rattle.std.proofs.lemmas.List.{get_or-set_same, get_or-set_other}
 use Rattle.strm_handles.specs.Handles.{IsTable}
 use Rattle.strm_handles.specs.Lookups.{end_rep_of}
-use Rattle.strm_machine.specs.State.{State, Guest, host_limit, no_stream, guest_in, stream_at, is_host, is_held}
-use Rattle.strm_machine.specs.Hosting.{duty_of, ServesOne, HostsHold}
+use Rattle.strm_machine.specs.State.{State, Guest, host_limit, no_stream, guest_in, kept_at, stream_at, is_host, is_held}
+use Rattle.strm_machine.specs.Hosting.{duty_of, ServesOne, is_piped, KeepsForPipe, HostsHold}
 use Rattle.strm_machine.specs.Sides.{opposite, end_of}
 use Rattle.strm_machine.specs.Moments.{is_end}
 use Rattle.strm_machine.specs.Tests.{Name}
 use Rattle.strm_machine.specs.Reactions.{with_stream_at}
-use Rattle.strm_machine.specs.declared.streams.Duty.TheVariants.{Serves, Ended}
+use Rattle.strm_machine.specs.declared.streams.Duty.{Duty}
+use Rattle.strm_machine.specs.declared.streams.Duty.TheVariants.{Unused, Serves, Ended}
 use Rattle.strm_machine.specs.declared.streams.End.{End}
 use Rattle.strm_machine.specs.declared.streams.Owner.{Owner}
 use Rattle.strm_machine.specs.declared.streams.Owner.TheVariants.{Held, Host, Gone}
@@ -91,6 +92,8 @@ pub record Changed (side : Side) (state new : State) (s n : ℕ) (done : Bool) (
   pub here : end_of side x ≡ record (end_of side (stream_at state s)) { owner = cond done Gone (end_of side (stream_at state s)).owner }
   pub other : (end_of (opposite side) x).owner ≡ (end_of (opposite side) (stream_at state s)).owner
   pub idle : (m : ℕ) → (end_of (opposite side) (stream_at state s)).owner ≡ Host m → (end_of (opposite side) x).operation ≡ None
+  pub kept : new.kept ≡ state.kept
+  pub empty : (m : ℕ) → (stream_at state s).writer.owner ≡ Host m → kept_at state m ≡ []
 
 module _ (side : Side) (state new : State) (s n : ℕ) (x : Stream) (h : HostsHold state) where
   duty_was : (end_of side (stream_at state s)).owner ≡ Host n → duty_of side state n ≡ Serves s
@@ -185,11 +188,46 @@ module _ (side : Side) (state new : State) (s n : ℕ) (x : Stream) (h : HostsHo
       | inr ne ↦ across_as m k (stream_at state k) (stream_other k ne) refl (h.serve (opposite side) m k).idle
     ]
 
+    -- ITEMS THAT ARE KEPT
+
+    -- what a host writer did
+    abbrev did : ℕ → Duty
+    did m = duty_of Writing state m
+
+    -- one that serves another stream still does
+    other_duty : (m k : ℕ) → k ≢ s → did m ≡ Serves k → duty_of Writing new m ≡ Serves k
+    other_duty m k ne e =
+        each_side (λ i. i ≡ Writing → duty_of Writing new m ≡ Serves k) side
+        (λ is. let mine : duty_of side new m ≡ duty_of side state m = c.leaves.others m (other_end m k ne (ap (λ i. duty_of i state m) is ∙ e)) in ap (λ i. duty_of i new m) (sym is) ∙ mine ∙ ap (λ i. duty_of i state m) is ∙ e)
+        (λ is. ap (λ i. duty_of i new m) (sym is) ∙ c.leaves.across m ∙ ap (λ i. duty_of i state m) is ∙ e) Writing refl
+
+    changed_keeps : (m : ℕ) → KeepsForPipe new m
+    changed_keeps m u = ap (λ ks. get_or ks m []) c.kept ∙ by (did m) refl
+      where
+        unserved : (duty : Duty) → did m ≡ duty → is_piped state duty ≡ false → kept_at state m ≡ []
+        unserved duty e none = h.keeps m (ap (is_piped state) e ∙ none)
+
+        served : (k : ℕ) → did m ≡ Serves k → kept_at state m ≡ []
+        served k e =
+            elim (cases_eq k s) [
+              | inl q ↦ c.empty m ((h.serve Writing m s).owns (e ∙ ap Serves q))
+              | inr ne ↦
+                  let unread : is_host (stream_at new k).reader.owner ≡ false = ap (is_piped new) (sym (other_duty m k ne e)) ∙ u in
+                  unserved (Serves k) e (ap (λ (y : Stream). is_host y.reader.owner) (sym (stream_other k ne)) ∙ unread)
+            ]
+
+        by : (duty : Duty) → did m ≡ duty → kept_at state m ≡ []
+        by (Serves k) e = served k e
+        by Unused e = unserved Unused e refl
+        by Ended e = unserved Ended e refl
+
     pub HostsHold-changed : HostsHold new
     HostsHold-changed = record {
       all = c.leaves.all Writing ∙ h.all;
+      all_kept = ap length c.kept ∙ h.all_kept;
       all_readers = c.leaves.all Reading ∙ h.all_readers;
       serve = λ k m i. each_side (λ (k : Side). ServesOne new k m i) side (mine m i) (theirs m i) k;
+      keeps = changed_keeps;
     }
 
 -- a host end of a stream that has no operation gets none
@@ -199,7 +237,7 @@ StaysIdle old new = (side : Side) → is_host (end_of side old).owner ≡ true �
 -- a stream set to another of the same owners, whose host ends have no operation, and what is kept stays
 pub HostsHold-set : (state : State) (s : ℕ) (x : Stream) → s < length state.streams → OwnersStay (stream_at state s) x → StaysIdle (stream_at state s) x → HostsHold state → HostsHold (with_stream_at state s x)
 HostsHold-set state s x l same idle h =
-    HostsHold-stays state (with_stream_at state s x) (record { producers = refl; consumers = refl })
+    HostsHold-stays state (with_stream_at state s x) (record { producers = refl; kept = refl; consumers = refl })
     (λ k. elim (cases_eq k s) [
       | inl e ↦ subst (λ i. HostsStay (stream_at state i) (stream_at (with_stream_at state s x) i)) (sym e)
           (subst (HostsStay (stream_at state s)) (sym (get_or-set_same state.streams s x no_stream l)) stays)

@@ -3,6 +3,7 @@ pub mod Goings
 pub mod Closed
 pub mod Fed
 pub mod ReadersFed
+pub mod Rounds
 pub mod HostTurns
 pub mod Effects
 pub mod TurnMoves
@@ -23,6 +24,8 @@ pub mod Lowered
 pub mod Unmoved
 pub mod Unread
 pub mod Took
+pub mod KeptItems
+pub mod FutureWritten
 pub mod Duties
 pub mod ToldTaken
 pub mod Forms
@@ -35,3 +38,4 @@ pub mod Delivered
 pub mod Counted
 pub mod HostRows
 pub mod ReaderRows
+pub mod PipeRows

@@ -36,14 +36,16 @@ use Rattle.strm_machine.proofs.SoundLemmas.{left_told}
 use Rattle.strm_machine.proofs.TableLemmas.{OwnersStay}
 use Rattle.strm_codes.specs.declared.codes.StreamResult.{StreamResult}
 use Rattle.strm_codes.specs.declared.payloads.Payload.{Payload}
-use Rattle.strm_world.specs.Settling.{went, settled}
+use Rattle.strm_world.specs.Settling.{went, settled, with_some_received}
+use Rattle.strm_machine.specs.Turns.{with_received}
 use Rattle.strm_world.proofs.SettleLemmas.{is_done_with}
 use Rattle.strm_host_laws.specs.HostMoments.{Part}
 use Rattle.strm_host_laws.proofs.HostTurns.{Turned, turned_stream}
-use Rattle.strm_host_laws.proofs.Effects.{opened_by, piped_streams, Pipes, forsaken_by, Effect, ByReaction, ByRest, ByHosting, ByPiping, ByDriving, ByCalling, ByForsaking}
+use Rattle.strm_host_laws.proofs.Effects.{opened_by, piped_streams, Pipes, Passes, passing_streams, forsaken_by, Effect, ByReaction, ByRest, ByHosting, ByPiping, ByDriving, ByPassing, ByCalling, ByForsaking}
+use Rattle.strm_host_laws.proofs.Goings.{some_received-by}
 use Rattle.strm_host_laws.proofs.Standing.{Holds, call_begun, opened_owner, opened_operation}
 use Rattle.strm_host_laws.proofs.TurnMoves.{Moves, moved_on-moves}
-use Rattle.strm_machine.proofs.HostLemmas.{turn_idle}
+use Rattle.strm_machine.proofs.HostLemmas.{serving_made, turn_idle}
 
 -- ## Streams of which a host end has, or had, an end
 
@@ -404,6 +406,41 @@ pipe_taken old new k r reply h x =
     made : (y : Stream) → new.streams ≡ set old.streams k y → k < length new.streams
     made y e = omega (arith, x.made, ap length e, length-set old.streams k y)
 
+-- the round of a pipe
+module _ (old new : State) (s k : ℕ) (p : Passes old new k) where
+  abbrev received : Stream
+  received = with_some_received (stream_at old k) p.count
+
+  staying : (side : Side) → KeepsTaken side (stream_at old k) received
+  staying side =
+      some_received-by (KeepsTaken side (stream_at old k)) (stream_at old k) p.count
+      (record { idle = λ i. i; unheld = λ i. i; tied = λ i. i; parted = λ i. i }) (by side)
+    where
+      by : (side : Side) → KeepsTaken side (stream_at old k) (with_received (stream_at old k) p.count)
+      by Writing = record { idle = λ i. i; unheld = λ i. i; tied = λ i. i; parted = λ i. i }
+      by Reading = record { idle = λ i. i; unheld = λ i. i; tied = λ i. i; parted = λ i. i }
+
+  leaving : (side : Side) → KeepsTaken side (stream_at old k) (without_ends received)
+  leaving Writing = record { idle = (staying Writing).idle; unheld = λ i. refl; tied = λ i. refl; parted = λ i u v. absurd (true≢false v) }
+  leaving Reading = record { idle = (staying Reading).idle; unheld = λ i. refl; tied = λ i. refl; parted = λ i u v. absurd (true≢false v) }
+
+  passing_taken : (side : Side) → IsTaken side old s → IsTaken side new s
+  passing_taken side h =
+      elim (passing_streams old new k p) [
+        | inl e ↦ taken_set side old new s k received e (λ q. staying side) h
+        | inr e ↦ taken_set side old new s k (without_ends received) e (λ q. leaving side) h
+      ]
+
+-- a stream of which a host end has the end on a side
+pub owner_taken : (side : Side) (state : State) (s n : ℕ) → Holds state → (end_of side (stream_at state s)).owner ≡ Host n → IsTaken side state s
+owner_taken side state s n h e = record {
+  made = serving_made state side n s h.hosts ((h.hosts.serve side n s).serves e);
+  idle = (h.hosts.serve side n s).idle e;
+  unheld = ap is_held e;
+  tied = ap is_loose e;
+  parted = λ u v. absurd (true≢false (sym (ap is_host e) ∙ u));
+}
+
 -- every part keeps one
 pub effect_taken : (side : Side) (old new : State) (part : Part) (reply : Reply) (s : ℕ) → Holds old → Effect old part reply new → IsTaken side old s → IsTaken side new s
 effect_taken side old new part reply s h (ByReaction act p i r e) k = subst (λ x. IsTaken side x s) (sym e) (reaction_taken side old act s h k)
@@ -412,6 +449,7 @@ effect_taken side old new part reply s h (ByHosting n p x) k =
     taken_same side old new s (omega (arith, ap (λ (y : State). length y.streams) x.is, length-append old.streams (x.stream ∷ [])))
     (ap (λ (y : State). stream_at y s) x.is ∙ get_or_append_left old.streams (x.stream ∷ []) no_stream s k.made) k
 effect_taken side old new part reply s h (ByPiping t r p x) k = piped_taken side old new s t r reply x k
+effect_taken side old new part reply s h (ByPassing j p e x) k = passing_taken old new s j x side k
 effect_taken side old new part reply s h (ByDriving c j p e d) k = turned_taken side c old new s j d.host d.operation d.owner d.waits d.turned k
 effect_taken side old new part reply s h (ByCalling c end address count p r) k =
     let j = stream_named (named old end) in

@@ -53,7 +53,7 @@ use Rattle.strm_world.specs.Settling.{went, settled}
 use Rattle.strm_world.proofs.SettleLemmas.{code_told as code_answered}
 use Rattle.strm_host_laws.specs.HostMoments.{Part, Acts, Turns}
 use Rattle.strm_host_laws.specs.HostLaws.{act_in, write_place, source, taken_in, is_piped_in}
-use Rattle.strm_host_laws.proofs.Effects.{opened_by, Driven, Calls, Hosts, piped_streams, Pipes, forsaken_by, Forsakes, is_idle, Effect, ByReaction, ByRest, ByHosting, ByPiping, ByDriving, ByCalling, ByForsaking}
+use Rattle.strm_host_laws.proofs.Effects.{opened_by, Driven, Calls, Hosts, piped_streams, Pipes, forsaken_by, Forsakes, is_idle, Effect, ByReaction, ByRest, ByHosting, ByPiping, ByDriving, ByPassing, ByCalling, ByForsaking, Passes, passing_other}
 use Rattle.strm_host_laws.proofs.GuestsSeen.{moment_in, IsGuests, turned_other}
 use Rattle.strm_host_laws.proofs.HostBytes.{turned_count, placed_small, driven_small, told_count, opened_count}
 use Rattle.strm_host_laws.proofs.HostTurns.{Turned, turned_stream}
@@ -675,11 +675,18 @@ module _ (old new : State) (reply : Reply) (s : ℕ) (h : Holds old) (k : IsRead
       by Writing x t n = refl
       by Reading x t n = refl
 
+  -- a pipe is another stream
+  passing_in : (t : ℕ) → reply ≡ replies.Done → Passes old new t → ReadIn old (Turns t) reply new s
+  passing_in t done x =
+      let ne : s ≢ t = λ q. no_host (stream_at old s).writer.owner x.writer k.unhosted (ap (λ i. (stream_at old i).writer.owner) q ∙ x.wrote) in
+      same_in old (Turns t) reply new s h.held k (untold s Writing (moment_in old (Turns t) reply new) (ap code_told done)) (passing_other old new t x s ne)
+
   pub effect_read : (part : Part) → HasRoom old s part → AreBytes old.guests → Effect old part reply new → ReadIn old part reply new s
   effect_read part room b (ByReaction act p i r e) = rw (p, r, e) (reaction_in old act s h k b (subst (HasRoom old s) p room))
   effect_read part room b (ByRest q e) = same_in old part reply new s h.held k (untold s Writing (moment_in old part reply new) q.untold) (ap (λ (y : State). stream_at y s) e)
   effect_read part room b (ByHosting n p x) = subst (λ q. ReadIn old q reply new s) (sym p) (hosted_in n x)
   effect_read part room b (ByPiping t r p x) = subst (λ q. ReadIn old q reply new s) (sym p) (piped_aside t r x)
+  effect_read part room b (ByPassing t p done x) = subst (λ q. ReadIn old q reply new s) (sym p) (passing_in t done x)
   effect_read part room b (ByDriving side t p done d) = subst (λ q. ReadIn old q reply new s) (sym p) (driven_in old new reply s h k side t (subst (HasRoom old s) p room) done d)
   effect_read part room b (ByCalling side end address count p c) = subst (λ q. ReadIn old q reply new s) (sym p) (call_in side end address count (subst (HasRoom old s) p room) c)
   effect_read part room b (ByForsaking act p f) = subst (λ q. ReadIn old q reply new s) (sym p) (forsaken_in act f)
@@ -759,6 +766,7 @@ entering old new part reply s (ByPiping t r p x) u =
     let is : t ≡ s = eqb-true t s same in
     record { host = r; is = p ∙ ap (λ i. Acts (OnHost r (Pipe i))) is; pipes = subst (λ i. Pipes old i r reply new) is x }
 entering old new part reply s (ByDriving side t p done d) u = absurd (let wrong : is_piped_in s (Turns t) reply ≡ true = ap (λ q. is_piped_in s q reply) (sym p) ∙ u in cc)
+entering old new part reply s (ByPassing t p done x) u = absurd (let wrong : is_piped_in s (Turns t) reply ≡ true = ap (λ q. is_piped_in s q reply) (sym p) ∙ u in cc)
 entering old new part reply s (ByCalling side end address count p c) u =
     absurd (let wrong : is_piped_in s (Acts (OnEnd side end (Operate address count))) reply ≡ true = ap (λ q. is_piped_in s q reply) (sym p) ∙ u in cc)
 entering old new part reply s (ByForsaking act p f) u = absurd (piped_idle (Acts act) reply s f.drops (ap (λ q. is_piped_in s q reply) (sym p) ∙ u))

@@ -4,7 +4,7 @@ use Rattle.std.proofs.lemmas.Bool.{cases_eq, cases_lt}
 use Rattle.std.proofs.lemmas.List.{get_or-set_same, get_or-set_other, get_or_past, length-set, length-replicate}
 use Rattle.std.specs.Prelude.{slice_set, replicate}
 use Rattle.strm_buffers.specs.Tells.{Tells}
-use Rattle.strm_machine.specs.State.{host_limit, no_consumer, consumer_at, is_loose}
+use Rattle.strm_machine.specs.State.{State, host_limit, no_consumer, consumer_at, is_loose}
 use Rattle.strm_machine.specs.Sides.{with_operation}
 use Rattle.strm_machine.specs.Endings.{delivered}
 use Rattle.strm_machine.specs.declared.acts.Act.{Act}
@@ -38,9 +38,14 @@ use Rattle.strm_host_laws.specs.HostLaws.{is_ended, ReadersCloseExactly}
 use Rattle.strm_host_laws.proofs.Chains.{is_part, Chain, moments-chain, StopsAt, play-ends, play-halts}
 use Rattle.strm_host_laws.proofs.Closed.{is_new_reader, unused-unended, or-true, or-false}
 use Rattle.strm_host_laws.proofs.Effects.{pipe_is, loose_made}
-use Rattle.strm_host_laws.proofs.Forms.{HasTurned, opened, called, reacted_to, stream_of, IsCall, IsPiping, Form, BySame, ByReacting, ByForsaking, ByHosting, ByFeeding, ByGranting, ByPiping, ByTurning, ByCalling, part-formed}
-use Rattle.strm_host_laws.proofs.WrittenBack.{leaves_writer-readers}
-use Rattle.strm_host_laws.proofs.Goings.{with_state, piped_to, Begins, Rules, Halted, Comes, IfGoes, with_stream_in-same, part-comes, feed-comes, grant-comes}
+use Rattle.strm_host_laws.proofs.Forms.{HasTurned, opened, called, reacted_to, stream_of, IsRound, IsCall, IsPiping, Form, BySame, ByReacting, ByForsaking, ByHosting, ByFeeding, ByGranting, ByPiping, ByTurning, ByPassing, ByCalling, part-formed}
+use Rattle.strm_host_laws.proofs.WrittenBack.{leaves_writer-readers, mid_end}
+use Rattle.strm_host_laws.proofs.Rounds.{between}
+use Rattle.strm_host_laws.proofs.HostTurns.{with_stream_in-kept}
+use Rattle.strm_world.specs.Piping.{both_gone}
+use Rattle.strm_world.specs.Settling.{with_some_received}
+use Rattle.strm_machine.specs.declared.streams.End.{End}
+use Rattle.strm_host_laws.proofs.Goings.{with_state, some_received-end, piped_to, Begins, Rules, Halted, Comes, IfGoes, with_stream_in-same, part-comes, feed-comes, grant-comes}
 use Rattle.strm_host_laws.proofs.Standing.{Holds, Holds-reaction, Holds-next, Holds-empty, Holds-pipe}
 use Rattle.strm_host_laws.proofs.Turned.{turned, stream_moved, taken_by, stream_taken, Taken}
 
@@ -236,6 +241,30 @@ module _ (first : World) where
         reader_then : (side : Side) (t : ℕ) (operation : Operation) (k : ℕ) → (stream_in (with_state w (record w.state { streams = slice_set w.state.streams t (with_operation side (stream_in w t) operation) })) t).reader.owner ≡ Host k → (stream_in w t).reader.owner ≡ Host k
         reader_then side t operation k e = sym (set-keeps (λ (x : Stream). x.reader.owner) w.state.streams t t (with_operation side (stream_in w t) operation) _ (open-stands side t operation).reader) ∙ e
 
+    -- the round of a pipe
+    round-stands : (part : Part) (v : World) (s n r : ℕ) → IsRound w part v s n r → Stands first v
+    round-stands part v s n r i =
+        let p = i.passed in
+        let told = with_reader w r p.reader in
+        let kept = with_consumer told r p.consumer in
+        let they = between w n r p.producer p.kept p.consumer p.writer p.reader in
+        let passed = with_some_received (stream_in w s) p.count in
+        let but = subst (Stands first) (sym p.but_is) (still kept they refl refl (with_kept told r p.consumer p.serves (with_told w r p.reader p.open_ h))) in
+        let same : OwnersStay (stream_in p.but s) passed =
+        subst (λ x. OwnersStay (stream_in x s) passed) (sym p.but_is)
+        (record { writer = ap (λ (x : End). x.owner) (some_received-end Writing (stream_in w s) p.count); reader = ap (λ (x : End). x.owner) (some_received-end Reading (stream_in w s) p.count) }) in
+        let mid : Stands first p.mid = subst (Stands first) (sym p.mid_is) (same-stands p.but s passed same but) in
+        let mid_state : p.mid.state ≡ (with_stream_in they s passed).state = ap (λ (x : World). x.state) p.mid_is ∙ ap (λ x. (with_stream_in x s passed).state) p.but_is in
+        let serving : ServesHere p.mid s =
+        λ k e. subst (λ (x : State). (consumer_at x k).duty ≡ Serves s) (sym (mid_state ∙ with_stream_in-kept they s passed (subst (λ x. OwnersStay (stream_in x s) passed) p.but_is same)))
+        (set-keeps (λ (c : Consumer). c.duty) w.state.consumers r k p.consumer no_consumer p.serves ∙ serves s k (sym (ap (λ (x : End). x.owner) (mid_end w s n r v p Reading)) ∙ e)) in
+        elim p.ends [
+          | inl e ↦ subst (Stands first) (sym e) mid
+          | inr e ↦
+              let gone = with_stream_in p.mid s (without_ends (stream_in p.mid s)) in
+              subst (Stands first) (sym e) (still gone (both_gone p.mid s n) refl refl (stream-stands p.mid s (without_ends (stream_in p.mid s)) serving mid))
+        ]
+
     form-stands : (part : Part) (reply : Reply) (v : World) → Form w part reply v → Stands first v
     form-stands part reply v (BySame m e) = subst (Stands first) (sym e) h
     form-stands part reply v (ByReacting act m e) = subst (Stands first) (sym e) (reacted-stands act)
@@ -245,6 +274,7 @@ module _ (first : World) where
     form-stands part reply v (ByGranting r count m e) = subst (Stands first) (sym e) (with_told w r (granted_reader (reader_at w r) count) refl h)
     form-stands part reply v (ByPiping s r m p) = pipe-stands v s r p
     form-stands part reply v (ByTurning side s n operation m i) = turned-stands side w v s n operation i.turned (serves s) h
+    form-stands part reply v (ByPassing s n r m i) = round-stands part v s n r i
     form-stands part reply v (ByCalling side end address count n m c) = call-stands side part v end address count n c
 
 -- WHERE A STEP STOPS
@@ -260,6 +290,9 @@ begins = record {
   opens = λ w s stream e r. ap (λ v. (reader_at v r).closed) (with_stream_in-same w s stream e.owners);
   polls = λ w n room said more e r. refl;
   takes = λ w r took said more e k. set-keeps (λ (x : Reader). x.closed) w.readers r k (polled_reader (reader_at w r) took more) no_reader refl;
+  overs = λ w n answer r. refl;
+  gives = λ w n k r. refl;
+  keeps = λ w n items r. refl;
 }
 
 -- whatever becomes of it where it goes on
@@ -268,12 +301,11 @@ Any w v = Unit {0}
 
 any_rules : Rules Any
 any_rules = record {
-  begins = record { stays = λ w. tt; joins = λ a b c f g. tt; opens = λ w s stream e. tt; polls = λ w n room said more e. tt; takes = λ w r took said more e. tt };
+  begins = record { stays = λ w. tt; joins = λ a b c f g. tt; opens = λ w s stream e. tt; polls = λ w n room said more e. tt; takes = λ w r took said more e. tt; overs = λ w n answer. tt; gives = λ w n k. tt; keeps = λ w n items. tt };
   reacts = λ w act. tt;
   lowers = λ w guests. tt;
-  overs = λ w n answer. tt;
-  gives = λ w n k. tt;
   counts = λ w r answer taken. tt;
+  rests = λ w r answer taken. tt;
   leaves = λ w s stream l. tt;
   hosts = λ w n e. tt;
   pipes = λ w s r e. tt;

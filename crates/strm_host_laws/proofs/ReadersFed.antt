@@ -74,6 +74,9 @@ module _ (P : Reader → Reader → Type 0) (of : OfReaders P) where
     opens = λ w s stream e. stream-each w w s stream refl;
     polls = λ w n room said more e r. of.same (reader_at w r);
     takes = λ w r took said more e. with-each_reader w r (polled_reader (reader_at w r) took more) (of.polled (reader_at w r) took said more e);
+    overs = λ w n answer r. of.same (reader_at w r);
+    gives = λ w n k r. of.same (reader_at w r);
+    keeps = λ w n items r. of.same (reader_at w r);
   }
 
   pub rules-each_reader : Rules OfEachReader
@@ -81,9 +84,8 @@ module _ (P : Reader → Reader → Type 0) (of : OfReaders P) where
     begins = begins-each_reader;
     reacts = λ w act r. of.same (reader_at w r);
     lowers = λ w guests r. of.same (reader_at w r);
-    overs = λ w n answer r. of.same (reader_at w r);
-    gives = λ w n k r. of.same (reader_at w r);
     counts = λ w r answer taken k. of.same (reader_at w k);
+    rests = λ w r answer taken k. of.same (reader_at w k);
     leaves = λ w s stream l. stream-each w w s stream refl;
     hosts = λ w n e r. of.same (reader_at w r);
     pipes = λ w s r e. stream-each w (with_consumer w r (record no_consumer { duty = Serves s })) s (piped (stream_in w s) r) refl;

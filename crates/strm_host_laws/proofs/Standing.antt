@@ -2,10 +2,11 @@
 -- and a read end that is loose has no operation.
 use Rattle.std.proofs.Common.{◌≡◌, ◌≢◌, ℕ, ◌<◌, ◌≤◌, Bool, true, false, cond, List, [], ◌∷◌, ◌++◌, length, get_or, set, Option, Some, None, refl, sym, ap, subst, ◌∙◌, inl, inr, arith, length-set, ◌⊎◌, zero, suc}
 use Rattle.std.proofs.lemmas.Bool.{cases_eq}
-use Rattle.std.proofs.lemmas.List.{get_or-set_same, get_or-set_other, get_or_past, map-append, set-set}
+use Rattle.std.specs.Prelude.{ℤ}
+use Rattle.std.proofs.lemmas.List.{get_or-set_same, get_or-set_other, get_or_past, get_or_append_left, map-append, set-set}
 use Rattle.std.proofs.lemmas.List.Elements.{All-push, All-weaker}
-use Rattle.strm_machine.specs.State.{State, Guest, empty, host_limit, no_stream, no_producer, no_consumer, idle_end, stream_at, producer_at, consumer_at, is_host, is_held, is_loose}
-use Rattle.strm_machine.specs.Hosting.{duty_of, ServesOne, HostsHold}
+use Rattle.strm_machine.specs.State.{State, Guest, empty, host_limit, no_stream, no_producer, no_consumer, idle_end, stream_at, producer_at, kept_at, consumer_at, is_host, is_held, is_loose, is_gone}
+use Rattle.strm_machine.specs.Hosting.{duty_of, ServesOne, is_piped, KeepsForPipe, HostsHold}
 use Rattle.strm_machine.specs.Sides.{opposite, end_of, with_end, with_operation}
 use Rattle.strm_machine.specs.Moves.{with_owner}
 use Rattle.strm_machine.specs.Making.{made_stream, made_pair, with_stream}
@@ -41,7 +42,7 @@ use Rattle.strm_machine.proofs.HeldLemmas.{StateIsHeld, reaction-held}
 use Rattle.strm_machine.proofs.TurnLemmas.{GuestsKeep, all_kept}
 use Rattle.strm_machine.proofs.EndLemmas.{IsLeft, left_by, each_side, with_end-type}
 use Rattle.strm_machine.proofs.EmptyLemmas.{HostsHold-empty, IsSound-empty, StateIsHeld-empty}
-use Rattle.strm_machine.proofs.HostLemmas.{reaction-hosts, serving_made, turn_idle}
+use Rattle.strm_machine.proofs.HostLemmas.{reaction-hosts, serving_known, serving_made, turn_idle, unless_host}
 use Rattle.strm_machine.proofs.ShapeLemmas.{operate-fits, reaction-shape}
 use Rattle.strm_machine.proofs.Shapes.{stream_on, begun_on, turn_on, set_by, owned_by, Shape, ByTurn, BySetting, ByOwner, ByTable, ByPair, ByGuest, ByPut, ByRest as ByRestShape}
 use Rattle.strm_machine.proofs.NamedEndLemmas.{IsFound}
@@ -54,12 +55,14 @@ use Rattle.strm_buffers.specs.Tells.{Tells}
 use Rattle.std.specs.Option.{option_map}
 use Rattle.strm_world.specs.World.{World}
 use Rattle.strm_world.specs.Does.{start}
+use Rattle.strm_world.specs.Settling.{with_some_received}
 use Rattle.strm_world.specs.Attaching.{withdrawn, piped, without_ends, forsaken}
+use Rattle.strm_host_laws.proofs.Goings.{some_received-by, some_received-end, some_received-payload, some_received-kind}
 use Rattle.strm_world.proofs.SettleLemmas.{is_done_with}
 use Rattle.strm_host_laws.specs.HostMoments.{Part, HostMoment, host_moments, last_of}
 use Rattle.strm_host_laws.proofs.Chains.{Follows, Chain, moments-chain}
-use Rattle.strm_host_laws.proofs.HostTurns.{leaves_ended, with_ended, with_done, turned_stream, turned_by, Fills, Turned, end_twice}
-use Rattle.strm_host_laws.proofs.Effects.{opened_by, Driven, Calls, Hosts, piped_in, Piped, ByStaying, ByGone, ByDry, Effect, ByReaction, ByRest, ByHosting, ByPiping, ByDriving, ByCalling, ByForsaking, host_made, follows_effect}
+use Rattle.strm_host_laws.proofs.HostTurns.{leaves_ended, both_ended, with_done, turned_stream, turned_by, Fills, Turned, end_twice}
+use Rattle.strm_host_laws.proofs.Effects.{opened_by, Driven, Calls, Hosts, piped_in, Piped, ByStaying, ByGone, ByDry, Effect, ByReaction, ByRest, ByHosting, ByPiping, ByDriving, ByPassing, ByCalling, ByForsaking, both_over, Passes, passing_made, host_made, follows_effect}
 use Rattle.strm_host_laws.proofs.TurnMoves.{Moves, moved_on-moves, moved-theirs, moved-mine, moves-placed}
 use Rattle.strm_host_laws.proofs.HostsAgree.{StaysOrFree, IsHeld-either, set_either, no_two, one_stream, HostsHold-changed, StaysIdle, HostsHold-set}
 use Rattle.strm_world.proofs.LoweredLemmas.{lowered-keeps}
@@ -145,6 +148,10 @@ Holds-reaction state act h = record {
   loose = shape_loose state h.held h.loose act (reaction state act) (reaction-shape state act h.sound);
 }
 
+-- nothing is kept of the host writer of a stream that no host reader reads
+pub nothing_kept : (state : State) (s n : ℕ) → HostsHold state → (stream_at state s).writer.owner ≡ Host n → is_host (stream_at state s).reader.owner ≡ false → kept_at state n ≡ []
+nothing_kept state s n h e u = h.keeps n (ap (is_piped state) ((h.serve Writing n s).serves e) ∙ u)
+
 -- ## The turn of a host end
 
 free_or : (done : Bool) (owner : Owner) (n : ℕ) → owner ≡ Host n → StaysOrFree owner (cond done Gone owner)
@@ -204,7 +211,14 @@ module _ (side : Side) (old new : State) (s n : ℕ) (operation : Operation) (h 
           here = moves.theirs;
           other = ap (λ (x : End). x.owner) (end_twice side after) ∙ moved-mine (stream_at old s) operation t.count side t.result ∙ ap (λ (x : End). x.owner) (sym (end_twice side (stream_at old s)));
           idle = λ m e. absurd (unhosted m (ap (λ (x : End). x.owner) (sym (end_twice side (stream_at old s))) ∙ e));
+          kept = refl;
+          empty = empty side unhosted;
         })
+      where
+        -- nothing is kept for an end that has an operation
+        empty : (side : Side) → ((m : ℕ) → (end_of side (stream_at old s)).owner ≡ Host m → ⊥) → (m : ℕ) → (stream_at old s).writer.owner ≡ Host m → kept_at old m ≡ []
+        empty Writing never m e = absurd (never m e)
+        empty Reading never m e = nothing_kept old s m h.hosts e (unless_host (stream_at old s).reader.owner (λ r f. never r f))
 
     turned_loose : IsIdleIfLoose after
     turned_loose = by side moves o w
@@ -371,6 +385,24 @@ module _ (old : State) (n : ℕ) (stream : Stream) (h : Holds old) (known : n < 
     idle = at_push old.streams stream no_stream k (λ x. x.reader.owner ≡ Host m → x.reader.operation ≡ None) (λ e o. ap (λ (x : End). x.operation) reader) (λ ne. (h.hosts.serve Reading m k).idle);
   }
 
+  -- nothing is kept of it, or of another for which no host reader reads
+  hosted_keeps : (m : ℕ) → KeepsForPipe hosted_by m
+  hosted_keeps m u =
+      elim (cases_eq m n) [
+        | inl e ↦ h.hosts.keeps m (ap (λ k. is_piped old (producer_at old k).duty) e ∙ unserved (producer_at old n).duty unused)
+        | inr ne ↦ h.hosts.keeps m (by (producer_at old m).duty refl (ap (is_piped hosted_by) (sym (duty_of_others m ne)) ∙ u))
+      ]
+    where
+      unserved : (duty : Duty) → is_used duty ≡ false → is_piped old duty ≡ false
+      unserved (Serves k) e = cc
+      unserved duty e = refl
+
+      by : (duty : Duty) → (producer_at old m).duty ≡ duty → is_piped hosted_by duty ≡ false → is_piped old duty ≡ false
+      by (Serves k) e f =
+          let made = serving_made old Writing m k h.hosts e in
+          ap (λ (x : Stream). is_host x.reader.owner) (sym (get_or_append_left old.streams (stream ∷ []) no_stream k made)) ∙ f
+      by duty e f = refl
+
   hosted_free : (k : ℕ) (side : Side) → StaysOrFree (owner_in old.streams k side) (owner_in (old.streams ++ stream ∷ []) k side)
   hosted_free k side =
       at_push old.streams stream no_stream k (λ x. StaysOrFree (owner_in old.streams k side) (end_of side x).owner)
@@ -398,8 +430,10 @@ module _ (old : State) (n : ℕ) (stream : Stream) (h : Holds old) (known : n < 
     held = IsHeld-either old.guests old.guests old.streams (old.streams ++ stream ∷ []) (λ g. refl) hosted_free h.held;
     hosts = record {
       all = length-set old.producers n producer ∙ h.hosts.all;
+      all_kept = h.hosts.all_kept;
       all_readers = h.hosts.all_readers;
       serve = hosted_serve;
+      keeps = hosted_keeps;
     };
     loose = λ k. at_push old.streams stream no_stream k IsIdleIfLoose (λ e l. ap (λ (x : End). x.operation) reader) (λ ne. h.loose k);
   }
@@ -421,7 +455,11 @@ pub forsaken-leaves : (side : Side) (stream : Stream) → LeavesStream (opposite
 forsaken-leaves Writing stream = record { here = refl; owner = refl; operation = refl; payload = refl; kind = refl }
 forsaken-leaves Reading stream = record { here = refl; owner = refl; operation = refl; payload = refl; kind = refl }
 
-module _ (side : Side) (state : State) (s n : ℕ) (x : Stream) (o : (end_of side (stream_at state s)).owner ≡ Host n) (v : LeavesStream side (stream_at state s) x) (h : Holds state) where
+-- nothing is kept of the host writer of stream s
+abbrev KeepsNone : State → ℕ → Type 0
+KeepsNone state s = (m : ℕ) → (stream_at state s).writer.owner ≡ Host m → kept_at state m ≡ []
+
+module _ (side : Side) (state : State) (s n : ℕ) (x : Stream) (o : (end_of side (stream_at state s)).owner ≡ Host n) (v : LeavesStream side (stream_at state s) x) (empty : KeepsNone state s) (h : Holds state) where
   left_stream_made : s < length state.streams
   left_stream_made = host_made state s side (ap is_host o)
 
@@ -468,8 +506,14 @@ module _ (side : Side) (state : State) (s n : ℕ) (x : Stream) (o : (end_of sid
         here = v.here;
         other = v.owner;
         idle = λ m e. v.operation ∙ (h.hosts.serve (opposite side) m s).idle e;
+        kept = kept side;
+        empty = empty;
       })
     where
+      kept : (side : Side) → (with_done side state s n x).kept ≡ state.kept
+      kept Writing = refl
+      kept Reading = refl
+
       streams : (side : Side) → (with_done side state s n x).streams ≡ set state.streams s x
       streams Writing = refl
       streams Reading = refl
@@ -486,6 +530,30 @@ module _ (side : Side) (state : State) (s n : ℕ) (x : Stream) (o : (end_of sid
       by : (side : Side) → HostsHold (with_done side state s n x) → Holds (with_done side state s n x)
       by Writing k = record { sound = record { named = left_sound.named; placed = left_sound.placed; small = left_sound.small; sets = left_sound.sets; contexts = left_sound.contexts }; held = held; hosts = k; loose = loose }
       by Reading k = record { sound = record { named = left_sound.named; placed = left_sound.placed; small = left_sound.small; sets = left_sound.sets; contexts = left_sound.contexts }; held = held; hosts = k; loose = loose }
+
+-- both host ends of a stream, for which nothing is kept
+module _ (state : State) (s n r : ℕ) (x : Stream) (is : stream_at state s ≡ x) (made : s < length state.streams) (e : x.writer.owner ≡ Host n) (f : x.reader.owner ≡ Host r) (none : kept_at state n ≡ []) (h : Holds state) where
+  -- once its read end is gone
+  abbrev half : Stream
+  half = with_owner Reading x Gone
+
+  keeps_none : (y : Stream) → stream_at state s ≡ y → y.writer.owner ≡ Host n → KeepsNone state s
+  keeps_none y same o m g = ap (kept_at state) (no_two m n (sym g ∙ ap (λ (z : Stream). z.writer.owner) same ∙ o)) ∙ none
+
+  Holds-half : Holds (with_done Reading state s r half)
+  Holds-half =
+      Holds-left Reading state s r half (ap (λ (z : Stream). z.reader.owner) is ∙ f)
+      (subst (λ z. LeavesStream Reading z half) (sym is) (record { here = refl; owner = refl; operation = refl; payload = refl; kind = refl })) (keeps_none x is e) h
+
+  pub Holds-both_left : Holds (with_stream_at (both_ended state n r) s (without_ends x))
+  Holds-both_left =
+      let first = with_done Reading state s r half in
+      let here : stream_at first s ≡ half = get_or-set_same state.streams s half no_stream made in
+      let own : (stream_at first s).writer.owner ≡ Host n = ap (λ (z : Stream). z.writer.owner) here ∙ e in
+      let both = Holds-left Writing first s n (without_ends x) own
+      (subst (λ z. LeavesStream Writing z (without_ends x)) (sym here) (record { here = refl; owner = refl; operation = refl; payload = refl; kind = refl }))
+      (λ m g. ap (kept_at state) (no_two m n (sym g ∙ own)) ∙ none) Holds-half in
+      subst (λ xs. Holds (record (both_ended state n r) { streams = xs })) (set-set state.streams s half (without_ends x)) both
 
 -- ## A read end that goes to a host reader
 
@@ -602,8 +670,10 @@ module _ (old : State) (s r : ℕ) (h : Holds old) (known : r < host_limit) (unu
         held = IsHeld-either old.guests old.guests old.streams (set old.streams s the_pipe) (λ g. refl) (set_either old.streams s the_pipe made pipe_free) h.held;
         hosts = record {
           all = h.hosts.all;
+          all_kept = h.hosts.all_kept;
           all_readers = length-set old.consumers r consumer ∙ h.hosts.all_readers;
           serve = serve;
+          keeps = λ m u. h.hosts.keeps m (unread (producer_at old m).duty u);
         };
         loose = loose_set old with_pipe s the_pipe refl (λ l. cc) h.loose;
       }
@@ -612,30 +682,123 @@ module _ (old : State) (s r : ℕ) (h : Holds old) (known : r < host_limit) (unu
       serve Writing m k = pipe_writes m k
       serve Reading m k = pipe_reads m k
 
-  -- the stream once its read end is gone, and then the write end too
-  abbrev unread : Stream
-  unread = with_owner Reading the_pipe Gone
+      -- a stream that no host reader reads then had none
+      unread : (duty : Duty) → is_piped with_pipe duty ≡ false → is_piped old duty ≡ false
+      unread (Serves k) u =
+          elim (cases_eq k s) [
+            | inl e ↦ unless_host (stream_at old k).reader.owner (λ j f. let wrong : is_loose (Host j) ≡ true = ap is_loose (sym f) ∙ ap (λ i. is_loose (stream_at old i).reader.owner) e ∙ loose in cc)
+            | inr ne ↦ ap (λ (x : Stream). is_host x.reader.owner) (sym (pipe_other k ne)) ∙ u
+          ]
+      unread duty u = refl
 
-  Holds-unread : Holds (with_done Reading with_pipe s r unread)
-  Holds-unread =
-      Holds-left Reading with_pipe s r unread (ap (λ (x : Stream). x.reader.owner) pipe_here)
-      (subst (λ x. LeavesStream Reading x unread) (sym pipe_here) (record { here = refl; owner = refl; operation = refl; payload = refl; kind = refl })) Holds-pipe
+  -- nothing was kept of its host writer
+  pub pipe_empty : (n : ℕ) → (stream_at old s).writer.owner ≡ Host n → kept_at old n ≡ []
+  pipe_empty n e =
+      nothing_kept old s n h.hosts e
+      (unless_host (stream_at old s).reader.owner (λ j f. let wrong : is_loose (Host j) ≡ true = ap is_loose (sym f) ∙ loose in cc))
 
   pub Holds-piped : (new : State) → Piped old s r new → Holds new
   Holds-piped new (ByStaying e) = subst Holds (sym e) Holds-pipe
   Holds-piped new (ByGone g e) =
       subst Holds (sym e)
       (Holds-left Reading with_pipe s r (without_ends the_pipe) (ap (λ (x : Stream). x.reader.owner) pipe_here)
-      (subst (λ x. LeavesStream Reading x (without_ends the_pipe)) (sym pipe_here) (record { here = refl; owner = sym g; operation = refl; payload = refl; kind = refl })) Holds-pipe)
+      (subst (λ x. LeavesStream Reading x (without_ends the_pipe)) (sym pipe_here) (record { here = refl; owner = sym g; operation = refl; payload = refl; kind = refl }))
+      (λ m f. let wrong : Gone ≡ Host m = sym g ∙ ap (λ (x : Stream). x.writer.owner) (sym pipe_here) ∙ f in cc) Holds-pipe)
   Holds-piped new (ByDry n g e) =
-      let first = with_done Reading with_pipe s r unread in
-      let here : stream_at first s ≡ unread = get_or-set_same with_pipe.streams s unread no_stream (omega (arith, made, length-set old.streams s the_pipe)) in
-      let both = Holds-left Writing first s n (without_ends the_pipe) (ap (λ (x : Stream). x.writer.owner) here ∙ g)
-      (subst (λ x. LeavesStream Writing x (without_ends the_pipe)) (sym here) (record { here = refl; owner = refl; operation = refl; payload = refl; kind = refl })) Holds-unread in
-      subst Holds (sym e)
-      (subst (λ xs. Holds (record (with_ended Writing (with_ended Reading with_pipe r) n) { streams = xs })) (set-set with_pipe.streams s unread (without_ends the_pipe)) both)
+      subst Holds (sym e) (Holds-both_left with_pipe s n r the_pipe pipe_here (omega (arith, made, length-set old.streams s the_pipe)) g refl (pipe_empty n g) Holds-pipe)
+
+-- ## The round of a pipe
+
+module _ (old new : State) (s : ℕ) (p : Passes old new s) (h : Holds old) where
+  abbrev received_stream : Stream
+  received_stream = with_some_received (stream_at old s) p.count
+
+  -- the state with these items kept, before the pipe may end
+  abbrev passed_by : List (List (List ℤ)) → State
+  passed_by ks = record old { streams = set old.streams s received_stream; producers = p.mid.producers; kept = ks; consumers = p.mid.consumers }
+
+  -- all ends are as they were
+  passed_end : (ks : List (List (List ℤ))) (k : ℕ) (side : Side) → end_of side (stream_at (passed_by ks) k) ≡ end_of side (stream_at old k)
+  passed_end ks k side = set-keeps (λ (x : Stream). end_of side x) old.streams s k received_stream no_stream (some_received-end side (stream_at old s) p.count)
+
+  piped_as : (ks : List (List (List ℤ))) (duty : Duty) → is_piped (passed_by ks) duty ≡ is_piped old duty
+  piped_as ks (Serves k) = ap (λ (x : End). is_host x.owner) (passed_end ks k Reading)
+  piped_as ks duty = refl
+
+  module _ (ks : List (List (List ℤ))) (many : length ks ≡ length old.kept) (others : (k : ℕ) → k ≢ p.writer → get_or ks k [] ≡ kept_at old k) where
+    passed_serve : (side : Side) (m k : ℕ) → ServesOne (passed_by ks) side m k
+    passed_serve side m k =
+        let was = h.hosts.serve side m k in
+        let same = passed_end ks k side in
+        record {
+          serves = λ e. p.duties.same side m ∙ was.serves (ap (λ (x : End). x.owner) (sym same) ∙ e);
+          owns = λ d. ap (λ (x : End). x.owner) same ∙ was.owns (sym (p.duties.same side m) ∙ d);
+          idle = λ e. ap (λ (x : End). x.operation) same ∙ was.idle (ap (λ (x : End). x.owner) (sym same) ∙ e);
+        }
+
+    passed_keeps : (m : ℕ) → KeepsForPipe (passed_by ks) m
+    passed_keeps m u =
+        elim (cases_eq m p.writer) [
+          | inl e ↦
+              let duty : duty_of Writing old m ≡ Serves s = ap (duty_of Writing old) e ∙ (h.hosts.serve Writing p.writer s).serves p.wrote in
+              let unread : is_host (Host p.reader) ≡ false = ap is_host (sym p.read) ∙ ap (is_piped old) (sym duty) ∙ before m u in
+              absurd (let wrong : true ≡ false = unread in cc)
+          | inr ne ↦ others m ne ∙ h.hosts.keeps m (before m u)
+        ]
+      where
+        before : (m : ℕ) → is_piped (passed_by ks) (producer_at (passed_by ks) m).duty ≡ false → is_piped old (producer_at old m).duty ≡ false
+        before m u = ap (is_piped old) (sym (p.duties.same Writing m)) ∙ sym (piped_as ks (producer_at (passed_by ks) m).duty) ∙ u
+
+    Holds-passed_by : Holds (passed_by ks)
+    Holds-passed_by =
+        let made = passing_made old new s p in
+        let placed = placed_at old s made h.sound in
+        let sound = IsSound-stream old s received_stream (type_of-same received_stream (stream_at old s) (some_received-payload (stream_at old s) p.count) (some_received-kind (stream_at old s) p.count))
+        (some_received-by (StreamIsPlaced (sizes_of old.guests)) (stream_at old s) p.count placed (record { writer = placed.writer; reader = placed.reader })) h.sound in
+        record {
+          sound = record { named = sound.named; placed = sound.placed; small = sound.small; sets = sound.sets; contexts = sound.contexts };
+          held =
+              IsHeld-either old.guests old.guests old.streams (set old.streams s received_stream) (λ g. refl)
+              (set_either old.streams s received_stream made (λ side. inl (ap (λ (x : End). x.owner) (some_received-end side (stream_at old s) p.count)))) h.held;
+          hosts = record {
+            all = p.duties.all Writing ∙ h.hosts.all;
+            all_kept = many ∙ h.hosts.all_kept;
+            all_readers = p.duties.all Reading ∙ h.hosts.all_readers;
+            serve = passed_serve;
+            keeps = passed_keeps;
+          };
+          loose =
+              loose_set old (passed_by ks) s received_stream refl
+              (λ l. absurd (let wrong : is_loose (Host p.reader) ≡ true = ap is_loose (sym p.read) ∙ ap (λ (x : End). is_loose x.owner) (sym (some_received-end Reading (stream_at old s) p.count)) ∙ l in cc)) h.loose;
+        }
+
+  -- once nothing is kept any more, and both ends are gone
+  passing_over : Holds (both_over (passed_by p.mid.kept) s p.writer p.reader)
+  passing_over =
+      let none = set p.mid.kept p.writer [] in
+      let state = passed_by none in
+      let made = passing_made old new s p in
+      let known = serving_known old Writing p.writer s h.hosts ((h.hosts.serve Writing p.writer s).serves p.wrote) in
+      let own : (side : Side) → (end_of side (stream_at state s)).owner ≡ (end_of side (stream_at old s)).owner = λ side. ap (λ (x : End). x.owner) (passed_end none s side) in
+      Holds-both_left state s p.writer p.reader (stream_at state s) refl (omega (arith, made, length-set old.streams s received_stream)) (own Writing ∙ p.wrote) (own Reading ∙ p.read)
+      (get_or-set_same p.mid.kept p.writer [] [] (omega (arith, known, p.as_many, h.hosts.all_kept)))
+      (Holds-passed_by none (length-set p.mid.kept p.writer [] ∙ p.as_many) (λ k ne. get_or-set_other p.mid.kept p.writer k [] [] ne ∙ p.others k ne))
+
+  pub Holds-passing : Holds new
+  Holds-passing =
+      elim p.ends [
+        | inl e ↦ subst Holds (sym (e ∙ p.mid_is)) (Holds-passed_by p.mid.kept p.as_many p.others)
+        | inr e ↦ subst Holds (sym (e ∙ ap (λ x. both_over x s p.writer p.reader) p.mid_is)) passing_over
+      ]
 
 -- ## Every part
+
+-- nothing is kept of a host writer whose stream has an end that is gone
+left_empty : (state : State) (s : ℕ) (side : Side) → HostsHold state → is_gone (end_of side (stream_at state s)).owner ≡ true → KeepsNone state s
+left_empty state s Writing h g m e = let wrong : is_gone (Host m) ≡ true = ap is_gone (sym e) ∙ g in cc
+left_empty state s Reading h g m e =
+    nothing_kept state s m h e
+    (unless_host (stream_at state s).reader.owner (λ r f. let wrong : is_gone (Host r) ≡ true = ap is_gone (sym f) ∙ g in cc))
 
 -- what a read or write asks for, where nothing refuses it, lies in memory, and its stream was made
 pub record Begun (side : Side) (state : State) (end : NamedEnd) (address count : ℕ) : Type 0 where
@@ -697,15 +860,16 @@ module _ (old new : State) (reply : Reply) (h : Holds old) where
   Holds-effect part (ByHosting n p x) = Holds-hosted old new n reply x h
   Holds-effect part (ByPiping s r p x) = Holds-piped old s r h x.known x.unused x.loose x.made new x.ends
   Holds-effect part (ByDriving side s p e d) = Holds-driven side s d
+  Holds-effect part (ByPassing s p e x) = Holds-passing old new s x h
   Holds-effect part (ByCalling side end address count p r) = Holds-call side end address count r
   Holds-effect part (ByForsaking act p f) =
       let state = (reaction old act).state in
-      subst Holds (sym f.is) (Holds-left (opposite f.side) state f.stream f.host (forsaken f.side (stream_at state f.stream)) f.owner (forsaken-leaves f.side (stream_at state f.stream)) (Holds-reaction old act h))
+      subst Holds (sym f.is) (Holds-left (opposite f.side) state f.stream f.host (forsaken f.side (stream_at state f.stream)) f.owner (forsaken-leaves f.side (stream_at state f.stream)) (left_empty state f.stream f.side (Holds-reaction old act h).hosts f.gone) (Holds-reaction old act h))
 
 -- ## Runs
 
 pub Holds-next : (world : World) (m : HostMoment) → Follows world m → Holds world.state → Holds m.after.state
-Holds-next world m f h = Holds-effect world.state m.after.state m.reply h m.part (follows_effect world m f)
+Holds-next world m f h = Holds-effect world.state m.after.state m.reply h m.part (follows_effect world m h.hosts f)
 
 pub Holds-chain : (world : World) (all : List HostMoment) → Chain world all → Holds world.state → Holds (last_of world all).state
 Holds-chain world [] c h = h

@@ -1,5 +1,5 @@
 -- A host reader tells exactly what was taken of its stream, behind what it told at first.
-use Rattle.std.proofs.Common.{◌≡◌, ℕ, ◌+◌, ◌*◌, ◌^◌, ◌<◌, ◌==◌, ◌||◌, ◌&&◌, Bool, true, false, zero, suc, List, [], ◌∷◌, ◌++◌, length, map, drop, Option, Some, None, refl, sym, ap, subst, ◌∙◌, ◌⊎◌, inl, inr, arith, append_assoc, append-nil}
+use Rattle.std.proofs.Common.{◌≡◌, ℕ, ◌==◌, ◌||◌, ◌&&◌, Bool, true, false, zero, suc, List, [], ◌∷◌, ◌++◌, length, map, drop, Option, Some, None, refl, sym, ap, subst, ◌∙◌, ◌⊎◌, inl, inr, arith, append_assoc, append-nil}
 use Rattle.std.specs.Prelude.{All, IsSome}
 use Rattle.std.specs.Option.{option_map}
 use Rattle.std.proofs.lemmas.Bool.{and_parts, eqb-true, true≢false}
@@ -8,9 +8,10 @@ use Rattle.std.proofs.lemmas.List.Elements.{All-head, All-tail}
 use Rattle.strm_codes.specs.Layout.{scalars_of, item_size}
 use Rattle.strm_codes.specs.declared.scalars.Scalar.{Scalar}
 use Rattle.strm_memory.specs.Items.{decode, items}
+use Rattle.strm_buffers.specs.declared.answers.ReaderSaid.{ReaderSaid}
 use Rattle.strm_buffers.specs.Listing.{Item, listed}
 use Rattle.strm_buffers.specs.Tells.{Tells}
-use Rattle.strm_machine.specs.Moments.{decoded, received}
+use Rattle.strm_machine.specs.Moments.{decoded}
 use Rattle.strm_machine.specs.State.{State, memory_in, stream_at, is_host, is_loose}
 use Rattle.strm_machine.specs.declared.acts.Act.TheVariants.{OnHost}
 use Rattle.strm_machine.specs.declared.acts.HostAct.TheVariants.{Pipe}
@@ -21,7 +22,7 @@ use Rattle.strm_machine.specs.declared.steps.Step.{Step}
 use Rattle.strm_machine.specs.declared.streams.Duty.TheVariants.{Serves, Ended}
 use Rattle.strm_machine.specs.declared.streams.Owner.{Owner}
 use Rattle.strm_machine.specs.declared.streams.Owner.TheVariants.{Host}
-use Rattle.strm_machine.specs.declared.streams.Side.TheVariants.{Reading}
+use Rattle.strm_machine.specs.declared.streams.Side.TheVariants.{Writing, Reading}
 use Rattle.strm_machine.proofs.ArrivalLemmas.{decoded-items}
 use Rattle.strm_machine.proofs.HostLemmas.{unless_host}
 use Rattle.strm_laws.specs.Laws.{AreSteps}
@@ -34,17 +35,19 @@ use Rattle.strm_host_laws.specs.HostLaws.{plain, taken_in, taken_from, taken_by,
 use Rattle.strm_host_laws.proofs.Chains.{Follows, Chain, moments-chain}
 use Rattle.strm_host_laws.proofs.Duties.{duty, Stays, Ends, Gets, pipes_duty, effect_duty}
 use Rattle.strm_host_laws.proofs.Effects.{Pipes, Effect, follows_effect}
-use Rattle.strm_host_laws.proofs.Forms.{Form, part-formed}
+use Rattle.strm_host_laws.proofs.Forms.{IsRound, Form, part-formed}
 use Rattle.strm_host_laws.proofs.Goings.{IfGoes}
 use Rattle.strm_host_laws.proofs.GuestsSeen.{effect_pipes}
 use Rattle.strm_host_laws.proofs.HostAccounts.{all_front, all_back, taken_unread}
-use Rattle.strm_host_laws.proofs.Moments.{nothing_by}
-use Rattle.strm_host_laws.proofs.PartsSeen.{IsTaken, effect_taken}
+use Rattle.strm_host_laws.proofs.KeptItems.{unused_by}
+use Rattle.strm_host_laws.proofs.Moments.{nothing_from, round_got}
+use Rattle.strm_host_laws.proofs.WrittenBack.{told_of, round_told}
+use Rattle.strm_host_laws.proofs.PartsSeen.{IsTaken, owner_taken, effect_taken}
 use Rattle.strm_host_laws.proofs.ReadSeen.{taken_at, entering}
-use Rattle.strm_host_laws.proofs.Rooms.{HasRoom, has_room, room_next}
+use Rattle.strm_host_laws.proofs.Rooms.{HasRoom, WrittenOrRoom, written_or_room, written_or_room_next}
 use Rattle.strm_host_laws.proofs.Standing.{Holds, Holds-next, Holds-empty}
 use Rattle.strm_host_laws.proofs.StepsLeft.{left_after, Costs, moments_cost}
-use Rattle.strm_host_laws.proofs.Took.{TakesOn, Took, Rests, Takes, owner_taken, form_took}
+use Rattle.strm_host_laws.proofs.Took.{TakesOn, Took, Rests, Takes, Passes, form_took}
 
 -- ## Items
 
@@ -207,24 +210,40 @@ module _ (s r : ℕ) (m : HostMoment) (h : Holds m.before.state) (took : Took s 
   abbrev ToldHere : Type 0
   ToldHere = Told (reader_at m.before r) (reader_at m.after r) (host_taken_in s m)
 
-  nothing_told : host_taken_in s m ≡ [] → (reader_at m.after r).holds ≡ (reader_at m.before r).holds → ToldHere
-  nothing_told e f = subst (Told (reader_at m.before r) (reader_at m.after r)) (sym e) (told_same (reader_at m.before r).holds (reader_at m.after r).holds f)
+  -- what it told, and the records that it had
+  abbrev SameTold : Type 0
+  SameTold = told_of (reader_at m.after r) ≡ told_of (reader_at m.before r)
+
+  nothing_told : host_taken_in s m ≡ [] → SameTold → ToldHere
+  nothing_told e f =
+      subst (Told (reader_at m.before r) (reader_at m.after r)) (sym e)
+      (told_same (reader_at m.before r).holds (reader_at m.after r).holds (ap (λ (p : Option (List Item) × List ReaderSaid). p.0) f))
 
   -- it has no stream, and this one is no host reader's
   idle_told : is_used (duty m.before.state r) ≡ false → is_host owner ≡ false → ToldHere
   idle_told u e =
       elim took [
-        | Rests x ↦ nothing_told (taken_unread s m owner e) x.holds
+        | Rests x ↦ nothing_told (taken_unread s m owner e) x.told
         | Takes t x ↦
             let serves = (h.hosts.serve Reading r t).serves x.owner in
             absurd (true≢false (sym (ap is_used serves) ∙ u))
+        | Passes t n i ↦
+            let serves = (h.hosts.serve Reading r t).serves i.read in
+            absurd (true≢false (sym (ap is_used serves) ∙ u))
       ]
 
-  from_guest : (writer : Owner) → is_host writer ≡ false → taken_from s m writer ≡ taken_in s (plain m)
+  from_guest : (writer : Owner) → is_host writer ≡ false → taken_from s m r writer ≡ taken_in s (plain m)
   from_guest (Host n) e = cc
   from_guest _ e = refl
 
   -- it takes from a guest
+  -- it takes from a host writer
+  passes_told : (n : ℕ) → IsRound m.before m.part m.after s n r → ToldHere
+  passes_told n i =
+      subst (Told (reader_at m.before r) (reader_at m.after r)) (sym (round_got s n r m i.passed i.read i.wrote).taken)
+      (told_more (reader_at m.before r).holds (reader_at m.after r).holds i.passed.items
+      (ap (λ (p : Option (List Item) × List ReaderSaid). p.0) (round_told m.before s n r m.after i.passed r) ∙ i.passed.holds))
+
   takes_told : TakesOn s r m → HasRoom m.before.state s m.part → All IsSome (host_taken_in s m) → ToldHere
   takes_told x room good =
       let payload = (stream_in m.before s).payload in
@@ -236,25 +255,34 @@ module _ (s r : ℕ) (m : HostMoment) (h : Holds m.before.state) (took : Took s 
       subst (Told (reader_at m.before r) (reader_at m.after r)) same (told_more (reader_at m.before r).holds (reader_at m.after r).holds list x.holds)
 
   -- it serves it, or did
-  serving_told : Serving m.before.state s r → HasRoom m.before.state s m.part → All IsSome (host_taken_in s m) → ToldHere
+  serving_told : Serving m.before.state s r → IsTaken Writing m.before.state s ⊎ HasRoom m.before.state s m.part → All IsSome (host_taken_in s m) → ToldHere
   serving_told x room good = by owner refl
     where
       gone : is_host owner ≡ false → ToldHere
       gone e =
           elim took [
-            | Rests y ↦ nothing_told (taken_unread s m owner e) y.holds
+            | Rests y ↦ nothing_told (taken_unread s m owner e) y.told
             | Takes t y ↦
                 let same : t ≡ s = x.one t ((h.hosts.serve Reading r t).serves y.owner) in
                 let own = y.owner in
+                absurd (true≢false (sym (ap (λ i. is_host (stream_in m.before i).reader.owner) (sym same) ∙ ap is_host own) ∙ e))
+            | Passes t n y ↦
+                let same : t ≡ s = x.one t ((h.hosts.serve Reading r t).serves y.read) in
+                let own = y.read in
                 absurd (true≢false (sym (ap (λ i. is_host (stream_in m.before i).reader.owner) (sym same) ∙ ap is_host own) ∙ e))
           ]
 
       has : owner ≡ Host r → ToldHere
       has e =
           elim took [
-            | Rests y ↦ nothing_told (ap (taken_by s m) e ∙ nothing_by s m (y.counts e) (Host r)) y.holds
-            | Takes t y ↦ takes_told (subst (λ i. TakesOn i r m) (x.one t ((h.hosts.serve Reading r t).serves y.owner)) y) room good
+            | Rests y ↦ nothing_told (ap (taken_by s m) e ∙ nothing_from s m r (y.counts e) (unused_by r m y.told) (stream_in m.before s).writer.owner) y.told
+            | Takes t y ↦ from_one (subst (λ i. TakesOn i r m) (x.one t ((h.hosts.serve Reading r t).serves y.owner)) y) room
+            | Passes t n y ↦ passes_told n (subst (λ i. IsRound m.before m.part m.after i n r) (x.one t ((h.hosts.serve Reading r t).serves y.read)) y)
           ]
+        where
+          from_one : TakesOn s r m → IsTaken Writing m.before.state s ⊎ HasRoom m.before.state s m.part → ToldHere
+          from_one y (inl taken) = absurd (y.busy taken)
+          from_one y (inr has) = takes_told y has good
 
       by : (o : Owner) → owner ≡ o → ToldHere
       by (Host k) e = has (e ∙ ap Host (x.only k ((h.hosts.serve Reading k s).serves e)))
@@ -274,7 +302,7 @@ known w m s r f holds =
     let form = subst (λ o. IfGoes o (Form m.before m.part)) f.goes (part-formed m.before before m.part f.part) in
     record {
       holds = before;
-      effect = subst (λ (x : World). Effect x.state m.part m.reply m.after.state) (sym f.begins) (follows_effect w m f);
+      effect = subst (λ (x : World). Effect x.state m.part m.reply m.after.state) (sym f.begins) (follows_effect w m holds.hosts f);
       took = form_took m before form s r;
     }
 
@@ -315,21 +343,21 @@ module _ (s r : ℕ) where
   ToldIn w all = Told (reader_at w r) (reader_at (last_of w all) r) (all_taken s all)
 
   -- once it serves it
-  serving_run : (w : World) (all : List HostMoment) (n : ℕ) → Chain w all → Holds w.state → Serving w.state s r → received s w.state + 2 ^ 28 * n < 2 ^ 128 → Costs s all n → All IsSome (all_taken s all) → ToldIn w all
+  serving_run : (w : World) (all : List HostMoment) (n : ℕ) → Chain w all → Holds w.state → Serving w.state s r → WrittenOrRoom w.state s n → Costs s all n → All IsSome (all_taken s all) → ToldIn w all
   serving_run w [] n c holds x room p good = told_same (reader_at w r).holds (reader_at w r).holds refl
   serving_run w (m ∷ more) n c holds x room p good =
       let k = known w m s r c.0 holds in
       let begins = c.0.begins in
       let serving : Serving m.before.state s r = subst (λ (v : World). Serving v.state s r) (sym begins) x in
-      let has : received s m.before.state + 2 ^ 28 * n < 2 ^ 128 = subst (λ (v : World). received s v.state + 2 ^ 28 * n < 2 ^ 128) (sym begins) room in
-      let here = serving_told s r m k.holds k.took serving (has_room s n m.before.state m.after.state m.reply k.holds has m.part p.0) (all_front IsSome (host_taken_in s m) (all_taken s more) good) in
+      let has : WrittenOrRoom m.before.state s n = subst (λ (v : World). WrittenOrRoom v.state s n) (sym begins) room in
+      let here = serving_told s r m k.holds k.took serving (written_or_room s n m.before.state m.after.state m.reply k.holds has m.part p.0) (all_front IsSome (host_taken_in s m) (all_taken s more) good) in
       let next =
       serving_run m.after more (left_after s m.part n) c.1 (Holds-next w m c.0 holds) (serving_next m.before.state m.after.state m.part m.reply s r k.holds k.effect serving)
-      (room_next s n m.before.state m.after.state m.reply k.holds has m.part p.0 k.effect) p.1 (all_back IsSome (host_taken_in s m) (all_taken s more) good) in
+      (written_or_room_next s n m.before.state m.after.state m.reply k.holds has m.part p.0 k.effect) p.1 (all_back IsSome (host_taken_in s m) (all_taken s more) good) in
       subst (λ v. Told (reader_at v r) (reader_at (last_of m.after more) r) (all_taken s (m ∷ more))) begins
       (split m more (reader_at m.before r) (reader_at m.after r) (reader_at (last_of m.after more) r) here next)
 
-  told_run : (w : World) (all : List HostMoment) (n : ℕ) → Chain w all → Holds w.state → received s w.state + 2 ^ 28 * n < 2 ^ 128 → Costs s all n → is_pipe_of s r all ≡ true → All IsSome (all_taken s all) → ToldIn w all
+  told_run : (w : World) (all : List HostMoment) (n : ℕ) → Chain w all → Holds w.state → WrittenOrRoom w.state s n → Costs s all n → is_pipe_of s r all ≡ true → All IsSome (all_taken s all) → ToldIn w all
   told_run w [] n c holds room p e good = cc
   told_run w (m ∷ more) n c holds room p e good =
       subst (λ v. Told (reader_at v r) (reader_at (last_of m.after more) r) (all_taken s (m ∷ more))) c.0.begins
@@ -339,8 +367,8 @@ module _ (s r : ℕ) where
       k : Known m s r
       k = known w m s r c.0 holds
 
-      has : received s m.before.state + 2 ^ 28 * n < 2 ^ 128
-      has = subst (λ (v : World). received s v.state + 2 ^ 28 * n < 2 ^ 128) (sym c.0.begins) room
+      has : WrittenOrRoom m.before.state s n
+      has = subst (λ (v : World). WrittenOrRoom v.state s n) (sym c.0.begins) room
 
       apart : Apart m.before.state s r → ⊥
       apart a = never_piped s r w (m ∷ more) c holds (subst (λ (x : World). Apart x.state s r) c.0.begins a) e
@@ -353,10 +381,10 @@ module _ (s r : ℕ) where
           by false f = f
 
       unread : is_host (stream_in m.before s).reader.owner ≡ false
-      unread = unless_host (stream_in m.before s).reader.owner (λ j f. apart (inr (owner_taken m.before.state s j k.holds f)))
+      unread = unless_host (stream_in m.before s).reader.owner (λ j f. apart (inr (owner_taken Reading m.before.state s j k.holds f)))
 
-      later : received s m.after.state + 2 ^ 28 * left_after s m.part n < 2 ^ 128
-      later = room_next s n m.before.state m.after.state m.reply k.holds has m.part p.0 k.effect
+      later : WrittenOrRoom m.after.state s (left_after s m.part n)
+      later = written_or_room_next s n m.before.state m.after.state m.reply k.holds has m.part p.0 k.effect
 
       rest : All IsSome (all_taken s more)
       rest = all_back IsSome (host_taken_in s m) (all_taken s more) good
@@ -375,5 +403,5 @@ pub run-tells_taken : (tag : ℕ) (limits : Limits) (old new : Tells) (run : Lis
 run-tells_taken tag limits old new run s r a =
     let first = start tag limits old new in
     record {
-      told = told_run s r first (host_moments first run) (length run) (moments-chain first run) (Holds-empty tag limits) (omega (arith, a.few)) (moments_cost s first run a.bytes);
+      told = told_run s r first (host_moments first run) (length run) (moments-chain first run) (Holds-empty tag limits) (inr (omega (arith, a.few))) (moments_cost s first run a.bytes);
     }

@@ -1,13 +1,15 @@
 -- What a moment does to what a host reader tells that it took: nothing, unless it is its turn.
-use Rattle.std.proofs.Common.{◌≡◌, ◌≢◌, ℕ, ◌+◌, ◌^◌, ◌<◌, true, false, cond, [], ◌∷◌, ◌++◌, length, get_or, Some, None, refl, sym, ap, subst, ◌∙◌, inl, inr, arith}
+use Rattle.std.proofs.Common.{◌≡◌, ◌≢◌, ℕ, ◌+◌, ◌^◌, ◌<◌, true, false, cond, List, [], ◌∷◌, ◌++◌, length, get_or, Option, Some, None, refl, sym, ap, subst, ◌∙◌, inl, inr, arith}
 use Rattle.std.proofs.lemmas.Bool.{cases_eq, cases_lt, true≢false}
 use Rattle.std.proofs.lemmas.List.{get_or-set_same, get_or-set_other, get_or_past, get_or_append_left}
 use Rattle.std.specs.Option.{option_map}
+use Rattle.strm_buffers.specs.declared.answers.ReaderSaid.{ReaderSaid}
+use Rattle.strm_buffers.specs.Listing.{Item}
 use Rattle.strm_machine.specs.Endings.{delivered}
 use Rattle.strm_machine.specs.Moments.{Moment, Place, received, place_of, is_named}
 use Rattle.strm_machine.specs.Sides.{with_operation}
 use Rattle.strm_machine.specs.Soundness.{sizes_of}
-use Rattle.strm_machine.specs.State.{State, no_stream, no_consumer, stream_at, consumer_at, is_host, is_held, is_loose}
+use Rattle.strm_machine.specs.State.{no_stream, no_consumer, stream_at, consumer_at, is_host, is_held}
 use Rattle.strm_machine.specs.declared.acts.Act.{Act}
 use Rattle.strm_machine.specs.declared.acts.Act.TheVariants.{OnEnd, Drive}
 use Rattle.strm_machine.specs.declared.acts.EndAct.TheVariants.{Operate}
@@ -18,7 +20,7 @@ use Rattle.strm_machine.specs.declared.streams.Owner.TheVariants.{Held, Host}
 use Rattle.strm_machine.specs.declared.streams.Side.{Side}
 use Rattle.strm_machine.specs.declared.streams.Side.TheVariants.{Writing, Reading}
 use Rattle.strm_machine.specs.declared.streams.Stream.{Stream}
-use Rattle.strm_machine.proofs.HostLemmas.{serving_made, unless_host}
+use Rattle.strm_machine.proofs.HostLemmas.{unless_host}
 use Rattle.strm_machine.proofs.NamedEndLemmas.{named_itself}
 use Rattle.strm_machine.proofs.Shapes.{operating}
 use Rattle.strm_machine.proofs.TableLemmas.{set-keeps}
@@ -29,18 +31,18 @@ use Rattle.strm_world.specs.Settling.{result_of}
 use Rattle.strm_world.specs.World.{World, stream_in, writer_at, reader_at, with_consumer}
 use Rattle.strm_host_laws.specs.HostMoments.{Acts, Turns, HostMoment}
 use Rattle.strm_host_laws.specs.HostLaws.{act_in, plain, source}
-use Rattle.strm_host_laws.proofs.Forms.{opened, called, reacted_to, stream_of, IsTurn, IsCall, IsForsaking, IsPiping, Form, BySame, ByReacting, ByForsaking, ByHosting, ByFeeding, ByGranting, ByPiping, ByTurning, ByCalling}
+use Rattle.strm_host_laws.proofs.Forms.{opened, called, reacted_to, stream_of, IsTurn, IsRound, IsCall, IsForsaking, IsPiping, Form, BySame, ByReacting, ByForsaking, ByHosting, ByFeeding, ByGranting, ByPiping, ByTurning, ByPassing, ByCalling}
 use Rattle.strm_host_laws.proofs.Goings.{piped_to}
 use Rattle.strm_host_laws.proofs.HostBytes.{placed_small}
 use Rattle.strm_host_laws.proofs.HostTurns.{taken_few}
-use Rattle.strm_host_laws.proofs.Moments.{moved_on-received}
-use Rattle.strm_host_laws.proofs.PartsSeen.{IsTaken}
+use Rattle.strm_host_laws.proofs.TurnMoves.{moved_on-received}
+use Rattle.strm_host_laws.proofs.PartsSeen.{IsTaken, owner_taken}
 use Rattle.strm_host_laws.proofs.Rooms.{HasRoom}
 use Rattle.strm_host_laws.proofs.Standing.{Holds, waiting_placed}
 use Rattle.strm_host_laws.proofs.Touched.{told_stream}
 use Rattle.strm_host_laws.proofs.Turned.{turned, stream_moved, taken_by, stream_taken, Taken}
 use Rattle.strm_host_laws.proofs.Unread.{reaction-counts}
-use Rattle.strm_host_laws.proofs.WrittenBack.{back-guests, back-holds, back-received, back-here, back-other, back-length, taken-here, taken-other}
+use Rattle.strm_host_laws.proofs.WrittenBack.{told_of, back-guests, back-told, back-holds, round_other, round_reader, back-received, back-here, back-other, back-length, taken-here, taken-other}
 
 -- host reader r had its turn on a stream, and took so many of the items that a guest offers
 pub record TakesOn (stream r : ℕ) (m : HostMoment) : Type 0 where
@@ -48,31 +50,23 @@ pub record TakesOn (stream r : ℕ) (m : HostMoment) : Type 0 where
   pub count : ℕ
   pub owner : (stream_in m.before stream).reader.owner ≡ Host r
   pub unhosted : is_host (stream_in m.before stream).writer.owner ≡ false
+  pub busy : IsTaken Writing m.before.state stream → ⊥
   pub place : source stream (plain m) ≡ record { guest = operation.guest; address = operation.address }
   pub counts : HasRoom m.before.state stream m.part → received stream m.after.state ≡ received stream m.before.state + count
   pub holds : (reader_at m.after r).holds ≡ option_map (λ xs. xs ++ lifted m.before.state.guests (stream_in m.before stream).payload operation count) (reader_at m.before r).holds
 
--- it tells what it told, and nothing is received on a stream of which it has the read end
+-- it tells what it told and uses no record, and nothing is received on a stream of which it has the read end
 pub record RestsOn (s r : ℕ) (m : HostMoment) : Type 0 where
-  pub holds : (reader_at m.after r).holds ≡ (reader_at m.before r).holds
+  pub told : told_of (reader_at m.after r) ≡ told_of (reader_at m.before r)
   pub counts : (stream_in m.before s).reader.owner ≡ Host r → received s m.after.state ≡ received s m.before.state
 
 pub data Took (s r : ℕ) (m : HostMoment) : Type 0 where
   Rests : RestsOn s r m → Took s r m
   Takes : (stream : ℕ) → TakesOn stream r m → Took s r m
+  Passes : (stream n : ℕ) → IsRound m.before m.part m.after stream n r → Took s r m
 
 one_host : (a b : ℕ) → Host a ≡ Host b → a ≡ b
 one_host a b e = cc
-
--- a stream whose read end a host reader has
-pub owner_taken : (state : State) (s r : ℕ) → Holds state → (stream_at state s).reader.owner ≡ Host r → IsTaken Reading state s
-owner_taken state s r h e = record {
-  made = serving_made state Reading r s h.hosts ((h.hosts.serve Reading r s).serves e);
-  idle = (h.hosts.serve Reading r s).idle e;
-  unheld = ap is_held e;
-  tied = ap is_loose e;
-  parted = λ u v. absurd (true≢false (sym (ap is_host e) ∙ u));
-}
 
 -- ## Places
 
@@ -118,11 +112,11 @@ module _ (w v : World) (t j : ℕ) (write : Operation) (k : Taken w t j write v)
       ∙ back-holds but t now j
       ∙ ap (λ (x : Reader). x.holds) (get_or-set_same w.readers j polled no_reader known)
 
-  holds_other : (r : ℕ) → r ≢ j → (reader_at v r).holds ≡ (reader_at w r).holds
-  holds_other r ne =
-      ap (λ x. (reader_at x r).holds) k.is
-      ∙ back-holds but t now r
-      ∙ ap (λ (x : Reader). x.holds) (get_or-set_other w.readers j r polled no_reader ne)
+  told_other : (r : ℕ) → r ≢ j → told_of (reader_at v r) ≡ told_of (reader_at w r)
+  told_other r ne =
+      ap (λ x. told_of (reader_at x r)) k.is
+      ∙ back-told but t now r
+      ∙ ap told_of (get_or-set_other w.readers j r polled no_reader ne)
 
   counts_here : t < length w.state.streams → write.left < 2 ^ 28 → received t w.state + 2 ^ 28 < 2 ^ 128 → received t v.state ≡ received t w.state + k.said.taken
   counts_here made small room =
@@ -155,7 +149,7 @@ module _ (m : HostMoment) (h : Holds m.before.state) where
   -- the world is that one, but for readers and what is kept of streams
   same_took : (s r : ℕ) (u : World) → u.readers ≡ w.readers → u.state.streams ≡ w.state.streams → v ≡ u → Took s r m
   same_took s r u f g e = Rests (record {
-    holds = ap (λ x. (reader_at x r).holds) e ∙ ap (λ rs. (get_or rs r no_reader).holds) f;
+    told = ap (λ x. told_of (reader_at x r)) e ∙ ap (λ rs. told_of (get_or rs r no_reader)) f;
     counts = λ o. ap (λ x. received s x.state) e ∙ ap (λ xs. (get_or xs s no_stream).received) g;
   })
 
@@ -169,15 +163,16 @@ module _ (m : HostMoment) (h : Holds m.before.state) where
           count = i.turned.said.taken;
           owner = i.owner;
           unhosted = busy_unhosted t write i.operation_is;
+          busy = λ taken. let none = taken.idle in let wrong : Some write ≡ None = sym i.operation_is ∙ none in cc;
           place = drive_source t (plain m) write (ap act_in i.part_is) i.operation_is;
           counts = λ has.
-              let made = (owner_taken w.state t j h i.owner).made in
+              let made = (owner_taken Reading w.state t j h i.owner).made in
               let room : HasRoom w.state t (Turns t) = subst (HasRoom w.state t) i.part_is has in
               counts_here w v t j write i.turned made (placed_small (sizes_of w.state.guests) (stream_in w t).payload write (waiting_placed Writing w.state t write made i.operation_is h.sound)) (room refl);
           holds = holds_here w v t j write i.turned;
         }))
         | inr ne ↦ Rests (record {
-          holds = holds_other w v t j write i.turned r ne;
+          told = told_other w v t j write i.turned r ne;
           counts = λ o. counts_other w v t j write i.turned s (other_stream s t r j i.owner ne o);
         })
       ]
@@ -189,7 +184,7 @@ module _ (m : HostMoment) (h : Holds m.before.state) where
       let but_it = turned w t n read k.items k.producer k.writer in
       let moved = stream_moved w t read k.items k.result in
       Rests (record {
-        holds = ap (λ x. (reader_at x r).holds) k.is ∙ back-holds but_it t moved r;
+        told = ap (λ x. told_of (reader_at x r)) k.is ∙ back-told but_it t moved r;
         counts = λ o.
             let ne : s ≢ t = λ q. let none = (h.hosts.serve Reading r s).idle o in let wrong : Some read ≡ None = sym i.operation_is ∙ ap (λ a. (stream_in w a).reader.operation) (sym q) ∙ none in cc in
             ap (λ x. received s x.state) k.is ∙ ap (λ (x : Stream). x.received) (back-other but_it t moved s ne);
@@ -217,12 +212,15 @@ module _ (m : HostMoment) (h : Holds m.before.state) where
         by Writing = refl
         by Reading = refl
 
-    told_holds : (r : ℕ) → (reader_at v r).holds ≡ (reader_at c.mid r).holds
-    told_holds r =
+    last_told : (r : ℕ) → told_of (reader_at v r) ≡ told_of (reader_at c.mid r)
+    last_told r =
         elim c.told [
-          | inl e ↦ ap (λ x. (reader_at x r).holds) e
-          | inr e ↦ ap (λ x. (reader_at x r).holds) e ∙ back-holds c.mid at (delivered side (stream_in c.mid at)) r
+          | inl e ↦ ap (λ x. told_of (reader_at x r)) e
+          | inr e ↦ ap (λ x. told_of (reader_at x r)) e ∙ back-told c.mid at (delivered side (stream_in c.mid at)) r
         ]
+
+    told_holds : (r : ℕ) → (reader_at v r).holds ≡ (reader_at c.mid r).holds
+    told_holds r = ap (λ (p : Option (List Item) × List ReaderSaid). p.0) (last_told r)
 
     told_counts : (s : ℕ) → received s v.state ≡ received s c.mid.state
     told_counts s =
@@ -230,6 +228,9 @@ module _ (m : HostMoment) (h : Holds m.before.state) where
           | inl e ↦ ap (λ x. received s x.state) e
           | inr e ↦ ap (λ x. received s x.state) e ∙ back-received c.mid at (delivered side (stream_in c.mid at)) (told_stream side (stream_in c.mid at)).received s
         ]
+
+    first_told : (r : ℕ) → told_of (reader_at o r) ≡ told_of (reader_at w r)
+    first_told r = back-told w at open_stream r
 
     first_holds : (r : ℕ) → (reader_at o r).holds ≡ (reader_at w r).holds
     first_holds r = back-holds w at open_stream r
@@ -253,6 +254,7 @@ module _ (m : HostMoment) (h : Holds m.before.state) where
           count = c.turned.said.taken;
           owner = c.owner;
           unhosted = ap is_host (h.held.agree.named end.guest end.handle t Writing found.held);
+          busy = λ taken. true≢false (sym (ap is_held (h.held.agree.named end.guest end.handle t Writing found.held)) ∙ taken.unheld);
           place = call_source t (plain m) end address count (ap act_in c.part_is) (named_itself w.state (OnEnd Writing end (Operate address count)) m.reply t Writing Writing (found.named m.reply));
           counts = λ has.
               let was = counted t in
@@ -268,7 +270,7 @@ module _ (m : HostMoment) (h : Holds m.before.state) where
               ∙ ap (λ (x : Stream). option_map (λ xs. xs ++ lifted w.state.guests x.payload write c.turned.said.taken) (reader_at w j).holds) here;
         }))
         | inr ne ↦ Rests (record {
-          holds = told_holds Writing end address count j c r ∙ holds_other open_world c.mid t j write c.turned r ne ∙ first r;
+          told = last_told Writing end address count j c r ∙ told_other open_world c.mid t j write c.turned r ne ∙ first_told Writing end address count j c r;
           counts = λ f. told_counts Writing end address count j c s ∙ counts_other open_world c.mid t j write c.turned s (other_stream s t r j c.owner ne f) ∙ counted s;
         })
       ]
@@ -283,7 +285,7 @@ module _ (m : HostMoment) (h : Holds m.before.state) where
       let moved = stream_moved open_world t read k.items k.result in
       let own = h.held.agree.named end.guest end.handle t Reading c.begun.found.held in
       Rests (record {
-        holds = told_holds Reading end address count n c r ∙ ap (λ x. (reader_at x r).holds) k.is ∙ back-holds but_it t moved r ∙ first_holds Reading end address count n c r;
+        told = last_told Reading end address count n c r ∙ ap (λ x. told_of (reader_at x r)) k.is ∙ back-told but_it t moved r ∙ first_told Reading end address count n c r;
         counts = λ f.
             let ne : s ≢ t = λ q. let wrong : Host r ≡ Held end.guest end.handle = sym f ∙ ap (λ a. (stream_in w a).reader.owner) q ∙ own in cc in
             told_counts Reading end address count n c s ∙ ap (λ x. received s x.state) k.is ∙ ap (λ (x : Stream). x.received) (back-other but_it t moved s ne) ∙ first_counts Reading end address count n c s;
@@ -300,9 +302,9 @@ module _ (m : HostMoment) (h : Holds m.before.state) where
       let u = reacted_to w act in
       let gone = forsaken side (stream_in u t) in
       Rests (record {
-        holds = ap (λ x. (reader_at x r).holds) f.is ∙ back-holds u t gone r;
+        told = ap (λ x. told_of (reader_at x r)) f.is ∙ back-told u t gone r;
         counts = λ e.
-            ap (λ x. received s x.state) f.is ∙ back-received u t gone (forsaken_counts side (stream_in u t)) s ∙ reaction-counts w.state act s h (owner_taken w.state s r h e);
+            ap (λ x. received s x.state) f.is ∙ back-received u t gone (forsaken_counts side (stream_in u t)) s ∙ reaction-counts w.state act s h (owner_taken Reading w.state s r h e);
       })
 
   -- A PIPE
@@ -312,16 +314,26 @@ module _ (m : HostMoment) (h : Holds m.before.state) where
       let u = with_consumer w j (record no_consumer { duty = Serves t }) in
       let pipe = piped (stream_in w t) j in
       let none = without_ends pipe in
-      let first_held = back-holds u t pipe in
+      let first_held = back-told u t pipe in
       let first_counted = back-received u t pipe refl in
       elim p.is [
         | inl e ↦ Rests (record {
-          holds = ap (λ x. (reader_at x r).holds) e ∙ first_held r;
+          told = ap (λ x. told_of (reader_at x r)) e ∙ first_held r;
           counts = λ o. ap (λ x. received s x.state) e ∙ first_counted s;
         })
         | inr e ↦ Rests (record {
-          holds = ap (λ x. (reader_at x r).holds) e ∙ back-holds (piped_to w t j) t none r ∙ first_held r;
+          told = ap (λ x. told_of (reader_at x r)) e ∙ back-told (piped_to w t j) t none r ∙ first_held r;
           counts = λ o. ap (λ x. received s x.state) e ∙ back-received (piped_to w t j) t none (sym (first_counted t)) s ∙ first_counted s;
+        })
+      ]
+
+  round_took : (t n j : ℕ) → IsRound w m.part v t n j → (s r : ℕ) → Took s r m
+  round_took t n j i s r =
+      elim (cases_eq r j) [
+        | inl e ↦ Passes t n (subst (IsRound w m.part v t n) (sym e) i)
+        | inr ne ↦ Rests (record {
+          told = round_reader w t n j v i.passed r ne;
+          counts = λ o. ap (λ (x : Stream). x.received) (round_other w t n j v i.passed s (other_stream s t r j i.read ne o));
         })
       ]
 
@@ -330,23 +342,24 @@ module _ (m : HostMoment) (h : Holds m.before.state) where
   pub form_took : Form w m.part m.reply v → (s r : ℕ) → Took s r m
   form_took (BySame n e) s r = same_took s r w refl refl e
   form_took (ByReacting act n e) s r = Rests (record {
-    holds = ap (λ x. (reader_at x r).holds) e;
-    counts = λ o. ap (λ x. received s x.state) e ∙ reaction-counts w.state act s h (owner_taken w.state s r h o);
+    told = ap (λ x. told_of (reader_at x r)) e;
+    counts = λ o. ap (λ x. received s x.state) e ∙ reaction-counts w.state act s h (owner_taken Reading w.state s r h o);
   })
   form_took (ByForsaking act side t n u f) s r = forsaken_took act side t n f s r
   form_took (ByHosting n p x u e) s r = Rests (record {
-    holds = ap (λ y. (reader_at y r).holds) e;
+    told = ap (λ y. told_of (reader_at y r)) e;
     counts = λ o.
         ap (λ y. received s y.state) e
-        ∙ ap (λ (y : Stream). y.received) (get_or_append_left w.state.streams (hosted_stream (writer_at w n) n ∷ []) no_stream s (owner_taken w.state s r h o).made);
+        ∙ ap (λ (y : Stream). y.received) (get_or_append_left w.state.streams (hosted_stream (writer_at w n) n ∷ []) no_stream s (owner_taken Reading w.state s r h o).made);
   })
-  form_took (ByFeeding n bytes u e) s r = Rests (record { holds = ap (λ x. (reader_at x r).holds) e; counts = λ o. ap (λ x. received s x.state) e })
+  form_took (ByFeeding n bytes u e) s r = Rests (record { told = ap (λ x. told_of (reader_at x r)) e; counts = λ o. ap (λ x. received s x.state) e })
   form_took (ByGranting j count u e) s r = Rests (record {
-    holds = ap (λ x. (reader_at x r).holds) e ∙ set-keeps (λ (x : Reader). x.holds) w.readers j r (granted_reader (reader_at w j) count) no_reader refl;
+    told = ap (λ x. told_of (reader_at x r)) e ∙ set-keeps told_of w.readers j r (granted_reader (reader_at w j) count) no_reader refl;
     counts = λ o. ap (λ x. received s x.state) e;
   })
   form_took (ByPiping t j u p) s r = pipe_took t j p s r
   form_took (ByTurning Reading t n read u i) s r = written_took t n read i s r
   form_took (ByTurning Writing t j write u i) s r = drive_took t j write i s r
+  form_took (ByPassing t n j u i) s r = round_took t n j i s r
   form_took (ByCalling Reading end address count n u c) s r = read_took end address count n c s r
   form_took (ByCalling Writing end address count j u c) s r = write_took end address count j c s r

@@ -23,7 +23,7 @@ use Rattle.strm_world.specs.World.{World, stream_in, writer_at, reader_at, with_
 use Rattle.strm_world.specs.Attaching.{piped, is_dry, without_ends, forsaken, hosted_stream}
 use Rattle.strm_host_laws.specs.HostMoments.{Part}
 use Rattle.strm_machine.proofs.TableLemmas.{set-keeps}
-use Rattle.strm_host_laws.proofs.Forms.{opened, called, reacted_to, stream_of, IsTurn, IsCall, IsForsaking, IsPiping, Form, BySame, ByReacting, ByForsaking, ByHosting, ByFeeding, ByGranting, ByPiping, ByTurning, ByCalling}
+use Rattle.strm_host_laws.proofs.Forms.{opened, called, reacted_to, stream_of, IsTurn, IsRound, IsCall, IsForsaking, IsPiping, Form, BySame, ByReacting, ByForsaking, ByHosting, ByFeeding, ByGranting, ByPiping, ByTurning, ByPassing, ByCalling}
 use Rattle.strm_host_laws.proofs.Closed.{is_new_reader}
 use Rattle.strm_host_laws.proofs.Effects.{loose_made}
 use Rattle.strm_host_laws.proofs.Turned.{Taken}
@@ -31,7 +31,7 @@ use Rattle.strm_host_laws.proofs.Goings.{hosted, piped_to}
 use Rattle.strm_host_laws.proofs.Lives.{Lives, owned_made, owned_once, owned_quiet, drive_can, read_can}
 use Rattle.strm_host_laws.proofs.Standing.{Holds}
 use Rattle.strm_host_laws.proofs.Unmoved.{push-other, Unmoved, IsQuiet, unheld_by, quiet_none, reaction-unmoved}
-use Rattle.strm_host_laws.proofs.WrittenBack.{back-writer, back-coming, back-here, back-other, back-length, back-stays, turned-other, turned-length, turned-writer, taken-other, taken-length, taken-writer}
+use Rattle.strm_host_laws.proofs.WrittenBack.{back-writer, back-coming, back-here, back-other, back-length, back-stays, turned-other, turned-length, turned-writer, round_other, round_length, round_writer, taken-other, taken-length, taken-writer}
 
 -- STREAMS STAY MADE
 
@@ -69,6 +69,7 @@ pub data Touch (s : ℕ) (w : World) (part : Part) (v : World) : Type 0 where
   NotTouched : Aside s w v → Touch s w part v
   IsLost : (n : ℕ) → Forsaken s n w v → Touch s w part v
   HasTurn : (n : ℕ) (read : Operation) → IsTurn Reading w part v s n read → Touch s w part v
+  HasRound : (n r : ℕ) → IsRound w part v s n r → Touch s w part v
   HasRead : (end : NamedEnd) (address count n : ℕ) → stream_of w end ≡ s → IsCall Reading w part v end address count n → Touch s w part v
 
 same_stream : (a b : Stream) → b ≡ a → Unmoved a b
@@ -322,6 +323,21 @@ module _ (first w : World) (s : ℕ) (l : Lives first w) (made : s < length w.st
       let open_aside = set_aside w o t (with_operation Writing (stream_in w t) write) (aside_same s w w refl made) (opened_stream Writing (stream_in w t) write) refl in
       NotTouched (told_aside Writing c.mid v t (taken_aside o c.mid t r write c.turned off open_aside) c.told)
 
+  -- THE ROUND OF A PIPE
+
+  round_touch : (part : Part) (v : World) (t n r : ℕ) → IsRound w part v t n r → Touch s w part v
+  round_touch part v t n r i =
+      elim (cases_eq t s) [
+        | inl e ↦ HasRound n r (subst (λ k. IsRound w part v k n r) e i)
+        | inr ne ↦ (
+            let off : s ≢ t = λ f. ne (sym f) in
+            NotTouched (record {
+              stream = same_stream (stream_in w s) (stream_in v s) (round_other w t n r v i.passed s off);
+              made = subst (λ k. s < k) (sym (round_length w t n r v i.passed)) made;
+              writer = λ m o. held_by_same (writer_at w m) (writer_at v m) (round_writer w t n r v i.passed i.wrote m (other_writer t n m off i.wrote o));
+            }))
+      ]
+
   pub form_touch : (part : Part) (reply : Reply) (v : World) → Form w part reply v → Touch s w part v
   form_touch part reply v (BySame m e) = NotTouched (aside_same s w v e made)
   form_touch part reply v (ByReacting act m e) = NotTouched (reacted_aside v act e)
@@ -333,5 +349,6 @@ module _ (first w : World) (s : ℕ) (l : Lives first w) (made : s < length w.st
   form_touch part reply v (ByPiping t r m p) = pipe_touch part v t r p
   form_touch part reply v (ByTurning Reading t n read m i) = turned_touch part v t n read i
   form_touch part reply v (ByTurning Writing t r write m i) = taking_touch part v t r write i
+  form_touch part reply v (ByPassing t n r m i) = round_touch part v t n r i
   form_touch part reply v (ByCalling Reading end address count n m r) = read_touch part v end address count n r
   form_touch part reply v (ByCalling Writing end address count n m r) = write_touch part v end address count n r

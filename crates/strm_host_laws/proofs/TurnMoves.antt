@@ -1,5 +1,6 @@
 -- What the turn of a host end does to its stream.
-use Rattle.std.proofs.Common.{◌≡◌, ℕ, ◌≤◌, ◌==◌, Bool, true, false, cond, List, Option, Some, None, refl, sym, ap, subst}
+use Rattle.std.proofs.Common.{◌≡◌, ℕ, ◌+◌, ◌^◌, ◌<◌, ◌≤◌, ◌==◌, Bool, true, false, cond, List, Option, Some, None, refl, sym, ap, subst, ◌∙◌, arith}
+use Rattle.std.proofs.lemmas.Bool.{eqb-true}
 use Rattle.strm_codes.specs.declared.codes.StreamResult.{StreamResult}
 use Rattle.strm_codes.specs.declared.codes.StreamResult.TheVariants as results
 use Rattle.strm_machine.specs.Sides.{opposite, end_of, with_operation}
@@ -71,3 +72,12 @@ moves-placed side sizes old new operation n result m l p h =
     by : (side : Side) → Moves side old new operation n result → StreamIsPlaced sizes old → OperationIsPlaced sizes old.payload (Some (settled result (went old.payload operation n))) → StreamIsPlaced sizes new
     by Writing m h q = record { writer = placed_as new.writer _ m.mine m.payload q; reader = placed_as new.reader _ m.theirs m.payload h.reader }
     by Reading m h q = record { writer = placed_as new.writer _ m.theirs m.payload h.writer; reader = placed_as new.reader _ m.mine m.payload q }
+
+-- a turn counts what it hands over
+pub moved_on-received : (side : Side) (stream : Stream) (operation : Operation) (n : ℕ) (result : Option StreamResult) → stream.received + n < 2 ^ 128 → (moved_on side stream operation n result).received ≡ stream.received + n
+moved_on-received side stream operation n result l =
+    (moved_on-moves stream operation n side result).count ∙ counted (n == 0) refl
+  where
+    counted : (b : Bool) → (n == 0) ≡ b → cond b stream.received (with_received stream n).received ≡ stream.received + n
+    counted true e = omega (arith, eqb-true n 0 e)
+    counted false e = omega (arith, l)

@@ -1,12 +1,17 @@
 -- What the turn of a host end does where it goes on: of a host writer the items that it hands over, the records
 -- that it uses, and what it holds then; of a host reader its record, and the items that it takes.
-use Rattle.std.proofs.Common.{◌≡◌, ℕ, ◌≤◌, ◌||◌, List, [], ◌∷◌, ◌++◌, length, take, drop, Option, Some, true, false, refl, sym, ap, ◌∙◌, arith, append-nil, take-append-drop, length-take}
+use Rattle.std.proofs.Common.{◌≡◌, ℕ, zero, suc, ◌+◌, ◌≤◌, ◌||◌, Bool, List, [], ◌∷◌, ◌++◌, length, take, drop, Option, Some, None, true, false, refl, sym, ap, ◌∙◌, arith, append-nil, take-append-drop, length-take, length-append}
 use Rattle.std.proofs.lemmas.Bool.{cond_both}
-use Rattle.std.specs.Prelude.{slice_set}
+use Rattle.std.specs.Prelude.{slice_set, nat_lt}
+use Rattle.std.proofs.lemmas.Bool.Decides.{nat_tests}
 use Rattle.strm_codes.specs.declared.codes.StreamResult.{StreamResult}
 use Rattle.strm_codes.specs.declared.codes.StreamResult.TheVariants as results
+use Rattle.strm_codes.specs.declared.codes.TransmitKind.{TransmitKind}
+use Rattle.strm_codes.specs.declared.codes.TransmitKind.TheVariants.{Future}
+use Rattle.strm_buffers.specs.declared.answers.Answer.{Answer}
+use Rattle.strm_buffers.specs.declared.answers.Answer.TheVariants as answers
 use Rattle.strm_buffers.specs.declared.answers.ReaderSaid.{ReaderSaid}
-use Rattle.strm_buffers.specs.HostRules.{breaks_as_writer, breaks_as_reader}
+use Rattle.strm_buffers.specs.HostRules.{writer_breaks, breaks_as_writer, breaks_as_reader}
 use Rattle.strm_buffers.specs.Listing.{Item}
 use Rattle.strm_buffers.specs.Said.{WriterSaid}
 use Rattle.strm_machine.specs.State.{no_producer, producer_at, consumer_at}
@@ -25,6 +30,7 @@ use Rattle.strm_world.specs.Producing.{lowered, receives, is_last, with_over, pr
 use Rattle.strm_world.proofs.WorldLemmas.{set-same}
 use Rattle.strm_host_laws.specs.HostLaws.{items_of}
 use Rattle.strm_host_laws.proofs.Goings.{gave_up, IfGoes}
+use Rattle.strm_host_laws.proofs.Rounds.{IsGoodSaid, one_said}
 
 -- the world after a turn, but for the stream: these items were lowered, and this is kept of the writer
 abbrev pub turned : World → ℕ → ℕ → Operation → List Item → Producer → Writer → World
@@ -52,6 +58,30 @@ pub record Turned (w : World) (s n : ℕ) (read : Operation) (v : World) : Type 
   pub duty : producer.duty ≡ (producer_at w.state n).duty
   pub coming : (writer_at w n).coming ≡ said ++ writer.coming
   pub balance : (writer_at w n).holds ++ items_of said ≡ items ++ writer.holds
+  -- a future has one item at most, where its writer held no more, and what is left open moved none
+  pub one : (stream_in w s).kind ≡ Future → length (writer_at w n).holds ≤ 1 → length items + length writer.holds ≤ 1
+  pub none : result ≡ None → items ≡ []
+
+-- a list by its front and its rest
+parts_long : (k : ℕ) (xs : List Item) → length xs ≤ 1 → length (take k xs) + length (drop k xs) ≤ 1
+parts_long k xs l = let all = ap length (take-append-drop k xs) in let long = length-append (take k xs) (drop k xs) in omega (arith, all, long, l)
+
+no_more : (n : ℕ) → nat_lt 0 n ≡ false → n ≡ 0
+no_more n e = grind (arith, nat_tests)
+
+-- an answer that leaves a read open is of no items
+nothing_said : (kind : TransmitKind) (answer : Answer) (room : Option ℕ) (finish : Bool) (items : List Item) (k : ℕ) → is_failed answer ≡ false → writer_breaks kind answer room finish (length items) ≡ false → produced_result answer (drop k items) ≡ None → take k items ≡ []
+nothing_said kind answers.Pending room finish [] zero f e r = refl
+nothing_said kind answers.Pending room finish [] (suc k) f e r = refl
+nothing_said kind answers.Pending room finish (x ∷ xs) k f e r = absurd (let none = no_more (length (x ∷ xs)) e in omega (arith, none))
+nothing_said kind answers.Completed room finish items k f e r = cc
+nothing_said kind answers.Cancelled room finish items k f e r = cc
+nothing_said kind answers.Dropped room finish items k f e r = by (drop k items) r
+  where
+    by : (held : List Item) → produced_result answers.Dropped held ≡ None → take k items ≡ []
+    by [] r = cc
+    by (x ∷ xs) r = cc
+nothing_said kind answers.Failed room finish items k f e r = cc
 
 module _ (w : World) (s n : ℕ) (read : Operation) where
   -- a turn that goes on did this
@@ -83,6 +113,8 @@ module _ (w : World) (s n : ℕ) (read : Operation) where
         duty = refl;
         coming = refl;
         balance = append-nil held ∙ sym (take-append-drop read.left held);
+        one = λ k l. parts_long read.left held l;
+        none = λ e. cc;
       }
 
   -- a writer that is over
@@ -109,15 +141,17 @@ module _ (w : World) (s n : ℕ) (read : Operation) where
         duty = refl;
         coming = refl;
         balance = append-nil (writer_at w n).holds;
+        one = λ k l. omega (arith, l);
+        none = λ e. refl;
       }
 
   -- after a record
   abbrev next : AfterWriter
   next after said = done (receives (with_over after n said.answer) s read (take read.left said.items) (produced_result said.answer (drop read.left said.items)))
 
-  by_record : (said : WriterSaid) (more : List WriterSaid) → (writer_at w n).holds ≡ [] → (writer_at w n).coming ≡ said ∷ more
+  by_record : (said : WriterSaid) (more : List WriterSaid) → (writer_at w n).holds ≡ [] → (writer_at w n).coming ≡ said ∷ more → IsGoodSaid (stream_in w s).kind said
       → IfGoes (next (with_writer w n (polled_writer (writer_at w n) (Some read.left) said more)) said) AsTurned
-  by_record said more e c =
+  by_record said more e c good =
       let items = said.items in
       record {
         items = take read.left items;
@@ -130,6 +164,8 @@ module _ (w : World) (s n : ℕ) (read : Operation) where
         duty = refl;
         coming = c;
         balance = ap (λ xs. xs ++ (items ++ [])) e ∙ append-nil items ∙ sym (take-append-drop read.left items);
+        one = λ k l. parts_long read.left items (one_said said (good.0, ap (λ x. breaks_as_writer x said) (sym k) ∙ good.1));
+        none = λ r. nothing_said (stream_in w s).kind said.answer said.room said.finish items read.left good.0 good.1 r;
       }
 
   by_saying : (coming : List WriterSaid) → (writer_at w n).holds ≡ [] → (writer_at w n).coming ≡ coming
@@ -138,7 +174,7 @@ module _ (w : World) (s n : ℕ) (read : Operation) where
   by_saying (said ∷ more) e c =
       cond_both (is_writer_poll (Some read.left) read.asked said) _ _ (λ o. IfGoes o AsTurned)
       (λ f. cond_both (is_failed said.answer) _ _ (λ o. IfGoes o AsTurned) (λ g. tt)
-      (λ g. cond_both (breaks_as_writer (stream_in w s).kind said) _ _ (λ o. IfGoes o AsTurned) (λ k. tt) (λ k. by_record said more e c)))
+      (λ g. cond_both (breaks_as_writer (stream_in w s).kind said) _ _ (λ o. IfGoes o AsTurned) (λ k. tt) (λ k. by_record said more e c (g, k))))
       (λ f. tt)
 
   by_held : (held : List Item) → (writer_at w n).holds ≡ held → IfGoes (produces w s n read held) AsTurned

@@ -1,8 +1,11 @@
 -- What is seen of a world after one of its streams was written back, and after a turn.
-use Rattle.std.proofs.Common.{◌≡◌, ◌≢◌, ℕ, ◌<◌, Bool, true, false, cond, ◌++◌, length, get_or, set, refl, sym, ap, ◌∙◌, ◌⊎◌, inl, inr}
+use Rattle.std.proofs.Common.{◌≡◌, ◌≢◌, ℕ, ◌<◌, Bool, true, false, cond, List, [], ◌++◌, length, get_or, set, Option, refl, sym, ap, ◌∙◌, ◌⊎◌, inl, inr, arith}
 use Rattle.std.proofs.lemmas.List.{get_or-set_same, get_or-set_other, length-set}
 use Rattle.std.specs.Prelude.{slice_set}
-use Rattle.strm_machine.specs.State.{no_stream, no_consumer}
+use Rattle.strm_buffers.specs.declared.answers.ReaderSaid.{ReaderSaid}
+use Rattle.strm_buffers.specs.Listing.{Item}
+use Rattle.strm_machine.specs.State.{no_stream, no_consumer, kept_at}
+use Rattle.strm_machine.specs.declared.streams.End.{End}
 use Rattle.strm_machine.specs.Soundness.{sizes_of, IsPlaced}
 use Rattle.strm_machine.specs.declared.streams.Owner.{Owner}
 use Rattle.strm_machine.specs.declared.streams.Owner.TheVariants.{Host, Gone}
@@ -11,15 +14,16 @@ use Rattle.strm_machine.specs.declared.streams.Side.{Side}
 use Rattle.strm_machine.specs.declared.streams.Side.TheVariants.{Writing, Reading}
 use Rattle.strm_machine.specs.declared.streams.Stream.{Stream}
 use Rattle.strm_world.specs.Ends.{Reader, no_reader, closed_reader, Writer, no_writer, closed_writer}
-use Rattle.strm_world.specs.World.{World, stream_in, reader_at, writer_at, with_consumer, leaves_writer, leaves_reader, with_stream_in}
-use Rattle.strm_world.specs.Settling.{result_of}
+use Rattle.strm_world.specs.World.{World, stream_in, reader_at, writer_at, held_of, with_consumer, leaves_writer, leaves_reader, with_stream_in}
+use Rattle.strm_world.specs.Settling.{result_of, with_some_received}
 use Rattle.strm_world.specs.Producing.{lowered}
 use Rattle.strm_world.proofs.SettleLemmas.{is_done_with, moved_on-owner, leaves_writer-stays}
 use Rattle.strm_machine.proofs.TableLemmas.{set-keeps}
-use Rattle.strm_host_laws.proofs.Goings.{with_state, written-streams, piped_to}
+use Rattle.strm_host_laws.proofs.Goings.{with_state, some_received-end, written-streams, piped_to}
+use Rattle.strm_host_laws.proofs.Rounds.{Passed}
 use Rattle.strm_host_laws.specs.HostMoments.{Part}
 use Rattle.strm_machine.specs.declared.acts.NamedEnd.{NamedEnd}
-use Rattle.strm_machine.specs.Sides.{with_operation}
+use Rattle.strm_machine.specs.Sides.{end_of, with_operation}
 use Rattle.strm_machine.specs.Endings.{delivered}
 use Rattle.strm_machine.specs.declared.streams.Duty.TheVariants.{Serves}
 use Rattle.strm_world.specs.Attaching.{piped, without_ends}
@@ -28,6 +32,10 @@ use Rattle.strm_host_laws.proofs.TurnMoves.{moved-mine}
 use Rattle.strm_host_laws.proofs.Turned.{turned, stream_moved, Turned, taken_by, stream_taken, Taken}
 
 -- A STREAM WRITTEN BACK
+
+-- what a host reader tells, and its records to come
+abbrev pub told_of : Reader → Option (List Item) × List ReaderSaid
+told_of reader = (reader.holds, reader.coming)
 
 -- but for its writer
 abbrev pub set_back : World → ℕ → Stream → World
@@ -55,11 +63,22 @@ leaves_writer-readers (Host n) Gone w = refl
 leaves_writer-readers (Host n) _ w = refl
 leaves_writer-readers _ new w = refl
 
--- a host reader that goes tells what it told
-leaves_reader-holds : (old new : Owner) (w : World) (k : ℕ) → (reader_at (leaves_reader old new w) k).holds ≡ (reader_at w k).holds
-leaves_reader-holds (Host n) Gone w k = set-keeps (λ (x : Reader). x.holds) w.readers n k (closed_reader (reader_at w n)) no_reader refl
-leaves_reader-holds (Host n) _ w k = refl
-leaves_reader-holds _ new w k = refl
+-- a host reader that goes tells what it told, and has the records that it had
+leaves_reader-told : (old new : Owner) (w : World) (k : ℕ) → told_of (reader_at (leaves_reader old new w) k) ≡ told_of (reader_at w k)
+leaves_reader-told (Host n) Gone w k = set-keeps told_of w.readers n k (closed_reader (reader_at w n)) no_reader refl
+leaves_reader-told (Host n) _ w k = refl
+leaves_reader-told _ new w k = refl
+
+-- what is kept of items stays
+leaves-kept : (old new : Owner) (w : World) → (leaves_writer old new w).state.kept ≡ w.state.kept
+leaves-kept (Host n) Gone w = refl
+leaves-kept (Host n) _ w = refl
+leaves-kept _ new w = refl
+
+leaves_reader-kept : (old new : Owner) (w : World) → (leaves_reader old new w).state.kept ≡ w.state.kept
+leaves_reader-kept (Host n) Gone w = refl
+leaves_reader-kept (Host n) _ w = refl
+leaves_reader-kept _ new w = refl
 
 leaves-other : (old new : Owner) (w : World) (k : ℕ) → ((n : ℕ) → old ≡ Host n → k ≢ n) → writer_at (leaves_writer old new w) k ≡ writer_at w k
 leaves-other (Host n) Gone w k ne = get_or-set_other w.writers n k (closed_writer (writer_at w n)) no_writer (ne n refl)
@@ -94,11 +113,18 @@ module _ (w : World) (s : ℕ) (stream : Stream) where
   unfolding with_stream_in
   back-coming k = leaves-coming (stream_in w s).writer.owner stream.writer.owner but_read k ∙ ap (λ (x : Writer). x.coming) (but_read-writer k)
 
-  pub back-holds : (k : ℕ) → (reader_at (with_stream_in w s stream) k).holds ≡ (reader_at w k).holds
+  pub back-told : (k : ℕ) → told_of (reader_at (with_stream_in w s stream) k) ≡ told_of (reader_at w k)
   unfolding with_stream_in
-  back-holds k =
-      ap (λ rs. (get_or rs k no_reader).holds) (leaves_writer-readers (stream_in w s).writer.owner stream.writer.owner but_read)
-      ∙ leaves_reader-holds (stream_in w s).reader.owner stream.reader.owner (set_back w s stream) k
+  back-told k =
+      ap (λ rs. told_of (get_or rs k no_reader)) (leaves_writer-readers (stream_in w s).writer.owner stream.writer.owner but_read)
+      ∙ leaves_reader-told (stream_in w s).reader.owner stream.reader.owner (set_back w s stream) k
+
+  pub back-holds : (k : ℕ) → (reader_at (with_stream_in w s stream) k).holds ≡ (reader_at w k).holds
+  back-holds k = ap (λ (p : Option (List Item) × List ReaderSaid). p.0) (back-told k)
+
+  pub back-kept : (with_stream_in w s stream).state.kept ≡ w.state.kept
+  unfolding with_stream_in
+  back-kept = leaves-kept (stream_in w s).writer.owner stream.writer.owner but_read ∙ leaves_reader-kept (stream_in w s).reader.owner stream.reader.owner (set_back w s stream)
 
   -- counts, where this one stays
   pub back-received : stream.received ≡ (stream_in w s).received → (k : ℕ) → (stream_in (with_stream_in w s stream) k).received ≡ (stream_in w k).received
@@ -208,6 +234,126 @@ module _ (w : World) (s r : ℕ) (write : Operation) (v : World) (t : Taken w s 
   taken-writer k =
       ap (λ x. writer_at x k) t.is
       ∙ back-stays taken_but s taken_stream (moved-mine (stream_in w s) write t.said.taken Writing (result_of t.said.answer)) k
+
+-- THE ROUND OF A PIPE
+
+module _ (w : World) (s n r : ℕ) (v : World) (p : Passed w s n r v) where
+  -- the stream with these items received, and once both its ends are gone
+  abbrev passed_stream : Stream
+  passed_stream = with_some_received (stream_in w s) p.count
+
+  abbrev both_left : Stream
+  both_left = without_ends (stream_in p.mid s)
+
+  mid_streams : p.mid.state.streams ≡ set w.state.streams s passed_stream
+  mid_streams =
+      ap (λ (x : World). x.state.streams) p.mid_is
+      ∙ back-streams p.but s passed_stream
+      ∙ ap (λ (x : World). set x.state.streams s passed_stream) p.but_is
+
+  pub mid_end : (side : Side) → end_of side (stream_in p.mid s) ≡ end_of side (stream_in w s)
+  mid_end side =
+      ap (λ xs. end_of side (get_or xs s no_stream)) mid_streams
+      ∙ set-keeps (λ (x : Stream). end_of side x) w.state.streams s s passed_stream no_stream (some_received-end side (stream_in w s) p.count)
+
+  mid_other : (k : ℕ) → k ≢ s → stream_in p.mid k ≡ stream_in w k
+  mid_other k ne = ap (λ xs. get_or xs k no_stream) mid_streams ∙ get_or-set_other w.state.streams s k passed_stream no_stream ne
+
+  pub round_other : (k : ℕ) → k ≢ s → stream_in v k ≡ stream_in w k
+  round_other k ne =
+      elim p.ends [
+        | inl e ↦ ap (λ x. stream_in x k) e ∙ mid_other k ne
+        | inr e ↦ ap (λ x. stream_in x k) e ∙ back-other p.mid s both_left k ne ∙ mid_other k ne
+      ]
+
+  pub round_length : length v.state.streams ≡ length w.state.streams
+  round_length =
+      let mid = ap length mid_streams ∙ length-set w.state.streams s passed_stream in
+      elim p.ends [
+        | inl e ↦ ap (λ (x : World). length x.state.streams) e ∙ mid
+        | inr e ↦ ap (λ (x : World). length x.state.streams) e ∙ back-length p.mid s both_left ∙ mid
+      ]
+
+  -- what ends that go leave as it is
+  pub round_keeps : {A : Type 0} (f : Stream → A) → ((x : Stream) → f (without_ends x) ≡ f x) → s < length w.state.streams → f (stream_in v s) ≡ f passed_stream
+  round_keeps f same l =
+      let mid : stream_in p.mid s ≡ passed_stream = ap (λ xs. get_or xs s no_stream) mid_streams ∙ get_or-set_same w.state.streams s passed_stream no_stream l in
+      let long = ap length mid_streams ∙ length-set w.state.streams s passed_stream in
+      elim p.ends [
+        | inl e ↦ ap (λ x. f (stream_in x s)) e ∙ ap f mid
+        | inr e ↦ ap (λ x. f (stream_in x s)) e ∙ ap f (back-here p.mid s both_left (omega (arith, l, long))) ∙ same (stream_in p.mid s) ∙ ap f mid
+      ]
+
+  pub round_received : s < length w.state.streams → (stream_in v s).received ≡ passed_stream.received
+  round_received l = round_keeps (λ x. x.received) (λ x. refl) l
+
+  -- the host writer
+  pub round_coming : (writer_at v n).coming ≡ (writer_at p.but n).coming
+  round_coming =
+      let mid = ap (λ x. (writer_at x n).coming) p.mid_is ∙ back-coming p.but s passed_stream n in
+      elim p.ends [
+        | inl e ↦ ap (λ x. (writer_at x n).coming) e ∙ mid
+        | inr e ↦ ap (λ x. (writer_at x n).coming) e ∙ back-coming p.mid s both_left n ∙ mid
+      ]
+
+  pub round_kept : (k : ℕ) → k ≢ n → kept_at v.state k ≡ kept_at w.state k
+  round_kept k ne =
+      let but : kept_at p.but.state k ≡ kept_at w.state k = ap (λ (x : World). kept_at x.state k) p.but_is ∙ get_or-set_other w.state.kept n k p.kept [] ne in
+      let mid = ap (λ (x : World). kept_at x.state k) p.mid_is ∙ ap (λ ks. get_or ks k []) (back-kept p.but s passed_stream) ∙ but in
+      elim p.ends [
+        | inl e ↦ ap (λ (x : World). kept_at x.state k) e ∙ mid
+        | inr e ↦
+            ap (λ (x : World). kept_at x.state k) e
+            ∙ get_or-set_other (with_stream_in p.mid s both_left).state.kept n k [] [] ne
+            ∙ ap (λ ks. get_or ks k []) (back-kept p.mid s both_left) ∙ mid
+      ]
+
+  -- the write end stays in all that is before it may go
+  mid_writer : (k : ℕ) → writer_at p.mid k ≡ writer_at p.but k
+  mid_writer k =
+      ap (λ x. writer_at x k) p.mid_is
+      ∙ back-stays p.but s passed_stream
+      (ap (λ (x : End). x.owner) (some_received-end Writing (stream_in w s) p.count) ∙ ap (λ x. (stream_in x s).writer.owner) (sym p.but_is)) k
+
+  module _ (o : (stream_in w s).writer.owner ≡ Host n) where
+    pub round_writer : (k : ℕ) → k ≢ n → writer_at v k ≡ writer_at w k
+    round_writer k ne =
+        let but : writer_at p.but k ≡ writer_at w k = ap (λ x. writer_at x k) p.but_is ∙ get_or-set_other w.writers n k p.writer no_writer ne in
+        let mid = mid_writer k ∙ but in
+        elim p.ends [
+          | inl e ↦ ap (λ x. writer_at x k) e ∙ mid
+          | inr e ↦
+              ap (λ x. writer_at x k) e
+              ∙ back-writer p.mid s both_left k (λ m f g. let same : Host m ≡ Host n = sym f ∙ ap (λ (x : End). x.owner) (mid_end Writing) ∙ o in ne (g ∙ cc))
+              ∙ mid
+        ]
+
+    -- the writer stays, and this is held, or it is gone
+    pub round_ends : s < length w.state.streams → ((stream_in v s).writer.owner ≡ Gone) ⊎ (((stream_in v s).writer.owner ≡ Host n) × (held_of v n ≡ held_of p.but n))
+    round_ends l =
+        elim p.ends [
+          | inl e ↦ inr (
+            ap (λ x. (stream_in x s).writer.owner) e ∙ ap (λ (x : End). x.owner) (mid_end Writing) ∙ o,
+            ap (λ x. held_of x n) e
+                ∙ ap (λ (x : Writer). kept_at p.mid.state n ++ x.holds) (mid_writer n)
+                ∙ ap (λ ks. get_or ks n [] ++ (writer_at p.but n).holds) (ap (λ (x : World). x.state.kept) p.mid_is ∙ back-kept p.but s passed_stream),
+          )
+          | inr e ↦
+              let long = ap length mid_streams ∙ length-set w.state.streams s passed_stream in
+              inl (ap (λ x. (stream_in x s).writer.owner) e ∙ ap (λ (x : Stream). x.writer.owner) (back-here p.mid s both_left (omega (arith, l, long))))
+        ]
+
+  -- host readers
+  pub round_told : (k : ℕ) → told_of (reader_at v k) ≡ told_of (reader_at p.but k)
+  round_told k =
+      let mid = ap (λ x. told_of (reader_at x k)) p.mid_is ∙ back-told p.but s passed_stream k in
+      elim p.ends [
+        | inl e ↦ ap (λ x. told_of (reader_at x k)) e ∙ mid
+        | inr e ↦ ap (λ x. told_of (reader_at x k)) e ∙ back-told p.mid s both_left k ∙ mid
+      ]
+
+  pub round_reader : (k : ℕ) → k ≢ r → told_of (reader_at v k) ≡ told_of (reader_at w k)
+  round_reader k ne = round_told k ∙ ap (λ x. told_of (reader_at x k)) p.but_is ∙ ap told_of (get_or-set_other w.readers r k p.reader no_reader ne)
 
 -- the turn of a host end on either side
 pub turned_length : (side : Side) (w : World) (s n : ℕ) (operation : Operation) (v : World) → HasTurned side w s n operation v → length v.state.streams ≡ length w.state.streams

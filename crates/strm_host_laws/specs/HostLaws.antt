@@ -1,7 +1,8 @@
 -- What holds of every run with host ends. Ours.
-use Rattle.std.specs.Prelude.{◌≡◌, ℕ, ◌+◌, ◌-◌, ◌==◌, Bool, true, false, ◌&&◌, ◌||◌, if◌then◌else◌, List, [], ◌∷◌, ◌++◌, length, map, take, All, Option, Some, IsSome}
+use Rattle.std.specs.Prelude.{◌≡◌, ℕ, ◌+◌, ◌-◌, ◌^◌, ◌≤◌, min, ◌==◌, Bool, true, false, ◌&&◌, ◌||◌, if◌then◌else◌, List, [], ◌∷◌, ◌++◌, length, map, take, All, Option, Some, IsSome}
 use Rattle.std.specs.Option.{option_map}
 use Rattle.strm_codes.specs.Layout.{scalars_of}
+use Rattle.strm_codes.specs.declared.codes.TransmitKind.TheVariants.{Future}
 use Rattle.strm_memory.specs.Items.{AreItems}
 use Rattle.strm_buffers.specs.Listing.{Item}
 use Rattle.strm_buffers.specs.Said.{WriterSaid}
@@ -23,7 +24,7 @@ use Rattle.strm_machine.specs.declared.streams.Owner.TheVariants.{Host}
 use Rattle.strm_machine.specs.declared.streams.Side.{Side}
 use Rattle.strm_machine.specs.declared.streams.Side.TheVariants.{Writing, Reading}
 use Rattle.strm_world.specs.Ends.{Writer, Reader, writer_in, reader_in}
-use Rattle.strm_world.specs.World.{World, stream_in, writer_at, reader_at}
+use Rattle.strm_world.specs.World.{World, stream_in, writer_at, reader_at, held_of}
 use Rattle.strm_world.specs.Does.{SaidFits}
 use Rattle.strm_laws.specs.Conservation.{calls, writes, reads, all_reported, all_handed}
 use Rattle.strm_laws.specs.Laws.{total, moved_at, IsAsked}
@@ -92,6 +93,11 @@ made_of s world (Acts (OnHost host New)) (replies.Number n) =
     if n == s then (writer_at world host).holds else []
 made_of s world part reply = []
 
+-- and in one of these moments
+abbrev pub held_first : ℕ → List HostMoment → List Item
+held_first s [] = []
+held_first s (m ∷ more) = made_of s m.before m.part m.reply ++ held_first s more
+
 -- the items of the records that a write end of this owner used in a moment
 abbrev pub produced_by : HostMoment → Owner → List Item
 produced_by m (Host n) = items_of (used_in n m)
@@ -140,21 +146,30 @@ source s m =
     let waiting = place_of (stream_at m.before s).writer.operation in
     if is_named s Writing m then write_place m.act waiting else waiting
 
+-- the records of host reader r that a moment used
+abbrev pub used_by : ℕ → HostMoment → List ReaderSaid
+used_by r m = used (reader_at m.before r).coming (reader_at m.after r).coming
+
+-- how many items these records say were taken
+abbrev pub count_taken : List ReaderSaid → ℕ
+count_taken [] = 0
+count_taken (said ∷ more) = said.taken + count_taken more
+
 -- what is taken of them, as it lay in the writer's memory just before the moment
 abbrev pub taken_in : ℕ → Moment → List (Option Item)
 taken_in s m =
     items_in (stream_at m.before s).payload m.before.guests (source s m).guest (source s m).address (rise s m)
 
--- what a host reader took in a moment, by the owner of the write end: of a host writer the front of what was
--- held and what it produced then, and else what a guest offered
-abbrev pub taken_from : ℕ → HostMoment → Owner → List (Option Item)
-taken_from s m (Host n) =
-    map Some (take (rise s (plain m)) ((writer_at m.before n).holds ++ produced_in s m))
-taken_from s m owner = taken_in s (plain m)
+-- what host reader r took in a moment, by the owner of the write end: of a host writer as many items as its
+-- records say, from the front of what was held and what was produced then, and else what a guest offered
+abbrev pub taken_from : ℕ → HostMoment → ℕ → Owner → List (Option Item)
+taken_from s m r (Host n) =
+    map Some (take (count_taken (used_by r m)) (held_of m.before n ++ produced_in s m))
+taken_from s m r owner = taken_in s (plain m)
 
 -- on stream s, by the owner of its read end; a guest took none
 abbrev pub taken_by : ℕ → HostMoment → Owner → List (Option Item)
-taken_by s m (Host r) = taken_from s m (stream_in m.before s).writer.owner
+taken_by s m (Host r) = taken_from s m r (stream_in m.before s).writer.owner
 taken_by s m owner = []
 
 -- what host readers took on stream s in a moment
@@ -169,7 +184,7 @@ all_taken s (m ∷ more) = host_taken_in s m ++ all_taken s more
 -- what was received in a moment, by the owner of the read end: a guest has it in its memory just after
 -- it, and a host reader took it
 abbrev pub got_by : ℕ → HostMoment → Owner → List (Option Item)
-got_by s m (Host r) = taken_from s m (stream_in m.before s).writer.owner
+got_by s m (Host r) = taken_from s m r (stream_in m.before s).writer.owner
 got_by s m owner = got_in s (plain m)
 
 -- the items received on stream s in a moment, whoever received them
@@ -193,9 +208,19 @@ abbrev pub is_hosted : ℕ → List HostMoment → Bool
 is_hosted s [] = false
 is_hosted s (m ∷ more) = is_made_by s m.part m.reply || is_hosted s more
 
+-- its read end went to a host reader in a moment
+abbrev pub is_piped_in : ℕ → Part → Reply → Bool
+is_piped_in s (Acts (OnHost host (Pipe reader))) replies.Done = reader == s
+is_piped_in s part reply = false
+
+-- and in one of these
+abbrev pub is_piped : ℕ → List HostMoment → Bool
+is_piped s [] = false
+is_piped s (m ∷ more) = is_piped_in s m.part m.reply || is_piped s more
+
 -- what is held on a stream of this write end's owner
 abbrev pub held_by : World → Owner → List Item
-held_by world (Host n) = (writer_at world n).holds
+held_by world (Host n) = held_of world n
 held_by world owner = []
 
 -- what a host writer holds and what its records produce are items of its payload
@@ -205,14 +230,20 @@ pub record Supplies (writer : Writer) : Type 0 where
 
 -- what the host writer of stream s produced is, in order, what was received and what is held, while it is
 -- an end of the stream; from then on what was received comes first of it, and the rest is given up. As
--- many items were counted
+-- many items were counted, up to the end of the count's type, which is not reached where no host reader reads.
+-- A future passes one item at most, if its writer held no more when the future was made
 pub record DeliversAll (s : ℕ) (all : List HostMoment) (last : World) : Type 0 where
   pub there :
       is_host (stream_in last s).writer.owner ≡ true →
       map Some (produced s all) ≡ host_got s all ++ map Some (held_by last (stream_in last s).writer.owner)
   pub given_up : is_hosted s all ≡ true →
       host_got s all ≡ take (length (host_got s all)) (map Some (produced s all))
-  pub count : is_hosted s all ≡ true → length (host_got s all) ≡ received s last.state
+  pub count : is_hosted s all ≡ true → is_piped s all ≡ false →
+      length (host_got s all) ≡ received s last.state
+  pub capped : is_hosted s all ≡ true →
+      received s last.state ≡ min (length (host_got s all)) (2 ^ 128 - 1)
+  pub one : is_hosted s all ≡ true → (stream_in last s).kind ≡ Future → length (held_first s all) ≤ 1 →
+      length (host_got s all) ≤ 1
 
 -- HOST READERS
 
@@ -226,26 +257,12 @@ abbrev pub is_pipe_of : ℕ → ℕ → List HostMoment → Bool
 is_pipe_of s r [] = false
 is_pipe_of s r (m ∷ more) = is_piped_to s r m.part m.reply || is_pipe_of s r more
 
--- it went to a host reader in a moment
-abbrev pub is_piped_in : ℕ → Part → Reply → Bool
-is_piped_in s (Acts (OnHost host (Pipe reader))) replies.Done = reader == s
-is_piped_in s part reply = false
-
--- and in one of these
-abbrev pub is_piped : ℕ → List HostMoment → Bool
-is_piped s [] = false
-is_piped s (m ∷ more) = is_piped_in s m.part m.reply || is_piped s more
-
 -- of host readers that tell this, in a run from a world to a state: those are closed that were closed at
 -- first, and those that became gone, and no others
 abbrev pub ReadersCloseExactly : World → State → List Reader → Type 0
 ReadersCloseExactly first state readers =
     (r : ℕ) →
     (reader_in readers r).closed ≡ ((reader_at first r).closed || is_ended (consumer_at state r).duty)
-
--- the records of host reader r that a moment used
-abbrev pub used_by : ℕ → HostMoment → List ReaderSaid
-used_by r m = used (reader_at m.before r).coming (reader_at m.after r).coming
 
 -- and those that these moments used
 abbrev pub all_used_by : ℕ → List HostMoment → List ReaderSaid

@@ -77,8 +77,10 @@ pub fn readers_are_granted_exactly()
 
 /// On each stream of a host writer, what the writer held when the stream was made and the items of all
 /// records that it used are, in order, what was received, each as it lay in the reader's memory just
-/// after it was received, and what is held, while the writer is an end of the stream; from then on what
-/// was received comes first of it, and the rest is given up together. As many items were counted.
+/// after it was received or as a host reader's records say that it took it, and what is held, while the
+/// writer is an end of the stream; from then on what was received comes first of it, and the rest is
+/// given up together. As many items were counted, up to the end of the count's type. A future of a host
+/// writer passes one item at most, if the writer held no more than one when the future was made.
 pub fn producers_deliver_in_order()
     ensures { (tag : ℕ) (limits : Limits) (old new : Tells) (run : List Step) (s : ℕ) →
         ((n : ℕ) → Supplies (writer_at (start tag limits old new) n)) → length run ≤ 4294967295 →
@@ -88,7 +90,8 @@ pub fn producers_deliver_in_order()
 
 /// A host reader that got the read end of a stream has taken, behind what it held at first, exactly the
 /// items that left the writes there, in order, each as it lay in its guest's memory just before it was taken,
-/// where each of them is an item: so what it tells is what was taken.
+/// or the front of what the stream's host writer held and produced, where each of them is an item: so what it
+/// tells is what was taken.
 pub fn readers_tell_what_they_took()
     ensures { (tag : ℕ) (limits : Limits) (old new : Tells) (run : List Step) (s r : ℕ) → AreSteps run →
         TellsTaken s r (host_moments (start tag limits old new) run)

@@ -8,3 +8,4 @@ pub mod ArgumentLemmas
 pub mod StepLemmas
 pub mod LineLemmas
 pub mod PartLemmas
+pub mod GeneratorLemmas

@@ -1,8 +1,9 @@
 -- The text of replies, and of a whole run. Ours.
-use Rattle.std.specs.Prelude.{◌≡◌, ℕ, ◌+◌, ◌/◌, ◌%◌, List, [], ◌∷◌, ◌++◌, length, codes, decimal, Option, Some, None}
-use Rattle.std.specs.List.{flat_map}
+use Rattle.std.specs.Prelude.{◌≡◌, ℕ, ◌+◌, ◌/◌, ◌%◌, Bool, true, false, List, [], ◌∷◌, ◌++◌, length, codes, decimal, Option, Some, None}
+use Rattle.std.specs.List.{flat_map, count_by}
 use Rattle.strm_codes.specs.Codes.{word_of}
 use Rattle.strm_codes.specs.declared.codes.ReturnCode.{ReturnCode}
+use Rattle.strm_codes.specs.declared.codes.ReturnCode.TheVariants.{Blocked}
 use Rattle.strm_codes.specs.Refusals.{refusal_name}
 use Rattle.strm_machine.specs.declared.replies.Member as members
 use Rattle.strm_machine.specs.declared.replies.Reply.{Reply}
@@ -80,6 +81,28 @@ done_text steps = words (codes "done" ∷ decimal steps ∷ [])
 abbrev pub transcript_text : List Reply → List ℕ → List ℕ
 transcript_text replies moved =
     reply_lines replies ++ stream_lines 0 moved ++ ended (done_text (length replies))
+
+-- a step that was refused
+abbrev pub is_refusal : Reply → Bool
+is_refusal (Refused refusal) = true
+is_refusal _ = false
+
+-- a read or write that waits
+abbrev pub is_blocked : Reply → Bool
+is_blocked (Code Blocked) = true
+is_blocked _ = false
+
+-- how many replies there are of a kind, behind its word
+abbrev pub count_text : List ℕ → ℕ → List ℕ
+count_text word count = words (word ∷ decimal count ∷ [])
+
+-- the summary of a run: how many steps were refused, how many waited, what was received on each stream,
+-- the number of steps
+abbrev pub summary_text : List Reply → List ℕ → List ℕ
+summary_text replies moved =
+    ended (count_text (codes "refused") (count_by is_refusal replies))
+    ++ ended (count_text (codes "blocked") (count_by is_blocked replies))
+    ++ stream_lines 0 moved ++ ended (done_text (length replies))
 
 -- a host end, by its side and its number
 abbrev pub host_end_text : HostEnd → List ℕ

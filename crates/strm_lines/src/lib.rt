@@ -4,8 +4,9 @@
 //! lines. Nothing here knows what a step does.
 #![tactic(auto)]
 
+pub mod generator;
 mod lines;
 pub mod lists;
 pub mod parsing;
 pub mod texts;
-mod words;
+pub mod words;

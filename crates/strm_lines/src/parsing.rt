@@ -2,14 +2,15 @@
 //!
 //! Source: ours.
 
-ghost use Rattle.std.specs.Prelude.{◌≡◌, ◌≢◌, ◌∷◌, ◌≤◌, ◌<◌, ◌↔◌, ℕ, List, length, IfOk, MatchResult, Err};
+ghost use Rattle.std.specs.Prelude.{◌≡◌, ◌≢◌, ◌∷◌, ◌≤◌, ◌<◌, ◌↔◌, ℕ, List, length, decimal, IfOk, MatchResult, Some, Err};
 ghost use Rattle.strm_machine.specs.declared.steps.Step.{Step};
+ghost use Rattle.strm_lines.specs.Grammar.{IsU32};
 ghost use Rattle.strm_lines.specs.Lines.{lines_of, feeds, Spells, IsFirstBad, IsTooLong};
 ghost use Rattle.strm_lines.specs.declared.parsing.ParseError.TheVariants.{OutOfMemory as NoMemory};
 
 use crate::lines::keep_line;
 use crate::lists::Steps;
-use crate::words::cut;
+use crate::words::{cut, number};
 use std::alloc::{AllocError, Global};
 use thiserror::Error;
 
@@ -62,6 +63,13 @@ pub fn parse(alloc: Global, bytes: &[u8]) -> Result<Steps, ParseError>
         return Err(ParseError::TooLong);
     }
     parse_lines(alloc, bytes, lines)
+}
+
+/// The number that a word spells as it would in a line: in decimal, below 2^32 and without leading zeros.
+pub fn number_of(word: &[u8]) -> Option<u32>
+    ensures { (n : ℕ) → (result ≡ Some n) ↔ (IsU32 n × (word.now ≡ decimal n)) }
+{
+    number(word)
 }
 
 // The number of lines.
@@ -134,8 +142,8 @@ fn parse_lines(alloc: Global, bytes: &[u8], lines: usize) -> Result<Steps, Parse
     Ok(Steps::from_vec(steps))
 }
 
-// The first line, and what follows its line feed.
-fn first_line(bytes: &[u8]) -> (&[u8], &[u8])
+/// The first line, and what follows its line feed.
+pub fn first_line(bytes: &[u8]) -> (&[u8], &[u8])
     requires { 0 < length bytes.now }
     ensures lines { lines_of bytes.now ≡ result.0.now ∷ lines_of result.1.now }
     ensures less { length result.1.now < length bytes.now }

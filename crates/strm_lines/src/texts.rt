@@ -3,13 +3,14 @@
 //! Source: ours.
 
 ghost use Rattle.std.specs.Prelude.{◌≡◌, ◌++◌, ◌≤◌, ◌<◌, length, codes, decimal, Some, IfOk, OnOk, OnErr};
-ghost use Rattle.std.specs.List.{flat_map};
+ghost use Rattle.std.specs.List.{flat_map, count_by};
 ghost use Rattle.strm_lines.specs.Words.{hex_digit, hex_pairs};
-ghost use Rattle.strm_lines.specs.Text.{HasPart, ended, hex_word, reply_text, reply_lines, stream_text, stream_lines, done_text, transcript_text, host_end_text, stop_text, stopped_text, usage_text, bad_line_text, too_long_text, read_fault_text};
+ghost use Rattle.strm_lines.specs.Text.{HasPart, ended, hex_word, reply_text, reply_lines, stream_text, stream_lines, done_text, transcript_text, is_refusal, is_blocked, summary_text, host_end_text, stop_text, stopped_text, usage_text, bad_line_text, too_long_text, read_fault_text};
 
 use crate::lists::TextBytes;
 use itoa::{Buffer, Integer};
 use std::alloc::Global;
+use strm_codes::codes::ReturnCode;
 use strm_codes::counts::OutOfMemory;
 use strm_codes::refusals::Refusal;
 use strm_machine::replies::{Member, Pair, Reply};
@@ -19,8 +20,8 @@ use strm_machine::streams::HostEnd;
 // The lower-case hexadecimal digits.
 const DIGITS: [u8; 16] = *b"0123456789abcdef";
 
-// A lower-case hexadecimal digit.
-fn hex_digit(nibble: u8) -> u8
+/// A lower-case hexadecimal digit.
+pub fn hex_digit(nibble: u8) -> u8
     requires { nibble < 16 }
     ensures { result ≡ hex_digit nibble }
 {
@@ -45,8 +46,8 @@ fn hex_line(word: u32) -> [u8; 9]
     ]
 }
 
-// Adds a number in decimal.
-fn push_number<I: Integer>(out: &mut TextBytes, number: I) -> Result<(), OutOfMemory>
+/// Adds a number in decimal.
+pub fn push_number<I: Integer>(out: &mut TextBytes, number: I) -> Result<(), OutOfMemory>
     ensures { OnOk result (out.new ≡ out.old ++ I.text number) }
 {
     let mut buffer = Buffer::new();
@@ -233,6 +234,14 @@ pub fn push_done(out: &mut TextBytes, steps: usize) -> Result<(), OutOfMemory>
     )
 }
 
+// Adds what every run ends with: the lines of its streams, and how many steps were done.
+fn push_ending(out: &mut TextBytes, moved: &[u128], steps: usize) -> Result<(), OutOfMemory>
+    ensures { OnOk result (out.new ≡ out.old ++ stream_lines 0 moved.now ++ ended (done_text steps)) }
+{
+    push_streams(out, moved)?;
+    push_done(out, steps)
+}
+
 /// The text of a run, from its replies and from how many items were received on each stream.
 pub fn transcript_text(
     alloc: Global,
@@ -243,8 +252,51 @@ pub fn transcript_text(
 {
     let mut out = TextBytes::new(alloc);
     push_replies(&mut out, replies)?;
-    push_streams(&mut out, moved)?;
-    push_done(&mut out, replies.len())?;
+    push_ending(&mut out, moved, replies.len())?;
+    Ok(out)
+}
+
+// How many of the replies are refusals.
+fn count_refusals(replies: &[Reply]) -> usize
+    ensures { result ≡ count_by is_refusal replies.now }
+{
+    let mut count = 0;
+    for reply in replies {
+        if let Reply::Refused(_) = reply {
+            count += 1;
+        }
+    }
+    count
+}
+
+// How many of the replies are those of reads and writes that wait.
+fn count_blocked(replies: &[Reply]) -> usize
+    ensures { result ≡ count_by is_blocked replies.now }
+{
+    let mut count = 0;
+    for reply in replies {
+        if let Reply::Code(ReturnCode::Blocked) = reply {
+            count += 1;
+        }
+    }
+    count
+}
+
+/// The summary of a run, from its replies and from how many items were received on each stream.
+pub fn summary_text(
+    alloc: Global,
+    replies: &[Reply],
+    moved: &[u128],
+) -> Result<TextBytes, OutOfMemory>
+    ensures ok { IfOk result (λ text. text ≡ summary_text replies.now moved.now) }
+{
+    let mut out = TextBytes::new(alloc);
+    out.push_slice(b"refused ")?;
+    push_number(&mut out, count_refusals(replies))?;
+    out.push_slice(b"\nblocked ")?;
+    push_number(&mut out, count_blocked(replies))?;
+    out.push(b'\n')?;
+    push_ending(&mut out, moved, replies.len())?;
     Ok(out)
 }
 

@@ -12,10 +12,10 @@ use strm_codes::payloads::{Payload, Shape};
 use strm_codes::scalars::Scalar;
 use strm_machine::chunks::Chunk;
 
-// What follows these bytes at the front of a line.
+/// What follows these bytes at the front of a line.
 #[inline(always)]
 #[tactic(auto, unfolding(crate::specs::Reading::behind))]
-pub(crate) fn behind<'a, const N: usize>(line: &'a [u8], front: &[u8; N]) -> Option<&'a [u8]>
+pub fn behind<'a, const N: usize>(line: &'a [u8], front: &[u8; N]) -> Option<&'a [u8]>
     ensures { option_map (λ rest. rest.now) result ≡ behind front.now line.now }
 {
     let (first, rest) = line.split_first_chunk::<N>()?;
@@ -57,9 +57,9 @@ pub(crate) fn number(word: &[u8]) -> Option<u32>
     Some(number)
 }
 
-// A number from `low` to `high`.
+/// A number from `low` to `high`, in decimal and without leading zeros.
 #[tactic(auto, unfolding(crate::specs::Reading::number_within))]
-pub(crate) fn number_within(word: &[u8], low: u32, high: u32) -> Option<u32>
+pub fn number_within(word: &[u8], low: u32, high: u32) -> Option<u32>
     ensures { result ≡ number_within low high word.now }
 {
     let number = number(word)?;
@@ -119,8 +119,8 @@ fn behind_number(number: u32, line: &[u8], at: usize) -> Option<(u32, &[u8])>
     Some((number, rest))
 }
 
-// What comes before and after the first such byte.
-pub(crate) fn cut(byte: u8, bytes: &[u8]) -> Option<(&[u8], &[u8])>
+/// What comes before and after the first such byte.
+pub fn cut(byte: u8, bytes: &[u8]) -> Option<(&[u8], &[u8])>
     ensures { option_map (λ p. (p.0.now, p.1.now)) result ≡ cut_at byte bytes.now }
 {
     let at = memchr(byte, bytes)?;
@@ -299,9 +299,9 @@ fn pairs(word: &[u8]) -> Option<Chunk>
     Chunk::new(&bytes[..len])
 }
 
-// 1 to 64 bytes, as pairs of lower-case hexadecimal digits.
+/// 1 to 64 bytes, as pairs of lower-case hexadecimal digits.
 #[tactic(auto, unfolding(crate::specs::Reading::hex))]
-pub(crate) fn hex(word: &[u8]) -> Option<Chunk>
+pub fn hex(word: &[u8]) -> Option<Chunk>
     ensures { result ≡ hex word.now }
 {
     if word.is_empty() || word.len() > 128 || word.len() % 2 != 0 {

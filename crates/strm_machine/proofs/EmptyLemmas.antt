@@ -1,6 +1,6 @@
 -- What is kept of a store holds of one that was just made.
-use Rattle.std.proofs.Common.{◌≡◌, ℕ, zero, suc, true, false, [], get_or, refl, ap, ◌∙◌, arith}
-use Rattle.std.specs.Prelude.{replicate}
+use Rattle.std.proofs.Common.{◌≡◌, ℕ, zero, suc, true, false, List, [], get_or, refl, ap, ◌∙◌, arith}
+use Rattle.std.specs.Prelude.{ℤ, replicate}
 use Rattle.std.proofs.lemmas.List.{get_or_past, length-replicate}
 use Rattle.std.proofs.lemmas.List.Elements.{All-nil}
 use Rattle.strm_handles.specs.Handles.{no_handles}
@@ -55,12 +55,14 @@ HostsHold-empty tag limits =
     let none : (s : ℕ) → stream_at (empty tag limits) s ≡ no_stream = λ s. get_or_past (empty tag limits).streams s no_stream (omega arith) in
     record {
       all = length-replicate {A = Producer} host_limit no_producer;
+      all_kept = length-replicate {A = List (List ℤ)} host_limit [];
       all_readers = length-replicate {A = Consumer} host_limit no_consumer;
       serve = λ side n s. record {
         serves = λ e. absurd (no_host (end_of side (stream_at (empty tag limits) s)).owner n (ap (λ st. is_host (end_of side st).owner) (none s) ∙ nobody side) e);
         owns = λ e. absurd (let unused = unused_by side n in cc);
         idle = λ e. absurd (no_host (end_of side (stream_at (empty tag limits) s)).owner n (ap (λ st. is_host (end_of side st).owner) (none s) ∙ nobody side) e);
       };
+      keeps = λ n u. nothing_kept host_limit n;
     }
   where
     nobody : (side : Side) → is_host (end_of side no_stream).owner ≡ false
@@ -75,3 +77,8 @@ HostsHold-empty tag limits =
     unused_by : (side : Side) (n : ℕ) → duty_of side (empty tag limits) n ≡ Unused
     unused_by Writing n = unused_all (λ (p : Producer). p.duty) no_producer host_limit n refl
     unused_by Reading n = unused_all (λ (c : Consumer). c.duty) no_consumer host_limit n refl
+
+    nothing_kept : (m n : ℕ) → get_or (replicate {A = List (List ℤ)} m []) n [] ≡ []
+    nothing_kept zero n = refl
+    nothing_kept (suc m) zero = refl
+    nothing_kept (suc m) (suc n) = nothing_kept m n

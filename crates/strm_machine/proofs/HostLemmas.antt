@@ -3,11 +3,12 @@ use Rattle.std.proofs.Common.{◌≡◌, ℕ, ◌<◌, true, false, List, [], �
 use Rattle.std.proofs.lemmas.Bool.{cases_eq, cases_lt, cond_both}
 use Rattle.std.proofs.lemmas.List.{get_or-set_same, get_or-set_other, get_or_past}
 use Rattle.strm_machine.specs.Words.{Guest, ReturnCode, TransmitIndex, State, no_stream, stream_at, end_of, opposite, with_end, Turn, named, stream_named, Reaction, written_back, is_end, NamedEnd, Act, Side, Writing, Reading, Operation, End, Stream, Owner, is_loose, IsSound}
-use Rattle.strm_machine.specs.State.{host_limit, no_producer, no_consumer, is_host, is_gone}
-use Rattle.strm_machine.specs.Hosting.{duty_of, HostsHold}
+use Rattle.strm_machine.specs.State.{host_limit, no_producer, no_consumer, producer_at, is_host, is_gone}
+use Rattle.strm_machine.specs.Hosting.{duty_of, is_piped, HostsHold}
 use Rattle.strm_machine.specs.Making.{made_stream, made_pair, with_stream}
 use Rattle.strm_machine.specs.Turns.{finds, turn}
 use Rattle.strm_machine.specs.Reactions.{reaction}
+use Rattle.strm_machine.specs.declared.streams.Duty.{Duty}
 use Rattle.strm_machine.specs.declared.streams.Duty.TheVariants.{Serves}
 use Rattle.strm_machine.specs.declared.streams.Producer.{Producer}
 use Rattle.strm_machine.specs.declared.streams.Consumer.{Consumer}
@@ -43,15 +44,22 @@ pub record HostsStay (old new : Stream) : Type 0 where
 -- what is kept of host ends
 pub record SameKept (state after : State) : Type 0 where
   pub producers : after.producers ≡ state.producers
+  pub kept : after.kept ≡ state.kept
   pub consumers : after.consumers ≡ state.consumers
 
 pub SameKept-duty : (state after : State) (side : Side) (n : ℕ) → SameKept state after → duty_of side after n ≡ duty_of side state n
 SameKept-duty state after Writing n p = ap (λ ps. (get_or ps n no_producer).duty) p.producers
 SameKept-duty state after Reading n p = ap (λ ps. (get_or ps n no_consumer).duty) p.consumers
 
+-- a stream that no host reader reads had none before
+unpiped_before : (state after : State) → ((s : ℕ) → HostsStay (stream_at state s) (stream_at after s)) → (duty : Duty) → is_piped after duty ≡ false → is_piped state duty ≡ false
+unpiped_before state after stays (Serves s) u = unless_host (stream_at state s).reader.owner (λ r e. no_host (stream_at after s).reader.owner r u ((stays s).is Reading r e))
+unpiped_before state after stays duty u = refl
+
 pub HostsHold-stays : (state after : State) → SameKept state after → ((s : ℕ) → HostsStay (stream_at state s) (stream_at after s)) → HostsHold state → HostsHold after
 HostsHold-stays state after p stays h = record {
   all = ap length p.producers ∙ h.all;
+  all_kept = ap length p.kept ∙ h.all_kept;
   all_readers = ap length p.consumers ∙ h.all_readers;
   serve = λ side n s.
       let same = SameKept-duty state after side n p in
@@ -60,6 +68,9 @@ HostsHold-stays state after p stays h = record {
         owns = λ e. (stays s).is side n ((h.serve side n s).owns (sym same ∙ e));
         idle = λ e. let was = (stays s).was side n e in (stays s).idle side (ap is_host was) ((h.serve side n s).idle was);
       };
+  keeps = λ n u.
+      ap (λ ks. get_or ks n []) p.kept
+      ∙ h.keeps n (unpiped_before state after stays (producer_at state n).duty (ap (is_piped after) (sym (SameKept-duty state after Writing n p)) ∙ u));
 }
 
 pub HostsStay-same : (stream : Stream) → HostsStay stream stream
@@ -193,8 +204,8 @@ pair_stays state writer reader ty k =
 -- ## Every step
 
 written_hosts : (state : State) (s : ℕ) (t : Turn) (code : Option ReturnCode) → s < length state.streams → HostsStay (stream_at state s) t.stream → HostsHold state → HostsHold (written_back state s t code).state
-written_hosts state s t None l k h = HostsHold-stays state (written_back state s t None).state (record { producers = refl; consumers = refl }) (stays_set state.streams s t.stream l k) h
-written_hosts state s t (Some code) l k h = HostsHold-stays state (written_back state s t (Some code)).state (record { producers = refl; consumers = refl }) (stays_set state.streams s t.stream l k) h
+written_hosts state s t None l k h = HostsHold-stays state (written_back state s t None).state (record { producers = refl; kept = refl; consumers = refl }) (stays_set state.streams s t.stream l k) h
+written_hosts state s t (Some code) l k h = HostsHold-stays state (written_back state s t (Some code)).state (record { producers = refl; kept = refl; consumers = refl }) (stays_set state.streams s t.stream l k) h
 
 -- streams and what is kept of host ends are as they were
 HostsHold-same : (state after : State) → SameKept state after → after.streams ≡ state.streams → HostsHold state → HostsHold after
@@ -209,17 +220,17 @@ shape-hosts state act r held h (ByTurn side end address count a e o) =
 shape-hosts state act r held h (BySetting reply x e set) =
     let stream = stream_at state x.stream in
     rw e
-    (HostsHold-stays state (set_by state x) (record { producers = refl; consumers = refl })
+    (HostsHold-stays state (set_by state x) (record { producers = refl; kept = refl; consumers = refl })
     (stays_set state.streams x.stream (with_end x.side stream x.end) set.made (set_stays x.side stream x.end set.becomes.owner set.becomes.left)) h)
 shape-hosts state act r held h (ByOwner reply x e o) =
     let stream = stream_at state x.stream in
     rw e
-    (HostsHold-stays state (owned_by state x) (record { producers = refl; consumers = refl })
+    (HostsHold-stays state (owned_by state x) (record { producers = refl; kept = refl; consumers = refl })
     (stays_set state.streams x.stream _ o.made (owned_stays x.side stream x.owner (freed_unhosted state x.stream x.side x.freed held o.freed) o.unhosted)) h)
-shape-hosts state act r held h (ByTable reply x e t) = rw e (HostsHold-same state (tabled_by state x) (record { producers = refl; consumers = refl }) refl h)
-shape-hosts state act r held h (ByPair writer reader ty a e fits) = rw e (HostsHold-stays state (with_stream state writer reader ty) (record { producers = refl; consumers = refl }) (pair_stays state writer reader ty) h)
-shape-hosts state act r held h (ByGuest size a e fits) = rw e (HostsHold-same state _ (record { producers = refl; consumers = refl }) refl h)
-shape-hosts state act r held h (ByPut reply g address bytes e p) = rw e (HostsHold-same state _ (record { producers = refl; consumers = refl }) refl h)
+shape-hosts state act r held h (ByTable reply x e t) = rw e (HostsHold-same state (tabled_by state x) (record { producers = refl; kept = refl; consumers = refl }) refl h)
+shape-hosts state act r held h (ByPair writer reader ty a e fits) = rw e (HostsHold-stays state (with_stream state writer reader ty) (record { producers = refl; kept = refl; consumers = refl }) (pair_stays state writer reader ty) h)
+shape-hosts state act r held h (ByGuest size a e fits) = rw e (HostsHold-same state _ (record { producers = refl; kept = refl; consumers = refl }) refl h)
+shape-hosts state act r held h (ByPut reply g address bytes e p) = rw e (HostsHold-same state _ (record { producers = refl; kept = refl; consumers = refl }) refl h)
 shape-hosts state act r held h (ByRest reply e none) = rw e h
 
 pub reaction-hosts : (state : State) (act : Act) → IsSound state → StateIsHeld state → HostsHold state → HostsHold (reaction state act).state

@@ -6,6 +6,7 @@ use Rattle.std.proofs.lemmas.List.{length-map}
 use Rattle.std.specs.Prelude.{IfErr, IsOk, nat_lt, nat_le, ◌||◌, ◌&&◌, not, IsTrue}
 use Rattle.strm_codes.specs.declared.refusals.Refusal.{Refusal}
 use Rattle.strm_codes.specs.declared.refusals.Refusal.TheVariants as refusals
+use Rattle.strm_machine.specs.Tests.{is_spent}
 use Rattle.strm_machine.specs.Words.{Payload, TransmitIndex, TransmitKind, AStream, Future, kind_of, payload_of, State, guest_in, stream_at, opposite, same_side, end_of, sizes_of, IsPlaced, Name, named, end_named, stream_named, has_ended, first_of, NamedEnd, Poke, Make, OnMemory, Side, Stream, without_handle, next_in, is_loose, OnLoose}
 use Rattle.strm_codes.specs.declared.codes.TransmitIndex.TheVariants as index
 use Rattle.strm_memory.specs.Items.{is_number_or_none}
@@ -229,6 +230,18 @@ lift_fits state side end e =
     let fits = side_fits state side end (leave_reasons_of (stream_at state (stream_named name)) side) both.0 in
     let idle = not_refused (is_busy side (stream_at state (stream_named name))) _ _ fits.rest in
     record { there = not_le (length state.guests) end.guest guest.0; found = fits.found; same = fits.same; idle = idle.0 }
+
+-- no value has passed where one is lifted
+pub lift_fresh : (state : State) (side : Side) (end : NamedEnd) → first_of (on_end_reasons state side end Lift) ≡ None → (stream_at state (stream_named (named state end))).passed ≡ false
+lift_fresh state side end e =
+    let name = named state end in
+    let stream = stream_at state (stream_named name) in
+    let guest = not_refused (is_unknown_guest state end.guest) _ _ e in
+    let both = none_of_both (handle_reasons name ++ own_reasons state side end Lift) (last_reasons state end Lift) guest.1 in
+    let fits = side_fits state side end (leave_reasons_of stream side) both.0 in
+    let idle = not_refused (is_busy side stream) _ _ fits.rest in
+    let spent = not_refused (is_spent side stream) _ _ idle.1 in
+    (neither (end_of side stream).told stream.passed spent.0).1
 
 -- an end that may go to a guest
 pub record MoveFits (state : State) (side : Side) (end : NamedEnd) (to : ℕ) : Type 0 where

@@ -123,6 +123,7 @@ pub record Owns (state : State) (reply : Reply) (x : Owning) : Type 0 where
   pub taken : IsTaken (guests_freed state.guests x.freed) x.owner x.taker
   pub unhosted : is_host x.owner ≡ false
   pub idle : is_loose x.owner ≡ true → (end_of x.side (stream_at state x.stream)).operation ≡ None
+  pub fresh : is_loose x.owner ≡ true → (stream_at state x.stream).passed ≡ false
 
 -- ## A table with its sets, and error contexts
 

@@ -1,5 +1,5 @@
 -- What each step leaves of memories: all bytes but those that it pokes or receives items at.
-use Rattle.std.proofs.Common.{Bool, List, None, Option, Some, [], ap, arith, cond, drop, false, get_or, inl, inr, length, length-append, length-set, min, refl, set, subst, suc, sym, take, zero, ℕ, ℤ, ◌*◌, ◌++◌, ◌+◌, ◌-◌, ◌<◌, ◌^◌, ◌∙◌, ◌∷◌, ◌≡◌, ◌≤◌}
+use Rattle.std.proofs.Common.{Bool, List, None, Option, Some, [], ap, arith, cond, drop, false, get_or, inl, inr, length, length-append, length-set, min, refl, set, subst, suc, sym, take, zero, ℕ, ℤ, ◌*◌, ◌++◌, ◌+◌, ◌-◌, ◌<◌, ◌^◌, ◌∙◌, ◌∷◌, ◌≡◌, ◌≤◌, ◌⊎◌}
 use Rattle.std.proofs.lemmas.Bool.{cases_eq, cases_lt, cond_both}
 use Rattle.std.proofs.lemmas.List.{append_assoc, get_or-set_same, get_or_append_left, length-map, take-append-drop}
 use Rattle.strm_machine.specs.Words.{Guest, item_size, scalars_of, ReturnCode, TransmitIndex, Payload, Scalar, Handles, Sets, no_handles, no_sets, Moment, names, received, advanced, carried, Reaction, goes, operates, written_back, end_of, opposite, same_side, with_operation, IsPlaced, IsSound, OperationIsPlaced, sizes_of, State, guest_in, memory_in, no_guest, no_stream, sets_in, stream_at, with_handles, with_memory, with_table, named, stream_named, Turn, with_received, Operation, Side, Reading, Writing, Stream, put_at, items_at, stored_at, NamedEnd, Act, Make, Reply}
@@ -194,7 +194,28 @@ back_stream : (state : State) (s : ℕ) (t : Turn) (code : Option ReturnCode) �
 back_stream state s t None l = get_or-set_same state.streams s t.stream no_stream l
 back_stream state s t (Some code) l = get_or-set_same state.streams s t.stream no_stream l
 
-operates_stays : (state : State) (side : Side) (end : NamedEnd) (address count : ℕ) → HasRoom state → Operates state side end address count → StaysAside (as_moment state (operating side end address count) (operates state side end address count))
+-- a write that finds no read changes no memory
+unread_guests : (guests : List Guest) (stream : Stream) (mine : Operation) → stream.reader.operation ≡ None → (turn Writing guests stream mine).guests ≡ guests
+unfolding turn
+unread_guests guests stream mine o =
+    cond_both (is_gone stream.reader.owner) _ _ (λ (t : Turn). t.guests ≡ guests)
+    (λ g. refl)
+    (λ g. subst (λ p. (finds Writing guests stream mine p).guests ≡ guests) (sym o) refl)
+
+-- a read or write that is called finds no read, or the count of its stream has room
+abbrev pub FindsRoom : State → Side → NamedEnd → Type 0
+FindsRoom state side end =
+    ((side ≡ Writing) × ((stream_on state end).reader.operation ≡ None)) ⊎ (received (stream_named (named state end)) state + 2 ^ 28 < 2 ^ 128)
+
+unread_stays : (state : State) (side : Side) (end : NamedEnd) (address count : ℕ) → side ≡ Writing → (stream_on state end).reader.operation ≡ None
+    → StaysAside (as_moment state (operating side end address count) (operates state side end address count))
+unread_stays state side end address count is o =
+    subst (λ k. StaysAside (as_moment state (operating k end address count) (operates state k end address count))) (sym is)
+    (let t = turn_on state Writing end address count in
+    StaysAside-same (as_moment state (operating Writing end address count) (operates state Writing end address count))
+    (back_guests state (stream_named (named state end)) t t.code ∙ unread_guests state.guests (stream_on state end) (begun_on end address count) o))
+
+operates_stays : (state : State) (side : Side) (end : NamedEnd) (address count : ℕ) → received (stream_named (named state end)) state + 2 ^ 28 < 2 ^ 128 → Operates state side end address count → StaysAside (as_moment state (operating side end address count) (operates state side end address count))
 operates_stays state side end address count room o =
     let s = stream_named (named state end) in
     let act = operating side end address count in
@@ -206,7 +227,7 @@ operates_stays state side end address count room o =
     let rises : received s m.after ≡ t.stream.received = ap (λ (st : Stream). st.received) (back_stream state s t t.code o.found.made) in
     let place : target s m ≡ place_by side stream mine = target_by side (names s Reading state act m.reply) end address count stream (named_itself state act m.reply s side Reading (o.found.named m.reply)) in
     let here : received_by s m ≡ region_by side stream mine t = region_same (target s m) (place_by side stream mine) _ _ place (ap (λ k. item_size (scalars_of stream.payload) * (k - stream.received)) rises) in
-    let stay = turn_stays side state.guests stream mine (room s) o.placed (end_placed (opposite side) (sizes_of state.guests) stream o.streams) in
+    let stay = turn_stays side state.guests stream mine room o.placed (end_placed (opposite side) (sizes_of state.guests) stream o.streams) in
     stays_received s m
     (subst (SizesStay state.guests) (sym guests) (SizesStay-kept state.guests t.guests (operate-keeps state side end address count o).guests.sizes))
     (λ r k apart. ap (λ gs. bytes_of gs r) guests ∙ stay r k (subst (LiesApart r) here apart))
@@ -245,8 +266,17 @@ pair_stays state writer reader ty =
     (omega (arith, length-set state.guests reader (record (guest_in state.guests reader) { handles = new })))
     (memory_in-with_table state.guests reader new (sets_in state.guests reader)) refl
 
-shape-stays : (state : State) (act : Act) (r : Reaction) → HasRoom state → Shape state act r → StaysAside (as_moment state act r)
-shape-stays state act r room (ByTurn side end address count a e o) = rw (a, e) (operates_stays state side end address count room o)
+-- so does whatever this act calls
+abbrev pub FindsRoomFor : State → Act → Type 0
+FindsRoomFor state act = (side : Side) (end : NamedEnd) (address count : ℕ) → act ≡ operating side end address count → Operates state side end address count → FindsRoom state side end
+
+shape-stays : (state : State) (act : Act) (r : Reaction) → FindsRoomFor state act → Shape state act r → StaysAside (as_moment state act r)
+shape-stays state act r room (ByTurn side end address count a e o) =
+    rw (a, e)
+    (elim (room side end address count a o) [
+      | inl none ↦ unread_stays state side end address count none.0 none.1
+      | inr l ↦ operates_stays state side end address count l o
+    ])
 shape-stays state act r room (BySetting reply x e set) = rw e (StaysAside-same (as_moment state act (goes reply (set_by state x))) refl)
 shape-stays state act r room (ByOwner reply x e o) =
     rw e (stays_all (as_moment state act (goes reply (owned_by state x))) (omega (arith, length-by state.guests x)) (λ g l. memory_in-by state.guests x g))
@@ -257,5 +287,8 @@ shape-stays state act r room (ByGuest size a e fits) = rw (a, e) (guest_stays st
 shape-stays state act r room (ByPut reply g address bytes e p) = rw e (bytes_stay state act reply g address bytes p)
 shape-stays state act r room (ByRest reply e none) = rw e (StaysAside-same (as_moment state act (goes reply state)) refl)
 
+pub reaction-stays_at : (state : State) (act : Act) → IsSound state → FindsRoomFor state act → StaysAside (as_moment state act (reaction state act))
+reaction-stays_at state act h room = shape-stays state act (reaction state act) room (reaction-shape state act h)
+
 pub reaction-stays : (state : State) (act : Act) → IsSound state → HasRoom state → StaysAside (as_moment state act (reaction state act))
-reaction-stays state act h room = shape-stays state act (reaction state act) room (reaction-shape state act h)
+reaction-stays state act h room = reaction-stays_at state act h (λ side end address count e o. inr (room (stream_named (named state end))))

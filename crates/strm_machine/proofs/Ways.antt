@@ -1,5 +1,6 @@
 -- The few ways in which a step changes the streams, whatever the state; in none of them a host writer gets
 -- the write end of a stream.
+use Rattle.std.specs.Prelude.{ℤ}
 use Rattle.std.proofs.Common.{◌≡◌, ℕ, zero, suc, Bool, List, [], ◌∷◌, ◌++◌, get_or, set, Option, Some, None, refl, sym, ap, subst, ◌∙◌}
 use Rattle.std.proofs.lemmas.Bool.{cond_both}
 use Rattle.strm_codes.specs.declared.codes.ReturnCode.{ReturnCode}
@@ -144,10 +145,10 @@ on_stream-from state s side mine =
 
 -- what is kept of host writers and of host readers
 abbrev pub Kept : Type 0
-Kept = List Producer × List Consumer
+Kept = List Producer × (List Consumer × List (List (List ℤ)))
 
 abbrev pub kept_in : State → Kept
-kept_in state = (state.producers, state.consumers)
+kept_in state = (state.producers, (state.consumers, state.kept))
 
 -- what is kept beside guests, streams and error contexts, and whether the reply lets a run go on
 pub record Standing : Type 0 where

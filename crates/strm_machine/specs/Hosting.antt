@@ -1,6 +1,6 @@
 -- What holds of every state that can be reached: host ends and streams agree. Ours.
-use Rattle.std.specs.Prelude.{◌≡◌, ℕ, List, length, slice_index_or, None}
-use Rattle.strm_machine.specs.State.{State, host_limit, no_producer, no_consumer, stream_at}
+use Rattle.std.specs.Prelude.{◌≡◌, ℕ, Bool, false, List, [], length, slice_index_or, None}
+use Rattle.strm_machine.specs.State.{State, host_limit, no_producer, no_consumer, producer_at, kept_at, stream_at, is_host}
 use Rattle.strm_machine.specs.Sides.{end_of}
 use Rattle.strm_machine.specs.declared.streams.Duty.{Duty}
 use Rattle.strm_machine.specs.declared.streams.Duty.TheVariants.{Serves}
@@ -26,8 +26,19 @@ pub record ServesOne (state : State) (side : Side) (n s : ℕ) : Type 0 where
   pub owns : duty_of side state n ≡ Serves s → (end_of side (stream_at state s)).owner ≡ Host n
   pub idle : (end_of side (stream_at state s)).owner ≡ Host n → (end_of side (stream_at state s)).operation ≡ None
 
+-- a host writer with this duty serves a stream that a host reader reads
+abbrev pub is_piped : State → Duty → Bool
+is_piped state (Serves s) = is_host (stream_at state s).reader.owner
+is_piped state duty = false
+
+-- only then are items of host writer n kept
+abbrev pub KeepsForPipe : State → ℕ → Type 0
+KeepsForPipe state n = is_piped state (producer_at state n).duty ≡ false → kept_at state n ≡ []
+
 -- the same of all host ends
 pub record HostsHold (state : State) : Type 0 where
   pub all : length state.producers ≡ host_limit
+  pub all_kept : length state.kept ≡ host_limit
   pub all_readers : length state.consumers ≡ host_limit
   pub serve : (side : Side) (n s : ℕ) → ServesOne state side n s
+  pub keeps : (n : ℕ) → KeepsForPipe state n

@@ -2,7 +2,7 @@
 -- between them, the host ends that it knows, and error contexts.
 -- Component Model, "Stream State", "Waitable State" and `ErrorContext`; wasmtime,
 -- futures_and_streams.rs.
-use Rattle.std.specs.Prelude.{ℕ, ◌+◌, ◌*◌, Bool, false, true, ◌&&◌, not, List, [], length, replicate, slice_index_or, slice_set, sum_by, count_by, None}
+use Rattle.std.specs.Prelude.{ℕ, ℤ, ◌+◌, ◌*◌, Bool, false, true, ◌&&◌, not, List, [], length, replicate, slice_index_or, slice_set, sum_by, count_by, None}
 use Rattle.strm_codes.specs.declared.codes.TransmitKind.TheVariants.{Stream as AStream}
 use Rattle.strm_codes.specs.declared.payloads.Payload.TheVariants.{Nothing}
 use Rattle.strm_handles.specs.Handles.{Handles, no_handles, live_of}
@@ -35,6 +35,8 @@ pub record State : Type 0 where
   -- of each host writer, by its number, what is kept of it. Ours: wasmtime keeps its producers in
   -- the streams
   pub producers : List Producer
+  -- and its items that are kept: those that a host reader, which reads its stream, did not take yet
+  pub kept : List (List (List ℤ))
   -- of each host reader, by its number, what is kept of it
   pub consumers : List Consumer
   pub contexts : Contexts
@@ -50,7 +52,7 @@ no_producer = record { duty = Unused; over = false }
 
 -- a host reader that was never used
 abbrev pub no_consumer : Consumer
-no_consumer = record { duty = Unused; since = 0 }
+no_consumer = record { duty = Unused; since = 0; resting = false }
 
 -- no guest, no stream and no error context, under these limits
 abbrev pub empty : ℕ → Limits → State
@@ -60,6 +62,7 @@ empty tag limits = record {
   guests = [];
   streams = [];
   producers = replicate host_limit no_producer;
+  kept = replicate host_limit [];
   consumers = replicate host_limit no_consumer;
   contexts = no_contexts;
   trapped = false;
@@ -148,6 +151,10 @@ no_stream = record {
 -- what is kept of the host writer of a number
 abbrev pub producer_at : State → ℕ → Producer
 producer_at state n = slice_index_or state.producers n no_producer
+
+-- the items of it that are kept
+abbrev pub kept_at : State → ℕ → List (List ℤ)
+kept_at state n = slice_index_or state.kept n []
 
 -- what is kept of the host reader of a number
 abbrev pub consumer_at : State → ℕ → Consumer

@@ -3,6 +3,7 @@
 //! Source: wasmtime, `futures_and_streams.rs`, `TransmitState` with its read and write states,
 //! of which a fact has one place here.
 
+use std::fmt;
 use strm_codes::codes::{StreamResult, TransmitKind};
 use strm_codes::counts::ItemCount;
 use strm_codes::payloads::Payload;
@@ -65,6 +66,9 @@ pub struct Consumer {
     /// Items that it took since its last answer of Completed or Cancelled; it stays at 2^32 - 1 once
     /// there.
     pub since: u32,
+    /// It reads from a host writer, and its last answer was Pending: it is polled again before the
+    /// writer is.
+    pub resting: bool,
 }
 
 /// A host end, by its number.
@@ -72,6 +76,15 @@ pub struct Consumer {
 pub enum HostEnd {
     Writer(u32),
     Reader(u32),
+}
+
+impl fmt::Display for HostEnd {
+    fn fmt<W: fmt::Write>(&self, f: &mut fmt::Formatter<W>) -> fmt::Result {
+        match self {
+            HostEnd::Writer(number) => write!(f, "host writer {number}"),
+            HostEnd::Reader(number) => write!(f, "host reader {number}"),
+        }
+    }
 }
 
 /// A guest's read or write that has not ended. The next item lies at `address`, in bytes, or is to

@@ -41,6 +41,7 @@ pub fn copy_items(
 }
 
 /// The same from an address and to one, of any number of items.
+#[inline(always)]
 pub fn copy_region(
     source: &[u8],
     from: usize,
@@ -59,23 +60,43 @@ pub fn copy_region(
     ensures numbers { IsTrue (is_number_or_none payload) → destination.new ≡ put_at destination.old to
         (bytes_at source.now from (item_size (scalars_of payload) * count)) }
 {
-    let size = payload.size() as usize;
     match payload {
         Payload::Nothing => Ok(()),
         Payload::One(scalar) if scalar.is_whole_number() => {
-            copy_bytes(source, from, destination, to, size * count);
+            let len = payload.size() as usize * count;
+            copy_bytes(source, from, destination, to, len);
             Ok(())
         }
-        _ => copy_fields(
-            source,
-            from,
-            destination,
-            to,
-            payload.scalars(),
-            size,
-            count,
-        ),
+        _ => copy_tested(source, from, destination, to, payload, count),
     }
+}
+
+// The same of a payload that is neither nothing nor a plain number, apart from the code of those.
+#[inline(never)]
+fn copy_tested(
+    source: &[u8],
+    from: usize,
+    destination: &mut [u8],
+    to: usize,
+    payload: Payload,
+    count: usize,
+) -> Result<(), BadItem>
+    requires source_holds { from + item_size (scalars_of payload) * count ≤ length source.now }
+    requires room { to + item_size (scalars_of payload) * count ≤ length destination.old }
+    ensures ok { OnOk result (IsSomeAnd (items_at (scalars_of payload) source.now from count)
+        (λ xs. destination.new ≡ stored_at (scalars_of payload) destination.old to xs)) }
+    ensures bad { IsErr result ↔ IsNone (items_at (scalars_of payload) source.now from count) }
+    ensures err { OnErr result (destination.new ≡ destination.old) }
+{
+    copy_fields(
+        source,
+        from,
+        destination,
+        to,
+        payload.scalars(),
+        payload.size() as usize,
+        count,
+    )
 }
 
 // The same where items have characters, flags or padding: all are tested first, then copied.

@@ -13,13 +13,16 @@ use strm_codes::counts::ItemCount;
 use strm_codes::payloads::Payload;
 use strm_codes::scalars::Scalar;
 use strm_codes::values::Value;
+use thiserror::Error;
 
 /// Why items were not lifted. The vector is as it was.
-#[derive(Clone, Copy, Debug, PartialEq, Eq)]
+#[derive(Clone, Copy, Debug, PartialEq, Eq, Error)]
 pub enum LiftError {
     /// The first item, from 0, that holds a character which is no Unicode scalar value.
+    #[error("item {index} is no Unicode scalar value")]
     BadItem { index: u32 },
     /// The vector had no room and could not grow.
+    #[error("out of memory")]
     OutOfMemory,
 }
 

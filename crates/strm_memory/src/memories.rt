@@ -15,6 +15,7 @@ use std::marker::Model;
 use strm_codes::counts::{ItemCount, OutOfMemory};
 use strm_codes::payloads::Payload;
 use strm_codes::values::Value;
+use thiserror::Error;
 
 /// The bytes of a guest. Addresses begin at 0.
 #[derive(Drop)]
@@ -31,15 +32,18 @@ impl Model for GuestMemory {
 }
 
 /// Some bytes pass the memory's end.
-#[derive(Clone, Copy, Debug, PartialEq, Eq)]
+#[derive(Clone, Copy, Debug, PartialEq, Eq, Error)]
+#[error("the bytes pass the memory's end")]
 pub struct OutOfBounds;
 
 /// Why no items may lie there.
-#[derive(Clone, Copy, Debug, PartialEq, Eq)]
+#[derive(Clone, Copy, Debug, PartialEq, Eq, Error)]
 pub enum RegionError {
     /// The region passes the memory's end.
+    #[error("the region passes the memory's end")]
     OutOfBounds,
     /// The address is no multiple of the payload's alignment.
+    #[error("the address is not aligned")]
     NotAligned,
 }
 
@@ -133,6 +137,7 @@ impl GuestMemory {
     }
 
     /// Whether so many items may lie from an address on. Takes no memory.
+    #[inline(always)]
     pub fn region(
         &self,
         payload: Payload,
@@ -156,6 +161,7 @@ impl GuestMemory {
 
     /// Copies so many items from an address of another memory to one of this, as by lifting all of
     /// them and then lowering them. Takes no memory.
+    #[inline(always)]
     pub fn receive(
         &mut self,
         address: u32,

@@ -21,7 +21,7 @@ const PIECE: usize = 65_536;
 /// Why an input was not had.
 #[derive(Clone, Copy, Debug, PartialEq, Eq, Error)]
 pub enum InputError {
-    /// It has more than `MAX_BYTES` bytes.
+    /// It has more bytes than were to be read.
     #[error("too long")]
     TooLong,
     /// A read failed.
@@ -71,9 +71,31 @@ pub fn read_all<S: Source>(alloc: Global, source: &mut S) -> Result<TextBytes, I
         × (length front ≤ MAX_BYTES + 1) }
     ensures later { S.faults source.old ≤ S.faults source.new }
 {
+    read_within(alloc, source, MAX_BYTES as u32)
+}
+
+/// Reads a source to its end, where it has at most so many bytes. It asks for at most one byte more.
+pub fn read_within<S: Source>(
+    alloc: Global,
+    source: &mut S,
+    most: u32,
+) -> Result<TextBytes, InputError>
+    ensures ok { IfOk result (λ text. IfSome (S.left source.old) (λ bytes. text ≡ bytes)) }
+    ensures end { OnOk result (IsAtEnd (S.left source.new)) }
+    ensures within { IfOk result (λ text. length text ≤ most) }
+    ensures too_long { result ≡ Err InputError.TooLong →
+        IfSome (S.left source.old) (λ bytes. most < length bytes) }
+    ensures fault { result ≡ Err InputError.Fault →
+        Rose (S.faults source.old) (S.faults source.new) }
+
+    // Whatever is answered: what was read is gone from the front, and no more than that.
+    ensures read { (front : List ℕ) × Consumes (S.left source.old) (S.left source.new) front
+        × (length front ≤ most + 1) }
+    ensures later { S.faults source.old ≤ S.faults source.new }
+{
     let mut piece = make_piece(alloc, PIECE)?;
     let mut text = TextBytes::new(alloc);
-    let mut room = MAX_BYTES + 1;
+    let mut room = most as usize + 1;
     while room > 0 {
         let count = read_piece(source, &mut piece, room)?;
         if count == 0 {

@@ -3,3 +3,4 @@ pub mod Polls
 pub mod ReaderPolls
 pub mod Turning
 pub mod Taking
+pub mod Piping

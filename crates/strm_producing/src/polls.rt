@@ -20,6 +20,7 @@ use strm_turns::guests::Guest;
 
 /// Polls a host writer once for a read, which receives what there was room for: what it answered, and
 /// how many items those are. The memory is lent, and not copied.
+#[inline(always)]
 pub fn poll_into(
     alloc: Global,
     guests: &mut Vec<Guest>,

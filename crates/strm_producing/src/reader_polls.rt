@@ -20,6 +20,7 @@ use strm_turns::guests::Guest;
 
 /// Polls a host reader once with the items that a write has left, so many being taken since it was last
 /// ready: its record. The memory is lent, and not copied.
+#[inline(always)]
 pub fn poll_from(
     alloc: Global,
     guests: &mut Vec<Guest>,

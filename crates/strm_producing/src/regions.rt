@@ -20,6 +20,7 @@ use strm_machine::streams::Operation;
 use strm_turns::guests::{Guest, put_memory, take_memory};
 
 // Where the next items of a read or write lie. Those that take no bytes lie anywhere, so at the front.
+#[inline(always)]
 fn region_address(payload: &Payload, operation: &Operation) -> u32
     ensures { result ≡ region_address payload.now operation.now }
 {

@@ -11,13 +11,14 @@ ghost use Rattle.strm_world.specs.Producing.{produced_result};
 ghost use Rattle.strm_world.specs.Settling.{result_of, settled, with_some_received, let_go, moved_on};
 
 use strm_buffers::answers::Answer;
-use strm_codes::codes::StreamResult;
+use strm_codes::codes::{StreamResult, TransmitKind};
 use strm_codes::counts::ItemCount;
 use strm_machine::streams::{Operation, Owner, Side, Stream};
 use strm_turns::sides::{opposite, set_operation};
-use strm_turns::turns::{go_on, receive};
+use strm_turns::turns::go_on;
 
 /// So many items as a count.
+#[inline(always)]
 pub fn count_of(items: u32) -> ItemCount
     requires { items < 2 ^ 28 }
     ensures { result ≡ items }
@@ -29,6 +30,7 @@ pub fn count_of(items: u32) -> ItemCount
 }
 
 /// How an answer settles an operation.
+#[inline(always)]
 pub fn result_of(answer: Answer) -> Option<StreamResult>
     ensures { result ≡ result_of answer }
 {
@@ -51,6 +53,7 @@ pub fn produced_result(answer: Answer, held: usize) -> Option<StreamResult>
 }
 
 // An operation that is settled so, if it is.
+#[inline(always)]
 fn settle(operation: Operation, outcome: Option<StreamResult>) -> Operation
     ensures { result ≡ settled outcome operation }
 {
@@ -63,16 +66,19 @@ fn settle(operation: Operation, outcome: Option<StreamResult>) -> Operation
     next
 }
 
-// So many items more were received, if any.
-fn receive_some(stream: &mut Stream, count: ItemCount)
+/// So many items more were received, if any.
+#[inline(always)]
+pub fn receive_some(stream: &mut Stream, count: u32)
     ensures { stream.new ≡ with_some_received stream.old count }
 {
-    if count.as_u32() > 0 {
-        receive(stream, count);
+    if count > 0 {
+        stream.passed = stream.passed || stream.kind == TransmitKind::Future;
+        stream.received = stream.received.saturating_add(u128::from(count));
     }
 }
 
 // A host end that is done with the stream is gone.
+#[inline(always)]
 fn let_go(stream: &mut Stream, side: Side, outcome: Option<StreamResult>)
     ensures { stream.new ≡ let_go side outcome stream.old }
 {
@@ -86,6 +92,7 @@ fn let_go(stream: &mut Stream, side: Side, outcome: Option<StreamResult>)
 
 /// So many items of the operation on a side came from the host end on the other side, or went to it,
 /// and the operation is settled so, if it is.
+#[inline(always)]
 #[tactic(auto, unfolding(strm_world::specs::Settling::moved_on))]
 pub fn move_on(
     stream: &mut Stream,
@@ -100,7 +107,7 @@ pub fn move_on(
     ensures { stream.new ≡ moved_on side stream.old operation.now count outcome }
 {
     let gone = go_on(stream.payload, operation, count);
-    receive_some(stream, count);
+    receive_some(stream, count.as_u32());
     set_operation(stream, side, settle(gone, outcome));
     let_go(stream, opposite(side), outcome);
 }

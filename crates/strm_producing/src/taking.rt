@@ -17,22 +17,28 @@ use strm_buffers::readers::HostReader;
 use strm_codes::codes::TransmitKind;
 use strm_machine::streams::{Consumer, Operation, Side, Stream};
 use strm_turns::guests::Guest;
+use thiserror::Error;
 
 /// Why a turn of a host reader stops its step.
-#[derive(Clone, Copy, Debug, PartialEq, Eq)]
+#[derive(Clone, Copy, Debug, PartialEq, Eq, Error)]
 pub enum TakeError {
     /// The host reader failed.
+    #[error("the host reader failed")]
     Failed,
     /// Memory was wanting. No record was added.
+    #[error("out of memory")]
     OutOfMemory,
     /// The host reader asked for an item that is no Unicode scalar value.
+    #[error("the host reader asked for an item that is no Unicode scalar value")]
     BadItem,
     /// The host reader broke its rules.
+    #[error("the host reader broke its rules")]
     Broke,
 }
 
-// Why a poll with this record stops the step, if it does.
-fn judge(kind: TransmitKind, said: &ReaderSaid) -> Result<(), TakeError>
+/// Why a poll with this record stops the step, if it does.
+#[inline(always)]
+pub(crate) fn judge(kind: TransmitKind, said: &ReaderSaid) -> Result<(), TakeError>
     ensures { result ≡ judged kind said.now }
 {
     if said.answer == Answer::Failed {
@@ -47,9 +53,9 @@ fn judge(kind: TransmitKind, said: &ReaderSaid) -> Result<(), TakeError>
     Ok(())
 }
 
-// How many items were taken since the host reader was last ready, once it took so many more and
-// answered so.
-fn since_after(answer: Answer, since: u32, taken: u32) -> u32
+/// How many items were taken since the host reader was last ready, once it took so many more and
+/// answered so.
+pub(crate) fn since_after(answer: Answer, since: u32, taken: u32) -> u32
     ensures { result ≡ since_after answer since taken }
 {
     match answer {
@@ -59,6 +65,7 @@ fn since_after(answer: Answer, since: u32, taken: u32) -> u32
 }
 
 // One poll with the items that a write has left.
+#[inline(always)]
 fn poll_once(
     alloc: Global,
     guests: &mut Vec<Guest>,
@@ -91,6 +98,7 @@ fn poll_once(
 
 /// The turn of a stream's host reader for the open write on it: it is polled once with the items that
 /// the write has left. The guests stay as they are. Only the poll takes memory.
+#[inline(always)]
 pub fn consumer_turn(
     alloc: Global,
     guests: &mut Vec<Guest>,

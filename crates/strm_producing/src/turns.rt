@@ -23,20 +23,24 @@ use strm_codes::codes::{StreamResult, TransmitKind};
 use strm_codes::counts::ItemCount;
 use strm_machine::streams::{Operation, Producer, Side, Stream};
 use strm_turns::guests::Guest;
+use thiserror::Error;
 
 /// Why a turn stops its step.
-#[derive(Clone, Copy, Debug, PartialEq, Eq)]
+#[derive(Clone, Copy, Debug, PartialEq, Eq, Error)]
 pub enum TurnError {
     /// The host writer failed.
+    #[error("the host writer failed")]
     Failed,
     /// Memory was wanting. No record was added.
+    #[error("out of memory")]
     OutOfMemory,
     /// The host writer broke its rules.
+    #[error("the host writer broke its rules")]
     Broke,
 }
 
-// A writer that answered Dropped has no more to come.
-fn note_last(producer: &mut Producer, answer: Answer)
+/// A writer that answered Dropped has no more to come.
+pub(crate) fn note_last(producer: &mut Producer, answer: Answer)
     ensures { producer.new ≡
         record producer.old { over = producer.old.over || is_last answer } }
 {
@@ -44,6 +48,7 @@ fn note_last(producer: &mut Producer, answer: Answer)
 }
 
 // Why an answer to a poll for a read, in which so many items were produced, stops the step, if it does.
+#[inline(always)]
 fn judge(
     kind: TransmitKind,
     answer: Answer,
@@ -62,6 +67,7 @@ fn judge(
 }
 
 // Held items are handed over, as many as there is room for. Takes no memory.
+#[inline(always)]
 fn hand_over(
     alloc: Global,
     guests: &mut Vec<Guest>,
@@ -93,6 +99,7 @@ fn hand_over(
 }
 
 // A writer that has no more to come, and holds nothing, is gone.
+#[inline(always)]
 fn end_read(stream: &mut Stream, read: Operation)
     requires { read.moved + read.left < 2 ^ 28 }
     ensures { stream.new ≡ moved_on Reading stream.old read 0 (Some Dropped) }
@@ -107,6 +114,7 @@ fn end_read(stream: &mut Stream, read: Operation)
 }
 
 // One poll, of a writer that holds nothing and has more to come.
+#[inline(always)]
 fn poll_once(
     alloc: Global,
     guests: &mut Vec<Guest>,
@@ -146,6 +154,7 @@ fn poll_once(
 
 /// The turn of a stream's host writer for the open read on it: what the writer holds is handed over,
 /// or else it is polled once, unless it has no more to come. Only the poll takes memory.
+#[inline(always)]
 pub fn producer_turn(
     alloc: Global,
     guests: &mut Vec<Guest>,

@@ -8,6 +8,7 @@ ghost use Rattle.strm_resources.specs.Errors.{error_text};
 ghost use Rattle.strm_resources.specs.declared.errors.ResourceTableError.TheVariants.{OutOfMemory};
 
 use std::alloc::AllocError;
+use std::error::Error;
 use std::fmt;
 
 /// An error of a resource table. All but want of memory are refusals, which change nothing.
@@ -53,6 +54,8 @@ impl fmt::Display for ResourceTableError {
         write!(f, "{text}")
     }
 }
+
+impl Error for ResourceTableError {}
 
 impl From<AllocError> for ResourceTableError {
     ghost from_gives = { λ _ e. e ≡ OutOfMemory };

@@ -8,3 +8,4 @@ pub mod ServingLemmas
 pub mod LawLemmas
 pub mod KeptLemmas
 pub mod SuppliedLemmas
+pub mod GeneratedLemmas

@@ -1,10 +1,11 @@
 -- Among host ends a store that is not trapped answers for itself, and is not trapped where it goes on.
-use Rattle.std.proofs.Common.{◌≡◌, ◌≢◌, ℕ, Bool, true, false, cond, List, [], ◌∷◌, take, drop, Option, Some, None, refl, sym, ◌∙◌}
+use Rattle.std.proofs.Common.{◌≡◌, ◌≢◌, ℕ, Bool, true, false, ◌||◌, cond, List, [], ◌∷◌, length, take, drop, Option, Some, None, refl, sym, ◌∙◌}
 use Rattle.std.proofs.lemmas.Bool.{cond_both}
 use Rattle.strm_codes.specs.declared.codes.ReturnCode.{ReturnCode}
 use Rattle.strm_codes.specs.declared.codes.TransmitKind.{TransmitKind}
 use Rattle.strm_codes.specs.declared.refusals.Refusal.{Refusal}
 use Rattle.strm_buffers.specs.Listing.{Item}
+use Rattle.strm_buffers.specs.declared.answers.Answer.{Answer}
 use Rattle.strm_buffers.specs.declared.answers.ReaderSaid.{ReaderSaid}
 use Rattle.strm_buffers.specs.Said.{WriterSaid}
 use Rattle.strm_buffers.specs.HostRules.{breaks_as_writer, breaks_as_reader}
@@ -31,15 +32,16 @@ use Rattle.strm_machine.specs.declared.streams.Owner.TheVariants.{Host, Gone}
 use Rattle.strm_machine.specs.declared.streams.Side.{Side}
 use Rattle.strm_machine.specs.declared.streams.Side.TheVariants.{Writing, Reading}
 use Rattle.strm_machine.specs.declared.streams.Stream.{Stream}
-use Rattle.strm_world.specs.World.{World, stream_in, writer_at, reader_at, with_writer, with_consumer, with_reader, leaves_writer, leaves_reader, with_stream_in}
+use Rattle.strm_world.specs.World.{World, stream_in, writer_at, reader_at, held_of, with_kept, with_writer, with_reader, leaves_writer, leaves_reader, with_stream_in}
 use Rattle.strm_world.specs.Ends.{polled_writer, polled_reader}
 use Rattle.strm_world.specs.Outcomes.{Outcome, Goes, Stops, Stuck, stops, done, then_on, of_reply}
-use Rattle.strm_world.specs.Polls.{AfterWriter, is_failed, is_writer_poll, writer_judged, writer_says, AfterReader, is_reader_poll, reader_judged, reader_says}
+use Rattle.strm_world.specs.Polls.{AfterWriter, is_failed, is_writer_poll, writer_judged, writer_says, polls_writer, AfterReader, is_reader_poll, reader_judged, reader_says, polls_reader}
 use Rattle.strm_world.specs.Producing.{receives, with_over, produced_result, is_produced, produces, producer_turn}
 use Rattle.strm_world.specs.Consuming.{lifted, with_taken, gives_up, consumer_turn}
 use Rattle.strm_world.specs.Settling.{answered_with}
+use Rattle.strm_world.specs.Piping.{wants_items, fetches, gathered, passed_on, offers, is_done_with, is_run_dry, both_gone, ends_if_done, pipe_round}
 use Rattle.strm_world.specs.Driving.{if_open, driven_by, drive_turn, driven}
-use Rattle.strm_world.specs.Attaching.{hosts_new, is_dry, piped, without_ends, piped_by, pipes, forsakes}
+use Rattle.strm_world.specs.Attaching.{has_items, hosts_new, is_dry, piped, without_ends, piped_by, pipes, forsakes}
 use Rattle.strm_world.specs.HostRefusals.{refusal_in}
 use Rattle.strm_world.specs.Steps.{reacts, operates_by, drops_in, on_host, performs_by, performs_in, unless_refused_in, outcome, step_of}
 use Rattle.strm_world.proofs.TouchLemmas.{touch-by}
@@ -140,6 +142,34 @@ consumer_turn-runs world s r write t =
     (λ after said. done (gives_up (with_taken after r said.answer said.taken) s write said.taken said.answer))
     t (λ w x k. with_stream-runs _ s _ k)
 
+-- THE ROUND OF A PIPE
+
+fetches-runs : (world : World) (s n r : ℕ) → IsRunning world → Running (fetches world s n r)
+fetches-runs world s n r t =
+    cond_both (wants_items world n r) (polls_writer world s n None false (λ after said. done (with_kept (with_over after n said.answer) n said.items))) (done world) Running
+    (λ w. says-runs world s n None false (writer_at world n).coming (λ after said. done (with_kept (with_over after n said.answer) n said.items)) t (λ after said k. k))
+    (λ w. t)
+
+offers-runs : (world : World) (s n r : ℕ) (next : World → Option Answer → Outcome) → IsRunning world → ((w : World) (answer : Option Answer) → IsRunning w → Running (next w answer)) → Running (offers world s n r next)
+offers-runs world s n r next t h =
+    let held = held_of world n in
+    let goes_on : AfterReader = λ after said. next (passed_on after s n r said.answer said.taken) (Some said.answer) in
+    cond_both (has_items held || (consumer_at world.state r).resting) (polls_reader (gathered world n) s r (length held) false (λ k. take k held) goes_on) (next world None) Running
+    (λ o. reader_says-runs (gathered world n) s r (length held) false (λ k. take k held) (reader_at (gathered world n) r).coming goes_on t
+    (λ after said k. h (passed_on after s n r said.answer said.taken) (Some said.answer) (with_stream-runs _ s _ k)))
+    (λ o. h world None t)
+
+ends_if_done-runs : (world : World) (s n r : ℕ) (answer : Option Answer) → IsRunning world → Running (ends_if_done world s n r answer)
+ends_if_done-runs world s n r answer t =
+    cond_both (is_done_with (stream_in world s).kind answer || is_run_dry world n r) (done (both_gone world s n)) (done world) Running
+    (λ d. with_stream-runs world s (without_ends (stream_in world s)) t) (λ d. t)
+
+pipe_round-runs : (world : World) (s n r : ℕ) → IsRunning world → Running (pipe_round world s n r)
+unfolding pipe_round
+pipe_round-runs world s n r t =
+    then-runs (fetches world s n r) (λ fetched. offers fetched s n r (λ after answer. ends_if_done after s n r answer)) (fetches-runs world s n r t)
+    (λ fetched k. offers-runs fetched s n r (λ after answer. ends_if_done after s n r answer) k (λ after answer. ends_if_done-runs after s n r answer))
+
 -- A STEP
 
 answered-runs : (world : World) (s : ℕ) (side : Side) (code : Option ReturnCode) → IsRunning world → Running (answered_with world s side code)
@@ -151,7 +181,7 @@ open-runs world None turn t h = t
 open-runs world (Some operation) turn t h = cond_both operation.is_open (turn operation) (done world) Running (λ o. h operation) (λ o. t)
 
 driven_by-runs : (world : World) (s : ℕ) (stream : Stream) (writer reader : Owner) → IsRunning world → Running (driven_by world s stream writer reader)
-driven_by-runs world s stream (Host n) (Host r) t = t
+driven_by-runs world s stream (Host n) (Host r) t = pipe_round-runs world s n r t
 driven_by-runs world s stream (Host n) _ t = open-runs world stream.reader.operation _ t (λ o. turn-runs world s n o t)
 driven_by-runs world s stream _ (Host r) t = open-runs world stream.writer.operation _ t (λ o. consumer_turn-runs world s r o t)
 driven_by-runs world s stream _ _ t = t

@@ -1,12 +1,13 @@
 -- The words of the program, and what a status tells.
 use Rattle.std.specs.Prelude.{IfSome}
-use Rattle.std.proofs.Common.{◌≡◌, ◌≢◌, ◌⊎◌, ℕ, ◌≤◌, List, [], ◌∷◌, length, map, get_or, Option, Some, None, refl, sym, ap, ◌∙◌, subst, ⊎_elim, arith}
+use Rattle.std.proofs.Common.{◌≡◌, ◌≢◌, ◌⊎◌, ℕ, ◌≤◌, List, [], ◌∷◌, length, map, get_or, Option, Some, None, refl, sym, ap, ◌∙◌, subst, ⊎_elim, decimal, arith}
 use Rattle.std.proofs.lemmas.Bool.{cases_eq}
 use Rattle.std.specs.Prelude.{codes}
 use Rattle.strm_machine.specs.declared.steps.Step.{Step}
 use Rattle.strm_ports.specs.Faults.{Rose}
+use Rattle.strm_lines.specs.Grammar.{IsU32}
 use Rattle.strm_lines.specs.Lines.{lines_of, Spells, IsFirstBad, IsTooLong}
-use Rattle.strm_session.specs.Serving.{IsRun, IsStop, IsStatusOf, PlaysOn, HaltsWith, StandsFor, IsOutput}
+use Rattle.strm_session.specs.Serving.{IsRun, IsGen, IsStop, IsStatusOf, PlaysOn, HaltsWith, StandsFor, IsOfInput, IsOutput}
 use Rattle.strm_world.specs.Ends.{Writer, Reader}
 use Rattle.strm_world.specs.World.{World}
 use Rattle.strm_world.specs.HostPlays.{Played, play, Ends, Halts}
@@ -32,7 +33,7 @@ one_word f (y ∷ []) x word l e = (
 one_word f (y ∷ z ∷ more) x word l e = absurd (omega (arith, l))
 
 -- the statuses of a text
-abbrev Known : ℕ → Type 0
+abbrev pub Known : ℕ → Type 0
 Known status = (status ≤ 4) ⊎ IsStop status
 
 zero_of : (status : ℕ) → Known status → status ≢ 1 → status ≢ 2 → status ≢ 3 → status ≢ 4 → (IsStop status → ⊥) → status ≡ 0
@@ -86,50 +87,42 @@ module _ (old new : Tells) (steps : List Step) (told : List Reply) (status : ℕ
   stands_for (causes.BadItem x) why stop s h halts = subst (StandsFor status) (ap stop_in (sym h.1 ∙ halts.3)) s.0
   stands_for causes.OutOfMemory why stop s h halts = absurd s
 
-three_of : (status : ℕ) → status ≢ 1 → status ≢ 4 → (status ≢ 3 → ⊥) → status ≡ 3
-three_of status a d n = ⊎_elim (λ e. e) (λ e. absurd (n e)) (cases_eq status 3)
+three_of : (status : ℕ) → status ≢ 4 → (status ≢ 3 → ⊥) → status ≡ 3
+three_of status d n = ⊎_elim (λ e. e) (λ e. absurd (n e)) (cases_eq status 3)
 
-one_of : (status : ℕ) → (status ≢ 1 → ⊥) → status ≡ 1
-one_of status n = ⊎_elim (λ e. e) (λ e. absurd (n e)) (cases_eq status 1)
-
-module _ {words : List (List ℕ)} {rest : Option (List ℕ)} {old new : Tells} {before after status : ℕ} {text : List ℕ} where
+module _ {rest : Option (List ℕ)} {old new : Tells} {before after status : ℕ} {text : List ℕ} where
   -- what is told of an input that was read is told of its source, which is at its end then
-  pub told_of_source : (left : Option (List ℕ)) (input : List ℕ) → IsRun words → IfSome left (λ bytes. input ≡ bytes) → IsAtEnd rest → IsOutput (codes "run" ∷ []) (Some input) (Some []) old new before after status text → IsOutput words left rest old new before after status text
-  told_of_source None input r e end h = record {
+  pub told_of_source : (left : Option (List ℕ)) (input : List ℕ) → IfSome left (λ bytes. input ≡ bytes) → IsAtEnd rest → IsOfInput (Some input) (Some []) old new before after status text → IsOfInput left rest old new before after status text
+  told_of_source None input e end h = record {
     known = h.known;
-    runs = λ _. r;
+    called = h.called;
     done = λ _. tt;
-    usage = λ s. absurd ((h.usage s).0 refl);
     bad_line = λ s. let bad = h.bad_line s in (bad.0, tt, bad.2);
     too_long = λ s. (tt, (h.too_long s).1);
     read_fault = h.read_fault;
     stopped = λ _. tt;
     unrun = h.unrun;
-    within = λ _ _ _. tt;
-    whole = λ _ _ _. end;
+    within = λ _ _. tt;
+    whole = λ _ _. end;
     whole_lines = λ _ _ _ _. end;
   }
-  told_of_source (Some bytes) input r e end h =
-      let k = subst (λ b. IsOutput (codes "run" ∷ []) (Some b) (Some []) old new before after status text) e h in
+  told_of_source (Some bytes) input e end h =
+      let k = subst (λ b. IsOfInput (Some b) (Some []) old new before after status text) e h in
       record {
         known = k.known;
-        runs = λ _. r;
+        called = k.called;
         done = k.done;
-        usage = λ s. absurd ((k.usage s).0 refl);
         bad_line = k.bad_line;
         too_long = k.too_long;
         read_fault = k.read_fault;
         stopped = k.stopped;
         unrun = k.unrun;
         within = k.within;
-        whole = λ _ _ _. end;
+        whole = λ _ _. end;
         whole_lines = λ _ _ _ _. end;
       }
 
-  module _ (input : List ℕ) (h : IsOutput words (Some input) rest old new before after status text) (r : IsRun words) (calm : Rose before after → ⊥) where
-    not_usage : status ≢ 1
-    not_usage q = (h.usage q).0 r
-
+  module _ (input : List ℕ) (h : IsOfInput (Some input) rest old new before after status text) (calm : Rose before after → ⊥) where
     not_fault : status ≢ 4
     not_fault q = calm (h.read_fault q).0
 
@@ -141,7 +134,7 @@ module _ {words : List (List ℕ)} {rest : Option (List ℕ)} {old new : Tells} 
         -- a run that the machine plays to its end is done
         ends_of : PlaysOn (start_among old new) steps → status ≡ 0
         ends_of plays =
-            zero_of status h.known not_usage no_bad_line (λ q. long (h.too_long q).0) not_fault
+            zero_of status h.known h.called no_bad_line (λ q. long (h.too_long q).0) not_fault
             (λ q.
             let stopped = h.stopped q in
             let same = one_spelling (lines_of input) stopped.steps steps stopped.spelled s in
@@ -154,8 +147,8 @@ module _ {words : List (List ℕ)} {rest : Option (List ℕ)} {old new : Tells} 
             let undone : status ≢ 0 = λ q.
             let done = h.done q in
             let same = one_spelling (lines_of input) done.steps steps done.spelled s in
-            halts_no_end halts.0 done.replies stop halts.1 halts.2 _ (sym halts.3 ∙ ap (play [] (start_among old new)) (sym same) ∙ done.played) in
-            let stopped = h.stopped (stop_of_known status h.known undone not_usage no_bad_line (λ q. long (h.too_long q).0) not_fault) in
+            halts_no_end halts.0 done.replies stop halts.1 halts.2 _ (sym halts.3 ∙ ap (play [] (start_among old new)) (sym same) ∙ done.run.played) in
+            let stopped = h.stopped (stop_of_known status h.known undone h.called no_bad_line (λ q. long (h.too_long q).0) not_fault) in
             let same = one_spelling (lines_of input) stopped.steps steps stopped.spelled s in
             stands_for old new stopped.steps stopped.replies status stopped.cause stopped.why stop stopped.status_is stopped.stop.halts
             (subst (λ k. HaltsWith (start_among old new) k stop) (sym same) halts)
@@ -164,7 +157,7 @@ module _ {words : List (List ℕ)} {rest : Option (List ℕ)} {old new : Tells} 
           -- where nothing is amiss the run is done
           done_of : AsksItems steps → status ≡ 0
           done_of items =
-              zero_of status h.known not_usage no_bad_line (λ q. long (h.too_long q).0) not_fault
+              zero_of status h.known h.called no_bad_line (λ q. long (h.too_long q).0) not_fault
               (λ q.
               let stopped = h.stopped q in
               let same = one_spelling (lines_of input) stopped.steps steps stopped.spelled s in
@@ -177,8 +170,8 @@ module _ {words : List (List ℕ)} {rest : Option (List ℕ)} {old new : Tells} 
               (λ q.
               let done = h.done q in
               let same = one_spelling (lines_of input) done.steps steps done.spelled s in
-              subst AsksItems same (ends-asks done.steps done.replies done.state (done.alone (subst AreOfGuests (sym same) alone))) told state stream a)
-              not_usage no_bad_line (λ q. long (h.too_long q).0) not_fault
+              subst AsksItems same (ends-asks done.steps done.replies done.state (done.run.alone (subst AreOfGuests (sym same) alone))) told state stream a)
+              h.called no_bad_line (λ q. long (h.too_long q).0) not_fault
               (λ q.
               let stopped = h.stopped q in
               let same = one_spelling (lines_of input) stopped.steps steps stopped.spelled s in
@@ -189,36 +182,95 @@ module _ {words : List (List ℕ)} {rest : Option (List ℕ)} {old new : Tells} 
       bad_line_of line bad =
           two_of status h.known
           (λ q. let done = h.done q in spelled_not_bad (lines_of input) done.steps line done.spelled bad)
-          not_usage (λ q. long (h.too_long q).0) not_fault
+          h.called (λ q. long (h.too_long q).0) not_fault
           (λ q. let stopped = h.stopped q in spelled_not_bad (lines_of input) stopped.steps line stopped.spelled bad)
 
     -- and so is an input over the limits
     too_long_of : IsTooLong input → status ≡ 3
-    too_long_of long = three_of status not_usage not_fault (λ q. h.within not_usage q not_fault long)
+    too_long_of long = three_of status not_fault (λ q. h.within q not_fault long)
 
-  module _ (left : Option (List ℕ)) (input : List ℕ) (h : IsOutput words left rest old new before after status text) where
+  module _ {words : List (List ℕ)} (left : Option (List ℕ)) (input : List ℕ) (h : IsOutput words left rest old new before after status text) where
     -- of a source that has this input left, where nothing fails
-    told_input : left ≡ Some input → IsOutput words (Some input) rest old new before after status text
-    told_input e = subst (λ l. IsOutput words l rest old new before after status text) e h
+    told_input : IsRun words → left ≡ Some input → IsOfInput (Some input) rest old new before after status text
+    told_input r e = subst (λ l. IsOfInput l rest old new before after status text) e (h.of_input r)
 
     pub told_done : IsRun words → left ≡ Some input → (Rose before after → ⊥) → (IsTooLong input → ⊥) → (steps : List Step) → Spells (lines_of input) steps → AreOfGuests steps → AsksItems steps → status ≡ 0
-    told_done r e calm = done_of input (told_input e) r calm
+    told_done r e calm = done_of input (told_input r e) calm
 
     pub told_bad_item : IsRun words → left ≡ Some input → (Rose before after → ⊥) → (IsTooLong input → ⊥) → (steps : List Step) → Spells (lines_of input) steps → AreOfGuests steps → (told : List Reply) (state : State) (stream : ℕ) → AsksBad steps told state stream → status ≡ 8
-    told_bad_item r e calm = bad_item_of input (told_input e) r calm
+    told_bad_item r e calm = bad_item_of input (told_input r e) calm
 
     pub told_ends : IsRun words → left ≡ Some input → (Rose before after → ⊥) → (IsTooLong input → ⊥) → (steps : List Step) → Spells (lines_of input) steps → PlaysOn (start_among old new) steps → status ≡ 0
-    told_ends r e calm = ends_of input (told_input e) r calm
+    told_ends r e calm = ends_of input (told_input r e) calm
 
     pub told_halts : IsRun words → left ≡ Some input → (Rose before after → ⊥) → (IsTooLong input → ⊥) → (steps : List Step) → Spells (lines_of input) steps → (stop : Stop) → HaltsWith (start_among old new) steps stop → StandsFor status stop
-    told_halts r e calm = halts_of input (told_input e) r calm
+    told_halts r e calm = halts_of input (told_input r e) calm
 
     pub told_bad_line : IsRun words → left ≡ Some input → (Rose before after → ⊥) → (IsTooLong input → ⊥) → (line : ℕ) → IsFirstBad (lines_of input) line → status ≡ 2
-    told_bad_line r e calm = bad_line_of input (told_input e) r calm
+    told_bad_line r e calm = bad_line_of input (told_input r e) calm
 
     pub told_too_long : IsRun words → left ≡ Some input → (Rose before after → ⊥) → IsTooLong input → status ≡ 3
-    told_too_long r e calm = too_long_of input (told_input e) r calm
+    told_too_long r e calm = too_long_of input (told_input r e) calm
 
-  -- other words are told how to call the program
-  pub told_usage : (left : Option (List ℕ)) → IsOutput words left rest old new before after status text → (IsRun words → ⊥) → status ≡ 1
-  told_usage left h r = one_of status (λ q. r (h.runs q))
+-- WORDS
+
+-- three words, each of which is one
+pub three_words : {X : Type 0} (f : X → List ℕ) (items : List X) (x y z : X) → length items ≡ 3 → x ≡ get_or items 0 x → y ≡ get_or items 1 y → z ≡ get_or items 2 z → map f items ≡ f x ∷ f y ∷ f z ∷ []
+three_words f [] x y z l a b c = absurd (omega (arith, l))
+three_words f (p ∷ []) x y z l a b c = absurd (omega (arith, l))
+three_words f (p ∷ q ∷ []) x y z l a b c = absurd (omega (arith, l))
+three_words f (p ∷ q ∷ r ∷ []) x y z l a b c = rw (a, b, c) refl
+three_words f (p ∷ q ∷ r ∷ s ∷ more) x y z l a b c = absurd (omega (arith, l))
+
+-- what a word is read as
+abbrev pub Reads : List ℕ → Option ℕ → Type 0
+Reads word found = (n : ℕ) → (found ≡ Some n → IsU32 n × (word ≡ decimal n)) × (IsU32 n × (word ≡ decimal n) → found ≡ Some n)
+
+-- and the numbers that words tell
+abbrev pub Numbers : List (List ℕ) → Option (ℕ × ℕ) → Type 0
+Numbers words found = (n seed : ℕ) → (found ≡ Some (n, seed) → IsGen words n seed) × (IsGen words n seed → found ≡ Some (n, seed))
+
+abbrev tail_of : List (List ℕ) → List (List ℕ)
+tail_of [] = []
+tail_of (word ∷ words) = words
+
+abbrev first_of_words : List (List ℕ) → List ℕ
+first_of_words [] = []
+first_of_words (word ∷ words) = word
+
+abbrev pair_of : Option (ℕ × ℕ) → ℕ × ℕ
+pair_of (Some p) = p
+pair_of None = (0, 0)
+
+module _ (words : List (List ℕ)) (a b d : List ℕ) (are : words ≡ a ∷ b ∷ d ∷ []) where
+  second_word : (n seed : ℕ) → IsGen words n seed → b ≡ decimal n
+  second_word n seed g = ap (λ ws. first_of_words (tail_of ws)) (sym are ∙ g.words_are)
+
+  third_word : (n seed : ℕ) → IsGen words n seed → d ≡ decimal seed
+  third_word n seed g = ap (λ ws. first_of_words (tail_of (tail_of ws))) (sym are ∙ g.words_are)
+
+  pub numbers_found : a ≡ codes "gen" → (count seed : ℕ) → Reads b (Some count) → Reads d (Some seed) → Numbers words (Some (count, seed))
+  numbers_found e count seed f h = λ n s. (
+    (λ same.
+        let m : count ≡ n = ap (λ o. (pair_of o).0) same in
+        let t : seed ≡ s = ap (λ o. (pair_of o).1) same in
+        let first = (f n).0 (ap Some m) in
+        let second = (h s).0 (ap Some t) in
+        record { words_are = rw (are, e, first.1, second.1) refl; count = first.0; number = second.0 }),
+    (λ g.
+        let first : Some count ≡ Some n = (f n).1 (g.count, second_word n s g) in
+        let second : Some seed ≡ Some s = (h s).1 (g.number, third_word n s g) in
+        let m : count ≡ n = cc in
+        let t : seed ≡ s = cc in
+        ap (λ k. Some (k, seed)) m ∙ ap (λ k. Some (n, k)) t),
+  )
+
+-- a status of a text is none of a fault of the sink, and none of want of memory
+pub known_status : (status : ℕ) → Known status → status ≤ 9
+known_status status k = ⊎_elim (λ l. omega (arith, l)) (λ s. omega (arith, s.1)) k
+
+pub known_unfailed : (status : ℕ) → Known status → (status ≢ 5) × (status ≢ 9)
+known_unfailed status k = (
+  (λ e. ⊎_elim (λ l. absurd (omega (arith, l, e))) (λ s. absurd (omega (arith, s.0, e))) k),
+  (λ e. ⊎_elim (λ l. absurd (omega (arith, l, e))) (λ s. absurd (omega (arith, s.1, e))) k),
+)

@@ -5,5 +5,6 @@ pub use Rattle.strm_lines.specs.Grammar
 pub use Rattle.strm_lines.specs.Lines
 pub use Rattle.strm_lines.specs.Reading
 pub use Rattle.strm_lines.specs.Text
+pub use Rattle.strm_lines.specs.Generator
 pub use Rattle.strm_ports.specs.Faults
 pub use Rattle.strm_ports.specs.InMemory

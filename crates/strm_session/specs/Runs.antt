@@ -1,6 +1,6 @@
 -- Runs of the program: where they begin and stop, what was received, and what holds. What is said of a
 -- state alone is said of runs of guests alone. Ours.
-use Rattle.std.specs.Prelude.{◌≡◌, ℕ, ◌+◌, ◌≤◌, ◌<◌, min, Bool, true, false, List, [], ◌∷◌, ◌++◌, length, map, take, slice_get, All, Option, Some, None}
+use Rattle.std.specs.Prelude.{◌≡◌, ℕ, ◌+◌, ◌≤◌, ◌<◌, min, true, false, List, [], ◌∷◌, ◌++◌, length, map, take, slice_get, All, Option, Some, None}
 use Rattle.strm_codes.specs.declared.codes.TransmitKind.TheVariants.{Future}
 use Rattle.strm_machine.specs.State.{State, empty, stream_at}
 use Rattle.strm_machine.specs.Reactions.{react}

@@ -1,5 +1,5 @@
 -- What the program writes, and why. Ours.
-use Rattle.std.specs.Prelude.{◌≡◌, ◌≢◌, ◌≤◌, ◌⊎◌, ℕ, List, [], ◌∷◌, length, codes, Option, Some, IfSome}
+use Rattle.std.specs.Prelude.{◌≡◌, ◌≢◌, ◌≤◌, ◌<◌, ◌⊎◌, ℕ, List, [], ◌∷◌, length, codes, decimal, Option, Some, IfSome}
 use Rattle.std.specs.Io.KnownBytes.{IsAtEnd}
 use Rattle.strm_machine.specs.State.{State}
 use Rattle.strm_machine.specs.Plays.{play, Ends}
@@ -14,32 +14,56 @@ use Rattle.strm_world.specs.HostPlays.{play as play_among}
 use Rattle.strm_world.specs.HostPlays as world_plays
 use Rattle.strm_world.specs.Does.{RunsTo, spent}
 use Rattle.strm_ports.specs.Faults.{Rose}
+use Rattle.strm_lines.specs.Grammar.{IsU32}
+use Rattle.strm_lines.specs.Generator.{generated}
 use Rattle.strm_lines.specs.Lines.{lines_of, Spells, IsFirstBad, IsTooLong}
 use Rattle.strm_session.specs.declared.runs.RunCause.{RunCause}
 use Rattle.strm_session.specs.declared.runs.RunCause.TheVariants as causes
 use Rattle.strm_session.specs.Runs.{start, start_among, AreOfGuests, counts_of, IsKept, IsKeptAmong, IsKeptBefore, AreOfItems, DeliversEach, StopsAmong, StopsBy}
-use Rattle.strm_lines.specs.Text.{transcript_text, stopped_text, usage_text, bad_line_text, too_long_text, read_fault_text}
+use Rattle.strm_lines.specs.Text.{transcript_text, summary_text, stopped_text, usage_text, bad_line_text, too_long_text, read_fault_text}
 
--- the words behind the program's name tell it to run
+-- the words behind the program's name tell it to run an input
 abbrev pub IsRun : List (List ℕ) → Type 0
 IsRun words = words ≡ codes "run" ∷ []
 
--- the text of the machine's play on the steps that the lines of an input spell, and on the records that
--- host ends added, exactly those; the laws of every run hold of it. Of guests alone it is the machine's
--- without host ends, and on each stream what was received in it is, in order, the first k items of each
--- accepted write, k the count reported, each as it lay in its guest's memory just before it was copied,
--- and as many as the reads report
-pub record IsTranscript (old new : Tells) (input text : List ℕ) : Type 0 where
-  pub steps : List Step
-  pub spelled : Spells (lines_of input) steps
-  pub replies : List Reply
-  pub state : State
+-- they tell it to run so many steps that the generator draws from a seed: numbers as in a line
+pub record IsGen (words : List (List ℕ)) (n seed : ℕ) : Type 0 where
+  pub words_are : words ≡ codes "gen" ∷ decimal n ∷ decimal seed ∷ []
+  pub count : IsU32 n
+  pub number : IsU32 seed
+
+-- they tell it one of the two
+abbrev pub IsCommand : List (List ℕ) → Type 0
+IsCommand words = IsRun words ⊎ ((n : ℕ) × (seed : ℕ) × IsGen words n seed)
+
+-- a run of these steps comes to its end: it is the machine's play on them and on the records that host ends
+-- added, exactly those; the laws of every run hold of it. Of guests alone it is the machine's without host
+-- ends, and on each stream what was received in it is, in order, the first k items of each accepted write, k
+-- the count reported, each as it lay in its guest's memory just before it was copied, and as many as the
+-- reads report
+pub record IsWhole (old new : Tells) (steps : List Step) (replies : List Reply) (state : State) : Type 0 where
   pub played : RunsTo (start_among old new) steps replies state new
   pub kept_among : IsKeptAmong (start_among old new) steps (spent state new)
   pub delivers : AreOfItems old → DeliversEach (start_among old new) steps (spent state new)
   pub alone : AreOfGuests steps → play [] start steps ≡ Ends replies state
   pub kept : AreOfGuests steps → IsKept steps replies state
+
+-- the text of a run of the steps that the lines of an input spell
+pub record IsTranscript (old new : Tells) (input text : List ℕ) : Type 0 where
+  pub steps : List Step
+  pub spelled : Spells (lines_of input) steps
+  pub replies : List Reply
+  pub state : State
+  pub run : IsWhole old new steps replies state
   pub text_is : text ≡ transcript_text replies (counts_of state)
+
+-- the summary of a run of these steps, which are of guests alone
+pub record IsSummary (old new : Tells) (steps : List Step) (text : List ℕ) : Type 0 where
+  pub of_guests : AreOfGuests steps
+  pub replies : List Reply
+  pub state : State
+  pub run : IsWhole old new steps replies state
+  pub text_is : text ≡ summary_text replies (counts_of state)
 
 -- the status by which a run stops, and the cause that it stands for
 abbrev pub IsStatusOf : ℕ → RunCause → Stop → Type 0
@@ -84,15 +108,14 @@ pub record IsStopped (old new : Tells) (status : ℕ) (input text : List ℕ) : 
 abbrev pub IsStop : ℕ → Type 0
 IsStop status = (6 ≤ status) × (status ≤ 8)
 
--- a status but 5 and 9, and its text, by why they come: from the program's words, the bytes that the
--- source had left before and has left after, where these are told, what the host ends told before and
--- tell after, and the source's faults before and after
-pub record IsOutput (words : List (List ℕ)) (left rest : Option (List ℕ)) (old new : Tells)
+-- a status but 5 and 9, and its text, of a program that runs an input, by why they come: from the bytes that
+-- the source had left before and has left after, where these are told, what the host ends told before
+-- and tell after, and the source's faults before and after
+pub record IsOfInput (left rest : Option (List ℕ)) (old new : Tells)
     (before after status : ℕ) (text : List ℕ) : Type 0 where
   pub known : (status ≤ 4) ⊎ IsStop status
-  pub runs : status ≢ 1 → IsRun words
+  pub called : status ≢ 1
   pub done : status ≡ 0 → IfSome left (λ input. IsTranscript old new input text)
-  pub usage : status ≡ 1 → (¬ IsRun words) × (text ≡ usage_text)
   pub bad_line : status ≡ 2 → (line : ℕ)
       × IfSome left (λ input. IsFirstBad (lines_of input) line) × (text ≡ bad_line_text line)
   pub too_long : status ≡ 3 → IfSome left IsTooLong × (text ≡ too_long_text)
@@ -101,11 +124,25 @@ pub record IsOutput (words : List (List ℕ)) (left rest : Option (List ℕ)) (o
   -- where nothing is run, the host ends are as they were
   pub unrun : (1 ≤ status) → (status ≤ 4) → new ≡ old
   -- the limits are tested before the lines
-  pub within : status ≢ 1 → status ≢ 3 → status ≢ 4 → IfSome left (λ input. ¬ IsTooLong input)
+  pub within : status ≢ 3 → status ≢ 4 → IfSome left (λ input. ¬ IsTooLong input)
   -- the source was read to its end; where the input is too long, unless its bytes are too many
-  pub whole : status ≢ 1 → status ≢ 3 → status ≢ 4 → IsAtEnd rest
+  pub whole : status ≢ 3 → status ≢ 4 → IsAtEnd rest
   pub whole_lines : status ≡ 3 → (input : List ℕ) → left ≡ Some input →
       length input ≤ 16777216 → IsAtEnd rest
+
+-- the same of a program that runs the generator's steps: it never stops, and is refused exactly where they
+-- and the four before them would be more than the lines of an input
+pub record IsOfNumbers (old new : Tells) (n seed status : ℕ) (text : List ℕ) : Type 0 where
+  pub done : n ≤ 262140 → (status ≡ 0) × IsSummary old new (generated n seed) text
+  pub too_long : 262140 < n → (status ≡ 3) × (text ≡ too_long_text)
+  pub hosts : new ≡ old
+
+-- a status but 5 and 9, and its text, by what the program's words tell it
+pub record IsOutput (words : List (List ℕ)) (left rest : Option (List ℕ)) (old new : Tells)
+    (before after status : ℕ) (text : List ℕ) : Type 0 where
+  pub usage : ¬ IsCommand words → (status ≡ 1) × (text ≡ usage_text) × (new ≡ old)
+  pub of_input : IsRun words → IsOfInput left rest old new before after status text
+  pub of_numbers : (n seed : ℕ) → IsGen words n seed → IsOfNumbers old new n seed status text
 
 -- the statuses of the program
 abbrev pub IsStatus : ℕ → Type 0

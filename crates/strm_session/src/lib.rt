@@ -9,5 +9,5 @@ pub mod runs;
 pub mod serving;
 pub mod texts;
 
-pub use strm_lines::{lists, parsing};
+pub use strm_lines::{generator, lists, parsing};
 pub use strm_ports::{in_memory, ports, standard, whole};

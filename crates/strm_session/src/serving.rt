@@ -2,7 +2,7 @@
 //!
 //! Source: ours.
 
-ghost use Rattle.std.specs.Prelude.{◌≡◌, ◌≢◌, ◌≤◌, ◌+◌, ◌⊎◌, ◌↔◌, ◌∷◌, ℕ, List, [], length, map, codes, IfOk, IsErr, IsTrue, Some, string_bytes};
+ghost use Rattle.std.specs.Prelude.{◌≡◌, ◌≢◌, ◌≤◌, ◌<◌, ◌+◌, ◌⊎◌, ◌↔◌, ◌∷◌, ℕ, List, [], length, map, codes, IfOk, IsErr, IsTrue, Some, string_bytes};
 ghost use Rattle.std.specs.Io.KnownBytes.{Appends, Consumes};
 ghost use Rattle.strm_machine.specs.declared.steps.Step.{Step};
 ghost use Rattle.strm_machine.specs.State.{State};
@@ -12,15 +12,19 @@ ghost use Rattle.strm_machine.specs.declared.stops.Stop.{Stop};
 ghost use Rattle.strm_session.specs.Runs.{start_among, AreOfGuests, AsksBad, AsksItems};
 ghost use Rattle.strm_ports.specs.Faults.{Rose, TakesPart};
 ghost use Rattle.strm_lines.specs.Lines.{lines_of, Spells, IsFirstBad, IsTooLong};
-ghost use Rattle.strm_session.specs.Serving.{IsRun, IsStop, IsOutput, IsStatus, IsStatusOf, IsFaultless, IsTranscript, IsStopped, PlaysOn, HaltsWith, StandsFor};
+ghost use Rattle.strm_lines.specs.Generator.{generated};
+ghost use Rattle.strm_session.specs.Serving.{IsRun, IsGen, IsCommand, IsOfInput, IsOfNumbers, IsSummary, IsStop, IsOutput, IsStatus, IsStatusOf, IsFaultless, IsTranscript, IsStopped, PlaysOn, HaltsWith, StandsFor};
 
 use crate::runs::{RunCause, run};
-use crate::texts::{bad_line_text, read_fault_text, stopped_text, text, too_long_text, usage_text};
+use crate::texts::{
+    bad_line_text, read_fault_text, stopped_text, summary, text, too_long_text, usage_text,
+};
 use std::alloc::Global;
 use strm_buffers::hosts::Hosts;
 use strm_codes::counts::OutOfMemory;
+use strm_lines::generator::{MAX_DRAWN, generate};
 use strm_lines::lists::TextBytes;
-use strm_lines::parsing::{MAX_BYTES, ParseError, parse};
+use strm_lines::parsing::{MAX_BYTES, ParseError, number_of, parse};
 use strm_machine::steps::Step;
 use strm_machine::stops::Stop;
 use strm_ports::ports::{Sink, Source};
@@ -29,13 +33,13 @@ use strm_ports::whole::{InputError, read_all, write_whole};
 /// The run came to its end.
 pub const DONE: u8 = 0;
 
-/// The words are not the one word `run`.
+/// The words are neither `run` nor `gen` and two numbers.
 pub const USAGE: u8 = 1;
 
 /// A line is not in the grammar.
 pub const BAD_LINE: u8 = 2;
 
-/// The input has too many bytes or lines.
+/// The input has too many bytes or lines, or too many steps are to be drawn.
 pub const TOO_LONG: u8 = 3;
 
 /// The source failed.
@@ -63,9 +67,18 @@ struct Output {
     text: TextBytes,
 }
 
+// What the words behind the program's name tell it to do.
+enum Command {
+    // To run the lines of its input.
+    Run,
+    // To run so many steps that are drawn from a seed.
+    Generate { count: u32, seed: u32 },
+}
+
 /// Does what the words behind the program's name say, and answers the status of the program. The
 /// one word `run` reads the source to its end, runs its lines among these host ends, and writes the text
-/// of the run. All that is written is made before the first write.
+/// of the run. The words `gen N SEED` run the generator's steps, read nothing, and write the summary of the
+/// run. All that is written is made before the first write.
 pub fn serve<S: Source, K: Sink>(
     alloc: Global,
     words: &Vec<String>,
@@ -131,7 +144,13 @@ pub fn serve<S: Source, K: Sink>(
         IsFaultless (map string_bytes words.now.items) (S.left source.old) input
         (S.faults source.old) (S.faults source.new) (K.faults sink.old) (K.faults sink.new) →
         IsTooLong input → (result ≡ TOO_LONG) ⊎ (result ≡ OUT_OF_MEMORY) }
-    ensures usage { ¬ IsRun (map string_bytes words.now.items) →
+    ensures generated { (n seed : ℕ) → IsGen (map string_bytes words.now.items) n seed →
+        ¬ Rose (K.faults sink.old) (K.faults sink.new) → n ≤ MAX_DRAWN →
+        (result ≡ DONE) ⊎ (result ≡ OUT_OF_MEMORY) }
+    ensures too_many { (n seed : ℕ) → IsGen (map string_bytes words.now.items) n seed →
+        ¬ Rose (K.faults sink.old) (K.faults sink.new) → MAX_DRAWN < n →
+        (result ≡ TOO_LONG) ⊎ (result ≡ OUT_OF_MEMORY) }
+    ensures usage { ¬ IsCommand (map string_bytes words.now.items) →
         ¬ Rose (K.faults sink.old) (K.faults sink.new) →
         (result ≡ USAGE) ⊎ (result ≡ OUT_OF_MEMORY) }
 {
@@ -153,6 +172,7 @@ fn answer_words<S: Source>(
 ) -> Result<Output, OutOfMemory>
     requires writers { length (tells_of writer_tells reader_tells hosts.old).writers ≤ 64 }
     requires readers { length (tells_of writer_tells reader_tells hosts.old).readers ≤ 64 }
+    ensures known { IfOk result (λ a. (a.status ≤ 4) ⊎ IsStop a.status) }
     ensures told { IfOk result (λ a.
         IsOutput (map string_bytes words.now.items) (S.left source.old) (S.left source.new)
         (tells_of writer_tells reader_tells hosts.old) (tells_of writer_tells reader_tells hosts.new) (S.faults source.old) (S.faults source.new) a.status a.text) }
@@ -162,14 +182,25 @@ fn answer_words<S: Source>(
     ensures unrun { ¬ IsRun (map string_bytes words.now.items) →
         tells_of writer_tells reader_tells hosts.new ≡ tells_of writer_tells reader_tells hosts.old }
 {
-    if !is_run(words) {
-        return fixed(alloc, USAGE, usage_text());
+    match read_command(words) {
+        Some(Command::Run) => answer_source(alloc, source, hosts),
+        Some(Command::Generate { count, seed }) => answer_numbers(alloc, count, seed, hosts),
+        None => fixed(alloc, USAGE, usage_text()),
     }
-    match read_all(alloc, source) {
-        Ok(input) => answer_input(alloc, input.as_slice(), hosts),
-        Err(InputError::TooLong) => fixed(alloc, TOO_LONG, too_long_text()),
-        Err(InputError::Fault) => fixed(alloc, READ_FAULT, read_fault_text()),
-        Err(InputError::OutOfMemory) => Err(OutOfMemory),
+}
+
+// What the words tell the program to do.
+fn read_command(words: &Vec<String>) -> Option<Command>
+    ensures run { (result ≡ Some Command.Run) ↔ IsRun (map string_bytes words.now.items) }
+    ensures generate { (n seed : ℕ) → (result ≡ Some (Command.Generate n seed))
+        ↔ IsGen (map string_bytes words.now.items) n seed }
+{
+    if is_run(words) {
+        return Some(Command::Run);
+    }
+    match numbers(words) {
+        Some((count, seed)) => Some(Command::Generate { count, seed }),
+        None => None,
     }
 }
 
@@ -181,6 +212,23 @@ fn is_run(words: &Vec<String>) -> bool
     words.len() == 1 && words[0].as_bytes() == b"run".as_slice()
 }
 
+// The number of steps to draw and the seed.
+fn numbers(words: &Vec<String>) -> Option<(u32, u32)>
+    ensures { (n seed : ℕ) → (result ≡ Some (n, seed))
+        ↔ IsGen (map string_bytes words.now.items) n seed }
+{
+    let words = words.as_slice();
+    if words.len() != 3 {
+        return None;
+    }
+    if words[0].as_bytes() != b"gen".as_slice() {
+        return None;
+    }
+    let count = number_of(words[1].as_bytes())?;
+    let seed = number_of(words[2].as_bytes())?;
+    Some((count, seed))
+}
+
 // A status with a text that is always the same.
 fn fixed(alloc: Global, status: u8, text: &[u8]) -> Result<Output, OutOfMemory>
     ensures { IfOk result (λ a. (a.status ≡ status) × (a.text ≡ text.now)) }
@@ -190,12 +238,35 @@ fn fixed(alloc: Global, status: u8, text: &[u8]) -> Result<Output, OutOfMemory>
     Ok(Output { status, text: copy })
 }
 
+// What is to be written for the input of a source.
+fn answer_source<S: Source>(
+    alloc: Global,
+    source: &mut S,
+    hosts: &mut Hosts,
+) -> Result<Output, OutOfMemory>
+    requires writers { length (tells_of writer_tells reader_tells hosts.old).writers ≤ 64 }
+    requires readers { length (tells_of writer_tells reader_tells hosts.old).readers ≤ 64 }
+    ensures told { IfOk result (λ a. IsOfInput (S.left source.old) (S.left source.new)
+        (tells_of writer_tells reader_tells hosts.old) (tells_of writer_tells reader_tells hosts.new)
+        (S.faults source.old) (S.faults source.new) a.status a.text) }
+    ensures read { (front : List ℕ) × Consumes (S.left source.old) (S.left source.new) front
+        × (length front ≤ MAX_BYTES + 1) }
+{
+    match read_all(alloc, source) {
+        Ok(input) => answer_input(alloc, input.as_slice(), hosts),
+        Err(InputError::TooLong) => fixed(alloc, TOO_LONG, too_long_text()),
+        Err(InputError::Fault) => fixed(alloc, READ_FAULT, read_fault_text()),
+        Err(InputError::OutOfMemory) => Err(OutOfMemory),
+    }
+}
+
 // What is to be written for an input that was read.
 fn answer_input(alloc: Global, input: &[u8], hosts: &mut Hosts) -> Result<Output, OutOfMemory>
     requires writers { length (tells_of writer_tells reader_tells hosts.old).writers ≤ 64 }
     requires readers { length (tells_of writer_tells reader_tells hosts.old).readers ≤ 64 }
-    ensures { (before after : ℕ) → IfOk result (λ a.
-        IsOutput (codes "run" ∷ []) (Some input.now) (Some []) (tells_of writer_tells reader_tells hosts.old) (tells_of writer_tells reader_tells hosts.new) before after a.status a.text) }
+    ensures { (before after : ℕ) → IfOk result (λ a. IsOfInput (Some input.now) (Some [])
+        (tells_of writer_tells reader_tells hosts.old) (tells_of writer_tells reader_tells hosts.new)
+        before after a.status a.text) }
 {
     match parse(alloc, input) {
         Ok(steps) => answer_steps(alloc, steps.as_slice(), hosts),
@@ -246,5 +317,51 @@ fn status_of(cause: RunCause) -> Result<(u8, Stop), OutOfMemory>
         RunCause::HostBroke { end } => Ok((HOST_BROKE, Stop::HostBroke { end })),
         RunCause::BadItem { stream } => Ok((BAD_ITEM, Stop::BadItem { stream })),
         RunCause::OutOfMemory => Err(OutOfMemory),
+    }
+}
+
+// What is to be written for so many steps that are drawn from a seed.
+fn answer_numbers(
+    alloc: Global,
+    count: u32,
+    seed: u32,
+    hosts: &mut Hosts,
+) -> Result<Output, OutOfMemory>
+    requires writers { length (tells_of writer_tells reader_tells hosts.old).writers ≤ 64 }
+    requires readers { length (tells_of writer_tells reader_tells hosts.old).readers ≤ 64 }
+    ensures told { IfOk result (λ a. IsOfNumbers (tells_of writer_tells reader_tells hosts.old)
+        (tells_of writer_tells reader_tells hosts.new) count seed a.status a.text) }
+    ensures hosts { tells_of writer_tells reader_tells hosts.new ≡ tells_of writer_tells reader_tells hosts.old }
+{
+    match generate(alloc, count, seed) {
+        Ok(steps) => answer_drawn(alloc, steps.as_slice(), hosts),
+        Err(ParseError::TooLong) => fixed(alloc, TOO_LONG, too_long_text()),
+        Err(ParseError::OutOfMemory) => Err(OutOfMemory),
+        Err(ParseError::BadLine { .. }) => unreachable!(),
+    }
+}
+
+// What is to be written for steps that were drawn: their run stops for want of memory alone.
+fn answer_drawn(alloc: Global, steps: &[Step], hosts: &mut Hosts) -> Result<Output, OutOfMemory>
+    requires drawn { (n : ℕ) × (seed : ℕ) × (steps.now ≡ generated n seed) }
+    requires few { length steps.now ≤ 4294967295 }
+    requires writers { length (tells_of writer_tells reader_tells hosts.old).writers ≤ 64 }
+    requires readers { length (tells_of writer_tells reader_tells hosts.old).readers ≤ 64 }
+    ensures done { IfOk result (λ a. (a.status ≡ DONE)
+        × IsSummary (tells_of writer_tells reader_tells hosts.old)
+        (tells_of writer_tells reader_tells hosts.new) steps.now a.text) }
+    ensures hosts { tells_of writer_tells reader_tells hosts.new ≡ tells_of writer_tells reader_tells hosts.old }
+{
+    match run(alloc, steps, hosts) {
+        Ok(transcript) => {
+            let text = summary(alloc, &transcript)?;
+            Ok(Output { status: DONE, text })
+        }
+        Err(stop) => match stop.cause {
+            RunCause::OutOfMemory => Err(OutOfMemory),
+            RunCause::HostFailed { .. } => unreachable!(),
+            RunCause::HostBroke { .. } => unreachable!(),
+            RunCause::BadItem { .. } => unreachable!(),
+        },
     }
 }

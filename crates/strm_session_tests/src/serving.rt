@@ -31,6 +31,10 @@ pub(crate) const RUN: &[&str] = &["run"];
 
 const OTHER_WORDS: &[&str] = &["gen", "x", "1"];
 
+const GEN: &[&str] = &["gen", "3", "1"];
+
+const TOO_MANY: &[&str] = &["gen", "262141", "1"];
+
 /// No call fails.
 pub(crate) const NONE: (u32, u32) = (999_999, 999_999);
 
@@ -67,7 +71,7 @@ fn holds(rt: &impl Abort, found: Result<bool, AllocError>, status: u8) {
     assert_eq!(rt; found, Ok(true), "{status}");
 }
 
-const STATUSES: [Row; 6] = [
+const STATUSES: [Row; 9] = [
     Row {
         words: RUN,
         input: "",
@@ -81,6 +85,27 @@ const STATUSES: [Row; 6] = [
         failing: NONE,
         status: 1,
         text: "usage: strm run | strm gen N SEED\n",
+    },
+    Row {
+        words: GEN,
+        input: "guest 16\n",
+        failing: (1, 999_999),
+        status: 0,
+        text: "refused 0\nblocked 1\nstream 0 moved 507\ndone 7\n",
+    },
+    Row {
+        words: GEN,
+        input: "",
+        failing: (999_999, 1),
+        status: 5,
+        text: "",
+    },
+    Row {
+        words: TOO_MANY,
+        input: "",
+        failing: NONE,
+        status: 3,
+        text: "too long\n",
     },
     Row {
         words: RUN,

@@ -34,6 +34,7 @@ pub record KeepsRest (old new : Inside) : Type 0 where
   pub trapped : new.is_trapped ≡ old.is_trapped
   pub streams : new.streams ≡ old.streams
   pub producers : new.producers ≡ old.producers
+  pub kept : new.kept ≡ old.kept
   pub consumers : new.consumers ≡ old.consumers
   pub live_streams : new.live_streams ≡ old.live_streams
   pub live_sets : new.live_sets ≡ old.live_sets
@@ -46,7 +47,7 @@ pub record SetsContexts (old new : Inside) (g : ℕ) (handles : Handles) (contex
 
 module _ (old new : Inside) (g : ℕ) (handles : Handles) (contexts : Contexts) (k : KeepsRest old new) (h : SetsContexts old new g handles contexts) where
   pub state_of-contexts : state_of new ≡ record (state_of old) { guests = with_handles (seen old.guests.items) g handles; contexts = contexts }
-  state_of-contexts = rw (k.tag, k.limits, k.trapped, k.streams, k.producers, k.consumers, h.guests, h.others) refl
+  state_of-contexts = rw (k.tag, k.limits, k.trapped, k.streams, k.producers, k.kept, k.consumers, h.guests, h.others) refl
 
   pub IsStore-contexts : IsCounted new → IsSound (record (state_of old) { guests = with_handles (seen old.guests.items) g handles; contexts = contexts }) → IsStore old → IsStore new
   IsStore-contexts counted sound i =
@@ -58,7 +59,7 @@ module _ (old new : Inside) (g : ℕ) (handles : Handles) (contexts : Contexts) 
         sizes = ap sizes_of h.guests ∙ sizes_of-with_handles guests g handles;
         bytes = k.bytes;
       })
-      (kept_streams old new k.streams k.live_streams k.producers k.consumers i)
+      (kept_streams old new k.streams k.live_streams (record { producers = k.producers; kept = k.kept; consumers = k.consumers }) i)
       (subst IsSound (sym state_of-contexts) sound) i
 
 -- the handles of a context are below the limit, and its message is short
@@ -80,13 +81,13 @@ pub record Gives {A E : Type 0} (r : Result A E) (old new : Inside) (g number : 
 
 module _ (old new : Inside) (g number : ℕ) (contexts : Contexts) (k : KeepsRest old new) where
   same_state : seen new.guests.items ≡ seen old.guests.items → new.contexts ≡ old.contexts → state_of new ≡ state_of old
-  same_state e f = rw (k.tag, k.limits, k.trapped, k.streams, k.producers, k.consumers, e, f) refl
+  same_state e f = rw (k.tag, k.limits, k.trapped, k.streams, k.producers, k.kept, k.consumers, e, f) refl
 
   same_store : seen new.guests.items ≡ seen old.guests.items → new.contexts ≡ old.contexts → new.counter ≡ old.counter → IsStore old → IsStore new
   same_store e f c i =
       IsStore-counted old new
       (kept_tables old new (record { limits = k.limits; counter = c; live_sets = k.live_sets; bytes = k.bytes; guests = rw e (all_kept (seen old.guests.items)) }) i)
-      (kept_streams old new k.streams k.live_streams k.producers k.consumers i)
+      (kept_streams old new k.streams k.live_streams (record { producers = k.producers; kept = k.kept; consumers = k.consumers }) i)
       (subst IsSound (sym (same_state e f)) i.sound) i
 
   pub IsStore-gives : {A E : Type 0} (r : Result A E) → Gives r old new g number contexts → old.counter.live < old.counter.limit → IsSound (context_given (state_of old) g number contexts) → IsStore old → IsStore new
@@ -98,7 +99,7 @@ module _ (old new : Inside) (g number : ℕ) (contexts : Contexts) (k : KeepsRes
 -- the message of an error context was put into a guest's memory
 pub texts-put : (old new : Inside) (g handle address number : ℕ) → PutsBytes old new g address (message_named (state_of old) g handle) → number ≡ length (message_named (state_of old) g handle) → texts (state_of old) g handle address ≡ goes (replies.Number number) (state_of new)
 texts-put old new g handle address number h e =
-    rw (h.same.tag, h.same.limits, h.same.producers, h.same.consumers, h.same.contexts, h.same.trapped, h.streams, h.guests, e) refl
+    rw (h.same.tag, h.same.limits, h.same.producers, h.same.kept, h.same.consumers, h.same.contexts, h.same.trapped, h.streams, h.guests, e) refl
 
 -- a handle that may be dropped names an error context
 pub dropped_names : (state : State) (g handle : ℕ) → IsSound state → refusal state (OnContext g handle Drop) ≡ None → NamesContext state g handle

@@ -19,6 +19,7 @@ use Rattle.strm_machine.specs.declared.streams.Stream.{Stream}
 use Rattle.strm_machine.proofs.HostLemmas.{host_number}
 use Rattle.strm_world.specs.World.{World, stream_in}
 use Rattle.strm_world.specs.Outcomes.{done}
+use Rattle.strm_world.specs.Piping.{pipe_round}
 use Rattle.strm_world.specs.Driving.{drive_turn, driven, round_of}
 use Rattle.strm_world.specs.Steps.{performs_in, outcome}
 use Rattle.strm_world.specs.Does.{Logs, world_of, Answered, Fits, Does}
@@ -29,8 +30,10 @@ use Rattle.strm_world.proofs.FitsLemmas.{are_alone}
 use Rattle.strm_transmit.specs.Meets.{replied}
 use Rattle.strm_transmit.specs.Hosted.{answered, IsStop, MeetsHosted}
 use Rattle.strm_transmit.specs.Inside.{AreServed}
+use Rattle.strm_transmit.specs.Rounds.{ends_by, pipe_ends, IsPipe}
 use Rattle.strm_transmit.specs.Turning.{turn_for, due_in, due_on, IsNextAmong, all_ends, NextServed}
 use Rattle.strm_transmit.specs.declared.errors.StoreError.{StoreError}
+use Rattle.strm_transmit.proofs.RoundLemmas.{ends_are}
 use Rattle.strm_transmit.proofs.OperateLemmas.{Halts, hosted_polled, cause_of, stop_is}
 
 -- ## One stream
@@ -105,29 +108,56 @@ waits_not : (n : ℕ) (mine : Owner) (o : Option Operation) → ◌≡◌ {A = D
 waits_not n mine None d u = refl
 waits_not n mine (Some operation) d u = none_due (is_host mine) operation.is_open n operation d u
 
+piped_some : (writer reader : Owner) (n r : ℕ) → writer ≡ Host n → reader ≡ Host r → ◌≡◌ {A = Option (ℕ × ℕ)} (ends_by writer reader) None → ⊥
+piped_some writer reader n r e f h = let some : ◌≡◌ {A = Option (ℕ × ℕ)} (Some (n, r)) None = sym (ap (λ w. ends_by w reader) e ∙ ap (ends_by (Host n)) f) ∙ h in cc
+
 module _ (world : World) (s : ℕ) where
   abbrev stream : Stream
   stream = stream_in world s
 
-  idle_by : (x y : Bool) → is_host stream.writer.owner ≡ x → is_host stream.reader.owner ≡ y → ◌≡◌ {A = Due} (due_on Reading stream) None → ◌≡◌ {A = Due} (due_on Writing stream) None → drive_turn world s ≡ done world
-  idle_by true true e f a b =
-      let w = host_number stream.writer.owner e in
-      let r = host_number stream.reader.owner f in
-      drive_turn-piped world s w.0 r.0 w.1 r.1
-  idle_by true false e f a b =
-      let w = host_number stream.writer.owner e in
-      let due = subst (λ o. ◌≡◌ {A = Due} (due_in o stream.reader.owner stream.reader.operation) None) w.1 a in
-      drive_turn-idle world s (waits_not w.0 stream.reader.owner stream.reader.operation due f) f
-  idle_by false true e f a b =
-      let r = host_number stream.reader.owner f in
-      let due = subst (λ o. ◌≡◌ {A = Due} (due_in o stream.writer.owner stream.writer.operation) None) r.1 b in
-      drive_turn-idle_write world s r.0 r.1 e (waits_not r.0 stream.writer.owner stream.writer.operation due e)
-  idle_by false false e f a b = drive_turn-alone world s (record { writer = e; reader = f })
+  -- no pipe, and nothing is due of it
+  record IsIdle : Type 0 where
+    pub unpiped : ◌≡◌ {A = Option (ℕ × ℕ)} (pipe_ends stream) None
+    pub unread : ◌≡◌ {A = Due} (due_on Reading stream) None
+    pub unwritten : ◌≡◌ {A = Due} (due_on Writing stream) None
 
-pub idle-turn : (state : State) (tells : Tells) (s : ℕ) → ◌≡◌ {A = Due} (due_on Reading (stream_at state s)) None → ◌≡◌ {A = Due} (due_on Writing (stream_at state s)) None → Does state state tells tells (Ok replies.Done) (λ w. drive_turn w s)
-idle-turn state tells s a b =
+  idle_by : (x y : Bool) → is_host stream.writer.owner ≡ x → is_host stream.reader.owner ≡ y → IsIdle → drive_turn world s ≡ done world
+  idle_by true true e f h =
+      let w = host_number stream.writer.owner e in
+      let r = host_number stream.reader.owner f in
+      absurd (piped_some stream.writer.owner stream.reader.owner w.0 r.0 w.1 r.1 h.unpiped)
+  idle_by true false e f h =
+      let w = host_number stream.writer.owner e in
+      let due = subst (λ o. ◌≡◌ {A = Due} (due_in o stream.reader.owner stream.reader.operation) None) w.1 h.unread in
+      drive_turn-idle world s (waits_not w.0 stream.reader.owner stream.reader.operation due f) f
+  idle_by false true e f h =
+      let r = host_number stream.reader.owner f in
+      let due = subst (λ o. ◌≡◌ {A = Due} (due_in o stream.writer.owner stream.writer.operation) None) r.1 h.unwritten in
+      drive_turn-idle_write world s r.0 r.1 e (waits_not r.0 stream.writer.owner stream.writer.operation due e)
+  idle_by false false e f h = drive_turn-alone world s (record { writer = e; reader = f })
+
+-- nothing is due on a side of stream s
+abbrev pub NoneDue : State → ℕ → Side → Type 0
+NoneDue state s side = ◌≡◌ {A = Due} (due_on side (stream_at state s)) None
+
+pub idle-turn : (state : State) (tells : Tells) (s : ℕ) → ◌≡◌ {A = Option (ℕ × ℕ)} (pipe_ends (stream_at state s)) None → NoneDue state s Reading → NoneDue state s Writing
+    → Does state state tells tells (Ok replies.Done) (λ w. drive_turn w s)
+idle-turn state tells s p a b =
     Does-untold state state tells (Ok replies.Done) (λ w. drive_turn w s)
-    (λ logs. idle_by (world_of state tells logs) s (is_host (stream_at state s).writer.owner) (is_host (stream_at state s).reader.owner) refl refl a b) tt
+    (λ logs. idle_by (world_of state tells logs) s (is_host (stream_at state s).writer.owner) (is_host (stream_at state s).reader.owner) refl refl (record { unpiped = p; unread = a; unwritten = b })) tt
+
+-- a pipe, which its host ends fit
+pub is_pipe : (state : State) (tells : Tells) (s n r : ℕ) → s < length state.streams → ◌≡◌ {A = Option (ℕ × ℕ)} (pipe_ends (stream_at state s)) (Some (n, r)) → Fits state tells → IsPipe state tells s n r
+is_pipe state tells s n r made e fits =
+    let ends = ends_are (stream_at state s).writer.owner (stream_at state s).reader.owner n r e in
+    record { made = made; writer = ends.0; reader = ends.1; fits = fits }
+
+-- its round is the turn of its stream
+pub piped-turn : (state : State) (tells : Tells) (s n r : ℕ) → ◌≡◌ {A = Option (ℕ × ℕ)} (pipe_ends (stream_at state s)) (Some (n, r)) → (logs : Logs)
+    → drive_turn (world_of state tells logs) s ≡ pipe_round (world_of state tells logs) s n r
+piped-turn state tells s n r e logs =
+    let ends = ends_are (stream_at state s).writer.owner (stream_at state s).reader.owner n r e in
+    drive_turn-piped (world_of state tells logs) s n r ends.0 ends.1
 
 -- ## The round
 

@@ -63,6 +63,7 @@ IsStore-set old new s stream l keeps h i =
       tag = h.same.tag;
       limits = h.same.limits;
       producers = h.same.producers;
+      kept = h.same.kept;
       consumers = h.same.consumers;
       contexts = h.same.contexts;
       counter = h.counter;

@@ -36,7 +36,7 @@ use Rattle.strm_transmit.proofs.ServedLemmas.{at_set, same_stream, same_host, se
 use Rattle.strm_transmit.proofs.FitsLemmas.{AreMade, Fits-told, Fits-told_reader}
 use Rattle.strm_transmit.proofs.StepLemmas.{is_admitted}
 use Rattle.strm_transmit.proofs.HostStepLemmas.{does_admitted, Does-after, Fits-after, all_stays, unchanged}
-use Rattle.strm_transmit.proofs.StoreLemmas.{live_by, live_weight, kept_tables, IsStore-counted}
+use Rattle.strm_transmit.proofs.StoreLemmas.{live_by, live_weight, kept_tables, IsStore-counted, IsSound-same}
 use Rattle.std.proofs.lemmas.List.{get_or_past, map-append}
 use Rattle.std.proofs.lemmas.List.Elements.{All-push, All-weaker}
 use Rattle.std.proofs.lemmas.List.Sums.{sum_by_push}
@@ -53,7 +53,9 @@ use Rattle.strm_machine.proofs.SoundLemmas.{AreNamed-more}
 use Rattle.strm_machine.proofs.TableLemmas.{at_push}
 use Rattle.strm_machine.proofs.TurnLemmas.{all_kept}
 use Rattle.strm_turns.specs.Guests.{seen}
-use Rattle.strm_transmit.specs.Inside.{state_of, AreServed, IsStore}
+use Rattle.strm_transmit.specs.Inside.{state_of, padded, AreServed, IsStore}
+use Rattle.strm_transmit.specs.Keeping.{HasGrown, PlaceMade}
+use Rattle.strm_transmit.proofs.KeptLemmas.{have_grown, have_hosted, view_made}
 use Rattle.strm_transmit.specs.declared.store.Store.TheInside.{Inside}
 
 -- ## Refusals
@@ -313,10 +315,11 @@ pub record HostsStream (old new : Inside) (n : ℕ) (stream : Stream) (p : Produ
   pub bytes : new.bytes ≡ old.bytes
   pub streams : new.streams.items ≡ old.streams.items ++ stream ∷ []
   pub producers : new.producers ≡ set old.producers n p
+  pub place : PlaceMade old.kept.items new.kept.items n stream.payload
   pub consumers : new.consumers ≡ old.consumers
 
-state_of-hosted : (old new : Inside) (n : ℕ) (stream : Stream) (p : Producer) → HostsStream old new n stream p → state_of new ≡ record (state_of old) { streams = old.streams.items ++ stream ∷ []; producers = set old.producers n p }
-state_of-hosted old new n stream p h = rw (h.tag, h.limits, h.contexts, h.trapped, h.guests, h.streams, h.producers, h.consumers) refl
+state_of-hosted : (old new : Inside) (n : ℕ) (stream : Stream) (p : Producer) → HostsStream old new n stream p → padded new.kept.items ≡ padded old.kept.items → state_of new ≡ record (state_of old) { streams = old.streams.items ++ stream ∷ []; producers = set old.producers n p }
+state_of-hosted old new n stream p h k = rw (h.tag, h.limits, h.contexts, h.trapped, h.guests, h.streams, h.producers, h.consumers, k) refl
 
 -- an unused host writer that serves a stream more, which it writes
 record ServesMore (old : Inside) (n : ℕ) (stream : Stream) (p : Producer) : Type 0 where
@@ -352,6 +355,46 @@ IsStore-hosted old new n stream p h i =
     (record {
       live = rw h.streams (omega (arith, h.live_streams, i.streams, live_pushed old.streams.items stream live));
       served = rw (h.producers, h.consumers, h.streams) (hosted_served old n stream p (record { kept = omega (arith, i.served.all, h.kept); unused = h.unused; serves = h.serves; writer = writer; reader = reader }) i.served);
+      kept = rw (h.producers, h.streams) (have_hosted old.producers old.kept.items old.streams.items i.kept old.consumers new.kept.items n p stream i.served (omega (arith, i.served.all, h.kept)) h.serves h.unused h.place);
       few = rw h.streams (omega (arith, h.few, length-append old.streams.items (stream ∷ [])));
     })
-    (subst IsSound (sym (state_of-hosted old new n stream p h)) (IsSound-hosted (state_of old) stream (set old.producers n p) idle i.sound)) i
+    (subst IsSound (sym (state_of-hosted old new n stream p h (view_made old.producers old.kept.items old.streams.items i.kept new.kept.items n stream.payload h.unused h.place))) (IsSound-hosted (state_of old) stream (set old.producers n p) idle i.sound)) i
+
+-- places were made, and none of them is used
+pub record GrowsPlaces (old new : Inside) : Type 0 where
+  pub limits : new.limits ≡ old.limits
+  pub contexts : new.contexts ≡ old.contexts
+  pub counter : new.counter ≡ old.counter
+  pub guests : new.guests ≡ old.guests
+  pub live_streams : new.live_streams ≡ old.live_streams
+  pub live_sets : new.live_sets ≡ old.live_sets
+  pub bytes : new.bytes ≡ old.bytes
+  pub streams : new.streams.items ≡ old.streams.items
+  pub producers : new.producers ≡ old.producers
+  pub consumers : new.consumers ≡ old.consumers
+  pub grown : HasGrown old.kept.items new.kept.items
+
+pub IsStore-grown : (old new : Inside) → GrowsPlaces old new → IsStore old → IsStore new
+IsStore-grown old new h i =
+    IsStore-counted old new
+    (kept_tables old new (record { limits = h.limits; counter = h.counter; live_sets = h.live_sets; bytes = h.bytes; guests = rw h.guests (all_kept (seen old.guests.items)) }) i)
+    (record {
+      live = rw (h.live_streams, h.streams) i.streams;
+      served = rw (h.producers, h.consumers, h.streams) i.served;
+      kept = rw (h.producers, h.streams) (have_grown old.producers old.kept.items old.streams.items i.kept new.kept.items h.grown);
+      few = rw h.streams i.few_streams;
+    })
+    (IsSound-same (state_of old) (state_of new) (ap (λ (g : _). seen g.items) h.guests) h.streams h.contexts i.sound) i
+
+-- a state with a stream more, which host writer n serves
+abbrev pub with_hosted : State → ℕ → Stream → Producer → State
+with_hosted state n x q = record state { streams = state.streams ++ x ∷ []; producers = set state.producers n q }
+
+-- the state with a stream more, by what the calls say
+pub hosted_is : (old new : Inside) (n : ℕ) (stream : Stream) (p : Producer) → HostsStream old new n stream p → (state : State) → state_of old ≡ state → IsStore old
+    → (x : Stream) → stream ≡ x → (q : Producer) → p ≡ q → state_of new ≡ with_hosted state n x q
+hosted_is old new n stream p h state e i x f q g =
+    state_of-hosted old new n stream p h (view_made old.producers old.kept.items old.streams.items i.kept new.kept.items n stream.payload h.unused h.place)
+    ∙ ap (λ y. record (state_of old) { streams = old.streams.items ++ y ∷ []; producers = set old.producers n p }) f
+    ∙ ap (λ y. record (state_of old) { streams = old.streams.items ++ x ∷ []; producers = set old.producers n y }) g
+    ∙ ap (λ (y : State). record y { streams = y.streams ++ x ∷ []; producers = set y.producers n q }) e

@@ -2,6 +2,7 @@ pub mod StepLemmas
 pub mod HostStepLemmas
 pub mod ApplyLemmas
 pub mod ServedLemmas
+pub mod KeptLemmas
 pub mod FitsLemmas
 pub mod StillLemmas
 pub mod ForsakeLemmas
@@ -17,6 +18,8 @@ pub mod ProduceLemmas
 pub mod DriveStoreLemmas
 pub mod HostingLemmas
 pub mod PipeStoreLemmas
+pub mod RoundLemmas
+pub mod RoundStoreLemmas
 pub mod OperateLemmas
 pub mod SetLemmas
 pub mod ContextLemmas

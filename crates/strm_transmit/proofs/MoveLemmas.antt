@@ -30,10 +30,11 @@ use Rattle.strm_machine.proofs.RefusalLemmas.{move_fits, lower_fits, close_fits}
 use Rattle.strm_machine.proofs.SoundLemmas.{IsSound-set, IsSound-freed, sizes_of-with_table, sizes_of-with_handles}
 use Rattle.strm_machine.proofs.SoundStepLemmas.{reaction-sound}
 use Rattle.strm_turns.specs.Guests.{seen, live_in, sets_among, without_handle_in, with_end_in}
-use Rattle.strm_transmit.specs.Inside.{state_of, AreServed, IsStore}
+use Rattle.strm_transmit.specs.Inside.{state_of, AreServed, HavePlaces, IsStore}
 use Rattle.strm_transmit.specs.declared.store.Store.TheInside.{Inside}
 use Rattle.strm_transmit.proofs.ServedLemmas.{ComesNoHost, AreServed-set}
 use Rattle.strm_transmit.proofs.EndingLemmas.{named_made}
+use Rattle.strm_transmit.proofs.KeptLemmas.{have_set}
 use Rattle.strm_transmit.proofs.StoreLemmas.{SameBut, sets-with_table, kept_counted, more_counted, less_counted, fits_below, CountsStreams, IsStore-counted, IsSound-same}
 
 -- an end of stream s has another owner
@@ -62,6 +63,10 @@ owned-comes Writing stream owner u Reading n e = e
 owned-comes Reading stream owner u Writing n e = e
 owned-comes Reading stream owner u Reading n e = absurd (no_host owner n u e)
 
+owned-payload : (side : Side) (stream : Stream) (owner : Owner) → (with_owner side stream owner).payload ≡ stream.payload
+owned-payload Writing stream owner = refl
+owned-payload Reading stream owner = refl
+
 module _ (old new : Inside) (s : ℕ) (side : Side) (owner : Owner) (l : s < length old.streams.items) (u : is_host owner ≡ false) (o : SetsOwner old new s side owner) (i : IsStore old) where
   -- the stream alone
   owned : IsSound (record (state_of old) { streams = new.streams.items })
@@ -71,8 +76,14 @@ module _ (old new : Inside) (s : ℕ) (side : Side) (owner : Owner) (l : s < len
   served : AreServed new.producers new.consumers new.streams.items
   served = rw (o.same.producers, o.same.consumers, o.streams) (AreServed-set old.producers old.consumers old.streams.items i.served s (with_owner side (stream_at (state_of old) s) owner) l (owned-comes side (stream_at (state_of old) s) owner u))
 
+  -- and its payload stayed
+  places : HavePlaces new.producers new.kept.items new.streams.items
+  places =
+      let given = with_owner side (stream_at (state_of old) s) owner in
+      rw (o.same.producers, o.same.kept, o.streams) (have_set old.producers old.kept.items old.streams.items i.kept s given l (owned-payload side (stream_at (state_of old) s) owner))
+
   counts : CountsStreams new
-  counts = record { live = o.counted; served = served; few = rw (o.streams, length-set old.streams.items s (with_owner side (stream_at (state_of old) s) owner)) i.few_streams }
+  counts = record { live = o.counted; served = served; kept = places; few = rw (o.streams, length-set old.streams.items s (with_owner side (stream_at (state_of old) s) owner)) i.few_streams }
 
   -- as many sets as there were
   as_many : sets_among (seen new.guests.items) ≡ sets_among (seen old.guests.items) → new.live_sets ≡ sets_in_use (state_of new)
@@ -141,7 +152,7 @@ moved_made state end to s e same h = named_made state (side_named (named state e
 -- the end of a stream went to a guest, under this handle
 module _ (old new : Inside) (s : ℕ) (side : Side) (end : NamedEnd) (to number : ℕ) (o : SetsOwner old new s side (Held to number)) (m : MovesHandle old new side end to s) (n : number ≡ next_in (without_handle (state_of old) end.guest end.handle) to) where
   pub transfers-is : transfers (state_of old) s side end to ≡ goes (replies.Number number) (state_of new)
-  transfers-is = rw (o.same.tag, o.same.limits, o.same.producers, o.same.consumers, o.same.contexts, o.same.trapped, m.guests, o.streams, n) refl
+  transfers-is = rw (o.same.tag, o.same.limits, o.same.producers, o.same.kept, o.same.consumers, o.same.contexts, o.same.trapped, m.guests, o.streams, n) refl
 
   pub IsStore-moved : old.is_trapped ≡ false → refusal (state_of old) (Transfer end to) ≡ None → s ≡ stream_named (named (state_of old) end) → side ≡ side_named (named (state_of old) end) → IsStore old → IsStore new
   IsStore-moved t e stream_is side_is i =
@@ -173,7 +184,7 @@ lower_made state reader g ty e = loose_made state reader (lower_fits state reade
 -- a loose end came into a guest, under this handle
 module _ (old new : Inside) (s g : ℕ) (ty : TransmitIndex) (number : ℕ) (o : SetsOwner old new s Reading (Held g number)) (m : GivesHandle old new Reading ty g s) (n : number ≡ next_in (state_of old) g) where
   pub lowers-is : lowers (state_of old) s g ty ≡ goes (replies.Number number) (state_of new)
-  lowers-is = rw (o.same.tag, o.same.limits, o.same.producers, o.same.consumers, o.same.contexts, o.same.trapped, m.guests, o.streams, n) refl
+  lowers-is = rw (o.same.tag, o.same.limits, o.same.producers, o.same.kept, o.same.consumers, o.same.contexts, o.same.trapped, m.guests, o.streams, n) refl
 
   pub IsStore-lowered : old.is_trapped ≡ false → refusal (state_of old) (OnLoose s (Lower g ty)) ≡ None → IsStore old → IsStore new
   IsStore-lowered t e i =

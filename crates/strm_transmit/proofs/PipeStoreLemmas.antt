@@ -51,12 +51,13 @@ use Rattle.strm_world.proofs.PipeAttachLemmas.{reading_in, piped_in, is_dry_told
 use Rattle.strm_world.proofs.ReaderLemmas.{ended_reader_in}
 use Rattle.strm_world.proofs.SettleLemmas.{AreBothLeft}
 use Rattle.strm_transmit.specs.Hosted.{MayBeDone, MeetsHosted}
-use Rattle.strm_transmit.specs.Inside.{state_of, AreServed, IsStore}
+use Rattle.strm_transmit.specs.Inside.{state_of, AreServed, HavePlaces, IsStore}
 use Rattle.strm_transmit.specs.Piping.{report_withdrawn, handed_to, unread_in, reader_closed, PipeFits, WriterEnds, EndsPipe}
 use Rattle.strm_transmit.specs.declared.store.Store.TheInside.{Inside}
 use Rattle.strm_transmit.proofs.FitsLemmas.{keeps-closed, Fits-told, Fits-told_reader, Fits-ended, Fits-reader_ended, HasWriter, serving}
 use Rattle.strm_transmit.proofs.HostStepLemmas.{does_admitted, Does-after, Fits-after}
 use Rattle.strm_transmit.proofs.HostingLemmas.{no_logs, type_told, host_refusal-is, passes, known_host, unused_is}
+use Rattle.strm_transmit.proofs.KeptLemmas.{have_set}
 use Rattle.strm_transmit.proofs.ServedLemmas.{at_set, same_stream, same_host, serves_none, keeps_writers, reader_now, AreServed-turned}
 use Rattle.strm_transmit.proofs.StoreLemmas.{kept_tables, IsStore-counted, IsSound-same}
 
@@ -336,6 +337,7 @@ pub record HandsTo (old new : Inside) (s r : ℕ) (c : Consumer) : Type 0 where
   pub counted : new.live_streams ≡ count_by is_live new.streams.items
   pub streams : new.streams.items ≡ set old.streams.items s (with_owner Reading (stream_at (state_of old) s) (Host r))
   pub producers : new.producers ≡ old.producers
+  pub same_kept : new.kept ≡ old.kept
   pub consumers : new.consumers ≡ set old.consumers r c
 
 module _ (old new : Inside) (s r : ℕ) (c : Consumer) (h : HandsTo old new s r c) (i : IsStore old) where
@@ -356,6 +358,10 @@ module _ (old new : Inside) (s r : ℕ) (c : Consumer) (h : HandsTo old new s r 
       (λ t other. serves_none old.producers old.consumers old.streams.items i.served Reading r h.unused t)
       (λ t e. same_stream t s (duty_among Reading old.producers (set old.consumers r c) r) e now))
 
+  places : HavePlaces new.producers new.kept.items new.streams.items
+  places =
+      rw (h.producers, h.same_kept, h.streams) (have_set old.producers old.kept.items old.streams.items i.kept s given h.made refl)
+
   sound : IsSound (state_of new)
   sound =
       let stream = IsSound-set (state_of old) s Reading (record (end_of Reading (stream_at (state_of old) s)) { owner = Host r }) h.made (Unchanged refl) i.sound in
@@ -365,5 +371,5 @@ module _ (old new : Inside) (s r : ℕ) (c : Consumer) (h : HandsTo old new s r 
   IsStore-handed =
       IsStore-counted old new
       (kept_tables old new (record { limits = h.limits; counter = h.counter; live_sets = h.live_sets; bytes = h.bytes; guests = rw h.guests (all_kept (seen old.guests.items)) }) i)
-      (record { live = h.counted; served = served; few = rw (h.streams, length-set old.streams.items s given) i.few_streams })
+      (record { live = h.counted; served = served; kept = places; few = rw (h.streams, length-set old.streams.items s given) i.few_streams })
       sound i

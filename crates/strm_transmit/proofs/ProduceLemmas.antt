@@ -58,7 +58,7 @@ held_goes [] e old after read t some = some refl
 pub stream_goes : (old new : State) (tells told : Tells) (n s : ℕ) (read : Operation) (e : TurnError) → TurnsStream old new tells told n s read (Err e) → (told_by tells n).holds ≢ [] → ⊥
 stream_goes old new tells told n s read e t some = held_goes (told_by tells n).holds e _ t.after read t.turns some
 
-stop-is : (e : TurnError) (n : ℕ) → stop_of e n ≡ answered (Err (stops_by e n))
+pub stop-is : (e : TurnError) (n : ℕ) → stop_of e n ≡ answered (Err (stops_by e n))
 stop-is Failed n = refl
 stop-is Broke n = refl
 stop-is OutOfMemory n = refl

@@ -17,10 +17,11 @@ use Rattle.strm_buffers.specs.Tells.{WriterTells, ReaderTells, Tells}
 use Rattle.strm_turns.specs.Guests.{seen}
 use Rattle.strm_producing.specs.Turning.{Scene, scene}
 use Rattle.strm_producing.specs.Taking.{Taking, taking}
-use Rattle.strm_transmit.specs.Inside.{state_of, AreServed, IsStore}
+use Rattle.strm_transmit.specs.Inside.{state_of, AreServed, HavePlaces, IsStore}
 use Rattle.strm_transmit.specs.declared.store.Store.TheInside.{Inside}
 use Rattle.strm_world.specs.Does.{FitsWriter, FitsReader, Fits}
-use Rattle.strm_transmit.proofs.ServedLemmas.{same_stream, same_host, gone_no_host, serving_kept, reading_kept, duty_known, serves_only, keeps_readers, keeps_writers, writer_now, reader_now, AreServed-turned}
+use Rattle.strm_transmit.proofs.ServedLemmas.{same_stream, same_host, not_unused, gone_no_host, serving_kept, reading_kept, duty_known, serves_only, keeps_readers, keeps_writers, writer_now, reader_now, AreServed-turned}
+use Rattle.strm_transmit.proofs.KeptLemmas.{have_set, have_producer}
 use Rattle.strm_transmit.proofs.SceneLemmas.{SceneKeeps}
 use Rattle.strm_transmit.proofs.TakeLemmas.{TakingKeeps}
 use Rattle.strm_machine.proofs.TurnLemmas.{all_kept}
@@ -56,6 +57,7 @@ pub record TakesScene (old new : Inside) (s n : ℕ) (after : Scene) : Type 0 wh
   pub guests : seen new.guests.items ≡ after.guests
   pub streams : new.streams.items ≡ set old.streams.items s after.stream
   pub producers : new.producers ≡ set old.producers n after.producer
+  pub kept : new.kept ≡ old.kept
   pub consumers : new.consumers ≡ old.consumers
 
 -- the scene of a turn in a store
@@ -87,6 +89,13 @@ module _ (old new : Inside) (s n : ℕ) (tells : WriterTells) (after : Scene) (l
       (serves_only old.producers old.consumers old.streams.items i.served Writing n s serves)
       (λ t e. same_stream t s (duty_among Writing (set old.producers n after.producer) old.consumers n) e now))
 
+  places : HavePlaces new.producers new.kept.items new.streams.items
+  places =
+      rw (h.producers, h.kept, h.streams)
+      (have_producer old.producers old.kept.items (set old.streams.items s after.stream)
+      (have_set old.producers old.kept.items old.streams.items i.kept s after.stream l k.stream.payload)
+      n after.producer (serving_kept old.producers n s serves) (λ e. not_unused after.producer.duty s e (k.duty ∙ serves)) (λ t e. sym k.duty ∙ e))
+
   sound : IsSound (state_of new)
   sound =
       let type = type_of-same after.stream (stream_at (state_of old) s) k.stream.payload k.stream.kind in
@@ -98,7 +107,7 @@ module _ (old new : Inside) (s n : ℕ) (tells : WriterTells) (after : Scene) (l
   IsStore-scene =
       IsStore-counted old new
       (kept_tables old new (record { limits = h.limits; counter = h.counter; live_sets = h.live_sets; bytes = h.bytes; guests = rw h.guests k.guests }) i)
-      (record { live = h.counted; served = served; few = rw (h.streams, length-set old.streams.items s after.stream) i.few_streams })
+      (record { live = h.counted; served = served; kept = places; few = rw (h.streams, length-set old.streams.items s after.stream) i.few_streams })
       sound i
 
 -- ## The host writer that serves a stream
@@ -129,6 +138,7 @@ pub record TakesTaking (old new : Inside) (s r : ℕ) (after : Taking) : Type 0 
   pub guests : seen new.guests.items ≡ after.guests
   pub streams : new.streams.items ≡ set old.streams.items s after.stream
   pub producers : new.producers ≡ old.producers
+  pub kept : new.kept ≡ old.kept
   pub consumers : new.consumers ≡ set old.consumers r after.consumer
 
 -- what a turn touches in a store
@@ -160,6 +170,10 @@ module _ (old new : Inside) (s r : ℕ) (tells : ReaderTells) (after : Taking) (
       (serves_only old.producers old.consumers old.streams.items i.served Reading r s reads)
       (λ t e. same_stream t s (duty_among Reading old.producers (set old.consumers r after.consumer) r) e reads_now))
 
+  places_then : HavePlaces new.producers new.kept.items new.streams.items
+  places_then =
+      rw (h.producers, h.kept, h.streams) (have_set old.producers old.kept.items old.streams.items i.kept s after.stream l k.stream.payload)
+
   taken_sound : IsSound (state_of new)
   taken_sound =
       let type = type_of-same after.stream (stream_at (state_of old) s) k.stream.payload k.stream.kind in
@@ -173,7 +187,7 @@ module _ (old new : Inside) (s r : ℕ) (tells : ReaderTells) (after : Taking) (
   IsStore-taking =
       IsStore-counted old new
       (kept_tables old new (record { limits = h.limits; counter = h.counter; live_sets = h.live_sets; bytes = h.bytes; guests = rw same_guests (all_kept (seen old.guests.items)) }) i)
-      (record { live = h.counted; served = taken_served; few = rw (h.streams, length-set old.streams.items s after.stream) i.few_streams })
+      (record { live = h.counted; served = taken_served; kept = places_then; few = rw (h.streams, length-set old.streams.items s after.stream) i.few_streams })
       taken_sound i
 
 -- ## The host reader that serves a stream

@@ -33,11 +33,11 @@ pub record KeepsStreams (old new : Inside) : Type 0 where
 
 IsStore-tables : (old new : Inside) → KeepsStreams old new → CountsTables old new → IsSound (state_of new) → IsStore old → IsStore new
 IsStore-tables old new k tables sound i =
-    IsStore-counted old new tables (kept_streams old new k.streams k.live_streams k.same.producers k.same.consumers i) sound i
+    IsStore-counted old new tables (kept_streams old new k.streams k.live_streams (record { producers = k.same.producers; kept = k.same.kept; consumers = k.same.consumers }) i) sound i
 
 -- the state, where streams stay and guests are these
 state_with : (old new : Inside) → KeepsStreams old new → (guests : List Guest) → seen new.guests.items ≡ guests → state_of new ≡ record (state_of old) { guests = guests }
-state_with old new k guests e = rw (k.same.tag, k.same.limits, k.same.producers, k.same.consumers, k.same.contexts, k.same.trapped, k.streams, e) refl
+state_with old new k guests e = rw (k.same.tag, k.same.limits, k.same.producers, k.same.kept, k.same.consumers, k.same.contexts, k.same.trapped, k.streams, e) refl
 
 -- ## A set more
 

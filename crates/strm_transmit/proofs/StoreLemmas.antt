@@ -36,16 +36,18 @@ use Rattle.strm_codes.specs.declared.codes.TransmitIndex.{TransmitIndex}
 use Rattle.strm_machine.specs.Making.{with_read_end, with_ends, made_stream, made_pair, with_stream}
 use Rattle.strm_machine.specs.declared.replies.Pair.{Pair}
 use Rattle.strm_turns.specs.Guests.{guest_of, seen, live_in, sets_among}
-use Rattle.strm_transmit.specs.Inside.{state_of, AreServed, IsStore}
+use Rattle.strm_transmit.specs.Inside.{state_of, AreServed, HavePlaces, IsStore}
 use Rattle.strm_turns.specs.declared.guests.Guest as ours
 use Rattle.strm_transmit.specs.declared.store.Store.TheInside.{Inside}
 use Rattle.strm_transmit.proofs.ServedLemmas.{AreServed-set, AreServed-push, same_owners}
+use Rattle.strm_transmit.proofs.KeptLemmas.{have_set, have_push}
 
 -- fields that a call leaves as they were
 pub record SameBut (old new : Inside) : Type 0 where
   pub tag : new.tag ≡ old.tag
   pub limits : new.limits ≡ old.limits
   pub producers : new.producers ≡ old.producers
+  pub kept : new.kept ≡ old.kept
   pub consumers : new.consumers ≡ old.consumers
   pub contexts : new.contexts ≡ old.contexts
   pub trapped : new.is_trapped ≡ old.is_trapped
@@ -70,7 +72,7 @@ pub record AddsGuest (old new : Inside) (g : ours.Guest) (size : ℕ) : Type 0 w
 
 state_of-guest : (old new : Inside) (g : ours.Guest) (size : ℕ) → AddsGuest old new g size → state_of new ≡ record (state_of old) { guests = seen old.guests.items ++ guest_of g ∷ [] }
 state_of-guest old new g size h =
-    rw (h.same.tag, h.same.limits, h.same.producers, h.same.consumers, h.same.contexts, h.same.trapped, h.streams, h.guests, seen-push old.guests.items g) refl
+    rw (h.same.tag, h.same.limits, h.same.producers, h.same.kept, h.same.consumers, h.same.contexts, h.same.trapped, h.streams, h.guests, seen-push old.guests.items g) refl
 
 -- how many sets are there
 abbrev pub how_many : Sets → ℕ
@@ -99,6 +101,7 @@ IsStore-guest old new g size h e s =
       within = rw h.counter s.within;
       streams = rw (h.live_streams, h.streams) s.streams;
       served = rw (h.same.producers, h.same.consumers, h.streams) s.served;
+      kept = rw (h.same.producers, h.same.kept, h.streams) s.kept;
       sets = h.live_sets ∙ s.sets ∙ sets;
       bytes = omega (arith, h.bytes, s.bytes, bytes, many);
       few_guests = rw h.guests (omega (arith, fits.count, length-map old.guests.items guest_of, length-append old.guests.items (g ∷ [])));
@@ -201,12 +204,20 @@ kept_tables old new k i = record {
 pub record CountsStreams (new : Inside) : Type 0 where
   pub live : new.live_streams ≡ count_by is_live new.streams.items
   pub served : AreServed new.producers new.consumers new.streams.items
+  pub kept : HavePlaces new.producers new.kept.items new.streams.items
   pub few : length new.streams.items ≤ 4294967295
 
-pub kept_streams : (old new : Inside) → new.streams ≡ old.streams → new.live_streams ≡ old.live_streams → new.producers ≡ old.producers → new.consumers ≡ old.consumers → IsStore old → CountsStreams new
-kept_streams old new streams live producers consumers i = record {
+-- what is kept of host ends is what was
+pub record SameHosts (old new : Inside) : Type 0 where
+  pub producers : new.producers ≡ old.producers
+  pub kept : new.kept ≡ old.kept
+  pub consumers : new.consumers ≡ old.consumers
+
+pub kept_streams : (old new : Inside) → new.streams ≡ old.streams → new.live_streams ≡ old.live_streams → SameHosts old new → IsStore old → CountsStreams new
+kept_streams old new streams live same i = record {
   live = rw (live, streams) i.streams;
-  served = rw (producers, consumers, streams) i.served;
+  served = rw (same.producers, same.consumers, streams) i.served;
+  kept = rw (same.producers, same.kept, streams) i.kept;
   few = rw streams i.few_streams;
 }
 
@@ -221,6 +232,7 @@ IsStore-counted old new tables streams sound i =
       within = tables.handles.within;
       streams = streams.live;
       served = streams.served;
+      kept = streams.kept;
       sets = tables.sets;
       bytes = tables.bytes ∙ i.bytes ∙ sym (same_bytes (seen old.guests.items) (seen new.guests.items) tables.sizes);
       few_guests = omega (arith, count, i.few_guests, length-map old.guests.items guest_of, length-map new.guests.items guest_of);
@@ -252,17 +264,17 @@ pub record PutsBytes (old new : Inside) (g address : ℕ) (bytes : List ℕ) : T
 pub performs-poke : (old new : Inside) (g address : ℕ) (bytes : List ℕ) → PutsBytes old new g address bytes → performs (state_of old) (OnMemory g (Poke address bytes)) ≡ goes replies.Done (state_of new)
 unfolding performs
 performs-poke old new g address bytes h =
-    rw (h.same.tag, h.same.limits, h.same.producers, h.same.consumers, h.same.contexts, h.same.trapped, h.streams, h.guests) refl
+    rw (h.same.tag, h.same.limits, h.same.producers, h.same.kept, h.same.consumers, h.same.contexts, h.same.trapped, h.streams, h.guests) refl
 
 pub IsStore-put : (old new : Inside) (g address : ℕ) (bytes : List ℕ) → PutsBytes old new g address bytes → BytesFit (state_of old) g address (length bytes) → IsStore old → IsStore new
 IsStore-put old new g address bytes h fits i =
     let size = length-poked (memory_in (seen old.guests.items) g) address bytes fits.inside in
     let keeps = with_memory-keeps (seen old.guests.items) g (put_at (memory_in (seen old.guests.items) g) address bytes) size in
     let kept : GuestsKeep (seen old.guests.items) (seen new.guests.items) = rw h.guests keeps in
-    let state : state_of new ≡ record (state_of old) { guests = seen new.guests.items } = rw (h.same.tag, h.same.limits, h.same.producers, h.same.consumers, h.same.contexts, h.same.trapped, h.streams) refl in
+    let state : state_of new ≡ record (state_of old) { guests = seen new.guests.items } = rw (h.same.tag, h.same.limits, h.same.producers, h.same.kept, h.same.consumers, h.same.contexts, h.same.trapped, h.streams) refl in
     IsStore-counted old new
     (kept_tables old new (record { limits = h.same.limits; counter = h.counter; live_sets = h.live_sets; bytes = h.count; guests = kept }) i)
-    (kept_streams old new h.streams h.live_streams h.same.producers h.same.consumers i)
+    (kept_streams old new h.streams h.live_streams (record { producers = h.same.producers; kept = h.same.kept; consumers = h.same.consumers }) i)
     (rw state (IsSound-guests (state_of old) (seen new.guests.items) kept i.sound)) i
 
 pub IsStore-poke : (old new : Inside) (g address : ℕ) (bytes : List ℕ) → PutsBytes old new g address bytes → refusal (state_of old) (OnMemory g (Poke address bytes)) ≡ None → IsStore old → IsStore new
@@ -276,6 +288,7 @@ pub record TakesTurn (old new : Inside) (s : ℕ) (t : Turn) : Type 0 where
   pub tag : new.tag ≡ old.tag
   pub limits : new.limits ≡ old.limits
   pub producers : new.producers ≡ old.producers
+  pub kept : new.kept ≡ old.kept
   pub consumers : new.consumers ≡ old.consumers
   pub contexts : new.contexts ≡ old.contexts
   pub counter : new.counter ≡ old.counter
@@ -306,6 +319,7 @@ IsStore-turn old new s t l keeps h i =
     (record {
       live = rw h.streams (as_many _ _ _ _ _ there (ap live_by owners) (h.live_streams ∙ i.streams));
       served = rw (h.producers, h.consumers, h.streams) (AreServed-set old.producers old.consumers old.streams.items i.served s t.stream l (same_owners before t.stream keeps.stream.writer keeps.stream.reader));
+      kept = rw (h.producers, h.kept, h.streams) (have_set old.producers old.kept.items old.streams.items i.kept s t.stream l keeps.stream.payload);
       few = rw (h.streams, length-set old.streams.items s t.stream) i.few_streams;
     })
     (IsSound-same (record (state_of old) { guests = t.guests; streams = set old.streams.items s t.stream }) (state_of new) h.guests h.streams h.contexts (IsSound-turn (state_of old) s t keeps i.sound)) i
@@ -314,12 +328,12 @@ IsStore-turn old new s t l keeps h i =
     as_many a w b v n e f g = omega (arith, e, f, g)
 
 -- what is kept of host ends alone is another
-pub IsStore-kept : (s : Inside) (producers : List Producer) (consumers : List Consumer) → AreServed producers consumers s.streams.items → IsStore s → IsStore (record s { producers = producers; consumers = consumers })
-IsStore-kept s producers consumers h i =
+pub IsStore-kept : (s : Inside) (producers : List Producer) (consumers : List Consumer) → AreServed producers consumers s.streams.items → HavePlaces producers s.kept.items s.streams.items → IsStore s → IsStore (record s { producers = producers; consumers = consumers })
+IsStore-kept s producers consumers h k i =
     let new = record s { producers = producers; consumers = consumers } in
     IsStore-counted s new
     (kept_tables s new (record { limits = refl; counter = refl; live_sets = refl; bytes = refl; guests = all_kept (seen s.guests.items) }) i)
-    (record { live = i.streams; served = h; few = i.few_streams })
+    (record { live = i.streams; served = h; kept = k; few = i.few_streams })
     (IsSound-same (state_of s) (state_of new) refl refl refl i.sound) i
 
 pub stream_at-there : (s : Inside) (stream : ℕ) (x : Stream) → stream < length s.streams.items → x ≡ get_or s.streams.items stream x → stream_at (state_of s) stream ≡ x
@@ -350,7 +364,7 @@ pub record MakesStream (old new : Inside) (writer reader : ℕ) (ty : TransmitIn
 
 state_of-made : (old new : Inside) (writer reader : ℕ) (ty : TransmitIndex) → MakesStream old new writer reader ty → state_of new ≡ with_stream (state_of old) writer reader ty
 unfolding with_stream
-state_of-made old new writer reader ty h = rw (h.same.tag, h.same.limits, h.same.producers, h.same.consumers, h.same.contexts, h.same.trapped, h.guests, h.streams) refl
+state_of-made old new writer reader ty h = rw (h.same.tag, h.same.limits, h.same.producers, h.same.kept, h.same.consumers, h.same.contexts, h.same.trapped, h.guests, h.streams) refl
 
 pub performs-made : (old new : Inside) (writer reader : ℕ) (ty : TransmitIndex) (pair : Pair) → MakesStream old new writer reader ty → pair ≡ made_pair (state_of old) writer reader ty → performs (state_of old) (Make (Between writer reader ty)) ≡ goes (replies.Pair pair) (state_of new)
 unfolding performs
@@ -387,6 +401,7 @@ IsStore-made old new writer reader ty h e i =
     (record {
       live = omega (arith, h.live_streams, i.streams, live);
       served = rw (h.same.producers, h.same.consumers, h.streams) (AreServed-push old.producers old.consumers old.streams.items i.served stream (nobodys stream refl refl));
+      kept = rw (h.same.producers, h.same.kept, h.streams) (have_push old.producers old.kept.items old.streams.items i.kept old.consumers stream i.served);
       few = rw h.streams (omega (arith, fits.streams, length-append old.streams.items (stream ∷ [])));
     })
     (subst IsSound (sym (state_of-made old new writer reader ty h)) (IsSound-with_stream (state_of old) writer reader ty fits.read fits.write i.sound)) i

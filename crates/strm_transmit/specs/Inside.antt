@@ -1,17 +1,24 @@
 -- The store's fields as the machine's state, and what they keep: counters that agree with it. Ours.
-use Rattle.std.specs.Prelude.{◌≡◌, ℕ, ◌<◌, ◌≤◌, List, length, count_by, slice_index_or}
-use Rattle.strm_machine.specs.State.{State, is_live, host_limit, no_stream, handles_in_use, sets_in_use, bytes_in_use}
+use Rattle.std.specs.Prelude.{◌≡◌, ℕ, ◌<◌, ◌≤◌, ◌-◌, List, [], ◌++◌, length, map, replicate, count_by, slice_index_or}
+use Rattle.strm_codes.specs.declared.payloads.Payload.{Payload}
+use Rattle.strm_codes.specs.declared.payloads.Payload.TheVariants.{Nothing}
+use Rattle.strm_buffers.specs.Listing.{Item, TypedItems}
+use Rattle.strm_machine.specs.State.{State, is_live, host_limit, no_producer, no_stream, handles_in_use, sets_in_use, bytes_in_use}
 use Rattle.strm_machine.specs.Hosting.{duty_among}
 use Rattle.strm_machine.specs.Sides.{end_of}
 use Rattle.strm_machine.specs.Soundness.{IsSound}
 use Rattle.strm_machine.specs.declared.streams.Consumer.{Consumer}
-use Rattle.strm_machine.specs.declared.streams.Duty.TheVariants.{Serves}
+use Rattle.strm_machine.specs.declared.streams.Duty.TheVariants.{Unused, Serves}
 use Rattle.strm_machine.specs.declared.streams.Owner.TheVariants.{Host}
 use Rattle.strm_machine.specs.declared.streams.Producer.{Producer}
 use Rattle.strm_machine.specs.declared.streams.Side.{Side}
 use Rattle.strm_machine.specs.declared.streams.Stream.{Stream}
 use Rattle.strm_turns.specs.Guests.{seen}
 use Rattle.strm_transmit.specs.declared.store.Store.TheInside.{Inside}
+
+-- of host writers for which the store has no place yet nothing is kept
+abbrev pub padded : List TypedItems → List (List Item)
+padded kept = map (λ k. k.items) kept ++ replicate (host_limit - length kept) []
 
 -- the machine's state, of which counters and room are no part
 abbrev pub state_of : Inside → State
@@ -21,6 +28,7 @@ state_of s = record {
   guests = seen s.guests.items;
   streams = s.streams.items;
   producers = s.producers;
+  kept = padded s.kept.items;
   consumers = s.consumers;
   contexts = s.contexts;
   trapped = s.is_trapped;
@@ -34,6 +42,24 @@ pub record AreServed (producers : List Producer) (consumers : List Consumer) (st
       duty_among side producers consumers n ≡ Serves s
   pub made : (side : Side) (n s : ℕ) → duty_among side producers consumers n ≡ Serves s → s < length streams
 
+-- what stands past the last of them
+abbrev pub nothing_kept : TypedItems
+nothing_kept = record { payload = Nothing; items = [] }
+
+-- there is a place for items of host writer n, of this payload
+pub record HasPlace (kept : List TypedItems) (n : ℕ) (payload : Payload) : Type 0 where
+  pub there : n < length kept
+  pub type : (slice_index_or kept n nothing_kept).payload ≡ payload
+
+-- one that serves a stream has a place for items of its payload, and of one that was never used nothing is
+-- kept
+pub record HavePlaces (producers : List Producer) (kept : List TypedItems) (streams : List Stream) : Type 0 where
+  pub few : length kept ≤ host_limit
+  pub places : (n s : ℕ) → (slice_index_or producers n no_producer).duty ≡ Serves s →
+      HasPlace kept n (slice_index_or streams s no_stream).payload
+  pub unused : (n : ℕ) → (slice_index_or producers n no_producer).duty ≡ Unused →
+      (slice_index_or kept n nothing_kept).items ≡ []
+
 -- handles name streams and sets, and operations lie in memory; what is counted is what is there
 pub record IsStore (s : Inside) : Type 0 where
   pub sound : IsSound (state_of s)
@@ -42,6 +68,7 @@ pub record IsStore (s : Inside) : Type 0 where
   pub within : s.counter.live ≤ s.counter.limit
   pub streams : s.live_streams ≡ count_by is_live s.streams.items
   pub served : AreServed s.producers s.consumers s.streams.items
+  pub kept : HavePlaces s.producers s.kept.items s.streams.items
   pub sets : s.live_sets ≡ sets_in_use (state_of s)
   pub bytes : s.bytes ≡ bytes_in_use (state_of s)
   pub few_guests : length s.guests.items ≤ 1048576

@@ -9,24 +9,31 @@ use std::alloc::AllocError;
 use strm_codes::counts::OutOfMemory;
 use strm_codes::refusals::Refusal;
 use strm_machine::streams::HostEnd;
+use thiserror::Error;
 
 /// Why a call did not answer.
-#[derive(Clone, Copy, Debug, PartialEq, Eq)]
+#[derive(Clone, Copy, Debug, PartialEq, Eq, Error)]
 pub enum StoreError {
     /// What was asked may not be done now. Nothing has changed.
+    #[error("refused: {0}")]
     Refused(Refusal),
     /// This host end failed. The store is trapped from now on.
+    #[error("{end} failed")]
     HostFailed { end: HostEnd },
     /// This host end broke its rules. The store is trapped from now on.
+    #[error("{end} broke its rules")]
     HostBroke { end: HostEnd },
     /// An item that was asked for on this stream is no Unicode scalar value. None was moved, and the
     /// store is trapped from now on.
+    #[error("an item of stream {stream} is no Unicode scalar value")]
     BadItem { stream: u32 },
     /// An earlier call trapped the store. Nothing has changed.
+    #[error("the store is trapped")]
     StoreTrapped,
     /// An allocation was refused. In a drive round, in a read that a host writer is to fill, and in a
     /// write that a host reader is to take from, the store is trapped from now on; anywhere else nothing
     /// has changed.
+    #[error("out of memory")]
     OutOfMemory,
 }
 

@@ -19,12 +19,14 @@ mod moves;
 mod operations;
 mod piping;
 mod refusals;
+mod rounds;
 mod sets;
 mod turning;
 
 use crate::errors::StoreError;
 use std::alloc::Global;
 use std::marker::Model;
+use strm_buffers::items::Items;
 use strm_codes::codes::{TransmitIndex, TransmitKind};
 use strm_codes::payloads::Payload;
 use strm_codes::refusals::Refusal;
@@ -45,6 +47,7 @@ const NO_PRODUCER: Producer = Producer {
 const NO_CONSUMER: Consumer = Consumer {
     duty: Duty::Unused,
     since: 0,
+    resting: false,
 };
 
 // The type of the streams of a kind and a payload.
@@ -67,7 +70,10 @@ pub struct Store {
     streams: Vec<Stream>,
     // What is kept of each host writer, by its number.
     producers: [Producer; 64],
-    // And of each host reader.
+    // Its items that a host reader, which reads its stream, did not take yet; of numbers past the last
+    // there are none.
+    kept: Vec<Items>,
+    // What is kept of each host reader.
     consumers: [Consumer; 64],
     contexts: ErrorContexts,
     // Streams of which an end is there.
@@ -116,6 +122,7 @@ impl Store {
             guests: Vec::new(alloc),
             streams: Vec::new(alloc),
             producers: [NO_PRODUCER; 64],
+            kept: Vec::new(alloc),
             consumers: [NO_CONSUMER; 64],
             contexts: ErrorContexts::new(alloc),
             live_streams: 0,

@@ -26,7 +26,7 @@ use strm_transmit::store::Store;
 const BLOCKED: u32 = 0xffff_ffff;
 
 // What one poll produces, and what it answers.
-type Turn = (&'static [u8], Answer);
+pub(crate) type Turn = (&'static [u8], Answer);
 
 // The turns of a host writer of bytes.
 #[derive(Drop)]
@@ -67,12 +67,21 @@ fn scripted(alloc: Global, turns: &[Turn]) -> Result<Script, Fail> {
 }
 
 // A writer of these turns, at the end of the list.
-fn add_writer(alloc: Global, hosts: &mut Hosts, turns: &[Turn]) -> Result<(), Fail> {
+pub(crate) fn add_writer_of(
+    alloc: Global,
+    hosts: &mut Hosts,
+    kind: TransmitKind,
+    turns: &[Turn],
+) -> Result<(), Fail> {
     let Script { turns } = scripted(alloc, turns)?;
-    let writer = ScriptedWriter::new(alloc, TransmitKind::Stream, BYTES, turns);
+    let writer = ScriptedWriter::new(alloc, kind, BYTES, turns);
     let writer: Box<dyn HostWriter> = Box::new(alloc, writer)?;
     hosts.writers.push(writer)?;
     Ok(())
+}
+
+fn add_writer(alloc: Global, hosts: &mut Hosts, turns: &[Turn]) -> Result<(), Fail> {
+    add_writer_of(alloc, hosts, TransmitKind::Stream, turns)
 }
 
 // How many polls a writer recorded.
@@ -82,7 +91,12 @@ fn has_records(rt: &impl Abort, hosts: &Hosts, number: usize, records: usize) {
 }
 
 // A stream of a host writer.
-fn host(rt: &impl Abort, store: &mut Store, hosts: &Hosts, writer: u32) -> Result<u32, StoreError> {
+pub(crate) fn host(
+    rt: &impl Abort,
+    store: &mut Store,
+    hosts: &Hosts,
+    writer: u32,
+) -> Result<u32, StoreError> {
     must_fit(rt, store, hosts);
     store.host_new(hosts, writer)
 }

@@ -18,6 +18,8 @@ mod limits;
 #[cfg(test)]
 mod moves;
 #[cfg(test)]
+mod pipes;
+#[cfg(test)]
 mod readers;
 #[cfg(test)]
 mod sets;

@@ -23,10 +23,10 @@ use strm_transmit::store::Store;
 const BLOCKED: u32 = 0xffff_ffff;
 
 // How many items one poll takes at most, and what it answers.
-type Turn = (u32, Answer);
+pub(crate) type Turn = (u32, Answer);
 
 // A reader of these turns, at the end of the list.
-fn add_reader(
+pub(crate) fn add_reader(
     alloc: Global,
     hosts: &mut Hosts,
     kind: TransmitKind,
@@ -58,7 +58,7 @@ fn has_records(rt: &impl Abort, hosts: &Hosts, number: usize, records: usize) {
 }
 
 // The loose read end of a stream goes to a host reader.
-fn pipe(
+pub(crate) fn pipe(
     rt: &impl Abort,
     store: &mut Store,
     hosts: &mut Hosts,

@@ -5,7 +5,7 @@
 
 ghost use Rattle.std.specs.Prelude.{◌≡◌, ◌≢◌, ◌+◌, ◌-◌, ◌*◌, ◌^◌, ◌<◌, ◌≤◌, List, true, sum, length, min, Some, None, Ok, OnOk, OnErr};
 ghost use Rattle.strm_codes.specs.Layout.{scalars_of, item_size};
-ghost use Rattle.strm_machine.specs.Sides.{opposite, end_of, with_end, write_of, read_of};
+ghost use Rattle.strm_machine.specs.Sides.{opposite, end_of, with_end, with_operation, write_of, read_of};
 ghost use Rattle.strm_machine.specs.Tests.{is_open_of};
 ghost use Rattle.strm_machine.specs.State as machine;
 ghost use Rattle.strm_machine.specs.State.{memory_in};
@@ -25,7 +25,7 @@ use std::alloc::Global;
 use strm_codes::codes::{ReturnCode, StreamResult, TransmitKind};
 use strm_codes::counts::ItemCount;
 use strm_codes::payloads::Payload;
-use strm_machine::streams::{Meeting, Operation, Owner, Side, Stream};
+use strm_machine::streams::{End, Meeting, Operation, Owner, Side, Stream};
 use strm_memory::copies::BadItem;
 use strm_memory::memories::GuestMemory;
 use strm_memory::moves::copy_within_items;
@@ -66,19 +66,40 @@ pub fn go_on(payload: Payload, operation: &Operation, count: ItemCount) -> Opera
     next
 }
 
-// A waiting operation of which so many items more were moved: it has met.
+// The waiting operation of an end, of which so many items more were moved: it has met. What stays of it
+// is not written.
 #[inline(always)]
-fn advance(payload: Payload, operation: &Operation, count: ItemCount) -> Operation
-    requires left { count ≤ operation.now.left }
-    requires counted { operation.now.moved + count < 2 ^ 28 }
-    requires room { operation.now.address + item_size (scalars_of payload) * count < 2 ^ 32 }
-    ensures { result ≡ advanced payload operation.now count }
+fn advance(end: &mut End, payload: &Payload, theirs: &Operation, count: ItemCount)
+    requires there { end.old.operation ≡ Some theirs.now }
+    requires left { count ≤ theirs.now.left }
+    requires counted { theirs.now.moved + count < 2 ^ 28 }
+    requires room { theirs.now.address + item_size (scalars_of payload.now) * count < 2 ^ 32 }
+    ensures { end.new ≡ record end.old { operation = Some (advanced payload.now theirs.now count) } }
 {
-    let mut next = go_on(payload, operation, count);
-    next.is_open = next.left.as_u32() > 0;
-    next.met = true;
-    next.outcome = StreamResult::Completed;
-    next
+    if let Some(operation) = &mut end.operation {
+        operation.address = theirs.address + payload.size() * count.as_u32();
+        operation.left = theirs.left.sub(count);
+        operation.moved = theirs.moved.add(count);
+        operation.is_open = operation.left.as_u32() > 0;
+        operation.met = true;
+        operation.outcome = StreamResult::Completed;
+    }
+}
+
+// The same of the end on a side.
+#[inline(always)]
+fn advance_on(stream: &mut Stream, side: Side, theirs: &Operation, count: ItemCount)
+    requires there { (end_of side stream.old).operation ≡ Some theirs.now }
+    requires left { count ≤ theirs.now.left }
+    requires counted { theirs.now.moved + count < 2 ^ 28 }
+    requires room { theirs.now.address + item_size (scalars_of stream.old.payload) * count < 2 ^ 32 }
+    ensures { stream.new ≡
+        with_operation side stream.old (advanced stream.old.payload theirs.now count) }
+{
+    match side {
+        Side::Writing => advance(&mut stream.writer, &stream.payload, theirs, count),
+        Side::Reading => advance(&mut stream.reader, &stream.payload, theirs, count),
+    }
 }
 
 #[inline(always)]
@@ -122,6 +143,7 @@ fn complete_alone(
     mine: Operation,
     theirs: Operation,
 ) -> ReturnCode
+    requires there { (end_of (opposite side) stream.old).operation ≡ Some theirs }
     requires counted { theirs.moved < 2 ^ 28 }
     requires room { theirs.address < 2 ^ 32 }
     ensures { (guests : List machine.Guest) →
@@ -130,8 +152,7 @@ fn complete_alone(
     if same_side(who, side) {
         return ReturnCode::completed(stream.kind, ItemCount::ZERO);
     }
-    let stopped = advance(stream.payload, &theirs, ItemCount::ZERO);
-    set_operation(stream, opposite(side), stopped);
+    advance_on(stream, opposite(side), &theirs, ItemCount::ZERO);
     set_operation(stream, side, mine);
     ReturnCode::Blocked
 }
@@ -289,6 +310,7 @@ fn exchange(
     mine: &Operation,
     theirs: &Operation,
 ) -> Result<ReturnCode, BadItem>
+    requires there { (end_of (opposite side) stream.old).operation ≡ Some theirs.now }
     requires mine { IsPlaced (sizes_of (seen guests.old.items)) stream.old.payload mine.now }
     requires theirs { IsPlaced (sizes_of (seen guests.old.items)) stream.old.payload theirs.now }
     requires numbers { mine.now.guest ≡ theirs.now.guest
@@ -304,9 +326,8 @@ fn exchange(
 {
     let count = lesser(mine.left, theirs.left);
     carry_from(alloc, guests, stream.payload, side, mine, theirs, count)?;
+    advance_on(stream, opposite(side), theirs, count);
     receive(stream, count);
-    let met = advance(stream.payload, theirs, count);
-    set_operation(stream, opposite(side), met);
     Ok(ReturnCode::completed(stream.kind, count))
 }
 
@@ -320,6 +341,7 @@ fn meet(
     mine: Operation,
     theirs: Operation,
 ) -> Result<ReturnCode, BadItem>
+    requires there { (end_of (opposite side) stream.old).operation ≡ Some theirs }
     requires mine { IsPlaced (sizes_of (seen guests.old.items)) stream.old.payload mine }
     requires theirs { IsPlaced (sizes_of (seen guests.old.items)) stream.old.payload theirs }
     requires numbers { mine.guest ≡ theirs.guest → IsTrue (is_number_or_none stream.old.payload) }

@@ -6,6 +6,7 @@ pub mod Settling
 pub mod Producing
 pub mod Consuming
 pub mod Attaching
+pub mod Piping
 pub mod Driving
 pub mod HostRefusals
 pub mod Steps

@@ -1,8 +1,9 @@
 -- The machine's state with what its host ends tell.
 -- wasmtime, futures_and_streams.rs, `TransmitState` with `WriteState::HostReady` and
 -- `ReadState::HostReady`.
-use Rattle.std.specs.Prelude.{ℕ, List, slice_set}
-use Rattle.strm_machine.specs.State.{State, Guest, producer_at, consumer_at, stream_at}
+use Rattle.std.specs.Prelude.{ℕ, List, ◌++◌, slice_set}
+use Rattle.strm_buffers.specs.Listing.{Item}
+use Rattle.strm_machine.specs.State.{State, Guest, producer_at, kept_at, consumer_at, stream_at}
 use Rattle.strm_machine.specs.declared.streams.Duty.TheVariants.{Ended}
 use Rattle.strm_machine.specs.declared.streams.Owner.{Owner}
 use Rattle.strm_machine.specs.declared.streams.Owner.TheVariants.{Host, Gone}
@@ -31,6 +32,11 @@ writer_at world n = writer_in world.writers n
 abbrev pub reader_at : World → ℕ → Reader
 reader_at world r = reader_in world.readers r
 
+-- what is held on the stream that host writer n writes: what is kept for a host reader, and then what
+-- the writer holds itself
+abbrev pub held_of : World → ℕ → List Item
+held_of world n = kept_at world.state n ++ (writer_at world n).holds
+
 -- WRITING
 
 -- other guests
@@ -41,6 +47,11 @@ with_guests world guests = record world { state = record world.state { guests = 
 abbrev pub with_producer : World → ℕ → Producer → World
 with_producer world n producer =
     record world { state = record world.state { producers = slice_set world.state.producers n producer } }
+
+-- these items of host writer n are kept
+abbrev pub with_kept : World → ℕ → List Item → World
+with_kept world n items =
+    record world { state = record world.state { kept = slice_set world.state.kept n items } }
 
 -- something else is kept of host reader r
 abbrev pub with_consumer : World → ℕ → Consumer → World

@@ -3,7 +3,7 @@
 //! Meaning: `Driving.antt` of `strm_world`. Ours: wasmtime's event loop polls the futures of its host
 //! ends.
 
-ghost use Rattle.std.specs.Prelude.{◌≡◌, ◌<◌, ◌≤◌, true, length, IfErr};
+ghost use Rattle.std.specs.Prelude.{◌≡◌, ◌<◌, ◌≤◌, true, length, None, IfErr};
 ghost use Rattle.strm_buffers.specs.AllTells.{tells_of};
 ghost use Rattle.strm_machine.specs.State.{stream_at, host_limit, producer_at, consumer_at};
 ghost use Rattle.strm_machine.specs.declared.acts.Act.TheVariants.{Drive};
@@ -13,6 +13,7 @@ ghost use Rattle.strm_world.specs.Does.{Fits, Does};
 ghost use Rattle.strm_transmit.specs.Inside.{AreServed};
 ghost use Rattle.strm_transmit.specs.Meets.{replied};
 ghost use Rattle.strm_transmit.specs.Hosted.{answered, IsStop, MeetsHosted};
+ghost use Rattle.strm_transmit.specs.Rounds.{pipe_ends};
 ghost use Rattle.strm_transmit.specs.Turning.{due_on, least_of, next_of, NextServed};
 
 use crate::errors::StoreError;
@@ -91,10 +92,11 @@ impl Store {
         }
     }
 
-    // The turn of a stream in a drive round: that of its host end, if it has one, for the open operation of
-    // the other end. A stream from a host writer to a host reader is passed over.
-    fn drive_stream(&mut self, hosts: &mut Hosts, stream: u32) -> Result<(), StoreError>
+    // The turn of a stream that is no pipe in a drive round: that of its host end, if it has one, for the
+    // open operation of the other end.
+    fn serve(&mut self, hosts: &mut Hosts, stream: u32) -> Result<(), StoreError>
         requires there { stream < length self.old.streams }
+        requires unpiped { pipe_ends (stream_at self.old stream) ≡ None }
         requires fits { Fits self.old (tells_of writer_tells reader_tells hosts.old) }
         ensures does { Does self.old self.new (tells_of writer_tells reader_tells hosts.old)
             (tells_of writer_tells reader_tells hosts.new) (answered (replied (λ _. replies.Done) result))
@@ -111,6 +113,24 @@ impl Store {
         match self.due(stream, Side::Writing) {
             Some(write) => self.host_turn(hosts, stream, Side::Writing, write.0, &write.1),
             None => Ok(()),
+        }
+    }
+
+    // The turn of a stream in a drive round.
+    fn drive_stream(&mut self, hosts: &mut Hosts, stream: u32) -> Result<(), StoreError>
+        requires there { stream < length self.old.streams }
+        requires fits { Fits self.old (tells_of writer_tells reader_tells hosts.old) }
+        ensures does { Does self.old self.new (tells_of writer_tells reader_tells hosts.old)
+            (tells_of writer_tells reader_tells hosts.new) (answered (replied (λ _. replies.Done) result))
+            (λ world. drive_turn world stream) }
+        ensures fits { Fits self.new (tells_of writer_tells reader_tells hosts.new) }
+        ensures there { length self.new.streams ≡ length self.old.streams }
+        ensures stop { IfErr result IsStop }
+        ensures trapped { IfErr result (λ _. self.new.trapped ≡ true) }
+    {
+        match self.pipe_ends(stream) {
+            Some(ends) => self.pipe_round(hosts, stream, ends.0, ends.1),
+            None => self.serve(hosts, stream),
         }
     }
 
@@ -134,8 +154,8 @@ impl Store {
         Ok(())
     }
 
-    /// Gives each host end that has an open read or write to serve its turn, by the streams' numbers. It
-    /// costs nothing by all streams ever made. Want of memory traps the store.
+    /// Gives each host end that has an open read or write to serve its turn, and each pipe from a host
+    /// writer to a host reader its round, by the streams' numbers. It costs nothing by all streams ever made. Want of memory traps the store.
     pub fn drive_once(&mut self, hosts: &mut Hosts) -> Result<(), StoreError>
         requires fits { Fits self.old (tells_of writer_tells reader_tells hosts.old) }
         ensures meets { MeetsHosted self.old self.new (tells_of writer_tells reader_tells hosts.old)

@@ -3,7 +3,7 @@
 //! Meaning: `Attaching.antt` and `HostRefusals.antt` of `strm_world`. Source: wasmtime,
 //! `StreamReader::new`, `FutureReader::new`, and the drops of ends; `feed` and `grant` are ours.
 
-ghost use Rattle.std.specs.Prelude.{◌≡◌, ◌<◌, ◌↔◌, ◌++◌, ◌∷◌, [], false, length, slice_set, Ok, Err, IsTrue, OnOk, OnErr, IfOk};
+ghost use Rattle.std.specs.Prelude.{◌≡◌, ◌<◌, ◌≤◌, ◌↔◌, ◌++◌, ◌∷◌, [], false, length, slice_set, Ok, Err, IsTrue, OnOk, OnErr, IfOk};
 ghost use Rattle.strm_buffers.specs.AllTells.{tells_of};
 ghost use Rattle.strm_machine.specs.State.{host_limit, stream_limit, idle_end, producer_at, no_producer, consumer_at, stream_at, is_host};
 ghost use Rattle.strm_machine.specs.Sides.{opposite, end_of};
@@ -17,6 +17,7 @@ ghost use Rattle.strm_world.specs.Outcomes.{done};
 ghost use Rattle.strm_world.specs.HostRefusals.{is_unknown_host, refusal_in};
 ghost use Rattle.strm_world.specs.Does.{Logs, world_of, FitsWriter, FitsReader, Fits, Does};
 ghost use Rattle.strm_transmit.specs.Inside.{AreServed};
+ghost use Rattle.strm_transmit.specs.Keeping.{HasGrown, PlaceMade};
 ghost use Rattle.strm_transmit.specs.Meets.{replied, or_found};
 ghost use Rattle.strm_transmit.specs.Hosted.{FitsAt, forsaken_in, MeetsHosted};
 
@@ -24,8 +25,11 @@ use crate::errors::StoreError;
 use crate::store::Store;
 use crate::store::making::{new_stream, place};
 use crate::store::moves::same_kind;
+use std::alloc::Global;
 use strm_buffers::hosts::Hosts;
+use strm_buffers::items::Items;
 use strm_codes::codes::TransmitKind;
+use strm_codes::counts::OutOfMemory;
 use strm_codes::payloads::Payload;
 use strm_codes::refusals::Refusal;
 use strm_machine::chunks::Chunk;
@@ -63,6 +67,44 @@ fn reads(hosts: &Hosts, number: usize, stream: &Stream) -> bool
     let is_of_kind = same_kind(hosts.reader_kind(number), stream.kind);
     let is_of_payload = hosts.reader_payload(number) == stream.payload;
     is_of_kind && is_of_payload
+}
+
+// Places for items of host writers up to a number, the new ones with nothing in them. After want of memory
+// there may be some.
+fn grow(alloc: Global, kept: &mut Vec<Items>, number: usize) -> Result<(), OutOfMemory>
+    requires few { length kept.old.items ≤ host_limit }
+    requires known { number < host_limit }
+    ensures grown { HasGrown kept.old.items kept.new.items }
+    ensures there { OnOk result (number < length kept.new.items) }
+{
+    for _place in kept.len()..number + 1 {
+        match kept.push(Items::new(alloc, Payload::Nothing)) {
+            Ok(()) => {}
+            Err(_) => return Err(OutOfMemory),
+        }
+    }
+    Ok(())
+}
+
+// A place for items of the host writer of a stream, empty. After want of memory there may be more places,
+// with nothing in them.
+fn make_place(
+    alloc: Global,
+    kept: &mut Vec<Items>,
+    number: usize,
+    stream: &Stream,
+) -> Result<(), OutOfMemory>
+    requires few { length kept.old.items ≤ host_limit }
+    requires known { number < host_limit }
+    ensures ok { OnOk result (PlaceMade kept.old.items kept.new.items number stream.now.payload) }
+    ensures err { OnErr result (HasGrown kept.old.items kept.new.items) }
+{
+    match grow(alloc, kept, number) {
+        Ok(()) => {}
+        Err(error) => return Err(error),
+    }
+    kept[number] = Items::new(alloc, stream.payload);
+    Ok(())
 }
 
 impl Store {
@@ -153,6 +195,7 @@ impl Store {
         let stream = self.streams.len() as u32;
         self.streams.reserve(1)?;
         let hosted = new_stream(kind, payload, Owner::Host { number }, Owner::Loose);
+        make_place(self.alloc, &mut self.kept, number as usize, &hosted)?;
         place(&mut self.streams, &hosted);
         self.live_streams += 1;
         self.producers[number as usize] = Producer {
@@ -198,7 +241,7 @@ impl Store {
     }
 
     /// Passes on bytes from outside to a host writer.
-    pub(crate) fn feed(&self, hosts: &mut Hosts, host: u32, bytes: &Chunk) -> Result<(), StoreError>
+    pub fn feed(&self, hosts: &mut Hosts, host: u32, bytes: &Chunk) -> Result<(), StoreError>
         requires fits { Fits self.now (tells_of writer_tells reader_tells hosts.old) }
         ensures meets { MeetsHosted self.now self.now (tells_of writer_tells reader_tells hosts.old)
             (tells_of writer_tells reader_tells hosts.new) (replied (λ _. replies.Done) result)
@@ -226,7 +269,7 @@ impl Store {
     }
 
     /// Passes on to a host reader that it may take so many items more.
-    pub(crate) fn grant(&self, hosts: &mut Hosts, host: u32, count: u32) -> Result<(), StoreError>
+    pub fn grant(&self, hosts: &mut Hosts, host: u32, count: u32) -> Result<(), StoreError>
         requires fits { Fits self.now (tells_of writer_tells reader_tells hosts.old) }
         ensures meets { MeetsHosted self.now self.now (tells_of writer_tells reader_tells hosts.old)
             (tells_of writer_tells reader_tells hosts.new) (replied (λ _. replies.Done) result)

@@ -163,13 +163,17 @@ impl Store {
         self.sound();
         self.served();
         match self.admit(self.operation_found(side, end, address, count)) {
-            Ok(found) => {
-                let mine = begin(end.guest, address, found.1);
-                match self.host_across(side, found.0) {
-                    Some(number) => self.poll_across(hosts, found.0, side, number, mine),
-                    None => self.take(side, found.0, mine),
+            // Begun in each arm, so that without a host end it goes to the stream and not through memory.
+            Ok(found) => match self.host_across(side, found.0) {
+                Some(number) => {
+                    let mine = begin(end.guest, address, found.1);
+                    self.poll_across(hosts, found.0, side, number, mine)
                 }
-            }
+                None => {
+                    let mine = begin(end.guest, address, found.1);
+                    self.take(side, found.0, mine)
+                }
+            },
             Err(error) => Err(error),
         }
     }

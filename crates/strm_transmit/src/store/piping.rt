@@ -103,6 +103,7 @@ impl Store {
         self.consumers[host as usize] = Consumer {
             duty: Duty::Serves { stream },
             since: 0,
+            resting: false,
         };
     }
 
@@ -134,8 +135,8 @@ impl Store {
         self.own(stream, Side::Writing, Owner::Gone);
     }
 
-    // A pipe ends before it began: both ends of the stream are gone, and host ends are closed.
-    fn end_pipe(&mut self, hosts: &mut Hosts, stream: u32, host: u32)
+    // A pipe ends: both ends of the stream are gone, and host ends are closed.
+    pub(crate) fn end_pipe(&mut self, hosts: &mut Hosts, stream: u32, host: u32)
         requires there { stream < length self.old.streams }
         requires serves { (consumer_at self.old host).duty ≡ Serves stream }
         requires fits { Fits self.old (tells_of writer_tells reader_tells hosts.old) }

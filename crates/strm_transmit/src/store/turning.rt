@@ -37,7 +37,7 @@ use strm_turns::owners::is_live;
 use strm_turns::sides::set_operation;
 
 // Why a turn of a host writer stops a call.
-fn stop_of(error: TurnError, number: u32) -> StoreError
+pub(crate) fn stop_of(error: TurnError, number: u32) -> StoreError
     ensures { result ≡ stops_by error number }
 {
     let end = HostEnd::Writer(number);
@@ -49,6 +49,7 @@ fn stop_of(error: TurnError, number: u32) -> StoreError
 }
 
 // The turn of the host writer of a number.
+#[inline(always)]
 #[tactic(auto, using(strm_buffers::proofs::BoxLemmas::boxes))]
 fn turn_of(
     alloc: Global,
@@ -84,7 +85,7 @@ fn turn_of(
 }
 
 // Why a turn of a host reader stops a call.
-fn stop_taking(error: TakeError, number: u32, stream: u32) -> StoreError
+pub(crate) fn stop_taking(error: TakeError, number: u32, stream: u32) -> StoreError
     ensures { result ≡ stops_taking error number stream }
 {
     let end = HostEnd::Reader(number);
@@ -97,6 +98,7 @@ fn stop_taking(error: TakeError, number: u32, stream: u32) -> StoreError
 }
 
 // The turn of the host reader of a number.
+#[inline(always)]
 #[tactic(auto, using(strm_buffers::proofs::BoxLemmas::boxes))]
 fn take_of(
     alloc: Global,
@@ -133,6 +135,7 @@ fn take_of(
 
 impl Store {
     // A read or write opens on a stream.
+    #[inline(always)]
     fn open(&mut self, stream: u32, side: Side, operation: Operation)
         requires there { stream < length self.old.streams }
         requires placed { IsPlaced (sizes_of self.old.guests) (stream_at self.old stream).payload operation }
@@ -143,6 +146,7 @@ impl Store {
     }
 
     // The turn of the host writer that serves a stream, for the open read on it.
+    #[inline(always)]
     fn turn(
         &mut self,
         hosts: &mut Hosts,
@@ -159,23 +163,15 @@ impl Store {
     {
         let served = &mut self.streams[stream as usize];
         let was_live = is_live(served);
-        let mut producer = self.producers[number as usize];
+        let producer = &mut self.producers[number as usize];
         let (guests, place) = (&mut self.guests, number as usize);
-        let turned = turn_of(
-            self.alloc,
-            guests,
-            served,
-            &mut producer,
-            hosts,
-            place,
-            read,
-        );
+        let turned = turn_of(self.alloc, guests, served, producer, hosts, place, read);
         self.live_streams = self.live_streams - u32::from(was_live) + u32::from(is_live(served));
-        self.producers[place] = producer;
         turned
     }
 
     // The turn of the host reader that serves a stream, for the open write on it.
+    #[inline(always)]
     fn take_turn_of(
         &mut self,
         hosts: &mut Hosts,
@@ -192,24 +188,15 @@ impl Store {
     {
         let served = &mut self.streams[stream as usize];
         let was_live = is_live(served);
-        let mut consumer = self.consumers[number as usize];
+        let consumer = &mut self.consumers[number as usize];
         let (guests, place) = (&mut self.guests, number as usize);
-        let taken = take_of(
-            self.alloc,
-            guests,
-            served,
-            &mut consumer,
-            hosts,
-            place,
-            write,
-        );
+        let taken = take_of(self.alloc, guests, served, consumer, hosts, place, write);
         self.live_streams = self.live_streams - u32::from(was_live) + u32::from(is_live(served));
-        self.consumers[place] = consumer;
         taken
     }
 
     // Nothing is done any more but to say that the store is trapped.
-    fn trap(&mut self)
+    pub(crate) fn trap(&mut self)
         ensures { self.new ≡ record self.old { trapped = true } }
     {
         self.is_trapped = true;
@@ -217,6 +204,7 @@ impl Store {
 
     // The turn of the host writer that serves a stream, which is closed where it is done with it. After
     // an error the store is trapped.
+    #[inline(always)]
     fn produce(
         &mut self,
         hosts: &mut Hosts,
@@ -258,6 +246,7 @@ impl Store {
 
     // The turn of the host reader that serves a stream, which is closed where it is done with it. After an
     // error the store is trapped.
+    #[inline(always)]
     fn consume(
         &mut self,
         hosts: &mut Hosts,
@@ -295,6 +284,7 @@ impl Store {
     }
 
     // The turn of the host end across an operation on a side of a stream.
+    #[inline(always)]
     pub(crate) fn host_turn(
         &mut self,
         hosts: &mut Hosts,
@@ -324,6 +314,7 @@ impl Store {
     }
 
     // What a read or write is answered once the host end across had its turn.
+    #[inline(always)]
     fn answer(&mut self, stream: u32, side: Side) -> ReturnCode
         requires { stream < length self.old.streams }
         ensures does { (tells : Tells) → Does self.old self.new tells tells (Ok (replies.Code result))
@@ -337,6 +328,7 @@ impl Store {
     }
 
     // A read or write with a host end across: it opens, and the host end has its turn at once.
+    #[inline(never)]
     pub(crate) fn poll_across(
         &mut self,
         hosts: &mut Hosts,

@@ -1,4 +1,4 @@
-use Rattle.std.proofs.Common.{rules, [], ◌∷◌, drop, refl, sym, arith}
+use Rattle.std.proofs.Common.{rules, [], ◌∷◌, ◌*◌, drop, sym, ap, arith}
 use Rattle.strm_memory.proofs.CopyLemmas.{items-no_char, number_no_char, numbers_copied_at, nothing_copied_at, never_none}
 use Rattle.strm_memory.proofs.copies.copy_region.Goals as goal
 
@@ -11,7 +11,7 @@ returns-in-Nothing-clause-bad c = rw c.in-Nothing.is (never_none _ (items-no_cha
 
 pub returns-in-One-clause-ok : goal.returns-in-One-clause-ok
 returns-in-One-clause-ok c =
-    rw c.in-One.is (numbers_copied_at c.in-One.scalar c.args.count c.args.source.now c.args.destination.now _ c.args.from c.args.to _ (sym c.if-is_whole_number.ensures) (λ k. omega (arith, c.type_inv.source k)) (rw c.in-One.is at c.requires.source_holds) (rw (c.size-size.ensures.exact, c.in-One.is) refl) c.copy_bytes.ensures)
+    rw c.in-One.is (numbers_copied_at c.in-One.scalar c.args.count c.args.source.now c.args.destination.now _ c.args.from c.args.to _ (sym c.if-is_whole_number.ensures) (λ k. omega (arith, c.type_inv.source k)) (rw c.in-One.is at c.requires.source_holds) (ap (λ n. n * c.args.count) c.size.ensures.exact) c.copy_bytes.ensures)
 
 pub returns-in-One-clause-bad : goal.returns-in-One-clause-bad
 returns-in-One-clause-bad c =

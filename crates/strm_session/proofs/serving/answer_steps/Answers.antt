@@ -1,5 +1,5 @@
 use Rattle.std.proofs.Common.{ap, ◌∙◌}
-use Rattle.strm_lines.specs.Text.{stopped_text}
+use Rattle.strm_lines.specs.Text.{stopped_text, transcript_text}
 use Rattle.strm_session.proofs.serving.answer_steps.Goals as goal
 
 pub returns-in_ok-text-in-Err-clause-stopped : goal.returns-in_ok-text-in-Err-clause-stopped
@@ -14,4 +14,20 @@ returns-in_ok-text-in-Err-clause-stopped g c = λ input s q. record {
   kept_before = c.in-Err.ensures.kept_before;
   alone = c.in-Err.ensures.stop_alone;
   text_is = c.in_ok-text-in-Err.ensures.ok ∙ ap (λ told. stopped_text told c.in_ok-status-in-Err.why) c.as_slice.ensures;
+}
+
+pub returns-in_ok-text-in-Ok-clause-done : goal.returns-in_ok-text-in-Ok-clause-done
+returns-in_ok-text-in-Ok-clause-done g c = λ input s q. record {
+  steps = c.args.steps.now;
+  spelled = s;
+  replies = c.in-Ok.transcript.replies;
+  state = c.in-Ok.transcript.store;
+  run = record {
+    played = c.in-Ok.ensures.ok;
+    kept_among = c.in-Ok.ensures.kept_among;
+    delivers = c.in-Ok.ensures.delivers;
+    alone = c.in-Ok.ensures.alone;
+    kept = c.in-Ok.ensures.kept;
+  };
+  text_is = c.in_ok-text-in-Ok.ensures.ok ∙ ap (transcript_text c.in-Ok.transcript.replies) c.in-Ok.ensures.received;
 }

@@ -1,5 +1,5 @@
 use Rattle.std.proofs.Common.{rules, inl}
-use Rattle.strm_session.proofs.ServingLemmas.{told_done, told_ends, told_halts, told_bad_item, told_bad_line, told_too_long, told_usage}
+use Rattle.strm_session.proofs.ServingLemmas.{known_status, known_unfailed, told_done, told_ends, told_halts, told_bad_item, told_bad_line, told_too_long}
 use Rattle.strm_session.proofs.serving.serve.Goals as goal
 
 pub returns-in-Ok-write_whole-clause-told : goal.returns-in-Ok-write_whole-clause-told
@@ -32,6 +32,30 @@ pub returns-in-Ok-write_whole-clause-too_long : goal.returns-in-Ok-write_whole-c
 returns-in-Ok-write_whole-clause-too_long g c = λ input f long.
     inl (told_too_long (g.S.Source.left c.args.source.now) input c.in-Ok.ensures.told f.run f.input_is f.source long)
 
+pub returns-in-Ok-write_whole-clause-generated : goal.returns-in-Ok-write_whole-clause-generated
+returns-in-Ok-write_whole-clause-generated g c = λ n seed w _ few.
+    inl ((c.in-Ok.ensures.told.of_numbers n seed w).done few).0
+
+pub returns-in-Ok-write_whole-clause-too_many : goal.returns-in-Ok-write_whole-clause-too_many
+returns-in-Ok-write_whole-clause-too_many g c = λ n seed w _ many.
+    inl ((c.in-Ok.ensures.told.of_numbers n seed w).too_long many).0
+
 pub returns-in-Ok-write_whole-clause-usage : goal.returns-in-Ok-write_whole-clause-usage
 returns-in-Ok-write_whole-clause-usage g c = λ r _.
-    inl (told_usage (g.S.Source.left c.args.source.now) c.in-Ok.ensures.told r)
+    inl (c.in-Ok.ensures.told.usage r).0
+
+pub returns-in-Ok-write_whole-clause-known : goal.returns-in-Ok-write_whole-clause-known
+returns-in-Ok-write_whole-clause-known g c = known_status c.in-Ok.output.status c.in-Ok.ensures.known
+
+pub returns-in-Ok-write_whole-clause-part : goal.returns-in-Ok-write_whole-clause-part
+returns-in-Ok-write_whole-clause-part g c = λ e. absurd ((known_unfailed c.in-Ok.output.status c.in-Ok.ensures.known).0 e)
+
+pub returns-in-Ok-write_whole-clause-write_fault : goal.returns-in-Ok-write_whole-clause-write_fault
+returns-in-Ok-write_whole-clause-write_fault g c = λ e. absurd ((known_unfailed c.in-Ok.output.status c.in-Ok.ensures.known).0 e)
+
+pub returns-in-Ok-write_whole-clause-nothing : goal.returns-in-Ok-write_whole-clause-nothing
+returns-in-Ok-write_whole-clause-nothing g c = λ e. absurd ((known_unfailed c.in-Ok.output.status c.in-Ok.ensures.known).1 e)
+
+pub returns-in-Ok-clause-part : goal.returns-in-Ok-clause-part
+returns-in-Ok-clause-part g c = λ _.
+    (c.in-Ok.output.status, c.in-Ok.output.text, c.in-Ok.ensures.told, rw c.as_slice.ensures at c.in-Err-write_whole.ensures.err)

@@ -1,16 +1,11 @@
 use Rattle.std.proofs.Common.{sym}
-use Rattle.strm_machine.specs.declared.streams.Side.TheVariants.{Writing, Reading}
 use Rattle.strm_world.proofs.DoesLemmas.{Does-as}
-use Rattle.strm_transmit.proofs.DriveStoreLemmas.{due-turn, idle-turn}
+use Rattle.strm_transmit.proofs.DriveStoreLemmas.{is_pipe, piped-turn}
 use Rattle.strm_transmit.proofs.store.Store.drive_stream.Goals as goal
+
+pub pipe_round-requires : goal.pipe_round-requires
+pipe_round-requires g c = record { pipe = is_pipe c.args.self.now _ c.args.stream c.in-Some.ends.0 c.in-Some.ends.1 c.requires.there (sym c.in-Some.ensures) c.requires.fits }
 
 pub returns-in-Some-clause-does : goal.returns-in-Some-clause-does
 returns-in-Some-clause-does g c =
-    Does-as _ _ _ _ _ _ _ (due-turn Reading c.args.self.now _ c.args.stream c.in-Some.read.0 c.in-Some.read.1 (sym c.in-Some.ensures)) c.host_turn.ensures.does
-
-pub returns-in-None-clause-does : goal.returns-in-None-clause-does
-returns-in-None-clause-does g c = idle-turn c.args.self.now _ c.args.stream (sym c.in_default.ensures) (sym c.in-None.ensures)
-
-pub returns-in-Some-due-clause-does : goal.returns-in-Some-due-clause-does
-returns-in-Some-due-clause-does g c =
-    Does-as _ _ _ _ _ _ _ (due-turn Writing c.args.self.now _ c.args.stream c.in-Some-due.write.0 c.in-Some-due.write.1 (sym c.in-Some-due.ensures)) c.host_turn-in-Some-due.ensures.does
+    Does-as _ _ _ _ _ _ _ (piped-turn c.args.self.now _ c.args.stream c.in-Some.ends.0 c.in-Some.ends.1 (sym c.in-Some.ensures)) c.pipe_round.ensures.does

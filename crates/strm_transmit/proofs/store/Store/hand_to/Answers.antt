@@ -20,6 +20,7 @@ invariant_of-self c =
       counted = c.set_owner.ensures.counted;
       streams = c.set_owner.ensures.streams;
       producers = refl;
+      same_kept = refl;
       consumers = refl;
     })
     c.self.invariant

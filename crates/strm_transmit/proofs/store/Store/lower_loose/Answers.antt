@@ -27,7 +27,7 @@ pub invariant_of-self-2 : goal.invariant_of-self-2
 invariant_of-self-2 c =
     IsStore-lowered c.self.inside _ c.args.reader c.args.guest c.args.ty c.in_ok-handle.handle
     (record {
-      same = record { tag = refl; limits = refl; producers = refl; consumers = refl; contexts = refl; trapped = refl };
+      same = record { tag = refl; limits = refl; producers = refl; kept = refl; consumers = refl; contexts = refl; trapped = refl };
       bytes = refl;
       live_sets = refl;
       counted = c.set_owner.ensures.counted;

@@ -50,7 +50,7 @@ invariant_of-self-2 c =
     (c.in_ok-numbers.ensures.numbers ∙ ap (numbers_of old c.args.writer c.args.reader c.args.ty) number)
     (rw (c.new_stream-joined.ensures, c.kind-kind.ensures, c.payload-payload.ensures) refl) in
     let made : MakesStream c.self.inside (record c.self.inside { counter = c.insert_ends.new.counter; guests = c.insert_ends.new.guests; streams = c.place.new.items; live_streams = c.self.inside.live_streams + 1 }) c.args.writer c.args.reader c.args.ty = record {
-      same = record { tag = refl; limits = refl; producers = refl; consumers = refl; contexts = refl; trapped = refl };
+      same = record { tag = refl; limits = refl; producers = refl; kept = refl; consumers = refl; contexts = refl; trapped = refl };
       counter = c.in_ok-numbers.ensures.counter;
       live = c.in_ok-numbers.ensures.live;
       live_streams = refl;
@@ -69,7 +69,7 @@ returns c =
     (c.in_ok-numbers.ensures.numbers ∙ ap (numbers_of old c.args.writer c.args.reader c.args.ty) number)
     (rw (c.new_stream-joined.ensures, c.kind-kind.ensures, c.payload-payload.ensures) refl) in
     let made : MakesStream c.self.inside (record c.self.inside { counter = c.insert_ends.new.counter; guests = c.insert_ends.new.guests; streams = c.place.new.items; live_streams = c.self.inside.live_streams + 1 }) c.args.writer c.args.reader c.args.ty = record {
-      same = record { tag = refl; limits = refl; producers = refl; consumers = refl; contexts = refl; trapped = refl };
+      same = record { tag = refl; limits = refl; producers = refl; kept = refl; consumers = refl; contexts = refl; trapped = refl };
       counter = c.in_ok-numbers.ensures.counter;
       live = c.in_ok-numbers.ensures.live;
       live_streams = refl;

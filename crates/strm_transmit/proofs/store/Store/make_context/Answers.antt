@@ -25,7 +25,7 @@ invariant_of-self c =
     let fits = context_fits (state_of c.self.inside) c.args.guest c.args.address c.args.len may in
     let did = c.give_context.ensures in
     IsStore-gives c.self.inside _ c.args.guest _ _
-    (record { tag = refl; limits = refl; trapped = refl; streams = refl; producers = refl; consumers = refl; live_streams = refl; live_sets = refl; bytes = refl })
+    (record { tag = refl; limits = refl; trapped = refl; streams = refl; producers = refl; kept = refl; consumers = refl; live_streams = refl; live_sets = refl; bytes = refl })
     c.give_context.result
     (record { guests = did.guests; others = did.contexts; counter = did.counter; live = did.live; err = did.err; same = did.same; kept = did.kept })
     (fits_below c.self.inside c.self.invariant fits.handle.handles)
@@ -38,7 +38,7 @@ invariant_of-self-2 c =
     let fits = context_fits (state_of c.self.inside) c.args.guest c.args.address c.args.len may in
     let did = c.give_context.ensures in
     IsStore-gives c.self.inside _ c.args.guest _ _
-    (record { tag = refl; limits = refl; trapped = refl; streams = refl; producers = refl; consumers = refl; live_streams = refl; live_sets = refl; bytes = refl })
+    (record { tag = refl; limits = refl; trapped = refl; streams = refl; producers = refl; kept = refl; consumers = refl; live_streams = refl; live_sets = refl; bytes = refl })
     c.give_context.result
     (record { guests = did.guests; others = did.contexts; counter = did.counter; live = did.live; err = did.err; same = did.same; kept = did.kept })
     (fits_below c.self.inside c.self.invariant fits.handle.handles)

@@ -19,7 +19,7 @@ invariant_of-self c =
     IsStore-set c.self.inside _ c.args.stream (with_operation c.args.side stream c.args.operation) there
     (λ h. with_operation-keeps c.args.side (sizes_of (seen c.self.inside.guests.items)) stream c.args.operation h placed)
     (record {
-      same = record { tag = refl; limits = refl; producers = refl; consumers = refl; contexts = refl; trapped = refl };
+      same = record { tag = refl; limits = refl; producers = refl; kept = refl; consumers = refl; contexts = refl; trapped = refl };
       counter = refl;
       guests = refl;
       live_streams = refl;

@@ -47,7 +47,7 @@ returns-in-None-clause-meets g c =
     (meets_admitted c.args.self.now c.take.new.self _ (replied replies.Code c.take.result) _
     (reacts _ _ _ _ (λ q. on_stream c.args.self.now q.0 c.args.side (begun c.args.end.now.guest c.args.address q.1)) found
     (performs-on_end c.args.self.now c.args.side c.args.end.now (Operate c.args.address c.args.count)))
-    (rw c.begin-mine.ensures at c.take.ensures.meets))
+    (rw c.begin-mine-in-None.ensures at c.take.ensures.meets))
     c.requires.fits
 
 pub returns-in-Err-clause-meets : goal.returns-in-Err-clause-meets

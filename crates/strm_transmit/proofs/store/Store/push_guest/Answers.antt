@@ -13,7 +13,7 @@ pub invariant_of-self-2 : goal.invariant_of-self-2
 invariant_of-self-2 c =
     IsStore-guest c.self.inside _ (record { memory = c.in_ok-memory.memory; table = c.new-2.result; sets = c.new-3.result }) c.args.size
     (record {
-      same = record { tag = refl; limits = refl; producers = refl; consumers = refl; contexts = refl; trapped = refl };
+      same = record { tag = refl; limits = refl; producers = refl; kept = refl; consumers = refl; contexts = refl; trapped = refl };
       counter = refl;
       streams = refl;
       live_streams = refl;
@@ -31,7 +31,7 @@ returns c =
     rw (← c.self.view_is)
     (performs-guest c.self.inside (record c.self.inside { guests = c.push_reserved.new.self; bytes = c.self.inside.bytes + c.args.size }) (record { memory = c.in_ok-memory.memory; table = c.new-2.result; sets = c.new-3.result }) c.args.size c.len-number.result
     (record {
-      same = record { tag = refl; limits = refl; producers = refl; consumers = refl; contexts = refl; trapped = refl };
+      same = record { tag = refl; limits = refl; producers = refl; kept = refl; consumers = refl; contexts = refl; trapped = refl };
       counter = refl;
       streams = refl;
       live_streams = refl;

@@ -18,7 +18,7 @@ pub invariant_of-self : goal.invariant_of-self
 invariant_of-self c =
     IsStore-poke c.self.inside (record c.self.inside { guests = c.write_bytes.new.guests }) c.args.guest c.args.address c.args.bytes.now
     (record {
-      same = record { tag = refl; limits = refl; producers = refl; consumers = refl; contexts = refl; trapped = refl };
+      same = record { tag = refl; limits = refl; producers = refl; kept = refl; consumers = refl; contexts = refl; trapped = refl };
       counter = refl;
       streams = refl;
       live_streams = refl;
@@ -33,7 +33,7 @@ returns c =
     rw (← c.self.view_is)
     (performs-poke c.self.inside (record c.self.inside { guests = c.write_bytes.new.guests }) c.args.guest c.args.address c.args.bytes.now
     (record {
-      same = record { tag = refl; limits = refl; producers = refl; consumers = refl; contexts = refl; trapped = refl };
+      same = record { tag = refl; limits = refl; producers = refl; kept = refl; consumers = refl; contexts = refl; trapped = refl };
       counter = refl;
       streams = refl;
       live_streams = refl;

@@ -19,7 +19,7 @@ invariant_of-self c =
     (named_made (state_of c.self.inside) c.args.side c.args.end.now c.args.stream c.self.invariant.sound
     (rw (← c.self.view_is) at c.requires.fits) (rw (← c.self.view_is) at c.requires.stream)) c.requires.owner
     (record {
-      same = record { tag = refl; limits = refl; producers = refl; consumers = refl; contexts = refl; trapped = refl };
+      same = record { tag = refl; limits = refl; producers = refl; kept = refl; consumers = refl; contexts = refl; trapped = refl };
       bytes = refl;
       live_sets = refl;
       counted = c.set_owner.ensures.counted;

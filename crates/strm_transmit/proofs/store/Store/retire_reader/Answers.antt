@@ -14,4 +14,5 @@ invariant_of-self c =
     (keeps_writers i.producers i.consumers c.args.number _)
     (gone_has_none Reading i.producers i.consumers i.streams.items c.args.number c.args.stream c.self.invariant.served serves gone)
     (reader_now i.producers i.consumers c.args.number _ (reading_kept i.consumers c.args.number c.args.stream serves) ∙ refl))
+    c.self.invariant.kept
     c.self.invariant

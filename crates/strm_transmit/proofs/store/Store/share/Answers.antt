@@ -24,7 +24,7 @@ invariant_of-self c =
     let fits = rw (← c.self.view_is) at c.requires in
     let did = c.share_context.ensures in
     IsStore-gives c.self.inside _ c.args.guest c.args.context _
-    (record { tag = refl; limits = refl; trapped = refl; streams = refl; producers = refl; consumers = refl; live_streams = refl; live_sets = refl; bytes = refl })
+    (record { tag = refl; limits = refl; trapped = refl; streams = refl; producers = refl; kept = refl; consumers = refl; live_streams = refl; live_sets = refl; bytes = refl })
     c.share_context.result
     (record { guests = did.guests; others = did.contexts; counter = did.counter; live = did.live; err = did.err; same = did.same; kept = did.kept })
     (fits_below c.self.inside c.self.invariant fits.handle.handles)
@@ -36,7 +36,7 @@ invariant_of-self-2 c =
     let fits = rw (← c.self.view_is) at c.requires in
     let did = c.share_context.ensures in
     IsStore-gives c.self.inside _ c.args.guest c.args.context _
-    (record { tag = refl; limits = refl; trapped = refl; streams = refl; producers = refl; consumers = refl; live_streams = refl; live_sets = refl; bytes = refl })
+    (record { tag = refl; limits = refl; trapped = refl; streams = refl; producers = refl; kept = refl; consumers = refl; live_streams = refl; live_sets = refl; bytes = refl })
     c.share_context.result
     (record { guests = did.guests; others = did.contexts; counter = did.counter; live = did.live; err = did.err; same = did.same; kept = did.kept })
     (fits_below c.self.inside c.self.invariant fits.handle.handles)

@@ -24,9 +24,6 @@ take_of-taken-requires-clause-payload g c =
     (reading_fits c.self.inside c.args.self.now c.args.number c.args.stream c.self.view_is c.self.invariant c.requires.owner _ c.requires.fits).payload
     ∙ ap (λ (x : Stream). x.payload) now
 
-pub bounds-self-inside-place : goal.bounds-self-inside-place
-bounds-self-inside-place g c = reader_kept c.self.inside c.args.self.now c.args.number c.args.stream c.self.view_is c.self.invariant c.requires.owner
-
 pub invariant_of-self : goal.invariant_of-self
 invariant_of-self g c =
     let there = rw (← c.self.view_is) at c.requires.there in
@@ -50,6 +47,7 @@ invariant_of-self g c =
       guests = refl;
       streams = refl;
       producers = refl;
+      kept = refl;
       consumers = refl;
     })
     c.self.invariant

@@ -18,7 +18,7 @@ invariant_of-self c =
     IsStore-set c.self.inside _ c.args.stream (delivered c.args.side stream) there
     (delivered-keeps c.args.side (sizes_of (seen c.self.inside.guests.items)) stream)
     (record {
-      same = record { tag = refl; limits = refl; producers = refl; consumers = refl; contexts = refl; trapped = refl };
+      same = record { tag = refl; limits = refl; producers = refl; kept = refl; consumers = refl; contexts = refl; trapped = refl };
       counter = refl;
       guests = refl;
       live_streams = refl;

@@ -23,7 +23,7 @@ invariant_of-self c =
     let fits = text_fits (state_of c.self.inside) c.args.guest c.args.handle c.args.address c.self.invariant.sound (rw (← c.self.view_is) at c.requires.may) in
     IsStore-put c.self.inside _ c.args.guest c.args.address _
     (record {
-      same = record { tag = refl; limits = refl; producers = refl; consumers = refl; contexts = refl; trapped = refl };
+      same = record { tag = refl; limits = refl; producers = refl; kept = refl; consumers = refl; contexts = refl; trapped = refl };
       counter = refl;
       streams = refl;
       live_streams = refl;
@@ -39,7 +39,7 @@ returns c =
     rw (← c.self.view_is)
     (texts-put c.self.inside (record c.self.inside { guests = c.tell_message.new.guests }) c.args.guest c.args.handle c.args.address c.tell_message.result
     (record {
-      same = record { tag = refl; limits = refl; producers = refl; consumers = refl; contexts = refl; trapped = refl };
+      same = record { tag = refl; limits = refl; producers = refl; kept = refl; consumers = refl; contexts = refl; trapped = refl };
       counter = refl;
       streams = refl;
       live_streams = refl;

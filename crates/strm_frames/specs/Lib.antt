@@ -1,0 +1,6 @@
+pub mod Frames
+pub mod Streams
+pub mod Demuxes
+pub mod Fronts
+pub mod Taking
+pub mod Muxes

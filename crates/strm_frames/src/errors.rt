@@ -1,0 +1,46 @@
+//! Why lanes were not carried.
+//!
+//! Meaning: `Streams.antt`. Ours.
+
+ghost use Rattle.std.specs.Prelude.{◌≡◌};
+ghost use Rattle.strm_frames.specs.Demuxes.{error_of};
+
+/// The first fault of a stream, with the place of its frame's first byte. No place is above 2^64 - 1.
+#[derive(Clone, Copy, Debug, PartialEq, Eq)]
+pub enum Fault {
+    /// A frame begins neither with 00 nor with 01.
+    BadKind { at: u64 },
+    /// A data frame has no bytes.
+    EmptyFrame { at: u64 },
+    /// A whole frame names a lane that ended before.
+    AfterEnd { at: u64 },
+}
+
+/// Why a mux or a demux did not do what it was asked.
+#[derive(Clone, Copy, Debug, PartialEq, Eq)]
+pub enum MuxError {
+    /// This lane ended before. Nothing has changed.
+    Ended { lane: u8 },
+    /// A frame begins neither with 00 nor with 01. The piece was not taken, and each later feed answers
+    /// this again.
+    BadKind { at: u64 },
+    /// A data frame has no bytes. As for `BadKind`.
+    EmptyFrame { at: u64 },
+    /// A whole frame names a lane that ended before. As for `BadKind`.
+    AfterEnd { at: u64 },
+    /// An allocation was refused. Nothing has changed.
+    OutOfMemory,
+}
+
+impl Fault {
+    /// How it is answered.
+    pub fn error(self) -> MuxError
+        ensures { result ≡ error_of self }
+    {
+        match self {
+            Fault::BadKind { at } => MuxError::BadKind { at },
+            Fault::EmptyFrame { at } => MuxError::EmptyFrame { at },
+            Fault::AfterEnd { at } => MuxError::AfterEnd { at },
+        }
+    }
+}

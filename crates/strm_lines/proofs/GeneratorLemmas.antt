@@ -1,0 +1,47 @@
+-- The steps that are drawn, one by one, and how many they are.
+use Rattle.std.proofs.Common.{◌≡◌, ℕ, zero, suc, ◌+◌, ◌%◌, ◌^◌, List, [], ◌∷◌, ◌++◌, length, refl, sym, ap, ◌∙◌, append_assoc, arith}
+use Rattle.std.proofs.lemmas.List.{append-nil}
+use Rattle.strm_machine.specs.declared.steps.Step.{Step}
+use Rattle.strm_lines.specs.Generator.{next_state, drawn, drawn_step, drawn_steps, generated}
+
+drawn_steps-suc : (n x : ℕ) → drawn_steps (suc n) x ≡ drawn_step (drawn (next_state x)) (drawn (next_state (next_state x))) (drawn (next_state (next_state (next_state x)))) ∷ drawn_steps n (next_state (next_state (next_state x)))
+unfolding drawn_steps
+drawn_steps-suc n x = refl
+
+drawn_steps-end : (x : ℕ) → drawn_steps zero x ≡ []
+unfolding drawn_steps
+drawn_steps-end x = refl
+
+-- three draws in a row, from the state x, and their states
+pub record Draws (x : ℕ) (a b c y : ℕ) : Type 0 where
+  pub first : ℕ
+  pub second : ℕ
+  pub first_is : first ≡ next_state x
+  pub second_is : second ≡ next_state first
+  pub third_is : y ≡ next_state second
+  pub a_is : a ≡ drawn first
+  pub b_is : b ≡ drawn second
+  pub c_is : c ≡ drawn y
+
+one_of : (n x a b c y : ℕ) → Draws x a b c y → drawn_steps (suc n) x ≡ drawn_step a b c ∷ drawn_steps n y
+one_of n x a b c y d =
+    rw (d.a_is, d.b_is, d.c_is, d.third_is, d.second_is, d.first_is) (drawn_steps-suc n x)
+
+-- a step of three draws behind these, and the others
+pub drawn_steps-more : (n m x a b c y : ℕ) (s : Step) (front new : List Step) → Draws x a b c y → n ≡ suc m → s ≡ drawn_step a b c → new ≡ front ++ s ∷ [] → new ++ drawn_steps m y ≡ front ++ drawn_steps n x
+drawn_steps-more n m x a b c y s front new d e f g =
+    ap (λ steps. steps ++ drawn_steps m y) g
+    ∙ append_assoc front (s ∷ []) (drawn_steps m y)
+    ∙ ap (λ step. front ++ step ∷ drawn_steps m y) f
+    ∙ ap (λ steps. front ++ steps) (sym (ap (λ k. drawn_steps k x) e ∙ one_of m x a b c y d))
+
+-- none are left
+pub drawn_steps-none : (n x : ℕ) (front : List Step) → n ≡ 0 → front ++ drawn_steps n x ≡ front
+drawn_steps-none n x front e = ap (λ k. front ++ drawn_steps k x) e ∙ ap (λ steps. front ++ steps) (drawn_steps-end x) ∙ append-nil front
+
+length-drawn_steps : (n x : ℕ) → length (drawn_steps n x) ≡ n
+length-drawn_steps zero x = ap length (drawn_steps-end x)
+length-drawn_steps (suc n) x = ap length (drawn_steps-suc n x) ∙ ap suc (length-drawn_steps n _)
+
+pub length-generated : (n seed : ℕ) → length (generated n seed) ≡ 4 + n
+length-generated n seed = omega (arith, length-drawn_steps n (seed % 2 ^ 31))

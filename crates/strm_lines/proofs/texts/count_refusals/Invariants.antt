@@ -1,0 +1,10 @@
+use Rattle.std.proofs.Common.{◌≡◌, ◌≤◌, take}
+use Rattle.std.specs.List.{count_by}
+use Rattle.strm_lines.specs.Text.{is_refusal}
+use Rattle.strm_lines.proofs.texts.count_refusals.Given as goal
+
+abbrev pub invariant-loop-reply : goal.invariant-loop-reply
+invariant-loop-reply l = record {
+  exact : l.count ≡ count_by is_refusal (take l.reply-index l.replies);
+  most : l.count ≤ l.reply-index;
+}

@@ -1,0 +1,136 @@
+//! Lanes carried from one guest to another, over one stream of bytes.
+//!
+//! Meaning: `OneStream.antt` of `strm_one_stream`, for the steps and what they bring; `Carrying.antt`, for the
+//! lanes. Ours.
+
+ghost use Rattle.std.specs.Prelude.{◌≡◌, ◌≤◌, ◌∷◌, [], List, ℕ, length, IfOk, IfErr};
+ghost use Rattle.strm_frames.specs.Demuxes.{IsFed};
+ghost use Rattle.strm_frames.specs.Frames.{Frame};
+ghost use Rattle.strm_frames.specs.Muxes.{Carries};
+ghost use Rattle.strm_laws.specs.Conservation.{got, moments, last, replies_of};
+ghost use Rattle.strm_machine.specs.Moments.{received};
+ghost use Rattle.strm_machine.specs.Plays.{play, Ends};
+ghost use Rattle.strm_memory.specs.Bytes.{IsBytes};
+ghost use Rattle.strm_mux.specs.Carrying.{Delivers, IsOneCount};
+ghost use Rattle.strm_one_stream.specs.OneStream.{script_of, items_of, AreSettled};
+ghost use Rattle.strm_session.specs.Runs.{start, AreOfGuests, counts_of};
+
+use crate::hearing::heard;
+use crate::scripts::script;
+use std::alloc::Global;
+use strm_buffers::hosts::Hosts;
+use strm_frames::demuxes::Demux;
+use strm_frames::errors::MuxError;
+use strm_frames::muxes::Mux;
+use strm_lines::lists::{Replies, Steps};
+use strm_machine::steps::Step;
+use strm_one_stream::carries;
+use strm_session::runs::{RunCause, Transcript, run};
+
+/// What was carried.
+#[derive(Drop)]
+pub struct Carried {
+    /// The lanes, taken apart again.
+    pub demux: Demux,
+    /// The steps by which they were carried.
+    pub steps: Steps,
+    /// The machine's replies.
+    pub replies: Replies,
+    /// How many bytes came over the stream.
+    pub moved: u64,
+}
+
+/// Carries all bytes of a mux over a new store, from guest 0 to guest 1, on one stream: they are written in
+/// pieces of `write` bytes, read in pieces of `read`, and fed to a new demux.
+pub fn carry(alloc: Global, mux: &Mux, write: u32, read: u32) -> Result<Carried, MuxError>
+    requires write { (16 ≤ write) × (write ≤ 64) }
+    requires read { (16 ≤ read) × (read ≤ 64) }
+    requires few { length mux.now.bytes ≤ 1048576 }
+
+    // The replies are those of the machine's play on these steps, with no host ends.
+    ensures steps { IfOk result (λ c. c.steps ≡ script_of write read mux.now.bytes) }
+    ensures played { IfOk result (λ c. play [] start c.steps ≡ Ends c.replies (last start c.steps)) }
+
+    // What the stream got is the mux's bytes, in order, and as many were received.
+    ensures got { IfOk result (λ c. got 0 (moments start c.steps) ≡ items_of mux.now.bytes) }
+    ensures moved { IfOk result (λ c. (c.moved ≡ length mux.now.bytes)
+        × (c.moved ≡ received 0 (last start c.steps))) }
+
+    // Each lane is what was put on it.
+    ensures fed { IfOk result (λ c. IsFed c.demux mux.now.bytes) }
+    ensures delivers { (given : List Frame) → Carries mux.now given → IfOk result (λ c. Delivers c.demux given) }
+
+    // Nothing but want of memory is an error.
+    ensures err { IfErr result (λ error. error ≡ MuxError.OutOfMemory) }
+{
+    carries();
+    let bytes = mux.bytes();
+    hold_bytes(bytes);
+    let steps = script(alloc, bytes, write, read)?;
+    let played = play_all(alloc, steps.as_slice())?;
+    let demux = heard(alloc, played.replies.as_slice())?;
+    Ok(Carried {
+        demux,
+        steps,
+        replies: played.replies,
+        moved: played.moved,
+    })
+}
+
+// What lies behind a slice of bytes is bytes.
+fn hold_bytes(bytes: &[u8])
+    ensures { IsBytes bytes.now }
+{}
+
+// What a run on one stream told.
+#[derive(Drop)]
+struct Played {
+    replies: Replies,
+    moved: u64,
+}
+
+// The count of the only stream.
+fn only_count(counts: &[u128]) -> u64
+    requires { IsOneCount counts.now }
+    ensures { result ∷ [] ≡ counts.now }
+{
+    counts[0] as u64
+}
+
+// What is kept of a run on one stream.
+fn told(transcript: Transcript) -> Played
+    requires { IsOneCount transcript.moved }
+    ensures replies { result.replies ≡ transcript.replies }
+    ensures moved { result.moved ∷ [] ≡ transcript.moved }
+{
+    Played {
+        moved: only_count(transcript.moved.as_slice()),
+        replies: transcript.replies,
+    }
+}
+
+// A run of guests alone that goes on behind each reply, on one stream.
+fn play_all(alloc: Global, steps: &[Step]) -> Result<Played, MuxError>
+    requires few { length steps.now ≤ 4294967295 }
+    requires guests { AreOfGuests steps.now }
+    requires settled { AreSettled (replies_of (moments start steps.now)) }
+    requires one { IsOneCount (counts_of (last start steps.now)) }
+    ensures played { IfOk result (λ p. play [] start steps.now ≡ Ends p.replies (last start steps.now)) }
+    ensures told { IfOk result (λ p. p.replies ≡ replies_of (moments start steps.now)) }
+    ensures moved { IfOk result (λ p. p.moved ∷ [] ≡ counts_of (last start steps.now)) }
+    ensures err { IfErr result (λ error. error ≡ MuxError.OutOfMemory) }
+{
+    let mut hosts = Hosts {
+        writers: Vec::new(alloc),
+        readers: Vec::new(alloc),
+    };
+    match run(alloc, steps, &mut hosts) {
+        Ok(transcript) => Ok(told(transcript)),
+        Err(stop) => match stop.cause {
+            RunCause::OutOfMemory => Err(MuxError::OutOfMemory),
+            RunCause::HostFailed { .. } => unreachable!(),
+            RunCause::HostBroke { .. } => unreachable!(),
+            RunCause::BadItem { .. } => unreachable!(),
+        },
+    }
+}

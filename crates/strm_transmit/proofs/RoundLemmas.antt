@@ -1,0 +1,420 @@
+-- The round of a pipe in a store: each of its parts is the machine's, and leaves host ends that the store
+-- fits.
+use Rattle.std.proofs.Common.{◌≡◌, ℕ, zero, suc, ◌+◌, ◌<◌, ◌==◌, Bool, true, false, cond, List, [], ◌∷◌, ◌++◌, length, drop, get_or, set, Option, Some, None, Result, Ok, Err, refl, sym, ap, subst, ◌∙◌, arith}
+use Rattle.std.specs.Prelude.{not, ◌&&◌}
+use Rattle.std.proofs.lemmas.List.{length-set, get_or-set_same, set-get_or}
+use Rattle.strm_codes.specs.declared.codes.TransmitKind.{TransmitKind}
+use Rattle.strm_buffers.specs.declared.answers.Answer.{Answer}
+use Rattle.strm_buffers.specs.Listing.{Item}
+use Rattle.strm_buffers.specs.Tells.{WriterTells, ReaderTells, Tells, told_by, with_told, told_by_reader, with_told_reader, given, closed_reader as closed_tells}
+use Rattle.strm_machine.specs.State.{State, no_producer, no_consumer, no_stream, producer_at, kept_at, consumer_at, stream_at}
+use Rattle.strm_machine.specs.Reactions.{with_stream_at}
+use Rattle.strm_machine.specs.Sides.{end_of}
+use Rattle.strm_machine.specs.Turns.{with_received}
+use Rattle.strm_machine.specs.declared.replies.Reply.TheVariants as replies
+use Rattle.strm_machine.specs.declared.streams.Consumer.{Consumer}
+use Rattle.strm_machine.specs.declared.streams.Duty.TheVariants.{Serves}
+use Rattle.strm_machine.specs.declared.streams.End.{End}
+use Rattle.strm_machine.specs.declared.streams.Owner.{Owner}
+use Rattle.strm_machine.specs.declared.streams.Owner.TheVariants.{Held, Loose, Host, Gone}
+use Rattle.strm_machine.specs.declared.streams.Producer.{Producer}
+use Rattle.strm_machine.specs.declared.streams.Side.{Side}
+use Rattle.strm_machine.specs.declared.streams.Side.TheVariants.{Writing, Reading}
+use Rattle.strm_machine.specs.declared.streams.Stream.{Stream}
+use Rattle.strm_world.specs.World.{World}
+use Rattle.strm_world.specs.Attaching.{has_items, without_ends}
+use Rattle.strm_world.specs.Piping.{fetches, ends_if_done, pipe_round}
+use Rattle.strm_world.specs.Settling.{with_some_received}
+use Rattle.strm_world.specs.Does.{Answered, Fits, Does}
+use Rattle.strm_world.proofs.CloseLemmas.{ended_in}
+use Rattle.strm_world.proofs.FitsLemmas.{Fits-stream}
+use Rattle.strm_world.proofs.GrowLemmas.{Follows, follows-told, follows-then, grows-same, grows-kept, Does-follows}
+use Rattle.strm_world.proofs.PollLemmas.{IsServing}
+use Rattle.strm_world.proofs.ReaderLemmas.{ended_reader_in, grows-same_reader, follows-told_reader}
+use Rattle.strm_world.proofs.SettleLemmas.{AreBothLeft}
+use Rattle.strm_world.proofs.PipeLemmas.{IsFetched, Does-fetches_none, Does-fetches, Does-fetches_failed, Does-fetches_broke, IsOffered, offered_tells, passed_in, Does-round, Does-round_stop}
+use Rattle.strm_world.proofs.PipeRoundLemmas.{Does-offers_none, Does-offers, Does-offers_failed, Does-offers_bad, Does-offers_broke, Does-ends_not, Does-ends}
+use Rattle.strm_producing.specs.Piping.{Fetching, Fetches, Offering, offering, Offers}
+use Rattle.strm_producing.specs.declared.taking.TakeError.{TakeError}
+use Rattle.strm_producing.specs.declared.taking.TakeError.TheVariants as takes
+use Rattle.strm_producing.specs.declared.turns.TurnError.{TurnError}
+use Rattle.strm_producing.specs.declared.turns.TurnError.TheVariants.{Failed, OutOfMemory, Broke}
+use Rattle.strm_producing.proofs.StepLemmas.{stop_of}
+use Rattle.strm_transmit.specs.Hosted.{answered, IsStop}
+use Rattle.strm_transmit.specs.Inside.{AreServed}
+use Rattle.strm_transmit.specs.Piping.{unread_in, reader_closed, WriterEnds, EndsPipe}
+use Rattle.strm_transmit.specs.Rounds.{ends_by, IsPipe, held_on, fetch_due, offer_due, end_due, FetchesStream, OffersStream, offer_part}
+use Rattle.strm_transmit.specs.Turning.{stops_by, stops_taking}
+use Rattle.strm_transmit.proofs.FitsLemmas.{KeepsType, keeps-closed, KeepsReaderType, Fits-told, Fits-told_reader, Fits-producer, Fits-consumer, Fits-ended, Fits-reader_ended, though_trapped, IsReading, serving, reading}
+use Rattle.strm_transmit.proofs.HostStepLemmas.{Does-after, Fits-after}
+use Rattle.strm_transmit.specs.declared.errors.StoreError.{StoreError}
+use Rattle.strm_transmit.proofs.OperateLemmas.{cause_of as stop_cause, stop_is}
+use Rattle.strm_transmit.proofs.ProduceLemmas.{stop-is}
+use Rattle.strm_transmit.proofs.TakeLemmas.{cause_of, cause-is}
+
+-- other items are kept
+other_kept : (state : State) (kept : List (List Item)) (tells : Tells) → Fits state tells → Fits (record state { kept = kept }) tells
+other_kept state kept tells fits = record { writers = fits.writers; readers = fits.readers }
+
+-- two changes of a place, the second of what the first left
+set_again : {A : Type 0} (xs : List A) (n : ℕ) (x d : A) (f : A → A) → set (set xs n x) n (f (get_or (set xs n x) n d)) ≡ set xs n (f x)
+set_again [] n x d f = refl
+set_again (y ∷ ys) zero x d f = refl
+set_again (y ∷ ys) (suc n) x d f = ap (λ zs. y ∷ zs) (set_again ys n x d f)
+
+-- a fetch keeps the duty
+pub fetches_duty : (result : Result (Unit {0}) TurnError) (kind : TransmitKind) (old new : Fetching) → Fetches result kind old new → new.producer.duty ≡ old.producer.duty
+fetches_duty (Ok v) kind old new f = ap (λ (x : Fetching). x.producer.duty) f.1.after
+fetches_duty (Err Failed) kind old new f = ap (λ (x : Fetching). x.producer.duty) f.1.after
+fetches_duty (Err Broke) kind old new f = ap (λ (x : Fetching). x.producer.duty) f.1.after
+fetches_duty (Err OutOfMemory) kind old new f = ap (λ (x : Fetching). x.producer.duty) f.after
+
+received-kind : (b : Bool) (stream : Stream) (k : ℕ) → (cond b stream (with_received stream k)).kind ≡ stream.kind
+received-kind true stream k = refl
+received-kind false stream k = refl
+
+received-payload : (b : Bool) (stream : Stream) (k : ℕ) → (cond b stream (with_received stream k)).payload ≡ stream.payload
+received-payload true stream k = refl
+received-payload false stream k = refl
+
+received-ends : (side : Side) (b : Bool) (stream : Stream) (k : ℕ) → end_of side (cond b stream (with_received stream k)) ≡ end_of side stream
+received-ends side true stream k = refl
+received-ends Writing false stream k = refl
+received-ends Reading false stream k = refl
+
+-- the type, the ends and the duty that an offer keeps
+pub record KeepsStream (old new : Offering) : Type 0 where
+  pub kind : new.stream.kind ≡ old.stream.kind
+  pub payload : new.stream.payload ≡ old.stream.payload
+  pub ends : (side : Side) → end_of side new.stream ≡ end_of side old.stream
+  pub duty : new.consumer.duty ≡ old.consumer.duty
+
+same_stream : (old new : Offering) → new.stream ≡ old.stream → new.consumer ≡ old.consumer → KeepsStream old new
+same_stream old new e f = record {
+  kind = ap (λ (x : Stream). x.kind) e;
+  payload = ap (λ (x : Stream). x.payload) e;
+  ends = λ side. ap (end_of side) e;
+  duty = ap (λ (x : Consumer). x.duty) f;
+}
+
+pub offers_keep : (result : Result Answer TakeError) (old new : Offering) → Offers result old new → KeepsStream old new
+offers_keep (Ok answer) old new f =
+    let taken = f.0.taken in
+    record {
+      kind = ap (λ (x : Offering). x.stream.kind) f.1.after ∙ received-kind (taken == 0) old.stream taken;
+      payload = ap (λ (x : Offering). x.stream.payload) f.1.after ∙ received-payload (taken == 0) old.stream taken;
+      ends = λ side. ap (λ (x : Offering). end_of side x.stream) f.1.after ∙ received-ends side (taken == 0) old.stream taken;
+      duty = ap (λ (x : Offering). x.consumer.duty) f.1.after;
+    }
+offers_keep (Err takes.Failed) old new f = same_stream old new (ap (λ (x : Offering). x.stream) f.1.after) (ap (λ (x : Offering). x.consumer) f.1.after)
+offers_keep (Err takes.BadItem) old new f = same_stream old new (ap (λ (x : Offering). x.stream) f.1.after) (ap (λ (x : Offering). x.consumer) f.1.after)
+offers_keep (Err takes.Broke) old new f = same_stream old new (ap (λ (x : Offering). x.stream) f.1.after) (ap (λ (x : Offering). x.consumer) f.1.after)
+offers_keep (Err takes.OutOfMemory) old new f = same_stream old new f.stream f.consumer
+
+-- ## A pipe
+
+abbrev first_of : ℕ → Option (ℕ × ℕ) → ℕ
+first_of d None = d
+first_of d (Some p) = p.0
+
+abbrev second_of : ℕ → Option (ℕ × ℕ) → ℕ
+second_of d None = d
+second_of d (Some p) = p.1
+
+-- its ends are those of its stream
+pub ends_are : (writer reader : Owner) (n r : ℕ) → ◌≡◌ {A = Option (ℕ × ℕ)} (ends_by writer reader) (Some (n, r)) → (writer ≡ Host n) × (reader ≡ Host r)
+ends_are (Host m) (Host k) n r e = (ap Host (ap (first_of 0) e), ap Host (ap (second_of 0) e))
+ends_are (Host m) (Held g h) n r e = cc
+ends_are (Host m) Loose n r e = cc
+ends_are (Host m) Gone n r e = cc
+ends_are (Held g h) reader n r e = cc
+ends_are Loose reader n r e = cc
+ends_are Gone reader n r e = cc
+
+-- nothing is held where the writer is to be polled
+nothing_by : (resting over : Bool) (kept holds : List Item) → not resting && (not (has_items (kept ++ holds)) && not over) ≡ true → holds ≡ []
+nothing_by false over [] [] e = refl
+nothing_by false over [] (x ∷ xs) e = cc
+nothing_by false over (k ∷ ks) holds e = cc
+nothing_by true over kept holds e = cc
+
+-- of a store whose host ends are ends of their streams
+pub record Rounds (state : State) (tells : Tells) (s n r : ℕ) : Type 0 where
+  pub served : AreServed state.producers state.consumers state.streams
+  pub pipe : IsPipe state tells s n r
+
+pub rounds : (state : State) (tells : Tells) (s n r : ℕ) → AreServed state.producers state.consumers state.streams → IsPipe state tells s n r → Rounds state tells s n r
+rounds state tells s n r served pipe = record { served = served; pipe = pipe }
+
+-- a store that is trapped
+pub trapped_pipe : (state : State) (tells : Tells) (s n r : ℕ) → IsPipe state tells s n r → IsPipe (record state { trapped = true }) tells s n r
+trapped_pipe state tells s n r p = record { made = p.made; writer = p.writer; reader = p.reader; fits = though_trapped state tells p.fits }
+
+module _ (old : State) (tells : Tells) (s n r : ℕ) (h : Rounds old tells s n r) where
+  pub is_serving : IsServing old tells n s
+  is_serving = serving old tells n s (record { served = h.served; made = h.pipe.made; owner = h.pipe.writer; fits = h.pipe.fits })
+
+  pub is_reading : IsReading old tells r s
+  is_reading = reading old tells r s (record { served = h.served; made = h.pipe.made; owner = h.pipe.reader; fits = h.pipe.fits })
+
+  -- ## Fetching
+
+  -- nothing is held where the writer is to be polled
+  pub nothing_held : fetch_due old tells n r ≡ true → (told_by tells n).holds ≡ []
+  nothing_held e = nothing_by (consumer_at old r).resting (producer_at old n).over (kept_at old n) (told_by tells n).holds e
+
+  -- the host ends fit where other items are kept
+  pub kept-fits : (mid : State) (kept : List (List Item)) → mid ≡ record old { kept = kept } → Fits mid tells
+  kept-fits mid kept e = subst (λ (x : State). Fits x tells) (sym e) (other_kept old kept tells h.pipe.fits)
+
+  -- nothing is to be fetched
+  pub fetch-none : fetch_due old tells n r ≡ false → Does old old tells tells (Ok replies.Done) (λ w. fetches w s n r)
+  fetch-none e = Does-fetches_none old tells n s is_serving r e
+
+  -- the types that a fetch keeps
+  fetch_type : (mid : State) (told : Tells) (result : Result (Unit {0}) TurnError) (t : FetchesStream old mid tells told s n result) → KeepsType (told_by tells n) t.after.tells
+  fetch_type mid told (Ok v) t = record { kind = t.fetches.1.polled.polls.kind; payload = t.fetches.1.polled.polls.payload }
+  fetch_type mid told (Err Failed) t = record { kind = t.fetches.1.polled.polls.kind; payload = t.fetches.1.polled.polls.payload }
+  fetch_type mid told (Err Broke) t = record { kind = t.fetches.1.polled.polls.kind; payload = t.fetches.1.polled.polls.payload }
+  fetch_type mid told (Err OutOfMemory) t = record { kind = t.fetches.tells.kind; payload = t.fetches.tells.payload }
+
+  module _ (mid : State) (told : Tells) (result : Result (Unit {0}) TurnError) (t : FetchesStream old mid tells told s n result) where
+    streams_same : mid.streams ≡ old.streams
+    streams_same = ap (λ (x : State). x.streams) t.state
+
+    pub fetched-length : length mid.streams ≡ length old.streams
+    fetched-length = ap length streams_same
+
+    -- it is the same pipe then
+    pub fetched-pipe : IsPipe mid told s n r
+    fetched-pipe =
+        let duty = fetches_duty result (stream_at old s).kind _ t.after t.fetches in
+        let polled = record old { producers = set old.producers n t.after.producer } in
+        record {
+          made = rw streams_same h.pipe.made;
+          writer = ap (λ xs. (get_or xs s no_stream).writer.owner) streams_same ∙ h.pipe.writer;
+          reader = ap (λ xs. (get_or xs s no_stream).reader.owner) streams_same ∙ h.pipe.reader;
+          fits = Fits-after _ mid _ told t.state t.ends
+              (Fits-told (record polled { kept = set old.kept n t.after.kept }) tells n t.after.tells (fetch_type mid told result t)
+              (other_kept polled (set old.kept n t.after.kept) tells
+              (Fits-producer old tells n t.after.producer is_serving.kept (λ q e. sym duty ∙ e) h.pipe.fits)));
+        }
+
+  -- a poll that goes on
+  pub fetched-does : (mid : State) (told : Tells) → FetchesStream old mid tells told s n (Ok tt) → fetch_due old tells n r ≡ true → Does old mid tells told (Ok replies.Done) (λ w. fetches w s n r)
+  fetched-does mid told t due =
+      let f = t.fetches in
+      let is : IsFetched old tells n s r f.0 t.after.tells = record { serving = is_serving; wants = due; polls = f.1.polled.polls; room = f.1.polled.room; finish = f.1.polled.finish } in
+      Does-after (t.state ∙ ap (λ (x : Fetching). record old { producers = set old.producers n x.producer; kept = set old.kept n x.kept }) f.1.after) t.ends
+      (Does-fetches old tells n s r f.0 t.after.tells is f.1.failed f.1.broke)
+
+  -- one that stops, and the store is trapped
+  module _ (mid new : State) (told : Tells) (due : fetch_due old tells n r ≡ true) (is : new ≡ record mid { trapped = true }) where
+    producers_then : (after : Fetching) → after.producer ≡ producer_at old n → mid ≡ record old { producers = set old.producers n after.producer; kept = set old.kept n after.kept } → new.producers ≡ old.producers
+    producers_then after e m =
+        ap (λ (x : State). x.producers) is ∙ ap (λ (x : State). x.producers) m ∙ ap (set old.producers n) e ∙ set-get_or old.producers n no_producer
+
+    fetch_stops : (e : TurnError) → FetchesStream old mid tells told s n (Err e) → Does old new tells told (stop_of e n) (λ w. fetches w s n r)
+    fetch_stops Failed t =
+        let f = t.fetches in
+        Does-after refl t.ends
+        (Does-fetches_failed old tells n s r f.0 t.after.tells (record { serving = is_serving; wants = due; polls = f.1.polled.polls; room = f.1.polled.room; finish = f.1.polled.finish }) new f.1.failed
+        (producers_then t.after (ap (λ (x : Fetching). x.producer) f.1.after) t.state))
+    fetch_stops Broke t =
+        let f = t.fetches in
+        Does-after refl t.ends
+        (Does-fetches_broke old tells n s r f.0 t.after.tells (record { serving = is_serving; wants = due; polls = f.1.polled.polls; room = f.1.polled.room; finish = f.1.polled.finish }) new f.1.failed f.1.broke
+        (producers_then t.after (ap (λ (x : Fetching). x.producer) f.1.after) t.state))
+    fetch_stops OutOfMemory t =
+        Does-after refl t.ends
+        (Does-follows old new tells (with_told tells n t.after.tells) (Err None) (λ w. fetches w s n r)
+        (follows-told tells n t.after.tells is_serving.there (grows-kept (told_by tells n) t.after.tells t.fetches.tells)) (λ logs x. tt) tt)
+
+    pub fetch-stops : (e : TurnError) → FetchesStream old mid tells told s n (Err e) → Does old new tells told (answered (Err (stops_by e n))) (λ w. fetches w s n r)
+    fetch-stops e t = subst (λ (x : Answered). Does old new tells told x (λ w. fetches w s n r)) (stop-is e n) (fetch_stops e t)
+
+    pub fetch_stops-pipe : (e : TurnError) → FetchesStream old mid tells told s n (Err e) → IsPipe new told s n r
+    fetch_stops-pipe e t = subst (λ (x : State). IsPipe x told s n r) (sym is) (trapped_pipe mid told s n r (fetched-pipe mid told (Err e) t))
+
+    pub fetch_stops-length : (e : TurnError) → FetchesStream old mid tells told s n (Err e) → length new.streams ≡ length old.streams
+    fetch_stops-length e t = ap (λ (x : State). length x.streams) is ∙ fetched-length mid told (Err e) t
+
+  -- ## Offering
+
+  -- the types that an offer keeps
+  pub record OfferType (after : Offering) : Type 0 where
+    pub writer : KeepsType (told_by tells n) after.writer
+    pub reader : KeepsReaderType (told_by_reader tells r) after.reader
+
+  given_keeps : (after : Offering) → after.writer ≡ given (told_by tells n) None → KeepsType (told_by tells n) after.writer
+  given_keeps after e = record { kind = ap (λ (x : WriterTells). x.kind) e; payload = ap (λ (x : WriterTells). x.payload) e }
+
+  offer_type : (mid : State) (told : Tells) (result : Result Answer TakeError) (t : OffersStream old mid tells told s n r result) → OfferType t.after
+  offer_type mid told (Ok answer) t =
+      let k = t.offers.1 in
+      record { writer = given_keeps t.after (ap (λ (x : Offering). x.writer) k.after); reader = record { kind = k.polled.polls.kind; payload = k.polled.polls.payload } }
+  offer_type mid told (Err takes.Failed) t =
+      let k = t.offers.1 in
+      record { writer = given_keeps t.after (ap (λ (x : Offering). x.writer) k.after); reader = record { kind = k.polled.polls.kind; payload = k.polled.polls.payload } }
+  offer_type mid told (Err takes.BadItem) t =
+      let k = t.offers.1 in
+      record { writer = given_keeps t.after (ap (λ (x : Offering). x.writer) k.after); reader = record { kind = k.polled.polls.kind; payload = k.polled.polls.payload } }
+  offer_type mid told (Err takes.Broke) t =
+      let k = t.offers.1 in
+      record { writer = given_keeps t.after (ap (λ (x : Offering). x.writer) k.after); reader = record { kind = k.polled.polls.kind; payload = k.polled.polls.payload } }
+  offer_type mid told (Err takes.OutOfMemory) t =
+      let k = t.offers in
+      record { writer = record { kind = k.writer.kind; payload = k.writer.payload }; reader = record { kind = k.reader.kind; payload = k.reader.payload } }
+
+  module _ (mid : State) (told : Tells) (result : Result Answer TakeError) (t : OffersStream old mid tells told s n r result) where
+    here : stream_at mid s ≡ t.after.stream
+    here = ap (λ (x : State). stream_at x s) t.state ∙ get_or-set_same old.streams s t.after.stream no_stream h.pipe.made
+
+    pub offered-length : length mid.streams ≡ length old.streams
+    offered-length = ap (λ (x : State). length x.streams) t.state ∙ length-set old.streams s t.after.stream
+
+    -- it is the same pipe then
+    pub offered-pipe : IsPipe mid told s n r
+    offered-pipe =
+        let k = offers_keep result _ t.after t.offers in
+        let types = offer_type mid told result t in
+        let stream = with_stream_at old s t.after.stream in
+        let taken = record stream { consumers = set old.consumers r t.after.consumer } in
+        record {
+          made = rw offered-length h.pipe.made;
+          writer = ap (λ (x : Stream). x.writer.owner) here ∙ ap (λ (x : End). x.owner) (k.ends Writing) ∙ h.pipe.writer;
+          reader = ap (λ (x : Stream). x.reader.owner) here ∙ ap (λ (x : End). x.owner) (k.ends Reading) ∙ h.pipe.reader;
+          fits = Fits-after _ mid _ told t.state t.ends
+              (Fits-told_reader (record taken { kept = set old.kept n t.after.kept }) (with_told tells n t.after.writer) r t.after.reader types.reader
+              (Fits-told (record taken { kept = set old.kept n t.after.kept }) tells n t.after.writer types.writer
+              (other_kept taken (set old.kept n t.after.kept) tells
+              (Fits-consumer stream tells r t.after.consumer is_reading.kept (λ q e. sym k.duty ∙ e)
+              (Fits-stream old tells s t.after.stream (record { kind = k.kind; payload = k.payload }) h.pipe.fits)))));
+        }
+
+  -- nothing is to be offered
+  pub offer-none : (new : State) (more : Tells) → offer_due old tells n r ≡ false → Does old new tells more (Ok replies.Done) (λ w. ends_if_done w s n r None) → Does old new tells more (Ok replies.Done) (offer_part s n r)
+  offer-none new more e d = Does-offers_none old new tells more s n r (Ok replies.Done) is_serving e d
+
+  -- a poll that goes on, and what follows
+  module _ (mid new : State) (told more : Tells) (answer : Answer) (t : OffersStream old mid tells told s n r (Ok answer)) (due : offer_due old tells n r ≡ true) where
+    pub offered-does : Does mid new told more (Ok replies.Done) (λ w. ends_if_done w s n r (Some answer)) → Does old new tells more (Ok replies.Done) (offer_part s n r)
+    offered-does d =
+        let said = t.offers.0 in
+        let k = t.offers.1 in
+        let o : IsOffered old tells n s r said t.after.reader = record { serving = is_serving; offers = due; there = is_reading.there; polls = k.polled.polls; offered = k.polled.offered; since = k.polled.after; finish = k.polled.finish } in
+        let all = held_on old tells n in
+        let after = passed_in old tells n s r said t.after.reader o in
+        let state : mid ≡ after =
+        t.state
+        ∙ ap (λ (x : Offering). record old { streams = set old.streams s x.stream; kept = set old.kept n x.kept; consumers = set old.consumers r x.consumer }) k.after
+        ∙ ap (λ ks. record after { kept = ks }) (sym (set_again old.kept n all [] (drop said.taken))) in
+        let ends : told ≡ offered_tells old tells n s r said t.after.reader o =
+        t.ends ∙ ap (λ (x : Offering). with_told_reader (with_told tells n x.writer) r t.after.reader) k.after in
+        Does-offers old tells n s r said t.after.reader o new more (Ok replies.Done)
+        (record { failed = k.failed; good = k.good; broke = k.broke })
+        (subst (λ a. Does after new (offered_tells old tells n s r said t.after.reader o) more (Ok replies.Done) (λ w. ends_if_done w s n r (Some a))) k.says
+        (subst (λ (x : State). Does x new (offered_tells old tells n s r said t.after.reader o) more (Ok replies.Done) (λ w. ends_if_done w s n r (Some answer))) state
+        (subst (λ (x : Tells). Does mid new x more (Ok replies.Done) (λ w. ends_if_done w s n r (Some answer))) ends d)))
+        (λ u. u)
+
+  -- one that stops, and the store is trapped
+  module _ (mid new : State) (told : Tells) (due : offer_due old tells n r ≡ true) (is : new ≡ record mid { trapped = true }) where
+    same_producers : {result : Result Answer TakeError} → OffersStream old mid tells told s n r result → new.producers ≡ old.producers
+    same_producers t = ap (λ (x : State). x.producers) is ∙ ap (λ (x : State). x.producers) t.state
+
+    ends_then : (after : Offering) → after.writer ≡ given (told_by tells n) None → told ≡ with_told_reader (with_told tells n after.writer) r after.reader → told ≡ with_told_reader (with_told tells n (given (told_by tells n) None)) r after.reader
+    ends_then after e m = m ∙ ap (λ x. with_told_reader (with_told tells n x) r after.reader) e
+
+    offer_stops : (e : TakeError) → OffersStream old mid tells told s n r (Err e) → Does old new tells told (cause_of e r s) (offer_part s n r)
+    offer_stops takes.Failed t =
+        let k = t.offers.1 in
+        Does-after refl (ends_then t.after (ap (λ (x : Offering). x.writer) k.after) t.ends)
+        (Does-offers_failed old tells n s r t.offers.0 t.after.reader (record { serving = is_serving; offers = due; there = is_reading.there; polls = k.polled.polls; offered = k.polled.offered; since = k.polled.after; finish = k.polled.finish })
+        new k.failed (same_producers t))
+    offer_stops takes.BadItem t =
+        let k = t.offers.1 in
+        Does-after refl (ends_then t.after (ap (λ (x : Offering). x.writer) k.after) t.ends)
+        (Does-offers_bad old tells n s r t.offers.0 t.after.reader (record { serving = is_serving; offers = due; there = is_reading.there; polls = k.polled.polls; offered = k.polled.offered; since = k.polled.after; finish = k.polled.finish })
+        new k.failed k.bad (same_producers t))
+    offer_stops takes.Broke t =
+        let k = t.offers.1 in
+        Does-after refl (ends_then t.after (ap (λ (x : Offering). x.writer) k.after) t.ends)
+        (Does-offers_broke old tells n s r t.offers.0 t.after.reader (record { serving = is_serving; offers = due; there = is_reading.there; polls = k.polled.polls; offered = k.polled.offered; since = k.polled.after; finish = k.polled.finish })
+        new k.failed k.good k.broke (same_producers t))
+    offer_stops takes.OutOfMemory t =
+        let k = t.offers in
+        let given_up = with_told tells n t.after.writer in
+        Does-after refl t.ends
+        (Does-follows old new tells (with_told_reader given_up r t.after.reader) (Err None) (offer_part s n r)
+        (follows-then tells given_up (with_told_reader given_up r t.after.reader)
+        (follows-told tells n t.after.writer is_serving.there (grows-same (told_by tells n) t.after.writer k.writer.payload k.writer.said k.writer.faults))
+        (follows-told_reader given_up r t.after.reader is_reading.there (grows-same_reader (told_by_reader tells r) t.after.reader k.reader.said k.reader.faults)))
+        (λ logs x. tt) tt)
+
+    pub offer-stops : (e : TakeError) → OffersStream old mid tells told s n r (Err e) → Does old new tells told (answered (Err (stops_taking e r s))) (offer_part s n r)
+    offer-stops e t = subst (λ (x : Answered). Does old new tells told x (offer_part s n r)) (cause-is e r s) (offer_stops e t)
+
+    pub offer_stops-fits : (e : TakeError) → OffersStream old mid tells told s n r (Err e) → Fits new told
+    offer_stops-fits e t = subst (λ (x : State). Fits x told) (sym is) (though_trapped mid told (offered-pipe mid told (Err e) t).fits)
+
+    pub offer_stops-length : (e : TakeError) → OffersStream old mid tells told s n r (Err e) → length new.streams ≡ length old.streams
+    offer_stops-length e t = ap (λ (x : State). length x.streams) is ∙ offered-length mid told (Err e) t
+
+  -- ## Ending
+
+  -- the pipe goes on
+  pub end-none : (answer : Option Answer) → end_due old tells s n r answer ≡ false → Does old old tells tells (Ok replies.Done) (λ w. ends_if_done w s n r answer)
+  end-none answer e = Does-ends_not old tells n s r answer is_serving e
+
+  -- it ends: what was kept was given up, and then both ends went
+  module _ (mid new : State) (told : Tells) (is : mid ≡ record old { kept = set old.kept n [] }) (x : EndsPipe (stream_at mid s).writer.owner mid new tells told s r) where
+    ends_as : WriterEnds (unread_in (record old { kept = set old.kept n [] }) s r) new (reader_closed tells r) told n
+    ends_as =
+        subst (λ (v : State). WriterEnds (unread_in v s r) new (reader_closed tells r) told n) is
+        (subst (λ o. EndsPipe o mid new tells told s r) (ap (λ (v : State). (stream_at v s).writer.owner) is ∙ h.pipe.writer) x)
+
+    left : AreBothLeft old tells s n r (without_ends (stream_at old s)) (told_by told n)
+    left = record {
+      there = is_serving.there;
+      kept = is_serving.kept;
+      owner = h.pipe.writer;
+      gone = refl;
+      closes = ends_as.closes;
+      reader_there = is_reading.there;
+      reader_owner = h.pipe.reader;
+      reader_gone = refl;
+    }
+
+    pub end-does : (answer : Option Answer) → end_due old tells s n r answer ≡ true → Does old new tells told (Ok replies.Done) (λ w. ends_if_done w s n r answer)
+    end-does answer e =
+        Does-after ends_as.state ends_as.others (Does-ends old tells n s r answer is_serving (told_by told n) e left)
+
+    unread_fits : Fits (unread_in (record old { kept = set old.kept n [] }) s r) (reader_closed tells r)
+    unread_fits =
+        let gone = with_stream_at (record old { kept = set old.kept n [] }) s (without_ends (stream_at old s)) in
+        Fits-told_reader (ended_reader_in gone r) tells r (closed_tells (told_by_reader tells r)) (record { kind = refl; payload = refl })
+        (Fits-reader_ended gone tells r is_reading.kept
+        (Fits-stream (record old { kept = set old.kept n [] }) tells s (without_ends (stream_at old s)) (record { kind = refl; payload = refl })
+        (other_kept old (set old.kept n []) tells h.pipe.fits)))
+
+    pub end-fits : Fits new told
+    end-fits =
+        let unread = unread_in (record old { kept = set old.kept n [] }) s r in
+        Fits-after (ended_in unread n) new (with_told (reader_closed tells r) n (told_by told n)) told ends_as.state ends_as.others
+        (Fits-told (ended_in unread n) (reader_closed tells r) n (told_by told n) (keeps-closed (told_by tells n) (told_by told n) ends_as.closes)
+        (Fits-ended unread (reader_closed tells r) n is_serving.kept unread_fits))
+
+    pub end-length : length new.streams ≡ length old.streams
+    end-length = ap (λ (v : State). length v.streams) ends_as.state ∙ length-set old.streams s (without_ends (stream_at old s))
+
+-- ## The round
+
+-- a fetch that stops, stops it
+pub round-stops : (old new : State) (tells told : Tells) (s n r : ℕ) (error : StoreError) → IsStop error → Does old new tells told (answered (Err error)) (λ w. fetches w s n r)
+    → Does old new tells told (answered (Err error)) (λ w. pipe_round w s n r)
+round-stops old new tells told s n r error stop d =
+    let same = stop_is error stop in
+    subst (λ (x : Answered). Does old new tells told x (λ w. pipe_round w s n r)) (sym same)
+    (Does-round_stop old new tells told s n r (stop_cause error)
+    (subst (λ (x : Answered). Does old new tells told x (λ w. fetches w s n r)) same d))
