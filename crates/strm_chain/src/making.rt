@@ -89,12 +89,12 @@ fn add_guests(player: &mut Player, count: u32) -> Result<(), OutOfMemory>
     Ok(())
 }
 
-// A guest more.
-fn add_guest(player: &mut Player) -> Result<(), OutOfMemory>
+// A guest more; the answer is its number.
+fn add_guest(player: &mut Player) -> Result<u32, OutOfMemory>
     ensures { (n : ℕ) → AreMade n 0 player.old → OnOk result (AreMade (n + 1) 0 player.new) }
 {
     match player.play(&Step::Guest { size: MEMORY }) {
-        Ok(Reply::Number(_)) => Ok(()),
+        Ok(Reply::Number(number)) => Ok(number),
         _ => Err(OutOfMemory),
     }
 }

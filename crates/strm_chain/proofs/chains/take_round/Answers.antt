@@ -21,6 +21,11 @@ loop-who-preserved c =
       turns = some_more c.args.chain.now.chunk c.loop-who.chain.chunk _ c.args.chain.now.play c.loop-who.chain.play c.turn.new.self.play i.goes_on.chunk i.turns e.makes;
       goes_on = goes_further c.args.chain.now c.loop-who.chain c.turn.new.self i.goes_on e.goes_on;
       runs = e.runs;
-      sink = sink_stays c.loop-who.chain.workers c.turn.new.self.workers _ c.turn.ensures.many c.turn.ensures.others (omega (arith, c.loop-who-test.true, c.guests.ensures.count, i.goes_on.many)) ∙ i.sink;
+      sink = sink_stays c.loop-who.chain.workers c.turn.new.self.workers _ c.turn.ensures.many c.turn.ensures.others (omega (arith, c.loop-who-test.true, c.guests-sink.ensures.count, i.goes_on.many)) ∙ i.sink;
       longer = omega (arith, i.longer, makes_longer _ _ c.loop-who.chain.play c.turn.new.self.play e.makes);
     }
+
+pub returns-clause-turns : goal.returns-clause-turns
+returns-clause-turns c =
+    let i = c.loop-who.invariant in
+    some_more c.args.chain.now.chunk c.loop-who.chain.chunk _ c.args.chain.now.play c.loop-who.chain.play c.turn-2.new.self.play i.goes_on.chunk i.turns c.in_ok-turn-2.ensures.makes

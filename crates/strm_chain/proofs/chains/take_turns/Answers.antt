@@ -14,9 +14,9 @@ pub loop-who-preserved : goal.loop-who-preserved
 loop-who-preserved c =
     let i = c.loop-who.invariant in
     record {
-      turns = turns_mod c.args.chain.now.chunk c.loop-who.chain.chunk (length c.args.chain.now.workers) c.guests.result c.args.schedule.now c.loop-who.who-index 0
+      turns = turns_mod c.args.chain.now.chunk c.loop-who.chain.chunk (length c.args.chain.now.workers) c.guests-guests.result c.args.schedule.now c.loop-who.who-index 0
           c.args.chain.now.play c.loop-who.chain.play c.turn.new.self.play
-          c.loop-who-test.true i.goes_on.chunk (c.guests.ensures.count ∙ i.goes_on.many) i.turns c.in_ok-turn.ensures.makes;
+          c.loop-who-test.true i.goes_on.chunk (c.guests-guests.ensures.count ∙ i.goes_on.many) i.turns c.in_ok-turn.ensures.makes;
       goes_on = goes_further c.args.chain.now c.loop-who.chain c.turn.new.self i.goes_on c.in_ok-turn.ensures.goes_on;
       runs = c.in_ok-turn.ensures.runs;
     }

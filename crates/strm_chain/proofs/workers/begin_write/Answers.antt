@@ -1,4 +1,4 @@
-use Rattle.std.proofs.Common.{refl}
+use Rattle.std.proofs.Common.{refl, subst, length}
 use Rattle.strm_chain.specs.Turned.{WriteServes}
 use Rattle.strm_chain.proofs.workers.begin_write.Goals as goal
 
@@ -7,10 +7,10 @@ returns-in_ok-hand_over-in-Ok c =
     WriteServes c.in-Ok.code refl
     (record {
       handle = c.in-Some.handle;
-      has = c.in-Some.is;
+      has = (let i = c.in-Some.is in cc);
       bytes = c.args.bytes.now;
       mid = c.poke.new.player;
       pokes = record { rests = c.requires.rests; some = c.requires.some; next = c.requires.next; adds = c.in_ok-poke.ensures.ok };
-      adds = rw c.as_slice.ensures.exact at c.in-Ok.ensures.ok;
+      adds = rw (← c.as_slice.ensures.exact) c.in-Ok.ensures.ok;
     })
     c.in_ok-hand_over-in-Ok.ensures
