@@ -11,3 +11,4 @@ pub mod CallLemmas
 pub mod SyncLemmas
 pub mod MoveLemmas
 pub mod CauseLemmas
+pub mod ClosingLemmas
