@@ -154,7 +154,7 @@ fn rounds(alloc: Global) -> Result<(u32, u32), ChainError> {
             return Ok((round, idle));
         }
         for who in 0..3u32 {
-            if chain.turn(who)? == ChainTurn::Idle {
+            if who < chain.guests() && chain.turn(who)? == ChainTurn::Idle {
                 idle = idle.saturating_add(1);
             }
         }
