@@ -9,3 +9,4 @@ pub mod LawLemmas
 pub mod KeptLemmas
 pub mod SuppliedLemmas
 pub mod GeneratedLemmas
+pub mod RecordLemmas
