@@ -203,32 +203,32 @@ pub record StopsAmong (old new : Tells) (steps : List Step) (told : List Reply) 
 abbrev pub SaysFailed : WriterSaid → Type 0
 SaysFailed said = is_failed said.answer ≡ true
 
--- or, without that, breaks the rules of the host writers of a kind of stream
-abbrev pub SaysBroken : WriterSaid → Type 0
-SaysBroken said =
-    (kind : TransmitKind) × (is_failed said.answer ≡ false) × (breaks_as_writer kind said ≡ true)
+-- or, without that, breaks the rules of the host writers of this kind of stream
+abbrev pub SaysBroken : TransmitKind → WriterSaid → Type 0
+SaysBroken kind said = (is_failed said.answer ≡ false) × (breaks_as_writer kind said ≡ true)
 
 -- a record of a host reader says that it failed
 abbrev pub ReaderSaysFailed : ReaderSaid → Type 0
 ReaderSaysFailed said = is_failed said.answer ≡ true
 
--- or, without that, breaks the rules of the host readers of a kind of stream
-abbrev pub ReaderSaysBroken : ReaderSaid → Type 0
-ReaderSaysBroken said =
-    (kind : TransmitKind) × (is_failed said.answer ≡ false) × (breaks_as_reader kind said ≡ true)
+-- or, without that, breaks the rules of the host readers of this kind of stream
+abbrev pub ReaderSaysBroken : TransmitKind → ReaderSaid → Type 0
+ReaderSaysBroken kind said = (is_failed said.answer ≡ false) × (breaks_as_reader kind said ≡ true)
 
 -- of what was said behind what had been said before, this holds of the last
 abbrev pub SaysLast : {A : Type 0} → (A → Type 0) → List A → List A → Type 0
 SaysLast {A} P old new = (more : List A) × (said : A) × (new ≡ old ++ (more ++ said ∷ [])) × P said
 
--- the host end that failed, or broke its rules, says so by its last record, which it made in this run
+-- the host end that failed, or broke the rules of its kind, says so by its last record, which it made in
+-- this run
 abbrev pub HaltsByRecord : Tells → Tells → Stop → Type 0
 HaltsByRecord old new (stops.HostFailed (ends.Writer n)) = SaysLast SaysFailed (told_by old n).said (told_by new n).said
 HaltsByRecord old new (stops.HostFailed (ends.Reader r)) =
     SaysLast ReaderSaysFailed (told_by_reader old r).said (told_by_reader new r).said
-HaltsByRecord old new (stops.HostBroke (ends.Writer n)) = SaysLast SaysBroken (told_by old n).said (told_by new n).said
+HaltsByRecord old new (stops.HostBroke (ends.Writer n)) =
+    SaysLast (SaysBroken (told_by new n).kind) (told_by old n).said (told_by new n).said
 HaltsByRecord old new (stops.HostBroke (ends.Reader r)) =
-    SaysLast ReaderSaysBroken (told_by_reader old r).said (told_by_reader new r).said
+    SaysLast (ReaderSaysBroken (told_by_reader new r).kind) (told_by_reader old r).said (told_by_reader new r).said
 HaltsByRecord old new (stops.BadItem s) = Unit {0}
 HaltsByRecord old new stops.StoreTrapped = Unit {0}
 

@@ -9,12 +9,10 @@ use Rattle.strm_session.proofs.AmongLemmas.{stops_behind}
 use Rattle.strm_session.proofs.KeptLemmas.{are_first, kept_among, stop_kept, delivers_each}
 use Rattle.strm_session.proofs.LawLemmas.{run_kept, front_kept}
 use Rattle.strm_session.proofs.StopLemmas.{answers-in, answers-items}
-use Rattle.strm_session.proofs.RecordLemmas.{stops_by_record}
 use Rattle.strm_session.proofs.runs.run.Goals as goal
 
 pub returns-in-Err-clause-by_record : goal.returns-in-Err-clause-by_record
-returns-in-Err-clause-by_record g c =
-    rw c.stopped.ensures (stops_by_record _ _ c.args.steps.now c.play_steps.new.replies c.in-Err.cause c.in-Err.ensures.begins c.in-Err.ensures.stop)
+returns-in-Err-clause-by_record g c = rw c.stopped.ensures c.in-Err.ensures.by_record
 
 pub returns-in-Ok-clause-by_record : goal.returns-in-Ok-clause-by_record
 returns-in-Ok-clause-by_record g c = IfErr-weaker c.finished.result _ _ (λ stop e. rw e tt) c.finished.ensures.stop
