@@ -12,19 +12,18 @@ use Rattle.strm_machine.specs.declared.streams.Side.TheVariants.{Writing, Readin
 use Rattle.strm_machine.specs.declared.steps.Step.{Step}
 use Rattle.strm_world.specs.World.{World}
 use Rattle.strm_world.specs.Ends.{no_writer, no_reader}
-use Rattle.strm_world.specs.Outcomes.{stops}
 use Rattle.strm_buffers.specs.Tells.{WriterTells, ReaderTells, Tells, no_tells, no_reader_tells, told_by, told_by_reader}
 use Rattle.strm_machine.specs.declared.streams.Producer.{Producer}
 use Rattle.strm_world.specs.Does.{AllBegin, Extends, saids, writers_from, readers_from, world_of, spent, Logs, Fits, Does}
 use Rattle.strm_world.specs.HostPlays.{play, Ends}
-use Rattle.strm_session.proofs.StepRecordLemmas.{Behind_one, IsLater, EndsFit, StoppedBy, Halts, step-halts}
+use Rattle.strm_session.proofs.StepRecordLemmas.{Behind_one, EndsFit, StoppedBy, Halts, step-halts}
 use Rattle.strm_world.specs.Steps.{step_of}
 use Rattle.strm_session.specs.Runs.{start_among, stop_of, SaysFailed, SaysBroken, ReaderSaysFailed, ReaderSaysBroken, SaysLast, HaltsByRecord, StopsByRecord}
 use Rattle.strm_session.specs.Serving.{IsStatusOf}
 use Rattle.strm_session.specs.declared.runs.RunCause.{RunCause}
 use Rattle.strm_machine.specs.Hosting.{HostsHold}
 use Rattle.strm_laws.specs.Laws.{AreSteps}
-use Rattle.strm_session.proofs.AmongLemmas.{LedAmong, extends_self, begins_among}
+use Rattle.strm_session.proofs.AmongLemmas.{LedAmong, extends_self}
 use Rattle.strm_session.proofs.KeptLemmas.{LawsAmong, LeadsAmong}
 use Rattle.strm_machine.specs.declared.streams.HostEnd.TheVariants as ends
 use Rattle.strm_session.specs.declared.runs.RunCause.TheVariants as causes
@@ -68,7 +67,7 @@ reader-kind (v ∷ vs) logs zero = refl
 reader-kind (v ∷ vs) logs (suc n) = reader-kind vs (drop 1 logs) n
 
 -- where host ends and streams agree, those in use are of the kinds of their streams
-pub ends_fit : (state : State) (tells : Tells) (logs : Logs) → HostsHold state → Fits state tells → EndsFit (world_of state tells logs)
+ends_fit : (state : State) (tells : Tells) (logs : Logs) → HostsHold state → Fits state tells → EndsFit (world_of state tells logs)
 ends_fit state tells logs h fits = record {
   writers = λ n s o. writer-kind state.producers tells.writers logs.writers n ∙ (fits.writers n s ((h.serve Writing n s).serves o)).kind;
   readers = λ r s o. reader-kind tells.readers logs.readers r ∙ (fits.readers r s ((h.serve Reading r s).serves o)).kind;
@@ -97,8 +96,8 @@ halted_by now new state next (HostBroke (ends.Reader r)) b h =
 halted_by now new state next (BadItem s) b h = tt
 halted_by now new state next StoreTrapped b h = tt
 
--- a step that stops a run
-pub step_by_record : (now new : Tells) (state next : State) (step : Step) (stop : Option Stop) → HostsHold state → Fits state now → Does state next now new (Err stop) (λ w. step_of w step) → StopsByRecord now new stop
+-- a step that stops
+step_by_record : (now new : Tells) (state next : State) (step : Step) (stop : Option Stop) → HostsHold state → Fits state now → Does state next now new (Err stop) (λ w. step_of w step) → StopsByRecord now new stop
 step_by_record now new state next step None h fits d = tt
 step_by_record now new state next step (Some stop) h fits d =
     let logs = saids new in
@@ -110,7 +109,7 @@ step_by_record now new state next step (Some stop) h fits d =
 -- THE RUN OF WHICH IT IS A STEP
 
 -- the records of before this step are behind those of before the run
-pub by_record_before : (old now new : Tells) (stop : Option Stop) → Extends old (saids now) → StopsByRecord now new stop → StopsByRecord old new stop
+by_record_before : (old now new : Tells) (stop : Option Stop) → Extends old (saids now) → StopsByRecord now new stop → StopsByRecord old new stop
 by_record_before old now new None b h = tt
 by_record_before old now new (Some (HostFailed (ends.Writer n))) b h = said_before SaysFailed _ _ _ _ (writer-coming [] old.writers now.writers n b.0) h
 by_record_before old now new (Some (HostFailed (ends.Reader r))) b h = said_before ReaderSaysFailed _ _ _ _ (reader-coming old.readers now.readers r b.1) h
@@ -129,10 +128,10 @@ hosts_before old now laws leads steps k told state a l =
     let end = leads front told (world_of state now (saids now)) played in
     subst (λ (w : World). HostsHold w.state) end (laws front a).hosts
 
--- a run that stops
-pub stops_by_record : (old now new : Tells) (steps : List Step) (k : ℕ) (told : List Reply) (state next : State) (step : Step) (stop : Option Stop) → LedAmong old steps k told state now → HostsHold state → Fits state now → Does state next now new (Err stop) (λ w. step_of w step) → StopsByRecord old new stop
-stops_by_record old now new steps k told state next step stop l h fits d =
-    by_record_before old now new stop (begins_among old now steps k told state now l (extends_self now)) (step_by_record now new state next step stop h fits d)
+-- a step that stops a run
+pub stops_by_record : (old now new : Tells) (state next : State) (step : Step) (stop : Option Stop) → Extends old (saids now) → HostsHold state → Fits state now → Does state next now new (Err stop) (λ w. step_of w step) → StopsByRecord old new stop
+stops_by_record old now new state next step stop b h fits d =
+    by_record_before old now new stop b (step_by_record now new state next step stop h fits d)
 
 -- and what a status stands for
 pub status_by_record : (old new : Tells) (status : ℕ) (cause : RunCause) (why : Stop) → IsStatusOf status cause why → StopsByRecord old new (stop_of cause) → HaltsByRecord old new why

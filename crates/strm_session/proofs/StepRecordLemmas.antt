@@ -241,13 +241,17 @@ module _ (first : World) where
   abbrev Reads : ℕ → ℕ → Type 0
   Reads s r = (stream_in first s).kind ≡ (reader_at first r).kind
 
+  -- what is done after a poll
+  abbrev FaresAfterWriter : AfterWriter → Type 0
+  FaresAfterWriter next = (w : World) (said : WriterSaid) → IsLater first w → Fares (next w said)
+
   -- a writer that used its first record
   polled-later : (w : World) (n : ℕ) (room : Option ℕ) (said : WriterSaid) (more : List WriterSaid) → (writer_at w n).coming ≡ said ∷ more → IsLater first w → WriterLater (writer_at first n) (polled_writer (writer_at w n) room said more)
   polled-later w n room said more e t =
       let was = (t.writers n).coming in
       record { coming = behind_more _ more said (was.0, was.1 ∙ ap (λ rest. was.0 ++ rest) e); kind = (t.writers n).kind }
 
-  says-fares : (w : World) (s n : ℕ) (room : Option ℕ) (finish : Bool) (coming : List WriterSaid) (next : AfterWriter) → (writer_at w n).coming ≡ coming → Writes s n → IsLater first w → ((v : World) (x : WriterSaid) → IsLater first v → Fares (next v x)) → Fares (writer_says w s n room finish coming next)
+  says-fares : (w : World) (s n : ℕ) (room : Option ℕ) (finish : Bool) (coming : List WriterSaid) (next : AfterWriter) → (writer_at w n).coming ≡ coming → Writes s n → IsLater first w → FaresAfterWriter next → Fares (writer_says w s n room finish coming next)
   says-fares w s n room finish [] next e q t h = tt
   says-fares w s n room finish (said ∷ more) next e q t h =
       let x = polled_writer (writer_at w n) room said more in
@@ -292,13 +296,17 @@ module _ (first : World) where
 
   -- A HOST READER'S TURN
 
+  -- what is done after a poll
+  abbrev FaresAfterReader : AfterReader → Type 0
+  FaresAfterReader next = (w : World) (said : ReaderSaid) → IsLater first w → Fares (next w said)
+
   -- a host reader that used its first record
   polled_reader-later : (w : World) (r : ℕ) (took : List Item) (said : ReaderSaid) (more : List ReaderSaid) → (reader_at w r).coming ≡ said ∷ more → IsLater first w → ReaderLater (reader_at first r) (polled_reader (reader_at w r) took more)
   polled_reader-later w r took said more e t =
       let was = (t.readers r).coming in
       record { coming = behind_more _ more said (was.0, was.1 ∙ ap (λ rest. was.0 ++ rest) e); kind = (t.readers r).kind }
 
-  reader_says-fares : (w : World) (s r offered : ℕ) (finish : Bool) (took : ℕ → List Item) (coming : List ReaderSaid) (next : AfterReader) → (reader_at w r).coming ≡ coming → Reads s r → IsLater first w → ((v : World) (x : ReaderSaid) → IsLater first v → Fares (next v x)) → Fares (reader_says w s r offered finish took coming next)
+  reader_says-fares : (w : World) (s r offered : ℕ) (finish : Bool) (took : ℕ → List Item) (coming : List ReaderSaid) (next : AfterReader) → (reader_at w r).coming ≡ coming → Reads s r → IsLater first w → FaresAfterReader next → Fares (reader_says w s r offered finish took coming next)
   reader_says-fares w s r offered finish took [] next e q t h = tt
   reader_says-fares w s r offered finish took (said ∷ more) next e q t h =
       let x = polled_reader (reader_at w r) (took said.taken) more in

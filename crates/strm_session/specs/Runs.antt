@@ -25,13 +25,14 @@ use Rattle.strm_buffers.specs.Tells.{WriterTells, Tells, Rose, told_by, told_by_
 use Rattle.strm_buffers.specs.Said.{WriterSaid}
 use Rattle.strm_buffers.specs.declared.answers.ReaderSaid.{ReaderSaid}
 use Rattle.strm_buffers.specs.HostRules.{breaks_as_writer, breaks_as_reader}
+use Rattle.strm_machine.specs.declared.streams.HostEnd.{HostEnd}
 use Rattle.strm_machine.specs.declared.streams.HostEnd.TheVariants as ends
 use Rattle.strm_world.specs.Polls.{is_failed}
 use Rattle.strm_machine.specs.Hosting.{HostsHold}
 use Rattle.strm_world.specs.World.{World, writer_at, reader_at, stream_in}
 use Rattle.strm_world.specs.HostPlays.{play as play_among}
 use Rattle.strm_world.specs.HostPlays as world_plays
-use Rattle.strm_world.specs.Does.{saids, world_of, faults_of, StopsWith, AreSupplied}
+use Rattle.strm_world.specs.Does.{saids, world_of, faults_of, Extends, StopsWith, AreSupplied}
 use Rattle.strm_transmit.specs.Guests.{is_of_guests}
 use Rattle.strm_host_laws.specs.HostMoments.{HostMoment, host_moments, last_of}
 use Rattle.strm_host_laws.specs.HostLaws.{ClosesExactly, WriterGoesOn, Supplies, DeliversAll, ReadersCloseExactly, ReaderGoesOn, TellsTaken, host_got, ConservesAmong, MovesByHosts, is_hosted, is_piped, plains}
@@ -236,6 +237,12 @@ HaltsByRecord old new stops.StoreTrapped = Unit {0}
 abbrev pub StopsByRecord : Tells → Tells → Option Stop → Type 0
 StopsByRecord old new None = Unit {0}
 StopsByRecord old new (Some stop) = HaltsByRecord old new stop
+
+-- host ends have their records of before, in front of those that were added, and no count of their faults
+-- fell
+pub record HostsGoOn (old new : Tells) : Type 0 where
+  pub begins : Extends old (saids new)
+  pub faults : (end : HostEnd) → faults_of old end ≤ faults_of new end
 
 -- OF GUESTS ALONE
 

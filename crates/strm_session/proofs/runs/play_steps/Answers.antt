@@ -34,8 +34,9 @@ returns-in_err-step_once-clause-by_record g c =
     let told = c.loop-step.replies in
     let state = c.loop-step.store in
     let hold = hosts_before _ _ (c.laws_hold_among.ensures.laws _ _) (c.laws_hold_among.ensures.leads _ _) steps k told state (are_first steps k c.requires.few i.bytes) i.led in
+    let begins = begins_among _ _ steps k told state _ i.led (extends_self _) in
     found _ c.from_residual.result c.in_err-step_once.field-0.0 c.from_residual.ensures.1
-    (stops_by_record _ _ _ steps k told state c.step_once.new.store c.step-item.result _ i.led hold i.fits c.in_err-step_once.ensures.stop)
+    (stops_by_record _ _ _ state c.step_once.new.store c.step-item.result _ begins hold i.fits c.in_err-step_once.ensures.stop)
 
 pub returns-in_err-step_once-clause-stop_alone : goal.returns-in_err-step_once-clause-stop_alone
 returns-in_err-step_once-clause-stop_alone g c = λ all.
