@@ -1,5 +1,5 @@
 -- Plays among host ends, step by step, on whatever records are yet to come.
-use Rattle.std.proofs.Common.{◌≡◌, ℕ, ◌+◌, ◌≤◌, List, [], ◌∷◌, ◌++◌, length, take, drop, suc, Ok, Err, Option, Some, None, refl, sym, ap, ◌∙◌, append_assoc, arith}
+use Rattle.std.proofs.Common.{◌≡◌, ℕ, ◌+◌, ◌≤◌, List, [], ◌∷◌, ◌++◌, length, take, drop, suc, Ok, Err, Option, Some, None, refl, sym, ap, subst, ◌∙◌, append_assoc, arith}
 use Rattle.std.proofs.Math.Seq.{split_at, drop-length}
 use Rattle.std.proofs.lemmas.List.{append-nil, take_all}
 use Rattle.std.proofs.Math.Nat.{le_trans}
@@ -14,7 +14,7 @@ use Rattle.strm_world.specs.Steps.{step_of}
 use Rattle.strm_world.specs.HostPlays.{play, after_step}
 use Rattle.strm_world.specs.Does.{Logs, Begins, AllBegin, saids, Extends, world_of, faults_of, Caused, Does, RunsTo, AreSupplied}
 use Rattle.strm_world.proofs.DoesLemmas.{rose_more}
-use Rattle.strm_session.specs.Runs.{start, start_among, stop_of, HaltsBy, Raised, StopsAmong}
+use Rattle.strm_session.specs.Runs.{start, start_among, stop_of, HaltsBy, Raised, StopsAmong, HostsGoOn}
 use Rattle.strm_session.specs.declared.runs.RunCause.{RunCause}
 use Rattle.strm_session.specs.declared.runs.RunCause.TheVariants as causes
 use Rattle.strm_session.proofs.PlayLemmas.{IsAt, take-at}
@@ -30,6 +30,13 @@ module _ {A : Type 0} where
 -- where no more is to come
 pub extends_self : (tells : Tells) → Extends tells (saids tells)
 extends_self tells = (all_begin_self (saids tells).writers, all_begin_self (saids tells).readers)
+
+-- a call that did nothing to host ends
+pub goes_on_itself : (tells : Tells) → HostsGoOn tells tells
+goes_on_itself tells = record { begins = extends_self tells; faults = λ end. omega arith }
+
+pub goes_on_same : (old new : Tells) → new ≡ old → HostsGoOn old new
+goes_on_same old new e = subst (HostsGoOn old) (sym e) (goes_on_itself old)
 
 -- on these records the first k steps were answered so, and led there
 pub record LedOn (old : Tells) (steps : List Step) (k : ℕ) (told : List Reply) (state : State) (now : Tells) (logs : Logs) : Type 0 where

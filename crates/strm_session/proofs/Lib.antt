@@ -9,3 +9,5 @@ pub mod LawLemmas
 pub mod KeptLemmas
 pub mod SuppliedLemmas
 pub mod GeneratedLemmas
+pub mod StepRecordLemmas
+pub mod RecordLemmas

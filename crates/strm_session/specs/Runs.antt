@@ -20,12 +20,19 @@ use Rattle.strm_machine.specs.declared.stops.Stop.{Stop}
 use Rattle.strm_machine.specs.declared.stops.Stop.TheVariants as stops
 use Rattle.strm_codes.specs.Layout.{scalars_of}
 use Rattle.strm_memory.specs.Items.{AreItems}
-use Rattle.strm_buffers.specs.Tells.{WriterTells, Tells, Rose}
+use Rattle.strm_codes.specs.declared.codes.TransmitKind.{TransmitKind}
+use Rattle.strm_buffers.specs.Tells.{WriterTells, Tells, Rose, told_by, told_by_reader}
+use Rattle.strm_buffers.specs.Said.{WriterSaid}
+use Rattle.strm_buffers.specs.declared.answers.ReaderSaid.{ReaderSaid}
+use Rattle.strm_buffers.specs.HostRules.{breaks_as_writer, breaks_as_reader}
+use Rattle.strm_machine.specs.declared.streams.HostEnd.{HostEnd}
+use Rattle.strm_machine.specs.declared.streams.HostEnd.TheVariants as ends
+use Rattle.strm_world.specs.Polls.{is_failed}
 use Rattle.strm_machine.specs.Hosting.{HostsHold}
 use Rattle.strm_world.specs.World.{World, writer_at, reader_at, stream_in}
 use Rattle.strm_world.specs.HostPlays.{play as play_among}
 use Rattle.strm_world.specs.HostPlays as world_plays
-use Rattle.strm_world.specs.Does.{saids, world_of, faults_of, StopsWith, AreSupplied}
+use Rattle.strm_world.specs.Does.{saids, world_of, faults_of, Extends, StopsWith, AreSupplied}
 use Rattle.strm_transmit.specs.Guests.{is_of_guests}
 use Rattle.strm_host_laws.specs.HostMoments.{HostMoment, host_moments, last_of}
 use Rattle.strm_host_laws.specs.HostLaws.{ClosesExactly, WriterGoesOn, Supplies, DeliversAll, ReadersCloseExactly, ReaderGoesOn, TellsTaken, host_got, ConservesAmong, MovesByHosts, is_hosted, is_piped, plains}
@@ -192,6 +199,50 @@ pub record StopsAmong (old new : Tells) (steps : List Step) (told : List Reply) 
   pub before : play_among [] (start_among old new) (take (length told) steps) ≡ world_plays.Ends told world
   pub halts : HaltsBy (start_among old new) steps told new (stop_of cause)
   pub raised : Raised old new cause
+
+-- a record of a host writer says that it failed
+abbrev pub SaysFailed : WriterSaid → Type 0
+SaysFailed said = is_failed said.answer ≡ true
+
+-- or, without that, breaks the rules of the host writers of this kind of stream
+abbrev pub SaysBroken : TransmitKind → WriterSaid → Type 0
+SaysBroken kind said = (is_failed said.answer ≡ false) × (breaks_as_writer kind said ≡ true)
+
+-- a record of a host reader says that it failed
+abbrev pub ReaderSaysFailed : ReaderSaid → Type 0
+ReaderSaysFailed said = is_failed said.answer ≡ true
+
+-- or, without that, breaks the rules of the host readers of this kind of stream
+abbrev pub ReaderSaysBroken : TransmitKind → ReaderSaid → Type 0
+ReaderSaysBroken kind said = (is_failed said.answer ≡ false) × (breaks_as_reader kind said ≡ true)
+
+-- of what was said behind what had been said before, this holds of the last
+abbrev pub SaysLast : {A : Type 0} → (A → Type 0) → List A → List A → Type 0
+SaysLast {A} P old new = (more : List A) × (said : A) × (new ≡ old ++ (more ++ said ∷ [])) × P said
+
+-- the host end that failed, or broke the rules of its kind, says so by its last record, which it made in
+-- this run
+abbrev pub HaltsByRecord : Tells → Tells → Stop → Type 0
+HaltsByRecord old new (stops.HostFailed (ends.Writer n)) = SaysLast SaysFailed (told_by old n).said (told_by new n).said
+HaltsByRecord old new (stops.HostFailed (ends.Reader r)) =
+    SaysLast ReaderSaysFailed (told_by_reader old r).said (told_by_reader new r).said
+HaltsByRecord old new (stops.HostBroke (ends.Writer n)) =
+    SaysLast (SaysBroken (told_by new n).kind) (told_by old n).said (told_by new n).said
+HaltsByRecord old new (stops.HostBroke (ends.Reader r)) =
+    SaysLast (ReaderSaysBroken (told_by_reader new r).kind) (told_by_reader old r).said (told_by_reader new r).said
+HaltsByRecord old new (stops.BadItem s) = Unit {0}
+HaltsByRecord old new stops.StoreTrapped = Unit {0}
+
+-- the same of a run that stops, which may want memory
+abbrev pub StopsByRecord : Tells → Tells → Option Stop → Type 0
+StopsByRecord old new None = Unit {0}
+StopsByRecord old new (Some stop) = HaltsByRecord old new stop
+
+-- host ends have their records of before, in front of those that were added, and no count of their faults
+-- fell
+pub record HostsGoOn (old new : Tells) : Type 0 where
+  pub begins : Extends old (saids new)
+  pub faults : (end : HostEnd) → faults_of old end ≤ faults_of new end
 
 -- OF GUESTS ALONE
 

@@ -19,7 +19,7 @@ use Rattle.strm_lines.specs.Generator.{generated}
 use Rattle.strm_lines.specs.Lines.{lines_of, Spells, IsFirstBad, IsTooLong}
 use Rattle.strm_session.specs.declared.runs.RunCause.{RunCause}
 use Rattle.strm_session.specs.declared.runs.RunCause.TheVariants as causes
-use Rattle.strm_session.specs.Runs.{start, start_among, AreOfGuests, counts_of, IsKept, IsKeptAmong, IsKeptBefore, AreOfItems, DeliversEach, StopsAmong, StopsBy}
+use Rattle.strm_session.specs.Runs.{start, start_among, AreOfGuests, counts_of, IsKept, IsKeptAmong, IsKeptBefore, AreOfItems, DeliversEach, StopsAmong, HaltsByRecord, StopsBy}
 use Rattle.strm_lines.specs.Text.{transcript_text, summary_text, stopped_text, usage_text, bad_line_text, too_long_text, read_fault_text}
 
 -- the words behind the program's name tell it to run an input
@@ -100,6 +100,7 @@ pub record IsStopped (old new : Tells) (status : ℕ) (input text : List ℕ) : 
   pub why : Stop
   pub status_is : IsStatusOf status cause why
   pub stop : StopsAmong old new steps replies cause
+  pub by_record : HaltsByRecord old new why
   pub kept_before : IsKeptBefore (start_among old new) steps replies
   pub alone : AreOfGuests steps → StopsBy steps replies cause
   pub text_is : text ≡ stopped_text replies why

@@ -16,7 +16,7 @@ ghost use Rattle.strm_world.specs.Steps.{step_of, touches};
 ghost use Rattle.strm_world.specs.Does.{Fits, Extends, saids, faults_of, Does, AreSupplied, RunsTo, spent};
 ghost use Rattle.strm_transmit.specs.Hosted.{answered, lone};
 ghost use Rattle.strm_buffers.specs.AllTells.{tells_of};
-ghost use Rattle.strm_session.specs.Runs.{start, start_among, AreOfGuests, counts_of, next_step, IsKept, IsKeptAmong, IsKeptBefore, AreOfItems, DeliversEach, stop_of, StopsAmong, AsksBad, AsksItems, StopsAt, StopsStep, StopsBy, StopsIn};
+ghost use Rattle.strm_session.specs.Runs.{start, start_among, AreOfGuests, counts_of, next_step, IsKept, IsKeptAmong, IsKeptBefore, AreOfItems, DeliversEach, stop_of, StopsAmong, StopsByRecord, AsksBad, AsksItems, StopsAt, StopsStep, StopsBy, StopsIn};
 
 use crate::laws::{laws_hold, laws_hold_among};
 use std::alloc::Global;
@@ -85,6 +85,11 @@ pub fn run(alloc: Global, steps: &[Step], hosts: &mut Hosts) -> Result<Transcrip
     ensures received { IfOk result (λ t. t.moved ≡ counts_of t.store) }
     ensures stop { IfErr result (λ stop. StopsAmong (tells_of writer_tells reader_tells hosts.old) (tells_of writer_tells reader_tells hosts.new) steps.now stop.replies stop.cause) }
     ensures at { IfErr result (λ stop. stop.at ≡ next_step stop.replies) }
+
+    // A host end that failed, or broke the rules of its kind, says so by its last record, which it made in
+    // this run.
+    ensures by_record { IfErr result (λ stop. StopsByRecord (tells_of writer_tells reader_tells hosts.old)
+        (tells_of writer_tells reader_tells hosts.new) (stop_of stop.cause)) }
 
     // The host ends have their records of before, in front of those that are added, and their counts of
     // faults have not fallen.
@@ -193,8 +198,11 @@ fn play_steps(
 ) -> Result<(), RunCause>
     requires begins { store.old ≡ start }
     requires none { replies.old ≡ [] }
+    requires few { length steps.now ≤ 4294967295 }
     ensures ok { OnOk result (RunsTo (start_among (tells_of writer_tells reader_tells hosts.old) (tells_of writer_tells reader_tells hosts.new)) steps.now replies.new store.new (tells_of writer_tells reader_tells hosts.new)) }
     ensures stop { IfErr result (StopsAmong (tells_of writer_tells reader_tells hosts.old) (tells_of writer_tells reader_tells hosts.new) steps.now replies.new) }
+    ensures by_record { IfErr result (λ cause. StopsByRecord (tells_of writer_tells reader_tells hosts.old)
+        (tells_of writer_tells reader_tells hosts.new) (stop_of cause)) }
     ensures alone { AreOfGuests steps.now → OnOk result (play [] start steps.now ≡ Ends replies.new store.new) }
     ensures stop_alone { AreOfGuests steps.now → IfErr result (λ cause. (state : State)
         × (play [] start (take (length replies.new) steps.now) ≡ Ends replies.new state)
@@ -210,6 +218,7 @@ fn play_steps(
     ensures count { length replies.new ≤ length steps.now }
     ensures bytes { All HasBytes (take (length replies.new) steps.now) }
 {
+    laws_hold_among();
     for step in steps {
         sound(step);
         step_once(store, hosts, replies, step)?;

@@ -9,7 +9,7 @@ ghost use Rattle.strm_machine.specs.State.{State};
 ghost use Rattle.strm_machine.specs.declared.replies.Reply.{Reply};
 ghost use Rattle.strm_buffers.specs.AllTells.{tells_of};
 ghost use Rattle.strm_machine.specs.declared.stops.Stop.{Stop};
-ghost use Rattle.strm_session.specs.Runs.{start_among, AreOfGuests, AsksBad, AsksItems};
+ghost use Rattle.strm_session.specs.Runs.{start_among, HostsGoOn, AreOfGuests, AsksBad, AsksItems};
 ghost use Rattle.strm_ports.specs.Faults.{Rose, TakesPart};
 ghost use Rattle.strm_lines.specs.Lines.{lines_of, Spells, IsFirstBad, IsTooLong};
 ghost use Rattle.strm_lines.specs.Generator.{generated};
@@ -104,6 +104,8 @@ pub fn serve<S: Source, K: Sink>(
     ensures unread { ¬ IsRun (map string_bytes words.now.items) → source.new ≡ source.old }
     ensures unrun { ¬ IsRun (map string_bytes words.now.items) →
         tells_of writer_tells reader_tells hosts.new ≡ tells_of writer_tells reader_tells hosts.old }
+    ensures goes_on { HostsGoOn (tells_of writer_tells reader_tells hosts.old)
+        (tells_of writer_tells reader_tells hosts.new) }
 
     // An input in the grammar and the limits is run to its end, but for faults and want of memory, where
     // the machine plays it to its end on the records that host ends add; and where the machine halts, the
@@ -181,6 +183,8 @@ fn answer_words<S: Source>(
     ensures unread { ¬ IsRun (map string_bytes words.now.items) → source.new ≡ source.old }
     ensures unrun { ¬ IsRun (map string_bytes words.now.items) →
         tells_of writer_tells reader_tells hosts.new ≡ tells_of writer_tells reader_tells hosts.old }
+    ensures goes_on { HostsGoOn (tells_of writer_tells reader_tells hosts.old)
+        (tells_of writer_tells reader_tells hosts.new) }
 {
     match read_command(words) {
         Some(Command::Run) => answer_source(alloc, source, hosts),
@@ -251,6 +255,8 @@ fn answer_source<S: Source>(
         (S.faults source.old) (S.faults source.new) a.status a.text) }
     ensures read { (front : List ℕ) × Consumes (S.left source.old) (S.left source.new) front
         × (length front ≤ MAX_BYTES + 1) }
+    ensures goes_on { HostsGoOn (tells_of writer_tells reader_tells hosts.old)
+        (tells_of writer_tells reader_tells hosts.new) }
 {
     match read_all(alloc, source) {
         Ok(input) => answer_input(alloc, input.as_slice(), hosts),
@@ -264,9 +270,11 @@ fn answer_source<S: Source>(
 fn answer_input(alloc: Global, input: &[u8], hosts: &mut Hosts) -> Result<Output, OutOfMemory>
     requires writers { length (tells_of writer_tells reader_tells hosts.old).writers ≤ 64 }
     requires readers { length (tells_of writer_tells reader_tells hosts.old).readers ≤ 64 }
-    ensures { (before after : ℕ) → IfOk result (λ a. IsOfInput (Some input.now) (Some [])
+    ensures told { (before after : ℕ) → IfOk result (λ a. IsOfInput (Some input.now) (Some [])
         (tells_of writer_tells reader_tells hosts.old) (tells_of writer_tells reader_tells hosts.new)
         before after a.status a.text) }
+    ensures goes_on { HostsGoOn (tells_of writer_tells reader_tells hosts.old)
+        (tells_of writer_tells reader_tells hosts.new) }
 {
     match parse(alloc, input) {
         Ok(steps) => answer_steps(alloc, steps.as_slice(), hosts),
@@ -292,6 +300,8 @@ fn answer_steps(alloc: Global, steps: &[Step], hosts: &mut Hosts) -> Result<Outp
         IfOk result (λ a. a.status ≡ DONE → IsTranscript (tells_of writer_tells reader_tells hosts.old) (tells_of writer_tells reader_tells hosts.new) input a.text) }
     ensures stopped { (input : List ℕ) → Spells (lines_of input) steps.now →
         IfOk result (λ a. IsStop a.status → IsStopped (tells_of writer_tells reader_tells hosts.old) (tells_of writer_tells reader_tells hosts.new) a.status input a.text) }
+    ensures goes_on { HostsGoOn (tells_of writer_tells reader_tells hosts.old)
+        (tells_of writer_tells reader_tells hosts.new) }
 {
     match run(alloc, steps, hosts) {
         Ok(transcript) => {

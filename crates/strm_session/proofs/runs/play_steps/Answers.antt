@@ -8,6 +8,8 @@ use Rattle.strm_machine.specs.Plays.{play}
 use Rattle.strm_session.specs.Runs.{start}
 use Rattle.strm_session.proofs.PlayLemmas.{is_at, stops, stopped_before}
 use Rattle.strm_session.proofs.AmongLemmas.{extends_self, led_none, led_more, begins_among, runs_to, stops_among}
+use Rattle.strm_session.proofs.KeptLemmas.{are_first}
+use Rattle.strm_session.proofs.RecordLemmas.{hosts_before, stops_by_record}
 use Rattle.strm_session.proofs.AloneLemmas.{start-fits, alone_none, alone_more, alone_before, untouched_at}
 use Rattle.strm_session.proofs.runs.play_steps.Goals as goal
 
@@ -23,6 +25,18 @@ returns-in_err-step_once-clause-stop g c =
     (rw c.in_err-step_once.ensures.err
     (stops_among _ _ _ c.args.steps.now c.loop-step.step-index _ c.loop-step.replies c.loop-step.store c.step_once.new.store
     (is_at c.args.steps.now c.loop-step.step-index _ c.loop-step-test.true c.step-item.is) i.led c.in_err-step_once.field-0.0 i.count c.in_err-step_once.ensures.stop))
+
+pub returns-in_err-step_once-clause-by_record : goal.returns-in_err-step_once-clause-by_record
+returns-in_err-step_once-clause-by_record g c =
+    let i = c.loop-step.invariant in
+    let steps = c.args.steps.now in
+    let k = c.loop-step.step-index in
+    let told = c.loop-step.replies in
+    let state = c.loop-step.store in
+    let hold = hosts_before _ _ (c.laws_hold_among.ensures.laws _ _) (c.laws_hold_among.ensures.leads _ _) steps k told state (are_first steps k c.requires.few i.bytes) i.led in
+    let begins = begins_among _ _ steps k told state _ i.led (extends_self _) in
+    found _ c.from_residual.result c.in_err-step_once.field-0.0 c.from_residual.ensures.1
+    (stops_by_record _ _ _ state c.step_once.new.store c.step-item.result _ begins hold i.fits c.in_err-step_once.ensures.stop)
 
 pub returns-in_err-step_once-clause-stop_alone : goal.returns-in_err-step_once-clause-stop_alone
 returns-in_err-step_once-clause-stop_alone g c = λ all.

@@ -11,6 +11,12 @@ use Rattle.strm_session.proofs.LawLemmas.{run_kept, front_kept}
 use Rattle.strm_session.proofs.StopLemmas.{answers-in, answers-items}
 use Rattle.strm_session.proofs.runs.run.Goals as goal
 
+pub returns-in-Err-clause-by_record : goal.returns-in-Err-clause-by_record
+returns-in-Err-clause-by_record g c = rw c.stopped.ensures c.in-Err.ensures.by_record
+
+pub returns-in-Ok-clause-by_record : goal.returns-in-Ok-clause-by_record
+returns-in-Ok-clause-by_record g c = IfErr-weaker c.finished.result _ _ (λ stop e. rw e tt) c.finished.ensures.stop
+
 pub returns-in-Err-clause-stop : goal.returns-in-Err-clause-stop
 returns-in-Err-clause-stop g c = rw c.stopped.ensures c.in-Err.ensures.stop
 

@@ -1,5 +1,6 @@
 use Rattle.std.proofs.Common.{ap, ◌∙◌}
 use Rattle.strm_lines.specs.Text.{stopped_text, transcript_text}
+use Rattle.strm_session.proofs.RecordLemmas.{status_by_record}
 use Rattle.strm_session.proofs.serving.answer_steps.Goals as goal
 
 pub returns-in_ok-text-in-Err-clause-stopped : goal.returns-in_ok-text-in-Err-clause-stopped
@@ -11,6 +12,7 @@ returns-in_ok-text-in-Err-clause-stopped g c = λ input s q. record {
   why = c.in_ok-status-in-Err.why;
   status_is = c.in_ok-status-in-Err.ensures.cause;
   stop = c.in-Err.ensures.stop;
+  by_record = status_by_record _ _ c.in_ok-status-in-Err.status c.in-Err.stop.cause c.in_ok-status-in-Err.why c.in_ok-status-in-Err.ensures.cause c.in-Err.ensures.by_record;
   kept_before = c.in-Err.ensures.kept_before;
   alone = c.in-Err.ensures.stop_alone;
   text_is = c.in_ok-text-in-Err.ensures.ok ∙ ap (λ told. stopped_text told c.in_ok-status-in-Err.why) c.as_slice.ensures;
