@@ -9,4 +9,4 @@ returns-clause-legal c =
 pub returns-clause-parts : goal.returns-clause-parts
 returns-clause-parts c =
     subst (λ a. (c.into_parts.result.0 ≡ state_of a.limits a.log) × (c.into_parts.result.1.items ≡ a.log))
-      (c.into_inner.ensures ∙ c.self.view_is) c.into_parts.ensures.parts
+    (c.into_inner.ensures ∙ c.self.view_is) c.into_parts.ensures.parts

@@ -3,6 +3,7 @@ use Rattle.strm_shared.specs.Histories.{state_of}
 use Rattle.strm_shared.proofs.ledger.Ledger.into_parts.Goals as goal
 
 pub returns-clause-parts : goal.returns-clause-parts
-returns-clause-parts c =
-    (c.into_store.ensures ∙ c.self.invariant.store_is ∙ ap (λ a. state_of a.limits a.log) c.self.view_is,
-      ap (λ a. a.log) c.self.view_is)
+returns-clause-parts c = (
+  c.into_store.ensures ∙ c.self.invariant.store_is ∙ ap (λ a. state_of a.limits a.log) c.self.view_is,
+  ap (λ a. a.log) c.self.view_is,
+)
