@@ -135,6 +135,14 @@ pub(crate) fn done(status: u32) -> Result<(), Error> {
     }
 }
 
+// What a call wrote where it was told to, once it is done.
+#[inline(always)]
+pub(crate) fn wrote<T: Default>(call: impl FnOnce(&mut T) -> u32) -> Result<T, Error> {
+    let mut out = T::default();
+    done(call(&mut out))?;
+    Ok(out)
+}
+
 #[cold]
 fn error(status: u32) -> Error {
     match status {

@@ -1,6 +1,6 @@
 //! Error contexts.
 
-use crate::answers::done;
+use crate::answers::{done, wrote};
 use crate::sys;
 use crate::{Error, Guest, Store};
 
@@ -19,10 +19,8 @@ impl Store {
     /// ```
     #[inline]
     pub fn error_context_new(&mut self, guest: Guest, address: u32, len: u32) -> Result<u32, Error> {
-        let mut out = 0;
         // SAFETY: above.
-        done(unsafe { sys::strm_error_context_new(self.at(), guest.0, address, len, &mut out) })?;
-        Ok(out)
+        wrote(|out| unsafe { sys::strm_error_context_new(self.at(), guest.0, address, len, out) })
     }
 
     /// Puts the message at an address of the guest's memory. Answers its length in bytes.
@@ -39,10 +37,8 @@ impl Store {
     /// ```
     #[inline]
     pub fn error_context_message(&mut self, guest: Guest, handle: u32, address: u32) -> Result<u32, Error> {
-        let mut out = 0;
         // SAFETY: above.
-        done(unsafe { sys::strm_error_context_message(self.at(), guest.0, handle, address, &mut out) })?;
-        Ok(out)
+        wrote(|out| unsafe { sys::strm_error_context_message(self.at(), guest.0, handle, address, out) })
     }
 
     /// Gives another guest a handle to an error context, and answers it; the first guest keeps its own.
@@ -58,19 +54,15 @@ impl Store {
     /// ```
     #[inline]
     pub fn error_context_transfer(&mut self, guest: Guest, handle: u32, to: Guest) -> Result<u32, Error> {
-        let mut out = 0;
         // SAFETY: above.
-        done(unsafe { sys::strm_error_context_transfer(self.at(), guest.0, handle, to.0, &mut out) })?;
-        Ok(out)
+        wrote(|out| unsafe { sys::strm_error_context_transfer(self.at(), guest.0, handle, to.0, out) })
     }
 
     /// The number of the error context of a handle, by which [`Store::error_context_lower`] names it.
     #[inline]
     pub fn error_context_rep(&self, guest: Guest, handle: u32) -> Result<u32, Error> {
-        let mut out = 0;
         // SAFETY: above.
-        done(unsafe { sys::strm_error_context_rep(self.at(), guest.0, handle, &mut out) })?;
-        Ok(out)
+        wrote(|out| unsafe { sys::strm_error_context_rep(self.at(), guest.0, handle, out) })
     }
 
     /// Gives a guest a handle to the error context of a number. Answers the handle.
@@ -87,10 +79,8 @@ impl Store {
     /// ```
     #[inline]
     pub fn error_context_lower(&mut self, rep: u32, guest: Guest) -> Result<u32, Error> {
-        let mut out = 0;
         // SAFETY: above.
-        done(unsafe { sys::strm_error_context_lower(self.at(), rep, guest.0, &mut out) })?;
-        Ok(out)
+        wrote(|out| unsafe { sys::strm_error_context_lower(self.at(), rep, guest.0, out) })
     }
 
     /// Gives up a handle of an error context, and the context with the last.

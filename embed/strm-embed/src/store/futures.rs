@@ -1,6 +1,6 @@
 //! Futures, as streams of one value.
 
-use crate::answers::done;
+use crate::answers::{done, wrote};
 use crate::sys;
 use crate::{Code, Error, Guest, Pair, Payload, Store};
 
@@ -17,10 +17,8 @@ impl Store {
     /// ```
     #[inline]
     pub fn future_new(&mut self, guest: Guest, payload: Payload) -> Result<Pair, Error> {
-        let mut out = Pair::default();
         // SAFETY: above.
-        done(unsafe { sys::strm_future_new(self.at(), guest.0, payload.word(), &mut out) })?;
-        Ok(out)
+        wrote(|out| unsafe { sys::strm_future_new(self.at(), guest.0, payload.word(), out) })
     }
 
     /// Writes the value that lies at an address of the guest's memory. `canon future.write`.
@@ -40,12 +38,11 @@ impl Store {
         handle: u32,
         address: u32,
     ) -> Result<Code, Error> {
-        let mut out = 0;
         // SAFETY: above.
-        done(unsafe {
-            sys::strm_future_write(self.at(), guest.0, payload.word(), handle, address, &mut out)
-        })?;
-        Ok(Code::of(out))
+        wrote(|out| unsafe {
+            sys::strm_future_write(self.at(), guest.0, payload.word(), handle, address, out)
+        })
+        .map(Code::of)
     }
 
     /// Reads the value to an address of the guest's memory. `canon future.read`.
@@ -66,12 +63,11 @@ impl Store {
         handle: u32,
         address: u32,
     ) -> Result<Code, Error> {
-        let mut out = 0;
         // SAFETY: above.
-        done(unsafe {
-            sys::strm_future_read(self.at(), guest.0, payload.word(), handle, address, &mut out)
-        })?;
-        Ok(Code::of(out))
+        wrote(|out| unsafe {
+            sys::strm_future_read(self.at(), guest.0, payload.word(), handle, address, out)
+        })
+        .map(Code::of)
     }
 
     /// Cancels the write that waits. `canon future.cancel-write`.
@@ -91,10 +87,9 @@ impl Store {
         payload: Payload,
         handle: u32,
     ) -> Result<Code, Error> {
-        let mut out = 0;
         // SAFETY: above.
-        done(unsafe { sys::strm_future_cancel_write(self.at(), guest.0, payload.word(), handle, &mut out) })?;
-        Ok(Code::of(out))
+        wrote(|out| unsafe { sys::strm_future_cancel_write(self.at(), guest.0, payload.word(), handle, out) })
+            .map(Code::of)
     }
 
     /// Cancels the read that waits. `canon future.cancel-read`.
@@ -109,10 +104,9 @@ impl Store {
     /// ```
     #[inline]
     pub fn future_cancel_read(&mut self, guest: Guest, payload: Payload, handle: u32) -> Result<Code, Error> {
-        let mut out = 0;
         // SAFETY: above.
-        done(unsafe { sys::strm_future_cancel_read(self.at(), guest.0, payload.word(), handle, &mut out) })?;
-        Ok(Code::of(out))
+        wrote(|out| unsafe { sys::strm_future_cancel_read(self.at(), guest.0, payload.word(), handle, out) })
+            .map(Code::of)
     }
 
     /// Drops the write end, which is refused before its value passed, or it was told that nobody reads it.

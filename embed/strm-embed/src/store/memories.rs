@@ -1,6 +1,6 @@
 //! Guests and their memories.
 
-use crate::answers::done;
+use crate::answers::{done, wrote};
 use crate::sys;
 use crate::{Error, Guest, Store};
 use core::ptr;
@@ -18,10 +18,8 @@ impl Store {
     /// # Ok::<(), Error>(())
     /// ```
     pub fn add_guest(&mut self, size: u32) -> Result<Guest, Error> {
-        let mut out = 0;
         // SAFETY: above.
-        done(unsafe { sys::strm_add_guest(self.at(), size, &mut out) })?;
-        Ok(Guest(out))
+        wrote(|out| unsafe { sys::strm_add_guest(self.at(), size, out) }).map(Guest)
     }
 
     // Where a guest's memory lies, and how many bytes it has.

@@ -1,6 +1,6 @@
 //! Ends from guest to guest.
 
-use crate::answers::done;
+use crate::answers::{done, wrote};
 use crate::sys;
 use crate::{Error, Guest, Pair, Payload, Store, Type};
 
@@ -17,10 +17,8 @@ impl Store {
     /// ```
     #[inline]
     pub fn new_between(&mut self, writer: Guest, reader: Guest, ty: Type) -> Result<Pair, Error> {
-        let mut out = Pair::default();
         // SAFETY: above.
-        done(unsafe { sys::strm_new_between(self.at(), writer.0, reader.0, ty.word(), &mut out) })?;
-        Ok(out)
+        wrote(|out| unsafe { sys::strm_new_between(self.at(), writer.0, reader.0, ty.word(), out) })
     }
 
     /// Moves an end of a stream, read or write, to another guest, or to the same. Answers its handle there.
@@ -41,12 +39,10 @@ impl Store {
         handle: u32,
         to: Guest,
     ) -> Result<u32, Error> {
-        let mut out = 0;
         // SAFETY: above.
-        done(unsafe {
-            sys::strm_stream_transfer(self.at(), guest.0, payload.word(), handle, to.0, &mut out)
-        })?;
-        Ok(out)
+        wrote(|out| unsafe {
+            sys::strm_stream_transfer(self.at(), guest.0, payload.word(), handle, to.0, out)
+        })
     }
 
     /// Moves an end of a future to another guest, or to the same. Answers its handle there.
@@ -66,12 +62,10 @@ impl Store {
         handle: u32,
         to: Guest,
     ) -> Result<u32, Error> {
-        let mut out = 0;
         // SAFETY: above.
-        done(unsafe {
-            sys::strm_future_transfer(self.at(), guest.0, payload.word(), handle, to.0, &mut out)
-        })?;
-        Ok(out)
+        wrote(|out| unsafe {
+            sys::strm_future_transfer(self.at(), guest.0, payload.word(), handle, to.0, out)
+        })
     }
 
     /// Takes a read end out of a guest. Answers the number of its stream, by which [`Store::lower`] and
@@ -86,10 +80,8 @@ impl Store {
     /// ```
     #[inline]
     pub fn lift(&mut self, guest: Guest, ty: Type, handle: u32) -> Result<u32, Error> {
-        let mut out = 0;
         // SAFETY: above.
-        done(unsafe { sys::strm_lift(self.at(), guest.0, ty.word(), handle, &mut out) })?;
-        Ok(out)
+        wrote(|out| unsafe { sys::strm_lift(self.at(), guest.0, ty.word(), handle, out) })
     }
 
     /// Gives a guest the loose read end of a stream. Answers its handle.
@@ -104,10 +96,8 @@ impl Store {
     /// ```
     #[inline]
     pub fn lower(&mut self, reader: u32, guest: Guest, ty: Type) -> Result<u32, Error> {
-        let mut out = 0;
         // SAFETY: above.
-        done(unsafe { sys::strm_lower(self.at(), reader, guest.0, ty.word(), &mut out) })?;
-        Ok(out)
+        wrote(|out| unsafe { sys::strm_lower(self.at(), reader, guest.0, ty.word(), out) })
     }
 
     /// Drops the loose read end of a stream.

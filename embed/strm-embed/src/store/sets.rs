@@ -1,6 +1,6 @@
 //! Waitable sets.
 
-use crate::answers::done;
+use crate::answers::{done, wrote};
 use crate::sys;
 use crate::{Code, Error, Guest, Member, Store};
 
@@ -16,10 +16,8 @@ impl Store {
     /// ```
     #[inline]
     pub fn set_new(&mut self, guest: Guest) -> Result<u32, Error> {
-        let mut out = 0;
         // SAFETY: above.
-        done(unsafe { sys::strm_set_new(self.at(), guest.0, &mut out) })?;
-        Ok(out)
+        wrote(|out| unsafe { sys::strm_set_new(self.at(), guest.0, out) })
     }
 
     /// An end joins a set, and leaves the one that it was in; of set 0 it leaves that alone.
@@ -55,9 +53,8 @@ impl Store {
     /// ```
     #[inline]
     pub fn set_poll(&mut self, guest: Guest, set: u32) -> Result<Option<Member>, Error> {
-        let mut out = sys::Member::default();
         // SAFETY: above.
-        done(unsafe { sys::strm_set_poll(self.at(), guest.0, set, &mut out) })?;
+        let out = wrote(|out| unsafe { sys::strm_set_poll(self.at(), guest.0, set, out) })?;
         let handle = out.handle;
         Ok(Code::told(out.code).map(|code| Member { handle, code }))
     }

@@ -1,6 +1,6 @@
 //! Streams.
 
-use crate::answers::done;
+use crate::answers::{done, wrote};
 use crate::sys;
 use crate::{Code, Error, Guest, Pair, Payload, Store};
 
@@ -17,10 +17,8 @@ impl Store {
     /// ```
     #[inline]
     pub fn stream_new(&mut self, guest: Guest, payload: Payload) -> Result<Pair, Error> {
-        let mut out = Pair::default();
         // SAFETY: above.
-        done(unsafe { sys::strm_stream_new(self.at(), guest.0, payload.word(), &mut out) })?;
-        Ok(out)
+        wrote(|out| unsafe { sys::strm_stream_new(self.at(), guest.0, payload.word(), out) })
     }
 
     /// Writes items that lie from an address of the guest's memory on. Those of a write that waits stay where
@@ -46,20 +44,11 @@ impl Store {
         address: u32,
         count: u32,
     ) -> Result<Code, Error> {
-        let mut out = 0;
         // SAFETY: above.
-        done(unsafe {
-            sys::strm_stream_write(
-                self.at(),
-                guest.0,
-                payload.word(),
-                handle,
-                address,
-                count,
-                &mut out,
-            )
-        })?;
-        Ok(Code::of(out))
+        wrote(|out| unsafe {
+            sys::strm_stream_write(self.at(), guest.0, payload.word(), handle, address, count, out)
+        })
+        .map(Code::of)
     }
 
     /// Reads items to an address of the guest's memory on. `canon stream.read`.
@@ -80,20 +69,11 @@ impl Store {
         address: u32,
         count: u32,
     ) -> Result<Code, Error> {
-        let mut out = 0;
         // SAFETY: above.
-        done(unsafe {
-            sys::strm_stream_read(
-                self.at(),
-                guest.0,
-                payload.word(),
-                handle,
-                address,
-                count,
-                &mut out,
-            )
-        })?;
-        Ok(Code::of(out))
+        wrote(|out| unsafe {
+            sys::strm_stream_read(self.at(), guest.0, payload.word(), handle, address, count, out)
+        })
+        .map(Code::of)
     }
 
     /// Cancels the write that waits. `canon stream.cancel-write`.
@@ -112,10 +92,9 @@ impl Store {
         payload: Payload,
         handle: u32,
     ) -> Result<Code, Error> {
-        let mut out = 0;
         // SAFETY: above.
-        done(unsafe { sys::strm_stream_cancel_write(self.at(), guest.0, payload.word(), handle, &mut out) })?;
-        Ok(Code::of(out))
+        wrote(|out| unsafe { sys::strm_stream_cancel_write(self.at(), guest.0, payload.word(), handle, out) })
+            .map(Code::of)
     }
 
     /// Cancels the read that waits. `canon stream.cancel-read`.
@@ -131,10 +110,9 @@ impl Store {
     /// ```
     #[inline]
     pub fn stream_cancel_read(&mut self, guest: Guest, payload: Payload, handle: u32) -> Result<Code, Error> {
-        let mut out = 0;
         // SAFETY: above.
-        done(unsafe { sys::strm_stream_cancel_read(self.at(), guest.0, payload.word(), handle, &mut out) })?;
-        Ok(Code::of(out))
+        wrote(|out| unsafe { sys::strm_stream_cancel_read(self.at(), guest.0, payload.word(), handle, out) })
+            .map(Code::of)
     }
 
     /// Drops the write end. `canon stream.drop-writable`.
@@ -181,9 +159,8 @@ impl Store {
     /// ```
     #[inline]
     pub fn take_event(&mut self, guest: Guest, handle: u32) -> Result<Option<Code>, Error> {
-        let mut out = 0;
         // SAFETY: above.
-        done(unsafe { sys::strm_take_event(self.at(), guest.0, handle, &mut out) })?;
+        let out = wrote(|out| unsafe { sys::strm_take_event(self.at(), guest.0, handle, out) })?;
         Ok(Code::told(out))
     }
 }
