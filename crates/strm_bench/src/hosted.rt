@@ -46,8 +46,8 @@ pub fn list(alloc: Global, len: u32) -> Result<Vec<u8>, AllocError> {
     vec![in alloc; 7u8; len as usize]
 }
 
-// The bytes of a feed.
-fn fed() -> Chunk {
+/// The bytes of a feed.
+pub fn fed() -> Chunk {
     Chunk::new(&[7; 64]).unwrap()
 }
 

@@ -9,6 +9,8 @@ mod draws;
 mod filled;
 mod guests;
 mod hosted;
+mod piped;
+mod pipes;
 mod rounds;
 mod sums;
 mod tables;
@@ -66,6 +68,8 @@ fn main(rt: HostRuntime) -> io::Result<()> {
     time_list(&rt)?;
     time_grants(&rt, turns / 8)?;
     time_consumer(&rt)?;
+    pipes::time_list(&rt)?;
+    pipes::time_rounds(&rt)?;
     time_drives(&rt)
 }
 
@@ -111,7 +115,7 @@ fn tell_sum(rt: &HostRuntime, name: &str, sum: u64) -> io::Result<()> {
 }
 
 // How long something took.
-fn tell_time(rt: &HostRuntime, what: &str, time: u128, unit: &str) -> io::Result<()> {
+pub(crate) fn tell_time(rt: &HostRuntime, what: &str, time: u128, unit: &str) -> io::Result<()> {
     eprintln!(rt; "{what}: {time} {unit}")
 }
 

@@ -295,3 +295,11 @@ bytes_stored bytes f =
       are = ap (items (U8 ∷ []) bytes) count ∙ are;
       fit = AreItems-items (U8 ∷ []) bytes n (byte_items bytes) f are;
     }
+
+-- they lie where they are, all of them
+pub bytes_lie : (bytes : List ℕ) → IsBytes bytes → Lie (U8 ∷ []) bytes 0 (length bytes) (byte_items bytes)
+bytes_lie bytes f =
+    let s = bytes_stored bytes f in
+    let count : length (byte_items bytes) ≡ length bytes = length-map bytes (λ b. pos b ∷ []) in
+    subst (λ j. Lie (U8 ∷ []) bytes 0 j (byte_items bytes)) count
+    (lie_made (U8 ∷ []) bytes 0 (length (byte_items bytes)) (byte_items bytes) (omega (arith, s.all)) s.are s.fit)

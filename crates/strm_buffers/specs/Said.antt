@@ -2,6 +2,7 @@
 use Rattle.std.specs.Prelude.{ℕ, Bool, List, [], Option, Some, None, take, drop}
 use Rattle.strm_codes.specs.declared.codes.StreamResult.{StreamResult}
 use Rattle.strm_codes.specs.declared.codes.StreamResult.TheVariants as result
+use Rattle.strm_codes.specs.declared.payloads.Payload.{Payload}
 use Rattle.strm_buffers.specs.declared.answers.Answer.{Answer}
 use Rattle.strm_buffers.specs.declared.answers.Answer.TheVariants as answer
 use Rattle.strm_buffers.specs.declared.answers.Turn.{Turn}
@@ -9,10 +10,11 @@ use Rattle.strm_buffers.specs.declared.answers.Turn.TheVariants.{Pending, Ready,
 use Rattle.strm_buffers.specs.Listing.{Item}
 
 -- one poll of a host writer: how many items there was room for (None: as many as it likes), whether
--- it was asked to finish, all items that it produced, and its answer
+-- it was asked to finish, what one of its items is, all items that it produced, and its answer
 pub record WriterSaid : Type 0 where
   pub room : Option ℕ
   pub finish : Bool
+  pub payload : Payload
   pub items : List Item
   pub answer : Answer
 

@@ -126,7 +126,7 @@ pub record Fills (old new : Lent) : Type 0 where
 -- the record of a poll that marked these items and holds those
 abbrev pub writer_record : Lent → Bool → List Item → List Item → Answer → WriterSaid
 writer_record window finish marked holds answer =
-    record { room = room_of window.place; finish = finish; items = marked ++ holds; answer = answer }
+    record { room = room_of window.place; finish = finish; payload = window.payload; items = marked ++ holds; answer = answer }
 
 -- a poll for which memory was wanting adds no record, and holds what it held
 pub record KeepsWriter (old new : WriterTells) : Type 0 where

@@ -7,15 +7,18 @@ ghost use Rattle.strm_codes.specs.Layout.{scalars_of, item_size};
 ghost use Rattle.strm_codes.specs.Items.{FitsItem};
 ghost use Rattle.strm_codes.specs.declared.payloads.Payload.TheVariants.{One};
 ghost use Rattle.strm_codes.specs.declared.scalars.Scalar.TheVariants.{U8};
-ghost use Rattle.strm_memory.specs.Items.{stored_at, AreItems};
+ghost use Rattle.strm_memory.specs.Items.{stored_at, AreItems, byte_items};
 ghost use Rattle.strm_buffers.specs.Keeping.{with_space};
 ghost use Rattle.strm_buffers.specs.Listing.{kept_items, items_in, AreKept, LieIn, AreStored};
 
+use crate::item_bytes::ItemBytes;
 use crate::kept_bytes::{append_zeros, are_bytes};
+use bytes::Bytes;
 use std::alloc::Global;
 use std::marker::Model;
 use strm_codes::counts::OutOfMemory;
 use strm_codes::payloads::Payload;
+use strm_codes::scalars::Scalar;
 use strm_codes::values::Value;
 use strm_memory::copies::copy_region;
 use strm_memory::items::{lift_item_into, lower_item_at};
@@ -28,7 +31,7 @@ pub const MOST_ITEMS: u32 = 4_294_967_294;
 #[derive(Drop)]
 pub struct Items {
     payload: Payload,
-    bytes: Vec<u8>,
+    bytes: ItemBytes,
     // Where the first item lies; nothing stands behind the last.
     start: usize,
     len: usize,
@@ -39,9 +42,9 @@ impl Model for Items {
 
     ghost Value = { TypedItems };
 
-    ghost view = { λ s. kept_items s.payload s.bytes.items s.start s.len };
+    ghost view = { λ s. kept_items s.payload s.bytes s.start s.len };
 
-    ghost invariant = { λ s. AreKept s.payload s.bytes.items s.start s.len };
+    ghost invariant = { λ s. AreKept s.payload s.bytes s.start s.len };
 }
 
 impl Items {
@@ -52,7 +55,7 @@ impl Items {
     {
         Items {
             payload,
-            bytes: Vec::new(alloc),
+            bytes: ItemBytes::of_vec(Vec::new(alloc)),
             start: 0,
             len: 0,
         }
@@ -65,10 +68,34 @@ impl Items {
     {
         Items {
             payload,
-            bytes,
+            bytes: ItemBytes::of_vec(bytes),
             start: 0,
             len,
         }
+    }
+
+    /// The items of payload u8 that the bytes of a block are. No byte is copied. Takes no memory.
+    pub fn of_shared(alloc: Global, bytes: Bytes) -> Items
+        requires { length bytes < 4294967295 }
+        ensures payload { result.payload ≡ One U8 }
+        ensures items { result.items ≡ byte_items bytes }
+    {
+        let len = bytes.len();
+        are_bytes(bytes.as_slice());
+        Items {
+            payload: Payload::One(Scalar::U8),
+            bytes: ItemBytes::of_shared(alloc, bytes),
+            start: 0,
+            len,
+        }
+    }
+
+    /// Makes them ready to be copied without a copy of their bytes, by `copy`: until one of them grows,
+    /// all have the same block. Where there is no memory for its count of owners, nothing has changed.
+    pub fn share(&mut self)
+        ensures { self.new ≡ self.old }
+    {
+        self.bytes.share();
     }
 
     /// The items that these values are. After `OutOfMemory`, which does not come where the values are
@@ -150,7 +177,12 @@ impl Items {
         ensures fits { FitsItem (scalars_of self.now.payload) item.new }
     {
         let size = self.payload.size() as usize;
-        if !lift_item_into(&self.bytes, self.start + size * index, &self.payload, item) {
+        if !lift_item_into(
+            self.bytes.as_slice(),
+            self.start + size * index,
+            &self.payload,
+            item,
+        ) {
             unreachable!();
         }
     }
@@ -164,7 +196,7 @@ impl Items {
         ensures err { OnErr result (self.new ≡ self.old) }
     {
         let end = self.bytes.len();
-        match append_item(&mut self.bytes, end, item, self.payload) {
+        match self.bytes.append_item(end, item, self.payload) {
             Ok(()) => {}
             Err(error) => return Err(error),
         }
@@ -180,9 +212,9 @@ impl Items {
         ensures ok { OnOk result (self.new.items ≡ self.old.items ++ more.now.items) }
         ensures err { OnErr result (self.new ≡ self.old) }
     {
-        match self.bytes.extend_from_slice(more.bytes()) {
+        match self.bytes.extend(more.bytes()) {
             Ok(()) => {}
-            Err(_) => return Err(OutOfMemory),
+            Err(error) => return Err(error),
         }
         self.len += more.len();
         Ok(())
@@ -192,10 +224,14 @@ impl Items {
     pub fn copy(&self) -> Result<Items, OutOfMemory>
         ensures { IfOk result (λ items. items ≡ self.now) }
     {
-        let mut bytes = Vec::new(*self.bytes.allocator());
-        match bytes.extend_from_slice(self.bytes.as_slice().split_at(self.start).1) {
-            Ok(()) => Ok(Items::of_bytes(self.payload, bytes, self.len)),
-            Err(_) => Err(OutOfMemory),
+        match self.bytes.copy_from(self.start) {
+            Ok(bytes) => Ok(Items {
+                payload: self.payload,
+                bytes,
+                start: 0,
+                len: self.len,
+            }),
+            Err(error) => Err(error),
         }
     }
 
@@ -205,6 +241,8 @@ impl Items {
         ensures payload { self.new.payload ≡ self.old.payload }
         ensures items { self.new.items ≡ drop count self.old.items }
     {
+        // For the sum: how many bytes there can be.
+        let _ = self.bytes.len();
         self.start += self.payload.size() as usize * count;
         self.len -= count;
     }

@@ -5,7 +5,9 @@
 pub mod answers;
 pub mod boxes;
 pub mod buffers;
+pub mod byte_buffers;
 pub mod hosts;
+mod item_bytes;
 pub mod items;
 mod kept_bytes;
 pub mod offers;
@@ -18,3 +20,5 @@ pub mod values;
 pub mod vec_buffer;
 pub mod windows;
 pub mod writers;
+
+pub use strm_memory::payloaded::Payloaded;

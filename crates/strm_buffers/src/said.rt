@@ -28,7 +28,7 @@ impl Model for WriterSaid {
 
     ghost Value = { WriterSaid };
 
-    ghost view = { λ s. record { room = s.room; finish = s.finish; items = s.items.items; answer = s.answer } };
+    ghost view = { λ s. record { room = s.room; finish = s.finish; payload = s.items.payload; items = s.items.items; answer = s.answer } };
 }
 
 impl WriterSaid {

@@ -2,7 +2,7 @@
 //!
 //! Source: wasmtime, `futures_and_streams/buffers.rs`, `SliceBuffer`.
 
-ghost use Rattle.std.specs.Prelude.{◌≡◌, ◌+◌, ◌<◌, ◌≤◌, ◌∷◌, ◌++◌, length, take, drop, slice_range, vec_len, vec_capacity};
+ghost use Rattle.std.specs.Prelude.{◌≡◌, ◌+◌, ◌<◌, ◌≤◌, [], ◌∷◌, ◌++◌, length, take, drop, slice_range, vec_len, vec_capacity};
 
 use crate::buffers::WriteBuffer;
 use std::alloc::Global;
@@ -51,7 +51,12 @@ impl WriteBuffer<u8> for SliceBuffer {
 
     ghost items = { λ b. slice_range b.buffer.items b.offset b.limit };
 
-    fn empty(alloc: Global) -> SliceBuffer {
+    fn empty(alloc: Global) -> SliceBuffer
+        ensures items { slice_range result.buffer.items result.offset result.limit ≡ [] }
+
+        // It takes no memory.
+        ensures memory { vec_capacity result.buffer ≡ 0 }
+    {
         SliceBuffer {
             buffer: Vec::new(alloc),
             offset: 0,

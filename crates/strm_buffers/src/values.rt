@@ -2,8 +2,7 @@
 //!
 //! Source: wasmtime, `futures_and_streams/buffers.rs`, `UntypedWriteBuffer`; `ValueBuffer` is ours.
 
-ghost use Rattle.std.specs.Prelude.{◌≡◌, ◌<◌, ◌≤◌, ◌↔◌, length, drop, map, slice_get, Some, Ok, Err, IsErr, IfErr, IfOk, IsFalse};
-ghost use Rattle.strm_codes.specs.Sameness.{same_payload};
+ghost use Rattle.std.specs.Prelude.{◌≡◌, ◌≢◌, ◌<◌, ◌≤◌, ◌↔◌, length, drop, map, slice_get, Some, Ok, Err, IsSome, IfSome, IsErr, IfErr, IfOk};
 
 use crate::buffers::WriteBuffer;
 use crate::vec_buffer::VecBuffer;
@@ -103,6 +102,18 @@ pub struct TypeMismatch {
     pub found: Payload,
 }
 
+// That another payload was found than was expected.
+fn mismatch_of(expected: Payload, found: Payload) -> Option<TypeMismatch>
+    ensures some { IsSome result ↔ expected ≢ found }
+    ensures names { IfSome result (λ error. (error.expected ≡ expected) × (error.found ≡ found)) }
+{
+    if expected == found {
+        None
+    } else {
+        Some(TypeMismatch { expected, found })
+    }
+}
+
 /// A buffer that is lent without its item's type.
 #[derive(Drop)]
 pub struct UntypedWriteBuffer<'a, B: ValueBuffer> {
@@ -125,16 +136,13 @@ impl<'a, B: ValueBuffer> UntypedWriteBuffer<'a, B> {
     pub fn get_mut<T: Payloaded>(&mut self) -> Result<&mut B, TypeMismatch>
         ensures* lends { sem 𝓛 (LendsBuffer B.row self.entry result) }
         ensures value { IfOk result (λ buffer. buffer.now ≡ self.old.buffer.now) }
-        ensures mismatch { IsErr result ↔ IsFalse (same_payload T.payload B.payload) }
+        ensures mismatch { IsErr result ↔ T.payload ≢ B.payload }
         ensures names { IfErr result
             (λ error. (error.expected ≡ T.payload) × (error.found ≡ B.payload)) }
     {
-        let expected = T::payload();
-        let found = self.buffer.payload();
-        if expected == found {
-            Ok(&mut *self.buffer)
-        } else {
-            Err(TypeMismatch { expected, found })
+        match mismatch_of(T::payload(), self.buffer.payload()) {
+            None => Ok(&mut *self.buffer),
+            Some(mismatch) => Err(mismatch),
         }
     }
 }

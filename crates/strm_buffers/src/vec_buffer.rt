@@ -63,7 +63,12 @@ impl<T: Copy> VecBuffer<T> {
 impl<T: Copy> WriteBuffer<T> for VecBuffer<T> {
     ghost items = { λ b. drop b.first b.buffer.items };
 
-    fn empty(alloc: Global) -> VecBuffer<T> {
+    fn empty(alloc: Global) -> VecBuffer<T>
+        ensures items { drop result.first result.buffer.items ≡ [] }
+
+        // It takes no memory.
+        ensures memory { vec_capacity result.buffer ≡ 0 }
+    {
         VecBuffer {
             buffer: Vec::new(alloc),
             first: 0,

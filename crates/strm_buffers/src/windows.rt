@@ -9,6 +9,7 @@ ghost use Rattle.strm_codes.specs.Layout.{scalars_of, item_size};
 ghost use Rattle.strm_codes.specs.Items.{FitsItem};
 ghost use Rattle.strm_codes.specs.declared.payloads.Payload.TheVariants.{One};
 ghost use Rattle.strm_codes.specs.declared.scalars.Scalar.TheVariants.{U8};
+ghost use Rattle.strm_memory.specs.Items.{byte_items};
 ghost use Rattle.strm_buffers.specs.Listing.{LieIn, items_in};
 ghost use Rattle.strm_buffers.specs.Windows.{Between, room_of, HasRoom, CanCount, IsBehind, to_keep, lent_memory, lent_between, with_items, with_marked, with_direct, memory_of, standing, IsSoundPlace};
 
@@ -187,6 +188,21 @@ impl Window {
         write_items(&mut self.bytes, at, bytes, self.payload, count);
         self.marked += count;
         Ok(())
+    }
+
+    /// Marks these bytes: what `direct`, `unmarked`, a copy and `mark` do, but that none of the bytes
+    /// behind them is kept. After `OutOfMemory`, which comes only between host ends, nothing has changed.
+    pub fn write(&mut self, bytes: &[u8]) -> Result<(), OutOfMemory>
+        requires bytes { self.old.payload ≡ One U8 }
+        requires room { HasRoom self.old.place (length self.old.marked) (length bytes.now) }
+        ensures ok { OnOk result (self.new ≡ with_items self.old (byte_items bytes.now)) }
+        ensures err { OnErr result (self.new ≡ self.old) }
+        ensures out_of_memory { OnErr result (self.old.place ≡ Between) }
+    {
+        are_bytes(bytes);
+        // For the count: a room is below 2^32.
+        self.sound();
+        self.put_all(bytes, bytes.len() as u32)
     }
 
     /// Between host ends gives up the unmarked bytes, and makes so many that are 0; a memory's room

@@ -89,8 +89,9 @@ pub trait HostWriter: Drop {
     fn records(&self) -> usize
         ensures { result ≡ length (writer_tells self.now).said };
 
-    /// A record, from 0. After `OutOfMemory` nothing was kept.
+    /// A record, from 0; its items are of the writer's payload. After `OutOfMemory` nothing was kept.
     fn record_at(&self, index: usize) -> Result<WriterSaid, OutOfMemory>
         requires { index < length (writer_tells self.now).said }
-        ensures { IfOk result (λ said. slice_get (writer_tells self.now).said index ≡ Some said) };
+        ensures exact { IfOk result (λ said. slice_get (writer_tells self.now).said index ≡ Some said) }
+        ensures payload { IfOk result (λ said. said.payload ≡ (writer_tells self.now).payload) };
 }

@@ -1,6 +1,11 @@
 //! Buffers of typed items.
 
+ghost use Rattle.std.specs.Prelude.{◌≡◌, [], ◌∷◌};
+
 use crate::answers::{is, vector};
+use bytes::{Bytes, BytesMut};
+use std::alloc::Global;
+use std::process::Abort;
 use strm_buffers::buffers::{ReadBuffer, WriteBuffer};
 use strm_buffers::slice_buffer::SliceBuffer;
 use strm_buffers::vec_buffer::VecBuffer;
@@ -18,6 +23,30 @@ fn what_is_moved_leaves_the_front(rt: HostRuntime) {
     one.move_from(&mut buffer, 1);
     is(&rt, buffer.remaining(), [3].as_slice());
     is(&rt, one, Some(2));
+}
+
+// One byte of three to a vector, and one to a buffer of `bytes`.
+fn two_are_moved<B: WriteBuffer<u8>>(rt: &impl Abort, alloc: Global, mut buffer: B) -> B
+    requires { B.items buffer ≡ 1 ∷ 2 ∷ 3 ∷ [] }
+    ensures { B.items result ≡ 3 ∷ [] }
+{
+    let mut out: Vec<u8> = Vec::with_capacity(alloc, 1).expect(rt, "memory");
+    out.move_from(&mut buffer, 1);
+    is(rt, buffer.remaining(), [2, 3].as_slice());
+    let mut room = BytesMut::with_capacity(alloc, 1).expect(rt, "memory");
+    room.move_from(&mut buffer, 1);
+    is(rt, buffer.remaining(), [3].as_slice());
+    is(rt, room.as_slice(), [2].as_slice());
+    buffer
+}
+
+#[test]
+fn blocks_of_bytes_are_buffers(rt: HostRuntime) {
+    let alloc = rt.alloc();
+    let bytes = Bytes::from_vec(vector(&rt, alloc, &[1, 2, 3])).expect(&rt, "memory");
+    let _ = two_are_moved(&rt, alloc, bytes);
+    let bytes = BytesMut::from_vec(vector(&rt, alloc, &[1, 2, 3]));
+    let _ = two_are_moved(&rt, alloc, bytes);
 }
 
 #[test]

@@ -64,6 +64,22 @@ fn items_pass_between_host_ends_and_through_a_memory(rt: HostRuntime) {
     passes(&rt, rt.alloc(), (7u8, 70000u32));
 }
 
+// More than a window keeps in itself.
+#[test]
+fn a_room_of_80_bytes_is_prepared_and_put_back(rt: HostRuntime) {
+    let mut bytes = [7; 100];
+    let memory = GuestMemory::of_bytes(vector(&rt, rt.alloc(), &bytes));
+    let mut window = Window::over(memory, BYTES, 10, 80);
+    is(&rt, window.prepare(), Ok(()));
+    window.unmarked().fill(9);
+    window.mark(2);
+    bytes[10] = 9;
+    bytes[11] = 9;
+    let (memory, marked) = window.into_memory();
+    is(&rt, memory.bytes(), bytes.as_slice());
+    is(&rt, marked, 2);
+}
+
 #[test]
 fn bytes_that_are_not_marked_are_put_back(rt: HostRuntime) {
     let memory = GuestMemory::of_bytes(vector(&rt, rt.alloc(), &[1, 2, 3, 4]));

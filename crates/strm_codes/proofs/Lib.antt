@@ -3,3 +3,4 @@ pub mod PaddedLemmas
 pub mod ItemLemmas
 pub mod SamenessLemmas
 pub mod FormLemmas
+mod ValueLemmas

@@ -5,6 +5,7 @@
 pub mod codes;
 pub mod counts;
 pub mod ids;
+pub mod laws;
 pub mod payloads;
 pub mod refusals;
 pub mod scalars;

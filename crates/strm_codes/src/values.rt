@@ -21,19 +21,20 @@ pub struct Value {
 impl Model for Value {
     ghost use Rattle.std.specs.Prelude.{ℤ, pos, List, take, length};
     ghost use Rattle.std.proofs.Common.{arith, length-take-le, sym};
-    ghost use Rattle.strm_codes.specs.Padded.{padded, IsPadded};
+    ghost use Rattle.strm_codes.specs.Padded.{padded};
+    ghost use Rattle.strm_codes.specs.Items.{AreNumbers};
 
     ghost Value = { List ℤ };
 
     ghost view = { λ v. take v.len v.numbers };
 
-    ghost invariant = { λ v. IsPadded 8 (pos 0) v.numbers v.len };
+    ghost invariant = { λ v. AreNumbers v.numbers v.len };
 
     ghost inverse = { λ xs. record { numbers = padded 8 (pos 0) xs; len = length xs } };
 
     ghost inverse_ok = { λ v h i. record {
-      numbers = sym h.behind i;
-      len = length-take-le v.len v.numbers (omega (arith, h.most, h.whole)) i;
+      numbers = sym h.padded.behind i;
+      len = length-take-le v.len v.numbers (omega (arith, h.padded.most, h.padded.whole)) i;
     } };
 }
 
@@ -86,7 +87,8 @@ impl Value {
     /// A number, from 0.
     pub fn get(&self, index: usize) -> i128
         requires { index < length self.now }
-        ensures { slice_get self.now index ≡ Some result }
+        ensures exact { slice_get self.now index ≡ Some result }
+        ensures range { IsNumber result }
     {
         self.as_slice()[index]
     }
@@ -95,6 +97,7 @@ impl Value {
     pub fn as_slice(&self) -> &[i128]
         ensures exact { result.now ≡ self.now }
         ensures most { length result.now ≤ 8 }
+        ensures range { All IsNumber result.now }
     {
         &self.numbers[..self.len as usize]
     }

@@ -1,5 +1,5 @@
 -- A call of the store without host ends is the machine's step, and leaves it so.
-use Rattle.std.proofs.Common.{◌≡◌, ◌≢◌, ◌≤◌, ◌+◌, ap, ℕ, true, false, List, length, refl, sym, subst, ◌∙◌}
+use Rattle.std.proofs.Common.{◌≡◌, ◌≤◌, ◌+◌, ap, ℕ, true, false, List, length, refl, sym, subst, ◌∙◌}
 use Rattle.std.specs.Prelude.{Result, Ok, Err}
 use Rattle.strm_buffers.specs.Tells.{Tells}
 use Rattle.std.specs.Prelude.{Bool, nat_lt, ◌&&◌}
@@ -13,14 +13,16 @@ use Rattle.strm_machine.specs.declared.limits.Limits.{Limits}
 use Rattle.strm_machine.specs.declared.acts.Act.{Act}
 use Rattle.strm_machine.specs.declared.replies.Reply.{Reply}
 use Rattle.strm_machine.proofs.SoundStepLemmas.{poke-keeps}
-use Rattle.strm_world.specs.Steps.{may_poll}
 use Rattle.strm_world.specs.Does.{Fits}
+use Rattle.std.specs.List.{refill, length_refill}
+use Rattle.strm_machine.proofs.TurnLemmas.{with_memory-keeps}
+use Rattle.strm_transmit.specs.Lending.{with_bytes_in}
 use Rattle.strm_transmit.specs.Guests.{Unhosted, nobody, is_of_guests}
 use Rattle.strm_transmit.specs.Meets.{Meets}
-use Rattle.strm_transmit.specs.Hosted.{lone, MeetsHosted, StillFits}
+use Rattle.strm_transmit.specs.Hosted.{MeetsHosted, StillFits}
 use Rattle.strm_transmit.specs.declared.errors.StoreError.{StoreError}
 use Rattle.strm_transmit.specs.declared.errors.StoreError.TheVariants as errors
-use Rattle.strm_transmit.proofs.GuestLemmas.{reaction-unhosted, lowering-unhosted, empty-unhosted, touches-none, polls-none}
+use Rattle.strm_transmit.proofs.GuestLemmas.{reaction-unhosted, lowering-unhosted, empty-unhosted, touches-none}
 use Rattle.strm_embed.specs.Among.{IsAmongGuests, HasBytes}
 
 after-done : (old new : State) (r : Reaction) (reply : Reply) → Unhosted r.state → Fits new nobody → r ≡ record { reply = reply; state = new } → IsAmongGuests new
@@ -51,9 +53,6 @@ fits_nobody state tells among e = subst (Fits state) (sym e) among.fits
 pub hosted_meets : (old new : State) (tells told : Tells) (result : Result Reply StoreError) (act : Act) → IsAmongGuests old → is_of_guests act ≡ true → MeetsHosted old new tells told result act → Meets old new result (reaction old act)
 hosted_meets old new tells told result act among e m = (m.alone (touches-none old act among.unhosted e)).meets
 
-pub hosted_polls_none : (state : State) (act : Act) → IsAmongGuests state → is_of_guests act ≡ true → may_poll (lone state) act ≡ false
-hosted_polls_none state act among e = polls-none state act among.unhosted e
-
 pub hosted_among : (old new : State) (tells told : Tells) (result : Result Reply StoreError) (act : Act) → IsAmongGuests old → tells ≡ nobody → is_of_guests act ≡ true → MeetsHosted old new tells told result act → IsAmongGuests new
 hosted_among old new tells told result act among n e m =
     let a = m.alone (touches-none old act among.unhosted e) in
@@ -76,6 +75,18 @@ written_among state guest address bytes among h =
     record {
       unhosted = record {
         sound = IsSound-guests state _ (poke-keeps state guest address bytes fits) among.unhosted.sound;
+        none = among.unhosted.none;
+      };
+      fits = record { writers = among.fits.writers; readers = among.fits.readers };
+    }
+
+-- and such as are written into one that is lent
+pub lent_among : (state : State) (guest : ℕ) (bytes : List ℕ) → IsAmongGuests state → IsAmongGuests (with_bytes_in state guest bytes)
+lent_among state guest bytes among =
+    let memory = memory_in state.guests guest in
+    record {
+      unhosted = record {
+        sound = IsSound-guests state _ (with_memory-keeps state.guests guest (refill (length memory) memory bytes) (sym (length_refill (length memory) memory bytes refl))) among.unhosted.sound;
         none = among.unhosted.none;
       };
       fits = record { writers = among.fits.writers; readers = among.fits.readers };

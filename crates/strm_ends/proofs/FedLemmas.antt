@@ -5,8 +5,10 @@ use Rattle.std.proofs.lemmas.List.Elements.{All-head, All-tail}
 use Rattle.std.specs.Prelude.{All}
 use Rattle.strm_codes.specs.Layout.{scalars_of, item_size}
 use Rattle.strm_codes.specs.declared.payloads.Payload.{Payload}
-use Rattle.strm_memory.specs.Items.{items, AreItems}
-use Rattle.strm_buffers.specs.Listing.{items_in}
+use Rattle.strm_codes.specs.declared.scalars.Scalar.TheVariants.{U8}
+use Rattle.strm_memory.specs.Items.{items, byte_items, AreItems}
+use Rattle.strm_memory.proofs.AppendLemmas.{items-bytes}
+use Rattle.strm_buffers.specs.Listing.{items_in, listed}
 use Rattle.strm_buffers.proofs.ListingLemmas.{Lie, lie_more}
 use Rattle.strm_ends.specs.Queues.{items_fed}
 use Rattle.strm_ends.specs.Fed.{AllFed, more_fed, heard_kept, fed_kept, item_bytes, other_bytes, IsFed}
@@ -108,3 +110,7 @@ module _ (payload : Payload) (bytes rest : List ℕ) (len : ℕ) (feeds : List F
         };
         is = rw (lie.is, heard) (ap (λ (a : AllFed). more_fed a records given) v);
       }
+
+-- bytes are the items that they hold
+pub all_bytes : (bytes : List ℕ) (count : ℕ) → length bytes ≡ count → items_in (U8 ∷ []) bytes 0 count ≡ byte_items bytes
+all_bytes bytes count size = ap listed (items-bytes bytes count (omega (arith, size))) ∙ ap byte_items (take_all count bytes (omega (arith, size)))

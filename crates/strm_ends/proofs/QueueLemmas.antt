@@ -9,6 +9,7 @@ use Rattle.strm_memory.specs.Items.{AreItems}
 use Rattle.strm_buffers.specs.Listing.{Item}
 use Rattle.strm_buffers.specs.Windows.{Place, Memory, Between, room_of, HasRoom}
 use Rattle.strm_codes.specs.Layout.{scalars_of}
+use Rattle.strm_codes.specs.declared.payloads.Payload.{Payload}
 use Rattle.strm_buffers.specs.Windows.{Lent}
 use Rattle.strm_buffers.specs.Said.{in_room, past_room}
 use Rattle.strm_buffers.specs.Tells.{WriterTells, PollsWriter, Rises, writer_record, fed}
@@ -54,11 +55,11 @@ room_given (Memory memory address room) Future n h = omega (arith, h)
 room_given Between Stream n h = omega (arith, h)
 room_given Between Future n h = omega (arith, h)
 
-module _ (items more : List Item) (polls : List Poll) (p : All (IsPoll items) polls) where
+module _ (payload : Payload) (items more : List Item) (polls : List Poll) (p : All (IsPoll items) polls) where
   -- the records stay
-  pub said-more : said_kept (items ++ more) polls ≡ said_kept items polls
+  pub said-more : said_kept payload (items ++ more) polls ≡ said_kept payload items polls
   said-more =
-      map_same (said_of (items ++ more)) (said_of items) polls (All-weaker (IsPoll items) (λ (poll : Poll). said_of (items ++ more) poll ≡ said_of items poll)
+      map_same (said_of payload (items ++ more)) (said_of payload items) polls (All-weaker (IsPoll items) (λ (poll : Poll). said_of payload (items ++ more) poll ≡ said_of payload items poll)
       (λ (poll : Poll) h. rw (part-more items more poll.start poll.count h.0) refl) polls p)
 
   pub polls-more : All (IsPoll (items ++ more)) polls
@@ -97,7 +98,7 @@ no_fault over finish (suc n) (suc k) = omega arith
 pub record Gives (old new : QueueWriter) (window after : Lent) (finish : Bool) (a : Answer) : Type 0 where
   pub marked : after.marked ≡ items_given old.kind (room_of window.place) (queue_of old)
   pub answer : a ≡ answer_given old.kind (room_of window.place) finish (queue_of old)
-  pub said : said_kept new.fed.items new.polls.items ≡ said_kept old.fed.items old.polls.items ++ record { room = room_of window.place; finish = finish; items = after.marked; answer = a } ∷ []
+  pub said : said_kept new.fed.payload new.fed.items new.polls.items ≡ said_kept old.fed.payload old.fed.items old.polls.items ++ record { room = room_of window.place; finish = finish; payload = window.payload; items = after.marked; answer = a } ∷ []
   pub fit : AreItems (scalars_of old.fed.payload) after.marked
   pub fed : new.fed ≡ old.fed
   pub kind : new.kind ≡ old.kind
@@ -123,11 +124,11 @@ gives_polls old new window after finish a g =
 -- what a writer tells that was fed so
 abbrev tells_of : TransmitKind → AllFed → List Poll → Bool → WriterTells
 tells_of kind all polls closed =
-    record { kind = kind; payload = all.payload; said = said_kept all.items polls; holds = []; faults = 0; closed = closed; heard = Some all.heard }
+    record { kind = kind; payload = all.payload; said = said_kept all.payload all.items polls; holds = []; faults = 0; closed = closed; heard = Some all.heard }
 
 -- a feed is heard, and the records stay
 pub fed_tells : (kind : TransmitKind) (old new : AllFed) (polls : List Poll) (closed : Bool) (records : ℕ) (bytes : List ℕ) → All (IsPoll old.items) polls → new ≡ more_fed old records bytes → records ≡ length polls → tells_of kind new polls closed ≡ fed (tells_of kind old polls closed) bytes
 fed_tells kind old new polls closed records bytes p n e =
-    let count : records ≡ length (said_kept old.items polls) = e ∙ sym (length-map polls (said_of old.items)) in
-    let stay : said_kept (old.items ++ items_fed old.payload bytes) polls ≡ said_kept old.items polls = said-more old.items (items_fed old.payload bytes) polls p in
+    let count : records ≡ length (said_kept old.payload old.items polls) = e ∙ sym (length-map polls (said_of old.payload old.items)) in
+    let stay : said_kept old.payload (old.items ++ items_fed old.payload bytes) polls ≡ said_kept old.payload old.items polls = said-more old.payload old.items (items_fed old.payload bytes) polls p in
     ap (λ (f : AllFed). tells_of kind f polls closed) n ∙ rw (stay, count) refl

@@ -17,7 +17,7 @@ queue_tells w =
     record {
       kind = w.kind;
       payload = w.fed.payload;
-      said = said_kept w.fed.items w.polls.items;
+      said = said_kept w.fed.payload w.fed.items w.polls.items;
       holds = [];
       faults = 0;
       closed = w.closed;

@@ -3,20 +3,24 @@
 //! The bytes of all items lie one after the other, so that those of a poll are copied at once, and
 //! the others apart from them: each byte is kept once. Source: ours.
 
-ghost use Rattle.std.specs.Prelude.{◌≡◌, ◌+◌, ◌*◌, ◌<◌, ◌≤◌, [], ◌++◌, length, take, drop, IfOk, OnOk, OnErr};
+ghost use Rattle.std.specs.Prelude.{◌≡◌, true, ◌+◌, ◌*◌, ◌<◌, ◌≤◌, [], ◌++◌, length, take, drop, IfOk, OnOk, OnErr};
 ghost use Rattle.strm_codes.specs.Layout.{scalars_of};
+ghost use Rattle.strm_codes.specs.declared.payloads.Payload.TheVariants.{One};
+ghost use Rattle.strm_codes.specs.declared.scalars.Scalar.TheVariants.{U8};
 ghost use Rattle.strm_memory.specs.Items.{AreItems};
 ghost use Rattle.strm_buffers.specs.Windows.{HasRoom};
 ghost use Rattle.strm_buffers.specs.Tells.{Fills};
 ghost use Rattle.strm_ends.specs.Fed.{nothing_fed, more_fed};
 
 use crate::counting::count_items;
+use bytes::BytesMut;
 use std::alloc::Global;
 use std::marker::Model;
 use strm_buffers::items::Items;
 use strm_buffers::windows::Window;
 use strm_codes::counts::OutOfMemory;
 use strm_codes::payloads::Payload;
+use strm_codes::scalars::Scalar;
 
 // A feed: how many records there were, and how many bytes are those of its items and how many are
 // others. Its bytes lie behind those of the feeds before it.
@@ -34,7 +38,7 @@ const _: () = prove!(size_of::<Feed>() <= 24);
 pub(crate) struct Feeds {
     payload: Payload,
     // The bytes of the items, and how many items these are.
-    bytes: Vec<u8>,
+    bytes: BytesMut,
     len: usize,
     // The bytes that are no items.
     rest: Vec<u8>,
@@ -58,7 +62,7 @@ impl Feeds {
     {
         Feeds {
             payload,
-            bytes: Vec::new(alloc),
+            bytes: BytesMut::new(alloc),
             len: 0,
             rest: Vec::new(alloc),
             feeds: Vec::new(alloc),
@@ -113,6 +117,8 @@ impl Feeds {
             len: items.len(),
             rest_len: rest.len(),
         });
+        // For the sum: how many bytes there can be.
+        let _ = self.bytes.len();
         self.len += count;
         Ok(())
     }
@@ -144,7 +150,11 @@ impl Feeds {
         ensures marked { OnOk result (window.new.marked ≡ take count (drop start self.now.items)) }
         ensures fills { Fills window.old window.new }
     {
-        window.put_all(self.bytes_of(start, count), count)
+        let bytes = self.bytes_of(start, count);
+        if is_byte(self.payload) {
+            return window.write(bytes);
+        }
+        window.put_all(bytes, count)
     }
 }
 
@@ -161,8 +171,20 @@ impl Feeds {
         ensures all { length result.now ≡ item_size (scalars_of self.now.payload) * count }
     {
         let size = self.payload.size() as usize;
+        // For the products: how many bytes there can be.
+        let _ = self.bytes.len();
         let (_, behind) = self.bytes.as_slice().split_at(size * start);
         behind.split_at(size * count as usize).0
+    }
+}
+
+// Whether an item is one byte as it stands.
+fn is_byte(payload: Payload) -> bool
+    ensures { result ≡ true → payload ≡ One U8 }
+{
+    match payload {
+        Payload::One(Scalar::U8) => true,
+        _ => false,
     }
 }
 

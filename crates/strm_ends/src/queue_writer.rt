@@ -20,6 +20,10 @@ use strm_codes::payloads::Payload;
 
 /// A writer that gives the items that it is fed, in order. A feed of no bytes tells that no more will
 /// come; on a stream it is then dropped with its last item. It never holds items and never fails.
+///
+/// It keeps all that it was fed: what every poll gave, since its records tell it, what is still queued,
+/// and the bytes that were no items, since it tells what it heard. Each byte is kept once, and a record
+/// or the queue has none of its own: both are a place and a number in the bytes that were fed.
 #[derive(Drop)]
 pub struct QueueWriter {
     kind: TransmitKind,
@@ -185,9 +189,9 @@ impl QueueWriter {
             ≡ answer_given self.old.kind (room_of window.old.place) finish (queue_of self.old)) }
         ensures queue { OnOk result (queue_of self.new
             ≡ queue_left self.old.kind (room_of window.old.place) (queue_of self.old)) }
-        ensures said { IfOk result (λ answer. said_kept self.new.fed.items self.new.polls.items
-            ≡ said_kept self.old.fed.items self.old.polls.items
-            ++ record { room = room_of window.old.place; finish = finish; items = window.new.marked; answer = answer } ∷ []) }
+        ensures said { IfOk result (λ answer. said_kept self.new.fed.payload self.new.fed.items self.new.polls.items
+            ≡ said_kept self.old.fed.payload self.old.fed.items self.old.polls.items
+            ++ record { room = room_of window.old.place; finish = finish; payload = window.old.payload; items = window.new.marked; answer = answer } ∷ []) }
         ensures fit { OnOk result (AreItems (scalars_of self.old.fed.payload) window.new.marked) }
         ensures err { OnErr result (self.new.polls.items ≡ self.old.polls.items) }
         ensures same_queue { OnErr result (queue_of self.new ≡ queue_of self.old) }

@@ -33,6 +33,7 @@ pub struct ScriptedWriter {
     alloc: Global,
     ghost typed: { All (λ turn. turn.items.payload ≡ payload) turns.items },
     ghost holding: { held.payload ≡ payload },
+    ghost recorded: { All (λ said. said.payload ≡ payload) said.items },
 }
 
 impl ScriptedWriter {
@@ -210,7 +211,7 @@ impl ScriptedWriter {
         ensures marked { OnOk result (window.new.marked ≡ in_room (room_of window.old.place) (next_items self.old.turns.items)) }
         ensures held { OnOk result (self.new.held.items ≡ past_room (room_of window.old.place) (next_items self.old.turns.items)) }
         ensures said { OnOk result (self.new.said.items ≡ self.old.said.items
-            ++ record { room = room_of window.old.place; finish = finish; items = next_items self.old.turns.items; answer = next_answer self.old.turns.items } ∷ []) }
+            ++ record { room = room_of window.old.place; finish = finish; payload = window.old.payload; items = next_items self.old.turns.items; answer = next_answer self.old.turns.items } ∷ []) }
         ensures fit { OnOk result (AreItems (scalars_of self.old.payload) (next_items self.old.turns.items)) }
         ensures turns { OnOk result (self.new.turns.items ≡ drop 1 self.old.turns.items) }
         ensures err { OnErr result (self.new.said.items ≡ self.old.said.items) }

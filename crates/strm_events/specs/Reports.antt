@@ -1,7 +1,7 @@
 -- What an end of a stream or future is told, what telling it leaves, and what a cancel answers.
 -- Canonical ABI, `Waitable` with its pending event, the events of `canon stream.{read,write}` and
 -- `canon future.{read,write}`, and `canon stream.cancel-{read,write}`; wasmtime,
--- `futures_and_streams.rs`, the events of a waitable. Ours: a report is computed when it is asked for.
+-- `futures_and_streams.rs`, the events of a waitable. Ours: a report is told by what it depends on, wherever it is kept.
 use Rattle.std.specs.Prelude.{ℕ, Bool, true, false, ◌&&◌, ◌||◌, not, if◌then◌else◌, Option, Some, None}
 use Rattle.strm_codes.specs.Codes.{completed_code}
 use Rattle.strm_codes.specs.declared.codes.ReturnCode.{ReturnCode}

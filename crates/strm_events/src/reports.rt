@@ -27,6 +27,7 @@ pub struct Pending {
 }
 
 // How an operation came out.
+#[inline(always)]
 fn outcome(kind: TransmitKind, pending: &Pending) -> ReturnCode
     ensures { result ≡ outcome_code kind pending.now.outcome pending.now.moved }
 {
@@ -40,6 +41,7 @@ fn outcome(kind: TransmitKind, pending: &Pending) -> ReturnCode
 /// What an end is to be told, if anything: of its operation if it has one, whose other end is gone
 /// or not, where a future's value has passed or not. An idle end is told once that the other end is
 /// gone.
+#[inline(always)]
 pub fn report(
     kind: TransmitKind,
     pending: Option<&Pending>,

@@ -1,6 +1,6 @@
 -- What a look-up of an end says of the number's entry, and back.
 use Rattle.std.proofs.Common.{◌≡◌, ℕ, ◌+◌, Bool, true, false, Option, Some, None, refl, sym, ap, ◌∙◌, arith}
-use Rattle.std.specs.Prelude.{Result, Ok, Err, IfOk, if◌then◌else◌}
+use Rattle.std.specs.Prelude.{◌≢◌, ◌↔◌, Result, Ok, Err, IfOk, if◌then◌else◌}
 use Rattle.strm_handles.specs.Words.{Payload, Entry, TransmitEnd, HandleError}
 use Rattle.strm_codes.specs.Sameness.{same_payload}
 use Rattle.strm_codes.proofs.SamenessLemmas.{Decides-same_payload}
@@ -66,3 +66,11 @@ live_of-removed-stream h ty idx end is =
 pub live_of-removed-future : (h : Handles) (ty : Payload) (idx : ℕ) (end : TransmitEnd) → future_of h ty idx ≡ Ok end → live_of (removed h idx) + 1 ≡ live_of h
 live_of-removed-future h ty idx end is =
     omega (arith, live_of-removed h idx (Future end) (entry-future_of h ty idx end is).0)
+
+-- an end has the wrong type exactly where its payload is another
+pub typed-wrong : (ty : Payload) (end : TransmitEnd) → (typed ty end ≡ Err WrongType) ↔ (end.ty ≢ ty)
+typed-wrong ty end = both (same_payload end.ty ty) refl
+  where
+    both : (b : Bool) → same_payload end.ty ty ≡ b → ((if b then Ok end else Err WrongType) ≡ Err WrongType) ↔ (end.ty ≢ ty)
+    both true e = ((λ is. cc), (λ other. absurd (other ((Decides-same_payload end.ty ty).0 e))))
+    both false e = ((λ is same. let yes : same_payload end.ty ty ≡ true = (Decides-same_payload end.ty ty).1 same in cc), (λ other. refl))

@@ -2,10 +2,10 @@
 //!
 //! Meaning: `Live.antt`. Ours; wasmtime, `handle_table.rs`, `HandleCounter`.
 
-ghost use Rattle.std.specs.Prelude.{◌≡◌, ℕ, ◌<◌, ◌≤◌, ◌↔◌, if◌then◌else◌, Result, Err, IfOk, OnOk};
-ghost use Rattle.strm_handles.specs.Words.{Payload, Entry, TransmitLocalState, TypedResourceIndex, HandleError};
+ghost use Rattle.std.specs.Prelude.{◌≡◌, ◌≢◌, ℕ, ◌<◌, ◌≤◌, ◌↔◌, if◌then◌else◌, Some, Result, Err, IfOk, OnOk};
+ghost use Rattle.strm_handles.specs.Words.{Payload, Entry, TransmitEnd, TransmitLocalState, TypedResourceIndex, HandleError};
 ghost use Rattle.strm_handles.specs.declared.entries.Entry.TheVariants as entry;
-ghost use Rattle.strm_handles.specs.declared.errors.HandleError.TheVariants.{IndexOverflow, HandleLimit};
+ghost use Rattle.strm_handles.specs.declared.errors.HandleError.TheVariants.{IndexOverflow, HandleLimit, WrongType};
 ghost use Rattle.strm_handles.specs.Handles.{handle_limit, Handles, TableOf, Table, no_handles, entry_at, next_index, with_entry, lends_of, live_of, occupied, IsTable};
 ghost use Rattle.strm_handles.specs.Changes.{Inserts, Removes};
 ghost use Rattle.strm_handles.specs.Counters.{Counter, counted, uncounted};
@@ -87,4 +87,14 @@ pub fn inserts_are_refused_exactly()
         (result : Result ℕ HandleError) → Inserts old new before after e result →
         (result ≡ Err HandleLimit)
         ↔ ((next_index old.handles < handle_limit) × (before.limit ≤ before.live)) }
+{}
+
+/// WrongType comes exactly where the end of that kind which the number stands for has another payload.
+pub fn wrong_types_are_other_payloads()
+    ensures stream { (h : Handles) (ty : Payload) (n : ℕ) (end : TransmitEnd) →
+        entry_at h n ≡ Some (entry.Stream end) →
+        (stream_of h ty n ≡ Err WrongType) ↔ (end.ty ≢ ty) }
+    ensures future { (h : Handles) (ty : Payload) (n : ℕ) (end : TransmitEnd) →
+        entry_at h n ≡ Some (entry.Future end) →
+        (future_of h ty n ≡ Err WrongType) ↔ (end.ty ≢ ty) }
 {}

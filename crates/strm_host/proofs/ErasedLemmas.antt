@@ -21,7 +21,7 @@ room_parts (Some n) xs = take-append-drop n xs
 
 -- the record of a poll
 abbrev pub said_of : Lent → Bool → List Item → Answer → WriterSaid
-said_of window finish items answer = record { room = room_of window.place; finish = finish; items = items; answer = answer }
+said_of window finish items answer = record { room = room_of window.place; finish = finish; payload = window.payload; items = items; answer = answer }
 
 -- what a poll of the producer leaves
 pub record Did (old new : WriterTells) (window after : Lent) (finish : Bool) (items : List Item) (answer : Answer) : Type 0 where

@@ -12,6 +12,7 @@ use Rattle.strm_buffers.specs.Tells.{Tells, told_by}
 use Rattle.strm_machine.specs.State.{State}
 use Rattle.strm_machine.specs.Tests.{same_kind}
 use Rattle.strm_world.specs.HostRefusals.{is_unknown_host}
+use Rattle.strm_world.specs.Releasing.{released, after_release}
 use Rattle.strm_machine.specs.Acts.{act_of}
 use Rattle.strm_machine.specs.Reactions.{react}
 use Rattle.strm_machine.specs.declared.acts.Act.{Act}
@@ -122,6 +123,20 @@ PipesTo end old new tells told r result = CallsAmong end old new tells told (OnH
 -- the read end is dropped
 abbrev pub Closes : ReadEnd → State → State → Tells → Tells → Result (Unit {0}) ReaderError → Type 0
 Closes end old new tells told result = CallsAmong end old new tells told (act_of (steps.Close end.id)) result
+
+-- the host writer across is released with the read end, if it may be; its number is answered
+abbrev pub ReleasesBy : Option ReaderError → ℕ → State → State → Result (Option ℕ) ReaderError → Type 0
+ReleasesBy (Some error) stream old new result = (result ≡ Err error) × (new ≡ old)
+ReleasesBy None stream old new result = (result ≡ Ok (released old stream)) × (new ≡ after_release old stream)
+
+-- so of a read end: it is tested first, as in each of its calls
+abbrev pub Releases : ReadEnd → State → State → Result (Option ℕ) ReaderError → Type 0
+Releases end old new result = ReleasesBy (tested end old.tag) end.id old new result
+
+-- the read end then: it is used where it was released
+abbrev pub left_by : Result (Option ℕ) ReaderError → ReadEnd → ReadEnd
+left_by (Ok (Some number)) end = used end
+left_by _ end = end
 
 -- HOW IT PRINTS
 

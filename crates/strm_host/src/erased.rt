@@ -2,7 +2,7 @@
 //!
 //! Source: ours; wasmtime erases the type of a producer behind a closure.
 
-ghost use Rattle.std.specs.Prelude.{◌≡◌};
+ghost use Rattle.std.specs.Prelude.{◌≡◌, All};
 ghost use Rattle.strm_codes.specs.declared.codes.TransmitKind.TheVariants.{Stream, Future};
 
 use crate::futures::{FutureProducer, Producer};
@@ -31,6 +31,7 @@ pub struct Erased<P: StreamProducer> {
     closed: bool,
     alloc: Global,
     ghost holding: { held.payload ≡ P.Item.payload },
+    ghost recorded: { All (λ said. said.payload ≡ P.Item.payload) said.items },
 }
 
 impl<P: StreamProducer> Erased<P> {

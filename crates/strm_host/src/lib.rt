@@ -2,6 +2,7 @@
 //! writers and host readers that are made of them.
 #![tactic(auto)]
 
+pub mod byte_producers;
 pub mod consumers;
 pub mod destinations;
 pub mod direct;

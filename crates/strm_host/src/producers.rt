@@ -2,11 +2,14 @@
 //!
 //! Source: wasmtime, `futures_and_streams.rs`, `StreamProducer`. `faults`, `plan` and `leaves` are ours.
 
-ghost use Rattle.std.specs.Prelude.{◌≡◌, ◌+◌, ◌<◌, ◌≤◌, [], true, length, IfSome};
+ghost use Rattle.std.specs.Prelude.{◌≡◌, ◌+◌, ◌<◌, ◌≤◌, [], true, length, map, IfSome, IfOk};
 
 use crate::destinations::Destination;
+use std::alloc::Global;
 use strm_buffers::answers::HostTurn;
 use strm_buffers::buffers::WriteBuffer;
+use strm_buffers::items::Items;
+use strm_codes::counts::OutOfMemory;
 use strm_memory::payloaded::Payloaded;
 
 /// A source of items, polled for as many as there is room for, or more.
@@ -94,4 +97,17 @@ pub trait StreamProducer: Drop {
             (Self.Buffer.items destination.exit.0.now.buffer) answer)) }
         ensures leaves { IfAnswered result (λ _.
             leaves self.old (room_of destination.entry.produced.now.window.place) finish self.new) };
+
+    /// What a poll left in its buffer, as items. After `OutOfMemory` it is lost. A producer whose buffer
+    /// has bytes of a block gives them without a copy; others leave it as it is here.
+    fn items_of(alloc: Global, mut buffer: Self::Buffer) -> Result<Items, OutOfMemory>
+        requires { length (Self.Buffer.items buffer) < 4294967295 }
+        ensures payload { IfOk result (λ items. items.payload ≡ Self.Item.payload) }
+        ensures items { IfOk result (λ items. items.items ≡ map Self.Item.item (Self.Buffer.items buffer)) }
+    {
+        match buffer.take_all(alloc) {
+            Ok(values) => Items::of_values::<Self::Item>(alloc, values),
+            Err(error) => Err(error),
+        }
+    }
 }

@@ -43,6 +43,7 @@ pub(crate) fn fetch<P: StreamProducer>(
     ensures marked { IfOk result (λ f. window.new.marked ≡ in_room (room_of window.old.place) f.items.items) }
     ensures held { IfOk result (λ f. f.held.items ≡ past_room (room_of window.old.place) f.items.items) }
     ensures typed { IfOk result (λ f. f.held.payload ≡ P.Item.payload) }
+    ensures of { IfOk result (λ f. f.items.payload ≡ P.Item.payload) }
     ensures fit { IfOk result (λ f. AreItems (scalars_of P.Item.payload) f.items.items) }
     ensures failed { IfOk result (λ f. Rises f.answer (P.faults producer.old) (P.faults producer.new)) }
     ensures faults { P.faults producer.old ≤ P.faults producer.new }
@@ -52,7 +53,7 @@ pub(crate) fn fetch<P: StreamProducer>(
     ensures leaves { IfOk result (λ _. P.leaves producer.old (room_of window.old.place) finish producer.new) }
 {
     window.sound();
-    let (answer, items) = match produce(alloc, producer, window, finish) {
+    let (answer, mut items) = match produce(alloc, producer, window, finish) {
         Ok(done) => done,
         Err(error) => return Err(error),
     };
@@ -63,7 +64,7 @@ pub(crate) fn fetch<P: StreamProducer>(
         Ok(count) => count,
         Err(error) => return Err(error),
     };
-    match rest_of(alloc, &items, count) {
+    match rest_of(alloc, &mut items, count) {
         Ok(held) => Ok(Fetched {
             answer,
             items,
@@ -73,15 +74,17 @@ pub(crate) fn fetch<P: StreamProducer>(
     }
 }
 
-// A copy of what stands behind so many items.
-fn rest_of(alloc: Global, items: &Items, count: usize) -> Result<Items, OutOfMemory>
-    requires { count ≤ length items.now.items }
-    ensures payload { IfOk result (λ rest. rest.payload ≡ items.now.payload) }
-    ensures items { IfOk result (λ rest. rest.items ≡ drop count items.now.items) }
+// What stands behind so many items: their bytes are not copied, but shared with these.
+fn rest_of(alloc: Global, items: &mut Items, count: usize) -> Result<Items, OutOfMemory>
+    requires { count ≤ length items.old.items }
+    ensures payload { IfOk result (λ rest. rest.payload ≡ items.old.payload) }
+    ensures items { IfOk result (λ rest. rest.items ≡ drop count items.old.items) }
+    ensures same { items.new ≡ items.old }
 {
     if count == items.len() {
         return Ok(Items::new(alloc, items.payload()));
     }
+    items.share();
     match items.copy() {
         Ok(mut rest) => {
             rest.skip(count);
@@ -126,7 +129,7 @@ fn produce<P: StreamProducer>(
         buffer,
         alloc: _,
     } = produced;
-    let items = gather::<P::Item, P::Buffer>(alloc, &filled, buffer);
+    let items = gather::<P>(alloc, &filled, buffer);
     *window = filled;
     match (turn.answer(), items) {
         (Some(answer), Ok(items)) => Ok((answer, items)),
@@ -135,21 +138,17 @@ fn produce<P: StreamProducer>(
 }
 
 // The marked items, and behind them those of a buffer.
-fn gather<T: Payloaded, B: WriteBuffer<T> + Drop>(
+fn gather<P: StreamProducer>(
     alloc: Global,
     window: &Window,
-    mut buffer: B,
+    buffer: P::Buffer,
 ) -> Result<Items, OutOfMemory>
-    requires payload { window.now.payload ≡ T.payload }
-    requires few { length window.now.marked + length (B.items buffer) < 4294967295 }
-    ensures payload { IfOk result (λ items. items.payload ≡ T.payload) }
-    ensures items { IfOk result (λ items. items.items ≡ window.now.marked ++ map T.item (B.items buffer)) }
+    requires payload { window.now.payload ≡ P.Item.payload }
+    requires few { length window.now.marked + length (P.Buffer.items buffer) < 4294967295 }
+    ensures payload { IfOk result (λ items. items.payload ≡ P.Item.payload) }
+    ensures items { IfOk result (λ items. items.items ≡ window.now.marked ++ map P.Item.item (P.Buffer.items buffer)) }
 {
-    let values = match buffer.take_all(alloc) {
-        Ok(values) => values,
-        Err(error) => return Err(error),
-    };
-    match Items::of_values::<T>(alloc, values) {
+    match P::items_of(alloc, buffer) {
         Ok(items) => put_behind_marked(window, items),
         Err(error) => Err(error),
     }

@@ -7,8 +7,8 @@
 ghost use Rattle.std.specs.Prelude.{◌≡◌, ◌≢◌, ◌==◌, Err, OnOk, OnErr};
 ghost use Rattle.strm_buffers.specs.AllTells.{tells_of};
 ghost use Rattle.strm_world.specs.Does.{Fits};
-ghost use Rattle.strm_transmit.specs.Hosted.{StillFits};
-ghost use Rattle.strm_host.specs.ReadEnds.{read_end, used, no_memory, tested, host_tested, any_tested, Makes, Lifts, Lowers, PipesTo, Closes};
+ghost use Rattle.strm_transmit.specs.Hosted.{StillFits, StillKnows};
+ghost use Rattle.strm_host.specs.ReadEnds.{read_end, used, no_memory, tested, host_tested, any_tested, Makes, Lifts, Lowers, PipesTo, Closes, Releases, left_by};
 
 use crate::reader_errors::ReaderError;
 use strm_buffers::hosts::Hosts;
@@ -181,6 +181,26 @@ impl ReadEnd {
                 Ok(())
             }
             Err(error) => Err(ReaderError::Store(error)),
+        }
+    }
+
+    /// `Store::try_release`. After a number it is used.
+    pub(crate) fn try_release(&mut self, store: &mut Store) -> Result<Option<u32>, ReaderError>
+        ensures calls { Releases self.old store.old store.new result }
+        ensures left { self.new ≡ left_by result self.old }
+        ensures fits { StillFits store.old store.new }
+        ensures known { StillKnows store.old store.new }
+    {
+        match self.test(store) {
+            Some(error) => return Err(error),
+            None => {}
+        }
+        match store.try_release(self.id.rep()) {
+            Some(number) => {
+                self.use_up();
+                Ok(Some(number))
+            }
+            None => Ok(None),
         }
     }
 

@@ -8,8 +8,8 @@ ghost use Rattle.std.specs.Prelude.{◌≡◌, ◌≢◌, Err, OnOk, OnErr, IfEr
 ghost use Rattle.strm_codes.specs.declared.codes.TransmitIndex.TheVariants.{Stream};
 ghost use Rattle.strm_buffers.specs.AllTells.{tells_of};
 ghost use Rattle.strm_world.specs.Does.{Fits};
-ghost use Rattle.strm_transmit.specs.Hosted.{StillFits};
-ghost use Rattle.strm_host.specs.ReadEnds.{used, no_memory, tested, any_tested, converted, refused_only, Makes, Lifts, Lowers, PipesTo, Closes};
+ghost use Rattle.strm_transmit.specs.Hosted.{StillFits, StillKnows};
+ghost use Rattle.strm_host.specs.ReadEnds.{used, no_memory, tested, any_tested, converted, refused_only, Makes, Lifts, Lowers, PipesTo, Closes, Releases, left_by};
 
 use crate::read_ends::ReadEnd;
 use crate::reader_errors::ReaderError;
@@ -132,6 +132,18 @@ impl<T: Payloaded> StreamReader<T> {
         ensures takes_no_memory { result ≢ Err no_memory }
     {
         self.end.close(store, hosts)
+    }
+
+    /// Takes the host writer back from its stream, which is removed, and closes nothing
+    /// (`Store::try_release`): its number, and the reader is then used. None, and the reader stays, where
+    /// no host writer writes the stream, or it has no more to come or holds items.
+    pub fn try_into(&mut self, store: &mut Store) -> Result<Option<u32>, ReaderError>
+        ensures calls { Releases self.old store.old store.new result }
+        ensures left { self.new ≡ left_by result self.old }
+        ensures fits { StillFits store.old store.new }
+        ensures known { StillKnows store.old store.new }
+    {
+        self.end.try_release(store)
     }
 
     /// Under a guard, which has to be spent.

@@ -4,6 +4,8 @@ use Rattle.std.proofs.lemmas.Bool.{cases_eq, or_parts, not-false}
 use Rattle.std.proofs.lemmas.List.{get_or-set_same, get_or-set_other, get_or_past, length-set, length-replicate}
 use Rattle.std.specs.Prelude.{slice_set, replicate, nat_le}
 use Rattle.strm_buffers.specs.declared.answers.Answer.{Answer}
+use Rattle.strm_buffers.specs.Listing.{Item}
+use Rattle.strm_buffers.specs.Said.{past_room}
 use Rattle.strm_buffers.specs.Tells.{Tells}
 use Rattle.strm_machine.specs.State.{host_limit, no_stream, no_producer, no_consumer, producer_at, consumer_at, is_loose}
 use Rattle.strm_machine.specs.Tests.{is_unknown_reader}
@@ -24,7 +26,7 @@ use Rattle.strm_machine.specs.Reactions.{reaction}
 use Rattle.strm_world.specs.Ends.{Writer, Reader, no_writer, writer_in, polled_writer, given_writer, fed_writer, closed_writer, polled_reader, granted_reader}
 use Rattle.strm_world.specs.Producing.{is_last}
 use Rattle.strm_world.specs.Consuming.{with_taken}
-use Rattle.strm_world.specs.Attaching.{hosted_stream, piped}
+use Rattle.strm_world.specs.Attaching.{hosted_stream, has_items, new_producer, piped}
 use Rattle.strm_world.specs.HostPlays.{Ends, Halts, play}
 use Rattle.strm_world.specs.World.{World, stream_in, writer_at, reader_at, with_guests, with_kept, with_consumer, with_writer, with_reader, without_writer, leaves_writer, leaves_reader, with_stream_in}
 use Rattle.strm_world.specs.HostRefusals.{is_unknown_host, is_used, refusal_in}
@@ -32,7 +34,7 @@ use Rattle.strm_world.specs.Does.{start}
 use Rattle.strm_host_laws.specs.HostMoments.{Part, Acts, HostMoment, part_on, host_moments, last_of}
 use Rattle.strm_host_laws.specs.HostLaws.{is_ended, ClosesExactly}
 use Rattle.strm_host_laws.proofs.Chains.{is_part, Chain, moments-chain, StopsAt, play-ends, play-halts}
-use Rattle.strm_host_laws.proofs.Goings.{with_state, with_passed, LeftBy, Begins, hosted, Rules, Halted, Comes, with_stream_in-same, part-comes, feed-comes, grant-comes}
+use Rattle.strm_host_laws.proofs.Goings.{with_state, with_passed, LeftBy, Begins, Stopping, hosted, Rules, Halted, Comes, with_stream_in-same, part-comes, feed-comes, grant-comes}
 use Rattle.strm_machine.proofs.Ways.{HostsFrom, HostsFromIn, set-from}
 use Rattle.strm_machine.proofs.ShapeLemmas.{reaction-producers, reaction-from}
 use Rattle.strm_machine.proofs.TableLemmas.{set-keeps}
@@ -113,10 +115,11 @@ push-hosts [] x (suc s) k n e f = inl (f, refl)
 push-hosts (y ∷ ys) x zero k n e f = inl (f, refl)
 push-hosts (y ∷ ys) x (suc s) k n e f = push-hosts ys x s k n e f
 
--- what is kept of a writer after an answer
-abbrev with_over_producer : World → ℕ → Answer → Producer
-with_over_producer w n answer =
-    let producer = producer_at w.state n in record producer { over = producer.over || is_last answer }
+-- what is kept of a writer after an answer, with these items held
+abbrev answered_producer : World → ℕ → Answer → List Item → Producer
+answered_producer w n answer held =
+    let producer = producer_at w.state n in
+    record producer { over = producer.over || is_last answer; holding = has_items held }
 
 -- WHAT A CHANGE KEEPS
 
@@ -236,7 +239,7 @@ module _ (first : World) where
   new_stands : (w : World) (n : ℕ) → IsNew w n → Stands first w → Stands first (hosted w n)
   new_stands w n i h =
       let unended = unused-unended (producer_at w.state n).duty i.unused in
-      let served = Stands-producer w n (record no_producer { duty = Serves (length w.state.streams) }) (sym unended) h in
+      let served = Stands-producer w n (new_producer (length w.state.streams) (writer_at w n)) (sym unended) h in
       record {
         kept = served.kept;
         there = λ s k e. elim (push-hosts w.state.streams (hosted_stream (writer_at w n) n) s k n refl e) [
@@ -268,10 +271,14 @@ module _ (first : World) where
       stays = λ w h. h;
       joins = λ a b c f g h. g (f h);
       opens = λ w s stream e. Stands-stream w s stream (λ n f. (sym e.owners.writer ∙ f, e.payload));
-      polls = λ w n room said more e. Stands-writer w n (polled_writer (writer_at w n) room said more) refl refl;
+      says = λ w n room said more e h.
+          let polled = with_writer w n (polled_writer (writer_at w n) room said more) in
+          Stands-producer polled n (answered_producer polled n said.answer (past_room room said.items)) refl
+          (Stands-writer w n (polled_writer (writer_at w n) room said more) refl refl h);
       takes = λ w r took said more e. Stands-still w (with_reader w r (polled_reader (reader_at w r) took more)) refl refl (from_same w.state.streams);
-      overs = λ w n answer. Stands-producer w n (with_over_producer w n answer) refl;
-      gives = λ w n k. Stands-writer w n (given_writer (writer_at w n) k) refl refl;
+      gives = λ w n k h.
+          let writer = given_writer (writer_at w n) k in
+          Stands-producer (with_writer w n writer) n (record (producer_at w.state n) { holding = has_items writer.holds }) refl (Stands-writer w n writer refl refl h);
       keeps = λ w n items. Stands-still w (with_kept w n items) refl refl (from_same w.state.streams);
     };
     reacts = λ w act. Stands-still w (with_state w (reaction w.state act).state) refl (reaction-producers w.state act) (reaction-from w.state act);
@@ -296,11 +303,16 @@ begins = record {
   stays = λ w n. refl;
   joins = λ a b c f g n. g n ∙ f n;
   opens = λ w s stream e n. ap (λ v. (writer_at v n).closed) (with_stream_in-same w s stream e.owners);
-  polls = λ w n room said more e k. set-keeps (λ (x : Writer). x.closed) w.writers n k (polled_writer (writer_at w n) room said more) no_writer refl;
+  says = λ w n room said more e k. set-keeps (λ (x : Writer). x.closed) w.writers n k (polled_writer (writer_at w n) room said more) no_writer refl;
   takes = λ w r took said more e n. refl;
-  overs = λ w n answer k. refl;
   gives = λ w n k j. set-keeps (λ (x : Writer). x.closed) w.writers n j (given_writer (writer_at w n) k) no_writer refl;
   keeps = λ w n items k. refl;
+}
+
+stopping : Stopping SameClosed
+stopping = record {
+  begins = begins;
+  polls = λ w n room said more e k. set-keeps (λ (x : Writer). x.closed) w.writers n k (polled_writer (writer_at w n) room said more) no_writer refl;
 }
 
 -- RUNS
@@ -308,11 +320,11 @@ begins = record {
 module _ (first : World) where
   pub part-closes : (w : World) (part : Part) → is_part part ≡ true → Comes (Kept first) SameClosed w (part_on w part)
   part-closes w (Acts (OnHost n (Feed bytes))) p =
-      feed-comes (Kept first) SameClosed (rules first) begins w n bytes (λ e. Stands-writer first w n (fed_writer (writer_at w n) bytes) refl refl)
+      feed-comes (Kept first) SameClosed (rules first) stopping w n bytes (λ e. Stands-writer first w n (fed_writer (writer_at w n) bytes) refl refl)
   part-closes w (Acts (OnHost r (Grant count))) p =
-      grant-comes (Kept first) SameClosed (rules first) begins w r count
+      grant-comes (Kept first) SameClosed (rules first) stopping w r count
       (λ e. Stands-still first w (with_reader w r (granted_reader (reader_at w r) count)) refl refl (from_same first w.state.streams))
-  part-closes w part p = part-comes (Kept first) SameClosed (rules first) begins w part p refl
+  part-closes w part p = part-comes (Kept first) SameClosed (rules first) stopping w part p refl
 
   chain-closes : (w : World) (all : List HostMoment) → Chain w all → Stands first w → Stands first (last_of w all)
   chain-closes w [] c h = h

@@ -37,7 +37,7 @@ use Rattle.strm_world.specs.Outcomes.{Outcome, Goes, Stops, Stuck, then_on, of_r
 use Rattle.strm_world.specs.Settling.{with_some_received, answered_with, answered}
 use Rattle.strm_world.specs.Producing.{producer_turn}
 use Rattle.strm_world.specs.Consuming.{consumer_turn}
-use Rattle.strm_world.specs.Attaching.{hosted_stream, hosts_new, piped, is_dry, without_ends, pipes, forsaken, forsakes}
+use Rattle.strm_world.specs.Attaching.{hosted_stream, has_items, hosts_new, piped, is_dry, without_ends, pipes, forsaken, forsakes}
 use Rattle.strm_world.specs.Piping.{both_gone, pipe_round}
 use Rattle.strm_world.specs.Driving.{if_open, driven_by, drive_turn}
 use Rattle.strm_world.specs.HostRefusals.{is_used, refusal_in}
@@ -89,7 +89,9 @@ pub record Hosts (old : State) (n : ℕ) (reply : Reply) (new : State) : Type 0 
   pub reader : stream.reader ≡ idle_end Loose
   pub none : stream.received ≡ 0
   pub reply_is : reply ≡ replies.Number (length old.streams)
-  pub is : new ≡ record old { streams = old.streams ++ stream ∷ []; producers = set old.producers n (record no_producer { duty = Serves (length old.streams) }) }
+  -- it holds items, or none
+  pub holding : Bool
+  pub is : new ≡ record old { streams = old.streams ++ stream ∷ []; producers = set old.producers n (record no_producer { duty = Serves (length old.streams); holding = holding }) }
 
 -- host reader r has the read end of stream s
 abbrev pub piped_in : State → ℕ → ℕ → State
@@ -570,6 +572,7 @@ hosts_effect w n e =
       reader = refl;
       none = refl;
       reply_is = refl;
+      holding = has_items (writer_at w n).holds;
       is = refl;
     })
 

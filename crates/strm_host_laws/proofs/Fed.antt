@@ -27,7 +27,7 @@ use Rattle.strm_world.specs.Steps.{performs_in, unless_refused_in, outcome}
 use Rattle.strm_host_laws.specs.HostMoments.{Part, Acts, HostMoment, part_on, host_moments, last_of}
 use Rattle.strm_host_laws.specs.HostLaws.{used, used_in, all_used, fed_in, all_fed, WriterGoesOn}
 use Rattle.strm_host_laws.proofs.Chains.{is_part, Follows, Chain, moments-chain}
-use Rattle.strm_host_laws.proofs.Goings.{Begins, Rules, Comes, IfGoes, is_passing, part-comes, grant-comes}
+use Rattle.strm_host_laws.proofs.Goings.{Begins, Stopping, Rules, Comes, IfGoes, is_passing, part-comes, grant-comes}
 use Rattle.strm_machine.proofs.RefusalLemmas.{not_refused, not_le}
 
 -- WHAT HOLDS OF EACH HOST WRITER
@@ -81,11 +81,16 @@ module _ (P : Writer → Writer → Type 0) (of : OfWriters P) where
     stays = λ w n. of.same (writer_at w n);
     joins = λ a b c f g n. of.joined (writer_at a n) (writer_at b n) (writer_at c n) (f n) (g n);
     opens = λ w s stream e. stream-each w w s stream refl;
-    polls = λ w n room said more e. with-each w n (polled_writer (writer_at w n) room said more) (of.polled (writer_at w n) room said more e);
+    says = λ w n room said more e. with-each w n (polled_writer (writer_at w n) room said more) (of.polled (writer_at w n) room said more e);
     takes = λ w r took said more e n. of.same (writer_at w n);
-    overs = λ w n answer k. of.same (writer_at w k);
     gives = λ w n k. with-each w n (given_writer (writer_at w n) k) (of.given (writer_at w n) k);
     keeps = λ w n items k. of.same (writer_at w k);
+  }
+
+  pub stopping-each : Stopping OfEach
+  stopping-each = record {
+    begins = begins-each;
+    polls = λ w n room said more e. with-each w n (polled_writer (writer_at w n) room said more) (of.polled (writer_at w n) room said more e);
   }
 
   pub rules-each : Rules OfEach
@@ -102,11 +107,11 @@ module _ (P : Writer → Writer → Type 0) (of : OfWriters P) where
 
   -- it holds of each after a part but a feed or a grant
   pub part-each : (w : World) (part : Part) → is_part part ≡ true → is_passing part ≡ false → Comes OfEach OfEach w (part_on w part)
-  part-each w part p f = part-comes OfEach OfEach rules-each begins-each w part p f
+  part-each w part p f = part-comes OfEach OfEach rules-each stopping-each w part p f
 
   -- and after a grant
   pub grant-each : (w : World) (r count : ℕ) → Comes OfEach OfEach w (part_on w (Acts (OnHost r (Grant count))))
-  grant-each w r count = grant-comes OfEach OfEach rules-each begins-each w r count (λ e n. of.same (writer_at w n))
+  grant-each w r count = grant-comes OfEach OfEach rules-each stopping-each w r count (λ e n. of.same (writer_at w n))
 
 -- RECORDS
 

@@ -1,6 +1,6 @@
 -- What comes of a part of a run, by the changes that it is made of: what holds of each of them and from
 -- one to the next holds of the whole.
-use Rattle.std.proofs.Common.{◌≡◌, ℕ, ◌==◌, ◌||◌, Bool, true, false, cond, List, [], ◌∷◌, length, take, drop, get_or, set, Option, Some, None, refl, sym, ap, subst, ◌∙◌, ◌⊎◌, inl, inr}
+use Rattle.std.proofs.Common.{◌≡◌, ℕ, ◌==◌, ◌||◌, ◌&&◌, Bool, true, false, cond, List, [], ◌∷◌, length, take, drop, get_or, set, Option, Some, None, refl, sym, ap, subst, ◌∙◌, ◌⊎◌, inl, inr}
 use Rattle.std.proofs.lemmas.Bool.{cond_both}
 use Rattle.std.specs.Prelude.{slice_set}
 use Rattle.strm_codes.specs.declared.codes.ReturnCode.{ReturnCode}
@@ -11,8 +11,8 @@ use Rattle.strm_buffers.specs.declared.answers.Answer.{Answer}
 use Rattle.strm_buffers.specs.declared.answers.ReaderSaid.{ReaderSaid}
 use Rattle.strm_buffers.specs.HostRules.{breaks_as_writer, breaks_as_reader}
 use Rattle.strm_buffers.specs.Listing.{Item}
-use Rattle.strm_buffers.specs.Said.{WriterSaid}
-use Rattle.strm_machine.specs.State.{State, Guest, no_stream, no_producer, no_consumer, producer_at, kept_at, consumer_at, is_host}
+use Rattle.strm_buffers.specs.Said.{WriterSaid, past_room}
+use Rattle.strm_machine.specs.State.{State, Guest, no_stream, no_consumer, producer_at, kept_at, consumer_at, is_host}
 use Rattle.strm_machine.specs.Sides.{opposite, end_of, with_operation}
 use Rattle.strm_machine.specs.Meetings.{begun}
 use Rattle.strm_machine.specs.Endings.{report_on, delivered}
@@ -33,14 +33,14 @@ use Rattle.strm_machine.specs.declared.streams.Side.TheVariants.{Writing, Readin
 use Rattle.strm_machine.specs.declared.streams.Stream.{Stream}
 use Rattle.strm_machine.specs.declared.replies.Reply.{Reply}
 use Rattle.strm_machine.specs.declared.replies.Reply.TheVariants as replies
-use Rattle.strm_world.specs.Ends.{Writer, Reader, polled_writer, given_writer, fed_writer, polled_reader, granted_reader}
+use Rattle.strm_world.specs.Ends.{Writer, Reader, polled_writer, fed_writer, polled_reader, granted_reader}
 use Rattle.strm_world.specs.World.{World, stream_in, writer_at, reader_at, held_of, with_guests, with_producer, with_kept, with_consumer, with_writer, with_reader, leaves_writer, leaves_reader, with_stream_in}
 use Rattle.strm_world.specs.Outcomes.{Outcome, Goes, Stops, Stuck, then_on, done, of_reply}
-use Rattle.strm_world.specs.Polls.{AfterWriter, is_failed, is_writer_poll, writer_says, is_reader_poll, reader_says}
+use Rattle.strm_world.specs.Polls.{AfterWriter, is_failed, is_writer_poll, writer_says, is_reader_poll, tells_truly, reader_says}
 use Rattle.strm_world.specs.Settling.{result_of, with_some_received, moved_on, since_after, answered_with, answered}
-use Rattle.strm_world.specs.Producing.{lowered, receives, with_over, produced_result, hands_over, produces, producer_turn}
+use Rattle.strm_world.specs.Producing.{lowered, receives, with_answer, produced_result, hands_out, hands_over, produces, producer_turn}
 use Rattle.strm_world.specs.Consuming.{lifted, with_taken, gives_up, consumer_turn}
-use Rattle.strm_world.specs.Attaching.{hosted_stream, with_new_stream, hosts_new, piped, has_items, is_dry, without_ends, pipes, forsaken, forsakes}
+use Rattle.strm_world.specs.Attaching.{hosted_stream, with_new_stream, new_producer, hosts_new, piped, has_items, is_dry, without_ends, pipes, forsaken, forsakes}
 use Rattle.strm_world.specs.Piping.{wants_items, fetches, gathered, is_resting, passed_on, offers, is_done_with, is_run_dry, both_gone, ends_if_done, pipe_round}
 use Rattle.strm_machine.specs.Turns.{with_received}
 use Rattle.strm_world.specs.Driving.{if_open, driven_by, drive_turn}
@@ -83,21 +83,25 @@ pub record LeftBy (old new : Stream) : Type 0 where
   pub owners : (side : Side) → StaysOrGone (end_of side old).owner (end_of side new).owner
   pub payload : new.payload ≡ old.payload
 
--- what is done before the first end may go: a read or write opens, a host end is polled, and items are kept for
--- a host reader
+-- what is done before the first end may go: a read or write opens, a host end is polled and goes on, items are
+-- handed out, and kept for a host reader
 pub record Begins (K : World → World → Type 0) : Type 0 where
   pub stays : (w : World) → K w w
   pub joins : (a b c : World) → K a b → K b c → K a c
   pub opens : (w : World) (s : ℕ) (stream : Stream) → SameOwned (stream_in w s) stream → K w (with_stream_in w s stream)
-  pub polls : (w : World) (n : ℕ) (room : Option ℕ) (said : WriterSaid) (more : List WriterSaid) → (writer_at w n).coming ≡ said ∷ more → K w (with_writer w n (polled_writer (writer_at w n) room said more))
+  pub says : (w : World) (n : ℕ) (room : Option ℕ) (said : WriterSaid) (more : List WriterSaid) → (writer_at w n).coming ≡ said ∷ more → K w (with_answer (with_writer w n (polled_writer (writer_at w n) room said more)) n said.answer (past_room room said.items))
   pub takes : (w : World) (r : ℕ) (took : List Item) (said : ReaderSaid) (more : List ReaderSaid) → (reader_at w r).coming ≡ said ∷ more → K w (with_reader w r (polled_reader (reader_at w r) took more))
-  pub overs : (w : World) (n : ℕ) (answer : Answer) → K w (with_over w n answer)
-  pub gives : (w : World) (n k : ℕ) → K w (with_writer w n (given_writer (writer_at w n) k))
+  pub gives : (w : World) (n k : ℕ) → K w (hands_out w n k)
   pub keeps : (w : World) (n : ℕ) (items : List Item) → K w (with_kept w n items)
+
+-- and where a poll of a host writer stops the step
+pub record Stopping (K : World → World → Type 0) : Type 0 where
+  pub begins : Begins K
+  pub polls : (w : World) (n : ℕ) (room : Option ℕ) (said : WriterSaid) (more : List WriterSaid) → (writer_at w n).coming ≡ said ∷ more → K w (with_writer w n (polled_writer (writer_at w n) room said more))
 
 -- host writer n has a stream more
 abbrev pub hosted : World → ℕ → World
-hosted w n = with_new_stream (with_producer w n (record no_producer { duty = Serves (length w.state.streams) })) (hosted_stream (writer_at w n) n)
+hosted w n = with_new_stream (with_producer w n (new_producer (length w.state.streams) (writer_at w n))) (hosted_stream (writer_at w n) n)
 
 -- host reader r reads stream s
 abbrev pub piped_to : World → ℕ → ℕ → World
@@ -264,39 +268,46 @@ without_ends-left stream = record { owners = gone; payload = refl }
 
 -- FETCHING FOR A PIPE
 
-module _ (K : World → World → Type 0) (begins : Begins K) where
+module _ (R K : World → World → Type 0) (begins : Begins R) (stopping : Stopping K) where
   fetched-comes : (w : World) (s n : ℕ) (coming : List WriterSaid) → (writer_at w n).coming ≡ coming
-      → Comes K K w (writer_says w s n None false coming (λ after said. done (with_kept (with_over after n said.answer) n said.items)))
+      → Comes R K w (writer_says w s n None false coming (λ after said. done (with_kept (with_answer after n said.answer []) n said.items)))
   fetched-comes w s n [] e = tt
   fetched-comes w s n (said ∷ more) e =
       let after = with_writer w n (polled_writer (writer_at w n) None said more) in
-      let polled = begins.polls w n None said more e in
-      let halted : Halted K w after.writers after.readers = record { at = after; kept = polled; is = refl; read = refl } in
-      let over = with_over after n said.answer in
-      let kept = with_kept over n said.items in
-      cond_both (is_writer_poll None false said) _ _ (Comes K K w)
-      (λ f. cond_both (is_failed said.answer) _ _ (Comes K K w) (λ g. halted)
-      (λ g. cond_both (breaks_as_writer (stream_in w s).kind said) _ _ (Comes K K w) (λ k. halted)
-      (λ k. begins.joins w after kept polled (begins.joins after over kept (begins.overs after n said.answer) (begins.keeps over n said.items)))))
+      let halted : Halted K w after.writers after.readers = record { at = after; kept = stopping.polls w n None said more e; is = refl; read = refl } in
+      let answered = with_answer after n said.answer [] in
+      let kept = with_kept answered n said.items in
+      cond_both (is_writer_poll None false said) _ _ (Comes R K w)
+      (λ f. cond_both (is_failed said.answer) _ _ (Comes R K w) (λ g. halted)
+      (λ g. cond_both (breaks_as_writer (stream_in w s).kind said) _ _ (Comes R K w) (λ k. halted)
+      (λ k. begins.joins w answered kept (begins.says w n None said more e) (begins.keeps answered n said.items))))
       (λ f. tt)
 
-  pub fetches-comes : (w : World) (s n r : ℕ) → Comes K K w (fetches w s n r)
+  pub fetches-comes : (w : World) (s n r : ℕ) → Comes R K w (fetches w s n r)
   fetches-comes w s n r =
-      cond_both (wants_items w n r) _ _ (Comes K K w) (λ e. fetched-comes w s n (writer_at w n).coming refl) (λ e. begins.stays w)
+      cond_both (wants_items w n r) _ _ (Comes R K w) (λ e. fetched-comes w s n (writer_at w n).coming refl) (λ e. begins.stays w)
 
+module _ (K : World → World → Type 0) (begins : Begins K) where
   -- all that is held is kept
   pub gathered-comes : (w : World) (n : ℕ) → K w (gathered w n)
   gathered-comes w n =
       let kept = with_kept w n (held_of w n) in
       let writer = writer_at w n in
       begins.joins w kept (gathered w n) (begins.keeps w n (held_of w n))
-      (subst (λ xs. K kept (with_writer kept n (record writer { holds = xs }))) (drop-all writer.holds) (begins.gives kept n (length writer.holds)))
+      (subst (λ xs. K kept (gave kept n writer xs)) (drop-all writer.holds) (begins.gives kept n (length writer.holds)))
     where
+      -- the writer holds these items then
+      gave : World → ℕ → Writer → List Item → World
+      gave v m writer xs = with_producer (with_writer v m (record writer { holds = xs })) m (record (producer_at v.state m) { holding = has_items xs })
+
       drop-all : (xs : List Item) → drop (length xs) xs ≡ []
       drop-all [] = refl
       drop-all (x ∷ xs) = drop-all xs
 
-module _ (R K : World → World → Type 0) (rules : Rules R) (begins : Begins K) where
+module _ (R K : World → World → Type 0) (rules : Rules R) (stopping : Stopping K) where
+  abbrev begins : Begins K
+  begins = stopping.begins
+
   -- what holds of an outcome from this world
   abbrev Is : World → Outcome → Type 0
   Is w o = Comes R K w o
@@ -328,7 +339,7 @@ module _ (R K : World → World → Type 0) (rules : Rules R) (begins : Begins K
   says-comes w s n room finish [] next e h = tt
   says-comes w s n room finish (said ∷ more) next e h =
       let after = with_writer w n (polled_writer (writer_at w n) room said more) in
-      let halted : Halted K w after.writers after.readers = record { at = after; kept = begins.polls w n room said more e; is = refl; read = refl } in
+      let halted : Halted K w after.writers after.readers = record { at = after; kept = stopping.polls w n room said more e; is = refl; read = refl } in
       cond_both (is_writer_poll room finish said) _ _ (Is w)
       (λ f. cond_both (is_failed said.answer) _ _ (Is w) (λ g. halted)
       (λ g. cond_both (breaks_as_writer (stream_in w s).kind said) _ _ (Is w) (λ k. halted) (λ k. h said more e)))
@@ -337,22 +348,21 @@ module _ (R K : World → World → Type 0) (rules : Rules R) (begins : Begins K
   produces-comes : (w : World) (s n : ℕ) (read : Operation) (items : List Item) → Is w (produces w s n read items)
   produces-comes w s n read (item ∷ items) =
       let writer = writer_at w n in
-      let v = with_writer w n (given_writer writer read.left) in
+      let v = hands_out w n read.left in
       joined w v (hands_over w s n read) (rules.begins.gives w n read.left)
       (receives-comes v s read (take read.left writer.holds) (Some results.Completed))
   produces-comes w s n read [] =
       cond_both (producer_at w.state n).over _ _ (Is w)
       (λ e. receives-comes w s read [] (Some results.Dropped))
       (λ e. says-comes w s n (Some read.left) read.asked (writer_at w n).coming
-      (λ after said. done (receives (with_over after n said.answer) s read (take read.left said.items) (produced_result said.answer (drop read.left said.items))))
+      (λ after said. done (receives (with_answer after n said.answer (drop read.left said.items)) s read (take read.left said.items) (produced_result said.answer (drop read.left said.items))))
       refl
       (λ said more f.
       let after = with_writer w n (polled_writer (writer_at w n) (Some read.left) said more) in
-      let over = with_over after n said.answer in
+      let answered = with_answer after n said.answer (drop read.left said.items) in
       let items = take read.left said.items in
       let result = produced_result said.answer (drop read.left said.items) in
-      joined w after (receives over s read items result) (rules.begins.polls w n (Some read.left) said more f)
-      (joined after over (receives over s read items result) (rules.begins.overs after n said.answer) (receives-comes over s read items result))))
+      joined w answered (receives answered s read items result) (rules.begins.says w n (Some read.left) said more f) (receives-comes answered s read items result)))
 
   turn-comes : (w : World) (s n : ℕ) (read : Operation) → Is w (producer_turn w s n read)
   unfolding producer_turn
@@ -371,7 +381,7 @@ module _ (R K : World → World → Type 0) (rules : Rules R) (begins : Begins K
       let after = with_reader w r (polled_reader (reader_at w r) (first said.taken) more) in
       let halted : Halted K w after.writers after.readers = record { at = after; kept = begins.takes w r (first said.taken) said more e; is = refl; read = refl } in
       let counted = with_taken after r said.answer said.taken in
-      cond_both (is_reader_poll write.left (consumer_at w.state r).since finish said) _ _ (Is w)
+      cond_both (is_reader_poll write.left (consumer_at w.state r).since finish said && tells_truly write.left first said) _ _ (Is w)
       (λ f. cond_both (is_failed said.answer) _ _ (Is w) (λ g. halted)
       (λ g. cond_both said.bad _ _ (Is w) (λ b. halted)
       (λ b. cond_both (breaks_as_reader (stream_in w s).kind said) _ _ (Is w) (λ k. halted)
@@ -414,7 +424,7 @@ module _ (R K : World → World → Type 0) (rules : Rules R) (begins : Begins K
       let after = with_reader u r (polled_reader (reader_at u r) (first said.taken) more) in
       let halted : Halted K w after.writers after.readers = record { at = after; kept = begins.joins w u after k (begins.takes u r (first said.taken) said more e); is = refl; read = refl } in
       let passed = passed_on after s n r said.answer said.taken in
-      cond_both (is_reader_poll offered (consumer_at u.state r).since false said) _ _ (Is w)
+      cond_both (is_reader_poll offered (consumer_at u.state r).since false said && tells_truly offered first said) _ _ (Is w)
       (λ f. cond_both (is_failed said.answer) _ _ (Is w) (λ g. halted)
       (λ g. cond_both said.bad _ _ (Is w) (λ b. halted)
       (λ b. cond_both (breaks_as_reader (stream_in u s).kind said) _ _ (Is w) (λ x. halted)
@@ -432,9 +442,9 @@ module _ (R K : World → World → Type 0) (rules : Rules R) (begins : Begins K
 
   round-comes : (w : World) (s n r : ℕ) → Is w (pipe_round w s n r)
   unfolding pipe_round
-  round-comes w s n r = by (fetches w s n r) (fetches-comes R rules.begins w s n r) (fetches-comes K begins w s n r)
+  round-comes w s n r = by (fetches w s n r) (fetches-comes R K rules.begins stopping w s n r) (fetches-comes K K begins stopping w s n r)
     where
-      by : (o : Outcome) → Comes R R w o → Comes K K w o → Is w (then_on o (λ fetched. offers fetched s n r (λ after answer. ends_if_done after s n r answer)))
+      by : (o : Outcome) → Comes R K w o → Comes K K w o → Is w (then_on o (λ fetched. offers fetched s n r (λ after answer. ends_if_done after s n r answer)))
       by (Goes reply v) h k = offers-comes w v s n r h k
       by (Stops stop writers readers) h k = k
       by Stuck h k = tt

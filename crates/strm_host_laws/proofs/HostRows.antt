@@ -47,7 +47,7 @@ all_items ns = map item ns
 
 -- a poll with this room
 abbrev said : ℕ → List ℕ → Answer → WriterSaid
-said room ns answer = record { room = Some room; finish = false; items = all_items ns; answer = answer }
+said room ns answer = record { room = Some room; finish = false; payload = One U8; items = all_items ns; answer = answer }
 
 -- a host writer of bytes that holds these at first, with these records to come
 abbrev writer : List ℕ → List WriterSaid → Writer

@@ -30,11 +30,12 @@ use Rattle.strm_machine.specs.declared.replies.Reply.{Reply}
 use Rattle.strm_machine.specs.declared.replies.Reply.TheVariants as replies
 use Rattle.strm_machine.proofs.TableLemmas.{OwnersStay, set-keeps}
 use Rattle.strm_world.specs.Ends.{polled_writer, polled_reader, given_writer}
-use Rattle.strm_world.specs.World.{World, stream_in, writer_at, reader_at, with_guests, with_writer, with_reader, leaves_writer, leaves_reader, with_stream_in}
+use Rattle.strm_world.specs.World.{World, stream_in, writer_at, reader_at, with_guests, with_producer, with_writer, with_reader, leaves_writer, leaves_reader, with_stream_in}
 use Rattle.strm_world.specs.Outcomes.{Outcome, Goes, Stops, Stuck, done}
-use Rattle.strm_world.specs.Polls.{AfterWriter, AfterReader, is_failed, same_flag, is_writer_poll, writer_says, is_reader_poll, reader_says}
+use Rattle.strm_world.specs.Polls.{AfterWriter, AfterReader, is_failed, same_flag, is_writer_poll, writer_says, is_reader_poll, tells_truly, reader_says}
 use Rattle.strm_world.specs.Settling.{result_of, moved_on, since_after}
-use Rattle.strm_world.specs.Producing.{lowered, receives, is_last, with_over, produced_result, produces, producer_turn}
+use Rattle.strm_world.specs.Attaching.{has_items}
+use Rattle.strm_world.specs.Producing.{lowered, receives, is_last, with_answer, produced_result, produces, producer_turn}
 use Rattle.strm_world.specs.Consuming.{lifted, with_taken, gives_up, consumer_turn}
 use Rattle.strm_world.proofs.SettleLemmas.{is_done_with, leaves_writer-stays, leaves_reader-stays}
 use Rattle.strm_host_laws.proofs.Goings.{with_state, gave_up, with_stream_in-same}
@@ -328,20 +329,25 @@ module _ (s n : ℕ) (read : Operation) where
   front_few : (xs : List Item) → length (take read.left xs) ≤ read.left
   front_few xs = omega (arith, length-take read.left xs)
 
-  -- what is kept of it after this answer
-  abbrev over_now : World → Answer → Producer
-  over_now w answer = record (producer_at w.state n) { over = (producer_at w.state n).over || is_last answer }
-
-  over_same : (w : World) (answer : Answer) → SameDuties w.state (with_over w n answer).state
-  over_same w answer = record { all = all; same = same }
+  -- something else is kept of it, with the same duty
+  kept_same : (w : World) (producer : Producer) → producer.duty ≡ (producer_at w.state n).duty → SameDuties w.state (with_producer w n producer).state
+  kept_same w producer e = record { all = all; same = same }
     where
-      all : (k : Side) → known_on k (with_over w n answer).state ≡ known_on k w.state
-      all Writing = length-set w.state.producers n (over_now w answer)
+      all : (k : Side) → known_on k (with_producer w n producer).state ≡ known_on k w.state
+      all Writing = length-set w.state.producers n producer
       all Reading = refl
 
-      same : (k : Side) (m : ℕ) → duty_of k (with_over w n answer).state m ≡ duty_of k w.state m
-      same Writing m = set-keeps (λ (p : Producer). p.duty) w.state.producers n m (over_now w answer) no_producer refl
+      same : (k : Side) (m : ℕ) → duty_of k (with_producer w n producer).state m ≡ duty_of k w.state m
+      same Writing m = set-keeps (λ (p : Producer). p.duty) w.state.producers n m producer no_producer e
       same Reading m = refl
+
+  -- these items are received, and something else is kept of it
+  receives_kept : (w : World) (p : Producer) → p.duty ≡ (producer_at w.state n).duty → (items : List Item) (result : Option StreamResult) → (stream_in w s).writer.owner ≡ Host n → length items ≤ read.left
+      → Turned Reading w.state (receives (with_producer w n p) s read items result).state s n read
+  receives_kept w producer d items result o l =
+      let v = with_producer w n producer in
+      let b = receives_back v items result o l in
+      turned_over Reading w.state v.state (receives v s read items result).state s n read (length items) result refl (kept_same w producer d) b b.since
 
   says_turned : (w : World) (room : Option ℕ) (finish : Bool) (coming : List WriterSaid) (next : AfterWriter) → ((v : World) (said : WriterSaid) → v.state ≡ w.state → Going (TurnsIn Reading s n read w) (next v said))
       → Going (TurnsIn Reading s n read w) (writer_says w s n room finish coming next)
@@ -353,25 +359,26 @@ module _ (s n : ℕ) (read : Operation) where
       (λ g. cond_both (breaks_as_writer (stream_in w s).kind said) _ _ (Going (TurnsIn Reading s n read w)) (λ k. tt) (λ k. h after said refl)))
       (λ f. tt)
 
-  produced_turned : (w v : World) (said : WriterSaid) → (stream_in w s).writer.owner ≡ Host n → v.state ≡ w.state
-      → Turned Reading w.state (receives (with_over v n said.answer) s read (take read.left said.items) (produced_result said.answer (drop read.left said.items))).state s n read
+  produced_turned : (w v : World) (r : WriterSaid) → (stream_in w s).writer.owner ≡ Host n → v.state ≡ w.state
+      → Turned Reading w.state (receives (with_answer v n r.answer (drop read.left r.items)) s read (take read.left r.items) (produced_result r.answer (drop read.left r.items))).state s n read
   produced_turned w v said o e =
-      let over = with_over v n said.answer in
+      let over = with_answer v n said.answer (drop read.left said.items) in
       let items = take read.left said.items in
       let result = produced_result said.answer (drop read.left said.items) in
       let owned : (stream_in v s).writer.owner ≡ Host n = ap (λ (x : State). (stream_at x s).writer.owner) e ∙ o in
       subst (λ (x : State). Turned Reading x (receives over s read items result).state s n read) e
-      (turned_over Reading v.state over.state (receives over s read items result).state s n read (length items) result refl (over_same v said.answer) (receives_back over items result owned (front_few said.items)) (receives_back over items result owned (front_few said.items)).since)
+      (receives_kept v (record (producer_at v.state n) { over = (producer_at v.state n).over || is_last said.answer; holding = has_items (drop read.left said.items) }) refl items result owned (front_few said.items))
 
   produces_turned : (w : World) (held : List Item) → (stream_in w s).writer.owner ≡ Host n → Going (TurnsIn Reading s n read w) (produces w s n read held)
   produces_turned w (item ∷ items) o =
       let writer = writer_at w n in
-      receives_turned (with_writer w n (given_writer writer read.left)) (take read.left writer.holds) (Some results.Completed) o (front_few writer.holds)
+      let given = given_writer writer read.left in
+      receives_kept (with_writer w n given) (record (producer_at w.state n) { holding = has_items given.holds }) refl (take read.left writer.holds) (Some results.Completed) o (front_few writer.holds)
   produces_turned w [] o =
       cond_both (producer_at w.state n).over _ _ (Going (TurnsIn Reading s n read w))
       (λ e. receives_turned w [] (Some results.Dropped) o (omega arith))
       (λ e. says_turned w (Some read.left) read.asked (writer_at w n).coming
-      (λ after said. done (receives (with_over after n said.answer) s read (take read.left said.items) (produced_result said.answer (drop read.left said.items))))
+      (λ after said. done (receives (with_answer after n said.answer (drop read.left said.items)) s read (take read.left said.items) (produced_result said.answer (drop read.left said.items))))
       (λ v said e. produced_turned w v said o e))
 
   -- which tells nothing of its own
@@ -393,7 +400,7 @@ module _ (s n : ℕ) (read : Operation) where
       cond_both (producer_at w.state n).over _ _ (Going IsDone)
       (λ e. refl)
       (λ e. says_done w (Some read.left) read.asked (writer_at w n).coming
-      (λ after said. done (receives (with_over after n said.answer) s read (take read.left said.items) (produced_result said.answer (drop read.left said.items))))
+      (λ after said. done (receives (with_answer after n said.answer (drop read.left said.items)) s read (take read.left said.items) (produced_result said.answer (drop read.left said.items))))
       (λ v said. refl))
 
 pub goes_both : (P Q : Reply → World → Type 0) (o : Outcome) → Going P o → Going Q o → Going (λ reply v. P reply v × Q reply v) o
@@ -470,8 +477,8 @@ module _ (s r : ℕ) (write : Operation) where
   takes_by w finish first [] o = tt
   takes_by w finish first (said ∷ more) o =
       let after = with_reader w r (polled_reader (reader_at w r) (first said.taken) more) in
-      cond_both (is_reader_poll write.left (consumer_at w.state r).since finish said) _ _ (Going (TurnsDone Writing s r write w))
-      (λ f. cond_both (is_failed said.answer) _ _ (Going (TurnsDone Writing s r write w)) (λ g. tt)
+      cond_both (is_reader_poll write.left (consumer_at w.state r).since finish said && tells_truly write.left first said) _ _ (Going (TurnsDone Writing s r write w))
+      (λ t. let f = (and_parts (is_reader_poll write.left (consumer_at w.state r).since finish said) (tells_truly write.left first said) t).0 in cond_both (is_failed said.answer) _ _ (Going (TurnsDone Writing s r write w)) (λ g. tt)
       (λ g. cond_both said.bad _ _ (Going (TurnsDone Writing s r write w)) (λ b. tt)
       (λ b. cond_both (breaks_as_reader (stream_in w s).kind said) _ _ (Going (TurnsDone Writing s r write w)) (λ k. tt)
       (λ k. (gives_turned w after said o refl (taken_few write.left (consumer_at w.state r).since finish said f) k (polled_since write.left (consumer_at w.state r).since finish said f), refl)))))

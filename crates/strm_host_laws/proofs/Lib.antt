@@ -1,6 +1,7 @@
 pub mod Chains
 pub mod Goings
 pub mod Closed
+pub mod Known
 pub mod Fed
 pub mod ReadersFed
 pub mod Rounds
@@ -39,3 +40,18 @@ pub mod Counted
 pub mod HostRows
 pub mod ReaderRows
 pub mod PipeRows
+pub mod Tracing
+pub mod CourseLemmas
+pub mod CourseRuns
+pub mod Apart
+pub mod Happenings
+pub mod SingleSteps
+pub mod RestSteps
+pub mod HostSteps
+pub mod TurnCourses
+pub mod PipeCourses
+pub mod StreamsApart
+pub mod Isolated
+mod CourseRows
+mod MoreCourseRows
+mod IsolationRows

@@ -31,7 +31,7 @@ use Rattle.strm_host_laws.specs.HostMoments.{Part, Acts, HostMoment, part_on}
 use Rattle.strm_host_laws.specs.HostLaws.{Supplies}
 use Rattle.strm_host_laws.proofs.Chains.{is_part}
 use Rattle.strm_host_laws.proofs.Closed.{Stands, Kept, SameClosed, part-closes}
-use Rattle.strm_host_laws.proofs.Fed.{OfWriters, OfEach, part-each, grant-each, rules-each, begins-each, with-each}
+use Rattle.strm_host_laws.proofs.Fed.{OfWriters, OfEach, part-each, grant-each, rules-each, stopping-each, with-each}
 use Rattle.strm_host_laws.proofs.Forms.{opened, called, stream_of, IsTurn, IsCall, Form, part-formed}
 use Rattle.strm_host_laws.proofs.Goings.{IfGoes, Comes, with_stream_in-same, feed-comes}
 use Rattle.strm_host_laws.proofs.Standing.{Holds, Holds-next}
@@ -79,7 +79,7 @@ part-supplies w part p = by (part_on w part) (part-any w part p)
 
     part-any : (w : World) (part : Part) → is_part part ≡ true → Comes (OfEach Feeding of_supplies) (OfEach Feeding of_supplies) w (part_on w part)
     part-any w (Acts (OnHost n (Feed bytes))) p =
-        feed-comes (OfEach Feeding of_supplies) (OfEach Feeding of_supplies) (rules-each Feeding of_supplies) (begins-each Feeding of_supplies) w n bytes
+        feed-comes (OfEach Feeding of_supplies) (OfEach Feeding of_supplies) (rules-each Feeding of_supplies) (stopping-each Feeding of_supplies) w n bytes
         (λ e. with-each Feeding of_supplies w n (fed_writer (writer_at w n) bytes) (λ h. record { holds = h.holds; coming = h.coming }))
     part-any w (Acts (OnHost r (Grant count))) p = grant-each Feeding of_supplies w r count
     part-any w part p = part-each Feeding of_supplies w part p refl

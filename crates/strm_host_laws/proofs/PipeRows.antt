@@ -34,7 +34,7 @@ all_items ns = map (λ n. pos n ∷ []) ns
 
 -- a poll of the writer without stated room
 abbrev gave : List ℕ → Answer → WriterSaid
-gave ns answer = record { room = None; finish = false; items = all_items ns; answer = answer }
+gave ns answer = record { room = None; finish = false; payload = One U8; items = all_items ns; answer = answer }
 
 -- a poll that offered so many items, of which the reader took so many
 abbrev took : ℕ → ℕ → ℕ → Answer → ReaderSaid

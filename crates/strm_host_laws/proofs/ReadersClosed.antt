@@ -45,7 +45,7 @@ use Rattle.strm_host_laws.proofs.HostTurns.{with_stream_in-kept}
 use Rattle.strm_world.specs.Piping.{both_gone}
 use Rattle.strm_world.specs.Settling.{with_some_received}
 use Rattle.strm_machine.specs.declared.streams.End.{End}
-use Rattle.strm_host_laws.proofs.Goings.{with_state, some_received-end, piped_to, Begins, Rules, Halted, Comes, IfGoes, with_stream_in-same, part-comes, feed-comes, grant-comes}
+use Rattle.strm_host_laws.proofs.Goings.{with_state, some_received-end, piped_to, Begins, Stopping, Rules, Halted, Comes, IfGoes, with_stream_in-same, part-comes, feed-comes, grant-comes}
 use Rattle.strm_host_laws.proofs.Standing.{Holds, Holds-reaction, Holds-next, Holds-empty, Holds-pipe}
 use Rattle.strm_host_laws.proofs.Turned.{turned, stream_moved, taken_by, stream_taken, Taken}
 
@@ -288,12 +288,14 @@ begins = record {
   stays = λ w r. refl;
   joins = λ a b c f g r. g r ∙ f r;
   opens = λ w s stream e r. ap (λ v. (reader_at v r).closed) (with_stream_in-same w s stream e.owners);
-  polls = λ w n room said more e r. refl;
+  says = λ w n room said more e r. refl;
   takes = λ w r took said more e k. set-keeps (λ (x : Reader). x.closed) w.readers r k (polled_reader (reader_at w r) took more) no_reader refl;
-  overs = λ w n answer r. refl;
   gives = λ w n k r. refl;
   keeps = λ w n items r. refl;
 }
+
+stopping : Stopping SameClosed
+stopping = record { begins = begins; polls = λ w n room said more e r. refl }
 
 -- whatever becomes of it where it goes on
 abbrev Any : World → World → Type 0
@@ -301,7 +303,7 @@ Any w v = Unit {0}
 
 any_rules : Rules Any
 any_rules = record {
-  begins = record { stays = λ w. tt; joins = λ a b c f g. tt; opens = λ w s stream e. tt; polls = λ w n room said more e. tt; takes = λ w r took said more e. tt; overs = λ w n answer. tt; gives = λ w n k. tt; keeps = λ w n items. tt };
+  begins = record { stays = λ w. tt; joins = λ a b c f g. tt; opens = λ w s stream e. tt; says = λ w n room said more e. tt; takes = λ w r took said more e. tt; gives = λ w n k. tt; keeps = λ w n items. tt };
   reacts = λ w act. tt;
   lowers = λ w guests. tt;
   counts = λ w r answer taken. tt;
@@ -312,9 +314,9 @@ any_rules = record {
 }
 
 part-stops : (w : World) (part : Part) → is_part part ≡ true → Comes Any SameClosed w (part_on w part)
-part-stops w (Acts (OnHost n (Feed bytes))) p = feed-comes Any SameClosed any_rules begins w n bytes (λ e. tt)
-part-stops w (Acts (OnHost r (Grant count))) p = grant-comes Any SameClosed any_rules begins w r count (λ e. tt)
-part-stops w part p = part-comes Any SameClosed any_rules begins w part p refl
+part-stops w (Acts (OnHost n (Feed bytes))) p = feed-comes Any SameClosed any_rules stopping w n bytes (λ e. tt)
+part-stops w (Acts (OnHost r (Grant count))) p = grant-comes Any SameClosed any_rules stopping w r count (λ e. tt)
+part-stops w part p = part-comes Any SameClosed any_rules stopping w part p refl
 
 -- RUNS
 

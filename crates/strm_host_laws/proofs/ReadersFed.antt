@@ -29,7 +29,7 @@ use Rattle.strm_host_laws.specs.HostLaws.{used, used_by, all_used_by, granted_in
 use Rattle.strm_host_laws.proofs.Chains.{is_part, Follows, Chain, moments-chain}
 use Rattle.strm_host_laws.proofs.Fed.{set-relates, used_are, heard_none, heard_both}
 use Rattle.strm_host_laws.proofs.WrittenBack.{leaves_writer-readers}
-use Rattle.strm_host_laws.proofs.Goings.{Begins, Rules, Comes, IfGoes, is_passing, part-comes, feed-comes}
+use Rattle.strm_host_laws.proofs.Goings.{Begins, Stopping, Rules, Comes, IfGoes, is_passing, part-comes, feed-comes}
 use Rattle.strm_machine.proofs.RefusalLemmas.{not_refused, not_le}
 
 -- WHAT HOLDS OF EACH HOST READER
@@ -72,12 +72,14 @@ module _ (P : Reader → Reader → Type 0) (of : OfReaders P) where
     stays = λ w r. of.same (reader_at w r);
     joins = λ a b c f g r. of.joined (reader_at a r) (reader_at b r) (reader_at c r) (f r) (g r);
     opens = λ w s stream e. stream-each w w s stream refl;
-    polls = λ w n room said more e r. of.same (reader_at w r);
+    says = λ w n room said more e r. of.same (reader_at w r);
     takes = λ w r took said more e. with-each_reader w r (polled_reader (reader_at w r) took more) (of.polled (reader_at w r) took said more e);
-    overs = λ w n answer r. of.same (reader_at w r);
     gives = λ w n k r. of.same (reader_at w r);
     keeps = λ w n items r. of.same (reader_at w r);
   }
+
+  pub stopping-each_reader : Stopping OfEachReader
+  stopping-each_reader = record { begins = begins-each_reader; polls = λ w n room said more e r. of.same (reader_at w r) }
 
   pub rules-each_reader : Rules OfEachReader
   rules-each_reader = record {
@@ -93,11 +95,11 @@ module _ (P : Reader → Reader → Type 0) (of : OfReaders P) where
 
   -- it holds of each after a part but a feed or a grant
   pub part-each_reader : (w : World) (part : Part) → is_part part ≡ true → is_passing part ≡ false → Comes OfEachReader OfEachReader w (part_on w part)
-  part-each_reader w part p f = part-comes OfEachReader OfEachReader rules-each_reader begins-each_reader w part p f
+  part-each_reader w part p f = part-comes OfEachReader OfEachReader rules-each_reader stopping-each_reader w part p f
 
   -- and after a feed
   pub feed-each_reader : (w : World) (n : ℕ) (bytes : List ℕ) → Comes OfEachReader OfEachReader w (part_on w (Acts (OnHost n (Feed bytes))))
-  feed-each_reader w n bytes = feed-comes OfEachReader OfEachReader rules-each_reader begins-each_reader w n bytes (λ e r. of.same (reader_at w r))
+  feed-each_reader w n bytes = feed-comes OfEachReader OfEachReader rules-each_reader stopping-each_reader w n bytes (λ e r. of.same (reader_at w r))
 
 -- RECORDS
 

@@ -24,9 +24,9 @@ use Rattle.strm_machine.proofs.TableLemmas.{set-keeps}
 use Rattle.strm_world.specs.Ends.{Writer, Reader, no_writer, no_reader, polled_writer, polled_reader}
 use Rattle.strm_world.specs.World.{World, stream_in, writer_at, reader_at, held_of, with_kept, with_consumer, with_writer, with_reader, with_stream_in}
 use Rattle.strm_world.specs.Outcomes.{Outcome, Goes, Stops, Stuck, done, then_on}
-use Rattle.strm_world.specs.Polls.{is_failed, same_flag, is_writer_poll, writer_says, is_reader_poll, reader_says}
+use Rattle.strm_world.specs.Polls.{is_failed, same_flag, is_writer_poll, writer_says, is_reader_poll, tells_truly, reader_says}
 use Rattle.strm_world.specs.Settling.{with_some_received, since_after}
-use Rattle.strm_world.specs.Producing.{is_last, with_over}
+use Rattle.strm_world.specs.Producing.{is_last, with_answer}
 use Rattle.strm_world.specs.Attaching.{has_items}
 use Rattle.strm_world.specs.Piping.{wants_items, fetches, gathered, is_resting, passed_on, offers, is_done_with, is_run_dry, both_gone, ends_if_done, pipe_round}
 use Rattle.strm_world.proofs.WorldLemmas.{set-same}
@@ -86,19 +86,19 @@ not_true true e = cc
 not_true false e = refl
 
 -- nothing is held
-none_held : (xs : List Item) → not (has_items xs) ≡ true → xs ≡ []
+pub none_held : (xs : List Item) → not (has_items xs) ≡ true → xs ≡ []
 none_held [] e = refl
 none_held (x ∷ xs) e = cc
 
 -- a host end that has records is there
-writer_there : (w : World) (n : ℕ) (said : WriterSaid) (more : List WriterSaid) → (writer_at w n).coming ≡ said ∷ more → n < length w.writers
+pub writer_there : (w : World) (n : ℕ) (said : WriterSaid) (more : List WriterSaid) → (writer_at w n).coming ≡ said ∷ more → n < length w.writers
 writer_there w n said more e =
     elim (cases_lt n (length w.writers)) [
       | inl l ↦ l
       | inr l ↦ absurd (let past = ap (λ (x : Writer). x.coming) (get_or_past w.writers n no_writer l) in let wrong : [] ≡ said ∷ more = sym past ∙ e in cc)
     ]
 
-reader_there : (w : World) (r : ℕ) (said : ReaderSaid) (more : List ReaderSaid) → (reader_at w r).coming ≡ said ∷ more → r < length w.readers
+pub reader_there : (w : World) (r : ℕ) (said : ReaderSaid) (more : List ReaderSaid) → (reader_at w r).coming ≡ said ∷ more → r < length w.readers
 reader_there w r said more e =
     elim (cases_lt r (length w.readers)) [
       | inl l ↦ l
@@ -128,7 +128,7 @@ module _ (w : World) (s n r : ℕ) (known : n < length w.state.kept) where
 
   -- the world after this record
   abbrev fetched_now : WriterSaid → List WriterSaid → World
-  fetched_now said more = with_kept (with_over (with_writer w n (polled_writer (writer_at w n) None said more)) n said.answer) n said.items
+  fetched_now said more = with_kept (with_answer (with_writer w n (polled_writer (writer_at w n) None said more)) n said.answer []) n said.items
 
   fetched_by : (said : WriterSaid) (more : List WriterSaid) → (writer_at w n).coming ≡ said ∷ more → held_of w n ≡ [] → (consumer_at w.state r).resting ≡ false → IsGoodSaid (stream_in w s).kind said → Fetched w s n r (fetched_now said more)
   fetched_by said more c e rest good =
@@ -136,7 +136,7 @@ module _ (w : World) (s n r : ℕ) (known : n < length w.state.kept) where
       let now = get_or-set_same w.writers n writer no_writer (writer_there w n said more c) in
       record {
         said = said ∷ [];
-        producer = record (producer_at w.state n) { over = (producer_at w.state n).over || is_last said.answer };
+        producer = record (producer_at w.state n) { over = (producer_at w.state n).over || is_last said.answer; holding = false };
         kept = said.items;
         writer = writer;
         is = refl;
@@ -153,7 +153,7 @@ module _ (w : World) (s n r : ℕ) (known : n < length w.state.kept) where
       }
 
   fetched_after : (coming : List WriterSaid) → (writer_at w n).coming ≡ coming → held_of w n ≡ [] → (consumer_at w.state r).resting ≡ false
-      → IsFetched (writer_says w s n None false coming (λ after said. done (with_kept (with_over after n said.answer) n said.items)))
+      → IsFetched (writer_says w s n None false coming (λ after said. done (with_kept (with_answer after n said.answer []) n said.items)))
   fetched_after [] c e rest = tt
   fetched_after (said ∷ more) c e rest =
       cond_both (is_writer_poll None false said) _ _ IsFetched
@@ -223,7 +223,7 @@ abbrev pub HasPassed : World → (s n r : ℕ) → Reply → World → Type 0
 HasPassed w s n r reply v = Passed w s n r v × (reply ≡ replies.Done)
 
 -- what is held of a writer that holds nothing is what is kept
-set_empty : (ws : List Writer) (n : ℕ) (x : Writer) → x.holds ≡ [] → (get_or (set ws n x) n no_writer).holds ≡ []
+pub set_empty : (ws : List Writer) (n : ℕ) (x : Writer) → x.holds ≡ [] → (get_or (set ws n x) n no_writer).holds ≡ []
 set_empty [] n x e = refl
 set_empty (y ∷ ys) zero x e = e
 set_empty (y ∷ ys) (suc n) x e = set_empty ys n x e
@@ -336,6 +336,10 @@ module _ (w : World) (s n r : ℕ) (known : n < length w.state.kept) (producer :
       abbrev gave : Writer
       gave = record (writer_at f n) { holds = [] }
 
+      -- what is kept of the writer then
+      abbrev emptied : Producer
+      emptied = record (producer_at f.state n) { holding = false }
+
       known_then : n < length (set w.state.kept n kept)
       known_then = omega (arith, known, length-set w.state.kept n kept)
 
@@ -365,7 +369,7 @@ module _ (w : World) (s n r : ℕ) (known : n < length w.state.kept) (producer :
         told = one ∷ [];
         items = take one.taken held;
         count = one.taken;
-        producer = producer;
+        producer = emptied;
         kept = left;
         consumer = rested;
         writer = gave;
@@ -374,10 +378,11 @@ module _ (w : World) (s n r : ℕ) (known : n < length w.state.kept) (producer :
         mid = passed;
         but_is =
             ap (λ ks. record but { state = record but.state { kept = ks } }) (set-set (set w.state.kept n kept) n held left ∙ set-set w.state.kept n kept left)
-            ∙ ap (λ ws. record but { state = record but.state { kept = slice_set w.state.kept n left }; writers = ws }) (set-set w.writers n writer gave);
+            ∙ ap (λ ps. record but { state = record but.state { producers = ps; kept = slice_set w.state.kept n left } }) (set-set w.state.producers n producer emptied)
+            ∙ ap (λ ws. record but { state = record but.state { producers = slice_set w.state.producers n emptied; kept = slice_set w.state.kept n left }; writers = ws }) (set-set w.writers n writer gave);
         mid_is = refl;
         ends = ends;
-        duty = duty;
+        duty = set-keeps (λ (x : Producer). x.duty) w.state.producers n n producer no_producer duty;
         serves = refl;
         open_ = refl;
         coming = coming ∙ ap (λ xs. said ++ xs) (sym (set-keeps (λ (x : Writer). x.coming) f.writers n n gave no_writer refl));
@@ -430,11 +435,11 @@ module _ (w : World) (s n r : ℕ) (known : n < length w.state.kept) (producer :
         → GoesSo (reader_says offered s r (length held) false (λ k. take k held) coming (λ u one. ends_if_done (passed_on u s n r one.answer one.taken) s n r (Some one.answer)))
     passed_after [] c = tt
     passed_after (one ∷ more) c =
-        cond_both (is_reader_poll (length held) (consumer_at w.state r).since false one) _ _ GoesSo
+        cond_both (is_reader_poll (length held) (consumer_at w.state r).since false one && tells_truly (length held) (λ k. take k held) one) _ _ GoesSo
         (λ e. cond_both (is_failed one.answer) _ _ GoesSo (λ g. tt)
         (λ g. cond_both one.bad _ _ GoesSo (λ b. tt)
         (λ b. cond_both (breaks_as_reader (stream_in w s).kind one) _ _ GoesSo (λ k. tt)
-        (λ k. passed_by one more c e (g, k)))))
+        (λ k. passed_by one more c (and_parts (is_reader_poll (length held) (consumer_at w.state r).since false one) (tells_truly (length held) (λ k. take k held) one) e).0 (g, k)))))
         (λ e. tt)
 
     offers_is : GoesSo (offers f s n r (λ u answer. ends_if_done u s n r answer))

@@ -331,9 +331,9 @@ serves_used : (duty : Duty) (k : ℕ) → is_used duty ≡ false → duty ≡ Se
 serves_used duty k e f = let wrong : is_used duty ≡ true = ap is_used f in cc
 
 module _ (old : State) (n : ℕ) (stream : Stream) (h : Holds old) (known : n < host_limit) (unused : is_used (producer_at old n).duty ≡ false)
-    (writer : stream.writer ≡ idle_end (Host n)) (reader : stream.reader ≡ idle_end Loose) where
+    (writer : stream.writer ≡ idle_end (Host n)) (reader : stream.reader ≡ idle_end Loose) (holding : Bool) where
   abbrev producer : Producer
-  producer = record no_producer { duty = Serves (length old.streams) }
+  producer = record no_producer { duty = Serves (length old.streams); holding = holding }
 
   abbrev pub hosted_by : State
   hosted_by = record old { streams = old.streams ++ stream ∷ []; producers = set old.producers n producer }
@@ -439,7 +439,7 @@ module _ (old : State) (n : ℕ) (stream : Stream) (h : Holds old) (known : n < 
   }
 
 pub Holds-hosted : (old new : State) (n : ℕ) (reply : Reply) → Hosts old n reply new → Holds old → Holds new
-Holds-hosted old new n reply x h = subst Holds (sym x.is) (Holds-hosted_by old n x.stream h x.known x.unused x.writer x.reader)
+Holds-hosted old new n reply x h = subst Holds (sym x.is) (Holds-hosted_by old n x.stream h x.known x.unused x.writer x.reader x.holding)
 
 -- ## A host end that goes with the other end
 

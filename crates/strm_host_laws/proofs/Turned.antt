@@ -1,7 +1,7 @@
 -- What the turn of a host end does where it goes on: of a host writer the items that it hands over, the records
 -- that it uses, and what it holds then; of a host reader its record, and the items that it takes.
-use Rattle.std.proofs.Common.{◌≡◌, ℕ, zero, suc, ◌+◌, ◌≤◌, ◌||◌, Bool, List, [], ◌∷◌, ◌++◌, length, take, drop, Option, Some, None, true, false, refl, sym, ap, ◌∙◌, arith, append-nil, take-append-drop, length-take, length-append}
-use Rattle.std.proofs.lemmas.Bool.{cond_both}
+use Rattle.std.proofs.Common.{◌≡◌, ℕ, zero, suc, ◌+◌, ◌≤◌, ◌||◌, ◌&&◌, Bool, List, [], ◌∷◌, ◌++◌, length, take, drop, Option, Some, None, true, false, refl, sym, ap, ◌∙◌, arith, append-nil, take-append-drop, length-take, length-append}
+use Rattle.std.proofs.lemmas.Bool.{cond_both, and_parts}
 use Rattle.std.specs.Prelude.{slice_set, nat_lt}
 use Rattle.std.proofs.lemmas.Bool.Decides.{nat_tests}
 use Rattle.strm_codes.specs.declared.codes.StreamResult.{StreamResult}
@@ -23,10 +23,11 @@ use Rattle.strm_machine.specs.declared.replies.Reply.{Reply}
 use Rattle.strm_world.specs.Ends.{Writer, no_writer, polled_writer, given_writer, polled_reader}
 use Rattle.strm_world.specs.World.{World, stream_in, writer_at, reader_at, with_writer, with_reader, with_stream_in}
 use Rattle.strm_world.specs.Outcomes.{done}
-use Rattle.strm_world.specs.Polls.{AfterWriter, is_failed, is_writer_poll, writer_says, is_reader_poll, reader_says}
+use Rattle.strm_world.specs.Polls.{AfterWriter, is_failed, is_writer_poll, writer_says, is_reader_poll, tells_truly, reader_says}
 use Rattle.strm_world.specs.Settling.{result_of, moved_on}
+use Rattle.strm_world.specs.Attaching.{has_items}
 use Rattle.strm_world.specs.Consuming.{lifted, with_taken, consumer_turn}
-use Rattle.strm_world.specs.Producing.{lowered, receives, is_last, with_over, produced_result, produces, producer_turn}
+use Rattle.strm_world.specs.Producing.{lowered, receives, is_last, with_answer, produced_result, produces, producer_turn}
 use Rattle.strm_world.proofs.WorldLemmas.{set-same}
 use Rattle.strm_host_laws.specs.HostLaws.{items_of}
 use Rattle.strm_host_laws.proofs.Goings.{gave_up, IfGoes}
@@ -97,18 +98,13 @@ module _ (w : World) (s n : ℕ) (read : Operation) where
   by_holding item items =
       let held = (writer_at w n).holds in
       let writer = given_writer (writer_at w n) read.left in
-      let moved = stream_moved w s read (take read.left held) (Some results.Completed) in
       record {
         items = take read.left held;
         said = [];
         result = Some results.Completed;
-        producer = producer_at w.state n;
+        producer = record (producer_at w.state n) { holding = has_items (drop read.left held) };
         writer = writer;
-        is = ap (λ ps. with_stream_in (record {
-          state = record w.state { guests = lowered w.state.guests (stream_in w s).payload read (take read.left held); producers = ps };
-          writers = slice_set w.writers n writer;
-          readers = w.readers;
-        }) s moved) (sym (set-same w.state.producers n no_producer));
+        is = refl;
         fits = omega (arith, length-take read.left held);
         duty = refl;
         coming = refl;
@@ -147,7 +143,7 @@ module _ (w : World) (s n : ℕ) (read : Operation) where
 
   -- after a record
   abbrev next : AfterWriter
-  next after said = done (receives (with_over after n said.answer) s read (take read.left said.items) (produced_result said.answer (drop read.left said.items)))
+  next after said = done (receives (with_answer after n said.answer (drop read.left said.items)) s read (take read.left said.items) (produced_result said.answer (drop read.left said.items)))
 
   by_record : (said : WriterSaid) (more : List WriterSaid) → (writer_at w n).holds ≡ [] → (writer_at w n).coming ≡ said ∷ more → IsGoodSaid (stream_in w s).kind said
       → IfGoes (next (with_writer w n (polled_writer (writer_at w n) (Some read.left) said more)) said) AsTurned
@@ -157,7 +153,10 @@ module _ (w : World) (s n : ℕ) (read : Operation) where
         items = take read.left items;
         said = said ∷ [];
         result = produced_result said.answer (drop read.left items);
-        producer = record (producer_at w.state n) { over = (producer_at w.state n).over || is_last said.answer };
+        producer = record (producer_at w.state n) {
+          over = (producer_at w.state n).over || is_last said.answer;
+          holding = has_items (drop read.left items);
+        };
         writer = polled_writer (writer_at w n) (Some read.left) said more;
         is = refl;
         fits = omega (arith, length-take read.left items);
@@ -216,11 +215,11 @@ module _ (w : World) (s r : ℕ) (write : Operation) where
       → IfGoes (reader_says w s r write.left write.asked (lifted w.state.guests (stream_in w s).payload write) coming (λ after said. done (gave_up s r write after said))) AsTaken
   after_taking [] e = tt
   after_taking (said ∷ more) e =
-      cond_both (is_reader_poll write.left (consumer_at w.state r).since write.asked said) _ _ (λ o. IfGoes o AsTaken)
+      cond_both (is_reader_poll write.left (consumer_at w.state r).since write.asked said && tells_truly write.left (lifted w.state.guests (stream_in w s).payload write) said) _ _ (λ o. IfGoes o AsTaken)
       (λ f. cond_both (is_failed said.answer) _ _ (λ o. IfGoes o AsTaken) (λ g. tt)
       (λ g. cond_both said.bad _ _ (λ o. IfGoes o AsTaken) (λ b. tt)
       (λ b. cond_both (breaks_as_reader (stream_in w s).kind said) _ _ (λ o. IfGoes o AsTaken) (λ k. tt)
-      (λ k. record { said = said; more = more; coming = e; polled = f; kept = k; is = refl }))))
+      (λ k. record { said = said; more = more; coming = e; polled = (and_parts (is_reader_poll write.left (consumer_at w.state r).since write.asked said) (tells_truly write.left (lifted w.state.guests (stream_in w s).payload write) said) f).0; kept = k; is = refl }))))
       (λ f. tt)
 
   pub taking_is : IfGoes (consumer_turn w s r write) AsTaken

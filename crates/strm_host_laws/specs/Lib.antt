@@ -1,2 +1,4 @@
 pub mod HostMoments
 pub mod HostLaws
+pub mod StreamEvents
+pub mod Isolation

@@ -6,5 +6,6 @@
 //! and `HostLaws.antt` what holds of them; `guests` has the laws of `strm_laws`, said of such runs.
 #![tactic(auto)]
 
+pub mod calls;
 pub mod guests;
 pub mod runs;

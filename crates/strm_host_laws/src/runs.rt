@@ -15,6 +15,7 @@ ghost use Rattle.strm_world.specs.HostPlays.{Ends, Halts, play};
 ghost use Rattle.strm_world.specs.Does.{start};
 ghost use Rattle.strm_laws.specs.Laws.{AreSteps};
 ghost use Rattle.strm_host_laws.specs.HostMoments.{host_moments, last_of};
+ghost use Rattle.strm_host_laws.specs.Isolation.{AreIsolated};
 ghost use Rattle.strm_host_laws.specs.HostLaws.{ClosesExactly, WriterGoesOn, Supplies, DeliversAll, ReadersCloseExactly, ReaderGoesOn, TellsTaken};
 
 /// The moments of a run lead to where its play ends, from whichever world.
@@ -98,4 +99,14 @@ pub fn readers_tell_what_they_took()
         (reader_at (start tag limits old new) r)
         (reader_at (last_of (start tag limits old new)
         (host_moments (start tag limits old new) run)) r) }
+{}
+
+/// Streams are isolated: the codes answered for a stream are those of its kind and of its own events,
+/// whatever is done to other streams between them, refused or not; and a moment that is no event of a
+/// stream leaves it whole, with what its host ends hold and what is kept of them. Up to its stop in a run
+/// that stops.
+pub fn streams_are_isolated()
+    ensures { (tag : ℕ) (limits : Limits) (old new : Tells) (run : List Step) →
+        AreIsolated (host_moments (start tag limits old new) run)
+        (last_of (start tag limits old new) (host_moments (start tag limits old new) run)) }
 {}

@@ -6,7 +6,7 @@ ghost use Rattle.strm_world.specs.Does.{Fits};
 
 use crate::answers::is;
 use crate::copying::Copying;
-use crate::polls::BYTES;
+use crate::polls::{BYTES, DROPPED, poll};
 use std::alloc::Global;
 use std::process::Abort;
 use strm_buffers::hosts::Hosts;
@@ -143,6 +143,55 @@ fn lifted(rt: &impl Abort, store: &mut Store) -> (StreamReader<u8>, u32) {
         Ok(reader) => (reader, pair.write),
         Err(_) => panic!(rt; "no read end"),
     }
+}
+
+// The number of the host writer that a reader gives back, if it does.
+fn gives_back(
+    rt: &impl Abort,
+    reader: &mut StreamReader<u8>,
+    store: &mut Store,
+    wanted: Result<Option<u32>, ReaderError>,
+) {
+    is(rt, StreamReader::try_into(reader, store), wanted);
+}
+
+// The writer that was given back is used outside its list, which the store needs no more.
+fn is_had_again(rt: &impl Abort, alloc: Global, store: &Store, hosts: &mut Hosts) {
+    match hosts.writers.pop() {
+        Some(mut writer) => poll(rt, alloc, &mut writer, false, DROPPED, &[7, 8]),
+        None => panic!(rt; "no writer"),
+    }
+    is(rt, store.fits(hosts), true);
+}
+
+/// It is not closed, and its stream is removed.
+#[test]
+fn a_host_writer_is_given_back(rt: HostRuntime) {
+    let alloc = rt.alloc();
+    let bytes = [7u8, 8].to_vec(alloc).expect(&rt, "memory");
+    let writer = Box::new(alloc, Erased::stream(alloc, bytes)).expect(&rt, "memory");
+    let mut hosts = hosts_of(&rt, alloc, writer);
+    let mut store = store_of(&rt, alloc, 0);
+    let mut reader = reader_of(&rt, &mut store, &hosts);
+    gives_back(&rt, &mut reader, &mut store, Ok(Some(0)));
+    let closed = ReaderError::AlreadyClosed;
+    gives_back(&rt, &mut reader, &mut store, Err(closed));
+    closes(&rt, &mut reader, &mut store, &mut hosts, Err(closed));
+    is(&rt, store.transmit_index(0), None);
+    is_had_again(&rt, alloc, &store, &mut hosts);
+}
+
+/// Of a guest's stream there is none to give back.
+#[test]
+fn a_reader_of_a_guest_gives_nothing_back(rt: HostRuntime) {
+    let mut hosts = Hosts {
+        writers: Vec::new(rt.alloc()),
+        readers: Vec::new(rt.alloc()),
+    };
+    let mut store = store_of(&rt, rt.alloc(), 0);
+    let (mut reader, _) = lifted(&rt, &mut store);
+    gives_back(&rt, &mut reader, &mut store, Ok(None));
+    closes(&rt, &mut reader, &mut store, &mut hosts, Ok(()));
 }
 
 // It is piped to host reader 0, to which the guest then writes.

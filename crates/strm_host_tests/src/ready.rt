@@ -4,7 +4,8 @@ ghost use Rattle.std.specs.Prelude.{◌≡◌};
 
 use crate::answers::is;
 use crate::countdown::Countdown;
-use crate::polls::{BYTES, COMPLETED, DROPPED, memory, poll, poll_over};
+use crate::polls::{BYTES, COMPLETED, DROPPED, give_rest, memory, poll, poll_over};
+use bytes::{Bytes, BytesMut};
 use std::alloc::Global;
 use std::process::Abort;
 use strm_buffers::answers::{HostTurn, StreamResult, Turn};
@@ -41,6 +42,28 @@ fn a_vector_gives_all_once(rt: HostRuntime) {
     let erased = Erased::stream(alloc, vector(&rt, alloc, &[7, 8, 9]));
     let mut writer: Box<dyn HostWriter> = Box::new(alloc, erased).expect(&rt, "memory");
     poll(&rt, alloc, &mut writer, false, DROPPED, &[7, 8, 9]);
+    poll(&rt, alloc, &mut writer, true, DROPPED, &[]);
+}
+
+#[test]
+fn a_block_of_bytes_gives_what_there_is_room_for_and_holds_the_rest(rt: HostRuntime) {
+    let alloc = rt.alloc();
+    let bytes = Bytes::from_vec(vector(&rt, alloc, &[7, 8, 9])).expect(&rt, "memory");
+    let erased = Erased::stream(alloc, bytes);
+    let mut writer: Box<dyn HostWriter> = Box::new(alloc, erased).expect(&rt, "memory");
+    let window = Window::over(memory(&rt, alloc, 4), BYTES, 1, 2);
+    let bytes = &[0, 7, 8, 0];
+    poll_over(&rt, alloc, &mut writer, window, DROPPED, 2, bytes);
+    is(&rt, held_by(&writer), 1);
+    give_rest(&rt, alloc, &mut writer, &[9]);
+}
+
+#[test]
+fn a_growing_block_gives_all_once(rt: HostRuntime) {
+    let alloc = rt.alloc();
+    let erased = Erased::stream(alloc, BytesMut::from_vec(vector(&rt, alloc, &[7, 8])));
+    let mut writer: Box<dyn HostWriter> = Box::new(alloc, erased).expect(&rt, "memory");
+    poll(&rt, alloc, &mut writer, false, DROPPED, &[7, 8]);
     poll(&rt, alloc, &mut writer, true, DROPPED, &[]);
 }
 

@@ -1,8 +1,8 @@
 -- The steps that are drawn, one by one, and how many they are.
-use Rattle.std.proofs.Common.{◌≡◌, ℕ, zero, suc, ◌+◌, ◌%◌, ◌^◌, List, [], ◌∷◌, ◌++◌, length, refl, sym, ap, ◌∙◌, append_assoc, arith}
-use Rattle.std.proofs.lemmas.List.{append-nil}
+use Rattle.std.proofs.Common.{◌≡◌, ◌≤◌, ℕ, zero, suc, ◌+◌, ◌-◌, ◌%◌, ◌^◌, List, [], ◌∷◌, ◌++◌, length, length-append, drop, refl, ap, ◌∙◌, arith}
+use Rattle.std.proofs.lemmas.List.{drop_all, length-drop}
 use Rattle.strm_machine.specs.declared.steps.Step.{Step}
-use Rattle.strm_lines.specs.Generator.{next_state, drawn, drawn_step, drawn_steps, generated}
+use Rattle.strm_lines.specs.Generator.{next_state, drawn, drawn_step, drawn_steps, first_steps, generated}
 
 drawn_steps-suc : (n x : ℕ) → drawn_steps (suc n) x ≡ drawn_step (drawn (next_state x)) (drawn (next_state (next_state x))) (drawn (next_state (next_state (next_state x)))) ∷ drawn_steps n (next_state (next_state (next_state x)))
 unfolding drawn_steps
@@ -27,21 +27,17 @@ one_of : (n x a b c y : ℕ) → Draws x a b c y → drawn_steps (suc n) x ≡ d
 one_of n x a b c y d =
     rw (d.a_is, d.b_is, d.c_is, d.third_is, d.second_is, d.first_is) (drawn_steps-suc n x)
 
--- a step of three draws behind these, and the others
-pub drawn_steps-more : (n m x a b c y : ℕ) (s : Step) (front new : List Step) → Draws x a b c y → n ≡ suc m → s ≡ drawn_step a b c → new ≡ front ++ s ∷ [] → new ++ drawn_steps m y ≡ front ++ drawn_steps n x
-drawn_steps-more n m x a b c y s front new d e f g =
-    ap (λ steps. steps ++ drawn_steps m y) g
-    ∙ append_assoc front (s ∷ []) (drawn_steps m y)
-    ∙ ap (λ step. front ++ step ∷ drawn_steps m y) f
-    ∙ ap (λ steps. front ++ steps) (sym (ap (λ k. drawn_steps k x) e ∙ one_of m x a b c y d))
-
--- none are left
-pub drawn_steps-none : (n x : ℕ) (front : List Step) → n ≡ 0 → front ++ drawn_steps n x ≡ front
-drawn_steps-none n x front e = ap (λ k. front ++ drawn_steps k x) e ∙ ap (λ steps. front ++ steps) (drawn_steps-end x) ∙ append-nil front
-
 length-drawn_steps : (n x : ℕ) → length (drawn_steps n x) ≡ n
 length-drawn_steps zero x = ap length (drawn_steps-end x)
 length-drawn_steps (suc n) x = ap length (drawn_steps-suc n x) ∙ ap suc (length-drawn_steps n _)
 
 pub length-generated : (n seed : ℕ) → length (generated n seed) ≡ 4 + n
 length-generated n seed = omega (arith, length-drawn_steps n (seed % 2 ^ 31))
+
+-- so many are left where so many of the first were given, and so many are to be drawn
+pub length-left : (b n x : ℕ) → length (drop b first_steps ++ drawn_steps n x) ≡ (4 - b) + n
+length-left b n x = omega (arith, length-append (drop b first_steps) (drawn_steps n x), length-drop b first_steps, length-drawn_steps n x)
+
+-- the next of those that are drawn
+pub drawn-next : (d n m x a b c y : ℕ) (s : Step) → 4 ≤ d → Draws x a b c y → n ≡ suc m → s ≡ drawn_step a b c → drop d first_steps ++ drawn_steps n x ≡ s ∷ (drop d first_steps ++ drawn_steps m y)
+drawn-next d n m x a b c y s l h e f = rw (drop_all d first_steps l, e, f) (one_of m x a b c y h)

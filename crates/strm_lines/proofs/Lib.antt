@@ -6,6 +6,7 @@ pub mod ReadingLemmas
 pub mod TypeLemmas
 pub mod ArgumentLemmas
 pub mod StepLemmas
+pub mod RowLemmas
 pub mod LineLemmas
 pub mod PartLemmas
 pub mod GeneratorLemmas

@@ -4,7 +4,7 @@ use Rattle.std.specs.Prelude.{slice_get, is_some, All}
 use Rattle.std.specs.Option.{option_map, option_to_list}
 use Rattle.std.proofs.lemmas.Bool.Decides.{eqb_tells}
 use Rattle.std.proofs.lemmas.Bool.{cases_lt, ne_eqb}
-use Rattle.std.proofs.lemmas.List.{take_more, append-nil, take_at, length-map, map-append, get_or_at}
+use Rattle.std.proofs.lemmas.List.{take_more, append-nil, take_at, length-map, map-append, get_or_at, length_push}
 use Rattle.std.proofs.lemmas.List.Elements.{All-push, All-head, All-tail}
 use Rattle.std.proofs.lemmas.Option.{slice_get-get_or, same_Some}
 use Rattle.strm_machine.specs.declared.steps.Step.{Step}
@@ -75,9 +75,13 @@ pub kept_line : (lines more : List (List ℕ)) (line : List ℕ) (steps new : Li
 kept_line lines more line steps new None r t n e f = cc
 kept_line lines more line steps new (Some s) r t n e f = rw n (spelled_more lines more line steps s e f r)
 
-pub unkept_line : (lines more : List (List ℕ)) (line : List ℕ) (steps new : List Step) (o : Option Step) → o ≡ step_of line → is_some o ≡ false → new ≡ steps ++ option_to_list o → lines ≡ map spelling steps ++ line ∷ more → All HasLine steps → IsFirstBad lines (length new + 1)
-unkept_line lines more line steps new None r t n e f = rw (n, append-nil steps) (bad_line lines more line steps e f r)
-unkept_line lines more line steps new (Some s) r t n e f = cc
+pub kept_one : (steps new : List Step) (o : Option Step) → is_some o ≡ true → new ≡ steps ++ option_to_list o → length new ≡ length steps + 1
+kept_one steps new None t n = cc
+kept_one steps new (Some s) t n = ap length n ∙ length_push steps s
+
+pub unkept_line : (lines more : List (List ℕ)) (line : List ℕ) (steps : List Step) (o : Option Step) → o ≡ step_of line → is_some o ≡ false → lines ≡ map spelling steps ++ line ∷ more → All HasLine steps → IsFirstBad lines (length steps + 1)
+unkept_line lines more line steps None r t e f = bad_line lines more line steps e f r
+unkept_line lines more line steps (Some s) r t e f = cc
 
 same_steps : (steps others : List Step) → All HasLine steps → All HasLine others → map spelling steps ≡ map spelling others → steps ≡ others
 same_steps [] [] f g e = refl
@@ -209,16 +213,9 @@ lines_unended bytes n e h f =
     let u : unended bytes ≡ 1 = unended_at bytes h ∙ rw (ne_eqb (get_or bytes (length bytes - 1) 0) 10 f) refl in
     omega (arith, length-lines bytes)
 
--- what is said of lines that were read: their steps, or the first that is bad, and not that they are
--- too many
-pub record AreRead (lines : List (List ℕ)) (result : Result (List Step) ParseError) : Type 0 where
-  pub ok : IfOk result (λ found. Spells lines found)
-  pub within : result ≢ Err error.TooLong
-  pub bad : (line : ℕ) → result ≡ Err (error.BadLine line) → IsFirstBad lines line
-
--- where lines spell steps, those are found, but for want of memory
-pub complete : (lines : List (List ℕ)) (result : Result (List Step) ParseError) → AreRead lines result → (steps : List Step) → Spells lines steps → MatchResult result (λ found. found ≡ steps) (λ e. e ≡ error.OutOfMemory)
-complete lines (Ok found) h steps f = one_spelling lines found steps h.ok f
-complete lines (Err error.TooLong) h steps f = absurd (h.within refl)
-complete lines (Err (error.BadLine line)) h steps f = absurd (spelled_not_bad lines steps line f (h.bad line refl))
-complete lines (Err error.OutOfMemory) h steps f = refl
+-- lines that spell steps, and are not too many, are not read for want of memory alone
+module _ (lines : List (List ℕ)) (steps : List Step) (spelled : Spells lines steps) where
+  pub wants_memory : {T L : Type 0} (r : Result T ParseError) (e : ParseError) → r ≡ Err e → (r ≡ Err error.TooLong → L) → ((line : ℕ) → r ≡ Err (error.BadLine line) → IsFirstBad lines line) → ¬ L → e ≡ error.OutOfMemory
+  wants_memory r error.TooLong is long bad within = absurd (within (long is))
+  wants_memory r (error.BadLine line) is long bad within = absurd (spelled_not_bad lines steps line spelled (bad line is))
+  wants_memory r error.OutOfMemory is long bad within = refl

@@ -4,3 +4,5 @@ pub mod Lines
 pub mod Reading
 pub mod Text
 pub mod Generator
+pub mod Rows
+pub mod Kept

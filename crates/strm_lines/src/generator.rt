@@ -2,15 +2,16 @@
 //!
 //! Source: ours. The draws are those of the example of `rand` in the C standard.
 
-ghost use Rattle.std.specs.Prelude.{◌≡◌, ◌≢◌, ◌↔◌, ◌<◌, ℕ, IfOk, Err};
+ghost use Rattle.std.specs.Prelude.{◌≡◌, ◌≢◌, ◌↔◌, ◌<◌, ◌+◌, ◌∷◌, ℕ, drop, IfOk, Err};
 ghost use Rattle.std.specs.List.{range_with_len};
 ghost use Rattle.strm_lines.specs.Generator.{next_state, drawn, drawn_step, first_steps, generated};
 
 use crate::lists::Steps;
+use crate::one_by_one::GivesSteps;
 use crate::parsing::ParseError;
 use std::alloc::Global;
+use std::marker::Model;
 use strm_codes::codes::TransmitIndex;
-use strm_codes::counts::OutOfMemory;
 use strm_codes::payloads::Payload;
 use strm_codes::scalars::Scalar;
 use strm_machine::chunks::Chunk;
@@ -38,6 +39,63 @@ impl Draws {
     }
 }
 
+/// The generator's steps, each drawn when it is given. Contracts see it as the list of those that it has
+/// not given.
+#[derive(Drop)]
+pub struct Drawn {
+    // How many of the first four it has given.
+    begun: u32,
+    draws: Draws,
+    // How many it has still to draw.
+    count: u32,
+}
+
+impl Model for Drawn {
+    ghost use Rattle.std.specs.Prelude.{List, ◌++◌, drop};
+    ghost use Rattle.strm_machine.specs.declared.steps.Step.{Step};
+    ghost use Rattle.strm_lines.specs.Generator.{first_steps, drawn_steps};
+
+    ghost Value = { List Step };
+
+    ghost view = { λ d. drop d.begun first_steps ++ drawn_steps d.count d.draws.state };
+}
+
+impl Drawn {
+    /// So many steps behind the first four, from this seed.
+    pub fn new(count: u32, seed: u32) -> Drawn
+        ensures { result ≡ generated count seed }
+    {
+        Drawn {
+            begun: 0,
+            draws: Draws {
+                state: seed % (1 << 31),
+            },
+            count,
+        }
+    }
+}
+
+impl GivesSteps for Drawn {
+    ghost left = { λ d. d };
+
+    fn len(&self) -> usize {
+        4usize.saturating_sub(self.begun as usize) + self.count as usize
+    }
+
+    fn next(&mut self) -> Step {
+        if self.begun < 4 {
+            let step = first_step(self.begun);
+            self.begun += 1;
+            return step;
+        }
+        let first = self.draws.draw();
+        let second = self.draws.draw();
+        let third = self.draws.draw();
+        self.count -= 1;
+        drawn_step(first, second, third)
+    }
+}
+
 /// Four steps that make two guests, a stream of bytes from the one to the other, and bytes to write; and
 /// behind them so many that are drawn: writes, reads, events and moves.
 pub fn generate(alloc: Global, count: u32, seed: u32) -> Result<Steps, ParseError>
@@ -48,48 +106,31 @@ pub fn generate(alloc: Global, count: u32, seed: u32) -> Result<Steps, ParseErro
     if count > MAX_DRAWN {
         return Err(ParseError::TooLong);
     }
-    match generate_few(alloc, count, seed) {
+    let mut drawn = Drawn::new(count, seed);
+    match Steps::given(alloc, &mut drawn) {
         Ok(steps) => Ok(steps),
         Err(_) => Err(ParseError::OutOfMemory),
     }
 }
 
-// The same, where they are not too many.
-fn generate_few(alloc: Global, count: u32, seed: u32) -> Result<Steps, OutOfMemory>
-    ensures { IfOk result (λ steps. steps ≡ generated count seed) }
+// The first four steps, by their numbers from 0.
+fn first_step(number: u32) -> Step
+    requires { number < 4 }
+    ensures { drop number first_steps ≡ result ∷ drop (number + 1) first_steps }
 {
-    let mut steps = begin(alloc, count as usize)?;
-    let mut draws = Draws {
-        state: seed % (1 << 31),
-    };
-    for _ in 0..count {
-        let first = draws.draw();
-        let second = draws.draw();
-        let third = draws.draw();
-        steps.push(drawn_step(first, second, third))?;
+    match number {
+        0 | 1 => Step::Guest { size: 65_536 },
+        2 => Step::Between {
+            writer: 0,
+            reader: 1,
+            ty: BYTE_STREAM,
+        },
+        _ => Step::Poke {
+            guest: 0,
+            address: 0,
+            bytes: first_bytes(),
+        },
     }
-    Ok(steps)
-}
-
-// The first four steps, with room for so many behind them.
-fn begin(alloc: Global, count: usize) -> Result<Steps, OutOfMemory>
-    ensures { IfOk result (λ steps. steps ≡ first_steps) }
-{
-    let mut steps = Steps::new(alloc);
-    steps.reserve(count.saturating_add(4))?;
-    steps.push(Step::Guest { size: 65_536 })?;
-    steps.push(Step::Guest { size: 65_536 })?;
-    steps.push(Step::Between {
-        writer: 0,
-        reader: 1,
-        ty: BYTE_STREAM,
-    })?;
-    steps.push(Step::Poke {
-        guest: 0,
-        address: 0,
-        bytes: first_bytes(),
-    })?;
-    Ok(steps)
 }
 
 // The bytes 0 to 63.

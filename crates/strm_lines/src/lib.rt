@@ -7,6 +7,9 @@
 pub mod generator;
 mod lines;
 pub mod lists;
+pub mod one_by_one;
 pub mod parsing;
+pub mod replies;
+pub mod rows;
 pub mod texts;
 pub mod words;

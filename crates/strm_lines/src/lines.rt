@@ -3,7 +3,7 @@
 //! Here the commands stand in groups, those of most lines first; how arguments are read is in
 //! `arguments`. Source: ours.
 
-ghost use Rattle.std.specs.Prelude.{◌≡◌, ◌<◌, [], ◌∷◌, ◌++◌, true, is_some, vec_len, vec_capacity};
+ghost use Rattle.std.specs.Prelude.{◌≡◌, ◌<◌, [], ◌∷◌, ◌++◌, true, is_some};
 ghost use Rattle.std.specs.Option.{option_to_list};
 ghost use Rattle.strm_lines.specs.Reading.{touching, making, ending, moving, hosting, gathering, explaining, read_by, step_of};
 
@@ -13,29 +13,28 @@ use crate::lines::arguments::{
     end_and_guest, named_end, nothing, number_and_fed, number_and_type, operands, place_and_bytes,
     place_and_len, three_numbers, two_numbers, two_numbers_and_type,
 };
+use crate::one_by_one::TakesSteps;
 use crate::words::{behind, number};
 use strm_machine::acts::NamedEnd;
 use strm_machine::steps::Step;
 
-// Keeps what was read.
+// Keeps the step that was read.
 #[inline(always)]
-fn keep<T: Copy>(items: &mut Vec<T>, item: T) -> bool
-    requires room { vec_len items.old < vec_capacity items.old }
-    ensures items { items.new.items ≡ items.old.items ++ item ∷ [] }
+fn keep<L: TakesSteps>(steps: &mut L, step: Step) -> bool
+    requires room { 0 < L.room steps.old }
+    ensures items { L.steps steps.new ≡ L.steps steps.old ++ step ∷ [] }
     ensures found { result ≡ true }
-    ensures capacity { vec_capacity items.new ≡ vec_capacity items.old }
 {
-    items.push_reserved(item);
+    steps.take(step);
     true
 }
 
 // Keeps the step that a line spells, where it spells one: each is made where it is to lie.
 #[tactic(auto, unfolding(crate::specs::Reading::step_of, crate::specs::Reading::often))]
-pub(crate) fn keep_line(steps: &mut Vec<Step>, line: &[u8]) -> bool
-    requires room { vec_len steps.old < vec_capacity steps.old }
-    ensures items { steps.new.items ≡ steps.old.items ++ option_to_list (step_of line.now) }
+pub(crate) fn keep_line<L: TakesSteps>(steps: &mut L, line: &[u8]) -> bool
+    requires room { 0 < L.room steps.old }
+    ensures items { L.steps steps.new ≡ L.steps steps.old ++ option_to_list (step_of line.now) }
     ensures found { result ≡ is_some (step_of line.now) }
-    ensures capacity { vec_capacity steps.new ≡ vec_capacity steps.old }
 {
     if let Some(rest) = behind(line, b"write ") {
         let Some((NamedEnd { guest, ty, handle }, address, count)) = operands(rest) else {
@@ -77,11 +76,10 @@ pub(crate) fn keep_line(steps: &mut Vec<Step>, line: &[u8]) -> bool
 
 // Keeps that of a line that begins with a command of a guest's memory, or with one of those below.
 #[tactic(auto, unfolding(crate::specs::Reading::touching))]
-fn keep_touching(steps: &mut Vec<Step>, line: &[u8]) -> bool
-    requires room { vec_len steps.old < vec_capacity steps.old }
-    ensures items { steps.new.items ≡ steps.old.items ++ option_to_list (read_by touching line.now) }
+fn keep_touching<L: TakesSteps>(steps: &mut L, line: &[u8]) -> bool
+    requires room { 0 < L.room steps.old }
+    ensures items { L.steps steps.new ≡ L.steps steps.old ++ option_to_list (read_by touching line.now) }
     ensures found { result ≡ is_some (read_by touching line.now) }
-    ensures capacity { vec_capacity steps.new ≡ vec_capacity steps.old }
 {
     if let Some(rest) = behind(line, b"poke ") {
         let Some((guest, address, bytes)) = place_and_bytes(rest) else {
@@ -114,11 +112,10 @@ fn keep_touching(steps: &mut Vec<Step>, line: &[u8]) -> bool
 
 // The same of what makes guests and streams.
 #[tactic(auto, unfolding(crate::specs::Reading::making, crate::specs::Reading::behind))]
-fn keep_making(steps: &mut Vec<Step>, line: &[u8]) -> bool
-    requires room { vec_len steps.old < vec_capacity steps.old }
-    ensures items { steps.new.items ≡ steps.old.items ++ option_to_list (read_by making line.now) }
+fn keep_making<L: TakesSteps>(steps: &mut L, line: &[u8]) -> bool
+    requires room { 0 < L.room steps.old }
+    ensures items { L.steps steps.new ≡ L.steps steps.old ++ option_to_list (read_by making line.now) }
     ensures found { result ≡ is_some (read_by making line.now) }
-    ensures capacity { vec_capacity steps.new ≡ vec_capacity steps.old }
 {
     if let Some(rest) = behind(line, b"guest ") {
         let Some(size) = number(rest) else {
@@ -142,11 +139,10 @@ fn keep_making(steps: &mut Vec<Step>, line: &[u8]) -> bool
 
 // The same of drops and cancels.
 #[tactic(auto, unfolding(crate::specs::Reading::ending, crate::specs::Reading::behind))]
-fn keep_ending(steps: &mut Vec<Step>, line: &[u8]) -> bool
-    requires room { vec_len steps.old < vec_capacity steps.old }
-    ensures items { steps.new.items ≡ steps.old.items ++ option_to_list (read_by ending line.now) }
+fn keep_ending<L: TakesSteps>(steps: &mut L, line: &[u8]) -> bool
+    requires room { 0 < L.room steps.old }
+    ensures items { L.steps steps.new ≡ L.steps steps.old ++ option_to_list (read_by ending line.now) }
     ensures found { result ≡ is_some (read_by ending line.now) }
-    ensures capacity { vec_capacity steps.new ≡ vec_capacity steps.old }
 {
     if let Some(rest) = behind(line, b"drop-write ") {
         let Some(NamedEnd { guest, ty, handle }) = named_end(rest) else {
@@ -180,11 +176,10 @@ fn keep_ending(steps: &mut Vec<Step>, line: &[u8]) -> bool
 
 // The same of read ends that change their owner.
 #[tactic(auto, unfolding(crate::specs::Reading::moving))]
-fn keep_moving(steps: &mut Vec<Step>, line: &[u8]) -> bool
-    requires room { vec_len steps.old < vec_capacity steps.old }
-    ensures items { steps.new.items ≡ steps.old.items ++ option_to_list (read_by moving line.now) }
+fn keep_moving<L: TakesSteps>(steps: &mut L, line: &[u8]) -> bool
+    requires room { 0 < L.room steps.old }
+    ensures items { L.steps steps.new ≡ L.steps steps.old ++ option_to_list (read_by moving line.now) }
     ensures found { result ≡ is_some (read_by moving line.now) }
-    ensures capacity { vec_capacity steps.new ≡ vec_capacity steps.old }
 {
     if let Some(rest) = behind(line, b"move ") {
         let Some((NamedEnd { guest, ty, handle }, to)) = end_and_guest(rest) else {
@@ -216,11 +211,10 @@ fn keep_moving(steps: &mut Vec<Step>, line: &[u8]) -> bool
 
 // The same of host ends.
 #[tactic(auto, unfolding(crate::specs::Reading::hosting))]
-fn keep_hosting(steps: &mut Vec<Step>, line: &[u8]) -> bool
-    requires room { vec_len steps.old < vec_capacity steps.old }
-    ensures items { steps.new.items ≡ steps.old.items ++ option_to_list (read_by hosting line.now) }
+fn keep_hosting<L: TakesSteps>(steps: &mut L, line: &[u8]) -> bool
+    requires room { 0 < L.room steps.old }
+    ensures items { L.steps steps.new ≡ L.steps steps.old ++ option_to_list (read_by hosting line.now) }
     ensures found { result ≡ is_some (read_by hosting line.now) }
-    ensures capacity { vec_capacity steps.new ≡ vec_capacity steps.old }
 {
     if let Some(rest) = behind(line, b"host ") {
         let Some(host) = number(rest) else {
@@ -254,11 +248,10 @@ fn keep_hosting(steps: &mut Vec<Step>, line: &[u8]) -> bool
 
 // The same of waitable sets.
 #[tactic(auto, unfolding(crate::specs::Reading::gathering))]
-fn keep_gathering(steps: &mut Vec<Step>, line: &[u8]) -> bool
-    requires room { vec_len steps.old < vec_capacity steps.old }
-    ensures items { steps.new.items ≡ steps.old.items ++ option_to_list (read_by gathering line.now) }
+fn keep_gathering<L: TakesSteps>(steps: &mut L, line: &[u8]) -> bool
+    requires room { 0 < L.room steps.old }
+    ensures items { L.steps steps.new ≡ L.steps steps.old ++ option_to_list (read_by gathering line.now) }
     ensures found { result ≡ is_some (read_by gathering line.now) }
-    ensures capacity { vec_capacity steps.new ≡ vec_capacity steps.old }
 {
     if let Some(rest) = behind(line, b"set-new ") {
         let Some(guest) = number(rest) else {
@@ -287,11 +280,10 @@ fn keep_gathering(steps: &mut Vec<Step>, line: &[u8]) -> bool
 
 // The same of error contexts.
 #[tactic(auto, unfolding(crate::specs::Reading::explaining, crate::specs::Reading::behind))]
-fn keep_explaining(steps: &mut Vec<Step>, line: &[u8]) -> bool
-    requires room { vec_len steps.old < vec_capacity steps.old }
-    ensures items { steps.new.items ≡ steps.old.items ++ option_to_list (read_by explaining line.now) }
+fn keep_explaining<L: TakesSteps>(steps: &mut L, line: &[u8]) -> bool
+    requires room { 0 < L.room steps.old }
+    ensures items { L.steps steps.new ≡ L.steps steps.old ++ option_to_list (read_by explaining line.now) }
     ensures found { result ≡ is_some (read_by explaining line.now) }
-    ensures capacity { vec_capacity steps.new ≡ vec_capacity steps.old }
 {
     if let Some(rest) = behind(line, b"err-new ") {
         let Some((guest, address, len)) = three_numbers(rest) else {

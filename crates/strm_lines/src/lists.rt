@@ -2,8 +2,9 @@
 //!
 //! Source: ours.
 
-ghost use Rattle.std.specs.Prelude.{◌≡◌, ◌∷◌, ◌++◌, [], OnOk, OnErr};
+ghost use Rattle.std.specs.Prelude.{◌≡◌, ◌<◌, ◌≤◌, ◌+◌, ◌-◌, ◌∷◌, ◌++◌, [], IfOk, OnOk, OnErr, length, take, vec_len, vec_capacity};
 
+use crate::one_by_one::{GivesSteps, KeepsReplies, TakesSteps};
 use std::alloc::Global;
 use std::marker::Model;
 use strm_codes::counts::OutOfMemory;
@@ -21,9 +22,19 @@ fn push_item<T: Copy>(items: &mut Vec<T>, item: &T) -> Result<(), OutOfMemory>
     }
 }
 
+// Adds an item at the end, where there is room for it.
+#[inline(always)]
+fn push_item_reserved<T: Copy>(items: &mut Vec<T>, item: T)
+    requires { vec_len items.old < vec_capacity items.old }
+    ensures { items.new.items ≡ items.old.items ++ item ∷ [] }
+{
+    items.push_reserved(item);
+}
+
 // Makes room for so many items more.
 fn reserve_items<T>(items: &mut Vec<T>, additional: usize) -> Result<(), OutOfMemory>
-    ensures { items.new.items ≡ items.old.items }
+    ensures same { items.new.items ≡ items.old.items }
+    ensures ok { OnOk result (vec_len items.new + additional ≤ vec_capacity items.new) }
 {
     match items.reserve(additional) {
         Ok(()) => Ok(()),
@@ -56,6 +67,18 @@ impl Steps {
         }
     }
 
+    /// The steps that are given.
+    pub fn given<L: GivesSteps>(alloc: Global, given: &mut L) -> Result<Steps, OutOfMemory>
+        ensures { IfOk result (λ steps. steps ≡ L.left given.old) }
+    {
+        let mut steps = Steps::new(alloc);
+        steps.reserve(given.len())?;
+        for _ in 0..given.len() {
+            steps.push(given.next())?;
+        }
+        Ok(steps)
+    }
+
     // These steps.
     pub(crate) fn from_vec(items: Vec<Step>) -> Steps
         ensures { result ≡ items.items }
@@ -83,6 +106,70 @@ impl Steps {
         ensures { result.now ≡ self.now }
     {
         &self.items
+    }
+}
+
+impl TakesSteps for Vec<Step> {
+    ghost steps = { λ v. v.items };
+
+    ghost room = { λ v. vec_capacity v - vec_len v };
+
+    fn reserve(&mut self, additional: usize) -> Result<(), OutOfMemory> {
+        reserve_items(self, additional)
+    }
+
+    #[inline(always)]
+    fn make_room(&mut self) -> Result<(), OutOfMemory> {
+        if self.len() < self.capacity() {
+            Ok(())
+        } else {
+            reserve_items(self, 1)
+        }
+    }
+
+    #[inline(always)]
+    fn take(&mut self, step: Step) {
+        push_item_reserved(self, step);
+    }
+}
+
+/// The steps of a slice that were not yet given, seen as their list.
+#[derive(Drop)]
+pub struct StepsLeft<'a> {
+    steps: &'a [Step],
+}
+
+impl<'a> Model for StepsLeft<'a> {
+    ghost use Rattle.std.specs.Prelude.{List};
+    ghost use Rattle.strm_machine.specs.declared.steps.Step.{Step};
+
+    ghost Value = { List Step };
+
+    ghost view = { λ s. s.steps.now };
+}
+
+impl StepsLeft<'_> {
+    /// These steps.
+    pub fn new(steps: &[Step]) -> StepsLeft<'_>
+        ensures { result ≡ steps.now }
+    {
+        StepsLeft { steps }
+    }
+}
+
+impl GivesSteps for StepsLeft<'_> {
+    ghost left = { λ s. s };
+
+    fn len(&self) -> usize {
+        self.steps.len()
+    }
+
+    fn next(&mut self) -> Step {
+        let Some((first, rest)) = self.steps.split_first() else {
+            unreachable!()
+        };
+        self.steps = rest;
+        *first
     }
 }
 
@@ -131,6 +218,14 @@ impl Replies {
         ensures { result.now ≡ self.now }
     {
         &self.items
+    }
+}
+
+impl KeepsReplies for Replies {
+    ghost keeps = { λ replies told. replies ≡ told };
+
+    fn keep(&mut self, reply: &Reply) -> Result<(), OutOfMemory> {
+        self.push(*reply)
     }
 }
 
@@ -222,6 +317,20 @@ impl TextBytes {
             Ok(()) => Ok(()),
             Err(_) => Err(OutOfMemory),
         }
+    }
+
+    /// How many bytes there are.
+    pub fn len(&self) -> usize
+        ensures { result ≡ length self.now }
+    {
+        self.items.len()
+    }
+
+    // Leaves the first bytes alone.
+    pub(crate) fn truncate(&mut self, len: usize)
+        ensures { self.new ≡ take len self.old }
+    {
+        self.items.truncate(len);
     }
 
     /// The bytes, lent.

@@ -2,7 +2,7 @@
 //!
 //! Source: ours.
 
-ghost use Rattle.std.specs.Prelude.{◌≡◌, ◌≢◌, ◌∷◌, ◌≤◌, ◌<◌, ◌↔◌, ℕ, List, length, decimal, IfOk, MatchResult, Some, Err};
+ghost use Rattle.std.specs.Prelude.{◌≡◌, ◌≢◌, ◌∷◌, ◌≤◌, ◌<◌, ◌↔◌, ℕ, List, [], length, decimal, IfOk, OnOk, MatchResult, Some, Err};
 ghost use Rattle.strm_machine.specs.declared.steps.Step.{Step};
 ghost use Rattle.strm_lines.specs.Grammar.{IsU32};
 ghost use Rattle.strm_lines.specs.Lines.{lines_of, feeds, Spells, IsFirstBad, IsTooLong};
@@ -10,8 +10,10 @@ ghost use Rattle.strm_lines.specs.declared.parsing.ParseError.TheVariants.{OutOf
 
 use crate::lines::keep_line;
 use crate::lists::Steps;
+use crate::one_by_one::TakesSteps;
 use crate::words::{cut, number};
-use std::alloc::{AllocError, Global};
+use std::alloc::Global;
+use strm_codes::counts::OutOfMemory;
 use thiserror::Error;
 
 /// The most bytes of an input.
@@ -34,10 +36,10 @@ pub enum ParseError {
     OutOfMemory,
 }
 
-impl From<AllocError> for ParseError {
+impl From<OutOfMemory> for ParseError {
     ghost from_gives = { λ _ e. e ≡ NoMemory };
 
-    fn from(_error: AllocError) -> ParseError {
+    fn from(_error: OutOfMemory) -> ParseError {
         ParseError::OutOfMemory
     }
 }
@@ -55,6 +57,21 @@ pub fn parse(alloc: Global, bytes: &[u8]) -> Result<Steps, ParseError>
         ¬ IsTooLong bytes.now →
         MatchResult result (λ found. found ≡ steps) (λ error. error ≡ ParseError.OutOfMemory) }
 {
+    let mut steps = Vec::new(alloc);
+    match parse_onto(&mut steps, bytes) {
+        Ok(()) => Ok(Steps::from_vec(steps)),
+        Err(error) => Err(error),
+    }
+}
+
+/// The same, taken by what has taken no steps yet: those of the lines before, where one is bad.
+pub fn parse_onto<L: TakesSteps>(steps: &mut L, bytes: &[u8]) -> Result<(), ParseError>
+    requires none { L.steps steps.old ≡ [] }
+    ensures ok { OnOk result (Spells (lines_of bytes.now) (L.steps steps.new)) }
+    ensures too_long { (result ≡ Err ParseError.TooLong) ↔ IsTooLong bytes.now }
+    ensures bad_line { (line : ℕ) → result ≡ Err (ParseError.BadLine line) →
+        IsFirstBad (lines_of bytes.now) line }
+{
     if bytes.len() > MAX_BYTES {
         return Err(ParseError::TooLong);
     }
@@ -62,7 +79,7 @@ pub fn parse(alloc: Global, bytes: &[u8]) -> Result<Steps, ParseError>
     if lines > MAX_LINES {
         return Err(ParseError::TooLong);
     }
-    parse_lines(alloc, bytes, lines)
+    parse_lines(steps, bytes, lines)
 }
 
 /// The number that a word spells as it would in a line: in decimal, below 2^32 and without leading zeros.
@@ -121,25 +138,27 @@ fn count_few_feeds(bytes: &[u8]) -> u8
 }
 
 // The steps of an input of so many lines.
-fn parse_lines(alloc: Global, bytes: &[u8], lines: usize) -> Result<Steps, ParseError>
-    requires lines { lines ≡ length (lines_of bytes.now) }
-    requires few { lines ≤ 262144 }
-    ensures ok { IfOk result (λ steps. Spells (lines_of bytes.now) steps) }
+fn parse_lines<L: TakesSteps>(steps: &mut L, bytes: &[u8], lines: usize) -> Result<(), ParseError>
+    requires none { L.steps steps.old ≡ [] }
+    requires few { length (lines_of bytes.now) ≤ 262144 }
+    ensures ok { OnOk result (Spells (lines_of bytes.now) (L.steps steps.new)) }
     ensures within { result ≢ Err ParseError.TooLong }
     ensures bad_line { (line : ℕ) → result ≡ Err (ParseError.BadLine line) →
         IsFirstBad (lines_of bytes.now) line }
 {
-    let mut steps = Vec::with_capacity(alloc, lines)?;
+    steps.reserve(lines)?;
     let mut rest = bytes;
+    let mut line = 1;
     while !rest.is_empty() {
-        let (line, after) = first_line(rest);
-        if !keep_line(&mut steps, line) {
-            let line = steps.len() as u32 + 1;
+        let (first, after) = first_line(rest);
+        steps.make_room()?;
+        if !keep_line(steps, first) {
             return Err(ParseError::BadLine { line });
         }
+        line += 1;
         rest = after;
     }
-    Ok(Steps::from_vec(steps))
+    Ok(())
 }
 
 /// The first line, and what follows its line feed.

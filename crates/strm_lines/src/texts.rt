@@ -2,10 +2,11 @@
 //!
 //! Source: ours.
 
-ghost use Rattle.std.specs.Prelude.{◌≡◌, ◌++◌, ◌≤◌, ◌<◌, length, codes, decimal, Some, IfOk, OnOk, OnErr};
+ghost use Rattle.std.specs.Prelude.{◌≡◌, ◌∷◌, ◌++◌, [], ◌≤◌, ◌<◌, length, codes, decimal, Some, IfOk, OnOk, OnErr};
 ghost use Rattle.std.specs.List.{flat_map, count_by};
+ghost use Rattle.strm_lines.specs.Grammar.{words};
 ghost use Rattle.strm_lines.specs.Words.{hex_digit, hex_pairs};
-ghost use Rattle.strm_lines.specs.Text.{HasPart, ended, hex_word, reply_text, reply_lines, stream_text, stream_lines, done_text, transcript_text, is_refusal, is_blocked, summary_text, host_end_text, stop_text, stopped_text, usage_text, bad_line_text, too_long_text, read_fault_text};
+ghost use Rattle.strm_lines.specs.Text.{HasPart, ended, hex_word, count_text, reply_text, reply_lines, stream_text, stream_lines, done_text, transcript_text, is_refusal, is_blocked, summary_text, host_end_text, stop_text, stopped_text, usage_text, bad_line_text, too_long_text, read_fault_text};
 
 use crate::lists::TextBytes;
 use itoa::{Buffer, Integer};
@@ -158,7 +159,7 @@ fn push_bad_item(out: &mut TextBytes, stream: u32) -> Result<(), OutOfMemory>
 }
 
 // Adds the line of a reply.
-fn push_reply(out: &mut TextBytes, reply: &Reply) -> Result<(), OutOfMemory>
+pub(crate) fn push_reply(out: &mut TextBytes, reply: &Reply) -> Result<(), OutOfMemory>
     ensures ok { OnOk result (out.new ≡ out.old ++ ended (reply_text reply.now)) }
     ensures err { OnErr result (HasPart out.old out.new (ended (reply_text reply.now))) }
 {
@@ -235,7 +236,11 @@ pub fn push_done(out: &mut TextBytes, steps: usize) -> Result<(), OutOfMemory>
 }
 
 // Adds what every run ends with: the lines of its streams, and how many steps were done.
-fn push_ending(out: &mut TextBytes, moved: &[u128], steps: usize) -> Result<(), OutOfMemory>
+pub(crate) fn push_ending(
+    out: &mut TextBytes,
+    moved: &[u128],
+    steps: usize,
+) -> Result<(), OutOfMemory>
     ensures { OnOk result (out.new ≡ out.old ++ stream_lines 0 moved.now ++ ended (done_text steps)) }
 {
     push_streams(out, moved)?;
@@ -290,13 +295,33 @@ pub fn summary_text(
 ) -> Result<TextBytes, OutOfMemory>
     ensures ok { IfOk result (λ text. text ≡ summary_text replies.now moved.now) }
 {
+    counts_text(
+        alloc,
+        count_refusals(replies),
+        count_blocked(replies),
+        moved,
+        replies.len(),
+    )
+}
+
+// The summary of a run of which so many steps were refused, and so many reads and writes had to wait.
+pub(crate) fn counts_text(
+    alloc: Global,
+    refused: usize,
+    blocked: usize,
+    moved: &[u128],
+    steps: usize,
+) -> Result<TextBytes, OutOfMemory>
+    ensures { IfOk result (λ text. text ≡ ended (count_text (codes "refused") refused)
+        ++ ended (count_text (codes "blocked") blocked) ++ stream_lines 0 moved.now ++ ended (done_text steps)) }
+{
     let mut out = TextBytes::new(alloc);
     out.push_slice(b"refused ")?;
-    push_number(&mut out, count_refusals(replies))?;
+    push_number(&mut out, refused)?;
     out.push_slice(b"\nblocked ")?;
-    push_number(&mut out, count_blocked(replies))?;
+    push_number(&mut out, blocked)?;
     out.push(b'\n')?;
-    push_ending(&mut out, moved, replies.len())?;
+    push_ending(&mut out, moved, steps)?;
     Ok(out)
 }
 
@@ -342,11 +367,18 @@ pub fn stopped_text(alloc: Global, replies: &[Reply], stop: Stop) -> Result<Text
 {
     let mut out = TextBytes::new(alloc);
     push_replies(&mut out, replies)?;
-    out.push_slice(b"stopped ")?;
-    push_number(&mut out, replies.len() + 1)?;
-    out.push(b' ')?;
-    push_stop(&mut out, stop)?;
+    push_stopped(&mut out, replies.len() + 1, stop)?;
     Ok(out)
+}
+
+// Adds the line of the step of this number, from 1, at which a run stopped.
+pub(crate) fn push_stopped(out: &mut TextBytes, at: usize, stop: Stop) -> Result<(), OutOfMemory>
+    ensures { OnOk result (out.new ≡ out.old ++ ended (words (codes "stopped" ∷ decimal at ∷ stop_text stop ∷ []))) }
+{
+    out.push_slice(b"stopped ")?;
+    push_number(out, at)?;
+    out.push(b' ')?;
+    push_stop(out, stop)
 }
 
 /// The text for words of the program that are none of its own.

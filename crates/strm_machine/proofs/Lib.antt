@@ -38,3 +38,4 @@ pub mod PutLemmas
 pub mod AskedLemmas
 pub mod HostLemmas
 pub mod EmptyLemmas
+pub mod ShortStepLemmas

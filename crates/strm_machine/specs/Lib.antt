@@ -18,3 +18,4 @@ pub mod Hosting
 pub mod Moments
 pub mod Untouched
 pub mod Words
+pub mod ShortSteps

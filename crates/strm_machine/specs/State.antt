@@ -48,7 +48,7 @@ host_limit = 64
 
 -- a host writer that was never used
 abbrev pub no_producer : Producer
-no_producer = record { duty = Unused; over = false }
+no_producer = record { duty = Unused; over = false; holding = false }
 
 -- a host reader that was never used
 abbrev pub no_consumer : Consumer

@@ -9,6 +9,7 @@ pub mod acts;
 pub mod chunks;
 pub mod limits;
 pub mod replies;
+pub mod short_steps;
 pub mod steps;
 pub mod stops;
 pub mod streams;

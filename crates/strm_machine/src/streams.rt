@@ -57,6 +57,8 @@ pub struct Producer {
     pub duty: Duty,
     /// It answered Dropped: it has no more to come, and is not polled again.
     pub over: bool,
+    /// It holds items that it produced, as it said when it was last polled or gave some.
+    pub holding: bool,
 }
 
 /// What a store keeps of a host reader.

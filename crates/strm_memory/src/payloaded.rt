@@ -3,7 +3,7 @@
 //!
 //! Source: ours; wasmtime has `Lift` and `Lower`, which read and write a guest's memory.
 
-ghost use Rattle.std.specs.Prelude.{◌≡◌, ◌+◌, ◌*◌, ◌≤◌, ◌↔◌, [], ◌∷◌, length, map, IsSome, IsNone, IfSome};
+ghost use Rattle.std.specs.Prelude.{◌≡◌, ◌+◌, ◌*◌, ◌≤◌, ◌↔◌, [], ◌∷◌, length, map, Some, IsSome, IsNone, IfSome};
 ghost use Rattle.strm_codes.specs.Items.{FitsItem};
 ghost use Rattle.strm_codes.specs.Layout.{scalars_of, item_size};
 ghost use Rattle.strm_codes.specs.declared.payloads.Payload.TheVariants.{One};
@@ -57,10 +57,18 @@ pub trait Payloaded: Copy {
     fn take_bytes(values: &mut Vec<Self>) -> Option<Vec<u8>>
         ensures payload { IsSome result ↔ payload ≡ One U8 }
         ensures bytes { IfSome result (λ bytes. map item values.old.items ≡ byte_items bytes.items) }
+        ensures gone { IsSome result → values.new.items ≡ [] }
         ensures others { IsNone result → values.new ≡ values.old };
 
     // No two values are one item: so what is lowered is lifted again.
     ghost apart: { (x y : Self) → item x ≡ item y → x ≡ y };
+}
+
+/// The value that its own item is lifted to: the value itself.
+pub fn lifted_again<T: Payloaded>(value: &T) -> Option<T>
+    ensures { result ≡ Some value.now }
+{
+    T::lift(&value.lower())
 }
 
 /// Stores the items that these values are from the front of the bytes on, one behind the other.

@@ -2,7 +2,7 @@
 //!
 //! Source: ours; wasmtime has `Lift` and `Lower`, which read and write a guest's memory.
 
-ghost use Rattle.std.specs.Prelude.{◌≡◌, ◌↔◌, IsSome, IsNone, IfSome, pos, map};
+ghost use Rattle.std.specs.Prelude.{◌≡◌, ◌↔◌, [], IsSome, IsNone, IfSome, pos, map};
 ghost use Rattle.strm_codes.specs.Scalars.{FitsScalar};
 ghost use Rattle.strm_codes.specs.declared.scalars.Scalar.TheVariants.{U8};
 
@@ -39,6 +39,7 @@ pub trait Field: Copy {
     fn take_bytes(values: &mut Vec<Self>) -> Option<Vec<u8>>
         ensures scalar { IsSome result ↔ scalar ≡ U8 }
         ensures bytes { IfSome result (λ bytes. map number values.old.items ≡ map (λ b. pos b) bytes.items) }
+        ensures gone { IsSome result → values.new.items ≡ [] }
         ensures others { IsNone result → values.new ≡ values.old };
 
     // No two values are one number.

@@ -111,13 +111,13 @@ never_halts run told reply s h = let both : Ends (replies_of (moments start run)
 
 -- so it stops for want of memory alone
 pub stops_for_memory : (run : List Step) (told : List Reply) (cause : RunCause) → AreSettled (replies_of (moments start run)) → StopsBy run told cause → cause ≡ causes.OutOfMemory
-stops_for_memory run told cause s b = by_cause cause b.state b.at
+stops_for_memory run told cause s b = by_cause cause b.at
   where
-    by_cause : (cause : RunCause) (state : State) → StopsAt run told state cause → cause ≡ causes.OutOfMemory
-    by_cause causes.OutOfMemory state at = refl
-    by_cause (causes.BadItem n) state at = absurd (never_halts run told _ s at.halts)
-    by_cause (causes.HostFailed end) state at = absurd at
-    by_cause (causes.HostBroke end) state at = absurd at
+    by_cause : (cause : RunCause) → StopsAt run told cause → cause ≡ causes.OutOfMemory
+    by_cause causes.OutOfMemory at = refl
+    by_cause (causes.BadItem n) at = absurd (never_halts run told _ s at)
+    by_cause (causes.HostFailed end) at = absurd at
+    by_cause (causes.HostBroke end) at = absurd at
 
 -- THE LANES
 

@@ -1,7 +1,8 @@
 -- One poll through an offer over a write's region, by what the host reader's record says.
-use Rattle.std.proofs.Common.{◌≡◌, ℕ, zero, suc, ◌+◌, ◌*◌, ◌<◌, ◌≤◌, Bool, true, List, [], ◌∷◌, length, drop, Option, Some, None, refl, sym, ap, subst, ◌∙◌, arith}
+use Rattle.std.proofs.Common.{◌≡◌, ℕ, zero, suc, ◌+◌, ◌*◌, ◌<◌, ◌≤◌, Bool, true, false, List, [], ◌∷◌, ◌++◌, length, drop, Option, Some, None, refl, sym, ap, subst, ◌∙◌, arith}
 use Rattle.std.specs.Prelude.{◌==◌, ◌||◌, nat_lt, if◌then◌else◌, option_and_then, IsSome, IsNone}
 use Rattle.std.specs.Option.{option_map}
+use Rattle.std.proofs.lemmas.Bool.{ne_eqb}
 use Rattle.std.proofs.lemmas.Bool.Decides.{nat_tests}
 use Rattle.std.proofs.lemmas.List.{drop-drop}
 use Rattle.strm_codes.specs.declared.codes.StreamResult.{StreamResult}
@@ -13,7 +14,9 @@ use Rattle.strm_buffers.specs.declared.answers.Answer.{Answer}
 use Rattle.strm_buffers.specs.declared.answers.ReaderSaid.{ReaderSaid}
 use Rattle.strm_buffers.specs.declared.answers.Turn.{Turn}
 use Rattle.strm_buffers.specs.declared.sources.Source.{Source}
-use Rattle.strm_buffers.specs.Listing.{Item, listed, items_in}
+use Rattle.std.proofs.lemmas.Option.{slice_get-get_or}
+use Rattle.strm_buffers.specs.declared.sources.Source.TheVariants.{Listed}
+use Rattle.strm_buffers.specs.Listing.{Item, TypedItems, listed, items_in}
 use Rattle.strm_buffers.specs.Offers.{Offered, IsBadNext, IsMemoryOf}
 use Rattle.strm_buffers.specs.Said.{IfAnswered}
 use Rattle.strm_buffers.specs.Tells.{ReaderTells, PollsReader, reader_record, first_lent}
@@ -21,7 +24,9 @@ use Rattle.strm_machine.specs.State.{Guest, memory_in, with_memory}
 use Rattle.strm_machine.specs.declared.streams.Operation.{Operation}
 use Rattle.strm_machine.proofs.StateLemmas.{with_memory-same, with_memory-twice}
 use Rattle.strm_machine.proofs.CarryLemmas.{no_scalars}
+use Rattle.strm_memory.proofs.ItemLemmas.{items-add}
 use Rattle.strm_world.specs.Consuming.{lifted}
+use Rattle.strm_world.proofs.ReaderLemmas.{IsBadNext as BadBehind}
 use Rattle.strm_producing.specs.Regions.{region_address, lent_items}
 use Rattle.strm_producing.specs.ReaderPolls.{IsBadBehind, PollsFrom}
 use Rattle.strm_producing.proofs.RegionLemmas.{not_zero}
@@ -174,3 +179,41 @@ module _ (guests : List Guest) (payload : Payload) (write : Operation) where
 -- no more is taken than the write has left
 pub taken_few : (tells told : ReaderTells) (guests : List Guest) (payload : Payload) (since : ℕ) (write : Operation) (said : ReaderSaid) → PollsFrom tells told guests payload since write said → said.taken ≤ write.left
 taken_few tells told guests payload since write said p = omega (arith, p.polls.most, p.offered)
+
+-- ## A bad item behind others
+
+no_item : (o : Option Item) → IsNone o → o ≡ None
+no_item None h = refl
+no_item (Some x) h = cc
+
+then_none : (o : Option (List Item)) → option_and_then (λ xs. option_map (λ ys. xs ++ ys) None) o ≡ None
+then_none None = refl
+then_none (Some xs) = refl
+
+one_none : (ss : List Scalar) (bytes : List ℕ) → decode ss bytes ≡ None → items ss bytes 1 ≡ None
+unfolding items
+one_none fields bytes e = ap (λ o. option_and_then (λ x. option_map (λ xs. x ∷ xs) (Some [])) o) e
+
+more_none : (ss : List Scalar) (bytes : List ℕ) (n : ℕ) → IsNone (decode ss (drop (item_size ss * n) bytes)) → items ss bytes (n + 1) ≡ None
+more_none ss bytes n h =
+    items-add ss bytes n 1
+    ∙ ap (λ o. option_and_then (λ xs. option_map (λ ys. xs ++ ys) o) (items ss bytes n)) (one_none ss (drop (item_size ss * n) bytes) (no_item _ h))
+    ∙ then_none (items ss bytes n)
+
+none_listed : (o : Option (List Item)) (n : ℕ) → o ≡ None → length (listed o) == n + 1 ≡ false
+none_listed None n e = ne_eqb 0 (n + 1) (λ f. omega (arith, f))
+none_listed (Some xs) n e = cc
+
+-- the first bad item of a write is the one behind those that are items
+pub bad_behind : (guests : List Guest) (payload : Payload) (write : Operation) (n : ℕ) → IsBadBehind guests payload write n → BadBehind write.left (lifted guests payload write) n
+bad_behind guests payload write n b = record {
+  within = b.within;
+  bad = none_listed _ n (more_none (scalars_of payload) (drop write.address (memory_in guests write.guest)) n b.bad);
+}
+
+-- a list has no bad item
+pub no_bad : (ss : List Scalar) (source : Source) (items : TypedItems) (n : ℕ) (bad : Bool) → source ≡ Listed items → (bad ≡ true → IsBadNext ss source n) → bad ≡ false
+no_bad ss source items n false e h = refl
+no_bad ss source items n true e h =
+    let next = subst (λ s. IsBadNext ss s n) e (h refl) in
+    absurd (let some = slice_get-get_or items.items n [] next.0 in let wrong = sym next.1 ∙ some in cc)

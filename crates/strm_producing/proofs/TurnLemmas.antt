@@ -1,7 +1,8 @@
 -- What a turn does, by the held items that it handed over, or by the poll that it did.
-use Rattle.std.proofs.Common.{◌≡◌, ℕ, ◌+◌, ◌<◌, ◌≤◌, ◌*◌, Bool, true, false, List, [], ◌∷◌, length, take, drop, Some, Result, Ok, Err, refl, sym, ap, ◌∙◌, arith, length-append, length-take}
-use Rattle.std.specs.Prelude.{◌^◌, ◌||◌, sum}
+use Rattle.std.proofs.Common.{◌≡◌, ℕ, suc, ◌+◌, ◌<◌, ◌≤◌, ◌*◌, Bool, true, false, List, [], ◌∷◌, length, take, drop, Some, Result, Ok, Err, refl, sym, ap, ◌∙◌, arith, length-append, length-take}
+use Rattle.std.specs.Prelude.{◌^◌, ◌||◌, nat_lt, sum}
 use Rattle.std.proofs.lemmas.List.{take-append-drop}
+use Rattle.std.proofs.lemmas.Bool.Decides.{nat_tests}
 use Rattle.strm_codes.specs.Layout.{scalars_of, item_size}
 use Rattle.strm_codes.specs.declared.payloads.Payload.{Payload}
 use Rattle.strm_codes.specs.declared.codes.StreamResult.TheVariants as results
@@ -21,6 +22,7 @@ use Rattle.strm_machine.proofs.BoundLemmas.{address_room, not_out-front}
 use Rattle.strm_world.specs.Polls.{is_failed}
 use Rattle.strm_world.specs.Producing.{lowered, is_last, produced_result}
 use Rattle.strm_world.specs.Settling.{moved_on}
+use Rattle.strm_world.specs.Attaching.{has_items}
 use Rattle.strm_producing.specs.Polls.{PollsInto}
 use Rattle.strm_producing.specs.Turning.{Scene, scene, handed_over, ended, Stopped, judged_by, judged, Polled, TurnsEmpty, TurnsHolding}
 use Rattle.strm_producing.specs.declared.turns.TurnError.{TurnError}
@@ -33,10 +35,20 @@ room_behind guests payload read n h s a l =
     let front = not_out-front _ (scalars_of payload) read.address read.left n l h.inside in
     address_room (sizes_of guests) read.guest (scalars_of payload) read.address n h.there front s a
 
+-- ## What is held
+
+-- some are, where their number is above none
+pub any_held : (items : List Item) → nat_lt 0 (length items) ≡ has_items items
+any_held [] = refl
+any_held (item ∷ items) = some (length items)
+  where
+    some : (n : ℕ) → nat_lt 0 (suc n) ≡ true
+    some n = grind (arith, nat_tests)
+
 -- ## Without a poll
 
--- held items were lowered and counted, and the read was settled
-pub record Hands (guests after : List Guest) (stream moved : Stream) (tells told : WriterTells) (read : Operation) : Type 0 where
+-- held items were lowered and counted, the read was settled, and what is left is kept of the writer
+pub record Hands (guests after : List Guest) (stream moved : Stream) (producer kept : Producer) (tells told : WriterTells) (read : Operation) : Type 0 where
   pub items : List Item
   pub count : ℕ
   pub held : items ≡ take read.left tells.holds
@@ -44,10 +56,15 @@ pub record Hands (guests after : List Guest) (stream moved : Stream) (tells told
   pub lowers : after ≡ lowered guests stream.payload read items
   pub moves : moved ≡ moved_on Reading stream read count (Some results.Completed)
   pub gives : told ≡ given tells (Some read.left)
+  pub keeps : kept ≡ record producer { holding = nat_lt 0 (length told.holds) }
 
-pub handed : (guests after : List Guest) (stream moved : Stream) (producer : Producer) (tells told : WriterTells) (read : Operation) → Hands guests after stream moved tells told read
-    → scene after moved producer told ≡ handed_over (scene guests stream producer tells) read
-handed guests after stream moved producer tells told read h = rw (h.lowers, h.moves, h.gives, h.counted, h.held) refl
+pub handed : (guests after : List Guest) (stream moved : Stream) (producer kept : Producer) (tells told : WriterTells) (read : Operation) → Hands guests after stream moved producer kept tells told read
+    → scene after moved kept told ≡ handed_over (scene guests stream producer tells) read
+handed guests after stream moved producer kept tells told read h =
+    let left : has_items told.holds ≡ has_items (drop read.left tells.holds) = ap (λ (w : WriterTells). has_items w.holds) h.gives in
+    let kept_is : kept ≡ record producer { holding = has_items (drop read.left tells.holds) } =
+    h.keeps ∙ ap (λ b. record producer { holding = b }) (any_held told.holds ∙ left) in
+    rw (h.lowers, h.moves, kept_is, h.gives, h.counted, h.held) refl
 
 pub gone : (guests : List Guest) (stream moved : Stream) (producer : Producer) (tells : WriterTells) (read : Operation) → moved ≡ moved_on Reading stream read 0 (Some results.Dropped) → scene guests moved producer tells ≡ ended (scene guests stream producer tells) read
 gone guests stream moved producer tells read m = rw (m, lowered-none guests stream.payload read) refl
@@ -113,7 +130,10 @@ module _ (guests after : List Guest) (stream : Stream) (producer : Producer) (te
 
     -- what is kept of the writer
     abbrev pub noted : Producer
-    noted = record producer { over = producer.over || is_last answer }
+    noted = record producer { over = producer.over || is_last answer; holding = nat_lt 0 held }
+
+    noted_is : noted ≡ record producer { over = producer.over || is_last answer; holding = has_items (drop read.left p.said.items) }
+    noted_is = ap (λ b. record producer { over = producer.over || is_last answer; holding = b }) (ap (nat_lt 0) holds ∙ any_held told.holds ∙ ap has_items rest_held)
 
     -- the step goes on
     pub judged_passes : (moved : Stream) (kept : Producer) → judged stream.kind answer read (count + held) ≡ Ok tt → moved ≡ settled_read → kept ≡ noted → Polled (Ok tt) before (scene after moved kept told) read
@@ -124,7 +144,7 @@ module _ (guests after : List Guest) (stream : Stream) (producer : Producer) (te
             polled = p.polled;
             failed = rw p.answer_is fine.0;
             broke = rules ∙ fine.1;
-            after = rw (p.answer_is, m, k, p.lowers, p.received_is, rest_held) refl;
+            after = rw (p.answer_is, m, k ∙ noted_is, p.lowers, p.received_is, rest_held) refl;
           },
         )
 

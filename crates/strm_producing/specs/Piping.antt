@@ -1,6 +1,6 @@
 -- What the two polls of a pipe's round do to what they touch: the round's parts without the rest of the
 -- world. Ours.
-use Rattle.std.specs.Prelude.{◌≡◌, ℕ, ◌≤◌, Bool, true, false, ◌||◌, List, ◌++◌, length, take, drop, None, Result, Ok, Err}
+use Rattle.std.specs.Prelude.{◌≡◌, ℕ, ◌≤◌, true, false, ◌||◌, List, ◌++◌, length, take, drop, None, Result, Ok, Err}
 use Rattle.strm_codes.specs.declared.codes.TransmitKind.{TransmitKind}
 use Rattle.strm_buffers.specs.declared.answers.Answer.{Answer}
 use Rattle.strm_buffers.specs.declared.answers.Answer.TheVariants as answers
@@ -43,7 +43,7 @@ pub record IsFetched (old told : WriterTells) (said : WriterSaid) : Type 0 where
 -- such a poll, by what it produced and answered
 abbrev pub FetchedSo : WriterTells → WriterTells → List Item → Answer → Type 0
 FetchedSo old told items answer =
-    IsFetched old told (record { room = None; finish = false; items = items; answer = answer })
+    IsFetched old told (record { room = None; finish = false; payload = old.payload; items = items; answer = answer })
 
 -- what comes of it
 abbrev pub judged_fetch : TransmitKind → Answer → ℕ → Result (Unit {0}) TurnError
@@ -52,7 +52,7 @@ judged_fetch kind answer produced = judged_by (is_failed answer) (writer_breaks 
 -- after a poll with this record, that goes on: all its items are kept
 abbrev pub fetched : Fetching → WriterSaid → WriterTells → Fetching
 fetched old said told = record {
-  producer = record old.producer { over = old.producer.over || is_last said.answer };
+  producer = record old.producer { over = old.producer.over || is_last said.answer; holding = false };
   kept = said.items;
   tells = told;
 }
@@ -116,6 +116,8 @@ pub record PassedSo (old told : ReaderTells) (items : List Item) (since : ℕ) (
   pub offered : said.offered ≡ length items
   pub after : said.since ≡ since
   pub finish : said.finish ≡ false
+  -- each item of a list is one
+  pub good : said.bad ≡ false
 
 -- one that was offered all that is held
 abbrev pub IsPassed : Offering → ReaderTells → ReaderSaid → Type 0

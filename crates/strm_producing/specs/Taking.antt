@@ -37,6 +37,8 @@ pub record IsOffered (old : Taking) (told : ReaderTells) (write : Operation) (sa
   pub offered : said.offered ≡ write.left
   pub since : said.since ≡ old.consumer.since
   pub finish : said.finish ≡ write.asked
+  -- a bad item that it asked for is the next one
+  pub next : said.bad ≡ true → IsBadBehind old.guests old.stream.payload write said.taken
 
 -- after a poll with this record, that goes on: the write lost the items that were taken
 abbrev pub taken : Taking → Operation → ReaderSaid → ReaderTells → Taking
@@ -76,12 +78,11 @@ pub record Fails (old new : Taking) (write : Operation) (said : ReaderSaid) : Ty
   pub failed : said.answer ≡ answers.Failed
   pub after : new ≡ stopped old new.tells
 
--- a poll that didn't fail, and asked for an item that is none: it is the next one
+-- a poll that didn't fail, and asked for an item that is none
 pub record Spoils (old new : Taking) (write : Operation) (said : ReaderSaid) : Type 0 where
   pub polled : IsOffered old new.tells write said
   pub failed : is_failed said.answer ≡ false
   pub bad : said.bad ≡ true
-  pub next : IsBadBehind old.guests old.stream.payload write said.taken
   pub after : new ≡ stopped old new.tells
 
 -- a poll that broke the rules, and did neither

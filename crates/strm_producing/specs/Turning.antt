@@ -18,6 +18,7 @@ use Rattle.strm_machine.specs.declared.streams.Stream.{Stream}
 use Rattle.strm_world.specs.Polls.{is_failed}
 use Rattle.strm_world.specs.Producing.{lowered, is_last, produced_result}
 use Rattle.strm_world.specs.Settling.{moved_on}
+use Rattle.strm_world.specs.Attaching.{has_items}
 use Rattle.strm_producing.specs.Polls.{IsPolled}
 use Rattle.strm_producing.specs.declared.turns.TurnError.{TurnError}
 use Rattle.strm_producing.specs.declared.turns.TurnError.TheVariants.{Failed, OutOfMemory, Broke}
@@ -46,7 +47,10 @@ received old read items result = record old {
 -- held items are handed over, as many as there is room for
 abbrev pub handed_over : Scene → Operation → Scene
 handed_over old read =
-    record (received old read (take read.left old.tells.holds) (Some Completed)) { tells = given old.tells (Some read.left) }
+    record (received old read (take read.left old.tells.holds) (Some Completed)) {
+      producer = record old.producer { holding = has_items (drop read.left old.tells.holds) };
+      tells = given old.tells (Some read.left);
+    }
 
 -- a writer that has no more to come, and holds nothing, is gone
 abbrev pub ended : Scene → Operation → Scene
@@ -57,7 +61,10 @@ ended old read = received old read [] (Some Dropped)
 abbrev pub produced : Scene → Operation → WriterSaid → WriterTells → Scene
 produced old read said told =
     record (received old read (take read.left said.items) (produced_result said.answer (drop read.left said.items))) {
-      producer = record old.producer { over = old.producer.over || is_last said.answer };
+      producer = record old.producer {
+        over = old.producer.over || is_last said.answer;
+        holding = has_items (drop read.left said.items);
+      };
       tells = told;
     }
 

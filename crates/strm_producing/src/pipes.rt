@@ -10,7 +10,7 @@ ghost use Rattle.strm_producing.specs.Piping.{fetching, Fetches, offering, Offer
 
 use crate::settling::receive_some;
 use crate::taking::{TakeError, judge, since_after};
-use crate::turns::{TurnError, note_last};
+use crate::turns::{TurnError, note_answer};
 use std::alloc::Global;
 use std::mem;
 use strm_buffers::answers::{Answer, ReaderSaid};
@@ -23,7 +23,8 @@ use strm_buffers::writers::HostWriter;
 use strm_codes::codes::TransmitKind;
 use strm_codes::counts::OutOfMemory;
 use strm_codes::payloads::Payload;
-use strm_machine::streams::{Consumer, Producer, Stream};
+use strm_machine::streams::{Consumer, Producer};
+use strm_turns::channels::Channel;
 
 // One poll of a host writer that holds nothing, for as many items as it likes: those, and its answer.
 fn poll_all(
@@ -84,7 +85,7 @@ pub fn fetch(
         Ok(()) => {}
         Err(error) => return Err(error),
     }
-    note_last(producer, answer);
+    note_answer(producer, answer, 0);
     *kept = items;
     Ok(())
 }
@@ -157,7 +158,7 @@ fn poll_kept(
 /// holds, which is kept from then on. What it takes leaves the front.
 pub fn offer(
     alloc: Global,
-    stream: &mut Stream,
+    stream: &mut Channel,
     consumer: &mut Consumer,
     kept: &mut Items,
     writer: &mut Box<dyn HostWriter>,
@@ -179,7 +180,7 @@ pub fn offer(
         Ok(said) => said,
         Err(_) => return Err(TakeError::OutOfMemory),
     };
-    match judge(stream.kind, &said) {
+    match judge(stream.kind(), &said) {
         Ok(()) => {}
         Err(error) => return Err(error),
     }

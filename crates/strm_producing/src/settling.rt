@@ -3,19 +3,20 @@
 //! Meaning: `Settling.antt` of `strm_world`. Source: wasmtime, `futures_and_streams.rs`,
 //! `poll_produce` with what it does to `ReadState`.
 
-ghost use Rattle.std.specs.Prelude.{◌≡◌, ◌+◌, ◌*◌, ◌^◌, ◌<◌, ◌≤◌, List, length, Some};
+ghost use Rattle.std.specs.Prelude.{◌≡◌, ◌+◌, ◌*◌, ◌^◌, ◌<◌, ◌≤◌, List, length, true, Some, IsSomeAnd};
+ghost use Rattle.std.specs.Option.{option_map};
 ghost use Rattle.strm_codes.specs.Layout.{scalars_of, item_size};
 ghost use Rattle.strm_buffers.specs.Listing.{Item};
-ghost use Rattle.strm_machine.specs.Sides.{opposite};
+ghost use Rattle.strm_machine.specs.Sides.{opposite, end_of, with_end};
 ghost use Rattle.strm_world.specs.Producing.{produced_result};
 ghost use Rattle.strm_world.specs.Settling.{result_of, settled, with_some_received, let_go, moved_on};
 
 use strm_buffers::answers::Answer;
-use strm_codes::codes::{StreamResult, TransmitKind};
+use strm_codes::codes::StreamResult;
 use strm_codes::counts::ItemCount;
-use strm_machine::streams::{Operation, Owner, Side, Stream};
-use strm_turns::sides::{opposite, set_operation};
-use strm_turns::turns::go_on;
+use strm_machine::streams::{Operation, Owner, Side};
+use strm_turns::channels::Channel;
+use strm_turns::sides::opposite;
 
 /// So many items as a count.
 #[inline(always)]
@@ -52,41 +53,37 @@ pub fn produced_result(answer: Answer, held: usize) -> Option<StreamResult>
     }
 }
 
-// An operation that is settled so, if it is.
+// The operation on a side came out so, if it did.
 #[inline(always)]
-fn settle(operation: Operation, outcome: Option<StreamResult>) -> Operation
-    ensures { result ≡ settled outcome operation }
+fn settle(stream: &mut Channel, side: Side, outcome: Option<StreamResult>)
+    requires open { IsSomeAnd (end_of side stream.old).operation (λ operation.
+        operation.is_open ≡ true) }
+    ensures { stream.new ≡ with_end side stream.old (record (end_of side stream.old) {
+      operation = option_map (settled outcome) (end_of side stream.old).operation;
+    }) }
 {
-    let mut next = operation;
     if let Some(outcome) = outcome {
-        next.is_open = false;
-        next.met = true;
-        next.outcome = outcome;
+        stream.settle(side, outcome);
     }
-    next
 }
 
 /// So many items more were received, if any.
 #[inline(always)]
-pub fn receive_some(stream: &mut Stream, count: u32)
+pub fn receive_some(stream: &mut Channel, count: u32)
     ensures { stream.new ≡ with_some_received stream.old count }
 {
     if count > 0 {
-        stream.passed = stream.passed || stream.kind == TransmitKind::Future;
-        stream.received = stream.received.saturating_add(u128::from(count));
+        stream.receive(count);
     }
 }
 
 // A host end that is done with the stream is gone.
 #[inline(always)]
-fn let_go(stream: &mut Stream, side: Side, outcome: Option<StreamResult>)
+fn let_go(stream: &mut Channel, side: Side, outcome: Option<StreamResult>)
     ensures { stream.new ≡ let_go side outcome stream.old }
 {
     if outcome == Some(StreamResult::Dropped) {
-        match side {
-            Side::Writing => stream.writer.owner = Owner::Gone,
-            Side::Reading => stream.reader.owner = Owner::Gone,
-        }
+        stream.set_owner(side, Owner::Gone);
     }
 }
 
@@ -95,19 +92,21 @@ fn let_go(stream: &mut Stream, side: Side, outcome: Option<StreamResult>)
 #[inline(always)]
 #[tactic(auto, unfolding(strm_world::specs::Settling::moved_on))]
 pub fn move_on(
-    stream: &mut Stream,
+    stream: &mut Channel,
     side: Side,
     operation: &Operation,
     count: ItemCount,
     outcome: Option<StreamResult>,
 )
+    requires waiting { (end_of side stream.old).operation ≡ Some operation.now }
+    requires open { operation.now.is_open ≡ true }
     requires left { count ≤ operation.now.left }
     requires counted { operation.now.moved + operation.now.left < 2 ^ 28 }
     requires room { operation.now.address + item_size (scalars_of stream.old.payload) * count < 2 ^ 32 }
     ensures { stream.new ≡ moved_on side stream.old operation.now count outcome }
 {
-    let gone = go_on(stream.payload, operation, count);
+    stream.progress(side, count);
+    settle(stream, side, outcome);
     receive_some(stream, count.as_u32());
-    set_operation(stream, side, settle(gone, outcome));
     let_go(stream, opposite(side), outcome);
 }

@@ -3,7 +3,7 @@
 //! Meaning: `Consuming.antt` of `strm_world`. Source: wasmtime, `futures_and_streams.rs`,
 //! `guest_write` with `ReadState::HostReady`, and what `set_consumer` makes of it.
 
-ghost use Rattle.std.specs.Prelude.{◌≡◌, ◌≤◌, sum};
+ghost use Rattle.std.specs.Prelude.{◌≡◌, ◌≤◌, true, sum, Some};
 ghost use Rattle.strm_machine.specs.Soundness.{sizes_of, IsPlaced};
 ghost use Rattle.strm_world.specs.Settling.{since_after};
 ghost use Rattle.strm_turns.specs.Guests.{seen};
@@ -15,7 +15,8 @@ use std::alloc::Global;
 use strm_buffers::answers::{Answer, ReaderSaid};
 use strm_buffers::readers::HostReader;
 use strm_codes::codes::TransmitKind;
-use strm_machine::streams::{Consumer, Operation, Side, Stream};
+use strm_machine::streams::{Consumer, Operation, Side};
+use strm_turns::channels::Channel;
 use strm_turns::guests::Guest;
 use thiserror::Error;
 
@@ -69,11 +70,13 @@ pub(crate) fn since_after(answer: Answer, since: u32, taken: u32) -> u32
 fn poll_once(
     alloc: Global,
     guests: &mut Vec<Guest>,
-    stream: &mut Stream,
+    stream: &mut Channel,
     consumer: &mut Consumer,
     reader: &mut Box<dyn HostReader>,
     write: Operation,
 ) -> Result<(), TakeError>
+    requires waiting { stream.old.writer.operation ≡ Some write }
+    requires open { write.is_open ≡ true }
     requires placed { IsPlaced (sizes_of (seen guests.old.items)) stream.old.payload write }
     requires sizes { sum (sizes_of (seen guests.old.items)) ≤ 268435456 }
     requires payload { (reader_tells reader.old).payload ≡ stream.old.payload }
@@ -82,11 +85,11 @@ fn poll_once(
         (taking (seen guests.new.items) stream.new consumer.new (reader_tells reader.new)) write }
 {
     let since = consumer.since;
-    let said = match poll_from(alloc, guests, &stream.payload, reader, &write, since) {
+    let said = match poll_from(alloc, guests, &stream.payload(), reader, &write, since) {
         Ok(said) => said,
         Err(_) => return Err(TakeError::OutOfMemory),
     };
-    match judge(stream.kind, &said) {
+    match judge(stream.kind(), &said) {
         Ok(()) => {}
         Err(error) => return Err(error),
     }
@@ -102,11 +105,13 @@ fn poll_once(
 pub fn consumer_turn(
     alloc: Global,
     guests: &mut Vec<Guest>,
-    stream: &mut Stream,
+    stream: &mut Channel,
     consumer: &mut Consumer,
     reader: &mut Box<dyn HostReader>,
     write: &Operation,
 ) -> Result<(), TakeError>
+    requires waiting { stream.old.writer.operation ≡ Some write.now }
+    requires open { write.now.is_open ≡ true }
     requires placed { IsPlaced (sizes_of (seen guests.old.items)) stream.old.payload write.now }
     requires sizes { sum (sizes_of (seen guests.old.items)) ≤ 268435456 }
     requires payload { (reader_tells reader.old).payload ≡ stream.old.payload }

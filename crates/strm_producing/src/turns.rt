@@ -3,7 +3,7 @@
 //! Meaning: `Producing.antt` of `strm_world`. Source: wasmtime, `futures_and_streams.rs`,
 //! `guest_read` with `WriteState::HostReady`, and what `set_producer` makes of it.
 
-ghost use Rattle.std.specs.Prelude.{◌≡◌, ◌+◌, ◌^◌, ◌<◌, ◌≤◌, ◌||◌, [], sum, Some};
+ghost use Rattle.std.specs.Prelude.{◌≡◌, ◌+◌, ◌^◌, ◌<◌, ◌≤◌, ◌||◌, [], true, nat_lt, sum, Some};
 ghost use Rattle.strm_codes.specs.declared.codes.StreamResult.TheVariants.{Dropped};
 ghost use Rattle.strm_machine.specs.declared.streams.Side.TheVariants.{Reading};
 ghost use Rattle.strm_world.specs.Producing.{is_last};
@@ -21,7 +21,8 @@ use strm_buffers::boxes::{give, held_by};
 use strm_buffers::writers::HostWriter;
 use strm_codes::codes::{StreamResult, TransmitKind};
 use strm_codes::counts::ItemCount;
-use strm_machine::streams::{Operation, Producer, Side, Stream};
+use strm_machine::streams::{Operation, Producer, Side};
+use strm_turns::channels::Channel;
 use strm_turns::guests::Guest;
 use thiserror::Error;
 
@@ -39,12 +40,20 @@ pub enum TurnError {
     Broke,
 }
 
-/// A writer that answered Dropped has no more to come.
-pub(crate) fn note_last(producer: &mut Producer, answer: Answer)
+// Whether a writer holds items is kept of it.
+fn note_held(producer: &mut Producer, held: usize)
+    ensures { producer.new ≡ record producer.old { holding = nat_lt 0 held } }
+{
+    producer.holding = held > 0;
+}
+
+/// A writer that answered Dropped has no more to come, and so many items are held.
+pub(crate) fn note_answer(producer: &mut Producer, answer: Answer, held: usize)
     ensures { producer.new ≡
-        record producer.old { over = producer.old.over || is_last answer } }
+        record producer.old { over = producer.old.over || is_last answer; holding = nat_lt 0 held } }
 {
     producer.over = producer.over || answer == Answer::Dropped;
+    note_held(producer, held);
 }
 
 // Why an answer to a poll for a read, in which so many items were produced, stops the step, if it does.
@@ -71,23 +80,26 @@ fn judge(
 fn hand_over(
     alloc: Global,
     guests: &mut Vec<Guest>,
-    stream: &mut Stream,
+    stream: &mut Channel,
+    producer: &mut Producer,
     writer: &mut Box<dyn HostWriter>,
     read: Operation,
 )
+    requires waiting { stream.old.reader.operation ≡ Some read }
+    requires open { read.is_open ≡ true }
     requires placed { IsPlaced (sizes_of (seen guests.old.items)) stream.old.payload read }
     requires sizes { sum (sizes_of (seen guests.old.items)) ≤ 268435456 }
     requires payload { (writer_tells writer.old).payload ≡ stream.old.payload }
-    ensures { (producer : Producer) →
-        scene (seen guests.new.items) stream.new producer (writer_tells writer.new) ≡
-        handed_over (scene (seen guests.old.items) stream.old producer (writer_tells writer.old)) read }
+    ensures { scene (seen guests.new.items) stream.new producer.new (writer_tells writer.new) ≡
+        handed_over (scene (seen guests.old.items) stream.old producer.old (writer_tells writer.old)) read }
 {
-    let mut window = lend_region(alloc, guests, &stream.payload, &read);
+    let mut window = lend_region(alloc, guests, &stream.payload(), &read);
     match give(writer, &mut window) {
         Ok(()) => {}
         Err(_) => unreachable!(),
     }
     let marked = return_region(guests, read.guest, window);
+    note_held(producer, held_by(writer));
     let count = count_of(marked);
     move_on(
         stream,
@@ -100,8 +112,10 @@ fn hand_over(
 
 // A writer that has no more to come, and holds nothing, is gone.
 #[inline(always)]
-fn end_read(stream: &mut Stream, read: Operation)
-    requires { read.moved + read.left < 2 ^ 28 }
+fn end_read(stream: &mut Channel, read: Operation)
+    requires waiting { stream.old.reader.operation ≡ Some read }
+    requires open { read.is_open ≡ true }
+    requires counted { read.moved + read.left < 2 ^ 28 }
     ensures { stream.new ≡ moved_on Reading stream.old read 0 (Some Dropped) }
 {
     move_on(
@@ -118,11 +132,13 @@ fn end_read(stream: &mut Stream, read: Operation)
 fn poll_once(
     alloc: Global,
     guests: &mut Vec<Guest>,
-    stream: &mut Stream,
+    stream: &mut Channel,
     producer: &mut Producer,
     writer: &mut Box<dyn HostWriter>,
     read: Operation,
 ) -> Result<(), TurnError>
+    requires waiting { stream.old.reader.operation ≡ Some read }
+    requires open { read.is_open ≡ true }
     requires placed { IsPlaced (sizes_of (seen guests.old.items)) stream.old.payload read }
     requires sizes { sum (sizes_of (seen guests.old.items)) ≤ 268435456 }
     requires payload { (writer_tells writer.old).payload ≡ stream.old.payload }
@@ -131,16 +147,16 @@ fn poll_once(
         (scene (seen guests.old.items) stream.old producer.old (writer_tells writer.old))
         (scene (seen guests.new.items) stream.new producer.new (writer_tells writer.new)) read }
 {
-    let (answer, marked) = match poll_into(alloc, guests, &stream.payload, writer, &read) {
+    let (answer, marked) = match poll_into(alloc, guests, &stream.payload(), writer, &read) {
         Ok(polled) => polled,
         Err(_) => return Err(TurnError::OutOfMemory),
     };
     let held = held_by(writer);
-    match judge(stream.kind, answer, &read, marked as usize + held) {
+    match judge(stream.kind(), answer, &read, marked as usize + held) {
         Ok(()) => {}
         Err(error) => return Err(error),
     }
-    note_last(producer, answer);
+    note_answer(producer, answer, held);
     let count = count_of(marked);
     move_on(
         stream,
@@ -158,11 +174,13 @@ fn poll_once(
 pub fn producer_turn(
     alloc: Global,
     guests: &mut Vec<Guest>,
-    stream: &mut Stream,
+    stream: &mut Channel,
     producer: &mut Producer,
     writer: &mut Box<dyn HostWriter>,
     read: &Operation,
 ) -> Result<(), TurnError>
+    requires waiting { stream.old.reader.operation ≡ Some read.now }
+    requires open { read.now.is_open ≡ true }
     requires placed { IsPlaced (sizes_of (seen guests.old.items)) stream.old.payload read.now }
     requires sizes { sum (sizes_of (seen guests.old.items)) ≤ 268435456 }
     requires payload { (writer_tells writer.old).payload ≡ stream.old.payload }
@@ -171,7 +189,7 @@ pub fn producer_turn(
         (scene (seen guests.new.items) stream.new producer.new (writer_tells writer.new)) read.now }
 {
     if held_by(writer) > 0 {
-        hand_over(alloc, guests, stream, writer, *read);
+        hand_over(alloc, guests, stream, producer, writer, *read);
         return Ok(());
     }
     if producer.over {

@@ -1,5 +1,5 @@
 -- Plays among host ends, step by step, on whatever records are yet to come.
-use Rattle.std.proofs.Common.{◌≡◌, ℕ, ◌+◌, ◌≤◌, List, [], ◌∷◌, ◌++◌, length, take, drop, suc, Ok, Err, Option, Some, None, refl, sym, ap, subst, ◌∙◌, append_assoc, arith}
+use Rattle.std.proofs.Common.{◌≡◌, ℕ, ◌+◌, ◌≤◌, false, List, [], ◌∷◌, ◌++◌, length, take, drop, suc, Ok, Err, Option, Some, None, refl, sym, ap, subst, ◌∙◌, append_assoc, arith}
 use Rattle.std.proofs.Math.Seq.{split_at, drop-length}
 use Rattle.std.proofs.lemmas.List.{append-nil, take_all}
 use Rattle.std.proofs.Math.Nat.{le_trans}
@@ -11,10 +11,20 @@ use Rattle.strm_machine.specs.declared.stops.Stop.{Stop}
 use Rattle.strm_machine.specs.declared.streams.HostEnd.{HostEnd}
 use Rattle.strm_world.specs.Outcomes.{Outcome}
 use Rattle.strm_world.specs.Steps.{step_of}
-use Rattle.strm_world.specs.HostPlays.{play, after_step}
-use Rattle.strm_world.specs.Does.{Logs, Begins, AllBegin, saids, Extends, world_of, faults_of, Caused, Does, RunsTo, AreSupplied}
+use Rattle.strm_world.specs.HostPlays.{play, after_step, Ends}
+use Rattle.strm_world.specs.World.{World}
+use Rattle.strm_world.specs.Asking.{GuestAsksBad, AsksBadItem, ByGuest, InCall, InDrive}
+use Rattle.strm_world.proofs.AskingLemmas.{stops-asks, asks-stops}
+use Rattle.strm_machine.specs.Reactions.{Reaction}
+use Rattle.strm_machine.specs.declared.stops.Stop.TheVariants.{BadItem}
+use Rattle.strm_machine.proofs.AskedLemmas.{bad-traps}
+use Rattle.std.specs.Prelude.{slice_get}
+use Rattle.std.proofs.lemmas.Option.{slice_get_within, slice_get-get_or}
+use Rattle.strm_world.specs.Does.{Logs, Begins, AllBegin, saids, Extends, world_of, spent, faults_of, Caused, Does, RunsTo, AreSupplied}
 use Rattle.strm_world.proofs.DoesLemmas.{rose_more}
-use Rattle.strm_session.specs.Runs.{start, start_among, stop_of, HaltsBy, Raised, StopsAmong, HostsGoOn}
+use Rattle.strm_session.specs.Records.{HostsGoOn}
+use Rattle.strm_session.specs.Runs.{start, start_among, stop_of, HaltsBy, Raised, StaysThere, StopsAsking, WantsUnmet, StopsAmong, WantsThere, Before, Behind, InPoll, StopsWanting, WantsStep, MayPoll, Untouched, Unkept, LeavesWanting}
+use Rattle.strm_transmit.specs.Hosted.{lone}
 use Rattle.strm_session.specs.declared.runs.RunCause.{RunCause}
 use Rattle.strm_session.specs.declared.runs.RunCause.TheVariants as causes
 use Rattle.strm_session.proofs.PlayLemmas.{IsAt, take-at}
@@ -33,7 +43,7 @@ extends_self tells = (all_begin_self (saids tells).writers, all_begin_self (said
 
 -- a call that did nothing to host ends
 pub goes_on_itself : (tells : Tells) → HostsGoOn tells tells
-goes_on_itself tells = record { begins = extends_self tells; faults = λ end. omega arith }
+goes_on_itself tells = record { begins = extends_self tells; faults = λ end. omega arith; supplied = λ s. s }
 
 pub goes_on_same : (old new : Tells) → new ≡ old → HostsGoOn old new
 goes_on_same old new e = subst (HostsGoOn old) (sym e) (goes_on_itself old)
@@ -85,19 +95,96 @@ module _ (old now new : Tells) (steps : List Step) (k : ℕ) (step : Step) (told
   raised_by (causes.HostFailed end) c = rose_more (faults_of old end) (faults_of now end) (faults_of new end) (l.faults end) c
   raised_by _ c = tt
 
-  -- a step that stops a run stops it so
-  pub stops_among : (cause : RunCause) → length told ≡ k → Does state next now new (Err (stop_of cause)) (λ w. step_of w step) → StopsAmong old new steps told cause
-  stops_among cause n d =
-      let logs = saids new in
+  -- the machine's world before this step, on all records that are told in the end
+  abbrev before_it : World
+  before_it = world_of state now (saids new)
+
+  led_before : (stop : Option Stop) → length told ≡ k → Does state next now new (Err stop) (λ w. step_of w step) → play [] (start_among old new) (take (length told) steps) ≡ Ends told before_it
+  led_before stop n d =
+      ap (λ m. play [] (start_among old new) (take m steps)) n
+      ∙ ap (play [] (start_among old new)) (sym (append-nil (take k steps)))
+      ∙ (l.led (saids new) (d.begins (saids new) (extends_self new))).goes_on []
+
+  -- at a bad item guests move nothing
+  stays_there : (s : ℕ) (a : AsksBadItem before_it step s) → state.trapped ≡ false → StaysThere before_it step s a
+  stays_there s (ByGuest g) t = ap (λ (r : Reaction). r.state) (bad-traps state step s t g.asks)
+  stays_there s (InCall c) t = tt
+  stays_there s (InDrive d) t = tt
+
+  -- a step that stops at a bad item asks for it, and nothing moves
+  asking : (cause : RunCause) → length told ≡ k → state.trapped ≡ false → Does state next now new (Err (stop_of cause)) (λ w. step_of w step) → StopsAsking (start_among old new) steps told new cause
+  asking (causes.BadItem s) n t d =
+      let gives = d.gives (saids new) (extends_self new) in
+      let a = stops-asks before_it step t s _ _ gives in
+      let same = sym gives ∙ asks-stops before_it step t s a in
       record {
-        world = world_of state now logs;
-        before =
-            ap (λ m. play [] (start_among old new) (take m steps)) n
-            ∙ ap (play [] (start_among old new)) (sym (append-nil (take k steps)))
-            ∙ (l.led logs (d.begins logs (extends_self new))).goes_on [];
-        halts = halts_by (stop_of cause) d;
-        raised = raised_by cause d.cause;
+        asks = record {
+          world = before_it;
+          before = led_before (Some (BadItem s)) n d;
+          step = step;
+          next = ap (slice_get steps) n ∙ slice_get-get_or steps k step at.inside ∙ ap Some at.is;
+          bad = a;
+        };
+        stays = stays_there s a t;
+        state = next;
+        writers = cc;
+        readers = cc;
       }
+  asking _ n t d = tt
+
+  -- in a step that wants memory guests do not meet at a bad item
+  unmet_there : (cause : RunCause) → length told ≡ k → (cause ≡ causes.OutOfMemory → (s : ℕ) → GuestAsksBad (lone state) step s → ⊥) → WantsUnmet before_it steps told cause
+  unmet_there causes.OutOfMemory n m = λ other s next g.
+      let here : slice_get steps (length told) ≡ Some step = ap (slice_get steps) n ∙ slice_get-get_or steps k step at.inside ∙ ap Some at.is in
+      let both = sym next ∙ here in
+      let same : other ≡ step = cc in
+      let met = subst (λ x. GuestAsksBad before_it x s) same g in
+      m refl s (record { asks = met.asks; unhosted = met.unhosted })
+  unmet_there (causes.BadItem s) n m = tt
+  unmet_there (causes.HostFailed end) n m = tt
+  unmet_there (causes.HostBroke end) n m = tt
+
+  -- a step that stops a run stops it so
+  pub stops_among : (cause : RunCause) → length told ≡ k → state.trapped ≡ false → (cause ≡ causes.OutOfMemory → (s : ℕ) → GuestAsksBad (lone state) step s → ⊥) → Does state next now new (Err (stop_of cause)) (λ w. step_of w step) → StopsAmong old new steps told cause
+  stops_among cause n t m d = record {
+    world = before_it;
+    before = led_before (stop_of cause) n d;
+    halts = halts_by (stop_of cause) d;
+    raised = raised_by cause d.cause;
+    asks = asking cause n t d;
+    unmet = unmet_there cause n m;
+  }
+
+-- what host ends tell where the step of number k found no memory
+module _ (old now new : Tells) (steps : List Step) (k : ℕ) (step : Step) (told : List Reply) (state next : State) (at : IsAt steps k step) (l : LedAmong old steps k told state now) (n : length told ≡ k) where
+  abbrev among : World
+  among = start_among old new
+
+  -- the replies so far, on the records that are told in the end
+  replied : Extends now (saids new) → play [] among (take (length told) steps) ≡ Ends told (world_of state now (saids new))
+  replied e =
+      ap (λ m. play [] among (take m steps)) n
+      ∙ ap (play [] among) (sym (append-nil (take k steps)))
+      ∙ (l.led (saids new) e).goes_on []
+
+  untouched : new ≡ now → play [] among (take (length told) steps) ≡ Ends told (spent state new)
+  untouched same = replied (subst (λ t. Extends now (saids t)) (sym same) (extends_self now)) ∙ ap (λ t. Ends told (world_of state t (saids new))) (sym same)
+
+  pub wants_there : Extends now (saids new) → WantsStep state next now new step → WantsThere among steps told new
+  wants_there e (MayPoll p) = InPoll (world_of state now (saids new)) step (replied e) (ap (slice_get steps) n ∙ slice_get-get_or steps k step at.inside ∙ ap Some at.is) p
+  wants_there e (Untouched s same) = Before state (untouched same)
+  wants_there e (Unkept reply d) =
+      let more = led_more old now new steps k step told state next at l reply d in
+      Behind reply next
+      (ap (λ m. play [] among (take (m + 1) steps)) n
+      ∙ ap (play [] among) (sym (append-nil (take (k + 1) steps)))
+      ∙ (more.led (saids new) (extends_self new)).goes_on [])
+
+  pub wanting_there : (cause : RunCause) → Extends now (saids new) → LeavesWanting state next now new step cause → StopsWanting among steps told new (stop_of cause)
+  wanting_there causes.OutOfMemory e w = wants_there e w
+  wanting_there (causes.HostFailed end) e w = tt
+  wanting_there (causes.HostBroke end) e w = tt
+  wanting_there (causes.BadItem s) e w = tt
 
 -- the records of before stay in front
 pub begins_among : (old new : Tells) (steps : List Step) (k : ℕ) (told : List Reply) (state : State) (now : Tells) → LedAmong old steps k told state now → Extends now (saids new) → Extends old (saids new)
@@ -116,4 +203,6 @@ stops_behind old new steps told state n r = record {
   before = ap (play [] (start_among old new)) (take_all (length told) steps (omega (arith, n))) ∙ r;
   halts = tt;
   raised = tt;
+  asks = tt;
+  unmet = λ step s next g. let inside = slice_get_within steps (length told) step next in absurd (omega (arith, inside, n));
 }

@@ -1,5 +1,5 @@
 -- The generator's steps are of guests alone, and each item that they move is one.
-use Rattle.std.proofs.Common.{◌≡◌, ℕ, zero, suc, ◌%◌, ◌^◌, ◌<◌, ◌==◌, true, List, [], ◌∷◌, ◌++◌, length, drop, min, Some, None, refl, sym, ap, ◌∙◌, subst, ⊎_elim, ◌≤◌, arith}
+use Rattle.std.proofs.Common.{◌≡◌, ℕ, zero, suc, ◌%◌, ◌^◌, ◌<◌, ◌==◌, true, List, [], ◌∷◌, ◌++◌, length, take, drop, min, Some, None, refl, sym, ap, ◌∙◌, subst, ⊎_elim, ◌≤◌, arith}
 use Rattle.std.specs.Prelude.{All, is_some, nat_lt, slice_get}
 use Rattle.std.specs.List.{range_with_len}
 use Rattle.std.proofs.lemmas.Bool.{cond_both, cases_lt}
@@ -18,7 +18,15 @@ use Rattle.strm_machine.specs.Sides.{write_of}
 use Rattle.strm_machine.specs.Tests.{named, stream_named}
 use Rattle.strm_machine.specs.Refusals.{refusal, region_reasons, handle_reasons, own_reasons}
 use Rattle.strm_machine.specs.Soundness.{IsSound}
-use Rattle.strm_machine.specs.Asked.{HasBadItem}
+use Rattle.strm_buffers.specs.Tells.{Tells}
+use Rattle.strm_machine.specs.declared.streams.Side.TheVariants.{Writing}
+use Rattle.strm_world.specs.World.{World, stream_in}
+use Rattle.strm_world.specs.HostPlays.{Played, play, Ends}
+use Rattle.strm_world.specs.HostRefusals.{refusal_in}
+use Rattle.strm_world.specs.Asking.{AsksBadItem, ByGuest, InCall, InDrive, asked_by, with_write}
+use Rattle.strm_world.proofs.AskingLemmas.{opened-payload}
+use Rattle.strm_world.proofs.OutcomeLemmas.{refusal_in-on_end}
+use Rattle.strm_host_laws.specs.HostMoments.{host_moments, last_of}
 use Rattle.strm_machine.specs.Acts.{act_of}
 use Rattle.strm_machine.specs.declared.acts.NamedEnd.{NamedEnd}
 use Rattle.strm_machine.specs.declared.acts.EndAct.TheVariants.{Operate}
@@ -29,11 +37,10 @@ use Rattle.strm_machine.specs.declared.steps.Step.TheVariants.{Guest, Between, P
 use Rattle.strm_machine.specs.declared.replies.Reply.{Reply}
 use Rattle.strm_machine.proofs.RefusalLemmas.{none_of_both, named_ok}
 use Rattle.strm_machine.proofs.NamedEndLemmas.{found_payload}
-use Rattle.strm_laws.specs.Conservation.{moments, last}
 use Rattle.strm_lines.proofs.GeneratorLemmas.{length-generated}
 use Rattle.strm_lines.specs.Generator.{next_state, drawn, byte_stream, drawn_step, drawn_steps, first_steps, generated}
 use Rattle.strm_transmit.specs.Guests.{is_of_guests}
-use Rattle.strm_session.specs.Runs.{start, AreOfGuests, HasLaws, IsKept, StopsBy}
+use Rattle.strm_session.specs.Runs.{start_among, AreOfGuests, HasLawsAmong, IsKeptBefore, StopsAmong, StopsBy}
 use Rattle.strm_session.specs.declared.runs.RunCause.{RunCause}
 use Rattle.strm_session.specs.declared.runs.RunCause.TheVariants as causes
 
@@ -110,32 +117,49 @@ bytes_fit payload memory address n p e =
     let none = sym some ∙ ap is_some f in
     cc
 
--- so none of the items that are asked for is bad
-none_bad : (state : State) (step : Step) (s : ℕ) → IsSound state → IsDrawn step → HasBadItem state step s → ⊥
-none_bad state step s h d b =
-    let a = b.asked in
-    let does = a.does in
-    let bytes = bytes_named state a.side a.end a.address a.count h (d.bytes a.side a.end a.address a.count does) (ap (refusal state) (sym does) ∙ a.unrefused) in
-    let write = write_of a.side a.mine a.theirs in
-    bytes_fit (stream_at state s).payload (memory_in state.guests write.guest) write.address (min a.mine.left a.theirs.left) (ap (λ k. (stream_at state k).payload) (sym a.stream) ∙ bytes) b.bad
+-- the payload of the stream that such a step reads or writes
+bytes_of : (state : State) (step : Step) (s : ℕ) (side : Side) (end : NamedEnd) (address count : ℕ) → IsSound state → IsDrawn step → act_of step ≡ OnEnd side end (Operate address count) → refusal state (act_of step) ≡ None → stream_named (named state end) ≡ s → (stream_at state s).payload ≡ One U8
+bytes_of state step s side end address count h d does u e =
+    ap (λ k. (stream_at state k).payload) (sym e) ∙ bytes_named state side end address count h (d.bytes side end address count does) (ap (refusal state) (sym does) ∙ u)
 
--- a run of these steps leads to a sound state
-sound_end : (steps : List Step) (told : List Reply) (state : State) → IsKept steps told state → IsSound state
-sound_end steps told state k =
-    let laws = subst (λ (xs : List Step). HasLaws (moments start xs) (last start xs)) (take_all (length steps) steps (omega arith)) (k.laws (length steps)) in
-    subst IsSound (sym k.ends) laws.sound
+-- so none of the items that are asked for is bad
+none_bad : (world : World) (step : Step) (s : ℕ) → IsSound world.state → IsDrawn step → AsksBadItem world step s → ⊥
+none_bad world step s h d (ByGuest b) =
+    let a = b.asks.asked in
+    let write = write_of a.side a.mine a.theirs in
+    bytes_fit (stream_in world s).payload (memory_in world.state.guests write.guest) write.address (min a.mine.left a.theirs.left)
+    (bytes_of world.state step s a.side a.end a.address a.count h d a.does a.unrefused a.stream) b.asks.bad
+none_bad world step s h d (InCall c) =
+    let opened = with_write world s c.write in
+    let unrefused : refusal world.state (act_of step) ≡ None = ap (refusal world.state) c.does ∙ sym (refusal_in-on_end world Writing c.end (Operate c.address c.count)) ∙ ap (refusal_in world) (sym c.does) ∙ c.unrefused in
+    bytes_fit (stream_in opened s).payload (memory_in opened.state.guests c.write.guest) c.write.address (asked_by c.asks.said)
+    (opened-payload world s c.write ∙ bytes_of world.state step s Writing c.end c.address c.count h d c.does unrefused c.stream) c.asks.bad
+none_bad world step s h d (InDrive r) = absurd (let wrong = sym (ap is_of_guests r.does) ∙ d.alone in cc)
+
+-- the world that the laws speak of
+sound_after : (first : World) (steps : List Step) (told : List Reply) (world : World) → IsKeptBefore first steps told → play [] first (take (length told) steps) ≡ Ends told world → IsSound world.state
+sound_after first steps told world k e =
+    let front = take (length told) steps in
+    let laws = subst (λ (xs : List Step). HasLawsAmong first (host_moments first xs) (last_of first (host_moments first xs))) (take_all (length front) front (omega arith)) (k.kept.laws (length front)) in
+    let same : k.world ≡ world = ap end_of_play (sym k.before ∙ e) in
+    subst (λ (w : World). IsSound w.state) (k.kept.ends ∙ same) laws.sound
+  where
+    end_of_play : Played → World
+    end_of_play (Ends all end) = end
+    end_of_play _ = world
 
 step_drawn : (steps : List Step) (k : ℕ) (step : Step) → All IsDrawn steps → slice_get steps k ≡ Some step → IsDrawn step
 step_drawn steps k step h e = subst IsDrawn (get_or_from_slice_get steps k step step e) (All-get_or IsDrawn steps k step (slice_get_within steps k step e) h)
 
 -- where a run of the generator's steps stops, memory was wanted
-pub generated_stops : (n seed : ℕ) (told : List Reply) (cause : RunCause) → StopsBy (generated n seed) told cause → cause ≡ causes.OutOfMemory
-generated_stops n seed told (causes.BadItem stream) b =
-    let asks = b.at.asks in
-    absurd (none_bad b.state asks.step stream (sound_end _ told b.state b.kept) (step_drawn (generated n seed) (length told) asks.step (all_generated n seed) asks.next) asks.bad)
-generated_stops n seed told (causes.HostFailed end) b = absurd b.at
-generated_stops n seed told (causes.HostBroke end) b = absurd b.at
-generated_stops n seed told causes.OutOfMemory b = refl
+module _ (old new : Tells) (n seed : ℕ) (told : List Reply) where
+  pub generated_stops : (cause : RunCause) → StopsAmong old new (generated n seed) told cause → IsKeptBefore (start_among old new) (generated n seed) told → StopsBy (generated n seed) told cause → cause ≡ causes.OutOfMemory
+  generated_stops (causes.BadItem stream) s k b =
+      let asks = s.asks.asks in
+      absurd (none_bad asks.world asks.step stream (sound_after (start_among old new) (generated n seed) told asks.world k asks.before) (step_drawn (generated n seed) (length told) asks.step (all_generated n seed) asks.next) asks.bad)
+  generated_stops (causes.HostFailed end) s k b = absurd b.at
+  generated_stops (causes.HostBroke end) s k b = absurd b.at
+  generated_stops causes.OutOfMemory s k b = refl
 
 -- steps that were drawn
 abbrev pub AreGenerated : List Step → Type 0
@@ -144,8 +168,9 @@ AreGenerated steps = (n : ℕ) × (seed : ℕ) × (steps ≡ generated n seed)
 pub drawn_alone : (steps : List Step) → AreGenerated steps → AreOfGuests steps
 drawn_alone steps d = subst AreOfGuests (sym d.2) (generated_alone d.0 d.1)
 
-pub drawn_stops : (steps : List Step) → AreGenerated steps → (told : List Reply) (cause : RunCause) → StopsBy steps told cause → cause ≡ causes.OutOfMemory
-drawn_stops steps d told cause b = generated_stops d.0 d.1 told cause (subst (λ xs. StopsBy xs told cause) d.2 b)
+pub drawn_stops : (old new : Tells) (steps : List Step) → AreGenerated steps → (told : List Reply) (cause : RunCause) → StopsAmong old new steps told cause → IsKeptBefore (start_among old new) steps told → StopsBy steps told cause → cause ≡ causes.OutOfMemory
+drawn_stops old new steps d told cause s k b =
+    generated_stops old new d.0 d.1 told cause (subst (λ xs. StopsAmong old new xs told cause) d.2 s) (subst (λ xs. IsKeptBefore (start_among old new) xs told) d.2 k) (subst (λ xs. StopsBy xs told cause) d.2 b)
 
 -- are few
 pub drawn_few : (n seed : ℕ) (steps : List Step) → steps ≡ generated n seed → (262140 < n → ⊥) → length steps ≤ 4294967295

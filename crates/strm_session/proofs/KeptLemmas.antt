@@ -1,5 +1,5 @@
 -- What the laws of every run among host ends say of one that came to its end, or stopped.
-use Rattle.std.proofs.Common.{◌≡◌, ℕ, ◌≤◌, List, [], length, take, subst, arith}
+use Rattle.std.proofs.Common.{◌≡◌, ℕ, ◌≤◌, List, [], length, take, Option, Some, None, subst, arith}
 use Rattle.std.proofs.lemmas.List.{length-take, take_all}
 use Rattle.std.specs.Prelude.{All}
 use Rattle.strm_buffers.specs.Tells.{Tells}
@@ -9,10 +9,13 @@ use Rattle.strm_machine.specs.State.{State}
 use Rattle.strm_machine.specs.declared.steps.Step.{Step}
 use Rattle.strm_machine.specs.declared.replies.Reply.{Reply}
 use Rattle.strm_world.specs.World.{World}
-use Rattle.strm_world.specs.HostPlays.{play, Ends}
+use Rattle.strm_machine.specs.declared.stops.Stop.{Stop}
+use Rattle.strm_world.specs.Ends.{Writer, Reader}
+use Rattle.strm_world.specs.HostPlays.{play, Ends, Halts}
+use Rattle.strm_host_laws.specs.HostLaws.{ClosesExactly, ReadersCloseExactly}
 use Rattle.strm_world.specs.Does.{AreSupplied, spent}
 use Rattle.strm_host_laws.specs.HostMoments.{host_moments, last_of}
-use Rattle.strm_session.specs.Runs.{start_among, HasLawsAmong, IsKeptAmong, IsKeptBefore, AreOfItems, DeliversEach, StopsAmong}
+use Rattle.strm_session.specs.Runs.{start_among, HasLawsAmong, IsKeptAmong, IsKeptBefore, AreOfItems, DeliversEach, HaltsBy, StopCloses, StopsAmong}
 use Rattle.strm_session.specs.declared.runs.RunCause.{RunCause}
 use Rattle.strm_session.proofs.SuppliedLemmas.{all_supply}
 
@@ -49,3 +52,18 @@ delivers_each old new steps state k o a s =
     let laws = subst (λ (xs : List Step). HasLawsAmong first (host_moments first xs) (last_of first (host_moments first xs))) (take_all (length steps) steps (omega arith)) (k.laws (length steps)) in
     let now = subst (HasLawsAmong first (host_moments first steps)) k.ends laws in
     now.writers.delivers (all_supply old new state o a (λ n. (now.writers.goes_on n).payload)) s
+
+-- exactly the host ends that became gone were closed, where the machine halts
+module _ (first : World) (steps : List Step) where
+  -- by the laws of a list of steps
+  abbrev pub WritersClose : Type 0
+  WritersClose = (replies : List Reply) (stop : Stop) (writers : List Writer) (readers : List Reader) → play [] first steps ≡ Halts replies stop writers readers
+      → ClosesExactly first (last_of first (host_moments first steps)).state writers
+
+  abbrev pub ReadersClose : Type 0
+  ReadersClose = (replies : List Reply) (stop : Stop) (writers : List Writer) (readers : List Reader) → play [] first steps ≡ Halts replies stop writers readers
+      → ReadersCloseExactly first (last_of first (host_moments first steps)).state readers
+
+  pub stop_closes : WritersClose → ReadersClose → (told : List Reply) (new : Tells) (stop : Option Stop) → HaltsBy first steps told new stop → StopCloses first steps new stop
+  stop_closes w r told new None h = tt
+  stop_closes w r told new (Some stop) h = (h.0, w told stop _ _ h.1, r told stop _ _ h.1)

@@ -1,16 +1,14 @@
 -- One step more of a play.
 use Rattle.std.proofs.Math.Seq.{split_at}
 use Rattle.std.proofs.lemmas.List.{take_more, append-nil}
-use Rattle.std.proofs.Common.{◌≡◌, ℕ, ◌+◌, ◌<◌, true, false, List, [], ◌∷◌, ◌++◌, length, take, drop, get_or, suc, Some, refl, sym, ap, ◌∙◌, subst, append_assoc}
+use Rattle.std.proofs.Common.{◌≡◌, ℕ, ◌+◌, ◌<◌, true, false, List, [], ◌∷◌, ◌++◌, length, take, drop, get_or, suc, refl, sym, ap, ◌∙◌, subst, append_assoc}
 use Rattle.strm_machine.specs.Words.{State}
 use Rattle.strm_machine.specs.Reactions.{Reaction, goes, react}
 use Rattle.strm_machine.specs.Plays.{Played, Ends, Halts, after_step, play}
 use Rattle.strm_machine.specs.declared.steps.Step.{Step}
 use Rattle.strm_machine.specs.declared.replies.Reply.{Reply}
 use Rattle.strm_machine.specs.declared.replies.Reply.TheVariants as replies
-use Rattle.strm_machine.proofs.AskedLemmas.{react-by, reply-bad, bad-traps, bad-keeps}
-use Rattle.std.proofs.lemmas.Option.{slice_get-get_or}
-use Rattle.std.specs.Prelude.{slice_get}
+use Rattle.strm_machine.proofs.AskedLemmas.{react-by, reply-bad, bad-traps}
 use Rattle.strm_transmit.specs.Meets.{is_done, is_settled}
 use Rattle.strm_session.specs.Runs.{start, StopsAt, StopsStep}
 use Rattle.strm_session.specs.declared.runs.RunCause.{RunCause}
@@ -108,15 +106,11 @@ stopped_before steps k told state n led =
     ap (λ m. play [] start (take m steps)) n ∙ ap (play [] start) (sym (append-nil (take k steps))) ∙ led []
 
 -- where the step of number k stops a run
-pub stops : (steps : List Step) (k : ℕ) (step : Step) (told : List Reply) (state : State) (cause : RunCause) → IsAt steps k step → length told ≡ k → HaveLed steps k told state → state.trapped ≡ false → StopsStep told state step cause → StopsAt steps told state cause
+pub stops : (steps : List Step) (k : ℕ) (step : Step) (told : List Reply) (state : State) (cause : RunCause) → IsAt steps k step → length told ≡ k → HaveLed steps k told state → state.trapped ≡ false → StopsStep told state step cause → StopsAt steps told cause
 stops steps k step told state (causes.BadItem stream) h n led t answered =
     let bad = reply-bad state step stream t answered in
     let cut : steps ≡ take k steps ++ step ∷ drop (suc k) steps = split_at steps k step h.inside ∙ ap (λ s. take k steps ++ s ∷ drop (suc k) steps) h.is in
-    record {
-      asks = record { before = stopped_before steps k told state n led; step = step; next = ap (slice_get steps) n ∙ slice_get-get_or steps k step h.inside ∙ ap Some h.is; bad = bad };
-      halts = ap (play [] start) cut ∙ led (step ∷ drop (suc k) steps) ∙ play-halts told state (record state { trapped = true }) step (drop (suc k) steps) stream (bad-traps state step stream t bad);
-      stays = bad-keeps state step stream answered;
-    }
+    ap (play [] start) cut ∙ led (step ∷ drop (suc k) steps) ∙ play-halts told state (record state { trapped = true }) step (drop (suc k) steps) stream (bad-traps state step stream t bad)
 stops steps k step told state causes.OutOfMemory h n led t w =
     let cut : take (length told + 1) steps ≡ take k steps ++ step ∷ [] = ap (λ m. take (m + 1) steps) n ∙ take-at steps k step h in
     (w.0 ∷ [], w.1, ap (play [] start) cut ∙ led (step ∷ []) ∙ w.2)

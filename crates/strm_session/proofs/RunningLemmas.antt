@@ -1,5 +1,5 @@
 -- Among host ends a store that is not trapped answers for itself, and is not trapped where it goes on.
-use Rattle.std.proofs.Common.{◌≡◌, ◌≢◌, ℕ, Bool, true, false, ◌||◌, cond, List, [], ◌∷◌, length, take, drop, Option, Some, None, refl, sym, ◌∙◌}
+use Rattle.std.proofs.Common.{◌≡◌, ◌≢◌, ℕ, Bool, true, false, ◌||◌, ◌&&◌, cond, List, [], ◌∷◌, length, take, drop, Option, Some, None, refl, sym, ◌∙◌}
 use Rattle.std.proofs.lemmas.Bool.{cond_both}
 use Rattle.strm_codes.specs.declared.codes.ReturnCode.{ReturnCode}
 use Rattle.strm_codes.specs.declared.codes.TransmitKind.{TransmitKind}
@@ -35,8 +35,8 @@ use Rattle.strm_machine.specs.declared.streams.Stream.{Stream}
 use Rattle.strm_world.specs.World.{World, stream_in, writer_at, reader_at, held_of, with_kept, with_writer, with_reader, leaves_writer, leaves_reader, with_stream_in}
 use Rattle.strm_world.specs.Ends.{polled_writer, polled_reader}
 use Rattle.strm_world.specs.Outcomes.{Outcome, Goes, Stops, Stuck, stops, done, then_on, of_reply}
-use Rattle.strm_world.specs.Polls.{AfterWriter, is_failed, is_writer_poll, writer_judged, writer_says, polls_writer, AfterReader, is_reader_poll, reader_judged, reader_says, polls_reader}
-use Rattle.strm_world.specs.Producing.{receives, with_over, produced_result, is_produced, produces, producer_turn}
+use Rattle.strm_world.specs.Polls.{AfterWriter, is_failed, is_writer_poll, writer_judged, writer_says, polls_writer, AfterReader, is_reader_poll, tells_truly, reader_judged, reader_says, polls_reader}
+use Rattle.strm_world.specs.Producing.{receives, with_answer, produced_result, is_produced, produces, producer_turn}
 use Rattle.strm_world.specs.Consuming.{lifted, with_taken, gives_up, consumer_turn}
 use Rattle.strm_world.specs.Settling.{answered_with}
 use Rattle.strm_world.specs.Piping.{wants_items, fetches, gathered, passed_on, offers, is_done_with, is_run_dry, both_gone, ends_if_done, pipe_round}
@@ -103,7 +103,7 @@ says-runs world s n room finish (said ∷ more) next t h =
 produced-runs : (world : World) (s n : ℕ) (read : Operation) → IsRunning world → Running (is_produced world s n read)
 produced-runs world s n read t =
     says-runs world s n (Some read.left) read.asked (writer_at world n).coming
-    (λ after said. done (receives (with_over after n said.answer) s read (take read.left said.items) (produced_result said.answer (drop read.left said.items))))
+    (λ after said. done (receives (with_answer after n said.answer (drop read.left said.items)) s read (take read.left said.items) (produced_result said.answer (drop read.left said.items))))
     t (λ w x r. with_stream-runs _ s _ r)
 
 produces-runs : (world : World) (s n : ℕ) (read : Operation) (items : List Item) → IsRunning world → Running (produces world s n read items)
@@ -132,7 +132,7 @@ reader_says-runs : (world : World) (s r offered : ℕ) (finish : Bool) (first : 
 reader_says-runs world s r offered finish first [] next t h = tt
 reader_says-runs world s r offered finish first (said ∷ more) next t h =
     let after = with_reader world r (polled_reader (reader_at world r) (first said.taken) more) in
-    cond_both (is_reader_poll offered (consumer_at world.state r).since finish said) (reader_judged after (stream_in world s).kind s r said next) Stuck Running
+    cond_both (is_reader_poll offered (consumer_at world.state r).since finish said && tells_truly offered first said) (reader_judged after (stream_in world s).kind s r said next) Stuck Running
     (λ p. judged_reader-runs after (stream_in world s).kind s r said next t h) (λ p. tt)
 
 consumer_turn-runs : (world : World) (s r : ℕ) (write : Operation) → IsRunning world → Running (consumer_turn world s r write)
@@ -146,8 +146,8 @@ consumer_turn-runs world s r write t =
 
 fetches-runs : (world : World) (s n r : ℕ) → IsRunning world → Running (fetches world s n r)
 fetches-runs world s n r t =
-    cond_both (wants_items world n r) (polls_writer world s n None false (λ after said. done (with_kept (with_over after n said.answer) n said.items))) (done world) Running
-    (λ w. says-runs world s n None false (writer_at world n).coming (λ after said. done (with_kept (with_over after n said.answer) n said.items)) t (λ after said k. k))
+    cond_both (wants_items world n r) (polls_writer world s n None false (λ after said. done (with_kept (with_answer after n said.answer []) n said.items))) (done world) Running
+    (λ w. says-runs world s n None false (writer_at world n).coming (λ after said. done (with_kept (with_answer after n said.answer []) n said.items)) t (λ after said k. k))
     (λ w. t)
 
 offers-runs : (world : World) (s n r : ℕ) (next : World → Option Answer → Outcome) → IsRunning world → ((w : World) (answer : Option Answer) → IsRunning w → Running (next w answer)) → Running (offers world s n r next)

@@ -1,27 +1,28 @@
 -- The words of the program, and what a status tells.
 use Rattle.std.specs.Prelude.{IfSome}
-use Rattle.std.proofs.Common.{◌≡◌, ◌≢◌, ◌⊎◌, ℕ, ◌≤◌, List, [], ◌∷◌, length, map, get_or, Option, Some, None, refl, sym, ap, ◌∙◌, subst, ⊎_elim, decimal, arith}
+use Rattle.std.proofs.Common.{◌≡◌, ◌≢◌, ◌⊎◌, ℕ, ◌≤◌, List, [], ◌∷◌, length, map, get_or, Option, Some, None, refl, sym, ap, ◌∙◌, subst, ⊎_elim, inl, inr, decimal, arith}
 use Rattle.std.proofs.lemmas.Bool.{cases_eq}
 use Rattle.std.specs.Prelude.{codes}
 use Rattle.strm_machine.specs.declared.steps.Step.{Step}
 use Rattle.strm_ports.specs.Faults.{Rose}
 use Rattle.strm_lines.specs.Grammar.{IsU32}
 use Rattle.strm_lines.specs.Lines.{lines_of, Spells, IsFirstBad, IsTooLong}
-use Rattle.strm_session.specs.Serving.{IsRun, IsGen, IsStop, IsStatusOf, PlaysOn, HaltsWith, StandsFor, IsOfInput, IsOutput}
+use Rattle.strm_session.specs.Serving.{IsRun, IsGen, IsStop, IsStatusOf, PlaysOn, HaltsWith, StandsFor, IsOfInput, IsOutput, IsComplete}
 use Rattle.strm_world.specs.Ends.{Writer, Reader}
 use Rattle.strm_world.specs.World.{World}
 use Rattle.strm_world.specs.HostPlays.{Played, play, Ends, Halts}
 use Rattle.std.specs.Io.KnownBytes.{IsAtEnd}
 use Rattle.strm_lines.proofs.LineLemmas.{one_spelling, spelled_not_bad}
-use Rattle.strm_machine.specs.State.{State}
 use Rattle.strm_machine.specs.declared.replies.Reply.{Reply}
 use Rattle.strm_buffers.specs.Tells.{Tells}
 use Rattle.strm_machine.specs.declared.stops.Stop.{Stop}
 use Rattle.strm_machine.specs.declared.stops.Stop.TheVariants as stops
-use Rattle.strm_session.specs.Runs.{start_among, stop_of, HaltsBy, AreOfGuests, AsksBad, AsksItems, StopsBy}
+use Rattle.strm_session.specs.Records.{NoneRose, ObeyRules}
+use Rattle.strm_session.specs.Runs.{start_among, stop_of, HaltsBy, AsksBad, AsksItems, HasStopped}
 use Rattle.strm_session.specs.declared.runs.RunCause.{RunCause}
 use Rattle.strm_session.specs.declared.runs.RunCause.TheVariants as causes
-use Rattle.strm_session.proofs.StopLemmas.{ends-asks}
+use Rattle.strm_machine.specs.declared.stops.Stop.TheVariants.{BadItem}
+use Rattle.strm_session.proofs.StopLemmas.{asks-halts, only_memory}
 
 -- of one word, which it is
 pub one_word : {X : Type 0} (f : X → List ℕ) (items : List X) (x : X) (word : List ℕ) → length items ≡ 1 → x ≡ get_or items 0 x → (f x ≡ word → map f items ≡ word ∷ []) × (map f items ≡ word ∷ [] → f x ≡ word)
@@ -41,23 +42,6 @@ zero_of status k a b c d e = ⊎_elim (λ l. omega (arith, l, a, b, c, d)) (λ q
 
 two_of : (status : ℕ) → Known status → status ≢ 0 → status ≢ 1 → status ≢ 3 → status ≢ 4 → (IsStop status → ⊥) → status ≡ 2
 two_of status k a b c d e = ⊎_elim (λ l. omega (arith, l, a, b, c, d)) (λ q. absurd (e q)) k
-
-eight_of : (status : ℕ) → Known status → status ≢ 0 → status ≢ 1 → status ≢ 2 → status ≢ 3 → status ≢ 4 → (IsStop status → status ≡ 8) → status ≡ 8
-eight_of status k z a b c d e = ⊎_elim (λ l. absurd (omega (arith, l, z, a, b, c, d))) e k
-
--- of guests alone, a run that stops does so for a bad item
-status_of_cause : (status : ℕ) (cause : RunCause) (why : Stop) (steps : List Step) (replies : List Reply) → IsStatusOf status cause why → StopsBy steps replies cause → status ≡ 8
-status_of_cause status (causes.HostFailed end) why steps replies s b = absurd b.at
-status_of_cause status (causes.HostBroke end) why steps replies s b = absurd b.at
-status_of_cause status (causes.BadItem stream) why steps replies s b = s.0
-status_of_cause status causes.OutOfMemory why steps replies s b = absurd s
-
--- and a bad item is asked for then
-asks_of_cause : (status : ℕ) (cause : RunCause) (why : Stop) (steps : List Step) (replies : List Reply) → IsStatusOf status cause why → StopsBy steps replies cause → AsksItems steps → ⊥
-asks_of_cause status (causes.HostFailed end) why steps replies s b items = absurd b.at
-asks_of_cause status (causes.HostBroke end) why steps replies s b items = absurd b.at
-asks_of_cause status (causes.BadItem stream) why steps replies s b items = items replies b.state stream b.at.asks
-asks_of_cause status causes.OutOfMemory why steps replies s b items = absurd s
 
 stop_of_known : (status : ℕ) → Known status → status ≢ 0 → status ≢ 1 → status ≢ 2 → status ≢ 3 → status ≢ 4 → IsStop status
 stop_of_known status k z a b c d = ⊎_elim (λ l. absurd (omega (arith, l, z, a, b, c, d))) (λ q. q) k
@@ -86,6 +70,16 @@ module _ (old new : Tells) (steps : List Step) (told : List Reply) (status : ℕ
   stands_for (causes.HostBroke x) why stop s h halts = subst (StandsFor status) (ap stop_in (sym h.1 ∙ halts.3)) s.0
   stands_for (causes.BadItem x) why stop s h halts = subst (StandsFor status) (ap stop_in (sym h.1 ∙ halts.3)) s.0
   stands_for causes.OutOfMemory why stop s h halts = absurd s
+
+  -- a run that stops but for want of memory has a cause
+  no_cause : (cause : RunCause) (why : Stop) → IsStatusOf status cause why → HasStopped old new steps told cause → NoneRose old new → ObeyRules old new → AsksItems (start_among old new) steps → ⊥
+  no_cause cause why s h none obey items = untold cause why s (only_memory old new steps told cause h none obey items)
+    where
+      untold : (cause : RunCause) (why : Stop) → IsStatusOf status cause why → cause ≡ causes.OutOfMemory → ⊥
+      untold (causes.HostFailed end) why s e = cc
+      untold (causes.HostBroke end) why s e = cc
+      untold (causes.BadItem stream) why s e = cc
+      untold causes.OutOfMemory why s e = s
 
 three_of : (status : ℕ) → status ≢ 4 → (status ≢ 3 → ⊥) → status ≡ 3
 three_of status d n = ⊎_elim (λ e. e) (λ e. absurd (n e)) (cases_eq status 3)
@@ -138,7 +132,7 @@ module _ {rest : Option (List ℕ)} {old new : Tells} {before after status : ℕ
             (λ q.
             let stopped = h.stopped q in
             let same = one_spelling (lines_of input) stopped.steps steps stopped.spelled s in
-            stops_no_end old new stopped.steps stopped.replies status stopped.cause stopped.why stopped.status_is stopped.stop.halts
+            stops_no_end old new stopped.steps stopped.replies status stopped.cause stopped.why stopped.status_is stopped.run.stops.halts
             (subst (PlaysOn (start_among old new)) (sym same) plays))
 
         -- and one that it halts has the status of the stop
@@ -150,32 +144,24 @@ module _ {rest : Option (List ℕ)} {old new : Tells} {before after status : ℕ
             halts_no_end halts.0 done.replies stop halts.1 halts.2 _ (sym halts.3 ∙ ap (play [] (start_among old new)) (sym same) ∙ done.run.played) in
             let stopped = h.stopped (stop_of_known status h.known undone h.called no_bad_line (λ q. long (h.too_long q).0) not_fault) in
             let same = one_spelling (lines_of input) stopped.steps steps stopped.spelled s in
-            stands_for old new stopped.steps stopped.replies status stopped.cause stopped.why stop stopped.status_is stopped.stop.halts
+            stands_for old new stopped.steps stopped.replies status stopped.cause stopped.why stop stopped.status_is stopped.run.stops.halts
             (subst (λ k. HaltsWith (start_among old new) k stop) (sym same) halts)
 
-        module _ (alone : AreOfGuests steps) where
-          -- where nothing is amiss the run is done
-          done_of : AsksItems steps → status ≡ 0
-          done_of items =
-              zero_of status h.known h.called no_bad_line (λ q. long (h.too_long q).0) not_fault
-              (λ q.
-              let stopped = h.stopped q in
-              let same = one_spelling (lines_of input) stopped.steps steps stopped.spelled s in
-              asks_of_cause status stopped.cause stopped.why stopped.steps stopped.replies stopped.status_is (stopped.alone (subst AreOfGuests (sym same) alone)) (subst AsksItems (sym same) items))
+        -- where no host end fails, each obeys its rules, and each item asked for is one, the run is done
+        done_of : NoneRose old new → ObeyRules old new → AsksItems (start_among old new) steps → status ≡ 0
+        done_of none obey items =
+            zero_of status h.known h.called no_bad_line (λ q. long (h.too_long q).0) not_fault
+            (λ q.
+            let stopped = h.stopped q in
+            let same = one_spelling (lines_of input) stopped.steps steps stopped.spelled s in
+            no_cause old new stopped.steps stopped.replies status stopped.cause stopped.why stopped.status_is stopped.run none obey
+            (subst (AsksItems (start_among old new)) (sym same) items))
 
-          -- and where a bad item is asked for it stops
-          bad_item_of : (told : List Reply) (state : State) (stream : ℕ) → AsksBad steps told state stream → status ≡ 8
-          bad_item_of told state stream a =
-              eight_of status h.known
-              (λ q.
-              let done = h.done q in
-              let same = one_spelling (lines_of input) done.steps steps done.spelled s in
-              subst AsksItems same (ends-asks done.steps done.replies done.state (done.run.alone (subst AreOfGuests (sym same) alone))) told state stream a)
-              h.called no_bad_line (λ q. long (h.too_long q).0) not_fault
-              (λ q.
-              let stopped = h.stopped q in
-              let same = one_spelling (lines_of input) stopped.steps steps stopped.spelled s in
-              status_of_cause status stopped.cause stopped.why stopped.steps stopped.replies stopped.status_is (stopped.alone (subst AreOfGuests (sym same) alone)))
+        -- and where a bad item is asked for it stops
+        bad_item_of : (told : List Reply) (stream : ℕ) → AsksBad (start_among old new) steps told stream → status ≡ 8
+        bad_item_of told stream a =
+            let halts = asks-halts (start_among old new) refl steps told stream a in
+            halts_of (BadItem stream) (told, _, _, halts)
 
       -- a bad line is told
       bad_line_of : (line : ℕ) → IsFirstBad (lines_of input) line → status ≡ 2
@@ -194,10 +180,10 @@ module _ {rest : Option (List ℕ)} {old new : Tells} {before after status : ℕ
     told_input : IsRun words → left ≡ Some input → IsOfInput (Some input) rest old new before after status text
     told_input r e = subst (λ l. IsOfInput l rest old new before after status text) e (h.of_input r)
 
-    pub told_done : IsRun words → left ≡ Some input → (Rose before after → ⊥) → (IsTooLong input → ⊥) → (steps : List Step) → Spells (lines_of input) steps → AreOfGuests steps → AsksItems steps → status ≡ 0
+    pub told_done : IsRun words → left ≡ Some input → (Rose before after → ⊥) → (IsTooLong input → ⊥) → (steps : List Step) → Spells (lines_of input) steps → NoneRose old new → ObeyRules old new → AsksItems (start_among old new) steps → status ≡ 0
     told_done r e calm = done_of input (told_input r e) calm
 
-    pub told_bad_item : IsRun words → left ≡ Some input → (Rose before after → ⊥) → (IsTooLong input → ⊥) → (steps : List Step) → Spells (lines_of input) steps → AreOfGuests steps → (told : List Reply) (state : State) (stream : ℕ) → AsksBad steps told state stream → status ≡ 8
+    pub told_bad_item : IsRun words → left ≡ Some input → (Rose before after → ⊥) → (IsTooLong input → ⊥) → (steps : List Step) → Spells (lines_of input) steps → (told : List Reply) (stream : ℕ) → AsksBad (start_among old new) steps told stream → status ≡ 8
     told_bad_item r e calm = bad_item_of input (told_input r e) calm
 
     pub told_ends : IsRun words → left ≡ Some input → (Rose before after → ⊥) → (IsTooLong input → ⊥) → (steps : List Step) → Spells (lines_of input) steps → PlaysOn (start_among old new) steps → status ≡ 0
@@ -211,6 +197,55 @@ module _ {rest : Option (List ℕ)} {old new : Tells} {before after status : ℕ
 
     pub told_too_long : IsRun words → left ≡ Some input → (Rose before after → ⊥) → IsTooLong input → status ≡ 3
     told_too_long r e calm = too_long_of input (told_input r e) calm
+
+-- COMPLETENESS
+
+module _ (words : List (List ℕ)) (left rest : Option (List ℕ)) (sb sa kb ka : ℕ) (old new : Tells) where
+  -- nothing is owed where memory was wanted
+  pub complete_memory : IsComplete words left sb sa kb ka old new 9
+  complete_memory = record {
+    complete = λ steps r none obey items. inr refl;
+    bad_item = λ steps r told s a. inr refl;
+    ends = λ steps r plays. inr refl;
+    halts = λ steps r stop halts. inr refl;
+    bad_line = λ input line f bad long. inr refl;
+    too_long = λ input f long. inr refl;
+    generated = λ n seed g calm few. inr refl;
+    too_many = λ n seed g calm many. inr refl;
+    usage = λ none calm. inr refl;
+  }
+
+  -- and where the sink failed
+  pub complete_fault : (status : ℕ) → Rose kb ka → IsComplete words left sb sa kb ka old new status
+  complete_fault status rose = record {
+    complete = λ steps r none obey items. absurd (r.faultless.sink rose);
+    bad_item = λ steps r told s a. absurd (r.faultless.sink rose);
+    ends = λ steps r plays. absurd (r.faultless.sink rose);
+    halts = λ steps r stop halts. absurd (r.faultless.sink rose);
+    bad_line = λ input line f bad long. absurd (f.sink rose);
+    too_long = λ input f long. absurd (f.sink rose);
+    generated = λ n seed g calm few. absurd (calm rose);
+    too_many = λ n seed g calm many. absurd (calm rose);
+    usage = λ none calm. absurd (calm rose);
+  }
+
+  -- what is written has its cause
+  pub complete_told : (status : ℕ) (text : List ℕ) → IsOutput words left rest old new sb sa status text → IsComplete words left sb sa kb ka old new status
+  complete_told status text o = record {
+    complete = λ steps r none obey items.
+        let f = r.faultless in inl (told_done left r.input o f.run f.input_is f.source r.within steps r.spelled none obey items);
+    bad_item = λ steps r told s a.
+        let f = r.faultless in inl (told_bad_item left r.input o f.run f.input_is f.source r.within steps r.spelled told s a);
+    ends = λ steps r plays.
+        let f = r.faultless in inl (told_ends left r.input o f.run f.input_is f.source r.within steps r.spelled plays);
+    halts = λ steps r stop halts.
+        let f = r.faultless in inl (told_halts left r.input o f.run f.input_is f.source r.within steps r.spelled stop halts);
+    bad_line = λ input line f bad long. inl (told_bad_line left input o f.run f.input_is f.source long line bad);
+    too_long = λ input f long. inl (told_too_long left input o f.run f.input_is f.source long);
+    generated = λ n seed g calm few. inl ((o.of_numbers n seed g).done few).0;
+    too_many = λ n seed g calm many. inl ((o.of_numbers n seed g).too_long many).0;
+    usage = λ none calm. inl (o.usage none).0;
+  }
 
 -- WORDS
 

@@ -1,7 +1,9 @@
 -- One step of a run: how it goes on, and why it stops.
-use Rattle.std.proofs.Common.{◌≡◌, false, List, Ok, Err, Some, None, refl, ap, subst}
+use Rattle.std.proofs.Common.{◌≡◌, ℕ, Bool, true, false, List, Ok, Err, Some, None, refl, sym, ap, ◌∙◌, subst}
 use Rattle.strm_buffers.specs.Tells.{Tells}
-use Rattle.strm_machine.specs.State.{State}
+use Rattle.strm_machine.specs.State.{State, stream_at, is_host}
+use Rattle.strm_machine.specs.Sides.{opposite, end_of}
+use Rattle.strm_machine.specs.Acts.{act_of}
 use Rattle.strm_machine.specs.Reactions.{Reaction, react}
 use Rattle.strm_machine.specs.declared.steps.Step.{Step}
 use Rattle.strm_machine.specs.declared.replies.Reply.{Reply}
@@ -9,13 +11,15 @@ use Rattle.strm_machine.specs.declared.replies.Reply.TheVariants as replies
 use Rattle.strm_machine.specs.declared.stops.Stop.TheVariants as stops
 use Rattle.strm_world.specs.World.{World}
 use Rattle.strm_world.specs.Outcomes.{Outcome}
-use Rattle.strm_world.specs.Steps.{step_of}
+use Rattle.strm_world.specs.Steps.{step_of, may_poll}
+use Rattle.strm_world.specs.Asking.{GuestAsksBad, ByGuest}
+use Rattle.strm_world.proofs.AskingLemmas.{asks-stops}
 use Rattle.strm_world.specs.Does.{Answered, saids, world_of, Does}
-use Rattle.strm_transmit.specs.Meets.{Meets}
-use Rattle.strm_transmit.specs.Hosted.{answered}
+use Rattle.strm_transmit.specs.Meets.{Meets, act_takes_memory, takes_memory}
+use Rattle.strm_transmit.specs.Hosted.{answered, lone, Wanting, Leaves}
 use Rattle.strm_transmit.specs.declared.errors.StoreError.{StoreError}
 use Rattle.strm_transmit.specs.declared.errors.StoreError.TheVariants as errors
-use Rattle.strm_session.specs.Runs.{stop_of, StopsStep}
+use Rattle.strm_session.specs.Runs.{stop_of, StopsStep, WantsStep, MayPoll, Untouched, LeavesWanting}
 use Rattle.strm_session.specs.declared.runs.RunCause.{RunCause}
 use Rattle.strm_session.specs.declared.runs.RunCause.TheVariants as causes
 use Rattle.strm_session.proofs.PlayLemmas.{goes_on_done}
@@ -41,6 +45,47 @@ does_wanting old new tells told reply machine d = record {
   faults = d.faults;
   cause = tt;
 }
+
+-- a step that was answered asks for no bad item
+pub answered_unmet : (old new : State) (tells told : Tells) (reply : Reply) (step : Step) (s : ℕ) → old.trapped ≡ false → Does old new tells told (Ok reply) (λ w. step_of w step) → GuestAsksBad (lone old) step s → ⊥
+answered_unmet old new tells told reply step s t d g =
+    let here = world_of old tells (saids told) in
+    let halts = sym (d.gives (saids told) (extends_self told)) ∙ asks-stops here step t s (ByGuest (record { asks = g.asks; unhosted = g.unhosted })) in
+    cc
+
+-- one in which guests meet takes no memory, and polls no host end
+pub meeting_takes_none : (state : State) (step : Step) (s : ℕ) → GuestAsksBad (lone state) step s → (takes_memory step ≡ false) × (may_poll (lone state) (act_of step) ≡ false)
+meeting_takes_none state step s g =
+    let a = g.asks.asked in (
+      ap act_takes_memory a.does,
+      ap (may_poll (lone state)) a.does ∙ ap (λ k. is_host (end_of (opposite a.side) (stream_at state k)).owner) a.stream ∙ g.unhosted,
+    )
+
+none_wanted : (error : StoreError) → ◌≡◌ {A = Answered} (answered (Err error)) (Err None) → error ≡ errors.OutOfMemory
+none_wanted (errors.Refused refusal) e = cc
+none_wanted (errors.HostFailed end) e = cc
+none_wanted (errors.HostBroke end) e = cc
+none_wanted (errors.BadItem s) e = cc
+none_wanted errors.StoreTrapped e = cc
+none_wanted errors.OutOfMemory e = refl
+
+-- which error is told as want of memory
+pub wanted_error : (error : StoreError) (cause : RunCause) → ◌≡◌ {A = Answered} (answered (Err error)) (Err (stop_of cause)) → cause ≡ causes.OutOfMemory → error ≡ errors.OutOfMemory
+wanted_error error cause e o = none_wanted error (e ∙ ap (λ c. Err (stop_of c)) o)
+
+-- what a step leaves that found no memory
+pub leaves_wanting : (old new : State) (tells told : Tells) (step : Step) (error : StoreError) (cause : RunCause) → ◌≡◌ {A = Answered} (answered (Err error)) (Err (stop_of cause)) → Leaves (act_of step) old new tells told error → LeavesWanting old new tells told step cause
+leaves_wanting old new tells told step errors.OutOfMemory causes.OutOfMemory e l = by (may_poll (lone old) (act_of step)) refl l
+  where
+    by : (b : Bool) → may_poll (lone old) (act_of step) ≡ b → Wanting b old new tells told → WantsStep old new tells told step
+    by true p l = MayPoll p
+    by false p l = Untouched l.same l.ends
+leaves_wanting old new tells told step (errors.Refused refusal) causes.OutOfMemory e l = cc
+leaves_wanting old new tells told step (errors.HostFailed end) causes.OutOfMemory e l = cc
+leaves_wanting old new tells told step (errors.HostBroke end) causes.OutOfMemory e l = cc
+leaves_wanting old new tells told step (errors.BadItem s) causes.OutOfMemory e l = cc
+leaves_wanting old new tells told step errors.StoreTrapped causes.OutOfMemory e l = cc
+leaves_wanting old new tells told step error _ e l = tt
 
 -- the same answer by another word
 pub does_answering : {old new : State} {tells told : Tells} {machine : World → Outcome} (a b : Answered) → a ≡ b → Does old new tells told a machine → Does old new tells told b machine

@@ -1,5 +1,7 @@
+pub mod Records
 pub mod Runs
 pub mod Serving
+pub mod Playing
 pub use Rattle.strm_lines.specs.Words
 pub use Rattle.strm_lines.specs.Grammar
 pub use Rattle.strm_lines.specs.Lines

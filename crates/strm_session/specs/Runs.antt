@@ -1,11 +1,10 @@
 -- Runs of the program: where they begin and stop, what was received, and what holds. What is said of a
 -- state alone is said of runs of guests alone. Ours.
-use Rattle.std.specs.Prelude.{◌≡◌, ℕ, ◌+◌, ◌≤◌, ◌<◌, min, true, false, List, [], ◌∷◌, ◌++◌, length, map, take, slice_get, All, Option, Some, None}
+use Rattle.std.specs.Prelude.{◌≡◌, ℕ, ◌+◌, ◌≤◌, ◌<◌, min, true, false, List, [], ◌∷◌, ◌++◌, length, map, take, slice_get, All, Option, Some, None, Result, Ok, IsErr, IfErr}
 use Rattle.strm_codes.specs.declared.codes.TransmitKind.TheVariants.{Future}
 use Rattle.strm_machine.specs.State.{State, empty, stream_at}
 use Rattle.strm_machine.specs.Reactions.{react}
 use Rattle.strm_machine.specs.Plays.{play, Ends, Halts}
-use Rattle.strm_machine.specs.Asked.{HasBadItem}
 use Rattle.strm_machine.specs.Moments.{Moment}
 use Rattle.strm_machine.specs.Soundness.{IsSound, both_open, AreUnmoved}
 use Rattle.strm_machine.specs.declared.streams.Side.{Side}
@@ -20,23 +19,23 @@ use Rattle.strm_machine.specs.declared.stops.Stop.{Stop}
 use Rattle.strm_machine.specs.declared.stops.Stop.TheVariants as stops
 use Rattle.strm_codes.specs.Layout.{scalars_of}
 use Rattle.strm_memory.specs.Items.{AreItems}
-use Rattle.strm_codes.specs.declared.codes.TransmitKind.{TransmitKind}
-use Rattle.strm_buffers.specs.Tells.{WriterTells, Tells, Rose, told_by, told_by_reader}
-use Rattle.strm_buffers.specs.Said.{WriterSaid}
-use Rattle.strm_buffers.specs.declared.answers.ReaderSaid.{ReaderSaid}
-use Rattle.strm_buffers.specs.HostRules.{breaks_as_writer, breaks_as_reader}
-use Rattle.strm_machine.specs.declared.streams.HostEnd.{HostEnd}
-use Rattle.strm_machine.specs.declared.streams.HostEnd.TheVariants as ends
-use Rattle.strm_world.specs.Polls.{is_failed}
+use Rattle.strm_buffers.specs.Tells.{WriterTells, Tells, Rose}
 use Rattle.strm_machine.specs.Hosting.{HostsHold}
 use Rattle.strm_world.specs.World.{World, writer_at, reader_at, stream_in}
 use Rattle.strm_world.specs.HostPlays.{play as play_among}
 use Rattle.strm_world.specs.HostPlays as world_plays
-use Rattle.strm_world.specs.Does.{saids, world_of, faults_of, Extends, StopsWith, AreSupplied}
+use Rattle.strm_transmit.specs.Hosted.{lone}
+use Rattle.strm_world.specs.Steps.{step_of, may_poll}
+use Rattle.strm_world.specs.Asking.{GuestAsksBad, AsksBadItem, ByGuest, stands_at}
+use Rattle.strm_world.specs.Does.{saids, spent, world_of, faults_of, Does, RunsTo, StopsWith, AreSupplied}
 use Rattle.strm_transmit.specs.Guests.{is_of_guests}
 use Rattle.strm_host_laws.specs.HostMoments.{HostMoment, host_moments, last_of}
+use Rattle.strm_host_laws.specs.Isolation.{AreIsolated}
 use Rattle.strm_host_laws.specs.HostLaws.{ClosesExactly, WriterGoesOn, Supplies, DeliversAll, ReadersCloseExactly, ReaderGoesOn, TellsTaken, host_got, ConservesAmong, MovesByHosts, is_hosted, is_piped, plains}
+use Rattle.strm_session.specs.Records.{StopsByRecord, RulesKept, StopRules, ObeyRules, NoneRose}
 use Rattle.strm_session.specs.declared.runs.RunCause.{RunCause}
+use Rattle.strm_session.specs.declared.runs.RunStop.{RunStop}
+use Rattle.strm_session.specs.declared.runs.Transcript.{Transcript}
 use Rattle.strm_session.specs.declared.runs.RunCause.TheVariants as causes
 
 -- a run begins with a store without guests, named 0, under these limits
@@ -129,7 +128,8 @@ pub record HasWrittenLaws (s : ℕ) (all : List HostMoment) (end : World) : Type
 -- stream, and none reads on a host reader's; what has not met is moved by a host end alone; the items of each
 -- operation are a count; in each moment all bytes stay that are neither put nor received, and those that are
 -- put lie there; handles and ends agree, one handle an end; members of sets are live; error contexts count
--- their handles; and the state is sound
+-- their handles; the state is sound; and the codes of each stream are those of its own events, and what is no
+-- event of it leaves it whole
 pub record HasLawsAmong (first : World) (all : List HostMoment) (end : World) : Type 0 where
   pub writers : HasWriterLaws first all end
   pub readers : HasReaderLaws first all end
@@ -148,6 +148,7 @@ pub record HasLawsAmong (first : World) (all : List HostMoment) (end : World) : 
   pub members : MembersAreLive end.state
   pub contexts : ContextsCount end.state
   pub sound : IsSound end.state
+  pub isolated : AreIsolated all end
 
 -- a run of these steps leads from one world to the other, and the laws hold after each step, the last one
 -- too
@@ -193,70 +194,115 @@ abbrev pub Raised : Tells → Tells → RunCause → Type 0
 Raised old new (causes.HostFailed end) = Rose (faults_of old end) (faults_of new end)
 Raised old new _ = Unit {0}
 
+-- A BAD ITEM
+
+-- the step behind these replies, in the world that the steps before it lead to, asks for items on stream s
+-- of which one is none
+pub record AsksBad (first : World) (steps : List Step) (told : List Reply) (s : ℕ) : Type 0 where
+  pub world : World
+  pub before : play_among [] first (take (length told) steps) ≡ world_plays.Ends told world
+  pub step : Step
+  pub next : slice_get steps (length told) ≡ Some step
+  pub bad : AsksBadItem world step s
+
+-- each item that a run of these steps asks for is an item
+abbrev pub AsksItems : World → List Step → Type 0
+AsksItems first steps = (told : List Reply) (s : ℕ) → ¬ AsksBad first steps told s
+
+-- where guests meet nothing changes but that the store is trapped
+abbrev pub StaysThere : (world : World) (step : Step) (s : ℕ) → AsksBadItem world step s → Type 0
+StaysThere world step s (ByGuest asks) = (react world.state step).state ≡ record world.state { trapped = true }
+StaysThere world step s _ = Unit {0}
+
+-- a run stops behind these replies at a bad item of stream s: the step asks for it, and nothing moves. What
+-- the host ends tell then is what they told just before, but for the record of the host reader that asked
+pub record StopsBad (first : World) (steps : List Step) (told : List Reply) (new : Tells) (s : ℕ) : Type 0 where
+  pub asks : AsksBad first steps told s
+  pub stays : StaysThere asks.world asks.step s asks.bad
+  pub state : State
+  pub writers : (spent state new).writers ≡ (stands_at asks.world asks.step s asks.bad).writers
+  pub readers : (spent state new).readers ≡ (stands_at asks.world asks.step s asks.bad).readers
+
+-- where a run stops at a bad item, it does so
+abbrev pub StopsAsking : World → List Step → List Reply → Tells → RunCause → Type 0
+StopsAsking first steps told new (causes.BadItem s) = StopsBad first steps told new s
+StopsAsking first steps told new _ = Unit {0}
+
+-- behind so many replies memory is wanted before the step that asks, or in it where it polls a host reader: a
+-- step in which guests meet takes none
+abbrev pub WantsBy : (world : World) (step : Step) (s : ℕ) → AsksBadItem world step s → ℕ → ℕ → Type 0
+WantsBy world step s (ByGuest asks) wanted asked = wanted < asked
+WantsBy world step s _ wanted asked = wanted ≤ asked
+
+-- a run that stops so stops at this bad item, or for want of memory before its step or, where that polls a
+-- host reader, in it
+abbrev pub StopsIn : (first : World) (steps : List Step) (told : List Reply) (s : ℕ) →
+    AsksBad first steps told s → List Reply → RunCause → Type 0
+StopsIn first steps told s asks replies (causes.BadItem stream) = (replies ≡ told) × (stream ≡ s)
+StopsIn first steps told s asks replies causes.OutOfMemory =
+    WantsBy asks.world asks.step s asks.bad (length replies) (length told)
+StopsIn first steps told s asks replies (causes.HostFailed end) = ⊥
+StopsIn first steps told s asks replies (causes.HostBroke end) = ⊥
+
+-- where memory was wanted, guests do not meet at a bad item in the next step, if there is one
+abbrev pub WantsUnmet : World → List Step → List Reply → RunCause → Type 0
+WantsUnmet world steps told causes.OutOfMemory =
+    (step : Step) (s : ℕ) → slice_get steps (length told) ≡ Some step → ¬ GuestAsksBad world step s
+WantsUnmet world steps told _ = Unit {0}
+
+-- WHAT HOST ENDS TELL THEN
+
+-- where the machine halts, exactly those host ends that became gone were closed
+abbrev pub StopCloses : World → List Step → Tells → Option Stop → Type 0
+StopCloses first steps new None = Unit {0}
+StopCloses first steps new (Some stop) =
+    (state : State)
+    × ClosesExactly first (last_of first (host_moments first steps)).state (spent state new).writers
+    × ReadersCloseExactly first (last_of first (host_moments first steps)).state (spent state new).readers
+
+-- what host ends tell where memory was wanted: what they told behind these replies, or behind one more,
+-- which was not kept; else the step behind these replies may poll a host end
+pub data WantsThere (first : World) (steps : List Step) (told : List Reply) (new : Tells) : Type 0 where
+  Before : (state : State) → play_among [] first (take (length told) steps) ≡ world_plays.Ends told (spent state new) →
+      WantsThere first steps told new
+  Behind : (reply : Reply) (state : State) →
+      play_among [] first (take (length told + 1) steps) ≡ world_plays.Ends (told ++ reply ∷ []) (spent state new) →
+      WantsThere first steps told new
+  InPoll : (world : World) (step : Step) →
+      play_among [] first (take (length told) steps) ≡ world_plays.Ends told world →
+      slice_get steps (length told) ≡ Some step → may_poll world (act_of step) ≡ true →
+      WantsThere first steps told new
+
+-- the same of a run that stops by this cause
+abbrev pub StopsWanting : World → List Step → List Reply → Tells → Option Stop → Type 0
+StopsWanting first steps told new None = WantsThere first steps told new
+StopsWanting first steps told new (Some stop) = Unit {0}
+
+-- a step that found no memory may have polled a host end; else it changed nothing, or was done, and its reply
+-- was not kept
+pub data WantsStep (old new : State) (tells told : Tells) (step : Step) : Type 0 where
+  MayPoll : may_poll (lone old) (act_of step) ≡ true → WantsStep old new tells told step
+  Untouched : new ≡ old → told ≡ tells → WantsStep old new tells told step
+  Unkept : (reply : Reply) → Does old new tells told (Ok reply) (λ world. step_of world step) →
+      WantsStep old new tells told step
+
+-- the same of a step that stops a run by this cause
+abbrev pub LeavesWanting : State → State → Tells → Tells → Step → RunCause → Type 0
+LeavesWanting old new tells told step causes.OutOfMemory = WantsStep old new tells told step
+LeavesWanting old new tells told step _ = Unit {0}
+
+-- WHERE IT STOPS
+
 -- a run stops behind these replies, which are the machine's to the steps before, and by this cause
 pub record StopsAmong (old new : Tells) (steps : List Step) (told : List Reply) (cause : RunCause) : Type 0 where
   pub world : World
   pub before : play_among [] (start_among old new) (take (length told) steps) ≡ world_plays.Ends told world
   pub halts : HaltsBy (start_among old new) steps told new (stop_of cause)
   pub raised : Raised old new cause
-
--- a record of a host writer says that it failed
-abbrev pub SaysFailed : WriterSaid → Type 0
-SaysFailed said = is_failed said.answer ≡ true
-
--- or, without that, breaks the rules of the host writers of this kind of stream
-abbrev pub SaysBroken : TransmitKind → WriterSaid → Type 0
-SaysBroken kind said = (is_failed said.answer ≡ false) × (breaks_as_writer kind said ≡ true)
-
--- a record of a host reader says that it failed
-abbrev pub ReaderSaysFailed : ReaderSaid → Type 0
-ReaderSaysFailed said = is_failed said.answer ≡ true
-
--- or, without that, breaks the rules of the host readers of this kind of stream
-abbrev pub ReaderSaysBroken : TransmitKind → ReaderSaid → Type 0
-ReaderSaysBroken kind said = (is_failed said.answer ≡ false) × (breaks_as_reader kind said ≡ true)
-
--- of what was said behind what had been said before, this holds of the last
-abbrev pub SaysLast : {A : Type 0} → (A → Type 0) → List A → List A → Type 0
-SaysLast {A} P old new = (more : List A) × (said : A) × (new ≡ old ++ (more ++ said ∷ [])) × P said
-
--- the host end that failed, or broke the rules of its kind, says so by its last record, which it made in
--- this run
-abbrev pub HaltsByRecord : Tells → Tells → Stop → Type 0
-HaltsByRecord old new (stops.HostFailed (ends.Writer n)) = SaysLast SaysFailed (told_by old n).said (told_by new n).said
-HaltsByRecord old new (stops.HostFailed (ends.Reader r)) =
-    SaysLast ReaderSaysFailed (told_by_reader old r).said (told_by_reader new r).said
-HaltsByRecord old new (stops.HostBroke (ends.Writer n)) =
-    SaysLast (SaysBroken (told_by new n).kind) (told_by old n).said (told_by new n).said
-HaltsByRecord old new (stops.HostBroke (ends.Reader r)) =
-    SaysLast (ReaderSaysBroken (told_by_reader new r).kind) (told_by_reader old r).said (told_by_reader new r).said
-HaltsByRecord old new (stops.BadItem s) = Unit {0}
-HaltsByRecord old new stops.StoreTrapped = Unit {0}
-
--- the same of a run that stops, which may want memory
-abbrev pub StopsByRecord : Tells → Tells → Option Stop → Type 0
-StopsByRecord old new None = Unit {0}
-StopsByRecord old new (Some stop) = HaltsByRecord old new stop
-
--- host ends have their records of before, in front of those that were added, and no count of their faults
--- fell
-pub record HostsGoOn (old new : Tells) : Type 0 where
-  pub begins : Extends old (saids new)
-  pub faults : (end : HostEnd) → faults_of old end ≤ faults_of new end
+  pub asks : StopsAsking (start_among old new) steps told new cause
+  pub unmet : WantsUnmet world steps told cause
 
 -- OF GUESTS ALONE
-
--- the step behind these replies, in the state that the steps before it lead to, asks for items on
--- stream s of which one is none
-pub record AsksBad (steps : List Step) (told : List Reply) (state : State) (s : ℕ) : Type 0 where
-  pub before : play [] start (take (length told) steps) ≡ Ends told state
-  pub step : Step
-  pub next : slice_get steps (length told) ≡ Some step
-  pub bad : HasBadItem state step s
-
--- each item that a run of these steps asks for is an item
-abbrev pub AsksItems : List Step → Type 0
-AsksItems steps = (told : List Reply) (state : State) (s : ℕ) → ¬ AsksBad steps told state s
 
 -- why a step of guests alone stops a run: it asks for a bad item; or memory was wanted, where the
 -- machine goes on from it
@@ -267,13 +313,6 @@ StopsStep told state step causes.OutOfMemory =
 StopsStep told state step (causes.HostFailed end) = ⊥
 StopsStep told state step (causes.HostBroke end) = ⊥
 
--- a run stops at a bad item: the machine halts at the step that asks for it, and there all stays as
--- it was, but that the store is trapped
-pub record StopsBad (steps : List Step) (told : List Reply) (state : State) (s : ℕ) : Type 0 where
-  pub asks : AsksBad steps told state s
-  pub halts : play [] start steps ≡ Halts told (replies.BadItem s)
-  pub stays : (react state asks.step).state ≡ record state { trapped = true }
-
 -- a run stops for want of memory: the machine goes on from the step behind these replies, or there
 -- is none
 abbrev pub GoesOn : List Step → List Reply → Type 0
@@ -281,23 +320,55 @@ GoesOn steps told =
     (more : List Reply) × (state : State)
     × (play [] start (take (length told + 1) steps) ≡ Ends (told ++ more) state)
 
--- why a run stops behind these replies, which lead to this state
-abbrev pub StopsAt : List Step → List Reply → State → RunCause → Type 0
-StopsAt steps told state (causes.BadItem s) = StopsBad steps told state s
-StopsAt steps told state causes.OutOfMemory = GoesOn steps told
-StopsAt steps told state (causes.HostFailed end) = ⊥
-StopsAt steps told state (causes.HostBroke end) = ⊥
+-- why a run stops behind these replies: the machine without host ends halts there at a bad item, or memory
+-- was wanted
+abbrev pub StopsAt : List Step → List Reply → RunCause → Type 0
+StopsAt steps told (causes.BadItem s) = play [] start steps ≡ Halts told (replies.BadItem s)
+StopsAt steps told causes.OutOfMemory = GoesOn steps told
+StopsAt steps told (causes.HostFailed end) = ⊥
+StopsAt steps told (causes.HostBroke end) = ⊥
 
 -- a run stops behind these replies: they are the machine's to the steps before, which keep the laws
 pub record StopsBy (steps : List Step) (told : List Reply) (cause : RunCause) : Type 0 where
   pub state : State
   pub before : play [] start (take (length told) steps) ≡ Ends told state
   pub kept : IsKept (take (length told) steps) told state
-  pub at : StopsAt steps told state cause
+  pub at : StopsAt steps told cause
 
--- a run that stops so stops at this bad item, or earlier, for want of memory
-abbrev pub StopsIn : List Reply → ℕ → List Reply → RunCause → Type 0
-StopsIn told s replies (causes.BadItem stream) = (replies ≡ told) × (stream ≡ s)
-StopsIn told s replies causes.OutOfMemory = length replies < length told
-StopsIn told s replies (causes.HostFailed end) = ⊥
-StopsIn told s replies (causes.HostBroke end) = ⊥
+-- WHOLE RUNS
+
+-- a run of these steps comes to its end: it is the machine's play on them and on the records that host ends
+-- added, exactly those: none is left, and none is wanting; none says that its end failed, and each keeps the
+-- rules; the laws of every run hold of it. What host writers that held and recorded items alone produced is
+-- received, held or given up. Of guests alone it is the machine's without host ends
+pub record IsWhole (old new : Tells) (steps : List Step) (replies : List Reply) (state : State) : Type 0 where
+  pub played : RunsTo (start_among old new) steps replies state new
+  pub kept_among : IsKeptAmong (start_among old new) steps (spent state new)
+  pub delivers : AreOfItems old → DeliversEach (start_among old new) steps (spent state new)
+  pub rules : RulesKept old new
+  pub alone : AreOfGuests steps → play [] start steps ≡ Ends replies state
+  pub kept : AreOfGuests steps → IsKept steps replies state
+
+-- a run of these steps stops behind these replies, by this cause: they are the machine's to the steps before,
+-- which keep the laws. A host end that failed, or broke the rules of its kind, says so by its last record,
+-- which it made in this run, and no other record that was added does; and a bad item was asked for. Exactly
+-- the host ends that became gone were closed. Where memory was wanted by a step that polls none, they tell what
+-- they told before it. Of guests alone it stops as without host ends
+pub record HasStopped (old new : Tells) (steps : List Step) (replies : List Reply) (cause : RunCause) : Type 0 where
+  pub stops : StopsAmong old new steps replies cause
+  pub by_record : StopsByRecord old new (stop_of cause)
+  pub rules : StopRules (stop_of cause) old new
+  pub closes : StopCloses (start_among old new) steps new (stop_of cause)
+  pub wanting : StopsWanting (start_among old new) steps replies new (stop_of cause)
+  pub kept_before : IsKeptBefore (start_among old new) steps replies
+  pub alone : AreOfGuests steps → StopsBy steps replies cause
+
+-- how a run of these steps comes out, by causes that a caller sees: memory is all that it may want where no
+-- host end fails, each record that one added obeys the rules, and each item asked for is one; and it stops
+-- at a bad item that is asked for
+pub record IsDecided (old new : Tells) (steps : List Step) (result : Result Transcript RunStop) : Type 0 where
+  pub complete : NoneRose old new → ObeyRules old new → AsksItems (start_among old new) steps →
+      IfErr result (λ stop. stop.cause ≡ causes.OutOfMemory)
+  pub bad_item : (told : List Reply) (s : ℕ) (asks : AsksBad (start_among old new) steps told s) →
+      IsErr result
+      × IfErr result (λ stop. StopsIn (start_among old new) steps told s asks stop.replies stop.cause)

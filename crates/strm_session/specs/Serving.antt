@@ -2,7 +2,6 @@
 use Rattle.std.specs.Prelude.{◌≡◌, ◌≢◌, ◌≤◌, ◌<◌, ◌⊎◌, ℕ, List, [], ◌∷◌, length, codes, decimal, Option, Some, IfSome}
 use Rattle.std.specs.Io.KnownBytes.{IsAtEnd}
 use Rattle.strm_machine.specs.State.{State}
-use Rattle.strm_machine.specs.Plays.{play, Ends}
 use Rattle.strm_machine.specs.declared.steps.Step.{Step}
 use Rattle.strm_machine.specs.declared.replies.Reply.{Reply}
 use Rattle.strm_machine.specs.declared.stops.Stop.{Stop}
@@ -12,14 +11,14 @@ use Rattle.strm_world.specs.Ends.{Writer, Reader}
 use Rattle.strm_world.specs.World.{World}
 use Rattle.strm_world.specs.HostPlays.{play as play_among}
 use Rattle.strm_world.specs.HostPlays as world_plays
-use Rattle.strm_world.specs.Does.{RunsTo, spent}
 use Rattle.strm_ports.specs.Faults.{Rose}
 use Rattle.strm_lines.specs.Grammar.{IsU32}
 use Rattle.strm_lines.specs.Generator.{generated}
 use Rattle.strm_lines.specs.Lines.{lines_of, Spells, IsFirstBad, IsTooLong}
 use Rattle.strm_session.specs.declared.runs.RunCause.{RunCause}
 use Rattle.strm_session.specs.declared.runs.RunCause.TheVariants as causes
-use Rattle.strm_session.specs.Runs.{start, start_among, AreOfGuests, counts_of, IsKept, IsKeptAmong, IsKeptBefore, AreOfItems, DeliversEach, StopsAmong, HaltsByRecord, StopsBy}
+use Rattle.strm_session.specs.Records.{NoneRose, ObeyRules}
+use Rattle.strm_session.specs.Runs.{start_among, AreOfGuests, counts_of, AsksBad, AsksItems, IsWhole, HasStopped}
 use Rattle.strm_lines.specs.Text.{transcript_text, summary_text, stopped_text, usage_text, bad_line_text, too_long_text, read_fault_text}
 
 -- the words behind the program's name tell it to run an input
@@ -35,18 +34,6 @@ pub record IsGen (words : List (List ℕ)) (n seed : ℕ) : Type 0 where
 -- they tell it one of the two
 abbrev pub IsCommand : List (List ℕ) → Type 0
 IsCommand words = IsRun words ⊎ ((n : ℕ) × (seed : ℕ) × IsGen words n seed)
-
--- a run of these steps comes to its end: it is the machine's play on them and on the records that host ends
--- added, exactly those; the laws of every run hold of it. Of guests alone it is the machine's without host
--- ends, and on each stream what was received in it is, in order, the first k items of each accepted write, k
--- the count reported, each as it lay in its guest's memory just before it was copied, and as many as the
--- reads report
-pub record IsWhole (old new : Tells) (steps : List Step) (replies : List Reply) (state : State) : Type 0 where
-  pub played : RunsTo (start_among old new) steps replies state new
-  pub kept_among : IsKeptAmong (start_among old new) steps (spent state new)
-  pub delivers : AreOfItems old → DeliversEach (start_among old new) steps (spent state new)
-  pub alone : AreOfGuests steps → play [] start steps ≡ Ends replies state
-  pub kept : AreOfGuests steps → IsKept steps replies state
 
 -- the text of a run of the steps that the lines of an input spell
 pub record IsTranscript (old new : Tells) (input text : List ℕ) : Type 0 where
@@ -99,10 +86,7 @@ pub record IsStopped (old new : Tells) (status : ℕ) (input text : List ℕ) : 
   pub cause : RunCause
   pub why : Stop
   pub status_is : IsStatusOf status cause why
-  pub stop : StopsAmong old new steps replies cause
-  pub by_record : HaltsByRecord old new why
-  pub kept_before : IsKeptBefore (start_among old new) steps replies
-  pub alone : AreOfGuests steps → StopsBy steps replies cause
+  pub run : HasStopped old new steps replies cause
   pub text_is : text ≡ stopped_text replies why
 
 -- the statuses of a run that stops
@@ -156,3 +140,44 @@ pub record IsFaultless (words : List (List ℕ)) (left : Option (List ℕ)) (inp
   pub input_is : left ≡ Some input
   pub source : ¬ Rose source_before source_after
   pub sink : ¬ Rose sink_before sink_after
+
+-- and the input is in the grammar and the limits, and spells these steps
+pub record IsRunOf (words : List (List ℕ)) (left : Option (List ℕ))
+    (source_before source_after sink_before sink_after : ℕ) (steps : List Step) : Type 0 where
+  pub input : List ℕ
+  pub faultless : IsFaultless words left input source_before source_after sink_before sink_after
+  pub spelled : Spells (lines_of input) steps
+  pub within : ¬ IsTooLong input
+
+-- this status, or that of want of memory
+abbrev pub IsOr : ℕ → ℕ → Type 0
+IsOr expected status = (status ≡ expected) ⊎ (status ≡ 9)
+
+-- which status comes, but for a fault of source or sink and for want of memory, by causes that a caller sees:
+-- an input in the grammar and the limits is run to its end where no host end fails, each record that one
+-- added obeys the rules, and each item asked for is one; a bad item that is asked for is told, and so are
+-- the first bad line, an input over the limits, and how to call the program
+pub record IsComplete (words : List (List ℕ)) (left : Option (List ℕ))
+    (source_before source_after sink_before sink_after : ℕ) (old new : Tells) (status : ℕ) : Type 0 where
+  pub complete : (steps : List Step) →
+      IsRunOf words left source_before source_after sink_before sink_after steps →
+      NoneRose old new → ObeyRules old new → AsksItems (start_among old new) steps → IsOr 0 status
+  pub bad_item : (steps : List Step) →
+      IsRunOf words left source_before source_after sink_before sink_after steps →
+      (told : List Reply) (s : ℕ) → AsksBad (start_among old new) steps told s → IsOr 8 status
+  -- the machine plays them to their end on the records that were added, or halts by a stop
+  pub ends : (steps : List Step) →
+      IsRunOf words left source_before source_after sink_before sink_after steps →
+      PlaysOn (start_among old new) steps → IsOr 0 status
+  pub halts : (steps : List Step) →
+      IsRunOf words left source_before source_after sink_before sink_after steps → (stop : Stop) →
+      HaltsWith (start_among old new) steps stop → StandsFor status stop ⊎ (status ≡ 9)
+  pub bad_line : (input : List ℕ) (line : ℕ) →
+      IsFaultless words left input source_before source_after sink_before sink_after →
+      IsFirstBad (lines_of input) line → ¬ IsTooLong input → IsOr 2 status
+  pub too_long : (input : List ℕ) →
+      IsFaultless words left input source_before source_after sink_before sink_after →
+      IsTooLong input → IsOr 3 status
+  pub generated : (n seed : ℕ) → IsGen words n seed → ¬ Rose sink_before sink_after → n ≤ 262140 → IsOr 0 status
+  pub too_many : (n seed : ℕ) → IsGen words n seed → ¬ Rose sink_before sink_after → 262140 < n → IsOr 3 status
+  pub usage : ¬ IsCommand words → ¬ Rose sink_before sink_after → IsOr 1 status

@@ -10,7 +10,10 @@ ghost use Rattle.strm_machine.specs.Untouched.{StaysAside, LieThere};
 ghost use Rattle.strm_laws.specs.Conservation.{moments, last};
 ghost use Rattle.strm_laws.specs.Laws.{AreSteps};
 ghost use Rattle.strm_world.specs.World.{World};
-ghost use Rattle.strm_world.specs.HostPlays.{play as play_among, Ends as EndsAmong};
+ghost use Rattle.strm_world.specs.Ends.{Writer, Reader};
+ghost use Rattle.strm_world.specs.HostPlays.{play as play_among, Ends as EndsAmong, Halts as HaltsAmong};
+ghost use Rattle.strm_machine.specs.declared.stops.Stop.{Stop};
+ghost use Rattle.strm_host_laws.specs.HostLaws.{ClosesExactly, ReadersCloseExactly};
 ghost use Rattle.strm_host_laws.specs.HostMoments.{host_moments, last_of};
 ghost use Rattle.strm_buffers.specs.Tells.{Tells};
 ghost use Rattle.strm_session.specs.Runs.{start, start_among, HasLaws, HasLawsAmong};
@@ -52,6 +55,16 @@ pub(crate) fn laws_hold_among()
     ensures leads { (old new : Tells) (steps : List Step) (replies : List Reply) (end : World) →
         play_among [] (start_among old new) steps ≡ EndsAmong replies end →
         last_of (start_among old new) (host_moments (start_among old new) steps) ≡ end }
+    ensures writers { (old new : Tells) (steps : List Step) (replies : List Reply) (stop : Stop)
+        (writers : List Writer) (readers : List Reader) →
+        play_among [] (start_among old new) steps ≡ HaltsAmong replies stop writers readers →
+        ClosesExactly (start_among old new)
+        (last_of (start_among old new) (host_moments (start_among old new) steps)).state writers }
+    ensures readers { (old new : Tells) (steps : List Step) (replies : List Reply) (stop : Stop)
+        (writers : List Writer) (readers : List Reader) →
+        play_among [] (start_among old new) steps ≡ HaltsAmong replies stop writers readers →
+        ReadersCloseExactly (start_among old new)
+        (last_of (start_among old new) (host_moments (start_among old new) steps)).state readers }
 {
     runs::moments_lead_to_the_end();
     runs::ends_close_exactly();
@@ -60,6 +73,7 @@ pub(crate) fn laws_hold_among()
     runs::readers_are_granted_exactly();
     runs::readers_tell_what_they_took();
     runs::producers_deliver_in_order();
+    runs::streams_are_isolated();
     guests::conservation();
     guests::conservation_among();
     guests::futures_pass_one();

@@ -5,9 +5,11 @@
 #![tactic(auto)]
 
 mod laws;
+mod playing;
 pub mod runs;
 pub mod serving;
 pub mod texts;
+pub mod traps;
 
 pub use strm_lines::{generator, lists, parsing};
 pub use strm_ports::{in_memory, ports, standard, whole};

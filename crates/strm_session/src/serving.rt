@@ -2,30 +2,27 @@
 //!
 //! Source: ours.
 
-ghost use Rattle.std.specs.Prelude.{◌≡◌, ◌≢◌, ◌≤◌, ◌<◌, ◌+◌, ◌⊎◌, ◌↔◌, ◌∷◌, ℕ, List, [], length, map, codes, IfOk, IsErr, IsTrue, Some, string_bytes};
+ghost use Rattle.std.specs.Prelude.{◌≡◌, ◌≢◌, ◌≤◌, ◌+◌, ◌⊎◌, ◌↔◌, ℕ, List, [], length, map, IfOk, IsErr, IsTrue, Some, string_bytes};
 ghost use Rattle.std.specs.Io.KnownBytes.{Appends, Consumes};
-ghost use Rattle.strm_machine.specs.declared.steps.Step.{Step};
-ghost use Rattle.strm_machine.specs.State.{State};
-ghost use Rattle.strm_machine.specs.declared.replies.Reply.{Reply};
 ghost use Rattle.strm_buffers.specs.AllTells.{tells_of};
-ghost use Rattle.strm_machine.specs.declared.stops.Stop.{Stop};
-ghost use Rattle.strm_session.specs.Runs.{start_among, HostsGoOn, AreOfGuests, AsksBad, AsksItems};
+ghost use Rattle.strm_session.specs.Records.{HostsGoOn};
 ghost use Rattle.strm_ports.specs.Faults.{Rose, TakesPart};
-ghost use Rattle.strm_lines.specs.Lines.{lines_of, Spells, IsFirstBad, IsTooLong};
+ghost use Rattle.strm_lines.specs.Lines.{lines_of, Spells};
 ghost use Rattle.strm_lines.specs.Generator.{generated};
-ghost use Rattle.strm_session.specs.Serving.{IsRun, IsGen, IsCommand, IsOfInput, IsOfNumbers, IsSummary, IsStop, IsOutput, IsStatus, IsStatusOf, IsFaultless, IsTranscript, IsStopped, PlaysOn, HaltsWith, StandsFor};
+ghost use Rattle.strm_session.specs.Serving.{IsRun, IsGen, IsOfInput, IsOfNumbers, IsSummary, IsStop, IsOutput, IsStatus, IsStatusOf, IsComplete, IsTranscript, IsStopped};
 
-use crate::runs::{RunCause, run};
-use crate::texts::{
-    bad_line_text, read_fault_text, stopped_text, summary, text, too_long_text, usage_text,
-};
+use crate::playing::play_all;
+use crate::runs::RunCause;
+use crate::texts::{bad_line_text, read_fault_text, too_long_text, usage_text};
 use std::alloc::Global;
 use strm_buffers::hosts::Hosts;
 use strm_codes::counts::OutOfMemory;
-use strm_lines::generator::{MAX_DRAWN, generate};
+use strm_lines::generator::{Drawn, MAX_DRAWN};
 use strm_lines::lists::TextBytes;
-use strm_lines::parsing::{MAX_BYTES, ParseError, number_of, parse};
-use strm_machine::steps::Step;
+use strm_lines::one_by_one::GivesSteps;
+use strm_lines::parsing::{MAX_BYTES, ParseError, number_of, parse_onto};
+use strm_lines::replies::{ReplyCounts, ReplyLines};
+use strm_lines::rows::StepRows;
 use strm_machine::stops::Stop;
 use strm_ports::ports::{Sink, Source};
 use strm_ports::whole::{InputError, read_all, write_whole};
@@ -107,54 +104,10 @@ pub fn serve<S: Source, K: Sink>(
     ensures goes_on { HostsGoOn (tells_of writer_tells reader_tells hosts.old)
         (tells_of writer_tells reader_tells hosts.new) }
 
-    // An input in the grammar and the limits is run to its end, but for faults and want of memory, where
-    // the machine plays it to its end on the records that host ends add; and where the machine halts, the
-    // status is that of its stop.
-    ensures ends { (input : List ℕ) (steps : List Step) →
-        IsFaultless (map string_bytes words.now.items) (S.left source.old) input
-        (S.faults source.old) (S.faults source.new) (K.faults sink.old) (K.faults sink.new) →
-        Spells (lines_of input) steps → ¬ IsTooLong input →
-        PlaysOn (start_among (tells_of writer_tells reader_tells hosts.old) (tells_of writer_tells reader_tells hosts.new)) steps →
-        (result ≡ DONE) ⊎ (result ≡ OUT_OF_MEMORY) }
-    ensures halts { (input : List ℕ) (steps : List Step) →
-        IsFaultless (map string_bytes words.now.items) (S.left source.old) input
-        (S.faults source.old) (S.faults source.new) (K.faults sink.old) (K.faults sink.new) →
-        Spells (lines_of input) steps → ¬ IsTooLong input → (stop : Stop) →
-        HaltsWith (start_among (tells_of writer_tells reader_tells hosts.old) (tells_of writer_tells reader_tells hosts.new)) steps stop →
-        (StandsFor result stop) ⊎ (result ≡ OUT_OF_MEMORY) }
-
-    // Of guests alone: what is in the grammar and the limits and asks for items alone is run and
-    // written, but for faults and want of memory; else the bad item is told, the first bad line, that
-    // the input is over the limits, or how to call it.
-    ensures complete { (input : List ℕ) (steps : List Step) →
-        IsFaultless (map string_bytes words.now.items) (S.left source.old) input
-        (S.faults source.old) (S.faults source.new) (K.faults sink.old) (K.faults sink.new) →
-        Spells (lines_of input) steps → ¬ IsTooLong input → AreOfGuests steps → AsksItems steps →
-        (result ≡ DONE) ⊎ (result ≡ OUT_OF_MEMORY) }
-    ensures bad_item { (input : List ℕ) (steps : List Step) →
-        IsFaultless (map string_bytes words.now.items) (S.left source.old) input
-        (S.faults source.old) (S.faults source.new) (K.faults sink.old) (K.faults sink.new) →
-        Spells (lines_of input) steps → ¬ IsTooLong input → AreOfGuests steps →
-        (told : List Reply) (state : State) (s : ℕ) → AsksBad steps told state s →
-        (result ≡ BAD_ITEM) ⊎ (result ≡ OUT_OF_MEMORY) }
-    ensures bad_line { (input : List ℕ) (line : ℕ) →
-        IsFaultless (map string_bytes words.now.items) (S.left source.old) input
-        (S.faults source.old) (S.faults source.new) (K.faults sink.old) (K.faults sink.new) →
-        IsFirstBad (lines_of input) line → ¬ IsTooLong input →
-        (result ≡ BAD_LINE) ⊎ (result ≡ OUT_OF_MEMORY) }
-    ensures too_long { (input : List ℕ) →
-        IsFaultless (map string_bytes words.now.items) (S.left source.old) input
-        (S.faults source.old) (S.faults source.new) (K.faults sink.old) (K.faults sink.new) →
-        IsTooLong input → (result ≡ TOO_LONG) ⊎ (result ≡ OUT_OF_MEMORY) }
-    ensures generated { (n seed : ℕ) → IsGen (map string_bytes words.now.items) n seed →
-        ¬ Rose (K.faults sink.old) (K.faults sink.new) → n ≤ MAX_DRAWN →
-        (result ≡ DONE) ⊎ (result ≡ OUT_OF_MEMORY) }
-    ensures too_many { (n seed : ℕ) → IsGen (map string_bytes words.now.items) n seed →
-        ¬ Rose (K.faults sink.old) (K.faults sink.new) → MAX_DRAWN < n →
-        (result ≡ TOO_LONG) ⊎ (result ≡ OUT_OF_MEMORY) }
-    ensures usage { ¬ IsCommand (map string_bytes words.now.items) →
-        ¬ Rose (K.faults sink.old) (K.faults sink.new) →
-        (result ≡ USAGE) ⊎ (result ≡ OUT_OF_MEMORY) }
+    // Which status comes, but for faults and want of memory, by causes that a caller sees.
+    ensures complete { IsComplete (map string_bytes words.now.items) (S.left source.old)
+        (S.faults source.old) (S.faults source.new) (K.faults sink.old) (K.faults sink.new)
+        (tells_of writer_tells reader_tells hosts.old) (tells_of writer_tells reader_tells hosts.new) result }
 {
     match answer_words(alloc, words, source, hosts) {
         Ok(output) => match write_whole(sink, output.text.as_slice()) {
@@ -276,8 +229,9 @@ fn answer_input(alloc: Global, input: &[u8], hosts: &mut Hosts) -> Result<Output
     ensures goes_on { HostsGoOn (tells_of writer_tells reader_tells hosts.old)
         (tells_of writer_tells reader_tells hosts.new) }
 {
-    match parse(alloc, input) {
-        Ok(steps) => answer_steps(alloc, steps.as_slice(), hosts),
+    let mut steps = StepRows::new(alloc);
+    match parse_onto(&mut steps, input) {
+        Ok(()) => answer_steps(alloc, &steps, hosts),
         Err(ParseError::TooLong) => fixed(alloc, TOO_LONG, too_long_text()),
         Err(ParseError::BadLine { line }) => {
             let text = bad_line_text(alloc, line)?;
@@ -291,26 +245,28 @@ fn answer_input(alloc: Global, input: &[u8], hosts: &mut Hosts) -> Result<Output
 }
 
 // What is to be written for a list of steps.
-fn answer_steps(alloc: Global, steps: &[Step], hosts: &mut Hosts) -> Result<Output, OutOfMemory>
-    requires few { length steps.now ≤ 4294967295 }
+fn answer_steps(alloc: Global, steps: &StepRows, hosts: &mut Hosts) -> Result<Output, OutOfMemory>
+    requires few { length steps.now.items ≤ 4294967295 }
     requires writers { length (tells_of writer_tells reader_tells hosts.old).writers ≤ 64 }
     requires readers { length (tells_of writer_tells reader_tells hosts.old).readers ≤ 64 }
     ensures known { IfOk result (λ a. (a.status ≡ DONE) ⊎ IsStop a.status) }
-    ensures done { (input : List ℕ) → Spells (lines_of input) steps.now →
+    ensures done { (input : List ℕ) → Spells (lines_of input) steps.now.items →
         IfOk result (λ a. a.status ≡ DONE → IsTranscript (tells_of writer_tells reader_tells hosts.old) (tells_of writer_tells reader_tells hosts.new) input a.text) }
-    ensures stopped { (input : List ℕ) → Spells (lines_of input) steps.now →
+    ensures stopped { (input : List ℕ) → Spells (lines_of input) steps.now.items →
         IfOk result (λ a. IsStop a.status → IsStopped (tells_of writer_tells reader_tells hosts.old) (tells_of writer_tells reader_tells hosts.new) a.status input a.text) }
     ensures goes_on { HostsGoOn (tells_of writer_tells reader_tells hosts.old)
         (tells_of writer_tells reader_tells hosts.new) }
 {
-    match run(alloc, steps, hosts) {
-        Ok(transcript) => {
-            let text = text(alloc, &transcript)?;
+    let mut given = steps.left();
+    let mut replies = ReplyLines::new(alloc, given.len());
+    match play_all(alloc, &mut given, &mut replies, hosts) {
+        Ok(ended) => {
+            let text = replies.ended(ended.moved.as_slice())?;
             Ok(Output { status: DONE, text })
         }
-        Err(stop) => {
-            let (status, why) = status_of(stop.cause)?;
-            let text = stopped_text(alloc, stop.replies.as_slice(), why)?;
+        Err(cause) => {
+            let (status, why) = status_of(cause)?;
+            let text = replies.stopped(why)?;
             Ok(Output { status, text })
         }
     }
@@ -343,35 +299,32 @@ fn answer_numbers(
         (tells_of writer_tells reader_tells hosts.new) count seed a.status a.text) }
     ensures hosts { tells_of writer_tells reader_tells hosts.new ≡ tells_of writer_tells reader_tells hosts.old }
 {
-    match generate(alloc, count, seed) {
-        Ok(steps) => answer_drawn(alloc, steps.as_slice(), hosts),
-        Err(ParseError::TooLong) => fixed(alloc, TOO_LONG, too_long_text()),
-        Err(ParseError::OutOfMemory) => Err(OutOfMemory),
-        Err(ParseError::BadLine { .. }) => unreachable!(),
+    if count > MAX_DRAWN {
+        return fixed(alloc, TOO_LONG, too_long_text());
     }
+    answer_drawn(alloc, &mut Drawn::new(count, seed), hosts)
 }
 
-// What is to be written for steps that were drawn: their run stops for want of memory alone.
-fn answer_drawn(alloc: Global, steps: &[Step], hosts: &mut Hosts) -> Result<Output, OutOfMemory>
-    requires drawn { (n : ℕ) × (seed : ℕ) × (steps.now ≡ generated n seed) }
-    requires few { length steps.now ≤ 4294967295 }
+// What is to be written for steps that are drawn: their run stops for want of memory alone.
+fn answer_drawn(alloc: Global, steps: &mut Drawn, hosts: &mut Hosts) -> Result<Output, OutOfMemory>
+    requires drawn { (n : ℕ) × (seed : ℕ) × (steps.old ≡ generated n seed) }
+    requires few { length steps.old ≤ 4294967295 }
     requires writers { length (tells_of writer_tells reader_tells hosts.old).writers ≤ 64 }
     requires readers { length (tells_of writer_tells reader_tells hosts.old).readers ≤ 64 }
     ensures done { IfOk result (λ a. (a.status ≡ DONE)
         × IsSummary (tells_of writer_tells reader_tells hosts.old)
-        (tells_of writer_tells reader_tells hosts.new) steps.now a.text) }
+        (tells_of writer_tells reader_tells hosts.new) steps.old a.text) }
     ensures hosts { tells_of writer_tells reader_tells hosts.new ≡ tells_of writer_tells reader_tells hosts.old }
 {
-    match run(alloc, steps, hosts) {
-        Ok(transcript) => {
-            let text = summary(alloc, &transcript)?;
+    let mut counts = ReplyCounts::new();
+    match play_all(alloc, steps, &mut counts, hosts) {
+        Ok(ended) => {
+            let text = counts.summary(alloc, ended.moved.as_slice())?;
             Ok(Output { status: DONE, text })
         }
-        Err(stop) => match stop.cause {
-            RunCause::OutOfMemory => Err(OutOfMemory),
-            RunCause::HostFailed { .. } => unreachable!(),
-            RunCause::HostBroke { .. } => unreachable!(),
-            RunCause::BadItem { .. } => unreachable!(),
-        },
+        Err(RunCause::OutOfMemory) => Err(OutOfMemory),
+        Err(RunCause::HostFailed { .. }) => unreachable!(),
+        Err(RunCause::HostBroke { .. }) => unreachable!(),
+        Err(RunCause::BadItem { .. }) => unreachable!(),
     }
 }

@@ -17,3 +17,5 @@ mod serving;
 mod stops;
 #[cfg(test)]
 mod texts;
+#[cfg(test)]
+mod writers;

@@ -1,8 +1,13 @@
 //! A source and a sink in memory, which give and take bytes in pieces, and of which a call fails.
 
+ghost use Rattle.std.specs.Prelude.{◌≤◌, length};
+ghost use Rattle.strm_buffers.specs.AllTells.{tells_of};
+
 use std::alloc::{AllocError, Global};
 use std::process::Abort;
+use strm_buffers::hosts::Hosts;
 use strm_session::in_memory::{BytesSink, BytesSource};
+use strm_session::serving::serve;
 use strm_session::whole::{read_all, write_whole};
 
 /// A source of these bytes, of which a call gives at most 4, and the call of this number fails.
@@ -16,6 +21,29 @@ pub(crate) fn source(alloc: Global, bytes: &[u8], failing: u32) -> Result<BytesS
 pub(crate) fn sink(alloc: Global, failing: u32) -> Result<BytesSink, AllocError> {
     let failing = vec![in alloc; failing]?;
     Ok(BytesSink::new(alloc, 3, failing))
+}
+
+/// Whether these lines are served so by `run`, among these host ends, from a source and to a sink of which a call
+/// gives or takes at most 8 bytes, and the calls of these numbers fail.
+pub(crate) fn pieces_of_eight(
+    alloc: Global,
+    input: &str,
+    failing: (u32, u32),
+    status: u8,
+    text: &str,
+    hosts: &mut Hosts,
+) -> Result<bool, AllocError>
+    requires writers { length (tells_of writer_tells reader_tells hosts.old).writers ≤ 64 }
+    requires readers { length (tells_of writer_tells reader_tells hosts.old).readers ≤ 64 }
+{
+    let mut words = Vec::new(alloc);
+    words.push(String::from_str(alloc, "run")?)?;
+    let read = vec![in alloc; failing.0]?;
+    let mut source = BytesSource::new(input.as_bytes().to_vec(alloc)?, 8, read);
+    let written = vec![in alloc; failing.1]?;
+    let mut sink = BytesSink::new(alloc, 8, written);
+    let found = serve(alloc, &words, &mut source, &mut sink, hosts);
+    Ok(found == status && sink.taken() == text.as_bytes())
 }
 
 // Whether a line is read whole where the call of this number fails.

@@ -92,8 +92,8 @@ const OF_STREAMS: [Case; 4] = [
 ];
 
 // On a future: Dropped, Completed with the value not taken, and Cancelled with it taken; and a value
-// that is taken.
-const OF_FUTURES: [Case; 4] = [
+// that is taken, and an asked Cancelled without it.
+const OF_FUTURES: [Case; 5] = [
     Case {
         turns: &[(1, Answer::Dropped)],
         input: "guest 16\nnew 0 future:u8\nlift 0 future:u8 1\npipe 0 0\nwrite 0 future:u8 2 0\n",
@@ -118,6 +118,14 @@ const OF_FUTURES: [Case; 4] = [
         input: "guest 16\nnew 0 future:u8\nlift 0 future:u8 1\npipe 0 0\nwrite 0 future:u8 2 0\n",
         status: 0,
         text: "0\nread 1 write 2 stream 0\n0\nok\n00000000\nstream 0 moved 1\ndone 5\n",
+    },
+    Case {
+        turns: &[(0, Answer::Pending), (0, Answer::Cancelled)],
+        input: "guest 16\nnew 0 future:u8\nlift 0 future:u8 1\npipe 0 0\nwrite 0 future:u8 2 0\n\
+            cancel-write 0 future:u8 2\ndrive\nevent 0 2\n",
+        status: 0,
+        text: "0\nread 1 write 2 stream 0\n0\nok\nffffffff\nffffffff\nok\n00000002\n\
+            stream 0 moved 0\ndone 8\n",
     },
 ];
 

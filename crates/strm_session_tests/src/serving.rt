@@ -1,4 +1,4 @@
-//! The statuses of `serve` and their texts, also where a source, a sink or a host writer fails.
+//! The statuses of `serve` and their texts, also where a source or a sink fails.
 
 ghost use Rattle.std.specs.Prelude.{◌≤◌, length};
 ghost use Rattle.strm_buffers.specs.AllTells.{tells_of};
@@ -6,15 +6,9 @@ ghost use Rattle.strm_buffers.specs.AllTells.{tells_of};
 use crate::pieces::{sink, source};
 use std::alloc::{AllocError, Global};
 use std::process::Abort;
-use std::test::Fail;
-use strm_buffers::answers::Answer;
 use strm_buffers::hosts::Hosts;
-use strm_buffers::items::Items;
-use strm_codes::codes::TransmitKind;
 use strm_codes::payloads::Payload;
 use strm_codes::scalars::Scalar;
-use strm_ends::scripted_writer::{ScriptedWriter, WriterTurn};
-use strm_memory::payloaded::Payloaded;
 use strm_session::serving::serve;
 
 /// Words, an input, the calls of the source and of the sink that fail, the status, and its text.
@@ -145,53 +139,4 @@ fn each_status_has_its_text(rt: HostRuntime) {
     }
 }
 
-const LINES: &str = "host 0\nguest 16\nlower 0 0 stream:u8\nread 0 stream:u8 1 0 2\n";
-
 pub(crate) const BYTE: Payload = Payload::One(Scalar::U8);
-
-// Whether lines are served so where the one host writer produces a byte, or nothing, and answers so.
-fn is_served_by(alloc: Global, row: &Row, byte: Option<u8>, answer: Answer) -> Result<bool, Fail> {
-    let mut items = Items::new(alloc, BYTE);
-    if let Some(byte) = byte {
-        items.push(&byte.lower())?;
-    }
-    let mut turns = Vec::new(alloc);
-    turns.push(WriterTurn { items, answer })?;
-    let writer = ScriptedWriter::new(alloc, TransmitKind::Stream, BYTE, turns);
-    let mut hosts = Hosts {
-        writers: Vec::new(alloc),
-        readers: Vec::new(alloc),
-    };
-    hosts.writers.push(Box::new(alloc, writer)?)?;
-    Ok(is_served(alloc, row, &mut hosts)?)
-}
-
-const BROKE: Row = Row {
-    words: RUN,
-    input: LINES,
-    failing: NONE,
-    status: 7,
-    text: "0\n0\n1\nstopped 4 host-broke writer 0\n",
-};
-
-const FAILED: Row = Row {
-    words: RUN,
-    input: LINES,
-    failing: NONE,
-    status: 6,
-    text: "0\n0\n1\nstopped 4 host-failed writer 0\n",
-};
-
-#[test]
-fn a_host_writer_that_breaks_its_rules(rt: HostRuntime) -> Result<(), Fail> {
-    let is_told = is_served_by(rt.alloc(), &BROKE, Some(7), Answer::Pending)?;
-    assert!(rt; is_told);
-    Ok(())
-}
-
-#[test]
-fn a_host_writer_that_fails(rt: HostRuntime) -> Result<(), Fail> {
-    let is_told = is_served_by(rt.alloc(), &FAILED, None, Answer::Failed)?;
-    assert!(rt; is_told);
-    Ok(())
-}

@@ -4,16 +4,19 @@
 
 ghost use Rattle.std.specs.Prelude.{◌≡◌, ◌+◌, ◌<◌, ◌≤◌, length, [], ◌∷◌, ◌++◌, OnOk, slice_get, option_copied};
 ghost use Rattle.strm_shared.specs.Histories.{entry};
-ghost use Rattle.strm_shared.specs.Rows.{chunk_at, whole_step, whole_reply, chunks_of_step, chunks_of_reply, IsStepPlaced, IsReplyPlaced};
+ghost use Rattle.strm_machine.specs.ShortSteps.{chunk_at, whole_step, chunks_of_step, IsStepPlaced};
+ghost use Rattle.strm_shared.specs.Rows.{whole_reply, chunks_of_reply, IsReplyPlaced};
 
 use crate::blocks::Blocks;
 use crate::entry::Entry;
-use crate::rows::{Row, ShortReply, ShortStep, same_reply, same_step};
+use crate::rows::{Row, ShortReply, same_reply};
 use std::alloc::Global;
 use std::marker::Model;
 use strm_codes::counts::OutOfMemory;
 use strm_machine::chunks::Chunk;
 use strm_machine::replies::Reply;
+use strm_machine::same_step;
+use strm_machine::short_steps::ShortStep;
 use strm_machine::steps::Step;
 
 // A chunk more, for which there is room; its place.

@@ -25,7 +25,7 @@ use Rattle.strm_machine.proofs.SoundStepLemmas.{operate-keeps, reaction-sound}
 use Rattle.strm_machine.proofs.TableLemmas.{OwnersStay, with_end-owners, owner_in}
 use Rattle.strm_machine.proofs.Shapes.{turn_on, Shape, ByTurn, BySetting, ByOwner, ByTable, ByPair, ByGuest, ByPut, ByRest}
 use Rattle.strm_machine.proofs.ShapeLemmas.{reaction-shape}
-use Rattle.strm_world.specs.Steps.{polls_by, may_poll, touches_by, touches}
+use Rattle.strm_world.specs.Steps.{touches_by, touches}
 use Rattle.strm_world.proofs.TouchLemmas.{touch-by}
 use Rattle.strm_transmit.specs.Hosted.{lone}
 use Rattle.strm_transmit.specs.Guests.{AreUnhosted, Unhosted, is_of_guests}
@@ -128,19 +128,6 @@ touches-none state act u =
       operated = λ side end address count e. u.none (stream_named (named state end)) (opposite side);
       dropped = λ act s side d e. u.none s (opposite side);
       hosted = λ n act e. cc;
-      driven = λ e. cc;
-      alone = λ act n e. refl;
-    })
-    act
-
--- and polls none
-pub polls-none : (state : State) (act : Act) → Unhosted state → is_of_guests act ≡ true → may_poll (lone state) act ≡ false
-polls-none state act u =
-    touch-by (λ act touch. is_of_guests act ≡ true → polls_by state touch ≡ false) state
-    (record {
-      operated = λ side end address count e. u.none (stream_named (named state end)) (opposite side);
-      dropped = λ act s side d e. refl;
-      hosted = λ n act e. refl;
       driven = λ e. cc;
       alone = λ act n e. refl;
     })

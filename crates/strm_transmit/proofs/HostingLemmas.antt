@@ -27,7 +27,7 @@ use Rattle.strm_world.proofs.DoesLemmas.{Does-untold}
 use Rattle.strm_world.proofs.WorldLemmas.{length-writers_from}
 use Rattle.strm_world.proofs.ReaderLemmas.{reader_at-from, length-readers_from}
 use Rattle.strm_world.proofs.PipeAttachLemmas.{Does-grant}
-use Rattle.strm_world.proofs.AttachLemmas.{hosted_by, hosted_in, Does-hosts_new, Does-feed}
+use Rattle.strm_world.proofs.AttachLemmas.{hosted_by, hosting_by, hosted_in, Does-hosts_new, Does-feed}
 use Rattle.strm_transmit.specs.Meets.{admitted, replied, or_found}
 use Rattle.strm_transmit.specs.Hosted.{MayBeDone, MeetsHosted}
 use Rattle.strm_transmit.specs.declared.errors.StoreError.{StoreError}
@@ -186,12 +186,12 @@ module _ (old : State) (tells : Tells) (n : ℕ) (made : AreMade old) (h : HostF
   -- the one that serves the last stream
   only : (m s : ℕ) → (producer_at (hosted_in old tells n) m).duty ≡ Serves s → s ≡ length old.streams → m ≡ n
   only m s e last =
-      at_set old.producers n (record no_producer { duty = Serves (length old.streams) }) no_producer m (λ p. p.duty ≡ Serves s → m ≡ n) kept
+      at_set old.producers n (hosting_by (told_by tells n) (length old.streams)) no_producer m (λ p. p.duty ≡ Serves s → m ≡ n) kept
       (λ f g. f) (λ f g. absurd (past s (made Writing m s g) last)) e
 
   before : (m s : ℕ) → (producer_at (hosted_in old tells n) m).duty ≡ Serves s → (s ≡ length old.streams → ⊥) → (producer_at old m).duty ≡ Serves s
   before m s e other =
-      at_set old.producers n (record no_producer { duty = Serves (length old.streams) }) no_producer m (λ p. p.duty ≡ Serves s → (producer_at old m).duty ≡ Serves s) kept
+      at_set old.producers n (hosting_by (told_by tells n) (length old.streams)) no_producer m (λ p. p.duty ≡ Serves s → (producer_at old m).duty ≡ Serves s) kept
       (λ f g. absurd (other (serves_last (length old.streams) s g))) (λ f g. g) e
 
   hosted-fits : Fits (hosted_in old tells n) tells

@@ -1,5 +1,5 @@
 -- Items kept of host writers: the places for them, as the machine sees them and as the store keeps them.
-use Rattle.std.proofs.Common.{◌≡◌, ◌≢◌, ℕ, zero, suc, ◌+◌, ◌-◌, ◌<◌, ◌≤◌, List, [], ◌∷◌, ◌++◌, length, map, replicate, get_or, set, refl, sym, ap, subst, ◌∙◌, arith, length-append}
+use Rattle.std.proofs.Common.{◌≡◌, ◌≢◌, ℕ, zero, suc, ◌-◌, ◌<◌, ◌≤◌, List, [], ◌∷◌, ◌++◌, length, map, replicate, get_or, set, refl, sym, ap, subst, ◌∙◌, arith, length-append}
 use Rattle.std.proofs.lemmas.List.{length-set, get_or_past, get_or-set_same, get_or-set_other, get_or_append_left, set-get_or}
 use Rattle.std.proofs.Math.Seq.{get_or-append_seam}
 use Rattle.strm_codes.specs.declared.payloads.Payload.{Payload}
@@ -11,7 +11,6 @@ use Rattle.strm_machine.specs.declared.streams.Duty.TheVariants.{Unused, Serves,
 use Rattle.strm_machine.specs.declared.streams.Producer.{Producer}
 use Rattle.strm_machine.specs.declared.streams.Side.TheVariants.{Writing}
 use Rattle.strm_machine.specs.declared.streams.Stream.{Stream}
-use Rattle.strm_machine.proofs.TableLemmas.{at_push}
 use Rattle.strm_transmit.specs.Inside.{padded, nothing_kept, HasPlace, AreServed, HavePlaces}
 use Rattle.strm_transmit.specs.Keeping.{HasGrown, PlaceMade}
 use Rattle.strm_transmit.proofs.ServedLemmas.{at_set, same_stream, not_unused, ended_no, all_unused}

@@ -7,6 +7,7 @@ pub mod FitsLemmas
 pub mod StillLemmas
 pub mod ForsakeLemmas
 pub mod StoreLemmas
+pub mod LendingLemmas
 pub mod OperationLemmas
 pub mod DropLemmas
 pub mod EndingLemmas
@@ -25,3 +26,4 @@ pub mod SetLemmas
 pub mod ContextLemmas
 pub mod NextLemmas
 pub mod GuestLemmas
+pub mod ReleaseLemmas

@@ -1,19 +1,18 @@
 -- The round of a pipe in a store: each of its parts is the machine's, and leaves host ends that the store
 -- fits.
-use Rattle.std.proofs.Common.{◌≡◌, ℕ, zero, suc, ◌+◌, ◌<◌, ◌==◌, Bool, true, false, cond, List, [], ◌∷◌, ◌++◌, length, drop, get_or, set, Option, Some, None, Result, Ok, Err, refl, sym, ap, subst, ◌∙◌, arith}
+use Rattle.std.proofs.Common.{◌≡◌, ℕ, zero, suc, ◌==◌, Bool, true, false, cond, List, [], ◌∷◌, ◌++◌, length, drop, get_or, set, Option, Some, None, Result, Ok, Err, refl, sym, ap, subst, ◌∙◌}
 use Rattle.std.specs.Prelude.{not, ◌&&◌}
 use Rattle.std.proofs.lemmas.List.{length-set, get_or-set_same, set-get_or}
 use Rattle.strm_codes.specs.declared.codes.TransmitKind.{TransmitKind}
 use Rattle.strm_buffers.specs.declared.answers.Answer.{Answer}
 use Rattle.strm_buffers.specs.Listing.{Item}
-use Rattle.strm_buffers.specs.Tells.{WriterTells, ReaderTells, Tells, told_by, with_told, told_by_reader, with_told_reader, given, closed_reader as closed_tells}
-use Rattle.strm_machine.specs.State.{State, no_producer, no_consumer, no_stream, producer_at, kept_at, consumer_at, stream_at}
+use Rattle.strm_buffers.specs.Tells.{WriterTells, Tells, told_by, with_told, told_by_reader, with_told_reader, given, closed_reader as closed_tells}
+use Rattle.strm_machine.specs.State.{State, no_producer, no_stream, producer_at, kept_at, consumer_at, stream_at}
 use Rattle.strm_machine.specs.Reactions.{with_stream_at}
 use Rattle.strm_machine.specs.Sides.{end_of}
 use Rattle.strm_machine.specs.Turns.{with_received}
 use Rattle.strm_machine.specs.declared.replies.Reply.TheVariants as replies
 use Rattle.strm_machine.specs.declared.streams.Consumer.{Consumer}
-use Rattle.strm_machine.specs.declared.streams.Duty.TheVariants.{Serves}
 use Rattle.strm_machine.specs.declared.streams.End.{End}
 use Rattle.strm_machine.specs.declared.streams.Owner.{Owner}
 use Rattle.strm_machine.specs.declared.streams.Owner.TheVariants.{Held, Loose, Host, Gone}
@@ -21,20 +20,18 @@ use Rattle.strm_machine.specs.declared.streams.Producer.{Producer}
 use Rattle.strm_machine.specs.declared.streams.Side.{Side}
 use Rattle.strm_machine.specs.declared.streams.Side.TheVariants.{Writing, Reading}
 use Rattle.strm_machine.specs.declared.streams.Stream.{Stream}
-use Rattle.strm_world.specs.World.{World}
 use Rattle.strm_world.specs.Attaching.{has_items, without_ends}
 use Rattle.strm_world.specs.Piping.{fetches, ends_if_done, pipe_round}
-use Rattle.strm_world.specs.Settling.{with_some_received}
 use Rattle.strm_world.specs.Does.{Answered, Fits, Does}
 use Rattle.strm_world.proofs.CloseLemmas.{ended_in}
 use Rattle.strm_world.proofs.FitsLemmas.{Fits-stream}
-use Rattle.strm_world.proofs.GrowLemmas.{Follows, follows-told, follows-then, grows-same, grows-kept, Does-follows}
+use Rattle.strm_world.proofs.GrowLemmas.{follows-told, follows-then, grows-same, grows-kept, Does-follows}
 use Rattle.strm_world.proofs.PollLemmas.{IsServing}
 use Rattle.strm_world.proofs.ReaderLemmas.{ended_reader_in, grows-same_reader, follows-told_reader}
 use Rattle.strm_world.proofs.SettleLemmas.{AreBothLeft}
-use Rattle.strm_world.proofs.PipeLemmas.{IsFetched, Does-fetches_none, Does-fetches, Does-fetches_failed, Does-fetches_broke, IsOffered, offered_tells, passed_in, Does-round, Does-round_stop}
+use Rattle.strm_world.proofs.PipeLemmas.{IsFetched, Does-fetches_none, Does-fetches, Does-fetches_failed, Does-fetches_broke, IsOffered, offered_tells, passed_in, Does-round_stop}
 use Rattle.strm_world.proofs.PipeRoundLemmas.{Does-offers_none, Does-offers, Does-offers_failed, Does-offers_bad, Does-offers_broke, Does-ends_not, Does-ends}
-use Rattle.strm_producing.specs.Piping.{Fetching, Fetches, Offering, offering, Offers}
+use Rattle.strm_producing.specs.Piping.{Fetching, Fetches, Offering, Offers}
 use Rattle.strm_producing.specs.declared.taking.TakeError.{TakeError}
 use Rattle.strm_producing.specs.declared.taking.TakeError.TheVariants as takes
 use Rattle.strm_producing.specs.declared.turns.TurnError.{TurnError}
@@ -241,6 +238,10 @@ module _ (old : State) (tells : Tells) (s n r : ℕ) (h : Rounds old tells s n r
 
   -- ## Offering
 
+  -- what is kept of the writer once it gave all that it held
+  abbrev given_none : Producer
+  given_none = record (producer_at old n) { holding = false }
+
   -- the types that an offer keeps
   pub record OfferType (after : Offering) : Type 0 where
     pub writer : KeepsType (told_by tells n) after.writer
@@ -278,7 +279,7 @@ module _ (old : State) (tells : Tells) (s n r : ℕ) (h : Rounds old tells s n r
     offered-pipe =
         let k = offers_keep result _ t.after t.offers in
         let types = offer_type mid told result t in
-        let stream = with_stream_at old s t.after.stream in
+        let stream = with_stream_at (record old { producers = set old.producers n given_none }) s t.after.stream in
         let taken = record stream { consumers = set old.consumers r t.after.consumer } in
         record {
           made = rw offered-length h.pipe.made;
@@ -289,7 +290,8 @@ module _ (old : State) (tells : Tells) (s n r : ℕ) (h : Rounds old tells s n r
               (Fits-told (record taken { kept = set old.kept n t.after.kept }) tells n t.after.writer types.writer
               (other_kept taken (set old.kept n t.after.kept) tells
               (Fits-consumer stream tells r t.after.consumer is_reading.kept (λ q e. sym k.duty ∙ e)
-              (Fits-stream old tells s t.after.stream (record { kind = k.kind; payload = k.payload }) h.pipe.fits)))));
+              (Fits-stream (record old { producers = set old.producers n given_none }) tells s t.after.stream (record { kind = k.kind; payload = k.payload })
+              (Fits-producer old tells n given_none is_serving.kept (λ q e. e) h.pipe.fits))))));
         }
 
   -- nothing is to be offered
@@ -302,12 +304,12 @@ module _ (old : State) (tells : Tells) (s n r : ℕ) (h : Rounds old tells s n r
     offered-does d =
         let said = t.offers.0 in
         let k = t.offers.1 in
-        let o : IsOffered old tells n s r said t.after.reader = record { serving = is_serving; offers = due; there = is_reading.there; polls = k.polled.polls; offered = k.polled.offered; since = k.polled.after; finish = k.polled.finish } in
+        let o : IsOffered old tells n s r said t.after.reader = record { serving = is_serving; offers = due; there = is_reading.there; polls = k.polled.polls; offered = k.polled.offered; since = k.polled.after; finish = k.polled.finish; good = k.polled.good } in
         let all = held_on old tells n in
         let after = passed_in old tells n s r said t.after.reader o in
         let state : mid ≡ after =
         t.state
-        ∙ ap (λ (x : Offering). record old { streams = set old.streams s x.stream; kept = set old.kept n x.kept; consumers = set old.consumers r x.consumer }) k.after
+        ∙ ap (λ (x : Offering). record old { streams = set old.streams s x.stream; producers = set old.producers n given_none; kept = set old.kept n x.kept; consumers = set old.consumers r x.consumer }) k.after
         ∙ ap (λ ks. record after { kept = ks }) (sym (set_again old.kept n all [] (drop said.taken))) in
         let ends : told ≡ offered_tells old tells n s r said t.after.reader o =
         t.ends ∙ ap (λ (x : Offering). with_told_reader (with_told tells n x.writer) r t.after.reader) k.after in
@@ -320,7 +322,7 @@ module _ (old : State) (tells : Tells) (s n r : ℕ) (h : Rounds old tells s n r
 
   -- one that stops, and the store is trapped
   module _ (mid new : State) (told : Tells) (due : offer_due old tells n r ≡ true) (is : new ≡ record mid { trapped = true }) where
-    same_producers : {result : Result Answer TakeError} → OffersStream old mid tells told s n r result → new.producers ≡ old.producers
+    same_producers : {result : Result Answer TakeError} → OffersStream old mid tells told s n r result → new.producers ≡ set old.producers n given_none
     same_producers t = ap (λ (x : State). x.producers) is ∙ ap (λ (x : State). x.producers) t.state
 
     ends_then : (after : Offering) → after.writer ≡ given (told_by tells n) None → told ≡ with_told_reader (with_told tells n after.writer) r after.reader → told ≡ with_told_reader (with_told tells n (given (told_by tells n) None)) r after.reader
@@ -330,17 +332,17 @@ module _ (old : State) (tells : Tells) (s n r : ℕ) (h : Rounds old tells s n r
     offer_stops takes.Failed t =
         let k = t.offers.1 in
         Does-after refl (ends_then t.after (ap (λ (x : Offering). x.writer) k.after) t.ends)
-        (Does-offers_failed old tells n s r t.offers.0 t.after.reader (record { serving = is_serving; offers = due; there = is_reading.there; polls = k.polled.polls; offered = k.polled.offered; since = k.polled.after; finish = k.polled.finish })
+        (Does-offers_failed old tells n s r t.offers.0 t.after.reader (record { serving = is_serving; offers = due; there = is_reading.there; polls = k.polled.polls; offered = k.polled.offered; since = k.polled.after; finish = k.polled.finish; good = k.polled.good })
         new k.failed (same_producers t))
     offer_stops takes.BadItem t =
         let k = t.offers.1 in
         Does-after refl (ends_then t.after (ap (λ (x : Offering). x.writer) k.after) t.ends)
-        (Does-offers_bad old tells n s r t.offers.0 t.after.reader (record { serving = is_serving; offers = due; there = is_reading.there; polls = k.polled.polls; offered = k.polled.offered; since = k.polled.after; finish = k.polled.finish })
+        (Does-offers_bad old tells n s r t.offers.0 t.after.reader (record { serving = is_serving; offers = due; there = is_reading.there; polls = k.polled.polls; offered = k.polled.offered; since = k.polled.after; finish = k.polled.finish; good = k.polled.good })
         new k.failed k.bad (same_producers t))
     offer_stops takes.Broke t =
         let k = t.offers.1 in
         Does-after refl (ends_then t.after (ap (λ (x : Offering). x.writer) k.after) t.ends)
-        (Does-offers_broke old tells n s r t.offers.0 t.after.reader (record { serving = is_serving; offers = due; there = is_reading.there; polls = k.polled.polls; offered = k.polled.offered; since = k.polled.after; finish = k.polled.finish })
+        (Does-offers_broke old tells n s r t.offers.0 t.after.reader (record { serving = is_serving; offers = due; there = is_reading.there; polls = k.polled.polls; offered = k.polled.offered; since = k.polled.after; finish = k.polled.finish; good = k.polled.good })
         new k.failed k.good k.broke (same_producers t))
     offer_stops takes.OutOfMemory t =
         let k = t.offers in

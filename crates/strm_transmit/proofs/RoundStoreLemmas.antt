@@ -1,18 +1,16 @@
 -- The store after a poll of a pipe's round: what it may index, and what it keeps.
-use Rattle.std.proofs.Common.{◌≡◌, ℕ, zero, suc, ◌+◌, ◌<◌, List, [], ◌∷◌, ◌++◌, length, drop, get_or, set, Result, refl, sym, ap, subst, ◌∙◌, arith}
+use Rattle.std.proofs.Common.{◌≡◌, false, ℕ, ◌<◌, List, [], ◌∷◌, ◌++◌, length, drop, get_or, set, Result, refl, sym, ap, subst, ◌∙◌, arith}
 use Rattle.std.specs.Prelude.{count_by, nat_lt}
 use Rattle.std.proofs.lemmas.Bool.Decides.{nat_tests}
 use Rattle.std.proofs.lemmas.List.{length-set, get_or_default}
 use Rattle.std.proofs.Math.Seq.{drop-length}
 use Rattle.strm_codes.specs.declared.codes.TransmitKind.{TransmitKind}
-use Rattle.strm_codes.specs.declared.payloads.Payload.{Payload}
 use Rattle.strm_buffers.specs.Listing.{Item, TypedItems}
 use Rattle.strm_buffers.specs.declared.answers.Answer.{Answer}
 use Rattle.strm_buffers.specs.Tells.{WriterTells, ReaderTells, Tells, told_by, with_told, told_by_reader, with_told_reader}
 use Rattle.strm_machine.specs.State.{State, no_producer, no_consumer, no_stream, producer_at, kept_at, consumer_at, stream_at, is_live}
 use Rattle.strm_machine.specs.Hosting.{duty_among}
-use Rattle.strm_machine.specs.Sides.{end_of}
-use Rattle.strm_machine.specs.Soundness.{sizes_of, OperationIsPlaced, StreamIsPlaced}
+use Rattle.strm_machine.specs.Soundness.{sizes_of, StreamIsPlaced}
 use Rattle.strm_machine.specs.declared.streams.Consumer.{Consumer}
 use Rattle.strm_machine.specs.declared.streams.Duty.TheVariants.{Serves}
 use Rattle.strm_machine.specs.declared.streams.End.{End}
@@ -154,6 +152,7 @@ module _ (inside : Inside) (state : State) (tells : Tells) (s n r : ℕ) (e : st
     abbrev pub offer_left : OfferLeft → State
     offer_left left = record (state_of inside) {
       streams = set inside.streams.items s left.stream;
+      producers = set inside.producers n (record (producer_at (state_of inside) n) { holding = false });
       kept = padded (set inside.kept.items n left.items);
       consumers = set inside.consumers r left.consumer;
     }
@@ -178,8 +177,8 @@ module _ (inside : Inside) (state : State) (tells : Tells) (s n r : ℕ) (e : st
               (subst (λ z. Offers result (offering z (consumer_at (state_of inside) r) (kept_at state n) (told_by tells n) (told_by_reader tells r)) (offering after c y.items w t)) (sym here)
               (subst (λ xs. Offers result (offering v (consumer_at (state_of inside) r) xs (told_by tells n) (told_by_reader tells r)) (offering after c y.items w t)) (entry_items x is) f));
           state = m
-              ∙ ap (λ ks. record (state_of inside) { streams = set inside.streams.items s after; kept = ks; consumers = set inside.consumers r c }) (padded-set inside.kept.items n y place.there)
-              ∙ ap (λ (z : State). record z { streams = set z.streams s after; kept = set z.kept n y.items; consumers = set z.consumers r c }) e;
+              ∙ ap (λ ks. record (state_of inside) { streams = set inside.streams.items s after; producers = set inside.producers n (record (producer_at (state_of inside) n) { holding = false }); kept = ks; consumers = set inside.consumers r c }) (padded-set inside.kept.items n y place.there)
+              ∙ ap (λ (z : State). record z { streams = set z.streams s after; producers = set z.producers n (record (producer_at z n) { holding = false }); kept = set z.kept n y.items; consumers = set z.consumers r c }) e;
           ends = ends;
         }
 

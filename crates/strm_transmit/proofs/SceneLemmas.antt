@@ -1,10 +1,10 @@
 -- What the turn of a host end keeps: types, owners but that the host end may be gone, handles, and where
 -- operations lie.
-use Rattle.std.proofs.Common.{◌≡◌, ℕ, ◌≤◌, ◌==◌, Bool, true, false, cond, List, [], ◌∷◌, length, take, length-take, Option, Some, None, Result, Ok, Err, refl, sym, subst, arith}
+use Rattle.std.proofs.Common.{◌≡◌, ℕ, ◌≤◌, ◌==◌, Bool, true, false, cond, List, [], ◌∷◌, length, take, drop, length-take, Option, Some, None, Result, Ok, Err, refl, sym, subst, arith}
 use Rattle.strm_codes.specs.declared.codes.StreamResult.{StreamResult}
 use Rattle.strm_codes.specs.declared.codes.StreamResult.TheVariants as results
 use Rattle.strm_buffers.specs.Listing.{Item}
-use Rattle.strm_buffers.specs.Tells.{WriterTells}
+use Rattle.strm_buffers.specs.Tells.{WriterTells, given}
 use Rattle.strm_machine.specs.Sides.{opposite, end_of, with_operation}
 use Rattle.strm_machine.specs.Turns.{with_received}
 use Rattle.strm_machine.specs.Soundness.{sizes_of, IsPlaced, StreamIsPlaced}
@@ -16,6 +16,7 @@ use Rattle.strm_machine.specs.declared.streams.Side.TheVariants.{Writing, Readin
 use Rattle.strm_machine.specs.declared.streams.Stream.{Stream}
 use Rattle.strm_machine.proofs.TurnLemmas.{GuestsKeep}
 use Rattle.strm_world.specs.Settling.{went, settled, let_go, moved_on}
+use Rattle.strm_world.specs.Attaching.{has_items}
 use Rattle.strm_world.specs.Producing.{lowered}
 use Rattle.strm_transmit.proofs.FitsLemmas.{KeepsType, keeps-polled}
 use Rattle.strm_world.proofs.LoweredLemmas.{lowered-keeps, went-placed, settled-placed}
@@ -113,7 +114,7 @@ module _ (old : Scene) (read : Operation) (p : IsPlaced (sizes_of old.guests) ol
   empty_keeps false result after t = polled_keeps result after t
 
   holding_keeps : (held : List Item) (result : Result (Unit {0}) TurnError) (after : Scene) → TurnsHolding held result old after read → SceneKeeps old after
-  holding_keeps (item ∷ items) result after t = subst (SceneKeeps old) (sym t.1) (received_keeps _ (Some results.Completed) old.producer _ (few old.tells.holds) refl (record { kind = refl; payload = refl }))
+  holding_keeps (item ∷ items) result after t = subst (SceneKeeps old) (sym t.1) (received_keeps (take read.left old.tells.holds) (Some results.Completed) (record old.producer { holding = has_items (drop read.left old.tells.holds) }) (given old.tells (Some read.left)) (few old.tells.holds) refl (record { kind = refl; payload = refl }))
   holding_keeps [] result after t = empty_keeps old.producer.over result after t
 
   -- whatever came of it

@@ -251,31 +251,43 @@ IsSound-same a b g s c h = record {
 
 -- ## Bytes
 
--- bytes put into a guest's memory
-pub record PutsBytes (old new : Inside) (g address : ℕ) (bytes : List ℕ) : Type 0 where
+-- another memory for a guest
+pub record PutsMemory (old new : Inside) (g : ℕ) (memory : List ℕ) : Type 0 where
   pub same : SameBut old new
   pub counter : new.counter ≡ old.counter
   pub streams : new.streams ≡ old.streams
   pub live_streams : new.live_streams ≡ old.live_streams
   pub live_sets : new.live_sets ≡ old.live_sets
   pub count : new.bytes ≡ old.bytes
-  pub guests : seen new.guests.items ≡ with_memory (seen old.guests.items) g (put_at (memory_in (seen old.guests.items) g) address bytes)
+  pub guests : seen new.guests.items ≡ with_memory (seen old.guests.items) g memory
 
-pub performs-poke : (old new : Inside) (g address : ℕ) (bytes : List ℕ) → PutsBytes old new g address bytes → performs (state_of old) (OnMemory g (Poke address bytes)) ≡ goes replies.Done (state_of new)
-unfolding performs
-performs-poke old new g address bytes h =
+-- the state then
+pub puts-state : (old new : Inside) (g : ℕ) (memory : List ℕ) → PutsMemory old new g memory → state_of new ≡ record (state_of old) { guests = with_memory (seen old.guests.items) g memory }
+puts-state old new g memory h =
     rw (h.same.tag, h.same.limits, h.same.producers, h.same.kept, h.same.consumers, h.same.contexts, h.same.trapped, h.streams, h.guests) refl
 
-pub IsStore-put : (old new : Inside) (g address : ℕ) (bytes : List ℕ) → PutsBytes old new g address bytes → BytesFit (state_of old) g address (length bytes) → IsStore old → IsStore new
-IsStore-put old new g address bytes h fits i =
-    let size = length-poked (memory_in (seen old.guests.items) g) address bytes fits.inside in
-    let keeps = with_memory-keeps (seen old.guests.items) g (put_at (memory_in (seen old.guests.items) g) address bytes) size in
+-- one as long as before
+pub IsStore-memory : (old new : Inside) (g : ℕ) (memory : List ℕ) → PutsMemory old new g memory → length memory ≡ length (memory_in (seen old.guests.items) g) → IsStore old → IsStore new
+IsStore-memory old new g memory h size i =
+    let keeps = with_memory-keeps (seen old.guests.items) g memory size in
     let kept : GuestsKeep (seen old.guests.items) (seen new.guests.items) = rw h.guests keeps in
     let state : state_of new ≡ record (state_of old) { guests = seen new.guests.items } = rw (h.same.tag, h.same.limits, h.same.producers, h.same.kept, h.same.consumers, h.same.contexts, h.same.trapped, h.streams) refl in
     IsStore-counted old new
     (kept_tables old new (record { limits = h.same.limits; counter = h.counter; live_sets = h.live_sets; bytes = h.count; guests = kept }) i)
     (kept_streams old new h.streams h.live_streams (record { producers = h.same.producers; kept = h.same.kept; consumers = h.same.consumers }) i)
     (rw state (IsSound-guests (state_of old) (seen new.guests.items) kept i.sound)) i
+
+-- bytes put into a guest's memory
+abbrev pub PutsBytes : Inside → Inside → ℕ → ℕ → List ℕ → Type 0
+PutsBytes old new g address bytes = PutsMemory old new g (put_at (memory_in (seen old.guests.items) g) address bytes)
+
+pub performs-poke : (old new : Inside) (g address : ℕ) (bytes : List ℕ) → PutsBytes old new g address bytes → performs (state_of old) (OnMemory g (Poke address bytes)) ≡ goes replies.Done (state_of new)
+unfolding performs
+performs-poke old new g address bytes h = ap (goes replies.Done) (sym (puts-state old new g _ h))
+
+pub IsStore-put : (old new : Inside) (g address : ℕ) (bytes : List ℕ) → PutsBytes old new g address bytes → BytesFit (state_of old) g address (length bytes) → IsStore old → IsStore new
+IsStore-put old new g address bytes h fits i =
+    IsStore-memory old new g _ h (length-poked (memory_in (seen old.guests.items) g) address bytes fits.inside) i
 
 pub IsStore-poke : (old new : Inside) (g address : ℕ) (bytes : List ℕ) → PutsBytes old new g address bytes → refusal (state_of old) (OnMemory g (Poke address bytes)) ≡ None → IsStore old → IsStore new
 IsStore-poke old new g address bytes h e s =

@@ -27,6 +27,7 @@ use Rattle.strm_world.proofs.BackLemmas.{Does-stays, Does-left_by_reader}
 use Rattle.strm_world.proofs.ConsumeLemmas.{IsPolledWith, next_items, turn-consumed, turn-reader_failed, turn-bad_item, turn-reader_broke, turn-reader_wanting}
 use Rattle.strm_world.proofs.FitsLemmas.{Fits-stream}
 use Rattle.strm_world.proofs.GrowLemmas.{Follows}
+use Rattle.strm_producing.proofs.ReaderPollLemmas.{bad_behind}
 use Rattle.strm_world.proofs.ReaderLemmas.{grows-polled_reader, follows-told_reader, ended_reader_in}
 use Rattle.strm_world.proofs.SettleLemmas.{IsLeftByReader, with_reader_closed}
 use Rattle.strm_world.proofs.TurnLemmas.{WritesBack}
@@ -119,7 +120,7 @@ module _ (old : State) (tells : Tells) (r s : ℕ) (write : Operation) (i : IsRe
   its_turn world = consumer_turn world s r write
 
   polled_with : (said : ReaderSaid) (told : ReaderTells) → IsOffered (taking_in old tells r s) told write said → IsPolledWith old tells r s write said told
-  polled_with said told o = record { there = i.there; polls = o.polls; offered = o.offered; since = o.since; finish = o.finish }
+  polled_with said told o = record { there = i.there; polls = o.polls; offered = o.offered; since = o.since; finish = o.finish; next = λ b. bad_behind old.guests (stream_at old s).payload write said.taken (o.next b) }
 
   -- a turn that goes on
   record GoesOn (new : Taking) : Type 0 where

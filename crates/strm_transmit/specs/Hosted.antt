@@ -17,6 +17,7 @@ use Rattle.strm_machine.specs.declared.streams.Side.TheVariants.{Writing, Readin
 use Rattle.strm_machine.specs.declared.stops.Stop.TheVariants as stops
 use Rattle.strm_world.specs.World.{World, stream_in, with_stream_in}
 use Rattle.strm_world.specs.Attaching.{forsaken}
+use Rattle.strm_world.specs.Releasing.{KnowsHeld}
 use Rattle.strm_world.specs.HostRefusals.{refusal_in}
 use Rattle.strm_world.specs.Steps.{outcome, may_poll, touches}
 use Rattle.strm_world.specs.Does.{Logs, world_of, Answered, FitsWriter, FitsReader, Fits, Does}
@@ -45,6 +46,10 @@ FitsAt Reading state tells r =
 -- whatever host ends fitted a store still fit it
 abbrev pub StillFits : State → State → Type 0
 StillFits old new = (tells : Tells) → Fits old tells → Fits new tells
+
+-- whatever a store knew of what host writers hold, it knows still
+abbrev pub StillKnows : State → State → Type 0
+StillKnows old new = (tells : Tells) → KnowsHeld old tells → KnowsHeld new tells
 
 -- the world after stream s lost the end on a side: a host end on the other side goes too
 abbrev pub forsaken_in : World → ℕ → Side → World

@@ -1,5 +1,7 @@
+pub mod Celled
 pub mod Inside
 pub mod Keeping
+pub mod Lending
 pub mod Meets
 pub mod Hosted
 pub mod Turning

@@ -1,5 +1,5 @@
 -- What the two polls of a pipe's round do to a store. Ours.
-use Rattle.std.specs.Prelude.{◌≡◌, ℕ, ◌<◌, Bool, ◌&&◌, ◌||◌, not, List, ◌++◌, length, slice_set, Option, Some, None, Result}
+use Rattle.std.specs.Prelude.{◌≡◌, ℕ, ◌<◌, Bool, false, ◌&&◌, ◌||◌, not, List, ◌++◌, length, slice_set, Option, Some, None, Result}
 use Rattle.strm_buffers.specs.declared.answers.Answer.{Answer}
 use Rattle.strm_buffers.specs.Listing.{Item}
 use Rattle.strm_buffers.specs.Tells.{Tells, told_by, with_told, told_by_reader, with_told_reader}
@@ -68,6 +68,7 @@ pub record OffersStream (old new : State) (tells told : Tells) (s n r : ℕ) (re
       (offering (stream_at old s) (consumer_at old r) (kept_at old n) (told_by tells n) (told_by_reader tells r)) after
   pub state : new ≡ record old {
     streams = slice_set old.streams s after.stream;
+    producers = slice_set old.producers n (record (producer_at old n) { holding = false });
     kept = slice_set old.kept n after.kept;
     consumers = slice_set old.consumers r after.consumer;
   }

@@ -19,6 +19,7 @@ mod moves;
 mod operations;
 mod piping;
 mod refusals;
+mod releasing;
 mod rounds;
 mod sets;
 mod turning;
@@ -33,7 +34,8 @@ use strm_codes::refusals::Refusal;
 use strm_contexts::contexts::ErrorContexts;
 use strm_handles::counters::HandleCounter;
 use strm_machine::limits::Limits;
-use strm_machine::streams::{Consumer, Duty, Producer, Stream};
+use strm_machine::streams::{Consumer, Duty, Producer};
+use strm_turns::channels::Channel;
 use strm_turns::guests::Guest;
 use strm_turns::owners::is_live;
 
@@ -41,6 +43,7 @@ use strm_turns::owners::is_live;
 const NO_PRODUCER: Producer = Producer {
     duty: Duty::Unused,
     over: false,
+    holding: false,
 };
 
 /// A host reader that was never used.
@@ -67,7 +70,7 @@ pub struct Store {
     limits: Limits,
     counter: HandleCounter,
     guests: Vec<Guest>,
-    streams: Vec<Stream>,
+    streams: Vec<Channel>,
     // What is kept of each host writer, by its number.
     producers: [Producer; 64],
     // Its items that a host reader, which reads its stream, did not take yet; of numbers past the last
@@ -106,6 +109,7 @@ impl Model for Store {
 impl Store {
     ghost use Rattle.strm_buffers.specs.Tells.{Tells};
     ghost use Rattle.strm_machine.specs.Soundness.{IsSound};
+    ghost use Rattle.strm_world.specs.Releasing.{KnowsHeld};
     ghost use Rattle.strm_world.specs.Does.{Fits};
     ghost use Rattle.strm_transmit.specs.Inside.{AreServed};
     ghost use Rattle.strm_transmit.specs.Meets.{admitted};
@@ -114,6 +118,7 @@ impl Store {
     pub fn new(alloc: Global, tag: u64, limits: Limits) -> Store
         ensures exact { result ≡ empty tag limits }
         ensures fits { (tells : Tells) → Fits result tells }
+        ensures known { (tells : Tells) → KnowsHeld result tells }
     {
         Store {
             tag,
@@ -160,7 +165,7 @@ impl Store {
         ensures count { IfSome result (λ count. count ≡ (stream_at self.now stream).received) }
     {
         if (stream as usize) < self.streams.len() {
-            Some(self.streams[stream as usize].received)
+            Some(self.streams[stream as usize].received())
         } else {
             None
         }
@@ -177,7 +182,7 @@ impl Store {
             return None;
         }
         let stream = &self.streams[stream as usize];
-        Some(type_with(stream.kind, stream.payload))
+        Some(type_with(stream.kind(), stream.payload()))
     }
 
     /// The bytes of a guest's memory.
@@ -204,7 +209,7 @@ impl Store {
 
     // A stream.
     #[inline(always)]
-    pub(crate) fn stream(&self, stream: u32) -> &Stream
+    pub(crate) fn stream(&self, stream: u32) -> &Channel
         requires { stream < length self.now.streams }
         ensures { result.now ≡ stream_at self.now stream }
     {

@@ -266,3 +266,17 @@ pub(crate) fn closes(rt: &impl Abort, store: &mut Store, hosts: &mut Hosts, read
     must_fit(rt, store, hosts);
     is_done(rt, store.close(hosts, reader));
 }
+
+/// What the cell of an end keeps for it to be told, by its word.
+pub(crate) fn keeps(rt: &impl Abort, store: &Store, end: End, wanted: Option<u32>) {
+    let found = match store.cell(end.0, end.1) {
+        Some(cell) => Some(cell.code().copied().map(word)),
+        None => None,
+    };
+    assert_eq!(rt; found, Some(wanted));
+}
+
+/// No end is there that a cell could be of.
+pub(crate) fn has_no_cell(rt: &impl Abort, store: &Store, end: End) {
+    assert!(rt; store.cell(end.0, end.1).is_none());
+}

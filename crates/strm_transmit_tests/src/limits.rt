@@ -133,6 +133,8 @@ fn handles_of_sets(rt: HostRuntime) {
     is_refused(&rt, store.set_new(1).err(), Refusal::HandleLimit);
     is_number(&rt, store.lift(0, BYTE_STREAM, 1), 0);
     is_number(&rt, store.set_new(1), 1);
+    let full = store.lower(0, 1, BYTE_STREAM).err();
+    is_refused(&rt, full, Refusal::HandleLimit);
     let mut store = limited(&rt, rt.alloc(), 1, 100);
     is_refused(&rt, store.stream_new(0, BYTES).err(), Refusal::HandleLimit);
     is_number(&rt, store.set_new(0), 1);

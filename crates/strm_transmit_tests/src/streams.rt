@@ -1,9 +1,9 @@
 //! Guests, and the streams between them: each call once.
 
 use crate::answers::{
-    AMPLE, BYTE_STREAM, BYTES, begins, chunk, drops_reader, drops_writer, has_moved, has_streams,
-    has_type, is_bytes, is_code, is_done, is_event, is_number, is_pair, is_refused, is_trapped,
-    no_hosts, reads, writes,
+    AMPLE, BYTE_STREAM, BYTES, begins, chunk, drops_reader, drops_writer, has_moved, has_no_cell,
+    has_streams, has_type, is_bytes, is_code, is_done, is_event, is_number, is_pair, is_refused,
+    is_trapped, keeps, no_hosts, reads, writes,
 };
 use std::process::Abort;
 use strm_codes::refusals::Refusal;
@@ -64,4 +64,25 @@ fn a_stream_is_given_up(rt: HostRuntime) {
     drops_writer(&rt, &mut store, &mut hosts, (0, 2));
     has_type(&rt, &store, 0, None);
     is_refused(&rt, store.take_event(0, 1).err(), Refusal::UnknownHandle);
+}
+
+/// A write that was met in part keeps its report, which the drop of the other end changes, until its
+/// event. Where no end is there is no cell.
+#[test]
+fn a_cell_keeps_a_report(rt: HostRuntime) {
+    let mut store = Store::new(rt.alloc(), 0, AMPLE);
+    let mut hosts = no_hosts(rt.alloc());
+    is_number(&rt, store.add_guest(16), 0);
+    is_number(&rt, store.add_guest(16), 1);
+    is_pair(&rt, store.new_between(0, 1, BYTE_STREAM), 1, 1, 0);
+    writes(&rt, &mut store, &mut hosts, (0, 1), 0, 5, BLOCKED);
+    keeps(&rt, &store, (0, 1), None);
+    reads(&rt, &mut store, &mut hosts, (1, 1), 0, 2, 0x20);
+    keeps(&rt, &store, (0, 1), Some(0x20));
+    drops_reader(&rt, &mut store, &mut hosts, (1, 1));
+    keeps(&rt, &store, (0, 1), Some(0x21));
+    is_event(&rt, store.take_event(0, 1), Some(0x21));
+    keeps(&rt, &store, (0, 1), None);
+    has_no_cell(&rt, &store, (1, 1));
+    has_no_cell(&rt, &store, (2, 1));
 }

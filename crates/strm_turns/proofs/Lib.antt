@@ -1,4 +1,5 @@
 pub mod GuestLemmas
+pub mod BetweenLemmas
 pub mod CarryingLemmas
 pub mod EndLemmas
 pub mod OwnerLemmas

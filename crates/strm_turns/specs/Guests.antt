@@ -1,5 +1,9 @@
 -- The store's guests, seen as the machine's: the room of their tables is no part of them. Ours.
-use Rattle.std.specs.Prelude.{ℕ, List, map, sum_by, count_by, slice_index_or, slice_set, Result}
+use Rattle.std.specs.Prelude.{◌≡◌, ◌↔◌, ℕ, List, map, sum_by, count_by, slice_index_or, slice_set, Result, OnOk, OnErr, IsErr, IsNone, IsSomeAnd}
+use Rattle.strm_codes.specs.Layout.{scalars_of}
+use Rattle.strm_codes.specs.declared.payloads.Payload.{Payload}
+use Rattle.strm_memory.specs.Items.{items_at, stored_at}
+use Rattle.strm_memory.specs.declared.copies.BadItem.{BadItem}
 use Rattle.strm_codes.specs.declared.codes.TransmitIndex.{TransmitIndex}
 use Rattle.strm_codes.specs.declared.codes.TransmitIndex.TheVariants as index
 use Rattle.strm_handles.specs.Handles.{Handles, inserted, removed, live_of}
@@ -11,7 +15,7 @@ use Rattle.strm_machine.specs.declared.streams.Side.{Side}
 use Rattle.strm_machine.specs.declared.streams.Side.TheVariants.{Writing, Reading}
 use Rattle.strm_machine.specs.Making.{end_entry}
 use Rattle.strm_machine.specs.State as machine
-use Rattle.strm_machine.specs.State.{guest_in, sets_in, with_handles, with_table}
+use Rattle.strm_machine.specs.State.{guest_in, memory_in, sets_in, with_handles, with_memory, with_table}
 use Rattle.strm_turns.specs.declared.guests.Guest.{Guest}
 
 -- a guest as the machine's: its memory, what its handles stand for, and its waitable sets
@@ -74,3 +78,10 @@ removable Writing (index.Stream payload) handles handle = without_value (stream_
 removable Reading (index.Stream payload) handles handle = without_value (stream_readable_of handles payload handle)
 removable Writing (index.Future payload) handles handle = without_value (future_writable_of handles payload handle)
 removable Reading (index.Future payload) handles handle = without_value (future_readable_of handles payload handle)
+
+-- so many items of a guest's memory are in another guest's, or one of them is bad and nothing has changed
+pub record Receives (payload : Payload) (count : ℕ) (before after : List machine.Guest) (from source to target : ℕ) (result : Result (Unit {0}) BadItem) : Type 0 where
+  pub ok : OnOk result (IsSomeAnd (items_at (scalars_of payload) (memory_in before from) source count)
+      (λ xs. after ≡ with_memory before to (stored_at (scalars_of payload) (memory_in before to) target xs)))
+  pub bad : IsErr result ↔ IsNone (items_at (scalars_of payload) (memory_in before from) source count)
+  pub err : OnErr result (after ≡ before)

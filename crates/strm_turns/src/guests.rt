@@ -2,15 +2,19 @@
 //!
 //! Source: wasmtime, the component instances that a store keeps.
 
-ghost use Rattle.std.specs.Prelude.{◌≡◌, ◌<◌, ◌≤◌, [], length, take, drop, false};
+ghost use Rattle.std.specs.Prelude.{◌≡◌, ◌≢◌, ◌+◌, ◌*◌, ◌<◌, ◌≤◌, [], length, take, drop, false};
+ghost use Rattle.strm_codes.specs.Layout.{scalars_of, item_size};
 ghost use Rattle.strm_memory.specs.Bytes.{put_at};
 ghost use Rattle.strm_memory.specs.Region.{bytes_out_of_bounds};
 ghost use Rattle.strm_machine.specs.State.{memory_in, with_memory};
-ghost use Rattle.strm_turns.specs.Guests.{seen};
+ghost use Rattle.strm_turns.specs.Guests.{seen, Receives};
 
 use std::alloc::Global;
 use std::mem;
+use strm_codes::counts::ItemCount;
+use strm_codes::payloads::Payload;
 use strm_handles::tables::HandleTable;
+use strm_memory::copies::BadItem;
 use strm_memory::memories::GuestMemory;
 use strm_sets::sets::WaitableSets;
 
@@ -50,6 +54,106 @@ pub fn put_memory(guests: &mut Vec<Guest>, guest: usize, memory: GuestMemory)
     ensures count { length guests.new.items ≡ length guests.old.items }
 {
     guests[guest].memory = memory;
+}
+
+// Items of a guest's memory received in the memory of a guest behind it.
+#[inline(always)]
+fn receive_behind(
+    guests: &mut [Guest],
+    from: usize,
+    source: u32,
+    to: usize,
+    target: u32,
+    payload: Payload,
+    count: ItemCount,
+) -> Result<(), BadItem>
+    requires behind { from < to }
+    requires there { to < length guests.old }
+    requires source_holds { source + item_size (scalars_of payload) * count
+        ≤ length (memory_in (seen guests.old) from) }
+    requires target_holds { target + item_size (scalars_of payload) * count
+        ≤ length (memory_in (seen guests.old) to) }
+    ensures received { Receives payload count (seen guests.old) (seen guests.new) from source to target result }
+    ensures length { length guests.new ≡ length guests.old }
+{
+    let (low, high) = guests.split_at_mut(to);
+    let reader = &mut high[0];
+    let writer = &low[from];
+    reader
+        .memory
+        .receive(target, &writer.memory, source, payload, count)
+}
+
+// The same of a guest before it.
+#[inline(always)]
+fn receive_before(
+    guests: &mut [Guest],
+    from: usize,
+    source: u32,
+    to: usize,
+    target: u32,
+    payload: Payload,
+    count: ItemCount,
+) -> Result<(), BadItem>
+    requires before { to < from }
+    requires there { from < length guests.old }
+    requires source_holds { source + item_size (scalars_of payload) * count
+        ≤ length (memory_in (seen guests.old) from) }
+    requires target_holds { target + item_size (scalars_of payload) * count
+        ≤ length (memory_in (seen guests.old) to) }
+    ensures received { Receives payload count (seen guests.old) (seen guests.new) from source to target result }
+    ensures length { length guests.new ≡ length guests.old }
+{
+    let (low, high) = guests.split_at_mut(from);
+    let reader = &mut low[to];
+    let writer = &high[0];
+    reader
+        .memory
+        .receive(target, &writer.memory, source, payload, count)
+}
+
+/// Copies so many items from an address of a guest's memory to one of another guest's, where both lie.
+#[inline(always)]
+pub fn receive_between(
+    guests: &mut Vec<Guest>,
+    from: usize,
+    source: u32,
+    to: usize,
+    target: u32,
+    payload: Payload,
+    count: ItemCount,
+) -> Result<(), BadItem>
+    requires apart { from ≢ to }
+    requires from_there { from < length guests.old.items }
+    requires to_there { to < length guests.old.items }
+    requires source_holds { source + item_size (scalars_of payload) * count
+        ≤ length (memory_in (seen guests.old.items) from) }
+    requires target_holds { target + item_size (scalars_of payload) * count
+        ≤ length (memory_in (seen guests.old.items) to) }
+    ensures received { Receives payload count (seen guests.old.items) (seen guests.new.items) from source to target result }
+    ensures length { length guests.new.items ≡ length guests.old.items }
+{
+    if from < to {
+        receive_behind(
+            guests.as_mut_slice(),
+            from,
+            source,
+            to,
+            target,
+            payload,
+            count,
+        )
+    } else {
+        receive_before(
+            guests.as_mut_slice(),
+            from,
+            source,
+            to,
+            target,
+            payload,
+            count,
+        )
+    }
 }
 
 /// Puts bytes into a guest's memory.

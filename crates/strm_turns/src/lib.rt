@@ -7,6 +7,7 @@
 //! what may be done.
 #![tactic(auto)]
 
+pub mod channels;
 pub mod contexts;
 pub mod endings;
 pub mod ends;

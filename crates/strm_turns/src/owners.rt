@@ -8,7 +8,8 @@ ghost use Rattle.std.specs.Prelude.{◌≡◌, ◌^◌, ◌<◌, length, count_b
 ghost use Rattle.strm_machine.specs.State.{is_host, is_live, no_stream};
 ghost use Rattle.strm_machine.specs.Moves.{with_owner};
 
-use strm_machine::streams::{Owner, Side, Stream};
+use crate::channels::Channel;
+use strm_machine::streams::{Owner, Side};
 
 /// Whether a host end has the end.
 #[inline(always)]
@@ -19,26 +20,16 @@ pub fn is_host(owner: Owner) -> bool
 }
 
 /// Whether an end is there.
-pub fn is_live(stream: &Stream) -> bool
+pub fn is_live(stream: &Channel) -> bool
     ensures { result ≡ is_live stream.now }
 {
-    stream.writer.owner != Owner::Gone || stream.reader.owner != Owner::Gone
-}
-
-// The end on a side has another owner from now on.
-fn give(stream: &mut Stream, side: Side, owner: Owner)
-    ensures { stream.new ≡ with_owner side stream.old owner }
-{
-    match side {
-        Side::Writing => stream.writer.owner = owner,
-        Side::Reading => stream.reader.owner = owner,
-    }
+    stream.owner(Side::Writing) != Owner::Gone || stream.owner(Side::Reading) != Owner::Gone
 }
 
 /// The end on a side of a stream has another owner from now on; `live_streams` counts the streams of
 /// which an end is there.
 pub fn set_owner(
-    streams: &mut Vec<Stream>,
+    streams: &mut Vec<Channel>,
     live_streams: &mut u32,
     stream: usize,
     side: Side,
@@ -53,6 +44,6 @@ pub fn set_owner(
 {
     let given = &mut streams[stream];
     let was_live = is_live(given);
-    give(given, side, owner);
+    given.set_owner(side, owner);
     *live_streams = *live_streams - u32::from(was_live) + u32::from(is_live(given));
 }

@@ -19,13 +19,14 @@ ghost use Rattle.strm_machine.specs.Soundness.{sizes_of, IsPlaced, StreamIsPlace
 ghost use Rattle.strm_turns.specs.Guests.{seen};
 ghost use Rattle.strm_turns.specs.Taking.{taken};
 
-use crate::guests::{Guest, memory, put_memory, take_memory};
-use crate::sides::{end_of, opposite, same_side, set_operation};
+use crate::channels::Channel;
+use crate::guests::{Guest, put_memory, receive_between, take_memory};
+use crate::sides::{opposite, same_side};
 use std::alloc::Global;
-use strm_codes::codes::{ReturnCode, StreamResult, TransmitKind};
+use strm_codes::codes::{ReturnCode, StreamResult};
 use strm_codes::counts::ItemCount;
 use strm_codes::payloads::Payload;
-use strm_machine::streams::{End, Meeting, Operation, Owner, Side, Stream};
+use strm_machine::streams::{Meeting, Operation, Owner, Side};
 use strm_memory::copies::BadItem;
 use strm_memory::memories::GuestMemory;
 use strm_memory::moves::copy_within_items;
@@ -47,61 +48,6 @@ pub fn begin(guest: u32, address: u32, count: ItemCount) -> Operation
     }
 }
 
-/// An operation of which so many items more were moved.
-#[inline(always)]
-pub fn go_on(payload: Payload, operation: &Operation, count: ItemCount) -> Operation
-    requires left { count ≤ operation.now.left }
-    requires counted { operation.now.moved + count < 2 ^ 28 }
-    requires room { operation.now.address + item_size (scalars_of payload) * count < 2 ^ 32 }
-    ensures { result ≡ record operation.now {
-      address = operation.now.address + item_size (scalars_of payload) * count;
-      left = operation.now.left - count;
-      moved = operation.now.moved + count;
-    } }
-{
-    let mut next = *operation;
-    next.address += payload.size() * count.as_u32();
-    next.left = operation.left.sub(count);
-    next.moved = operation.moved.add(count);
-    next
-}
-
-// The waiting operation of an end, of which so many items more were moved: it has met. What stays of it
-// is not written.
-#[inline(always)]
-fn advance(end: &mut End, payload: &Payload, theirs: &Operation, count: ItemCount)
-    requires there { end.old.operation ≡ Some theirs.now }
-    requires left { count ≤ theirs.now.left }
-    requires counted { theirs.now.moved + count < 2 ^ 28 }
-    requires room { theirs.now.address + item_size (scalars_of payload.now) * count < 2 ^ 32 }
-    ensures { end.new ≡ record end.old { operation = Some (advanced payload.now theirs.now count) } }
-{
-    if let Some(operation) = &mut end.operation {
-        operation.address = theirs.address + payload.size() * count.as_u32();
-        operation.left = theirs.left.sub(count);
-        operation.moved = theirs.moved.add(count);
-        operation.is_open = operation.left.as_u32() > 0;
-        operation.met = true;
-        operation.outcome = StreamResult::Completed;
-    }
-}
-
-// The same of the end on a side.
-#[inline(always)]
-fn advance_on(stream: &mut Stream, side: Side, theirs: &Operation, count: ItemCount)
-    requires there { (end_of side stream.old).operation ≡ Some theirs.now }
-    requires left { count ≤ theirs.now.left }
-    requires counted { theirs.now.moved + count < 2 ^ 28 }
-    requires room { theirs.now.address + item_size (scalars_of stream.old.payload) * count < 2 ^ 32 }
-    ensures { stream.new ≡
-        with_operation side stream.old (advanced stream.old.payload theirs.now count) }
-{
-    match side {
-        Side::Writing => advance(&mut stream.writer, &stream.payload, theirs, count),
-        Side::Reading => advance(&mut stream.reader, &stream.payload, theirs, count),
-    }
-}
-
 #[inline(always)]
 fn meeting(write: ItemCount, read: ItemCount) -> Meeting
     ensures { result ≡ meeting_of write read }
@@ -115,45 +61,29 @@ fn meeting(write: ItemCount, read: ItemCount) -> Meeting
     }
 }
 
-/// So many items more were received; a future's value has passed then.
+// A side completes alone. Inlined, as what follows, so that operations stay in registers.
 #[inline(always)]
-pub fn receive(stream: &mut Stream, count: ItemCount)
-    ensures { stream.new ≡ with_received stream.old count }
-{
-    stream.passed = stream.passed || stream.kind == TransmitKind::Future;
-    stream.received = stream.received.saturating_add(u128::from(count.as_u32()));
-}
-
-// The other end is gone, which this end learns.
-fn learn(stream: &mut Stream, side: Side)
-    ensures { stream.new ≡ with_end side stream.old
-        (record (end_of side stream.old) { told = true }) }
-{
-    match side {
-        Side::Writing => stream.writer.told = true,
-        Side::Reading => stream.reader.told = true,
-    }
-}
-
-// A side completes alone.
 fn complete_alone(
-    stream: &mut Stream,
+    stream: &mut Channel,
     who: Side,
     side: Side,
     mine: Operation,
     theirs: Operation,
 ) -> ReturnCode
+    requires idle { (end_of side stream.old).operation ≡ None }
+    requires begun { mine ≡ begun mine.guest mine.address mine.left }
     requires there { (end_of (opposite side) stream.old).operation ≡ Some theirs }
+    requires open { theirs.is_open ≡ true }
     requires counted { theirs.moved < 2 ^ 28 }
     requires room { theirs.address < 2 ^ 32 }
     ensures { (guests : List machine.Guest) →
         completes_alone who side guests stream.old mine theirs ≡ answers result guests stream.new }
 {
     if same_side(who, side) {
-        return ReturnCode::completed(stream.kind, ItemCount::ZERO);
+        return ReturnCode::completed(stream.kind(), ItemCount::ZERO);
     }
-    advance_on(stream, opposite(side), &theirs, ItemCount::ZERO);
-    set_operation(stream, side, mine);
+    stream.advance(opposite(side), ItemCount::ZERO);
+    stream.begin(side, mine.guest, mine.address, mine.left);
     ReturnCode::Blocked
 }
 
@@ -169,6 +99,7 @@ fn lesser(one: ItemCount, other: ItemCount) -> ItemCount
 }
 
 // Items move within the memory of one guest.
+#[inline(always)]
 fn carry_within(
     alloc: Global,
     guests: &mut Vec<Guest>,
@@ -207,7 +138,6 @@ fn move_within(memory: &mut GuestMemory, from: u32, to: u32, payload: Payload, c
 // Items move from the memory of one guest to another's.
 #[inline(always)]
 fn carry_between(
-    alloc: Global,
     guests: &mut Vec<Guest>,
     payload: Payload,
     write: &Operation,
@@ -228,12 +158,16 @@ fn carry_between(
     ensures err { OnErr result (seen guests.new.items ≡ seen guests.old.items) }
     ensures length { length guests.new.items ≡ length guests.old.items }
 {
-    let to = read.guest as usize;
-    let mut target = take_memory(alloc, guests, to);
-    let source = memory(guests, write.guest as usize);
-    let moved = target.receive(read.address, source, write.address, payload, count);
-    put_memory(guests, to, target);
-    moved
+    let (from, to) = (write.guest as usize, read.guest as usize);
+    receive_between(
+        guests,
+        from,
+        write.address,
+        to,
+        read.address,
+        payload,
+        count,
+    )
 }
 
 // Items move from where the write's next ones lie to where the read's are to lie.
@@ -268,7 +202,7 @@ fn carry(
         carry_within(alloc, guests, payload, write, read, count);
         return Ok(());
     }
-    carry_between(alloc, guests, payload, write, read, count)
+    carry_between(guests, payload, write, read, count)
 }
 
 // Items move from the side that writes to the one that reads.
@@ -305,12 +239,13 @@ fn carry_from(
 fn exchange(
     alloc: Global,
     guests: &mut Vec<Guest>,
-    stream: &mut Stream,
+    stream: &mut Channel,
     side: Side,
     mine: &Operation,
     theirs: &Operation,
 ) -> Result<ReturnCode, BadItem>
     requires there { (end_of (opposite side) stream.old).operation ≡ Some theirs.now }
+    requires open { theirs.now.is_open ≡ true }
     requires mine { IsPlaced (sizes_of (seen guests.old.items)) stream.old.payload mine.now }
     requires theirs { IsPlaced (sizes_of (seen guests.old.items)) stream.old.payload theirs.now }
     requires numbers { mine.now.guest ≡ theirs.now.guest
@@ -325,10 +260,10 @@ fn exchange(
         ≡ taken result guests.new.items stream.new }
 {
     let count = lesser(mine.left, theirs.left);
-    carry_from(alloc, guests, stream.payload, side, mine, theirs, count)?;
-    advance_on(stream, opposite(side), theirs, count);
-    receive(stream, count);
-    Ok(ReturnCode::completed(stream.kind, count))
+    carry_from(alloc, guests, stream.payload(), side, mine, theirs, count)?;
+    stream.receive(count.as_u32());
+    stream.advance(opposite(side), count);
+    Ok(ReturnCode::completed(stream.kind(), count))
 }
 
 // Mine is called where theirs is open.
@@ -336,12 +271,15 @@ fn exchange(
 fn meet(
     alloc: Global,
     guests: &mut Vec<Guest>,
-    stream: &mut Stream,
+    stream: &mut Channel,
     side: Side,
     mine: Operation,
     theirs: Operation,
 ) -> Result<ReturnCode, BadItem>
+    requires idle { (end_of side stream.old).operation ≡ None }
+    requires begun { mine ≡ begun mine.guest mine.address mine.left }
     requires there { (end_of (opposite side) stream.old).operation ≡ Some theirs }
+    requires open { theirs.is_open ≡ true }
     requires mine { IsPlaced (sizes_of (seen guests.old.items)) stream.old.payload mine }
     requires theirs { IsPlaced (sizes_of (seen guests.old.items)) stream.old.payload theirs }
     requires numbers { mine.guest ≡ theirs.guest → IsTrue (is_number_or_none stream.old.payload) }
@@ -367,10 +305,12 @@ fn meet(
 pub fn take_turn(
     alloc: Global,
     guests: &mut Vec<Guest>,
-    stream: &mut Stream,
+    stream: &mut Channel,
     side: Side,
     mine: Operation,
 ) -> Result<ReturnCode, BadItem>
+    requires idle { (end_of side stream.old).operation ≡ None }
+    requires begun { mine ≡ begun mine.guest mine.address mine.left }
     requires placed { StreamIsPlaced (sizes_of (seen guests.old.items)) stream.old }
     requires mine { IsPlaced (sizes_of (seen guests.old.items)) stream.old.payload mine }
     requires sizes { sum (sizes_of (seen guests.old.items)) ≤ 268435456 }
@@ -379,14 +319,14 @@ pub fn take_turn(
     ensures { turn side (seen guests.old.items) stream.old mine
         ≡ taken result guests.new.items stream.new }
 {
-    if end_of(stream, opposite(side)).owner == Owner::Gone {
-        learn(stream, side);
+    if stream.owner(opposite(side)) == Owner::Gone {
+        stream.learn(side);
         return Ok(ReturnCode::Dropped(ItemCount::ZERO));
     }
-    match end_of(stream, opposite(side)).operation {
+    match stream.operation(opposite(side)) {
         Some(theirs) if theirs.is_open => meet(alloc, guests, stream, side, mine, theirs),
         _ => {
-            set_operation(stream, side, mine);
+            stream.begin(side, mine.guest, mine.address, mine.left);
             Ok(ReturnCode::Blocked)
         }
     }

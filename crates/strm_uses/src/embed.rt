@@ -1,12 +1,14 @@
 //! A store among guests alone: three bytes go from one guest to another.
 
-ghost use Rattle.std.specs.Prelude.{◌≡◌, take, length, Some, IfOk};
+ghost use Rattle.std.specs.Prelude.{◌≡◌, ◌≢◌, ℕ, take, length, false, Some, Ok, Err, IfOk};
 ghost use Rattle.strm_codes.specs.declared.codes.ReturnCode.TheVariants.{Completed};
 ghost use Rattle.strm_machine.specs.State.{memory_in, stream_at};
+ghost use Rattle.strm_uses.specs.declared.embed.Told.TheVariants.{Trap};
 
 use std::alloc::Global;
 use strm_codes::codes::{ReturnCode, TransmitIndex};
 use strm_codes::payloads::Payload;
+use strm_codes::refusals::Refusal;
 use strm_codes::scalars::Scalar;
 use strm_embed::guest_store::GuestStore;
 use strm_embed::{Chunk, Limits, StoreError};
@@ -45,4 +47,44 @@ pub fn hand_three(alloc: Global, bytes: &Chunk) -> Result<Handed, StoreError>
     let read = store.stream_read(reader, BYTES, pair.read, 0, 3)?;
     let told = store.take_event(writer, pair.write)?;
     Ok(Handed { store, read, told })
+}
+
+/// What a guest is told that asked to read.
+#[derive(Clone, Copy, Debug)]
+pub enum Told {
+    /// The word of its read's code.
+    Word(u32),
+    /// It asked for what may not be done, and traps.
+    Trap(Refusal),
+}
+
+/// Reads for a guest. What may not be done traps the guest alone, and has changed nothing; any other
+/// error is the runtime's.
+pub fn read_for(
+    store: &mut GuestStore,
+    guest: u32,
+    handle: u32,
+    address: u32,
+    count: u32,
+) -> Result<Told, StoreError>
+    ensures trapped { (refusal : Refusal) → result ≡ Ok (Trap refusal) → store.new ≡ store.old }
+    ensures passed_on { (refusal : Refusal) → result ≢ Err (StoreError.Refused refusal) }
+{
+    match store.stream_read(guest, BYTES, handle, address, count) {
+        Ok(code) => Ok(Told::Word(code.encode())),
+        Err(StoreError::Refused(refusal)) => Ok(Told::Trap(refusal)),
+        Err(error) => Err(error),
+    }
+}
+
+/// Fills a guest's memory in place; false where there is no such guest.
+pub fn fill(store: &mut GuestStore, guest: u32, byte: u8) -> bool
+    ensures unknown { result ≡ false → store.new ≡ store.old }
+    ensures others { (other : ℕ) → other ≢ guest → memory_in store.new.guests other ≡ memory_in store.old.guests other }
+{
+    if !store.has_guest(guest) {
+        return false;
+    }
+    store.memory_mut(guest).fill(byte);
+    true
 }

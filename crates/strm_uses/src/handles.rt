@@ -1,11 +1,12 @@
 //! A guest's handle table: a stream's end comes under a handle, and goes.
 
-ghost use Rattle.std.specs.Prelude.{◌≡◌, ◌+◌, ◌≤◌, false, Ok, Err, IfOk, OnOk, OnErr};
+ghost use Rattle.std.specs.Prelude.{◌≡◌, ◌+◌, ◌≤◌, false, None, Ok, Err, IfOk, OnOk, OnErr};
 ghost use Rattle.strm_handles.specs.Handles.{next_index, live_of};
 ghost use Rattle.strm_handles.specs.Lookups.{stream_rep_of};
 ghost use Rattle.strm_handles.specs.declared.entries.TransmitLocalState.TheVariants.{Read};
 ghost use Rattle.strm_handles.specs.declared.errors.HandleError.TheVariants.{UnknownHandle};
 
+use strm_codes::counts::OutOfMemory;
 use strm_codes::payloads::Payload;
 use strm_handles::counters::HandleCounter;
 use strm_handles::errors::HandleError;
@@ -42,4 +43,23 @@ pub fn take_read_end(
 {
     let (stream, _) = table.stream_remove_readable(counter, ty, handle)?;
     Ok(stream)
+}
+
+/// The same for a guest that asked for it: its handle, or none where it has too many and traps. Want of
+/// memory is the runtime's own trouble, and is passed on.
+pub fn give_or_trap(
+    table: &mut HandleTable,
+    counter: &mut HandleCounter,
+    ty: Payload,
+    stream: u32,
+) -> Result<Option<u32>, OutOfMemory>
+    ensures trapped { result ≡ Ok None → table.new ≡ table.old }
+    ensures refused { OnErr result (table.new ≡ table.old) }
+{
+    match give_read_end(table, counter, ty, stream) {
+        Ok(handle) => Ok(Some(handle)),
+        Err(HandleError::OutOfMemory) => Err(OutOfMemory),
+        // IndexOverflow or HandleLimit.
+        Err(_) => Ok(None),
+    }
 }

@@ -1,6 +1,6 @@
 //! A resource table of files and folders: a file comes under a key, and goes.
 
-ghost use Rattle.std.specs.Prelude.{◌≡◌, Some, None, IfOk, OnOk, OnErr};
+ghost use Rattle.std.specs.Prelude.{◌≡◌, Some, None, IfSome, IfOk, OnOk, OnErr};
 ghost use Rattle.strm_resources.specs.Entries.{value_at, next_number};
 ghost use Rattle.strm_uses.specs.declared.resources.Place.TheVariants.{File};
 
@@ -62,4 +62,15 @@ pub fn close_file(
     ensures refused { OnErr result (table.new ≡ table.old) }
 {
     table.delete(key)
+}
+
+/// The file behind a key that a guest gave, or none: the key leads nowhere, or to no file.
+pub fn find_file(table: &ResourceTable<Place>, key: &Resource<Files>) -> Option<u32>
+    ensures found { IfSome result (λ file. value_at table.now.entries key.now ≡ Some (File file)) }
+{
+    match table.get(key) {
+        Ok(Place::File(file)) => Some(*file),
+        // NotPresent or WrongType: no other error comes.
+        Ok(Place::Folder(_)) | Err(_) => None,
+    }
 }

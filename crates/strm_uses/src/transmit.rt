@@ -1,13 +1,16 @@
 //! A store: three bytes go from one guest to another.
 
-ghost use Rattle.std.specs.Prelude.{◌≡◌, take, length, Some, IfOk};
+ghost use Rattle.std.specs.Prelude.{◌≡◌, take, length, Some, Ok, Err, IfOk};
+ghost use Rattle.strm_buffers.specs.AllTells.{tells_of};
 ghost use Rattle.strm_codes.specs.declared.codes.ReturnCode.TheVariants.{Completed};
 ghost use Rattle.strm_machine.specs.State.{memory_in, stream_at};
+ghost use Rattle.strm_world.specs.Does.{Fits};
 
 use std::alloc::Global;
 use strm_buffers::hosts::Hosts;
 use strm_codes::codes::{ReturnCode, TransmitIndex};
 use strm_codes::payloads::Payload;
+use strm_codes::refusals::Refusal;
 use strm_codes::scalars::Scalar;
 use strm_transmit::errors::StoreError;
 use strm_transmit::store::Store;
@@ -51,4 +54,24 @@ pub fn pass_three(alloc: Global, bytes: &Chunk) -> Result<Passed, StoreError>
     let read = store.stream_read(&mut hosts, reader, BYTES, pair.read, 0, 3)?;
     let told = store.take_event(writer, pair.write)?;
     Ok(Passed { store, read, told })
+}
+
+/// Reads for a guest: the word of its read's code, or why the guest traps. A refusal has changed nothing;
+/// any other error is the runtime's.
+pub fn read_for(
+    store: &mut Store,
+    hosts: &mut Hosts,
+    guest: u32,
+    handle: u32,
+    address: u32,
+    count: u32,
+) -> Result<Result<u32, Refusal>, StoreError>
+    requires fits { Fits store.old (tells_of writer_tells reader_tells hosts.old) }
+    ensures trapped { (refusal : Refusal) → result ≡ Ok (Err refusal) → store.new ≡ store.old }
+{
+    match store.stream_read(hosts, guest, BYTES, handle, address, count) {
+        Ok(code) => Ok(Ok(code.encode())),
+        Err(StoreError::Refused(refusal)) => Ok(Err(refusal)),
+        Err(error) => Err(error),
+    }
 }

@@ -10,12 +10,12 @@ use Rattle.strm_machine.specs.declared.streams.Duty.TheVariants.{Unused, Serves}
 use Rattle.strm_machine.specs.declared.streams.Producer.{Producer}
 use Rattle.strm_machine.specs.declared.streams.Stream.{Stream}
 use Rattle.strm_machine.specs.declared.replies.Reply.TheVariants as replies
-use Rattle.strm_world.specs.Ends.{fed_writer}
-use Rattle.strm_world.specs.World.{writer_at, with_writer}
+use Rattle.strm_world.specs.Ends.{Writer, fed_writer}
+use Rattle.strm_world.specs.World.{World, writer_at, with_producer, with_writer}
 use Rattle.strm_world.specs.Outcomes.{Goes, done}
-use Rattle.strm_world.specs.Attaching.{hosted_stream, hosts_new}
+use Rattle.strm_world.specs.Attaching.{hosted_stream, with_new_stream, new_producer, hosts_new}
 use Rattle.strm_world.specs.Steps.{on_host}
-use Rattle.strm_world.specs.Does.{Logs, first_log, writer_of, writers_from, world_of, Does}
+use Rattle.strm_world.specs.Does.{Logs, first_log, first_duty, writer_of, writers_from, world_of, Does}
 use Rattle.strm_world.proofs.WorldLemmas.{writer_in-from, writers_from-set}
 use Rattle.strm_world.proofs.GrowLemmas.{grows-same, Does-told}
 use Rattle.strm_world.proofs.DoesLemmas.{Does-untold}
@@ -37,15 +37,22 @@ writers_from-served (q ∷ ps) (x ∷ ws) logs (suc n) s p e u =
 abbrev pub hosted_by : WriterTells → ℕ → Stream
 hosted_by tells n = hosted_stream (writer_of Unused tells []) n
 
+-- what is kept of a host writer that tells this and gets stream s
+abbrev pub hosting_by : WriterTells → ℕ → Producer
+hosting_by tells s = new_producer s (writer_of Unused tells [])
+
 -- the state with a stream more, of host writer n
 abbrev pub hosted_in : State → Tells → ℕ → State
 hosted_in state tells n = record state {
   streams = state.streams ++ hosted_by (told_by tells n) n ∷ [];
-  producers = slice_set state.producers n (record no_producer { duty = Serves (length state.streams) });
+  producers = slice_set state.producers n (hosting_by (told_by tells n) (length state.streams));
 }
 
-hosted-at : (state : State) (tells : Tells) (logs : Logs) (n : ℕ) → n < length tells.writers → hosted_stream (writer_at (world_of state tells logs) n) n ≡ hosted_by (told_by tells n) n
-hosted-at state tells logs n l = ap (λ w. hosted_stream w n) (writer_in-from state.producers tells.writers logs.writers n no_tells l)
+unused_first : (ps : List Producer) (n : ℕ) → (slice_index_or ps n no_producer).duty ≡ Unused → first_duty (drop n ps) ≡ Unused
+unused_first [] zero u = refl
+unused_first [] (suc n) u = refl
+unused_first (p ∷ ps) zero u = u
+unused_first (p ∷ ps) (suc n) u = unused_first ps n u
 
 -- a writer gets a stream
 pub Does-hosts_new : (state : State) (tells : Tells) (n : ℕ) → n < length tells.writers → (producer_at state n).duty ≡ Unused
@@ -53,10 +60,15 @@ pub Does-hosts_new : (state : State) (tells : Tells) (n : ℕ) → n < length te
 unfolding hosts_new
 Does-hosts_new state tells n l u =
     Does-untold state (hosted_in state tells n) tells (Ok (replies.Number (length state.streams))) (λ w. hosts_new w n)
-    (λ logs. ap (λ stream. Goes (replies.Number (length state.streams)) (record (world_of state tells logs) { state = record (hosted_in state tells n) { streams = state.streams ++ stream ∷ [] } })) (hosted-at state tells logs n l)
+    (λ logs. ap (λ w. Goes (replies.Number (length state.streams)) (hosted_as logs w)) (writer_in-from state.producers tells.writers logs.writers n no_tells l)
+    ∙ ap (λ d. Goes (replies.Number (length state.streams)) (hosted_as logs (writer_of d (told_by tells n) (first_log (drop n logs.writers))))) (unused_first state.producers n u)
     ∙ ap (λ ws. Goes (replies.Number (length state.streams)) (record (world_of state tells logs) { state = hosted_in state tells n; writers = ws }))
-    (sym (writers_from-served state.producers tells.writers logs.writers n (length state.streams) (record no_producer { duty = Serves (length state.streams) }) refl u)))
+    (sym (writers_from-served state.producers tells.writers logs.writers n (length state.streams) (hosting_by (told_by tells n) (length state.streams)) refl u)))
     tt
+  where
+    -- the world with its stream, by what the machine knows of it
+    hosted_as : Logs → Writer → World
+    hosted_as logs w = with_new_stream (with_producer (world_of state tells logs) n (new_producer (length state.streams) w)) (hosted_stream w n)
 
 -- BYTES FROM OUTSIDE
 

@@ -22,7 +22,7 @@ use Rattle.strm_world.specs.Polls.{AfterReader, is_failed, same_flag, is_reader_
 use Rattle.strm_world.specs.Settling.{result_of, moved_on, since_after}
 use Rattle.strm_world.specs.Consuming.{lifted, with_taken, gives_up, consumer_turn}
 use Rattle.strm_world.specs.Does.{Logs, Extends, writers_from, readers_from, world_of, Does}
-use Rattle.strm_world.proofs.ReaderLemmas.{IsReaderPolled, polls_reader-box, begins-told_reader, told_by_reader-told, grows-polled_reader, grows-same_reader, Does-told_reader}
+use Rattle.strm_world.proofs.ReaderLemmas.{IsBadNext, IsReaderPolled, polls_reader-box, begins-told_reader, told_by_reader-told, grows-polled_reader, grows-same_reader, Does-told_reader}
 use Rattle.strm_world.proofs.TurnLemmas.{WritesBack}
 
 same_flag-refl : (b : Bool) → same_flag b b ≡ true
@@ -40,6 +40,7 @@ pub record IsPolledWith (old : State) (tells : Tells) (r s : ℕ) (write : Opera
   pub offered : said.offered ≡ write.left
   pub since : said.since ≡ (consumer_at old r).since
   pub finish : said.finish ≡ write.asked
+  pub next : said.bad ≡ true → IsBadNext write.left (next_items old s write) said.taken
 
 -- what is kept of it then
 abbrev pub took_in : State → ℕ → ReaderSaid → Consumer
@@ -72,6 +73,7 @@ module _ (old : State) (tells : Tells) (r s : ℕ) (write : Operation) (said : R
     polls = p.polls;
     taken = refl;
     asked = asked_is;
+    next = p.next;
     begins = begins-told_reader tells.readers logs.readers r t p.there e.1;
   }
 

@@ -17,15 +17,16 @@ use Rattle.strm_machine.specs.declared.stops.Stop.{Stop}
 use Rattle.strm_machine.specs.declared.stops.Stop.TheVariants.{HostFailed, HostBroke, BadItem}
 use Rattle.strm_machine.specs.declared.streams.Consumer.{Consumer}
 use Rattle.strm_machine.specs.declared.streams.HostEnd.TheVariants as ends
+use Rattle.strm_machine.specs.declared.streams.Producer.{Producer}
 use Rattle.strm_machine.specs.declared.streams.Side.TheVariants.{Writing, Reading}
 use Rattle.strm_machine.specs.declared.replies.Reply.TheVariants as replies
 use Rattle.strm_machine.proofs.TableLemmas.{OwnersStay}
 use Rattle.strm_world.specs.Ends.{Writer}
-use Rattle.strm_world.specs.World.{World, writer_at, held_of, with_writer, with_kept}
+use Rattle.strm_world.specs.World.{World, writer_at, held_of, with_producer, with_writer, with_kept}
 use Rattle.strm_world.specs.Outcomes.{Outcome, Stops, done, stops}
 use Rattle.strm_world.specs.Polls.{AfterWriter, AfterReader, is_failed, same_flag, same_room, is_writer_poll, writer_judged, is_reader_poll, reader_judged, polls_writer, polls_reader}
 use Rattle.strm_world.specs.Settling.{with_some_received, since_after}
-use Rattle.strm_world.specs.Producing.{is_last, with_over}
+use Rattle.strm_world.specs.Producing.{is_last, with_answer}
 use Rattle.strm_world.specs.Attaching.{has_items, without_ends}
 use Rattle.strm_world.specs.Piping.{wants_items, fetches, gathered, is_resting, passed_on, offers, is_done_with, is_run_dry, both_gone, ends_if_done, pipe_round}
 use Rattle.strm_world.specs.Does.{Logs, Begins, first_log, Extends, writers_from, readers_from, world_of, Answered, Does}
@@ -73,7 +74,7 @@ module _ (state : State) (tells : Tells) (n s : ℕ) (i : IsServing state tells 
   pub Does-fetches_none : (r : ℕ) → wants_told state tells n r ≡ false → Does state state tells tells (Ok replies.Done) (λ w. fetches w s n r)
   Does-fetches_none r e =
       Does-untold state state tells (Ok replies.Done) (λ w. fetches w s n r)
-      (λ logs. ap (λ b. cond b (polls_writer (world_of state tells logs) s n None false (λ after said. done (with_kept (with_over after n said.answer) n said.items))) (done (world_of state tells logs))) (wants-told logs r ∙ e)) tt
+      (λ logs. ap (λ b. cond b (polls_writer (world_of state tells logs) s n None false (λ after said. done (with_kept (with_answer after n said.answer []) n said.items))) (done (world_of state tells logs))) (wants-told logs r ∙ e)) tt
 
 -- the writer is polled with no stated room, and all that it produced is marked
 pub record IsFetched (state : State) (tells : Tells) (n s r : ℕ) (said : WriterSaid) (w : WriterTells) : Type 0 where
@@ -100,7 +101,7 @@ module _ (old : State) (tells : Tells) (n s r : ℕ) (said : WriterSaid) (w : Wr
 
   -- what goes on after its record
   abbrev next : AfterWriter
-  next after said' = done (with_kept (with_over after n said'.answer) n said'.items)
+  next after said' = done (with_kept (with_answer after n said'.answer []) n said'.items)
 
   abbrev polled : Logs → World
   polled logs = world_of old (with_told tells n w) logs
@@ -110,10 +111,14 @@ module _ (old : State) (tells : Tells) (n s r : ℕ) (said : WriterSaid) (w : Wr
       ap (λ b. cond b (polls_writer (world_of old tells logs) s n None false next) (done (world_of old tells logs))) (wants-told old tells n s f.serving logs r ∙ f.wants)
       ∙ polls_writer-box old tells logs n s f.serving None false said w (is_recorded logs e) s next
 
-  -- what is kept of it then, and of its items
+  -- what is kept of it then
+  abbrev pub kept_after : Producer
+  kept_after = record (producer_at old n) { over = (producer_at old n).over || is_last said.answer; holding = false }
+
+  -- and of its items
   abbrev pub fetched_in : State
   fetched_in = record old {
-    producers = slice_set old.producers n (record (producer_at old n) { over = (producer_at old n).over || is_last said.answer });
+    producers = slice_set old.producers n kept_after;
     kept = slice_set old.kept n said.items;
   }
 
@@ -130,7 +135,7 @@ module _ (old : State) (tells : Tells) (n s r : ℕ) (said : WriterSaid) (w : Wr
       (grows-polled (told_by tells n) w said said.items f.polls)
       (λ logs e. judged logs e ∙ ap (failed_or logs) g ∙ ap (broke_or logs) b
       ∙ ap (λ ws. done (record (polled logs) { state = fetched_in; writers = ws }))
-      (sym (writers_from-duty old.producers (with_told tells n w).writers logs.writers n (record (producer_at old n) { over = (producer_at old n).over || is_last said.answer }) no_producer refl)))
+      (sym (writers_from-duty old.producers (with_told tells n w).writers logs.writers n kept_after no_producer refl)))
       tt
 
   stops-by : (new : State) (logs : Logs) (stop : Stop) → new.producers ≡ old.producers
@@ -163,7 +168,10 @@ module _ (old : State) (tells : Tells) (n s r : ℕ) (said : WriterSaid) (w : Wr
 
 -- the state in which all that is held is kept, and what the ends tell then
 abbrev pub gathered_in : State → Tells → ℕ → State
-gathered_in state tells n = record state { kept = slice_set state.kept n (held_told state tells n) }
+gathered_in state tells n = record state {
+  producers = slice_set state.producers n (record (producer_at state n) { holding = false });
+  kept = slice_set state.kept n (held_told state tells n);
+}
 
 abbrev pub gathered_tells : Tells → ℕ → Tells
 gathered_tells tells n = with_told tells n (given (told_by tells n) None)
@@ -171,9 +179,13 @@ gathered_tells tells n = with_told tells n (given (told_by tells n) None)
 module _ (state : State) (tells : Tells) (n s : ℕ) (i : IsServing state tells n s) where
   pub gathered-box : (logs : Logs) → gathered (world_of state tells logs) n ≡ world_of (gathered_in state tells n) (gathered_tells tells n) logs
   gathered-box logs =
-      ap (λ xs. with_writer (with_kept (world_of state tells logs) n xs) n (record (writer_at (world_of state tells logs) n) { holds = [] })) (held-told state tells n s i logs)
-      ∙ ap (λ (w : Writer). with_writer (world_of (gathered_in state tells n) tells logs) n (record w { holds = [] })) (writer_at-serving state tells logs n s i)
-      ∙ with_writer-serving (gathered_in state tells n) tells logs n s (record { there = i.there; kept = i.kept; duty = i.duty }) (given (told_by tells n) None)
+      let kept = record state { kept = slice_set state.kept n (held_told state tells n) } in
+      let none = record (producer_at state n) { holding = false } in
+      ap (λ xs. with_producer (with_writer (with_kept (world_of state tells logs) n xs) n (record (writer_at (world_of state tells logs) n) { holds = [] })) n none) (held-told state tells n s i logs)
+      ∙ ap (λ (w : Writer). with_producer (with_writer (world_of kept tells logs) n (record w { holds = [] })) n none) (writer_at-serving state tells logs n s i)
+      ∙ ap (λ v. with_producer v n none) (with_writer-serving kept tells logs n s (record { there = i.there; kept = i.kept; duty = i.duty }) (given (told_by tells n) None))
+      ∙ ap (λ ws. record (world_of kept (gathered_tells tells n) logs) { state = gathered_in state tells n; writers = ws })
+      (sym (writers_from-duty state.producers (gathered_tells tells n).writers logs.writers n none no_producer refl))
 
   -- the reader is not polled
   pub offers-none : (logs : Logs) (r : ℕ) (next : World → Option Answer → Outcome) → offers_told state tells n r ≡ false
@@ -191,6 +203,7 @@ pub record IsOffered (state : State) (tells : Tells) (n s r : ℕ) (said : Reade
   pub offered : said.offered ≡ length (held_told state tells n)
   pub since : said.since ≡ (consumer_at state r).since
   pub finish : said.finish ≡ false
+  pub good : said.bad ≡ false
 
 -- a poll that goes on: it didn't fail, asked for no item that is none, and kept the rules
 pub record PollPasses (kind : TransmitKind) (said : ReaderSaid) : Type 0 where
@@ -221,7 +234,7 @@ module _ (old : State) (tells : Tells) (n s r : ℕ) (said : ReaderSaid) (t : Re
   BeginsSo logs = Begins t.said (first_log (drop r logs.readers))
 
   is_polled : (logs : Logs) → BeginsSo logs → IsReaderPolled (gathered_in old tells n) (gathered_tells tells n) logs r (length held) false (λ k. take k held) said t
-  is_polled logs e = record { took = take said.taken held; there = o.there; polls = o.polls; taken = refl; asked = poll_is; begins = e }
+  is_polled logs e = record { took = take said.taken held; there = o.there; polls = o.polls; taken = refl; asked = poll_is; next = λ b. absurd (let f = sym o.good ∙ b in cc); begins = e }
 
   abbrev after_poll : Logs → World
   after_poll logs = world_of (gathered_in old tells n) offered_tells logs

@@ -72,7 +72,7 @@ module _ (old : State) (tells : Tells) (n s r : ℕ) (said : ReaderSaid) (t : Re
   abbrev judged_as : Logs → World
   judged_as logs = world_of (gathered_in old tells n) told logs
 
-  stops-by : (new : State) (logs : Logs) (stop : Stop) → new.producers ≡ old.producers
+  stops-by : (new : State) (logs : Logs) (stop : Stop) → new.producers ≡ (gathered_in old tells n).producers
       → stops stop (judged_as logs) ≡ Stops stop (world_of new told logs).writers (world_of new told logs).readers
   stops-by new logs stop e =
       ap (λ ps. Stops stop (writers_from ps told.writers logs.writers) (readers_from told.readers logs.readers)) (sym e)
@@ -94,7 +94,7 @@ module _ (old : State) (tells : Tells) (n s r : ℕ) (said : ReaderSaid) (t : Re
       subst (λ (v : ReaderTells). Rose (told_by_reader tells r).faults v.faults) (sym (told_by_reader-told tells.readers r t no_reader_tells o.there))
       (subst (λ a. Rises a (told_by_reader tells r).faults t.faults) f o.polls.faults)
 
-  pub Does-offers_failed : (new : State) → said.answer ≡ Failed → new.producers ≡ old.producers
+  pub Does-offers_failed : (new : State) → said.answer ≡ Failed → new.producers ≡ (gathered_in old tells n).producers
       → Does old new tells told (Err (Some (HostFailed (ends.Reader r)))) (offers_and_ends s n r)
   Does-offers_failed new f e =
       Does-follows old new tells told (Err (Some (HostFailed (ends.Reader r)))) (offers_and_ends s n r) follows_is
@@ -103,7 +103,7 @@ module _ (old : State) (tells : Tells) (n s r : ℕ) (said : ReaderSaid) (t : Re
       ∙ stops-by new logs (HostFailed (ends.Reader r)) e)
       (faults_rise f)
 
-  pub Does-offers_bad : (new : State) → is_failed said.answer ≡ false → said.bad ≡ true → new.producers ≡ old.producers
+  pub Does-offers_bad : (new : State) → is_failed said.answer ≡ false → said.bad ≡ true → new.producers ≡ (gathered_in old tells n).producers
       → Does old new tells told (Err (Some (BadItem s))) (offers_and_ends s n r)
   Does-offers_bad new f b e =
       Does-follows old new tells told (Err (Some (BadItem s))) (offers_and_ends s n r) follows_is
@@ -113,7 +113,7 @@ module _ (old : State) (tells : Tells) (n s r : ℕ) (said : ReaderSaid) (t : Re
       ∙ stops-by new logs (BadItem s) e)
       tt
 
-  pub Does-offers_broke : (new : State) → is_failed said.answer ≡ false → said.bad ≡ false → breaks_as_reader (stream_at old s).kind said ≡ true → new.producers ≡ old.producers
+  pub Does-offers_broke : (new : State) → is_failed said.answer ≡ false → said.bad ≡ false → breaks_as_reader (stream_at old s).kind said ≡ true → new.producers ≡ (gathered_in old tells n).producers
       → Does old new tells told (Err (Some (HostBroke (ends.Reader r)))) (offers_and_ends s n r)
   Does-offers_broke new f b k e =
       Does-follows old new tells told (Err (Some (HostBroke (ends.Reader r)))) (offers_and_ends s n r) follows_is

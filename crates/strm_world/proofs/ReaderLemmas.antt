@@ -1,8 +1,9 @@
 -- A host reader among the others: what it is to the machine, and where it was polled, granted or closed.
-use Rattle.std.proofs.Common.{◌≡◌, ℕ, zero, suc, ◌+◌, ◌<◌, ◌≤◌, Bool, true, cond, List, [], ◌∷◌, ◌++◌, length, drop, Option, refl, sym, ap, subst, ◌∙◌, append-nil, arith}
-use Rattle.std.specs.Prelude.{slice_set, slice_index_or, map}
+use Rattle.std.proofs.Common.{◌≡◌, ℕ, zero, suc, ◌+◌, ◌<◌, ◌≤◌, Bool, true, false, ◌&&◌, ◌||◌, not, cond, List, [], ◌∷◌, ◌++◌, length, drop, Option, refl, sym, ap, subst, ◌∙◌, append-nil, arith}
+use Rattle.std.specs.Prelude.{slice_set, slice_index_or, map, nat_lt}
 use Rattle.std.specs.Option.{option_map}
 use Rattle.std.proofs.lemmas.List.{length-append}
+use Rattle.std.proofs.lemmas.Bool.{eq-eqb}
 use Rattle.std.proofs.lemmas.Bool.Decides.{nat_tests}
 use Rattle.strm_codes.specs.declared.codes.TransmitKind.{TransmitKind}
 use Rattle.strm_codes.specs.declared.payloads.Payload.{Payload}
@@ -19,7 +20,7 @@ use Rattle.strm_machine.specs.declared.streams.HostEnd.TheVariants as ends
 use Rattle.strm_world.specs.Ends.{Reader, reader_in, polled_reader, closed_reader, granted_reader}
 use Rattle.strm_world.specs.World.{World, stream_in, reader_at, with_reader, without_reader}
 use Rattle.strm_world.specs.Outcomes.{Stuck}
-use Rattle.strm_world.specs.Polls.{AfterReader, is_reader_poll, reader_judged, reader_says, polls_reader}
+use Rattle.strm_world.specs.Polls.{AfterReader, is_reader_poll, are_items, tells_truly, reader_judged, reader_says, polls_reader}
 use Rattle.strm_world.specs.Does.{Logs, Begins, AllBegin, Extends, first_log, reader_of, readers_from, world_of, faults_of, Answered, Gives, Caused, Does}
 use Rattle.strm_world.proofs.WorldLemmas.{drop_one, coming-next, begins-before}
 use Rattle.strm_world.proofs.GrowLemmas.{Follows, Part, Does-follows}
@@ -143,6 +144,24 @@ polled-reader_of old new said took log p =
     let heard : new.heard ≡ old.heard = p.heard in
     same_reader kind payload holds spoken closed heard
 
+-- the item behind so many of those that were offered is one of them, and is none
+pub record IsBadNext (offered : ℕ) (first : ℕ → List Item) (n : ℕ) : Type 0 where
+  pub within : n < offered
+  pub bad : are_items first (n + 1) ≡ false
+
+-- so what a record tells of them
+true_bad : (offered : ℕ) (first : ℕ → List Item) (n : ℕ) (bad : Bool) → (bad ≡ true → IsBadNext offered first n) → not bad || (nat_lt n offered && not (are_items first (n + 1))) ≡ true
+true_bad offered first n false h = refl
+true_bad offered first n true h =
+    let within = (h refl).within in
+    let inside : nat_lt n offered ≡ true = grind (arith, nat_tests) in
+    rw (inside, (h refl).bad) refl
+
+pub truly : (offered : ℕ) (first : ℕ → List Item) (said : ReaderSaid) → said.taken ≡ length (first said.taken) → (said.bad ≡ true → IsBadNext offered first said.taken) → tells_truly offered first said ≡ true
+truly offered first said taken next =
+    ap (λ b. b && (not said.bad || (nat_lt said.taken offered && not (are_items first (said.taken + 1))))) (eq-eqb (length (first said.taken)) said.taken (sym taken))
+    ∙ true_bad offered first said.taken said.bad next
+
 -- a poll of host reader r that was offered so many items, of which these are the first so many, and that
 -- added this record
 pub record IsReaderPolled (state : State) (tells : Tells) (logs : Logs) (r offered : ℕ) (finish : Bool) (first : ℕ → List Item) (said : ReaderSaid) (t : ReaderTells) : Type 0 where
@@ -151,6 +170,7 @@ pub record IsReaderPolled (state : State) (tells : Tells) (logs : Logs) (r offer
   pub polls : PollsReader (told_by_reader tells r) t said took
   pub taken : first said.taken ≡ took
   pub asked : is_reader_poll offered (consumer_at state r).since finish said ≡ true
+  pub next : said.bad ≡ true → IsBadNext offered first said.taken
   pub begins : Begins t.said (first_log (drop r logs.readers))
 
 module _ (state : State) (tells : Tells) (logs : Logs) (r offered : ℕ) (finish : Bool) (first : ℕ → List Item) (said : ReaderSaid) (t : ReaderTells) (h : IsReaderPolled state tells logs r offered finish first said t) where
@@ -183,7 +203,8 @@ module _ (state : State) (tells : Tells) (logs : Logs) (r offered : ℕ) (finish
       → polls_reader before s r offered finish first next ≡ reader_judged (world_of state (with_told_reader tells r t) logs) (stream_in before s).kind s r said next
   polls_reader-box s next =
       ap (λ rs. reader_says before s r offered finish first rs next) next_is
-      ∙ ap (λ b. cond b (reader_judged (with_reader before r (polled_reader (reader_at before r) (first said.taken) more)) (stream_in before s).kind s r said next) Stuck) h.asked
+      ∙ ap (λ b. cond (b && tells_truly offered first said) (reader_judged (with_reader before r (polled_reader (reader_at before r) (first said.taken) more)) (stream_in before s).kind s r said next) Stuck) h.asked
+      ∙ ap (λ b. cond b (reader_judged (with_reader before r (polled_reader (reader_at before r) (first said.taken) more)) (stream_in before s).kind s r said next) Stuck) (truly offered first said (h.polls.taken ∙ ap length (sym h.taken)) h.next)
       ∙ ap (λ v. reader_judged v (stream_in before s).kind s r said next) world_is
 
 -- ## A close

@@ -17,11 +17,12 @@ use Rattle.strm_machine.specs.declared.streams.Operation.{Operation}
 use Rattle.strm_machine.specs.declared.streams.Producer.{Producer}
 use Rattle.strm_machine.specs.declared.streams.Side.TheVariants.{Reading}
 use Rattle.strm_machine.specs.declared.streams.Stream.{Stream}
-use Rattle.strm_world.specs.World.{World, with_stream_in}
+use Rattle.strm_world.specs.World.{World, with_producer, with_writer, with_stream_in}
 use Rattle.strm_world.specs.Outcomes.{Outcome, Stops, done, stops}
 use Rattle.strm_world.specs.Polls.{AfterWriter, is_failed, same_flag, same_room, is_writer_poll, writer_judged}
 use Rattle.strm_world.specs.Settling.{moved_on}
-use Rattle.strm_world.specs.Producing.{lowered, receives, is_last, with_over, produced_result, hands_over, is_produced, produces, producer_turn}
+use Rattle.strm_world.specs.Attaching.{has_items}
+use Rattle.strm_world.specs.Producing.{lowered, receives, is_last, with_answer, produced_result, hands_over, is_produced, produces, producer_turn}
 use Rattle.strm_world.specs.Does.{Logs, Extends, writers_from, readers_from, world_of, Does}
 use Rattle.strm_world.proofs.WorldLemmas.{writers_from-duty, set-same}
 use Rattle.strm_world.proofs.GrowLemmas.{Does-told, grows-polled, grows-kept, begins-told, told_by-told}
@@ -80,17 +81,26 @@ module _ (old : State) (tells : Tells) (n s : ℕ) (read : Operation) (i : IsSer
   abbrev after_giving : Tells
   after_giving = with_told tells n (given (told_by tells n) (Some read.left))
 
-  hands_over-box : (logs : Logs) → hands_over (world_of old tells logs) s n read ≡ with_stream_in (world_of (record old { guests = lowered_in old s read given_items }) after_giving logs) s (moved_in old s read given_items (Some results.Completed))
-  hands_over-box logs =
-      ap (λ w. receives (record (world_of old tells logs) { writers = slice_set (world_of old tells logs).writers n (record w { holds = drop read.left w.holds }) }) s read (take read.left w.holds) (Some results.Completed)) (writer_at-serving old tells logs n s i)
-      ∙ ap (λ v. receives v s read (take read.left (told_by tells n).holds) (Some results.Completed)) (with_writer-serving old tells logs n s i (given (told_by tells n) (Some read.left)))
+  -- what is kept of it then
+  abbrev pub given_kept : Producer
+  given_kept = record (producer_at old n) { holding = has_items (drop read.left (told_by tells n).holds) }
 
-  pub turn-hands_over : (item : Item) (items : List Item) → (told_by tells n).holds ≡ item ∷ items → Turns (producer_at old n) given_items (Some results.Completed) after_giving
+  -- a world in which that is kept of it
+  abbrev kept_so : World → List Item → World
+  kept_so w held = with_producer w n (record (producer_at old n) { holding = has_items held })
+
+  hands_over-box : (logs : Logs) → hands_over (world_of old tells logs) s n read ≡ with_stream_in (world_of (turned_but old n (lowered_in old s read given_items) given_kept) after_giving logs) s (moved_in old s read given_items (Some results.Completed))
+  hands_over-box logs =
+      ap (λ w. receives (kept_so (with_writer (world_of old tells logs) n (record w { holds = drop read.left w.holds })) (drop read.left w.holds)) s read (take read.left w.holds) (Some results.Completed)) (writer_at-serving old tells logs n s i)
+      ∙ ap (λ v. receives (kept_so v (drop read.left (told_by tells n).holds)) s read (take read.left (told_by tells n).holds) (Some results.Completed)) (with_writer-serving old tells logs n s i (given (told_by tells n) (Some read.left)))
+      ∙ ap (λ v. with_stream_in v s (moved_in old s read (take read.left (told_by tells n).holds) (Some results.Completed)))
+      (sym (world_of-kept old (with_told tells n (given (told_by tells n) (Some read.left))) logs n (lowered_in old s read (take read.left (told_by tells n).holds)) (record (producer_at old n) { holding = has_items (drop read.left (told_by tells n).holds) }) refl))
+
+  pub turn-hands_over : (item : Item) (items : List Item) → (told_by tells n).holds ≡ item ∷ items → Turns given_kept given_items (Some results.Completed) after_giving
   turn-hands_over item items e logs x =
       by_holds logs
       ∙ ap (produces (world_of old tells logs) s n read) e
       ∙ ap done (hands_over-box logs)
-      ∙ ap (λ st. done (with_stream_in (world_of st (with_told tells n (given (told_by tells n) (Some read.left))) logs) s (moved_in old s read (take read.left (told_by tells n).holds) (Some results.Completed)))) (sym (kept-same old n (lowered_in old s read (take read.left (told_by tells n).holds))))
 
   -- A WRITER THAT IS OVER
 
@@ -145,7 +155,7 @@ module _ (old : State) (tells : Tells) (n s : ℕ) (read : Operation) (i : IsSer
 
   -- what goes on after its record
   abbrev next : AfterWriter
-  next after said' = done (receives (with_over after n said'.answer) s read (take read.left said'.items) (produced_result said'.answer (drop read.left said'.items)))
+  next after said' = done (receives (with_answer after n said'.answer (drop read.left said'.items)) s read (take read.left said'.items) (produced_result said'.answer (drop read.left said'.items)))
 
   judged : (logs : Logs) → Extends (with_told tells n w) logs → producer_turn (world_of old tells logs) s n read ≡ writer_judged (world_of old (with_told tells n w) logs) (stream_at old s).kind n said next
   judged logs e =
@@ -154,7 +164,10 @@ module _ (old : State) (tells : Tells) (n s : ℕ) (read : Operation) (i : IsSer
 
   -- what is kept of it then
   abbrev pub kept_after : Producer
-  kept_after = record (producer_at old n) { over = (producer_at old n).over || is_last said.answer }
+  kept_after = record (producer_at old n) {
+    over = (producer_at old n).over || is_last said.answer;
+    holding = has_items (drop read.left said.items);
+  }
 
   pub turn-produced : is_failed said.answer ≡ false → breaks_as_writer (stream_at old s).kind said ≡ false
       → Turns old tells n s read i kept_after (take read.left said.items) (produced_result said.answer (drop read.left said.items)) (with_told tells n w)

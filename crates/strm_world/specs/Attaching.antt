@@ -10,6 +10,7 @@ use Rattle.strm_machine.specs.declared.streams.Duty.TheVariants.{Serves}
 use Rattle.strm_machine.specs.declared.streams.Owner.{Owner}
 use Rattle.strm_machine.specs.declared.streams.Owner.TheVariants.{Loose, Host, Gone}
 use Rattle.strm_machine.specs.declared.streams.Operation.{Operation}
+use Rattle.strm_machine.specs.declared.streams.Producer.{Producer}
 use Rattle.strm_machine.specs.declared.streams.Side.{Side}
 use Rattle.strm_machine.specs.declared.streams.Side.TheVariants.{Writing, Reading}
 use Rattle.strm_machine.specs.declared.streams.Stream.{Stream}
@@ -36,12 +37,21 @@ abbrev pub with_new_stream : World → Stream → World
 with_new_stream world stream =
     record world { state = record world.state { streams = world.state.streams ++ stream ∷ [] } }
 
+-- a list has items
+abbrev pub has_items : List Item → Bool
+has_items [] = false
+has_items (item ∷ items) = true
+
+-- what is kept of a host writer that gets stream s
+abbrev pub new_producer : ℕ → Writer → Producer
+new_producer s writer = record no_producer { duty = Serves s; holding = has_items writer.holds }
+
 -- host writer n gets a stream, whose number is answered; what is held on it is what the writer holds
 unfoldable pub hosts_new : World → ℕ → Outcome
 hosts_new world n =
     let s = length world.state.streams in
     Goes (replies.Number s)
-    (with_new_stream (with_producer world n (record no_producer { duty = Serves s }))
+    (with_new_stream (with_producer world n (new_producer s (writer_at world n)))
     (hosted_stream (writer_at world n) n))
 
 -- A LOOSE READ END THAT GOES TO A HOST READER
@@ -55,11 +65,6 @@ abbrev pub piped : Stream → ℕ → Stream
 piped stream r =
     let writer = record stream.writer { operation = option_map withdrawn stream.writer.operation } in
     with_owner Reading (record stream { writer = writer }) (Host r)
-
--- a list has items
-abbrev pub has_items : List Item → Bool
-has_items [] = false
-has_items (item ∷ items) = true
 
 -- nothing comes any more from a write end of this owner, whose read end is loose
 abbrev pub is_dry : World → Owner → Bool

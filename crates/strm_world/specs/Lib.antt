@@ -6,9 +6,12 @@ pub mod Settling
 pub mod Producing
 pub mod Consuming
 pub mod Attaching
+pub mod Releasing
 pub mod Piping
 pub mod Driving
 pub mod HostRefusals
 pub mod Steps
 pub mod HostPlays
 pub mod Does
+pub mod Courses
+pub mod Asking

@@ -7,13 +7,12 @@ use Rattle.strm_codes.specs.declared.codes.TransmitKind.{TransmitKind}
 use Rattle.strm_codes.specs.declared.codes.TransmitKind.TheVariants.{Future}
 use Rattle.strm_buffers.specs.declared.answers.Answer.{Answer}
 use Rattle.strm_buffers.specs.declared.answers.Answer.TheVariants.{Pending, Completed, Dropped}
-use Rattle.strm_buffers.specs.Listing.{Item}
 use Rattle.strm_machine.specs.State.{producer_at, kept_at, consumer_at}
-use Rattle.strm_world.specs.World.{World, stream_in, writer_at, held_of, with_kept, with_consumer, with_writer, with_stream_in}
+use Rattle.strm_world.specs.World.{World, stream_in, writer_at, held_of, with_kept, with_producer, with_consumer, with_writer, with_stream_in}
 use Rattle.strm_world.specs.Outcomes.{Outcome, done, then_on}
 use Rattle.strm_world.specs.Polls.{polls_writer, polls_reader}
 use Rattle.strm_world.specs.Settling.{with_some_received, since_after}
-use Rattle.strm_world.specs.Producing.{with_over}
+use Rattle.strm_world.specs.Producing.{with_answer}
 use Rattle.strm_world.specs.Attaching.{has_items, without_ends}
 
 -- FETCHING
@@ -28,7 +27,7 @@ wants_items world n r =
 abbrev pub fetches : World → ℕ → ℕ → ℕ → Outcome
 fetches world s n r =
     if wants_items world n r
-    then polls_writer world s n None false (λ after said. done (with_kept (with_over after n said.answer) n said.items))
+    then polls_writer world s n None false (λ after said. done (with_kept (with_answer after n said.answer []) n said.items))
     else done world
 
 -- OFFERING
@@ -36,7 +35,8 @@ fetches world s n r =
 -- all that is held is kept, and the writer holds nothing
 abbrev pub gathered : World → ℕ → World
 gathered world n =
-    with_writer (with_kept world n (held_of world n)) n (record (writer_at world n) { holds = [] })
+    let given = with_writer (with_kept world n (held_of world n)) n (record (writer_at world n) { holds = [] }) in
+    with_producer given n (record (producer_at world.state n) { holding = false })
 
 -- a reader that answered Pending waits, and is polled again
 abbrev pub is_resting : Answer → Bool

@@ -15,6 +15,7 @@ use Rattle.strm_machine.specs.declared.streams.Side.TheVariants.{Reading}
 use Rattle.strm_machine.specs.declared.streams.Operation.{Operation}
 use Rattle.strm_world.specs.Ends.{given_writer}
 use Rattle.strm_world.specs.World.{World, stream_in, writer_at, with_guests, with_producer, with_writer, with_stream_in}
+use Rattle.strm_world.specs.Attaching.{has_items}
 use Rattle.strm_world.specs.Outcomes.{Outcome, done}
 use Rattle.strm_world.specs.Polls.{polls_writer}
 use Rattle.strm_world.specs.Settling.{result_of, moved_on}
@@ -37,30 +38,35 @@ abbrev pub is_last : Answer → Bool
 is_last Dropped = true
 is_last _ = false
 
--- host writer n is over, if this answer says so
-abbrev pub with_over : World → ℕ → Answer → World
-with_over world n answer =
+-- what is kept of host writer n after this answer: it is over, if that says so, and holds these items
+abbrev pub with_answer : World → ℕ → Answer → List Item → World
+with_answer world n answer held =
     let producer = producer_at world.state n in
-    with_producer world n (record producer { over = producer.over || is_last answer })
+    with_producer world n (record producer { over = producer.over || is_last answer; holding = has_items held })
 
 -- how an answer settles a read, with these items held for the next one: what is held is yet to come
 abbrev pub produced_result : Answer → List Item → Option StreamResult
 produced_result Dropped (item ∷ items) = Some results.Completed
 produced_result answer held = result_of answer
 
+-- so many items that host writer n holds were handed out
+abbrev pub hands_out : World → ℕ → ℕ → World
+hands_out world n count =
+    let writer = given_writer (writer_at world n) count in
+    with_producer (with_writer world n writer) n (record (producer_at world.state n) { holding = has_items writer.holds })
+
 -- held items are handed over without a poll
 abbrev pub hands_over : World → ℕ → ℕ → Operation → World
 hands_over world s n read =
     let writer = writer_at world n in
-    receives (with_writer world n (given_writer writer read.left)) s read (take read.left writer.holds)
-    (Some results.Completed)
+    receives (hands_out world n read.left) s read (take read.left writer.holds) (Some results.Completed)
 
 -- one poll with room for the items left: as many of its items are lowered, and the rest is held
 abbrev pub is_produced : World → ℕ → ℕ → Operation → Outcome
 is_produced world s n read =
     polls_writer world s n (Some read.left) read.asked
     (λ after said. done
-    (receives (with_over after n said.answer) s read (take read.left said.items)
+    (receives (with_answer after n said.answer (drop read.left said.items)) s read (take read.left said.items)
     (produced_result said.answer (drop read.left said.items))))
 
 -- by what the writer holds

@@ -30,12 +30,13 @@ impl Code {
     /// The Canonical ABI's word, which a guest is answered.
     #[inline]
     pub const fn word(self) -> u32 {
-        match self {
-            Code::Blocked => u32::MAX,
-            Code::Completed(count) => count << 4,
-            Code::Dropped(count) => count << 4 | 1,
-            Code::Cancelled(count) => count << 4 | 2,
-        }
+        let result = match self {
+            Code::Blocked => return u32::MAX,
+            Code::Completed(_) => 0,
+            Code::Dropped(_) => 1,
+            Code::Cancelled(_) => 2,
+        };
+        self.count() << 4 | result
     }
 
     /// How many items moved.
@@ -49,11 +50,11 @@ impl Code {
 
     #[inline]
     pub(crate) const fn of(word: u32) -> Code {
-        match (word, word & 15) {
-            (u32::MAX, _) => Code::Blocked,
-            (_, 0) => Code::Completed(word >> 4),
-            (_, 1) => Code::Dropped(word >> 4),
-            _ => Code::Cancelled(word >> 4),
+        match word & 15 {
+            0 => Code::Completed(word >> 4),
+            1 => Code::Dropped(word >> 4),
+            2 => Code::Cancelled(word >> 4),
+            _ => Code::Blocked,
         }
     }
 
@@ -139,8 +140,20 @@ pub(crate) fn done(status: u32) -> Result<(), Error> {
 #[inline(always)]
 pub(crate) fn wrote<T: Default>(call: impl FnOnce(&mut T) -> u32) -> Result<T, Error> {
     let mut out = T::default();
-    done(call(&mut out))?;
-    Ok(out)
+    match call(&mut out) {
+        0 => Ok(out),
+        status => Err(error(status)),
+    }
+}
+
+// The code of a call that put its word there, once it is done.
+#[inline(always)]
+pub(crate) fn code(call: impl FnOnce(&mut u32) -> u32) -> Result<Code, Error> {
+    let mut word = 0;
+    match call(&mut word) {
+        0 => Ok(Code::of(word)),
+        status => Err(error(status)),
+    }
 }
 
 #[cold]

@@ -10,9 +10,11 @@ ghost use Rattle.strm_machine.specs.declared.steps.Step.TheVariants as steps;
 ghost use Rattle.strm_transmit.specs.Meets.{Meets, replied};
 
 use crate::guest_store::{GuestStore, no_hosts};
-use strm_codes::codes::ReturnCode;
+use strm_codes::codes::{ReturnCode, TransmitIndex};
 use strm_codes::payloads::Payload;
+use strm_machine::acts::NamedEnd;
 use strm_machine::replies::Pair;
+use strm_machine::streams::Side;
 use strm_transmit::errors::StoreError;
 
 #[tactic(auto, using(crate::proofs::AmongLemmas::plain_among))]
@@ -24,6 +26,40 @@ impl GuestStore {
             (react self.old (steps.New guest (index.Future payload))) }
     {
         self.store.future_new(guest, payload)
+    }
+
+    /// Writes the value that lies at an address of the guest's memory. `canon future.write`.
+    pub fn future_write(
+        &mut self,
+        guest: u32,
+        payload: Payload,
+        handle: u32,
+        address: u32,
+    ) -> Result<ReturnCode, StoreError>
+        ensures meets { Meets self.old self.new (replied replies.Code result)
+            (react self.old (steps.Write guest (index.Future payload) handle address 1)) }
+        ensures takes_no_memory { result ≢ Err StoreError.OutOfMemory }
+    {
+        let ty = TransmitIndex::Future(payload);
+        let end = NamedEnd { guest, ty, handle };
+        self.store.operate_alone(Side::Writing, &end, address, 1)
+    }
+
+    /// Reads the value to an address of the guest's memory. `canon future.read`.
+    pub fn future_read(
+        &mut self,
+        guest: u32,
+        payload: Payload,
+        handle: u32,
+        address: u32,
+    ) -> Result<ReturnCode, StoreError>
+        ensures meets { Meets self.old self.new (replied replies.Code result)
+            (react self.old (steps.Read guest (index.Future payload) handle address 1)) }
+        ensures takes_no_memory { result ≢ Err StoreError.OutOfMemory }
+    {
+        let ty = TransmitIndex::Future(payload);
+        let end = NamedEnd { guest, ty, handle };
+        self.store.operate_alone(Side::Reading, &end, address, 1)
     }
 
     /// Cancels the write of a future. `canon future.cancel-write`.
@@ -57,40 +93,6 @@ impl GuestStore {
 
 #[tactic(auto, using(crate::proofs::AmongLemmas::hosted_meets))]
 impl GuestStore {
-    /// Writes the value that lies at an address of the guest's memory. `canon future.write`.
-    pub fn future_write(
-        &mut self,
-        guest: u32,
-        payload: Payload,
-        handle: u32,
-        address: u32,
-    ) -> Result<ReturnCode, StoreError>
-        ensures meets { Meets self.old self.new (replied replies.Code result)
-            (react self.old (steps.Write guest (index.Future payload) handle address 1)) }
-        ensures takes_no_memory { result ≢ Err StoreError.OutOfMemory }
-    {
-        let mut hosts = no_hosts(self.alloc);
-        self.store
-            .future_write(&mut hosts, guest, payload, handle, address)
-    }
-
-    /// Reads the value to an address of the guest's memory. `canon future.read`.
-    pub fn future_read(
-        &mut self,
-        guest: u32,
-        payload: Payload,
-        handle: u32,
-        address: u32,
-    ) -> Result<ReturnCode, StoreError>
-        ensures meets { Meets self.old self.new (replied replies.Code result)
-            (react self.old (steps.Read guest (index.Future payload) handle address 1)) }
-        ensures takes_no_memory { result ≢ Err StoreError.OutOfMemory }
-    {
-        let mut hosts = no_hosts(self.alloc);
-        self.store
-            .future_read(&mut hosts, guest, payload, handle, address)
-    }
-
     /// Drops the write end of a future. `canon future.drop-writable`. It is refused (FutureWithoutValue)
     /// before the value has passed, or the end was told that nobody reads it.
     pub fn future_drop_writable(

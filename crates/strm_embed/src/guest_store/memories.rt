@@ -2,7 +2,7 @@
 //!
 //! Meaning: `on_memory` of `Reactions.antt` of `strm_machine`. Ours.
 
-ghost use Rattle.std.specs.Prelude.{◌≡◌, ◌≢◌, Err, OnOk, OnErr, length, take, drop};
+ghost use Rattle.std.specs.Prelude.{◌≡◌, ◌≢◌, ◌<◌, ◌↔◌, Err, OnOk, OnErr, IsTrue, length, take, drop};
 ghost use Rattle.strm_machine.specs.State.{memory_in};
 ghost use Rattle.strm_machine.specs.Reactions.{react};
 ghost use Rattle.strm_machine.specs.Refusals.{first_of, bytes_reasons};
@@ -13,6 +13,28 @@ ghost use Rattle.strm_transmit.specs.Meets.{Meets, replied, or_found};
 use crate::guest_store::GuestStore;
 use strm_codes::refusals::Refusal;
 use strm_transmit::errors::StoreError;
+
+impl GuestStore {
+    ghost use Rattle.std.specs.Borrow.{sem};
+    ghost use Rattle.strm_embed.specs.Lending.{LendsMemory};
+
+    /// Whether there is a guest of this number.
+    pub fn has_guest(&self, guest: u32) -> bool
+        ensures { IsTrue result ↔ (guest < length self.now.guests) }
+    {
+        self.store.has_guest(guest)
+    }
+
+    /// The bytes of a guest's memory, to read and write until the store is used again; also of a store that
+    /// was trapped. `has_guest` tells whether the guest is there.
+    pub fn memory_mut(&mut self, guest: u32) -> &mut [u8]
+        requires { guest < length self.old.guests }
+        ensures value { result.now ≡ memory_in self.old.guests guest }
+        ensures* lends { sem 𝓛 (LendsMemory self.entry guest result) }
+    {
+        self.store.memory_mut(guest)
+    }
+}
 
 #[tactic(auto, using(crate::proofs::AmongLemmas::plain_among))]
 impl GuestStore {

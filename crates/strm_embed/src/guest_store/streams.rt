@@ -10,9 +10,11 @@ ghost use Rattle.strm_machine.specs.declared.steps.Step.TheVariants as steps;
 ghost use Rattle.strm_transmit.specs.Meets.{Meets, replied};
 
 use crate::guest_store::{GuestStore, no_hosts};
-use strm_codes::codes::ReturnCode;
+use strm_codes::codes::{ReturnCode, TransmitIndex};
 use strm_codes::payloads::Payload;
+use strm_machine::acts::NamedEnd;
 use strm_machine::replies::Pair;
+use strm_machine::streams::Side;
 use strm_transmit::errors::StoreError;
 
 #[tactic(auto, using(crate::proofs::AmongLemmas::plain_among))]
@@ -25,6 +27,45 @@ impl GuestStore {
             (react self.old (steps.New guest (index.Stream payload))) }
     {
         self.store.stream_new(guest, payload)
+    }
+
+    /// Writes items from an address of the guest's memory on. `canon stream.write`. Items of a write that
+    /// waits are read from the memory when they move.
+    pub fn stream_write(
+        &mut self,
+        guest: u32,
+        payload: Payload,
+        handle: u32,
+        address: u32,
+        count: u32,
+    ) -> Result<ReturnCode, StoreError>
+        ensures meets { Meets self.old self.new (replied replies.Code result)
+            (react self.old (steps.Write guest (index.Stream payload) handle address count)) }
+        ensures takes_no_memory { result ≢ Err StoreError.OutOfMemory }
+    {
+        let ty = TransmitIndex::Stream(payload);
+        let end = NamedEnd { guest, ty, handle };
+        self.store
+            .operate_alone(Side::Writing, &end, address, count)
+    }
+
+    /// Reads items to an address of the guest's memory on. `canon stream.read`.
+    pub fn stream_read(
+        &mut self,
+        guest: u32,
+        payload: Payload,
+        handle: u32,
+        address: u32,
+        count: u32,
+    ) -> Result<ReturnCode, StoreError>
+        ensures meets { Meets self.old self.new (replied replies.Code result)
+            (react self.old (steps.Read guest (index.Stream payload) handle address count)) }
+        ensures takes_no_memory { result ≢ Err StoreError.OutOfMemory }
+    {
+        let ty = TransmitIndex::Stream(payload);
+        let end = NamedEnd { guest, ty, handle };
+        self.store
+            .operate_alone(Side::Reading, &end, address, count)
     }
 
     /// Cancels the write of a stream. `canon stream.cancel-write`.
@@ -68,43 +109,6 @@ impl GuestStore {
 
 #[tactic(auto, using(crate::proofs::AmongLemmas::hosted_meets))]
 impl GuestStore {
-    /// Writes items from an address of the guest's memory on. `canon stream.write`. Items of a write that
-    /// waits are read from the memory when they move.
-    pub fn stream_write(
-        &mut self,
-        guest: u32,
-        payload: Payload,
-        handle: u32,
-        address: u32,
-        count: u32,
-    ) -> Result<ReturnCode, StoreError>
-        ensures meets { Meets self.old self.new (replied replies.Code result)
-            (react self.old (steps.Write guest (index.Stream payload) handle address count)) }
-        ensures takes_no_memory { result ≢ Err StoreError.OutOfMemory }
-    {
-        let mut hosts = no_hosts(self.alloc);
-        self.store
-            .stream_write(&mut hosts, guest, payload, handle, address, count)
-    }
-
-    /// Reads items to an address of the guest's memory on. `canon stream.read`.
-    pub fn stream_read(
-        &mut self,
-        guest: u32,
-        payload: Payload,
-        handle: u32,
-        address: u32,
-        count: u32,
-    ) -> Result<ReturnCode, StoreError>
-        ensures meets { Meets self.old self.new (replied replies.Code result)
-            (react self.old (steps.Read guest (index.Stream payload) handle address count)) }
-        ensures takes_no_memory { result ≢ Err StoreError.OutOfMemory }
-    {
-        let mut hosts = no_hosts(self.alloc);
-        self.store
-            .stream_read(&mut hosts, guest, payload, handle, address, count)
-    }
-
     /// Drops the write end of a stream. `canon stream.drop-writable`.
     pub fn stream_drop_writable(
         &mut self,

@@ -3,9 +3,10 @@
 //! Meaning: `Driving.antt` of `strm_world`. Ours: wasmtime's event loop polls the futures of its host
 //! ends.
 
-ghost use Rattle.std.specs.Prelude.{◌≡◌, ◌<◌, ◌≤◌, true, length, None, IfErr};
+ghost use Rattle.std.specs.Prelude.{◌≡◌, ◌<◌, ◌≤◌, true, length, None, Some, IfErr, IfSome};
 ghost use Rattle.strm_buffers.specs.AllTells.{tells_of};
 ghost use Rattle.strm_machine.specs.State.{stream_at, host_limit, producer_at, consumer_at};
+ghost use Rattle.strm_machine.specs.Sides.{end_of};
 ghost use Rattle.strm_machine.specs.declared.acts.Act.TheVariants.{Drive};
 ghost use Rattle.strm_machine.specs.declared.replies.Reply.TheVariants as replies;
 ghost use Rattle.strm_world.specs.Driving.{drive_turn, driven, round_of};
@@ -21,7 +22,7 @@ use crate::store::Store;
 use crate::store::hosting::MOST_HOSTS;
 use strm_buffers::hosts::Hosts;
 use strm_machine::streams::{Duty, Operation, Owner, Side};
-use strm_turns::sides::{end_of, opposite};
+use strm_turns::sides::opposite;
 
 // The lesser of a number and another, if there is one.
 fn least_of(number: u32, other: Option<u32>) -> Option<u32>
@@ -79,11 +80,14 @@ impl Store {
     // both.
     fn due(&self, stream: u32, side: Side) -> Option<(u32, Operation)>
         requires { stream < length self.now.streams }
-        ensures { result ≡ due_on side (stream_at self.now stream) }
+        ensures due { result ≡ due_on side (stream_at self.now stream) }
+        ensures waiting { IfSome result (λ found.
+            (end_of side (stream_at self.now stream)).operation ≡ Some found.1) }
+        ensures open { IfSome result (λ found. found.1.is_open ≡ true) }
     {
         let served = self.stream(stream);
-        let (mine, across) = (end_of(served, side), end_of(served, opposite(side)));
-        match (across.owner, mine.owner, mine.operation) {
+        let (mine, across) = (served.owner(side), served.owner(opposite(side)));
+        match (across, mine, served.operation(side)) {
             (Owner::Host { .. }, Owner::Host { .. }, _) => None,
             (Owner::Host { number }, _, Some(operation)) if operation.is_open => Some((
                 number, operation,

@@ -5,10 +5,13 @@
 //! `canon stream.cancel-{read,write}` and those of `canon future`; wasmtime, `guest_drop_readable`,
 //! `guest_drop_writable`, `guest_cancel_read` and `guest_cancel_write`.
 
-ghost use Rattle.std.specs.Prelude.{◌≡◌, ◌≢◌, ◌<◌, length, Err, IfOk, IfErr};
+ghost use Rattle.std.specs.Prelude.{◌≡◌, ◌≢◌, ◌<◌, true, length, Err, IfOk, IfErr, is_some};
+ghost use Rattle.std.specs.Option.{option_map};
 ghost use Rattle.strm_codes.specs.declared.codes.TransmitIndex.TheVariants as index;
 ghost use Rattle.strm_buffers.specs.AllTells.{tells_of};
 ghost use Rattle.strm_machine.specs.Acts.{act_of};
+ghost use Rattle.strm_machine.specs.State.{stream_at};
+ghost use Rattle.strm_machine.specs.Sides.{end_of};
 ghost use Rattle.strm_machine.specs.Tests.{named, end_named, stream_named, side_named};
 ghost use Rattle.strm_machine.specs.Refusals.{refusal, first_of, slot_reasons};
 ghost use Rattle.strm_machine.specs.Reactions.{goes, tells, cancels, react, reaction};
@@ -18,6 +21,7 @@ ghost use Rattle.strm_machine.specs.declared.replies.Reply.TheVariants as replie
 ghost use Rattle.strm_machine.specs.declared.steps.Step.TheVariants as steps;
 ghost use Rattle.strm_machine.proofs.NameLemmas.{IsEndError};
 ghost use Rattle.strm_world.specs.Does.{Fits};
+ghost use Rattle.strm_transmit.specs.Celled.{cell_named};
 ghost use Rattle.strm_transmit.specs.Meets.{Meets, replied, or_found};
 ghost use Rattle.strm_transmit.specs.Hosted.{StillFits, MeetsHosted};
 
@@ -28,11 +32,12 @@ use strm_buffers::hosts::Hosts;
 use strm_codes::codes::{ReturnCode, TransmitIndex};
 use strm_codes::payloads::Payload;
 use strm_codes::refusals::Refusal;
+use strm_events::cells::EventCell;
 use strm_handles::entries::TransmitLocalState;
 use strm_handles::errors::HandleError;
 use strm_machine::acts::{EndAct, NamedEnd};
 use strm_machine::streams::{Owner, Side};
-use strm_turns::endings::{cancel_operation, deliver_report};
+use strm_turns::endings::cancel_operation;
 
 impl Store {
     // The stream and the end that a handle names, whatever its type.
@@ -64,6 +69,21 @@ impl Store {
         }
     }
 
+    /// Lends the cell of the end that a handle names, which keeps what the end is to be told: none
+    /// exactly where no such guest is there, or the handle is no end of a stream or future. It takes
+    /// no memory.
+    pub fn cell(&self, guest: u32, handle: u32) -> Option<&EventCell>
+        ensures { option_map (λ cell. cell.now) result ≡ cell_named self.now guest handle }
+    {
+        if self.is_unknown_guest(guest) {
+            return None;
+        }
+        match self.end_name(guest, handle) {
+            Ok(name) => Some(self.stream(name.0).cell(side_of(name.1))),
+            Err(_) => None,
+        }
+    }
+
     // The end that is to be told what it has to be told.
     #[inline(always)]
     #[tactic(auto, unfolding(strm_machine::specs::Refusals::refusal))]
@@ -84,7 +104,7 @@ impl Store {
         requires { stream < length self.old.streams }
         ensures { tells self.old stream side ≡ goes (replies.Event result) self.new }
     {
-        deliver_report(&mut self.streams[stream as usize], side)
+        self.streams[stream as usize].deliver(side)
     }
 
     /// What the end that a handle names is to be told, if anything: the report of its read or
@@ -223,6 +243,8 @@ impl Store {
         ensures exact { result ≡ or_found (refusal self.now (OnEnd side end.now Cancel))
             (stream_named (named self.now end.now)) }
         ensures there { IfOk result (λ stream. stream < length self.now.streams) }
+        ensures busy { IfOk result (λ stream.
+            is_some (end_of side (stream_at self.now stream)).operation ≡ true) }
     {
         if self.is_unknown_guest(end.guest) {
             return Err(Refusal::UnknownGuest);
@@ -232,7 +254,8 @@ impl Store {
 
     // The operation of an end of a stream is cancelled.
     fn cancel_on(&mut self, stream: u32, side: Side) -> ReturnCode
-        requires { stream < length self.old.streams }
+        requires there { stream < length self.old.streams }
+        requires busy { is_some (end_of side (stream_at self.old stream)).operation ≡ true }
         ensures { cancels self.old stream side ≡ goes (replies.Code result) self.new }
     {
         cancel_operation(&mut self.streams[stream as usize], side)

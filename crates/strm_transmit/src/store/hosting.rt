@@ -23,7 +23,6 @@ ghost use Rattle.strm_transmit.specs.Hosted.{FitsAt, forsaken_in, MeetsHosted};
 
 use crate::errors::StoreError;
 use crate::store::Store;
-use crate::store::making::{new_stream, place};
 use crate::store::moves::same_kind;
 use std::alloc::Global;
 use strm_buffers::hosts::Hosts;
@@ -33,7 +32,8 @@ use strm_codes::counts::OutOfMemory;
 use strm_codes::payloads::Payload;
 use strm_codes::refusals::Refusal;
 use strm_machine::chunks::Chunk;
-use strm_machine::streams::{Duty, Owner, Producer, Side, Stream};
+use strm_machine::streams::{Duty, Owner, Producer, Side};
+use strm_turns::channels::Channel;
 
 /// Host writers are numbered from 0 to 63, and so are host readers.
 pub(crate) const MOST_HOSTS: usize = 64;
@@ -46,26 +46,26 @@ pub(crate) fn is_unknown_host(count: usize, host: u32) -> bool
 }
 
 // Whether a host writer is there, with a stream's kind and payload.
-fn writes(hosts: &Hosts, number: usize, stream: &Stream) -> bool
+fn writes(hosts: &Hosts, number: usize, stream: &Channel) -> bool
     ensures { IsTrue result ↔ FitsWriter stream.now (tells_of writer_tells reader_tells hosts.now) number }
 {
     if number >= hosts.count_writers() {
         return false;
     }
-    let is_of_kind = same_kind(hosts.writer_kind(number), stream.kind);
-    let is_of_payload = hosts.writer_payload(number) == stream.payload;
+    let is_of_kind = same_kind(hosts.writer_kind(number), stream.kind());
+    let is_of_payload = hosts.writer_payload(number) == stream.payload();
     is_of_kind && is_of_payload
 }
 
 // Whether a host reader is there, with a stream's kind and payload.
-fn reads(hosts: &Hosts, number: usize, stream: &Stream) -> bool
+fn reads(hosts: &Hosts, number: usize, stream: &Channel) -> bool
     ensures { IsTrue result ↔ FitsReader stream.now (tells_of writer_tells reader_tells hosts.now) number }
 {
     if number >= hosts.count_readers() {
         return false;
     }
-    let is_of_kind = same_kind(hosts.reader_kind(number), stream.kind);
-    let is_of_payload = hosts.reader_payload(number) == stream.payload;
+    let is_of_kind = same_kind(hosts.reader_kind(number), stream.kind());
+    let is_of_payload = hosts.reader_payload(number) == stream.payload();
     is_of_kind && is_of_payload
 }
 
@@ -92,7 +92,7 @@ fn make_place(
     alloc: Global,
     kept: &mut Vec<Items>,
     number: usize,
-    stream: &Stream,
+    stream: &Channel,
 ) -> Result<(), OutOfMemory>
     requires few { length kept.old.items ≤ host_limit }
     requires known { number < host_limit }
@@ -103,7 +103,7 @@ fn make_place(
         Ok(()) => {}
         Err(error) => return Err(error),
     }
-    kept[number] = Items::new(alloc, stream.payload);
+    kept[number] = Items::new(alloc, stream.payload());
     Ok(())
 }
 
@@ -171,8 +171,14 @@ impl Store {
         Ok(())
     }
 
-    // A stream more, of a host writer. After want of memory nothing has changed.
-    fn host(&mut self, number: u32, kind: TransmitKind, payload: Payload) -> Result<u32, StoreError>
+    // A stream more, of a host writer that holds items or none. After want of memory nothing has changed.
+    fn host(
+        &mut self,
+        number: u32,
+        kind: TransmitKind,
+        payload: Payload,
+        holding: bool,
+    ) -> Result<u32, StoreError>
         requires there { number < host_limit }
         requires unused { (producer_at self.old number).duty ≡ Unused }
         requires few { length self.old.streams < stream_limit }
@@ -187,20 +193,21 @@ impl Store {
             received = 0;
           } ∷ [];
           producers = slice_set self.old.producers number
-              (record no_producer { duty = Serves (length self.old.streams) });
+              (record no_producer { duty = Serves (length self.old.streams); holding = holding });
         }) }
         ensures no_memory { OnErr result (result ≡ Err StoreError.OutOfMemory) }
         ensures err { OnErr result (self.new ≡ self.old) }
     {
         let stream = self.streams.len() as u32;
         self.streams.reserve(1)?;
-        let hosted = new_stream(kind, payload, Owner::Host { number }, Owner::Loose);
+        let hosted = Channel::new(kind, payload, Owner::Host { number }, Owner::Loose);
         make_place(self.alloc, &mut self.kept, number as usize, &hosted)?;
-        place(&mut self.streams, &hosted);
+        self.streams.push_reserved(hosted);
         self.live_streams += 1;
         self.producers[number as usize] = Producer {
             duty: Duty::Serves { stream },
             over: false,
+            holding,
         };
         Ok(stream)
     }
@@ -218,10 +225,12 @@ impl Store {
         match self.admit(self.host_fits(hosts, writer)) {
             Ok(()) => {
                 let number = writer as usize;
+                let holding = hosts.writer_held(number) > 0;
                 self.host(
                     writer,
                     hosts.writer_kind(number),
                     hosts.writer_payload(number),
+                    holding,
                 )
             }
             Err(error) => Err(error),
@@ -321,7 +330,7 @@ impl Store {
             tells_of writer_tells reader_tells hosts.new ≡ tells_of writer_tells reader_tells hosts.old }
     {
         self.served();
-        if let Owner::Host { number } = self.stream(stream).writer.owner {
+        if let Owner::Host { number } = self.stream(stream).owner(Side::Writing) {
             self.own(stream, Side::Writing, Owner::Gone);
             self.retire(stream, number);
             hosts.close_writer(number as usize);
@@ -341,7 +350,7 @@ impl Store {
             tells_of writer_tells reader_tells hosts.new ≡ tells_of writer_tells reader_tells hosts.old }
     {
         self.served();
-        if let Owner::Host { number } = self.stream(stream).reader.owner {
+        if let Owner::Host { number } = self.stream(stream).owner(Side::Reading) {
             self.own(stream, Side::Reading, Owner::Gone);
             self.retire_reader(stream, number);
             hosts.close_reader(number as usize);

@@ -8,7 +8,7 @@ ghost use Rattle.std.specs.Vec.{vec_capacity};
 ghost use Rattle.strm_codes.specs.declared.codes.TransmitIndex.{TransmitIndex};
 ghost use Rattle.strm_codes.specs.declared.codes.TransmitIndex.TheVariants as index;
 ghost use Rattle.strm_handles.specs.Handles.{next_index};
-ghost use Rattle.strm_machine.specs.State.{guest_in, idle_end};
+ghost use Rattle.strm_machine.specs.State.{guest_in};
 ghost use Rattle.strm_machine.specs.Making.{writer_index};
 ghost use Rattle.strm_machine.specs.Tests.{is_no_handle, are_handles_full, are_places_full, are_streams_full};
 ghost use Rattle.strm_machine.specs.Refusals.{refusal};
@@ -22,52 +22,17 @@ ghost use Rattle.strm_transmit.specs.Hosted.{StillFits};
 
 use crate::errors::StoreError;
 use crate::store::Store;
-use strm_codes::codes::{TransmitIndex, TransmitKind};
+use strm_codes::codes::TransmitIndex;
 use strm_codes::payloads::Payload;
 use strm_codes::refusals::Refusal;
 use strm_handles::entries::MAX_HANDLE;
 use strm_machine::replies::Pair;
-use strm_machine::streams::{End, Owner, Stream};
+use strm_machine::streams::Owner;
+use strm_turns::channels::Channel;
 use strm_turns::ends::insert_ends;
 
 /// The streams of a store, at most.
 const MOST_STREAMS: usize = 4_294_967_295;
-
-fn idle_end(owner: Owner) -> End
-    ensures { result ≡ idle_end owner }
-{
-    End {
-        owner,
-        told: false,
-        operation: None,
-    }
-}
-
-// A stream whose ends these have.
-pub(crate) fn new_stream(
-    kind: TransmitKind,
-    payload: Payload,
-    writer: Owner,
-    reader: Owner,
-) -> Stream
-    ensures { result ≡ record {
-      kind = kind;
-      payload = payload;
-      passed = false;
-      writer = idle_end writer;
-      reader = idle_end reader;
-      received = 0;
-    } }
-{
-    Stream {
-        kind,
-        payload,
-        passed: false,
-        writer: idle_end(writer),
-        reader: idle_end(reader),
-        received: 0,
-    }
-}
 
 // Whether so many places more would pass a limit, beside those of so many streams, sets and error
 // contexts.
@@ -76,14 +41,6 @@ fn pass_limit(limit: u32, streams: u32, sets: u32, contexts: usize, needed: u32)
 {
     let taken = 3 * u128::from(streams) + u128::from(sets) + contexts as u128;
     u128::from(limit) < taken + u128::from(needed)
-}
-
-// One item more, in room that is there.
-pub(crate) fn place<T: Copy>(items: &mut Vec<T>, item: &T)
-    requires { vec_len items.old < vec_capacity items.old }
-    ensures { items.new.items ≡ items.old.items ++ item.now ∷ [] }
-{
-    items.push_reserved(*item);
 }
 
 impl Store {
@@ -181,7 +138,7 @@ impl Store {
             stream,
         )?;
         let (read, write) = numbers;
-        let joined = new_stream(
+        let joined = Channel::new(
             kind,
             payload,
             Owner::Held {
@@ -193,7 +150,7 @@ impl Store {
                 handle: read,
             },
         );
-        place(&mut self.streams, &joined);
+        self.streams.push_reserved(joined);
         self.live_streams += 1;
         Ok(Pair {
             read,

@@ -2,7 +2,8 @@
 //!
 //! Meaning: the making of a guest, and `on_memory` of `Reactions.antt` of `strm_machine`. Ours.
 
-ghost use Rattle.std.specs.Prelude.{◌≡◌, ◌≢◌, ◌≤◌, Err, None};
+ghost use Rattle.std.specs.Prelude.{◌≡◌, ◌≢◌, ◌<◌, ◌≤◌, ◌↔◌, Err, None, IsTrue, length};
+ghost use Rattle.strm_machine.specs.State.{memory_in};
 ghost use Rattle.strm_machine.specs.Refusals.{refusal, first_of, bytes_reasons};
 ghost use Rattle.strm_machine.specs.Reactions.{react, performs, goes};
 ghost use Rattle.strm_machine.specs.declared.acts.Act.TheVariants.{Make, OnMemory};
@@ -29,6 +30,9 @@ const MOST_BYTES: u64 = 268_435_456;
 const MOST_GUESTS: usize = 1_048_576;
 
 impl Store {
+    ghost use Rattle.std.specs.Borrow.{sem};
+    ghost use Rattle.strm_transmit.specs.Lending.{LendsMemory};
+
     // Whether a guest may be added.
     #[tactic(auto, unfolding(strm_machine::specs::Refusals::refusal))]
     fn guest_fits(&self, size: u32) -> Result<(), Refusal>
@@ -72,6 +76,25 @@ impl Store {
             Ok(()) => self.push_guest(size),
             Err(error) => Err(error),
         }
+    }
+
+    /// Whether there is a guest of this number.
+    pub fn has_guest(&self, guest: u32) -> bool
+        ensures { IsTrue result ↔ (guest < length self.now.guests) }
+    {
+        !self.is_unknown_guest(guest)
+    }
+
+    /// The bytes of a guest's memory, to read and write until the store is used again; also of a store that
+    /// was trapped. `has_guest` tells whether the guest is there.
+    pub fn memory_mut(&mut self, guest: u32) -> &mut [u8]
+        requires { guest < length self.old.guests }
+        ensures value { result.now ≡ memory_in self.old.guests guest }
+        ensures* lends { sem 𝓛 (LendsMemory self.entry guest result) }
+    {
+        let guest = &mut self.guests[guest as usize];
+        let memory = &mut guest.memory;
+        memory.bytes_mut()
     }
 
     // Whether so many bytes of a guest's memory may be looked at.

@@ -251,7 +251,8 @@ impl Store {
     pub(crate) fn is_unknown_reader(&self, reader: u32) -> bool
         ensures { result ≡ is_unknown_reader self.now reader }
     {
-        reader as usize >= self.streams.len() || self.stream(reader).reader.owner != Owner::Loose
+        reader as usize >= self.streams.len()
+            || self.stream(reader).owner(Side::Reading) != Owner::Loose
     }
 
     // Whether the loose read end of a stream may come into a guest.
@@ -265,10 +266,10 @@ impl Store {
         if self.is_unknown_reader(reader) {
             return Err(Refusal::UnknownReader);
         }
-        if !same_kind(self.stream(reader).kind, ty.kind()) {
+        if !same_kind(self.stream(reader).kind(), ty.kind()) {
             return Err(Refusal::WrongKind);
         }
-        if self.stream(reader).payload != ty.payload() {
+        if self.stream(reader).payload() != ty.payload() {
             return Err(Refusal::WrongType);
         }
         match self.handle_more_refusal(guest) {

@@ -4,7 +4,7 @@
 //! `canon stream.{read,write}` and `canon future.{read,write}`; wasmtime, `guest_read` and
 //! `guest_write`.
 
-ghost use Rattle.std.specs.Prelude.{◌≡◌, ◌≢◌, ◌<◌, ◌↔◌, length, true, false, Err, IfOk, OnOk, IfSome, IfNone, IsTrue, IsErr};
+ghost use Rattle.std.specs.Prelude.{◌≡◌, ◌≢◌, ◌<◌, ◌↔◌, length, true, false, Err, None, IfOk, OnOk, IfSome, IfNone, IsTrue, IsErr};
 ghost use Rattle.strm_codes.specs.declared.codes.TransmitIndex.TheVariants as index;
 ghost use Rattle.strm_memory.specs.Items.{is_number_or_none};
 ghost use Rattle.strm_buffers.specs.AllTells.{tells_of};
@@ -14,7 +14,7 @@ ghost use Rattle.strm_machine.specs.Meetings.{begun};
 ghost use Rattle.strm_machine.specs.Sides.{opposite, end_of};
 ghost use Rattle.strm_machine.specs.Tests.{is_too_big, items_asked, named, stream_named, is_open_of};
 ghost use Rattle.strm_machine.specs.Refusals.{first_of, region_reasons, refusal};
-ghost use Rattle.strm_machine.specs.Reactions.{on_stream};
+ghost use Rattle.strm_machine.specs.Reactions.{on_stream, reaction};
 ghost use Rattle.strm_machine.specs.Soundness.{sizes_of, IsPlaced};
 ghost use Rattle.strm_machine.specs.declared.acts.Act.TheVariants.{OnEnd};
 ghost use Rattle.strm_machine.specs.declared.acts.EndAct.TheVariants.{Operate};
@@ -25,7 +25,7 @@ ghost use Rattle.strm_machine.specs.declared.streams.Side.TheVariants.{Writing, 
 ghost use Rattle.strm_world.specs.Steps.{may_poll};
 ghost use Rattle.strm_world.specs.Does.{Fits};
 ghost use Rattle.strm_transmit.specs.Meets.{Meets, replied, or_found};
-ghost use Rattle.strm_transmit.specs.Hosted.{lone, IsHandedOver, MeetsHosted};
+ghost use Rattle.strm_transmit.specs.Hosted.{lone, IsHandedOver, MeetsHosted, StillFits};
 
 use crate::errors::StoreError;
 use crate::store::Store;
@@ -38,7 +38,7 @@ use strm_machine::acts::{EndAct, NamedEnd};
 use strm_machine::streams::{Operation, Owner, Side};
 use strm_memory::memories::RegionError;
 use strm_turns::guests::memory;
-use strm_turns::sides::{end_of, opposite};
+use strm_turns::sides::opposite;
 use strm_turns::turns::{begin, take_turn};
 
 // The items that a call asks for: a future's is one.
@@ -91,6 +91,8 @@ impl Store {
             ≡ or_found (refusal self.now (OnEnd side end.now (Operate address count)))
             (stream_named (named self.now end.now), items_asked end.now.ty count) }
         ensures there { IfOk result (λ found. found.0 < length self.now.streams) }
+        ensures idle { IfOk result (λ found.
+            (end_of side (stream_at self.now found.0)).operation ≡ None) }
         ensures placed { IfOk result (λ found. IsPlaced (sizes_of self.now.guests)
             (stream_at self.now found.0).payload (begun end.now.guest address found.1)) }
         ensures numbers { IfOk result (λ found. IsTrue (is_open_of end.now.guest
@@ -113,7 +115,7 @@ impl Store {
         ensures some { IfSome result (λ number. (end_of (opposite side) (stream_at self.now stream)).owner ≡ Host number) }
         ensures none { IfNone result (is_host (end_of (opposite side) (stream_at self.now stream)).owner ≡ false) }
     {
-        match end_of(self.stream(stream), opposite(side)).owner {
+        match self.stream(stream).owner(opposite(side)) {
             Owner::Host { number } => Some(number),
             _ => None,
         }
@@ -123,6 +125,8 @@ impl Store {
     #[inline(always)]
     fn take(&mut self, side: Side, stream: u32, mine: Operation) -> Result<ReturnCode, StoreError>
         requires there { stream < length self.old.streams }
+        requires idle { (end_of side (stream_at self.old stream)).operation ≡ None }
+        requires begun { mine ≡ begun mine.guest mine.address mine.left }
         requires mine { IsPlaced (sizes_of self.old.guests) (stream_at self.old stream).payload mine }
         requires numbers { IsTrue (is_open_of mine.guest (end_of (opposite side) (stream_at self.old stream)).operation)
             → IsTrue (is_number_or_none (stream_at self.old stream).payload) }
@@ -174,6 +178,32 @@ impl Store {
                     self.take(side, found.0, mine)
                 }
             },
+            Err(error) => Err(error),
+        }
+    }
+
+    /// A read or write of the end that is named, as the machine without host ends does it: a host end on
+    /// the other side is not polled. A store among guests alone needs no other.
+    #[inline(always)]
+    pub fn operate_alone(
+        &mut self,
+        side: Side,
+        end: &NamedEnd,
+        address: u32,
+        count: u32,
+    ) -> Result<ReturnCode, StoreError>
+        ensures meets { Meets self.old self.new (replied replies.Code result)
+            (reaction self.old (OnEnd side end.now (Operate address count))) }
+        ensures fits { StillFits self.old self.new }
+        ensures takes_no_memory { result ≢ Err StoreError.OutOfMemory }
+    {
+        self.sound();
+        self.served();
+        match self.admit(self.operation_found(side, end, address, count)) {
+            Ok(found) => {
+                let mine = begin(end.guest, address, found.1);
+                self.take(side, found.0, mine)
+            }
             Err(error) => Err(error),
         }
     }

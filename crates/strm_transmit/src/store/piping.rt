@@ -28,18 +28,17 @@ use crate::store::{Store, type_with};
 use strm_buffers::hosts::Hosts;
 use strm_codes::codes::TransmitIndex;
 use strm_codes::refusals::Refusal;
-use strm_machine::streams::{Consumer, Duty, Owner, Side, Stream};
+use strm_machine::streams::{Consumer, Duty, Owner, Side};
+use strm_turns::channels::Channel;
 use strm_turns::owners::set_owner;
 
 // The report of a write that is open is withdrawn; what it moved stays.
-fn withdraw(stream: &mut Stream)
+fn withdraw(stream: &mut Channel)
     ensures { stream.new ≡ report_withdrawn stream.old }
 {
-    if let Some(write) = stream.writer.operation {
+    if let Some(write) = stream.operation(Side::Writing) {
         if write.is_open {
-            let mut open = write;
-            open.met = false;
-            stream.writer.operation = Some(open);
+            stream.withdraw(Side::Writing);
         }
     }
 }
@@ -53,10 +52,10 @@ impl Store {
             return Some(Refusal::UnknownReader);
         }
         let loose = self.stream(stream);
-        if !same_kind(loose.kind, ty.kind()) {
+        if !same_kind(loose.kind(), ty.kind()) {
             return Some(Refusal::WrongKind);
         }
-        if loose.payload != ty.payload() {
+        if loose.payload() != ty.payload() {
             return Some(Refusal::WrongType);
         }
         None
@@ -116,7 +115,7 @@ impl Store {
             (stream_at self.now stream).writer.owner }
     {
         self.served();
-        match self.stream(stream).writer.owner {
+        match self.stream(stream).owner(Side::Writing) {
             Owner::Gone => true,
             Owner::Host { number } => {
                 let number = number as usize;
@@ -127,7 +126,7 @@ impl Store {
     }
 
     // Both ends of a stream are gone.
-    fn end_stream(&mut self, stream: u32)
+    pub(crate) fn end_stream(&mut self, stream: u32)
         requires { stream < length self.old.streams }
         ensures { self.new ≡ with_stream_at self.old stream (without_ends (stream_at self.old stream)) }
     {
@@ -145,7 +144,7 @@ impl Store {
             stream host }
     {
         self.served();
-        let writer = self.stream(stream).writer.owner;
+        let writer = self.stream(stream).owner(Side::Writing);
         self.end_stream(stream);
         self.retire_reader(stream, host);
         hosts.close_reader(host as usize);

@@ -20,8 +20,9 @@ use strm_codes::refusals::Refusal;
 use strm_handles::entries::TransmitLocalState;
 use strm_handles::errors::HandleError;
 use strm_machine::acts::{EndAct, NamedEnd};
-use strm_machine::streams::{Side, Stream};
-use strm_turns::sides::{end_of, is_busy, opposite, same_side};
+use strm_machine::streams::Side;
+use strm_turns::channels::Channel;
+use strm_turns::sides::{is_busy, opposite, same_side};
 
 // What a look-up of a handle came to, as a refusal.
 #[inline(always)]
@@ -59,13 +60,13 @@ pub(crate) fn side_of(state: TransmitLocalState) -> Side
 
 // Whether a read or write of this end can't be any more.
 #[inline(always)]
-fn has_ended(side: Side, kind: TransmitKind, stream: &Stream) -> bool
+fn has_ended(side: Side, kind: TransmitKind, stream: &Channel) -> bool
     ensures { result ≡ has_ended side kind stream.now }
 {
     match (kind, side) {
-        (TransmitKind::Stream, _) => end_of(stream, side).told,
-        (TransmitKind::Future, Side::Writing) => stream.writer.told || stream.passed,
-        (TransmitKind::Future, Side::Reading) => stream.passed,
+        (TransmitKind::Stream, _) => stream.told(side),
+        (TransmitKind::Future, Side::Writing) => stream.told(Side::Writing) || stream.passed(),
+        (TransmitKind::Future, Side::Reading) => stream.passed(),
     }
 }
 
@@ -94,19 +95,22 @@ fn is_number_or_none(payload: Payload) -> bool
 
 // Whether an open operation of its guest waits on the other side, for items that don't move there.
 #[inline(always)]
-fn is_within_one_guest(side: Side, end: &NamedEnd, stream: &Stream) -> bool
+fn is_within_one_guest(side: Side, end: &NamedEnd, stream: &Channel) -> bool
     ensures { result ≡ is_within_one_guest end.now.guest side end.now.ty stream.now }
 {
-    let is_open_of_guest = match &end_of(stream, opposite(side)).operation {
+    // Tested first, since for numbers nothing of the stream is looked at then.
+    if is_number_or_none(end.ty.payload()) {
+        return false;
+    }
+    match stream.operation(opposite(side)) {
         Some(theirs) => theirs.is_open && theirs.guest == end.guest,
         None => false,
-    };
-    is_open_of_guest && !is_number_or_none(end.ty.payload())
+    }
 }
 
 // Why an end may not read or write now.
 #[inline(always)]
-fn end_refusal(side: Side, end: &NamedEnd, stream: &Stream, named_side: Side) -> Option<Refusal>
+fn end_refusal(side: Side, end: &NamedEnd, stream: &Channel, named_side: Side) -> Option<Refusal>
     ensures { result
         ≡ first_of (end_reasons_of stream.now side end.now.guest end.now.ty named_side) }
 {
@@ -123,35 +127,35 @@ fn end_refusal(side: Side, end: &NamedEnd, stream: &Stream, named_side: Side) ->
 }
 
 // Whether the operation of an end is being cancelled already.
-fn is_cancel_under_way(side: Side, stream: &Stream) -> bool
+fn is_cancel_under_way(side: Side, stream: &Channel) -> bool
     ensures { result ≡ is_cancel_under_way side stream.now }
 {
-    match &end_of(stream, side).operation {
+    match stream.operation(side) {
         Some(operation) => operation.asked,
         None => false,
     }
 }
 
 // Whether a future's write end still owes its value.
-fn owes_value(side: Side, kind: TransmitKind, stream: &Stream) -> bool
+fn owes_value(side: Side, kind: TransmitKind, stream: &Channel) -> bool
     ensures { result ≡ owes_value side kind stream.now }
 {
     match (kind, side) {
-        (TransmitKind::Future, Side::Writing) => !(stream.passed || stream.writer.told),
+        (TransmitKind::Future, Side::Writing) => !(stream.passed() || stream.told(Side::Writing)),
         _ => false,
     }
 }
 
 // Whether an end was told that the other one is gone, or its value passed.
-fn is_spent(side: Side, stream: &Stream) -> bool
+fn is_spent(side: Side, stream: &Channel) -> bool
     ensures { result ≡ is_spent side stream.now }
 {
-    end_of(stream, side).told || stream.passed
+    stream.told(side) || stream.passed()
 }
 
 // Why an end may not leave its guest now.
 #[inline(always)]
-fn leave_refusal(side: Side, stream: &Stream) -> Option<Refusal>
+fn leave_refusal(side: Side, stream: &Channel) -> Option<Refusal>
     ensures { result ≡ first_of (leave_reasons_of stream.now side) }
 {
     if is_busy(side, stream) {
@@ -169,7 +173,7 @@ fn own_refusal(
     side: Side,
     end: &NamedEnd,
     act: EndAct,
-    stream: &Stream,
+    stream: &Channel,
     named_side: Side,
 ) -> Option<Refusal>
     ensures { result ≡ first_of (own_reasons_of stream.now side end.now act named_side) }

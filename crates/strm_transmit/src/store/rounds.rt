@@ -25,10 +25,11 @@ use strm_buffers::answers::Answer;
 use strm_buffers::hosts::Hosts;
 use strm_buffers::items::Items;
 use strm_codes::codes::TransmitKind;
-use strm_machine::streams::{Consumer, Owner, Producer, Stream};
+use strm_machine::streams::{Consumer, Owner, Producer, Side};
 use strm_producing::pipes::{fetch, offer};
 use strm_producing::taking::TakeError;
 use strm_producing::turns::TurnError;
+use strm_turns::channels::Channel;
 
 // The reader of a pipe is done with it, once it answered so, if it was polled.
 fn is_done_with(kind: TransmitKind, answer: Option<Answer>) -> bool
@@ -68,7 +69,7 @@ fn fetch_of(
 #[tactic(auto, using(strm_buffers::proofs::BoxLemmas::boxes))]
 fn offer_of(
     alloc: Global,
-    stream: &mut Stream,
+    stream: &mut Channel,
     consumer: &mut Consumer,
     kept: &mut Items,
     hosts: &mut Hosts,
@@ -103,7 +104,7 @@ impl Store {
         ensures { result ≡ pipe_ends (stream_at self.now stream) }
     {
         let served = self.stream(stream);
-        match (served.writer.owner, served.reader.owner) {
+        match (served.owner(Side::Writing), served.owner(Side::Reading)) {
             (Owner::Host { number: writer }, Owner::Host { number: reader }) => Some((
                 writer, reader,
             )),
@@ -154,7 +155,7 @@ impl Store {
         let is_held = self.is_held(hosts, stream, writer, reader);
         let is_resting = self.consumers[reader as usize].resting;
         let is_dry = self.producers[writer as usize].over && !is_held && !is_resting;
-        is_done_with(self.stream(stream).kind, answer) || is_dry
+        is_done_with(self.stream(stream).kind(), answer) || is_dry
     }
 
     // The poll of the writer of a pipe on which nothing is held.
@@ -170,7 +171,7 @@ impl Store {
         ensures { FetchesStream self.old self.new (tells_of writer_tells reader_tells hosts.old) (tells_of writer_tells reader_tells hosts.new) stream writer result }
     {
         let place = writer as usize;
-        let kind = self.stream(stream).kind;
+        let kind = self.stream(stream).kind();
         let mut producer = self.producers[place];
         let kept = &mut self.kept[place];
         let fetched = fetch_of(self.alloc, kind, &mut producer, kept, hosts, place);
@@ -221,6 +222,7 @@ impl Store {
     {
         let (place, taker) = (writer as usize, reader as usize);
         let mut consumer = self.consumers[taker];
+        self.producers[place].holding = false;
         let served = &mut self.streams[stream as usize];
         let kept = &mut self.kept[place];
         let offered = offer_of(self.alloc, served, &mut consumer, kept, hosts, place, taker);

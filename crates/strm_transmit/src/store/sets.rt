@@ -26,7 +26,6 @@ use crate::store::refusals::{refusal_of, side_of};
 use strm_codes::refusals::Refusal;
 use strm_handles::errors::HandleError;
 use strm_machine::replies::Member;
-use strm_turns::endings::report_on;
 use strm_turns::sets::{give_set, has_member, is_in_set, join_set, leave_set, remove_set};
 
 // One more than a count that is below a limit, which is there for the contract alone.
@@ -189,7 +188,7 @@ impl Store {
         ensures { result ≡ is_ready self.now guest handle }
     {
         match self.end_name(guest, handle) {
-            Ok(name) => report_on(self.stream(name.0), side_of(name.1)).is_some(),
+            Ok(name) => self.stream(name.0).report(side_of(name.1)).is_some(),
             Err(_) => false,
         }
     }

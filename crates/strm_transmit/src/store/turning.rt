@@ -3,11 +3,12 @@
 //! Meaning: `Producing.antt`, `Consuming.antt` and `Settling.antt` of `strm_world`. Source: wasmtime,
 //! `guest_read` with `WriteState::HostReady` and `guest_write` with `ReadState::HostReady`.
 
-ghost use Rattle.std.specs.Prelude.{◌≡◌, ◌≢◌, ◌<◌, ◌≤◌, [], true, length, sum, Ok, IsOk, IfOk, IfErr};
+ghost use Rattle.std.specs.Prelude.{◌≡◌, ◌≢◌, ◌<◌, ◌≤◌, [], true, length, sum, None, Some, Ok, IsOk, IfOk, IfErr};
 ghost use Rattle.strm_buffers.specs.AllTells.{tells_of};
 ghost use Rattle.strm_buffers.specs.Tells.{Tells, told_by, with_told, told_by_reader, with_told_reader};
 ghost use Rattle.strm_machine.specs.State.{stream_at};
 ghost use Rattle.strm_machine.specs.Sides.{opposite, end_of, with_operation};
+ghost use Rattle.strm_machine.specs.Meetings.{begun};
 ghost use Rattle.strm_machine.specs.Reactions.{with_stream_at};
 ghost use Rattle.strm_machine.specs.Soundness.{sizes_of, IsPlaced};
 ghost use Rattle.strm_machine.specs.declared.replies.Reply.TheVariants as replies;
@@ -29,12 +30,12 @@ use crate::store::Store;
 use std::alloc::Global;
 use strm_buffers::hosts::Hosts;
 use strm_codes::codes::ReturnCode;
-use strm_machine::streams::{Consumer, HostEnd, Operation, Owner, Producer, Side, Stream};
+use strm_machine::streams::{Consumer, HostEnd, Operation, Owner, Producer, Side};
 use strm_producing::taking::{TakeError, consumer_turn};
 use strm_producing::turns::{TurnError, producer_turn};
+use strm_turns::channels::Channel;
 use strm_turns::guests::Guest;
 use strm_turns::owners::is_live;
-use strm_turns::sides::set_operation;
 
 // Why a turn of a host writer stops a call.
 pub(crate) fn stop_of(error: TurnError, number: u32) -> StoreError
@@ -54,12 +55,14 @@ pub(crate) fn stop_of(error: TurnError, number: u32) -> StoreError
 fn turn_of(
     alloc: Global,
     guests: &mut Vec<Guest>,
-    stream: &mut Stream,
+    stream: &mut Channel,
     producer: &mut Producer,
     hosts: &mut Hosts,
     number: usize,
     read: &Operation,
 ) -> Result<(), TurnError>
+    requires waiting { stream.old.reader.operation ≡ Some read.now }
+    requires open { read.now.is_open ≡ true }
     requires placed { IsPlaced (sizes_of (seen guests.old.items)) stream.old.payload read.now }
     requires sizes { sum (sizes_of (seen guests.old.items)) ≤ 268435456 }
     requires there { number < length (tells_of writer_tells reader_tells hosts.old).writers }
@@ -103,12 +106,14 @@ pub(crate) fn stop_taking(error: TakeError, number: u32, stream: u32) -> StoreEr
 fn take_of(
     alloc: Global,
     guests: &mut Vec<Guest>,
-    stream: &mut Stream,
+    stream: &mut Channel,
     consumer: &mut Consumer,
     hosts: &mut Hosts,
     number: usize,
     write: &Operation,
 ) -> Result<(), TakeError>
+    requires waiting { stream.old.writer.operation ≡ Some write.now }
+    requires open { write.now.is_open ≡ true }
     requires placed { IsPlaced (sizes_of (seen guests.old.items)) stream.old.payload write.now }
     requires sizes { sum (sizes_of (seen guests.old.items)) ≤ 268435456 }
     requires there { number < length (tells_of writer_tells reader_tells hosts.old).readers }
@@ -137,12 +142,15 @@ impl Store {
     // A read or write opens on a stream.
     #[inline(always)]
     fn open(&mut self, stream: u32, side: Side, operation: Operation)
+        requires idle { (end_of side (stream_at self.old stream)).operation ≡ None }
+        requires begun { operation ≡ begun operation.guest operation.address operation.left }
         requires there { stream < length self.old.streams }
         requires placed { IsPlaced (sizes_of self.old.guests) (stream_at self.old stream).payload operation }
         ensures { self.new ≡ with_stream_at self.old stream
             (with_operation side (stream_at self.old stream) operation) }
     {
-        set_operation(&mut self.streams[stream as usize], side, operation);
+        let meeting = &mut self.streams[stream as usize];
+        meeting.begin(side, operation.guest, operation.address, operation.left);
     }
 
     // The turn of the host writer that serves a stream, for the open read on it.
@@ -154,6 +162,8 @@ impl Store {
         number: u32,
         read: &Operation,
     ) -> Result<(), TurnError>
+        requires waiting { (stream_at self.old stream).reader.operation ≡ Some read.now }
+        requires open { read.now.is_open ≡ true }
         requires there { stream < length self.old.streams }
         requires owner { (stream_at self.old stream).writer.owner ≡ Host number }
         requires placed { IsPlaced (sizes_of self.old.guests) (stream_at self.old stream).payload read.now }
@@ -179,6 +189,8 @@ impl Store {
         number: u32,
         write: &Operation,
     ) -> Result<(), TakeError>
+        requires waiting { (stream_at self.old stream).writer.operation ≡ Some write.now }
+        requires open { write.now.is_open ≡ true }
         requires there { stream < length self.old.streams }
         requires owner { (stream_at self.old stream).reader.owner ≡ Host number }
         requires placed { IsPlaced (sizes_of self.old.guests) (stream_at self.old stream).payload write.now }
@@ -212,6 +224,8 @@ impl Store {
         number: u32,
         read: &Operation,
     ) -> Result<(), StoreError>
+        requires waiting { (stream_at self.old stream).reader.operation ≡ Some read.now }
+        requires open { read.now.is_open ≡ true }
         requires there { stream < length self.old.streams }
         requires owner { (stream_at self.old stream).writer.owner ≡ Host number }
         requires placed { IsPlaced (sizes_of self.old.guests) (stream_at self.old stream).payload read.now }
@@ -236,7 +250,7 @@ impl Store {
                 return Err(stop_of(error, number));
             }
         }
-        if self.stream(stream).writer.owner != Owner::Gone {
+        if self.stream(stream).owner(Side::Writing) != Owner::Gone {
             return Ok(());
         }
         self.retire(stream, number);
@@ -254,6 +268,8 @@ impl Store {
         number: u32,
         write: &Operation,
     ) -> Result<(), StoreError>
+        requires waiting { (stream_at self.old stream).writer.operation ≡ Some write.now }
+        requires open { write.now.is_open ≡ true }
         requires there { stream < length self.old.streams }
         requires owner { (stream_at self.old stream).reader.owner ≡ Host number }
         requires placed { IsPlaced (sizes_of self.old.guests) (stream_at self.old stream).payload write.now }
@@ -275,7 +291,7 @@ impl Store {
                 return Err(stop_taking(error, number, stream));
             }
         }
-        if self.stream(stream).reader.owner != Owner::Gone {
+        if self.stream(stream).owner(Side::Reading) != Owner::Gone {
             return Ok(());
         }
         self.retire_reader(stream, number);
@@ -293,6 +309,8 @@ impl Store {
         number: u32,
         operation: &Operation,
     ) -> Result<(), StoreError>
+        requires waiting { (end_of side (stream_at self.old stream)).operation ≡ Some operation.now }
+        requires open { operation.now.is_open ≡ true }
         requires there { stream < length self.old.streams }
         requires owner { (end_of (opposite side) (stream_at self.old stream)).owner ≡ Host number }
         requires placed { IsPlaced (sizes_of self.old.guests) (stream_at self.old stream).payload operation.now }
@@ -337,6 +355,8 @@ impl Store {
         number: u32,
         operation: Operation,
     ) -> Result<ReturnCode, StoreError>
+        requires idle { (end_of side (stream_at self.old stream)).operation ≡ None }
+        requires begun { operation ≡ begun operation.guest operation.address operation.left }
         requires there { stream < length self.old.streams }
         requires owner { (end_of (opposite side) (stream_at self.old stream)).owner ≡ Host number }
         requires placed { IsPlaced (sizes_of self.old.guests) (stream_at self.old stream).payload operation }

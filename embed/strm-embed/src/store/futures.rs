@@ -1,6 +1,6 @@
 //! Futures, as streams of one value.
 
-use crate::answers::{done, wrote};
+use crate::answers::{code, done, wrote};
 use crate::sys;
 use crate::{Code, Error, Guest, Pair, Payload, Store};
 
@@ -39,10 +39,9 @@ impl Store {
         address: u32,
     ) -> Result<Code, Error> {
         // SAFETY: above.
-        wrote(|out| unsafe {
+        code(|out| unsafe {
             sys::strm_future_write(self.at(), guest.0, payload.word(), handle, address, out)
         })
-        .map(Code::of)
     }
 
     /// Reads the value to an address of the guest's memory. `canon future.read`.
@@ -64,10 +63,9 @@ impl Store {
         address: u32,
     ) -> Result<Code, Error> {
         // SAFETY: above.
-        wrote(|out| unsafe {
+        code(|out| unsafe {
             sys::strm_future_read(self.at(), guest.0, payload.word(), handle, address, out)
         })
-        .map(Code::of)
     }
 
     /// Cancels the write that waits. `canon future.cancel-write`.
@@ -88,8 +86,7 @@ impl Store {
         handle: u32,
     ) -> Result<Code, Error> {
         // SAFETY: above.
-        wrote(|out| unsafe { sys::strm_future_cancel_write(self.at(), guest.0, payload.word(), handle, out) })
-            .map(Code::of)
+        code(|out| unsafe { sys::strm_future_cancel_write(self.at(), guest.0, payload.word(), handle, out) })
     }
 
     /// Cancels the read that waits. `canon future.cancel-read`.
@@ -105,8 +102,7 @@ impl Store {
     #[inline]
     pub fn future_cancel_read(&mut self, guest: Guest, payload: Payload, handle: u32) -> Result<Code, Error> {
         // SAFETY: above.
-        wrote(|out| unsafe { sys::strm_future_cancel_read(self.at(), guest.0, payload.word(), handle, out) })
-            .map(Code::of)
+        code(|out| unsafe { sys::strm_future_cancel_read(self.at(), guest.0, payload.word(), handle, out) })
     }
 
     /// Drops the write end, which is refused before its value passed, or it was told that nobody reads it.

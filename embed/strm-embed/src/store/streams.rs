@@ -1,6 +1,6 @@
 //! Streams.
 
-use crate::answers::{done, wrote};
+use crate::answers::{code, done, wrote};
 use crate::sys;
 use crate::{Code, Error, Guest, Pair, Payload, Store};
 
@@ -45,10 +45,9 @@ impl Store {
         count: u32,
     ) -> Result<Code, Error> {
         // SAFETY: above.
-        wrote(|out| unsafe {
+        code(|out| unsafe {
             sys::strm_stream_write(self.at(), guest.0, payload.word(), handle, address, count, out)
         })
-        .map(Code::of)
     }
 
     /// Reads items to an address of the guest's memory on. `canon stream.read`.
@@ -70,10 +69,9 @@ impl Store {
         count: u32,
     ) -> Result<Code, Error> {
         // SAFETY: above.
-        wrote(|out| unsafe {
+        code(|out| unsafe {
             sys::strm_stream_read(self.at(), guest.0, payload.word(), handle, address, count, out)
         })
-        .map(Code::of)
     }
 
     /// Cancels the write that waits. `canon stream.cancel-write`.
@@ -93,8 +91,7 @@ impl Store {
         handle: u32,
     ) -> Result<Code, Error> {
         // SAFETY: above.
-        wrote(|out| unsafe { sys::strm_stream_cancel_write(self.at(), guest.0, payload.word(), handle, out) })
-            .map(Code::of)
+        code(|out| unsafe { sys::strm_stream_cancel_write(self.at(), guest.0, payload.word(), handle, out) })
     }
 
     /// Cancels the read that waits. `canon stream.cancel-read`.
@@ -111,8 +108,7 @@ impl Store {
     #[inline]
     pub fn stream_cancel_read(&mut self, guest: Guest, payload: Payload, handle: u32) -> Result<Code, Error> {
         // SAFETY: above.
-        wrote(|out| unsafe { sys::strm_stream_cancel_read(self.at(), guest.0, payload.word(), handle, out) })
-            .map(Code::of)
+        code(|out| unsafe { sys::strm_stream_cancel_read(self.at(), guest.0, payload.word(), handle, out) })
     }
 
     /// Drops the write end. `canon stream.drop-writable`.

@@ -7,7 +7,7 @@ use Rattle.strm_producing.proofs.turns.poll_once.Goals as goal
 pub returns-in-Err-judge : goal.returns-in-Err-judge
 returns-in-Err-judge g c =
     judged_stops (seen c.args.guests.now.items) (seen c.poll_into.new.guests.items) c.args.stream.now c.args.producer.now _ _ c.args.read
-    c.in-Ok.polled.0 c.in-Ok.polled.1 c.held_by-held.result c.in-Ok.ensures.ok c.held_by-held.ensures.exact c.in-Err-judge.error (sym c.judge.ensures ∙ c.in-Err-judge.is)
+    c.in-Ok.polled.0 c.in-Ok.polled.1 c.held_by-held.result (rw (← c.payload.ensures) c.in-Ok.ensures.ok) c.held_by-held.ensures.exact c.in-Err-judge.error (rw (← c.kind.ensures) (sym c.judge.ensures ∙ c.in-Err-judge.is))
 
 pub move_on-requires-clause-room : goal.move_on-requires-clause-room
 move_on-requires-clause-room g c =
@@ -18,5 +18,5 @@ pub returns : goal.returns
 returns g c =
     let settled = c.move_on.ensures ∙ rw (c.count_of-count.ensures, c.produced_result.ensures _ (sym c.held_by-held.ensures.exact)) refl in
     judged_passes (seen c.args.guests.now.items) (seen c.poll_into.new.guests.items) c.args.stream.now c.args.producer.now _ _ c.args.read
-    c.in-Ok.polled.0 c.in-Ok.polled.1 c.held_by-held.result c.in-Ok.ensures.ok c.held_by-held.ensures.exact c.move_on.new.stream c.note_last.new.producer
-    (sym c.judge.ensures ∙ c.in-Ok-judge.is) settled c.note_last.ensures
+    c.in-Ok.polled.0 c.in-Ok.polled.1 c.held_by-held.result (rw (← c.payload.ensures) c.in-Ok.ensures.ok) c.held_by-held.ensures.exact c.move_on.new.stream c.note_answer.new.producer
+    (rw (← c.kind.ensures) (sym c.judge.ensures ∙ c.in-Ok-judge.is)) settled c.note_answer.ensures

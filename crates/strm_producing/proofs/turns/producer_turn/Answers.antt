@@ -5,7 +5,7 @@ use Rattle.strm_producing.proofs.turns.producer_turn.Goals as goal
 
 pub returns-then-held_by-gt0 : goal.returns-then-held_by-gt0
 returns-then-held_by-gt0 g c =
-    holding _ _ _ _ c.args.read.now (omega (arith, c.held_by.ensures.exact, c.if-held_by-gt0.true)) refl (c.hand_over.ensures c.args.producer.now)
+    holding _ _ _ _ c.args.read.now (omega (arith, c.held_by.ensures.exact, c.if-held_by-gt0.true)) refl c.hand_over.ensures
 
 pub returns-then-producer : goal.returns-then-producer
 returns-then-producer g c =

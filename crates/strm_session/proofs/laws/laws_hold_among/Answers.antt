@@ -36,7 +36,14 @@ returns-clause-laws c = λ old new steps a. record {
   members = c.members_are_live.ensures 0 _ old new steps;
   contexts = c.contexts_count_their_handles.ensures 0 _ old new steps;
   sound = c.states_are_sound.ensures.sound 0 _ old new steps;
+  isolated = c.streams_are_isolated.ensures 0 _ old new steps;
 }
 
 pub returns-clause-leads : goal.returns-clause-leads
 returns-clause-leads c = λ old new steps replies end e. c.moments_lead_to_the_end.ensures _ steps replies end e
+
+pub returns-clause-writers : goal.returns-clause-writers
+returns-clause-writers c = λ old new steps replies stop writers readers e. c.ends_close_exactly.ensures.stops 0 _ old new steps replies stop writers readers e
+
+pub returns-clause-readers : goal.returns-clause-readers
+returns-clause-readers c = λ old new steps replies stop writers readers e. c.readers_close_exactly.ensures.stops 0 _ old new steps replies stop writers readers e

@@ -10,13 +10,13 @@ pub overflow_add-self : goal.overflow_add-self
 overflow_add-self c =
     let s = c.self.inside in
     let h : c.args.count ≤ s.len = omega (arith, c.requires, length-items_in _ _ _ _ c.self.invariant.lie, ap (λ v. length v.items) c.self.view_is) in
-    rw c.size.ensures.exact (omega (arith, cut (item_size (scalars_of s.payload)) c.args.count s.len h, c.self.invariant.all, s.bytes.ok.0, s.bytes.small))
+    rw c.size.ensures.exact (omega (arith, cut (item_size (scalars_of s.payload)) c.args.count s.len h, c.self.invariant.all))
 
 pub overflow_mul-self : goal.overflow_mul-self
 overflow_mul-self c =
     let s = c.self.inside in
     let h : c.args.count ≤ s.len = omega (arith, c.requires, length-items_in _ _ _ _ c.self.invariant.lie, ap (λ v. length v.items) c.self.view_is) in
-    rw c.size.ensures.exact (omega (arith, cut (item_size (scalars_of s.payload)) c.args.count s.len h, c.self.invariant.all, s.bytes.ok.0, s.bytes.small))
+    rw c.size.ensures.exact (omega (arith, cut (item_size (scalars_of s.payload)) c.args.count s.len h, c.self.invariant.all))
 
 pub invariant_of-self : goal.invariant_of-self
 invariant_of-self c =
@@ -24,7 +24,7 @@ invariant_of-self c =
     let h : c.args.count ≤ s.len = omega (arith, c.requires, length-items_in _ _ _ _ c.self.invariant.lie, ap (λ v. length v.items) c.self.view_is) in
     rw c.size.ensures.exact (record {
       all = omega (arith, cut (item_size (scalars_of s.payload)) c.args.count s.len h, c.self.invariant.all);
-      lie = (lie_skip (scalars_of s.payload) s.bytes.items s.start s.len c.args.count c.self.invariant.lie h).lie;
+      lie = (lie_skip (scalars_of s.payload) s.bytes s.start s.len c.args.count c.self.invariant.lie h).lie;
       few = omega (arith, c.self.invariant.few);
     })
 
@@ -32,4 +32,4 @@ pub returns-clause-items : goal.returns-clause-items
 returns-clause-items c =
     let s = c.self.inside in
     let h : c.args.count ≤ s.len = omega (arith, c.requires, length-items_in _ _ _ _ c.self.invariant.lie, ap (λ v. length v.items) c.self.view_is) in
-    rw c.size.ensures.exact ((lie_skip (scalars_of s.payload) s.bytes.items s.start s.len c.args.count c.self.invariant.lie h).is ∙ ap (λ v. drop c.args.count v.items) c.self.view_is)
+    rw c.size.ensures.exact ((lie_skip (scalars_of s.payload) s.bytes s.start s.len c.args.count c.self.invariant.lie h).is ∙ ap (λ v. drop c.args.count v.items) c.self.view_is)

@@ -12,7 +12,7 @@ returns-clause-fills c = Fills-same c.args.window.now
 pub returns-clause-polls : goal.returns-clause-polls
 returns-clause-polls c =
     rw c.requires.nothing_marked (record {
-      said_more = rw (c.room.ensures, c.new.ensures.items) at c.in-Ok.ensures.items;
+      said_more = rw (c.room.ensures, c.new.ensures.items, c.new.ensures.payload, ← c.requires.payload) at c.in-Ok.ensures.items;
       fits = tt;
       marks = sym (in_room-nil (room_of c.args.window.now.place));
       holds = sym (past_room-nil (room_of c.args.window.now.place));

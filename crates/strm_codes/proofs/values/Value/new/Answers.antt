@@ -1,6 +1,6 @@
-use Rattle.std.proofs.Common.{arith, pos}
-use Rattle.strm_codes.proofs.PaddedLemmas.{padded_new}
+use Rattle.std.proofs.Common.{arith, pos, refl}
+use Rattle.strm_codes.proofs.ValueLemmas.{AreNumbers-new}
 use Rattle.strm_codes.proofs.values.Value.new.Goals as goal
 
 pub invariant_of-result : goal.invariant_of-result
-invariant_of-result c = rw c.copy_from_slice.ensures.after (padded_new 8 (pos 0) c.args.numbers.now (omega arith))
+invariant_of-result c = rw c.copy_from_slice.ensures.after (AreNumbers-new c.args.numbers.now (omega arith) (c.if-not-are_numbers.ensures.0 refl))

@@ -64,4 +64,4 @@ returns-clause-queue c =
 pub returns-clause-said : goal.returns-clause-said
 returns-clause-said c =
     let old = c.args.self.now in
-    rw (c.push_reserved.ensures.items, c.reserve.ensures.items, map-append (said_of old.fed.items) old.polls.items, c.in-Ok-mark.ensures.marked, c.room-room.ensures) refl
+    rw (c.push_reserved.ensures.items, c.reserve.ensures.items, map-append (said_of old.fed.payload old.fed.items) old.polls.items, c.in-Ok-mark.ensures.marked, c.room-room.ensures, c.requires.payload) refl

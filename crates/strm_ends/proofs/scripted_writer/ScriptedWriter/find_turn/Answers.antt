@@ -16,4 +16,5 @@ invariant_of-self c =
     record {
       typed = all_pushed (λ (turn : WriterTurn). turn.items.payload ≡ s.payload) (is_ok c.push.result) s.turns.items c.push.new.self.items _ c.push.ensures.items s.typed c.new.ensures.payload;
       holding = s.holding;
+      recorded = s.recorded;
     }

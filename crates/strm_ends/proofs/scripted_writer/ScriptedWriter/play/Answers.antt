@@ -1,5 +1,6 @@
-use Rattle.std.proofs.Common.{◌≡◌, ◌<◌, length, arith}
-use Rattle.std.proofs.lemmas.List.Elements.{All-drop}
+use Rattle.std.proofs.Common.{◌≡◌, ◌<◌, length, ap, ◌∙◌, arith}
+use Rattle.std.proofs.lemmas.List.Elements.{All-drop, All-push}
+use Rattle.strm_buffers.specs.Said.{WriterSaid}
 use Rattle.strm_buffers.proofs.EndLemmas.{Fills-same}
 use Rattle.strm_ends.specs.declared.scripted_writer.WriterTurn.{WriterTurn}
 use Rattle.strm_ends.proofs.scripted_writer.ScriptedWriter.play.Goals as goal
@@ -17,3 +18,13 @@ invariant_of-self-2-clause-holding c =
     let old = c.args.self.now in
     let some : 0 < length old.turns.items = omega (arith, c.requires.next, old.turns.ok.0) in
     rw (c.skip.ensures.payload, c.in-Ok-copy.ensures, c.index.ensures) (old.typed 0 c.index.result.now some)
+
+-- and so is what is recorded
+pub invariant_of-self-2-clause-recorded : goal.invariant_of-self-2-clause-recorded
+invariant_of-self-2-clause-recorded c =
+    let old = c.args.self.now in
+    let some : 0 < length old.turns.items = omega (arith, c.requires.next, old.turns.ok.0) in
+    let typed : c.remove-items.result.items.payload ≡ old.payload =
+    ap (λ (turn : WriterTurn). turn.items.payload) c.remove-items.ensures.value ∙ old.typed 0 c.remove-items.result some in
+    rw (c.push_reserved.ensures.items, c.reserve.ensures.items)
+    (All-push (λ (said : WriterSaid). said.payload ≡ old.payload) old.said.items _ old.recorded typed)

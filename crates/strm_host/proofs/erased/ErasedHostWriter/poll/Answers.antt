@@ -1,4 +1,6 @@
 use Rattle.std.proofs.Common.{◌≡◌, ◌++◌, refl}
+use Rattle.std.proofs.lemmas.List.Elements.{All-push}
+use Rattle.strm_buffers.specs.Said.{WriterSaid}
 use Rattle.strm_buffers.specs.Windows.{room_of}
 use Rattle.strm_buffers.proofs.EndLemmas.{Fills-same, IfAnswered-turn_of}
 use Rattle.strm_host.proofs.ErasedLemmas.{did_poll, planned_poll, room_parts}
@@ -10,7 +12,7 @@ returns-in-Err-clause-fills g c = Fills-same c.args.window.now
 pub returns-clause-polls : goal.returns-clause-polls
 returns-clause-polls g c =
     rw c.turn.ensures (IfAnswered-turn_of c.in-Ok-fetch.fetched.answer _ (did_poll _ _ c.args.window.now c.fetch.new.window c.args.finish c.in-Ok-fetch.fetched.items.items c.in-Ok-fetch.fetched.answer (record {
-      said = rw (c.reserve.ensures.items, c.room-room.ensures) at c.push_reserved.ensures.items;
+      said = rw (c.reserve.ensures.items, c.room-room.ensures, c.in-Ok-fetch.ensures.of, ← c.requires.payload) at c.push_reserved.ensures.items;
       marked = c.in-Ok-fetch.ensures.marked;
       held = c.in-Ok-fetch.ensures.held;
       fit = c.in-Ok-fetch.ensures.fit;
@@ -30,3 +32,9 @@ returns-clause-plan g c =
 
 pub returns-clause-leaves : goal.returns-clause-leaves
 returns-clause-leaves g c = rw c.turn.ensures (IfAnswered-turn_of c.in-Ok-fetch.fetched.answer _ c.in-Ok-fetch.ensures.leaves)
+
+-- what is recorded is of the producer's items
+pub invariant_of-self-2-clause-recorded : goal.invariant_of-self-2-clause-recorded
+invariant_of-self-2-clause-recorded g c =
+    rw (c.push_reserved.ensures.items, c.reserve.ensures.items)
+    (All-push (λ (said : WriterSaid). said.payload ≡ g.P.Item.Payloaded.payload) c.args.self.now.said.items _ c.args.self.now.recorded c.in-Ok-fetch.ensures.of)

@@ -1,8 +1,10 @@
 use Rattle.std.proofs.Common.{◌++◌, ◌∙◌, ◌∷◌, [], ap}
 use Rattle.std.proofs.lemmas.List.{append_assoc}
 use Rattle.strm_shared.specs.Histories.{Log, entry}
-use Rattle.strm_shared.specs.Rows.{chunks_of_step, chunks_of_reply, entries}
-use Rattle.strm_shared.proofs.RowLemmas.{step_then, placed_push, entries_push}
+use Rattle.strm_machine.specs.ShortSteps.{chunks_of_step}
+use Rattle.strm_machine.proofs.ShortStepLemmas.{step_then}
+use Rattle.strm_shared.specs.Rows.{chunks_of_reply, entries}
+use Rattle.strm_shared.proofs.RowLemmas.{placed_push, entries_push}
 use Rattle.strm_shared.proofs.history.History.push.Goals as goal
 
 pub invariant_of-self : goal.invariant_of-self

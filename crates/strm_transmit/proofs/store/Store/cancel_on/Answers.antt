@@ -12,7 +12,7 @@ use Rattle.strm_transmit.proofs.store.Store.cancel_on.Goals as goal
 
 pub invariant_of-self : goal.invariant_of-self
 invariant_of-self c =
-    let there = rw (← c.self.view_is) at c.requires in
+    let there = rw (← c.self.view_is) at c.requires.there in
     let here = stream_at-there c.self.inside c.args.stream c.index_mut.result.now there c.index_mut.ensures.value in
     let stream = stream_at (state_of c.self.inside) c.args.stream in
     IsStore-set c.self.inside _ c.args.stream (cancelled c.args.side stream) there

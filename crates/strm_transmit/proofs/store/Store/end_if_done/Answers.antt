@@ -1,4 +1,4 @@
-use Rattle.std.proofs.Common.{rules, sym, ◌∙◌}
+use Rattle.std.proofs.Common.{rules}
 use Rattle.strm_machine.specs.declared.streams.Side.TheVariants.{Writing, Reading}
 use Rattle.strm_transmit.proofs.RoundLemmas.{rounds, kept-fits, end-none, end-does, end-fits}
 use Rattle.strm_transmit.proofs.store.Store.end_if_done.Goals as goal

@@ -42,6 +42,6 @@ invariant_of-self g c =
 
 pub returns : goal.returns
 returns g c =
-    fetches_in c.self.inside c.args.self.now _ c.args.stream c.args.writer c.args.reader c.self.view_is c.self.invariant c.requires.pipe c.index_mut-kept.result.now c.index_mut-kept.ensures.value _ (ap (λ (x : Stream). x.kind) c.stream.ensures) _
+    fetches_in c.self.inside c.args.self.now _ c.args.stream c.args.writer c.args.reader c.self.view_is c.self.invariant c.requires.pipe c.index_mut-kept.result.now c.index_mut-kept.ensures.value _ (c.kind-kind.ensures ∙ ap (λ (x : Stream). x.kind) c.stream.ensures) _
     (record { producer = c.fetch_of-fetched.new.producer; items = c.fetch_of-fetched.new.kept; writer = _ })
     c.fetch_of-fetched.ensures.fetches _ refl _ c.fetch_of-fetched.ensures.others

@@ -1,4 +1,4 @@
-use Rattle.std.proofs.Common.{rules, sym, ◌∙◌}
+use Rattle.std.proofs.Common.{rules}
 use Rattle.strm_transmit.proofs.RoundLemmas.{rounds, nothing_held, fetch-none, fetched-does, fetched-pipe, fetch-stops, fetch_stops-pipe}
 use Rattle.strm_transmit.proofs.store.Store.fetch_if_due.Goals as goal
 

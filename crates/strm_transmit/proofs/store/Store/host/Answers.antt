@@ -9,14 +9,14 @@ pub invariant_of-self-2 : goal.invariant_of-self-2
 invariant_of-self-2 c =
     let old = c.self.inside in
     let number : c.len-stream.result ≡ length old.streams.items = omega (arith, c.len-stream.ensures, old.streams.ok) in
-    IsStore-hosted c.self.inside _ c.args.number c.new_stream-hosted.result _
+    IsStore-hosted c.self.inside _ c.args.number c.new-hosted.result _
     (record {
       few = rw (← c.self.view_is) at c.requires.few;
       kept = c.requires.there;
       unused = rw (← c.self.view_is) at c.requires.unused;
       serves = ap Serves number;
-      writer = ap (λ (x : Stream). x.writer) c.new_stream-hosted.ensures;
-      reader = ap (λ (x : Stream). x.reader) c.new_stream-hosted.ensures;
+      writer = ap (λ (x : Stream). x.writer) c.new-hosted.ensures;
+      reader = ap (λ (x : Stream). x.reader) c.new-hosted.ensures;
       tag = refl;
       limits = refl;
       contexts = refl;
@@ -26,7 +26,7 @@ invariant_of-self-2 c =
       live_streams = refl;
       live_sets = refl;
       bytes = refl;
-      streams = c.place.ensures ∙ rw c.in_ok-reserve.ensures.items refl;
+      streams = c.push_reserved.ensures.items ∙ rw c.in_ok-reserve.ensures.items refl;
       producers = refl;
       place = c.in_ok-make_place.ensures.ok;
       consumers = refl;
@@ -56,19 +56,19 @@ returns-clause-ok c =
     let old = c.self.inside in
     let number : c.len-stream.result ≡ length old.streams.items = omega (arith, c.len-stream.ensures, old.streams.ok) in
     let after = record old {
-      streams = c.place.new.items;
-      producers = set old.producers c.args.number (record no_producer { duty = Serves c.len-stream.result });
+      streams = c.push_reserved.new.self;
+      producers = set old.producers c.args.number (record no_producer { duty = Serves c.len-stream.result; holding = c.args.holding });
       kept = c.make_place.new.kept;
       live_streams = old.live_streams + 1;
     } in
-    hosted_is old after c.args.number c.new_stream-hosted.result _
+    hosted_is old after c.args.number c.new-hosted.result _
     (record {
       few = rw (← c.self.view_is) at c.requires.few;
       kept = c.requires.there;
       unused = rw (← c.self.view_is) at c.requires.unused;
       serves = ap Serves number;
-      writer = ap (λ (x : Stream). x.writer) c.new_stream-hosted.ensures;
-      reader = ap (λ (x : Stream). x.reader) c.new_stream-hosted.ensures;
+      writer = ap (λ (x : Stream). x.writer) c.new-hosted.ensures;
+      reader = ap (λ (x : Stream). x.reader) c.new-hosted.ensures;
       tag = refl;
       limits = refl;
       contexts = refl;
@@ -78,10 +78,10 @@ returns-clause-ok c =
       live_streams = refl;
       live_sets = refl;
       bytes = refl;
-      streams = c.place.ensures ∙ rw c.in_ok-reserve.ensures.items refl;
+      streams = c.push_reserved.ensures.items ∙ rw c.in_ok-reserve.ensures.items refl;
       producers = refl;
       place = c.in_ok-make_place.ensures.ok;
       consumers = refl;
     })
-    c.args.self.now c.self.view_is c.self.invariant _ c.new_stream-hosted.ensures _
-    (ap (λ s. record no_producer { duty = Serves s }) (number ∙ ap (λ (x : State). length x.streams) c.self.view_is))
+    c.args.self.now c.self.view_is c.self.invariant _ c.new-hosted.ensures _
+    (ap (λ s. record no_producer { duty = Serves s; holding = c.args.holding }) (number ∙ ap (λ (x : State). length x.streams) c.self.view_is))

@@ -1,12 +1,17 @@
 use Rattle.std.proofs.Common.{◌≡◌, true, false}
 use Rattle.strm_machine.specs.declared.acts.HostAct.TheVariants.{New}
 use Rattle.strm_machine.specs.declared.acts.Act.TheVariants.{OnHost}
+use Rattle.strm_producing.proofs.TurnLemmas.{any_held}
 use Rattle.strm_transmit.proofs.HostStepLemmas.{hosted_not_admitted}
 use Rattle.strm_transmit.proofs.HostingLemmas.{no_logs, host_refusal-same, host_admitted, host_fits, hosted_made}
 use Rattle.strm_transmit.proofs.store.Store.host_new.Goals as goal
 
 pub writer_kind-requires : goal.writer_kind-requires
 writer_kind-requires g c =
+    (host_fits c.args.self.now _ c.args.writer (host_admitted _ _ _ New _ c.host_fits.ensures c.in-Ok.ensures.exact)).there
+
+pub writer_held-holding-requires : goal.writer_held-holding-requires
+writer_held-holding-requires g c =
     (host_fits c.args.self.now _ c.args.writer (host_admitted _ _ _ New _ c.host_fits.ensures c.in-Ok.ensures.exact)).there
 
 pub writer_payload-requires : goal.writer_payload-requires
@@ -30,7 +35,7 @@ returns-in-Ok g c =
     record {
       meets = hosted_made c.args.self.now c.host.new.self _ c.args.writer
           (record { served = c.served.ensures; may = host_admitted _ _ _ New _ c.host_fits.ensures c.in-Ok.ensures.exact; fits = c.requires.fits })
-          c.host.result c.host.ensures.number (rw (c.writer_kind.ensures, c.writer_payload.ensures) at c.host.ensures.ok) c.host.ensures.no_memory c.host.ensures.err;
+          c.host.result c.host.ensures.number (rw (c.writer_kind.ensures, c.writer_payload.ensures, c.writer_held-holding.ensures, any_held _) at c.host.ensures.ok) c.host.ensures.no_memory c.host.ensures.err;
     }
 
 pub returns-in-Err : goal.returns-in-Err

@@ -46,10 +46,10 @@ pub invariant_of-self-2 : goal.invariant_of-self-2
 invariant_of-self-2 c =
     let old = c.self.inside in
     let number : c.len-stream.result ≡ length old.streams.items = omega (arith, c.len-stream.ensures, old.streams.ok) in
-    let joined = joined_is old c.args.writer c.args.reader c.args.ty c.in_ok-numbers.numbers c.new_stream-joined.result
+    let joined = joined_is old c.args.writer c.args.reader c.args.ty c.in_ok-numbers.numbers c.new-joined.result
     (c.in_ok-numbers.ensures.numbers ∙ ap (numbers_of old c.args.writer c.args.reader c.args.ty) number)
-    (rw (c.new_stream-joined.ensures, c.kind-kind.ensures, c.payload-payload.ensures) refl) in
-    let made : MakesStream c.self.inside (record c.self.inside { counter = c.insert_ends.new.counter; guests = c.insert_ends.new.guests; streams = c.place.new.items; live_streams = c.self.inside.live_streams + 1 }) c.args.writer c.args.reader c.args.ty = record {
+    (rw (c.new-joined.ensures, c.kind-kind.ensures, c.payload-payload.ensures) refl) in
+    let made : MakesStream c.self.inside (record c.self.inside { counter = c.insert_ends.new.counter; guests = c.insert_ends.new.guests; streams = c.push_reserved.new.self; live_streams = c.self.inside.live_streams + 1 }) c.args.writer c.args.reader c.args.ty = record {
       same = record { tag = refl; limits = refl; producers = refl; kept = refl; consumers = refl; contexts = refl; trapped = refl };
       counter = c.in_ok-numbers.ensures.counter;
       live = c.in_ok-numbers.ensures.live;
@@ -57,7 +57,7 @@ invariant_of-self-2 c =
       live_sets = refl;
       bytes = refl;
       guests = c.in_ok-numbers.ensures.guests ∙ ap (with_ends (seen old.guests.items) c.args.writer c.args.reader c.args.ty) number;
-      streams = c.place.ensures ∙ rw c.in_ok-reserve.ensures.items (ap (λ (s : Stream). old.streams.items ++ s ∷ []) joined);
+      streams = c.push_reserved.ensures.items ∙ rw c.in_ok-reserve.ensures.items (ap (λ (s : Stream). old.streams.items ++ s ∷ []) joined);
     } in
     IsStore-made old _ c.args.writer c.args.reader c.args.ty made (rw (← c.self.view_is) at c.requires) c.self.invariant
 
@@ -65,10 +65,10 @@ pub returns : goal.returns
 returns c =
     let old = c.self.inside in
     let number : c.len-stream.result ≡ length old.streams.items = omega (arith, c.len-stream.ensures, old.streams.ok) in
-    let joined = joined_is old c.args.writer c.args.reader c.args.ty c.in_ok-numbers.numbers c.new_stream-joined.result
+    let joined = joined_is old c.args.writer c.args.reader c.args.ty c.in_ok-numbers.numbers c.new-joined.result
     (c.in_ok-numbers.ensures.numbers ∙ ap (numbers_of old c.args.writer c.args.reader c.args.ty) number)
-    (rw (c.new_stream-joined.ensures, c.kind-kind.ensures, c.payload-payload.ensures) refl) in
-    let made : MakesStream c.self.inside (record c.self.inside { counter = c.insert_ends.new.counter; guests = c.insert_ends.new.guests; streams = c.place.new.items; live_streams = c.self.inside.live_streams + 1 }) c.args.writer c.args.reader c.args.ty = record {
+    (rw (c.new-joined.ensures, c.kind-kind.ensures, c.payload-payload.ensures) refl) in
+    let made : MakesStream c.self.inside (record c.self.inside { counter = c.insert_ends.new.counter; guests = c.insert_ends.new.guests; streams = c.push_reserved.new.self; live_streams = c.self.inside.live_streams + 1 }) c.args.writer c.args.reader c.args.ty = record {
       same = record { tag = refl; limits = refl; producers = refl; kept = refl; consumers = refl; contexts = refl; trapped = refl };
       counter = c.in_ok-numbers.ensures.counter;
       live = c.in_ok-numbers.ensures.live;
@@ -76,7 +76,7 @@ returns c =
       live_sets = refl;
       bytes = refl;
       guests = c.in_ok-numbers.ensures.guests ∙ ap (with_ends (seen old.guests.items) c.args.writer c.args.reader c.args.ty) number;
-      streams = c.place.ensures ∙ rw c.in_ok-reserve.ensures.items (ap (λ (s : Stream). old.streams.items ++ s ∷ []) joined);
+      streams = c.push_reserved.ensures.items ∙ rw c.in_ok-reserve.ensures.items (ap (λ (s : Stream). old.streams.items ++ s ∷ []) joined);
     } in
     rw (← c.self.view_is)
     (performs-made old _ c.args.writer c.args.reader c.args.ty _ made

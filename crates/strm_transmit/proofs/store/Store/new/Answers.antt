@@ -27,3 +27,6 @@ returns-clause-fits c tells = record {
   writers = λ n s e. absurd (not_unused _ s (all_unused Writing n) e);
   readers = λ r s e. absurd (not_unused _ s (all_unused Reading r) e);
 }
+
+pub returns-clause-known : goal.returns-clause-known
+returns-clause-known c tells t n s e = absurd (not_unused _ s (all_unused Writing n) e)

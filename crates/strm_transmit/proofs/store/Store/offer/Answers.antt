@@ -3,8 +3,11 @@ use Rattle.std.proofs.lemmas.List.{length-set}
 use Rattle.strm_machine.specs.declared.streams.Side.TheVariants.{Writing, Reading}
 use Rattle.strm_transmit.proofs.StoreLemmas.{stream_at-there}
 use Rattle.strm_transmit.proofs.RoundLemmas.{offers_keep}
-use Rattle.strm_transmit.proofs.RoundStoreLemmas.{reader_known, writer_fits, reader_fits, serves, place, entry_there, entry_payload, entry_type, offers_in, IsStore-passed, reader_duties_set}
+use Rattle.strm_transmit.proofs.RoundStoreLemmas.{writer_known, reader_known, writer_fits, reader_fits, serves, place, entry_there, entry_payload, entry_type, offers_in, IsStore-passed, duties_set, reader_duties_set}
 use Rattle.strm_transmit.proofs.store.Store.offer.Goals as goal
+
+pub bounds-self-inside-place : goal.bounds-self-inside-place
+bounds-self-inside-place g c = writer_known c.self.inside c.args.self.now _ c.args.stream c.args.writer c.args.reader c.self.view_is c.self.invariant c.requires.pipe
 
 pub bounds-self-inside-taker : goal.bounds-self-inside-taker
 bounds-self-inside-taker g c = reader_known c.self.inside c.args.self.now _ c.args.stream c.args.writer c.args.reader c.self.view_is c.self.invariant c.requires.pipe
@@ -41,8 +44,8 @@ invariant_of-self g c =
       guests = refl;
       live_sets = refl;
       bytes = refl;
-      count = refl;
-      duties = λ m. refl;
+      count = length-set i.producers c.args.writer _;
+      duties = duties_set i.producers c.args.writer _ refl;
       count_readers = length-set i.consumers c.args.reader _;
       reader_duties = reader_duties_set i.consumers c.args.reader _ keeps.duty;
       kept = refl;

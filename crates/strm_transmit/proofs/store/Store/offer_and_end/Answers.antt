@@ -1,4 +1,4 @@
-use Rattle.std.proofs.Common.{rules, sym, ◌∙◌}
+use Rattle.std.proofs.Common.{rules}
 use Rattle.strm_transmit.proofs.RoundLemmas.{rounds, offered-pipe, offer-none, offered-does, offer-stops, offer_stops-fits}
 use Rattle.strm_transmit.proofs.store.Store.offer_and_end.Goals as goal
 

@@ -2,6 +2,7 @@ use Rattle.std.proofs.Common.{refl, ap, ◌∙◌, sym, set}
 use Rattle.strm_machine.specs.Sides.{with_operation}
 use Rattle.strm_machine.specs.State.{stream_at}
 use Rattle.strm_machine.specs.Soundness.{sizes_of}
+use Rattle.strm_machine.specs.declared.streams.Operation.{Operation}
 use Rattle.strm_machine.specs.declared.streams.Stream.{Stream}
 use Rattle.strm_machine.proofs.SideLemmas.{with_operation-keeps}
 use Rattle.strm_turns.specs.Guests.{seen}
@@ -14,7 +15,7 @@ pub invariant_of-self : goal.invariant_of-self
 invariant_of-self c =
     let there = rw (← c.self.view_is) at c.requires.there in
     let placed = rw (← c.self.view_is) at c.requires.placed in
-    let here = stream_at-there c.self.inside c.args.stream c.index_mut.result.now there c.index_mut.ensures.value in
+    let here = stream_at-there c.self.inside c.args.stream c.index_mut-meeting.result.now there c.index_mut-meeting.ensures.value in
     let stream = stream_at (state_of c.self.inside) c.args.stream in
     IsStore-set c.self.inside _ c.args.stream (with_operation c.args.side stream c.args.operation) there
     (λ h. with_operation-keeps c.args.side (sizes_of (seen c.self.inside.guests.items)) stream c.args.operation h placed)
@@ -25,6 +26,6 @@ invariant_of-self c =
       live_streams = refl;
       live_sets = refl;
       bytes = refl;
-      streams = ap (set c.self.inside.streams.items c.args.stream) (c.set_operation.ensures ∙ ap (λ (s : Stream). with_operation c.args.side s c.args.operation) (sym here));
+      streams = ap (set c.self.inside.streams.items c.args.stream) (c.begin.ensures ∙ ap (λ (o : Operation). with_operation c.args.side c.index_mut-meeting.result.now o) (sym c.requires.begun) ∙ ap (λ (s : Stream). with_operation c.args.side s c.args.operation) (sym here));
     })
     c.self.invariant

@@ -6,11 +6,11 @@ use Rattle.strm_transmit.proofs.store.Store.serve.Goals as goal
 
 pub returns-in-Some-clause-does : goal.returns-in-Some-clause-does
 returns-in-Some-clause-does g c =
-    Does-as _ _ _ _ _ _ _ (due-turn Reading c.args.self.now _ c.args.stream c.in-Some.read.0 c.in-Some.read.1 (sym c.in-Some.ensures)) c.host_turn.ensures.does
+    Does-as _ _ _ _ _ _ _ (due-turn Reading c.args.self.now _ c.args.stream c.in-Some.read.0 c.in-Some.read.1 (sym c.in-Some.ensures.due)) c.host_turn.ensures.does
 
 pub returns-in-None-clause-does : goal.returns-in-None-clause-does
-returns-in-None-clause-does g c = idle-turn c.args.self.now _ c.args.stream c.requires.unpiped (sym c.in_default.ensures) (sym c.in-None.ensures)
+returns-in-None-clause-does g c = idle-turn c.args.self.now _ c.args.stream c.requires.unpiped (sym c.in_default.ensures.due) (sym c.in-None.ensures.due)
 
 pub returns-in-Some-due-clause-does : goal.returns-in-Some-due-clause-does
 returns-in-Some-due-clause-does g c =
-    Does-as _ _ _ _ _ _ _ (due-turn Writing c.args.self.now _ c.args.stream c.in-Some-due.write.0 c.in-Some-due.write.1 (sym c.in-Some-due.ensures)) c.host_turn-in-Some-due.ensures.does
+    Does-as _ _ _ _ _ _ _ (due-turn Writing c.args.self.now _ c.args.stream c.in-Some-due.write.0 c.in-Some-due.write.1 (sym c.in-Some-due.ensures.due)) c.host_turn-in-Some-due.ensures.does

@@ -24,6 +24,6 @@ invariant_of-self c =
       live_streams = refl;
       live_sets = refl;
       bytes = refl;
-      streams = ap (set c.self.inside.streams.items c.args.stream) (c.deliver_report.ensures.stream ∙ ap (λ (s : Stream). delivered c.args.side s) (sym here));
+      streams = ap (set c.self.inside.streams.items c.args.stream) (c.deliver.ensures.stream ∙ ap (λ (s : Stream). delivered c.args.side s) (sym here));
     })
     c.self.invariant

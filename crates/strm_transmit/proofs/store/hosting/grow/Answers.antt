@@ -1,4 +1,4 @@
-use Rattle.std.proofs.Common.{◌∷◌, [], length, ◌∙◌, sym, arith, length-append}
+use Rattle.std.proofs.Common.{arith}
 use Rattle.strm_transmit.proofs.KeptLemmas.{grown-push}
 use Rattle.strm_transmit.proofs.store.hosting.grow.Goals as goal
 

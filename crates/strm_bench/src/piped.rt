@@ -1,0 +1,83 @@
+//! Pipes from a host writer to a host reader, in drive rounds.
+
+ghost use Rattle.std.specs.Prelude.{IfOk, OnOk};
+ghost use Rattle.strm_buffers.specs.AllTells.{tells_of};
+ghost use Rattle.strm_world.specs.Does.{Fits};
+
+use crate::hosted::{FEED, done, fed};
+use std::alloc::Global;
+use strm_buffers::hosts::Hosts;
+use strm_machine::limits::Limits;
+use strm_machine::steps::Step;
+use strm_transmit::errors::StoreError;
+use strm_transmit::store::Store;
+
+/// Rounds in which 64 bytes pass.
+pub const ROUNDS: u32 = 100_000;
+
+const LIMITS: Limits = Limits {
+    handles: 0,
+    places: 3,
+};
+
+// The first host writer is piped to the first host reader: the stream's number.
+fn attach(store: &mut Store, hosts: &mut Hosts) -> Result<u32, StoreError>
+    requires { Fits store.old (tells_of writer_tells reader_tells hosts.old) }
+    ensures { OnOk result (Fits store.new (tells_of writer_tells reader_tells hosts.new)) }
+{
+    let stream = store.host_new(hosts, 0)?;
+    store.pipe(hosts, stream, 0)?;
+    Ok(stream)
+}
+
+/// A store without guests, and a pipe.
+#[derive(Drop)]
+pub struct Piping {
+    store: Store,
+    stream: u32,
+}
+
+impl Piping {
+    /// From the first host writer to the first host reader.
+    pub fn new(alloc: Global, hosts: &mut Hosts) -> Result<Piping, StoreError>
+        ensures { IfOk result (λ piping. Fits piping.store (tells_of writer_tells reader_tells hosts.new)) }
+    {
+        let mut store = Store::new(alloc, 0, LIMITS);
+        match attach(&mut store, hosts) {
+            Ok(stream) => Ok(Piping { store, stream }),
+            Err(error) => Err(error),
+        }
+    }
+
+    /// One round.
+    #[inline(never)]
+    pub fn drive(&mut self, hosts: &mut Hosts) -> Result<(), StoreError>
+        requires { Fits self.old.store (tells_of writer_tells reader_tells hosts.old) }
+        ensures fits { Fits self.new.store (tells_of writer_tells reader_tells hosts.new) }
+    {
+        self.store.drive_once(hosts)
+    }
+
+    /// Feeds the writer, grants the reader as many bytes, and drives, so many times.
+    #[inline(never)]
+    pub fn feed_and_drive(&mut self, hosts: &mut Hosts, rounds: u32) -> Result<(), StoreError>
+        requires { Fits self.old.store (tells_of writer_tells reader_tells hosts.old) }
+        ensures fits { Fits self.new.store (tells_of writer_tells reader_tells hosts.new) }
+    {
+        let step = Step::Feed {
+            host: 0,
+            bytes: fed(),
+        };
+        for _ in 0..rounds {
+            done(&mut self.store, hosts, &step)?;
+            self.store.grant(hosts, 0, FEED)?;
+            self.store.drive_once(hosts)?;
+        }
+        Ok(())
+    }
+
+    /// How many bytes passed.
+    pub fn passed(&self) -> u128 {
+        self.store.moved(self.stream).unwrap_or(0)
+    }
+}

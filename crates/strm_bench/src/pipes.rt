@@ -1,0 +1,98 @@
+//! Times of pipes from a host writer to a host reader.
+
+ghost use Rattle.strm_buffers.specs.AllTells.{tells_of};
+ghost use Rattle.strm_world.specs.Does.{Fits};
+
+use crate::hosted::{BYTES, LISTED, list};
+use crate::piped::{Piping, ROUNDS};
+use crate::tell_time;
+use std::io;
+use std::time::Instant;
+use strm_buffers::hosts::Hosts;
+use strm_buffers::readers::HostReader;
+use strm_buffers::writers::HostWriter;
+use strm_codes::codes::TransmitKind;
+use strm_ends::credit_reader::CreditReader;
+use strm_ends::queue_writer::QueueWriter;
+use strm_host::erased::Erased;
+use strm_host::erased_readers::ErasedReader;
+use strm_host_tests::copying::Copying;
+
+fn tell_passed(rt: &HostRuntime, name: &str, piping: &Piping) -> io::Result<()> {
+    let passed = piping.passed();
+    println!(rt; "{name} {passed}")
+}
+
+/// A list of 64 MiB that a host writer gives, piped to a consumer.
+pub fn time_list(rt: &HostRuntime) -> io::Result<()> {
+    let alloc = rt.alloc();
+    let given = list(alloc, LISTED);
+    let bytes = Vec::with_capacity(alloc, LISTED as usize);
+    let (Ok(given), Ok(bytes)) = (given, bytes) else {
+        return eprintln!(rt; "no memory");
+    };
+    let writer = Box::new(alloc, Erased::stream(alloc, given));
+    let reader = Box::new(alloc, ErasedReader::stream(alloc, Copying { bytes }));
+    let (Ok(writer), Ok(reader)) = (writer, reader) else {
+        return eprintln!(rt; "no memory");
+    };
+    let mut writers: Vec<Box<dyn HostWriter>> = Vec::new(alloc);
+    let mut readers: Vec<Box<dyn HostReader>> = Vec::new(alloc);
+    let (Ok(()), Ok(())) = (writers.push(writer), readers.push(reader)) else {
+        return eprintln!(rt; "no memory");
+    };
+    let mut hosts = Hosts { writers, readers };
+    match Piping::new(alloc, &mut hosts) {
+        Ok(mut piping) => time_piped(rt, &mut piping, &mut hosts),
+        Err(error) => eprintln!(rt; "{error:?}"),
+    }
+}
+
+fn time_piped(rt: &HostRuntime, piping: &mut Piping, hosts: &mut Hosts) -> io::Result<()>
+    requires { Fits piping.old.store (tells_of writer_tells reader_tells hosts.old) }
+{
+    let start = Instant::now(rt)?;
+    match piping.drive(hosts) {
+        Ok(()) => {
+            let spent = start.elapsed(rt)?.as_nanos();
+            tell_passed(rt, "piped", piping)?;
+            tell_time(rt, "a pipe of 64 MiB", spent, "ns")
+        }
+        Err(error) => eprintln!(rt; "{error:?}"),
+    }
+}
+
+/// Rounds of a pipe, in each of which 64 bytes pass.
+pub fn time_rounds(rt: &HostRuntime) -> io::Result<()> {
+    let alloc = rt.alloc();
+    let queue = QueueWriter::new(alloc, TransmitKind::Stream, BYTES);
+    let credit = CreditReader::new(alloc, TransmitKind::Stream, BYTES);
+    let (Ok(writer), Ok(reader)) = (Box::new(alloc, queue), Box::new(alloc, credit)) else {
+        return eprintln!(rt; "no memory");
+    };
+    let mut writers: Vec<Box<dyn HostWriter>> = Vec::new(alloc);
+    let mut readers: Vec<Box<dyn HostReader>> = Vec::new(alloc);
+    let (Ok(()), Ok(())) = (writers.push(writer), readers.push(reader)) else {
+        return eprintln!(rt; "no memory");
+    };
+    let mut hosts = Hosts { writers, readers };
+    match Piping::new(alloc, &mut hosts) {
+        Ok(mut piping) => time_fed(rt, &mut piping, &mut hosts),
+        Err(error) => eprintln!(rt; "{error:?}"),
+    }
+}
+
+fn time_fed(rt: &HostRuntime, piping: &mut Piping, hosts: &mut Hosts) -> io::Result<()>
+    requires { Fits piping.old.store (tells_of writer_tells reader_tells hosts.old) }
+{
+    let start = Instant::now(rt)?;
+    match piping.feed_and_drive(hosts, ROUNDS) {
+        Ok(()) => {
+            let spent = start.elapsed(rt)?.as_nanos();
+            tell_passed(rt, "passed on", piping)?;
+            let round = spent / u128::from(ROUNDS);
+            tell_time(rt, "a round of a pipe of 64 bytes", round, "ns")
+        }
+        Err(error) => eprintln!(rt; "{error:?}"),
+    }
+}

@@ -1,0 +1,185 @@
+//! Steps in rows of 32 bytes, with the bytes that they have in a list of their own.
+//!
+//! Meaning: `ShortSteps.antt` of `strm_machine`. Ours.
+
+ghost use Rattle.std.specs.Prelude.{◌≡◌, ◌<◌, ◌+◌, ◌++◌, ◌∷◌, [], length, map, vec_len, vec_capacity, OnOk};
+ghost use Rattle.strm_machine.specs.ShortSteps.{chunk_at, whole_step, chunks_of_step, IsStepPlaced};
+
+use crate::one_by_one::{GivesSteps, TakesSteps};
+use std::alloc::Global;
+use std::marker::Model;
+use strm_codes::counts::OutOfMemory;
+use strm_machine::chunks::Chunk;
+use strm_machine::same_step;
+use strm_machine::short_steps::ShortStep;
+use strm_machine::steps::Step;
+
+// Keeps an item behind the others; its place.
+#[inline(always)]
+fn keep_item<T: Copy>(items: &mut Vec<T>, item: T) -> usize
+    requires { vec_len items.old < vec_capacity items.old }
+    ensures place { result ≡ length items.old.items }
+    ensures items { items.new.items ≡ items.old.items ++ item ∷ [] }
+    ensures len { vec_len items.new ≡ vec_len items.old + 1 }
+    ensures capacity { vec_capacity items.new ≡ vec_capacity items.old }
+{
+    let place = items.len();
+    items.push_reserved(item);
+    place
+}
+
+// The row of a step, with its chunk behind the others.
+#[inline(always)]
+fn keep_step(chunks: &mut Vec<Chunk>, step: Step) -> ShortStep
+    requires { vec_len chunks.old < vec_capacity chunks.old }
+    ensures items { chunks.new.items ≡ chunks.old.items ++ chunks_of_step step }
+    ensures whole { whole_step chunks.new.items result ≡ step }
+    ensures placed { IsStepPlaced (length chunks.new.items) result }
+{
+    same_step!(step, Step => ShortStep,
+        Step::Feed { host, bytes } => ShortStep::Feed { host, bytes: keep_item(chunks, bytes) },
+        Step::Poke { guest, address, bytes } => ShortStep::Poke { guest, address, bytes: keep_item(chunks, bytes) },
+    )
+}
+
+/// A list of steps, each of which takes 32 bytes, and 65 more where it has bytes.
+#[derive(Drop)]
+pub struct StepRows {
+    rows: Vec<ShortStep>,
+    chunks: Vec<Chunk>,
+}
+
+impl Model for StepRows {
+    ghost use Rattle.std.specs.Prelude.{◌-◌, All, length, map, min, vec_len, vec_capacity};
+    ghost use Rattle.strm_machine.specs.ShortSteps.{whole_step, IsStepPlaced};
+    ghost use Rattle.strm_lines.specs.Rows.{RowList};
+
+    ghost Value = { RowList };
+
+    ghost view = { λ s. record {
+      items = map (whole_step s.chunks.items) s.rows.items;
+      room = min (vec_capacity s.rows - vec_len s.rows) (vec_capacity s.chunks - vec_len s.chunks);
+    } };
+
+    ghost invariant = { λ s. All (IsStepPlaced (length s.chunks.items)) s.rows.items };
+}
+
+impl StepRows {
+    /// No steps; it takes no memory.
+    pub fn new(alloc: Global) -> StepRows
+        ensures { result.items ≡ [] }
+    {
+        StepRows {
+            rows: Vec::new(alloc),
+            chunks: Vec::new(alloc),
+        }
+    }
+
+    /// Its steps, to be given one by one.
+    pub fn left(&self) -> RowsLeft<'_>
+        ensures { result ≡ self.now.items }
+    {
+        RowsLeft {
+            rows: &self.rows,
+            chunks: &self.chunks,
+        }
+    }
+
+    // Makes room for a step where there is none.
+    #[inline(never)]
+    fn grow(&mut self) -> Result<(), OutOfMemory>
+        ensures same { self.new.items ≡ self.old.items }
+        ensures ok { OnOk result (0 < self.new.room) }
+    {
+        match (self.rows.reserve(1), self.chunks.reserve(1)) {
+            (Ok(()), Ok(())) => Ok(()),
+            _ => Err(OutOfMemory),
+        }
+    }
+}
+
+impl TakesSteps for StepRows {
+    ghost steps = { λ s. s.items };
+
+    ghost room = { λ s. s.room };
+
+    fn reserve(&mut self, additional: usize) -> Result<(), OutOfMemory> {
+        match self.rows.reserve(additional) {
+            Ok(()) => Ok(()),
+            Err(_) => Err(OutOfMemory),
+        }
+    }
+
+    #[inline(always)]
+    fn make_room(&mut self) -> Result<(), OutOfMemory> {
+        if self.rows.len() < self.rows.capacity() && self.chunks.len() < self.chunks.capacity() {
+            Ok(())
+        } else {
+            self.grow()
+        }
+    }
+
+    #[inline(always)]
+    fn take(&mut self, step: Step) {
+        let row = keep_step(&mut self.chunks, step);
+        let _place = keep_item(&mut self.rows, row);
+    }
+}
+
+/// The steps of rows that were not yet given, seen as their list.
+#[derive(Drop)]
+pub struct RowsLeft<'a> {
+    rows: &'a [ShortStep],
+    chunks: &'a [Chunk],
+}
+
+impl<'a> Model for RowsLeft<'a> {
+    ghost use Rattle.std.specs.Prelude.{List, map};
+    ghost use Rattle.strm_machine.specs.ShortSteps.{whole_step};
+    ghost use Rattle.strm_machine.specs.declared.steps.Step.{Step};
+
+    ghost Value = { List Step };
+
+    ghost view = { λ s. map (whole_step s.chunks.now) s.rows.now };
+}
+
+// The chunk at a place; where there is none, no bytes.
+#[inline(always)]
+fn find_chunk(chunks: &[Chunk], place: usize) -> Chunk
+    ensures { result ≡ chunk_at chunks.now place }
+{
+    if place < chunks.len() {
+        chunks[place]
+    } else {
+        Chunk::new(&[]).unwrap()
+    }
+}
+
+// The step of a row, with its chunk.
+#[inline(always)]
+fn step_of(chunks: &[Chunk], row: &ShortStep) -> Step
+    ensures { result ≡ whole_step chunks.now row.now }
+{
+    same_step!(*row, ShortStep => Step,
+        ShortStep::Feed { host, bytes } => Step::Feed { host, bytes: find_chunk(chunks, bytes) },
+        ShortStep::Poke { guest, address, bytes } => Step::Poke { guest, address, bytes: find_chunk(chunks, bytes) },
+    )
+}
+
+impl GivesSteps for RowsLeft<'_> {
+    ghost left = { λ s. s };
+
+    #[inline(always)]
+    fn len(&self) -> usize {
+        self.rows.len()
+    }
+
+    #[inline(always)]
+    fn next(&mut self) -> Step {
+        let Some((first, rest)) = self.rows.split_first() else {
+            unreachable!()
+        };
+        self.rows = rest;
+        step_of(self.chunks, first)
+    }
+}

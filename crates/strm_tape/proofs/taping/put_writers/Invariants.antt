@@ -1,0 +1,7 @@
+use Rattle.std.proofs.Common.{◌≡◌, ◌++◌, take}
+use Rattle.std.specs.List.{flat_map}
+use Rattle.strm_tape.specs.Spelling.{writer_bytes}
+use Rattle.strm_tape.proofs.taping.put_writers.Given as goal
+
+abbrev pub invariant-loop-k : goal.invariant-loop-k
+invariant-loop-k l = l.out.items ≡ l.fn.out.items ++ flat_map writer_bytes (take l.k l.writers)

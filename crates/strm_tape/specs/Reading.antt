@@ -1,0 +1,301 @@
+-- How the front of a tape is read, part by part: the inverse of `Spelling.antt`. Ours.
+use Rattle.std.specs.Prelude.{ℕ, zero, suc, ◌*◌, ◌==◌, ◌&&◌, nat_le, nat_lt, Bool, true, false, List, [], ◌∷◌, length, take, drop, slice_get, slice_index_or, if◌then◌else◌, Option, Some, None, option_and_then}
+use Rattle.std.specs.Option.{option_map}
+use Rattle.std.specs.Str.{bytes_eq}
+use Rattle.strm_codes.specs.Layout.{scalars_of, item_size}
+use Rattle.strm_codes.specs.Types.{payload_of}
+use Rattle.strm_codes.specs.declared.scalars.Scalar.{Scalar}
+use Rattle.strm_codes.specs.declared.scalars.Scalar.TheVariants.{Bool as Flag, S8, U8, S16, U16, S32, U32, S64, U64, Char}
+use Rattle.strm_codes.specs.declared.payloads.Payload.{Payload}
+use Rattle.strm_codes.specs.declared.payloads.Payload.TheVariants.{Nothing, One, Tuple}
+use Rattle.strm_codes.specs.declared.codes.TransmitIndex.{TransmitIndex}
+use Rattle.strm_codes.specs.declared.codes.TransmitIndex.TheVariants.{Stream, Future}
+use Rattle.strm_memory.specs.Bytes.{le}
+use Rattle.strm_memory.specs.Items.{items}
+use Rattle.strm_buffers.specs.declared.answers.Answer.{Answer}
+use Rattle.strm_buffers.specs.declared.answers.Answer.TheVariants.{Pending, Completed, Cancelled, Dropped, Failed}
+use Rattle.strm_buffers.specs.declared.answers.ReaderSaid.{ReaderSaid}
+use Rattle.strm_buffers.specs.Listing.{Item, TypedItems}
+use Rattle.strm_buffers.specs.Said.{WriterSaid}
+use Rattle.strm_machine.specs.declared.steps.Step.{Step}
+use Rattle.strm_machine.specs.declared.steps.Step.TheVariants.{Guest, New, Between, Write, Read, DropWrite, DropRead, CancelWrite, CancelRead, Move, Lift, Lower, Close, HostNew, Feed, Pipe, Grant, Drive, Event, SetNew, SetJoin, SetPoll, SetDrop, ErrNew, ErrText, ErrMove, ErrDrop, Poke, Dump}
+use Rattle.strm_tape.specs.Spelling.{region_bytes, head_bytes, WriterTape, ReaderTape, TapeOf}
+
+-- what was found at the front, and what follows it
+abbrev pub Found : Type 0 → Type 0
+Found A = Option (A × List ℕ)
+
+-- a reading, and then another
+infixl 10 ◌>>=◌
+abbrev pub ◌>>=◌ : {A B : Type 0} → Option A → (A → Option B) → Option B
+o >>= f = option_and_then f o
+
+-- one part, and behind it another, which may rest on the first
+abbrev pub followed_by_its : {A B : Type 0} → (List ℕ → Found A) → (A → List ℕ → Found B) → List ℕ → Found (A × B)
+followed_by_its first second bytes = do
+  p ← first bytes
+  q ← second p.0 p.1
+  Some ((p.0, q.0), q.1)
+
+-- one part, and behind it another
+abbrev pub followed_by : {A B : Type 0} → (List ℕ → Found A) → (List ℕ → Found B) → List ℕ → Found (A × B)
+followed_by first second = followed_by_its first (λ x. second)
+
+-- a part, seen as something else
+abbrev pub made : {A B : Type 0} → (A → B) → (List ℕ → Found A) → List ℕ → Found B
+made make read bytes = option_map (λ p. (make p.0, p.1)) (read bytes)
+
+-- nothing
+abbrev pub nothing : List ℕ → Found (Unit {0})
+nothing bytes = Some (tt, bytes)
+
+-- a byte
+abbrev pub byte : List ℕ → Found ℕ
+byte [] = None
+byte (b ∷ bytes) = Some (b, bytes)
+
+-- a number of four bytes
+unfoldable pub number : List ℕ → Found ℕ
+number bytes = if nat_le 4 (length bytes) then Some (le (take 4 bytes), drop 4 bytes) else None
+
+-- a number from low to high
+unfoldable pub within : ℕ → ℕ → List ℕ → Found ℕ
+within low high bytes = do
+  p ← number bytes
+  if nat_le low p.0 && nat_le p.0 high then Some p else None
+
+-- all scalars, by their places
+abbrev pub scalars : List Scalar
+scalars = Flag ∷ S8 ∷ U8 ∷ S16 ∷ U16 ∷ S32 ∷ U32 ∷ S64 ∷ U64 ∷ Char ∷ []
+
+-- a scalar
+unfoldable pub scalar : List ℕ → Found Scalar
+scalar bytes = do
+  p ← byte bytes
+  s ← slice_get scalars p.0
+  Some (s, p.1)
+
+-- so many scalars
+unfoldable pub fields : ℕ → List ℕ → Found (List Scalar)
+fields zero bytes = Some ([], bytes)
+fields (suc n) bytes = made (λ p. p.0 ∷ p.1) (followed_by scalar (fields n)) bytes
+
+-- one to eight scalars behind their number
+unfoldable pub shape : List ℕ → Found (List Scalar)
+shape bytes = do
+  p ← byte bytes
+  if nat_le 1 p.0 && nat_le p.0 8 then fields p.0 p.1 else None
+
+-- a payload, by its form
+abbrev pub payload_by : ℕ → List ℕ → Found Payload
+payload_by form bytes =
+    if form == 0 then Some (Nothing, bytes)
+    else (if form == 1 then made One scalar bytes
+    else (if form == 2 then made Tuple shape bytes else None))
+
+-- a payload
+unfoldable pub payload : List ℕ → Found Payload
+payload bytes = do
+  p ← byte bytes
+  payload_by p.0 p.1
+
+-- a type, by its kind
+abbrev pub type_by : ℕ → List ℕ → Found TransmitIndex
+type_by kind bytes =
+    if kind == 0 then made Stream payload bytes
+    else (if kind == 1 then made Future payload bytes else None)
+
+-- a type
+unfoldable pub transmit_type : List ℕ → Found TransmitIndex
+transmit_type bytes = do
+  p ← byte bytes
+  type_by p.0 p.1
+
+-- the count of a read or write of this type
+unfoldable pub count_of : TransmitIndex → List ℕ → Found ℕ
+count_of (Stream payload) bytes = number bytes
+count_of (Future payload) bytes = within 1 1 bytes
+
+-- so many bytes, which are to be low to 64
+abbrev pub chunk_of : ℕ → ℕ → List ℕ → Found (List ℕ)
+chunk_of low n bytes =
+    if nat_le low n && nat_le n 64 && nat_le n (length bytes)
+    then Some (take n bytes, drop n bytes) else None
+
+-- low to 64 bytes behind their number
+unfoldable pub chunk : ℕ → List ℕ → Found (List ℕ)
+chunk low bytes = do
+  p ← byte bytes
+  chunk_of low p.0 p.1
+
+-- two numbers
+abbrev pub two : List ℕ → Found (ℕ × ℕ)
+two = followed_by number number
+
+-- three numbers
+abbrev pub three : List ℕ → Found (ℕ × (ℕ × ℕ))
+three = followed_by number two
+
+-- an end: guest, type and handle
+abbrev pub named_end : List ℕ → Found (ℕ × (TransmitIndex × ℕ))
+named_end = followed_by number (followed_by transmit_type number)
+
+-- what is read of a read or write: an end, an address and a count
+abbrev pub operands : List ℕ → Found (ℕ × (TransmitIndex × (ℕ × (ℕ × ℕ))))
+operands = followed_by number (followed_by_its transmit_type (λ ty. followed_by number (followed_by number (count_of ty))))
+
+-- how the arguments of each command are read, by the places of the commands
+abbrev pub readers : List (List ℕ → Found Step)
+readers =
+    made Guest number
+    ∷ made (λ v. New v.0 v.1) (followed_by number transmit_type)
+    ∷ made (λ v. Between v.0 v.1.0 v.1.1) (followed_by number (followed_by number transmit_type))
+    ∷ made (λ v. Write v.0 v.1.0 v.1.1.0 v.1.1.1.0 v.1.1.1.1) operands
+    ∷ made (λ v. Read v.0 v.1.0 v.1.1.0 v.1.1.1.0 v.1.1.1.1) operands
+    ∷ made (λ v. CancelWrite v.0 v.1.0 v.1.1) named_end
+    ∷ made (λ v. CancelRead v.0 v.1.0 v.1.1) named_end
+    ∷ made (λ v. DropWrite v.0 v.1.0 v.1.1) named_end
+    ∷ made (λ v. DropRead v.0 v.1.0 v.1.1) named_end
+    ∷ made (λ v. Event v.0 v.1) two
+    ∷ made (λ v. Move v.0 v.1.0 v.1.1.0 v.1.1.1) (followed_by number (followed_by transmit_type two))
+    ∷ made (λ v. Lift v.0 v.1.0 v.1.1) named_end
+    ∷ made (λ v. Lower v.0 v.1.0 v.1.1) (followed_by number (followed_by number transmit_type))
+    ∷ made (λ v. Pipe v.0 v.1) two
+    ∷ made Close number
+    ∷ made HostNew number
+    ∷ made (λ v. Drive) nothing
+    ∷ made (λ v. Feed v.0 v.1) (followed_by number (chunk 0))
+    ∷ made (λ v. Grant v.0 v.1) two
+    ∷ made SetNew number
+    ∷ made (λ v. SetJoin v.0 v.1.0 v.1.1) three
+    ∷ made (λ v. SetPoll v.0 v.1) two
+    ∷ made (λ v. SetDrop v.0 v.1) two
+    ∷ made (λ v. ErrNew v.0 v.1.0 v.1.1) three
+    ∷ made (λ v. ErrText v.0 v.1.0 v.1.1) three
+    ∷ made (λ v. ErrMove v.0 v.1.0 v.1.1) three
+    ∷ made (λ v. ErrDrop v.0 v.1) two
+    ∷ made (λ v. Poke v.0 v.1.0 v.1.1) (followed_by number (followed_by number (chunk 1)))
+    ∷ made (λ v. Dump v.0 v.1.0 v.1.1) (followed_by number (followed_by number (within 1 64)))
+    ∷ []
+
+-- no step
+abbrev pub none : List ℕ → Found Step
+none bytes = None
+
+-- the step whose command has this place
+unfoldable pub step_by : ℕ → List ℕ → Found Step
+step_by zero bytes = None
+step_by (suc n) bytes = slice_index_or readers n none bytes
+
+-- a step
+unfoldable pub step : List ℕ → Found Step
+step bytes = do
+  p ← byte bytes
+  step_by p.0 p.1
+
+-- RECORDS
+
+-- yes or no
+unfoldable pub flag : List ℕ → Found Bool
+flag bytes = do
+  p ← byte bytes
+  b ← slice_get (false ∷ true ∷ []) p.0
+  Some (b, p.1)
+
+-- all answers, by their places
+abbrev pub answers : List Answer
+answers = Pending ∷ Completed ∷ Cancelled ∷ Dropped ∷ Failed ∷ []
+
+-- an answer
+unfoldable pub answer : List ℕ → Found Answer
+answer bytes = do
+  p ← byte bytes
+  a ← slice_get answers p.0
+  Some (a, p.1)
+
+-- the room that a number is
+abbrev pub room_of : ℕ → Option (Option ℕ)
+room_of n = if n == 4294967295 then Some None else (if nat_lt n 268435456 then Some (Some n) else None)
+
+-- a room
+unfoldable pub room : List ℕ → Found (Option ℕ)
+room bytes = do
+  p ← number bytes
+  r ← room_of p.0
+  Some (r, p.1)
+
+-- items that lie in bytes as they are written over zeros
+abbrev pub items_as_written : List Scalar → List ℕ → ℕ → Option (List Item)
+items_as_written ss bytes n = do
+  xs ← items ss bytes n
+  if bytes_eq (region_bytes ss xs) bytes then Some xs else None
+
+-- so many items
+unfoldable pub region : List Scalar → ℕ → List ℕ → Found (List Item)
+region ss n bytes =
+    if nat_le (item_size ss * n) (length bytes)
+    then option_map (λ xs. (xs, drop (item_size ss * n) bytes)) (items_as_written ss (take (item_size ss * n) bytes) n)
+    else None
+
+-- items behind their number
+unfoldable pub items_of : List Scalar → List ℕ → Found (List Item)
+items_of ss bytes = do
+  p ← number bytes
+  if nat_lt p.0 4294967295 then region ss p.0 p.1 else None
+
+-- items of a payload
+abbrev pub typed : Payload → List Item → TypedItems
+typed payload xs = record { payload = payload; items = xs }
+
+-- a record of a host writer of this payload
+abbrev pub writer_record : Payload → List ℕ → Found WriterSaid
+writer_record payload =
+    made
+    (λ v. record { room = v.0; finish = v.1.0; payload = payload; items = v.1.1.0; answer = v.1.1.1 })
+    (followed_by room (followed_by flag (followed_by (items_of (scalars_of payload)) answer)))
+
+-- a record of a host reader
+abbrev pub reader_record : List ℕ → Found ReaderSaid
+reader_record =
+    made
+    (λ v. record { offered = v.0; since = v.1.0; finish = v.1.1.0; taken = v.1.1.1.0; bad = v.1.1.1.1.0; answer = v.1.1.1.1.1 })
+    (followed_by_its number (λ offered. followed_by number (followed_by flag (followed_by (within 0 offered) (followed_by flag answer)))))
+
+-- so many things
+unfoldable pub many : {A : Type 0} → (List ℕ → Found A) → ℕ → List ℕ → Found (List A)
+many read zero bytes = Some ([], bytes)
+many read (suc n) bytes = made (λ p. p.0 ∷ p.1) (followed_by read (many read n)) bytes
+
+-- things behind their number
+unfoldable pub listed : {A : Type 0} → (List ℕ → Found A) → List ℕ → Found (List A)
+listed read bytes = do
+  p ← number bytes
+  many read p.0 p.1
+
+-- at most 64 things behind one byte
+unfoldable pub few_listed : {A : Type 0} → (List ℕ → Found A) → List ℕ → Found (List A)
+few_listed read bytes = do
+  p ← byte bytes
+  if nat_le p.0 64 then many read p.0 p.1 else None
+
+-- TAPES
+
+-- a host writer
+abbrev pub writer : List ℕ → Found WriterTape
+writer =
+    made (λ v. record { ty = v.0; said = v.1 })
+    (followed_by_its transmit_type (λ ty. listed (writer_record (payload_of ty))))
+
+-- a host reader
+abbrev pub reader : List ℕ → Found ReaderTape
+reader = made (λ v. record { ty = v.0; said = v.1 }) (followed_by transmit_type (listed reader_record))
+
+-- what a tape begins with
+unfoldable pub head : List ℕ → Found (Unit {0})
+head bytes = if bytes_eq (take 5 bytes) head_bytes then Some (tt, drop 5 bytes) else None
+
+-- a tape, and what follows it
+abbrev pub tape : List ℕ → Found TapeOf
+tape =
+    made (λ v. record { steps = v.1.0; writers = v.1.1.0; readers = v.1.1.1 })
+    (followed_by head (followed_by (listed step) (followed_by (few_listed writer) (few_listed reader))))

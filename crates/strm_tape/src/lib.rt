@@ -1,0 +1,14 @@
+//! Tapes: the steps of a run and the records of its host ends as bytes, each in one way. `untape` reads
+//! them, `tape_bytes` writes them.
+#![tactic(auto)]
+
+pub mod laws;
+mod lists;
+mod parts;
+mod records;
+mod shapes;
+mod steps;
+pub mod tape;
+pub mod taping;
+pub mod untaping;
+mod writing;

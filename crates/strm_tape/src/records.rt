@@ -1,0 +1,241 @@
+//! The records of a tape, each read from the front of its bytes exactly as it is spelled. None where
+//! none is; after `OutOfMemory` nothing was kept.
+//!
+//! Source: ours.
+
+ghost use Rattle.std.specs.Prelude.{◌≡◌, ◌<◌, ◌*◌, ◌++◌, ◌∷◌, [], Bool, true, false, length, replicate, slice_get, if◌then◌else◌, Some, None, IsTrue, IfOk};
+ghost use Rattle.std.specs.Option.{option_map};
+ghost use Rattle.strm_codes.specs.Layout.{scalars_of, item_size};
+ghost use Rattle.strm_buffers.specs.Listing.{items_in, AreKept};
+ghost use Rattle.strm_tape.specs.Reading.{made, flag, answers, answer, room_of, room, items_as_written, region, items_of, writer_record, reader_record, typed};
+
+use crate::parts::{are_bytes, byte, number, within};
+use crate::writing::put_zeros;
+use std::alloc::Global;
+use strm_buffers::answers::{Answer, ReaderSaid};
+use strm_buffers::items::Items;
+use strm_buffers::said::WriterSaid;
+use strm_codes::counts::OutOfMemory;
+use strm_codes::payloads::Payload;
+use strm_memory::copies::copy_region;
+
+// Yes or no, and what follows it.
+#[tactic(auto, unfolding(crate::specs::Reading::flag))]
+fn flag(bytes: &[u8]) -> Option<(bool, &[u8])>
+    ensures { option_map (λ p. (p.0, p.1.now)) result ≡ flag bytes.now }
+{
+    let (found, rest) = byte(bytes)?;
+    let flag = flag_at(found)?;
+    Some((flag, rest))
+}
+
+// That of a place.
+fn flag_at(place: u8) -> Option<bool>
+    ensures { result ≡ slice_get (false ∷ true ∷ []) place }
+{
+    [false, true].get(usize::from(place)).copied()
+}
+
+// The answer of a place.
+fn answer_at(place: u8) -> Option<Answer>
+    ensures { result ≡ slice_get answers place }
+{
+    let all = [
+        Answer::Pending,
+        Answer::Completed,
+        Answer::Cancelled,
+        Answer::Dropped,
+        Answer::Failed,
+    ];
+    all.get(usize::from(place)).copied()
+}
+
+// An answer, and what follows it.
+#[tactic(auto, unfolding(crate::specs::Reading::answer))]
+fn answer(bytes: &[u8]) -> Option<(Answer, &[u8])>
+    ensures { option_map (λ p. (p.0, p.1.now)) result ≡ answer bytes.now }
+{
+    let (place, rest) = byte(bytes)?;
+    let answer = answer_at(place)?;
+    Some((answer, rest))
+}
+
+// The room that a number is.
+fn room_of(number: u32) -> Option<Option<u32>>
+    ensures { result ≡ room_of number }
+{
+    if number == 4_294_967_295 {
+        Some(None)
+    } else if number < 268_435_456 {
+        Some(Some(number))
+    } else {
+        None
+    }
+}
+
+// A room, and what follows it.
+#[tactic(auto, unfolding(crate::specs::Reading::room))]
+fn room(bytes: &[u8]) -> Option<(Option<u32>, &[u8])>
+    ensures { option_map (λ p. (p.0, p.1.now)) result ≡ room bytes.now }
+{
+    let (found, rest) = number(bytes)?;
+    let room = room_of(found)?;
+    Some((room, rest))
+}
+
+// Writes so many items of these bytes over zeros: whether there are so many, and lie so in the bytes.
+fn write_again(bytes: &[u8], payload: Payload, count: u32, written: &mut Vec<u8>) -> bool
+    requires all { length bytes.now ≡ item_size (scalars_of payload) * count }
+    requires zeros { written.old.items ≡ replicate (length bytes.now) 0 }
+    requires few { count < 4294967295 }
+    ensures kept { IsTrue result → AreKept payload written.new.items 0 count }
+    ensures exact { items_as_written (scalars_of payload) bytes.now count
+        ≡ (if result then Some (items_in (scalars_of payload) written.new.items 0 count) else None) }
+{
+    are_bytes(bytes);
+    match copy_region(bytes, 0, written.as_mut_slice(), 0, payload, count as usize) {
+        Ok(()) => written.as_slice() == bytes,
+        Err(_) => false,
+    }
+}
+
+// The same over new zeros.
+fn fill(
+    bytes: &[u8],
+    payload: Payload,
+    count: u32,
+    written: &mut Vec<u8>,
+) -> Result<bool, OutOfMemory>
+    requires all { length bytes.now ≡ item_size (scalars_of payload) * count }
+    requires empty { written.old.items ≡ [] }
+    requires few { count < 4294967295 }
+    ensures kept { IfOk result (λ same. IsTrue same → AreKept payload written.new.items 0 count) }
+    ensures exact { IfOk result (λ same. items_as_written (scalars_of payload) bytes.now count
+        ≡ (if same then Some (items_in (scalars_of payload) written.new.items 0 count) else None)) }
+{
+    match put_zeros(written, bytes.len()) {
+        Ok(()) => Ok(write_again(bytes, payload, count, written)),
+        Err(error) => Err(error),
+    }
+}
+
+// The items that these bytes are, where they lie in them as they are written over zeros.
+fn items_of_bytes(
+    alloc: Global,
+    payload: &Payload,
+    count: u32,
+    bytes: &[u8],
+) -> Result<Option<Items>, OutOfMemory>
+    requires all { length bytes.now ≡ item_size (scalars_of payload.now) * count }
+    requires few { count < 4294967295 }
+    ensures { IfOk result (λ found. found
+        ≡ option_map (typed payload.now) (items_as_written (scalars_of payload.now) bytes.now count)) }
+{
+    let mut written = Vec::new(alloc);
+    match fill(bytes, *payload, count, &mut written) {
+        Ok(true) => Ok(Some(Items::of_bytes(*payload, written, count as usize))),
+        Ok(false) => Ok(None),
+        Err(error) => Err(error),
+    }
+}
+
+// So many items, and what follows them.
+#[tactic(auto, unfolding(crate::specs::Reading::region))]
+fn region(
+    alloc: Global,
+    payload: Payload,
+    count: u32,
+    bytes: &[u8],
+) -> Result<Option<(Items, &[u8])>, OutOfMemory>
+    requires few { count < 4294967295 }
+    ensures { IfOk result (λ found. option_map (λ p. (p.0, p.1.now)) found
+        ≡ made (typed payload) (region (scalars_of payload) count) bytes.now) }
+{
+    let size = payload.size() as usize * count as usize;
+    if bytes.len() < size {
+        return Ok(None);
+    }
+    let (front, rest) = bytes.split_at(size);
+    match items_of_bytes(alloc, &payload, count, front) {
+        Ok(Some(items)) => Ok(Some((items, rest))),
+        Ok(None) => Ok(None),
+        Err(error) => Err(error),
+    }
+}
+
+// Items behind their number, and what follows them.
+#[tactic(auto, unfolding(crate::specs::Reading::items_of))]
+fn items_of(
+    alloc: Global,
+    payload: Payload,
+    bytes: &[u8],
+) -> Result<Option<(Items, &[u8])>, OutOfMemory>
+    ensures { IfOk result (λ found. option_map (λ p. (p.0, p.1.now)) found
+        ≡ made (typed payload) (items_of (scalars_of payload)) bytes.now) }
+{
+    let Some((count, rest)) = number(bytes) else {
+        return Ok(None);
+    };
+    if count < 4_294_967_295 {
+        region(alloc, payload, count, rest)
+    } else {
+        Ok(None)
+    }
+}
+
+// A record of a host writer of this payload, and what follows it.
+pub(crate) fn writer_record(
+    alloc: Global,
+    payload: Payload,
+    bytes: &[u8],
+) -> Result<Option<(WriterSaid, &[u8])>, OutOfMemory>
+    ensures { IfOk result (λ found. option_map (λ p. (p.0, p.1.now)) found
+        ≡ writer_record payload bytes.now) }
+{
+    let Some((room, rest)) = room(bytes) else {
+        return Ok(None);
+    };
+    let Some((finish, rest)) = flag(rest) else {
+        return Ok(None);
+    };
+    let (items, rest) = match items_of(alloc, payload, rest) {
+        Ok(Some(found)) => found,
+        Ok(None) => return Ok(None),
+        Err(error) => return Err(error),
+    };
+    let Some((answer, rest)) = answer(rest) else {
+        return Ok(None);
+    };
+    Ok(Some((
+        WriterSaid {
+            room,
+            finish,
+            items,
+            answer,
+        },
+        rest,
+    )))
+}
+
+// A record of a host reader, and what follows it.
+pub(crate) fn reader_record(bytes: &[u8]) -> Option<(ReaderSaid, &[u8])>
+    ensures { option_map (λ p. (p.0, p.1.now)) result ≡ reader_record bytes.now }
+{
+    let (offered, rest) = number(bytes)?;
+    let (since, rest) = number(rest)?;
+    let (finish, rest) = flag(rest)?;
+    let (taken, rest) = within(0, offered, rest)?;
+    let (bad, rest) = flag(rest)?;
+    let (answer, rest) = answer(rest)?;
+    Some((
+        ReaderSaid {
+            offered,
+            since,
+            finish,
+            taken,
+            bad,
+            answer,
+        },
+        rest,
+    ))
+}

@@ -1,0 +1,100 @@
+//! The tape that bytes spell.
+//!
+//! Source: ours.
+
+ghost use Rattle.std.specs.Prelude.{◌≡◌, ◌≢◌, List, ℕ, IfOk, IsErrOf};
+ghost use Rattle.std.specs.Option.{option_map};
+ghost use Rattle.strm_tape.specs.Spelling.{tape_spelling, TapeOf, IsTape};
+ghost use Rattle.strm_tape.specs.Reading.{head, tape};
+
+use crate::lists::{few_readers, few_writers, listed_steps};
+use crate::parts::are_bytes;
+use crate::tape::Tape;
+use std::alloc::Global;
+use strm_codes::counts::OutOfMemory;
+use thiserror::Error;
+
+/// Why bytes were not made a tape.
+#[derive(Clone, Copy, Debug, PartialEq, Eq, Error)]
+pub enum TapeError {
+    /// They are no tape's spelling.
+    #[error("not a tape")]
+    NotATape,
+    /// An allocation was refused. Nothing was kept.
+    #[error("out of memory")]
+    OutOfMemory,
+}
+
+// What follows that with which a tape begins.
+#[tactic(auto, unfolding(crate::specs::Reading::head))]
+fn head(bytes: &[u8]) -> Option<&[u8]>
+    ensures { option_map (λ rest. rest.now) result ≡ option_map (λ p. p.1) (head bytes.now) }
+{
+    if bytes.len() < 5 {
+        return None;
+    }
+    let (front, rest) = bytes.split_at(5);
+    if front == b"STRT\x01".as_slice() {
+        Some(rest)
+    } else {
+        None
+    }
+}
+
+// A tape, and what follows it.
+fn tape(alloc: Global, bytes: &[u8]) -> Result<Option<(Tape, &[u8])>, OutOfMemory>
+    ensures { IfOk result (λ found. option_map (λ p. (p.0, p.1.now)) found ≡ tape bytes.now) }
+{
+    are_bytes(bytes);
+    let Some(rest) = head(bytes) else {
+        return Ok(None);
+    };
+    let (steps, rest) = match listed_steps(alloc, rest) {
+        Ok(Some(found)) => found,
+        Ok(None) => return Ok(None),
+        Err(error) => return Err(error),
+    };
+    let (writers, rest) = match few_writers(alloc, rest) {
+        Ok(Some(found)) => found,
+        Ok(None) => return Ok(None),
+        Err(error) => return Err(error),
+    };
+    let (readers, rest) = match few_readers(alloc, rest) {
+        Ok(Some(found)) => found,
+        Ok(None) => return Ok(None),
+        Err(error) => return Err(error),
+    };
+    Ok(Some((
+        Tape {
+            steps,
+            writers,
+            readers,
+        },
+        rest,
+    )))
+}
+
+/// The tape that these bytes spell, read in one pass. What is no tape is told as `NotATape`, whatever is
+/// wrong with it: another version, a record that is cut off, a byte behind the end, an item that is none,
+/// padding that is not 0.
+pub fn untape(alloc: Global, bytes: &[u8]) -> Result<Tape, TapeError>
+    ensures ok { IfOk result (λ found. tape_spelling found ≡ bytes.now) }
+
+    // What was written of a tape is read as that tape.
+    ensures again { (t : TapeOf) → IsTape t → tape_spelling t ≡ bytes.now → IfOk result (λ found. found ≡ t) }
+    ensures not_a_tape { IsErrOf result TapeError.NotATape → (t : TapeOf) → IsTape t →
+        tape_spelling t ≢ bytes.now }
+{
+    are_bytes(bytes);
+    match tape(alloc, bytes) {
+        Ok(Some((tape, rest))) => {
+            if rest.is_empty() {
+                Ok(tape)
+            } else {
+                Err(TapeError::NotATape)
+            }
+        }
+        Ok(None) => Err(TapeError::NotATape),
+        Err(_) => Err(TapeError::OutOfMemory),
+    }
+}
