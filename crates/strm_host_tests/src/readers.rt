@@ -155,6 +155,17 @@ fn gives_back(
     is(rt, StreamReader::try_into(reader, store), wanted);
 }
 
+// It gives nothing back, and can't be closed.
+fn is_used_up(
+    rt: &impl Abort,
+    reader: &mut StreamReader<u8>,
+    store: &mut Store,
+    hosts: &mut Hosts,
+) {
+    gives_back(rt, reader, store, Err(ReaderError::AlreadyClosed));
+    closes(rt, reader, store, hosts, Err(ReaderError::AlreadyClosed));
+}
+
 // The writer that was given back is used outside its list, which the store needs no more.
 fn is_had_again(rt: &impl Abort, alloc: Global, store: &Store, hosts: &mut Hosts) {
     match hosts.writers.pop() {
@@ -174,9 +185,7 @@ fn a_host_writer_is_given_back(rt: HostRuntime) {
     let mut store = store_of(&rt, alloc, 0);
     let mut reader = reader_of(&rt, &mut store, &hosts);
     gives_back(&rt, &mut reader, &mut store, Ok(Some(0)));
-    let closed = ReaderError::AlreadyClosed;
-    gives_back(&rt, &mut reader, &mut store, Err(closed));
-    closes(&rt, &mut reader, &mut store, &mut hosts, Err(closed));
+    is_used_up(&rt, &mut reader, &mut store, &mut hosts);
     is(&rt, store.transmit_index(0), None);
     is_had_again(&rt, alloc, &store, &mut hosts);
 }
