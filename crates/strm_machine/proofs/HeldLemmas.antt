@@ -36,7 +36,7 @@ StateIsHeld state = IsHeld state.guests state.streams
 -- ## What a change of guests and streams keeps
 
 -- handles and owners are as they were
-IsHeld-same : (guests others : List Guest) (streams more : List Stream) → ((g : ℕ) → (guest_in others g).handles ≡ (guest_in guests g).handles) → ((s : ℕ) (side : Side) → owner_in more s side ≡ owner_in streams s side) → IsHeld guests streams → IsHeld others more
+pub IsHeld-same : (guests others : List Guest) (streams more : List Stream) → ((g : ℕ) → (guest_in others g).handles ≡ (guest_in guests g).handles) → ((s : ℕ) (side : Side) → owner_in more s side ≡ owner_in streams s side) → IsHeld guests streams → IsHeld others more
 IsHeld-same guests others streams more e f h = record {
   tables = λ g. subst (λ k. IsTable k) (sym (e g)) (h.tables g);
   agree = Agree-same (names_in guests) (names_in others) (owner_in streams) (owner_in more) h.agree (λ g handle s side. ap (λ k. is_end s side (end_rep_of k handle)) (e g)) f;
@@ -75,7 +75,7 @@ module _ (guests : List Guest) (streams more : List Stream) (g : ℕ) where
 
   module _ (s : ℕ) (side : Side) (l : g < length guests) (rest : OthersStay streams more s side) (h : IsHeld guests streams) where
     -- a handle is inserted, and an end that no guest had is held under it
-    IsHeld-inserted : (e : Entry) → next_index table < handle_limit → is_end s side (end_rep_in (Some e)) ≡ true → is_held (owner_in streams s side) ≡ false → owner_in more s side ≡ Held g (next_index table) → IsHeld (with_handles guests g (inserted table e)) more
+    pub IsHeld-inserted : (e : Entry) → next_index table < handle_limit → is_end s side (end_rep_in (Some e)) ≡ true → is_held (owner_in streams s side) ≡ false → owner_in more s side ≡ Held g (next_index table) → IsHeld (with_handles guests g (inserted table e)) more
     IsHeld-inserted e small is unheld owned =
         let old = (guest_in guests g).handles in
         let n = next_index old in
@@ -92,7 +92,7 @@ module _ (guests : List Guest) (streams more : List Stream) (g : ℕ) where
         }
 
     -- a handle is removed, and no guest has the end that it named
-    IsHeld-removed : (handle : ℕ) (sets : Sets) → is_end s side (names_in guests g handle) ≡ true → is_held (owner_in more s side) ≡ false → IsHeld (with_table guests g (removed table handle) sets) more
+    pub IsHeld-removed : (handle : ℕ) (sets : Sets) → is_end s side (names_in guests g handle) ≡ true → is_held (owner_in more s side) ≡ false → IsHeld (with_table guests g (removed table handle) sets) more
     IsHeld-removed handle sets is unheld =
         let old = (guest_in guests g).handles in
         let new = removed old handle in
@@ -169,7 +169,7 @@ module _ (streams : List Stream) (s : ℕ) (side : Side) (made : s < length stre
   owned_here : (owner : Owner) → owner_in (owned owner) s side ≡ owner
   owned_here owner = owner-set_here streams s side (record (end_of side (get_or streams s no_stream)) { owner = owner }) made
 
-  owned_beside : (owner : Owner) → OthersStay streams (owned owner) s side
+  pub owned_beside : (owner : Owner) → OthersStay streams (owned owner) s side
   owned_beside owner k other = owner-set_beside streams s side (record (end_of side (get_or streams s no_stream)) { owner = owner }) k other
 
   -- a handle is freed, or none is
@@ -225,7 +225,7 @@ owner-made : (streams : List Stream) (x : Stream) (side : Side) → owner_in (st
 owner-made streams x side = ap (λ st. (end_of side st).owner) (get_or_push streams x no_stream (length streams) refl)
 
 -- the read end's handle is inserted first, and its stream's write end is gone until the other is
-between_held : (state : State) (writer reader : ℕ) (ty : TransmitIndex) → PairFits state writer reader ty → StateIsHeld state → StateIsHeld (with_stream state writer reader ty)
+pub between_held : (state : State) (writer reader : ℕ) (ty : TransmitIndex) → PairFits state writer reader ty → StateIsHeld state → StateIsHeld (with_stream state writer reader ty)
 unfolding with_stream
 between_held state writer reader ty fits h =
     let streams = state.streams in
@@ -256,7 +256,7 @@ between_held state writer reader ty fits h =
 guests_held : (state : State) (guests : List Guest) → ((g : ℕ) → (guest_in guests g).handles ≡ (guest_in state.guests g).handles) → StateIsHeld state → IsHeld guests state.streams
 guests_held state guests e h = IsHeld-same state.guests guests state.streams state.streams e (λ s side. refl) h
 
-shape-held : (state : State) (act : Act) (r : Reaction) → StateIsHeld state → Shape state act r → StateIsHeld r.state
+pub shape-held : (state : State) (act : Act) (r : Reaction) → StateIsHeld state → Shape state act r → StateIsHeld r.state
 shape-held state act r h (ByTurn side end address count a e o) =
     let t = turn_on state side end address count in
     rw e (turn_held state (stream_named (named state end)) t t.code (operate-keeps state side end address count o) h)

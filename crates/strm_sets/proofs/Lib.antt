@@ -1,3 +1,4 @@
 pub mod HomeLemmas
 pub mod TieLemmas
 pub mod SetLemmas
+pub mod ReadyLemmas

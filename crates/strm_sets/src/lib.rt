@@ -5,5 +5,6 @@
 #![tactic(auto)]
 
 pub mod laws;
+pub mod ready;
 pub mod sets;
 mod slots;
