@@ -4,7 +4,7 @@
 //! `canon stream.cancel-{read,write}`; wasmtime, `futures_and_streams.rs`, `TransmitState`, the
 //! events of `guest_read` and `guest_write`, and `guest_cancel_read` and `guest_cancel_write`.
 
-ghost use Rattle.std.specs.Prelude.{◌≡◌};
+ghost use Rattle.std.specs.Prelude.{◌≡◌, true};
 ghost use Rattle.std.specs.Option.{option_map};
 ghost use Rattle.strm_events.specs.Reports.{outcome_code, report_of, left_pending, told_after, cancelled_code};
 
@@ -38,6 +38,26 @@ fn outcome(kind: TransmitKind, pending: &Pending) -> ReturnCode
     }
 }
 
+// What an end whose other end is gone is to be told, if anything.
+#[inline(always)]
+fn last_report(
+    kind: TransmitKind,
+    pending: Option<&Pending>,
+    told: bool,
+    passed: bool,
+) -> Option<ReturnCode>
+    ensures { result ≡ report_of kind (option_map (λ p. p.now) pending.entry) true told passed }
+{
+    let dropped = ReturnCode::Dropped(ItemCount::ZERO);
+    match (pending, kind) {
+        (Some(pending), TransmitKind::Stream) => Some(ReturnCode::Dropped(pending.moved)),
+        (Some(pending), TransmitKind::Future) if pending.met => Some(outcome(kind, pending)),
+        (Some(_), TransmitKind::Future) if !passed => Some(dropped),
+        (None, _) if !told && !passed => Some(dropped),
+        _ => None,
+    }
+}
+
 /// What an end is to be told, if anything: of its operation if it has one, whose other end is gone
 /// or not, where a future's value has passed or not. An idle end is told once that the other end is
 /// gone.
@@ -51,14 +71,11 @@ pub fn report(
 ) -> Option<ReturnCode>
     ensures { result ≡ report_of kind (option_map (λ p. p.now) pending.entry) other_gone told passed }
 {
-    let dropped = ReturnCode::Dropped(ItemCount::ZERO);
-    match (pending, kind) {
-        (Some(pending), TransmitKind::Stream) if other_gone => {
-            Some(ReturnCode::Dropped(pending.moved))
-        }
-        (Some(pending), _) if pending.met => Some(outcome(kind, pending)),
-        (Some(_), TransmitKind::Future) if other_gone && !passed => Some(dropped),
-        (None, _) if other_gone && !told && !passed => Some(dropped),
+    if other_gone {
+        return last_report(kind, pending, told, passed);
+    }
+    match pending {
+        Some(pending) if pending.met => Some(outcome(kind, pending)),
         _ => None,
     }
 }

@@ -176,16 +176,6 @@ fn take_in(part: &mut Part) -> Option<ReturnCode>
     part.cell.take()
 }
 
-// A cell of whose stream so many items more were received.
-#[inline(always)]
-fn pass_in(cell: &mut EventCell)
-    ensures { cell.new ≡ record cell.old { passed = cell.old.passed || is_future cell.old.kind } }
-{
-    if cell.kind() == TransmitKind::Future {
-        cell.pass();
-    }
-}
-
 // The end of a part has another owner, which the other end's cell knows.
 #[inline(always)]
 fn own_in(part: &mut Part, other: &mut EventCell, owner: Owner)
@@ -314,9 +304,11 @@ impl Channel {
         }
     }
 
-    /// The waiting operation of the end on a side met the other side, and so many items moved.
+    /// The waiting operation of the end on a side met the other side, and so many items, which are of
+    /// the stream's payload, moved.
     #[inline(always)]
-    pub fn advance(&mut self, side: Side, count: ItemCount)
+    pub fn advance(&mut self, side: Side, payload: &Payload, count: ItemCount)
+        requires payload { payload.now ≡ self.old.payload }
         requires open { IsSomeAnd (end_of side self.old).operation (λ operation.
             operation.is_open ≡ true) }
         requires left { IsSomeAnd (end_of side self.old).operation (λ operation.
@@ -330,10 +322,9 @@ impl Channel {
               (end_of side self.old).operation;
         }) }
     {
-        let payload = self.payload;
         match side {
-            Side::Writing => advance_in(&mut self.writer, payload, count),
-            Side::Reading => advance_in(&mut self.reader, payload, count),
+            Side::Writing => advance_in(&mut self.writer, *payload, count),
+            Side::Reading => advance_in(&mut self.reader, *payload, count),
         }
     }
 
@@ -443,8 +434,10 @@ impl Channel {
     pub fn receive(&mut self, count: u32)
         ensures { self.new ≡ with_received self.old count }
     {
-        pass_in(&mut self.writer.cell);
-        pass_in(&mut self.reader.cell);
+        if self.kind() == TransmitKind::Future {
+            self.writer.cell.pass();
+            self.reader.cell.pass();
+        }
         self.received = self.received.saturating_add(u128::from(count));
     }
 

@@ -82,7 +82,8 @@ fn complete_alone(
     if same_side(who, side) {
         return ReturnCode::completed(stream.kind(), ItemCount::ZERO);
     }
-    stream.advance(opposite(side), ItemCount::ZERO);
+    let payload = stream.payload();
+    stream.advance(opposite(side), &payload, ItemCount::ZERO);
     stream.begin(side, mine.guest, mine.address, mine.left);
     ReturnCode::Blocked
 }
@@ -240,10 +241,12 @@ fn exchange(
     alloc: Global,
     guests: &mut Vec<Guest>,
     stream: &mut Channel,
+    payload: &Payload,
     side: Side,
     mine: &Operation,
     theirs: &Operation,
 ) -> Result<ReturnCode, BadItem>
+    requires payload { payload.now ≡ stream.old.payload }
     requires there { (end_of (opposite side) stream.old).operation ≡ Some theirs.now }
     requires open { theirs.now.is_open ≡ true }
     requires mine { IsPlaced (sizes_of (seen guests.old.items)) stream.old.payload mine.now }
@@ -260,9 +263,9 @@ fn exchange(
         ≡ taken result guests.new.items stream.new }
 {
     let count = lesser(mine.left, theirs.left);
-    carry_from(alloc, guests, stream.payload(), side, mine, theirs, count)?;
+    carry_from(alloc, guests, *payload, side, mine, theirs, count)?;
     stream.receive(count.as_u32());
-    stream.advance(opposite(side), count);
+    stream.advance(opposite(side), payload, count);
     Ok(ReturnCode::completed(stream.kind(), count))
 }
 
@@ -272,10 +275,12 @@ fn meet(
     alloc: Global,
     guests: &mut Vec<Guest>,
     stream: &mut Channel,
+    payload: &Payload,
     side: Side,
     mine: Operation,
     theirs: Operation,
 ) -> Result<ReturnCode, BadItem>
+    requires payload { payload.now ≡ stream.old.payload }
     requires idle { (end_of side stream.old).operation ≡ None }
     requires begun { mine ≡ begun mine.guest mine.address mine.left }
     requires there { (end_of (opposite side) stream.old).operation ≡ Some theirs }
@@ -292,23 +297,25 @@ fn meet(
         Side::Reading => meeting(theirs.left, mine.left),
     };
     match met {
-        Meeting::BothComplete => exchange(alloc, guests, stream, side, &mine, &theirs),
+        Meeting::BothComplete => exchange(alloc, guests, stream, payload, side, &mine, &theirs),
         Meeting::WriteCompletes => Ok(complete_alone(stream, Side::Writing, side, mine, theirs)),
         Meeting::ReadCompletes => Ok(complete_alone(stream, Side::Reading, side, mine, theirs)),
     }
 }
 
 /// A read or write of a guest, by what it finds on the other side. After a bad item nothing has
-/// changed.
+/// changed. The payload is the stream's: who knows it already, or some of it, has less code here.
 #[inline(always)]
 #[tactic(auto, unfolding(strm_machine::specs::Turns::turn))]
 pub fn take_turn(
     alloc: Global,
     guests: &mut Vec<Guest>,
     stream: &mut Channel,
+    payload: &Payload,
     side: Side,
     mine: Operation,
 ) -> Result<ReturnCode, BadItem>
+    requires payload { payload.now ≡ stream.old.payload }
     requires idle { (end_of side stream.old).operation ≡ None }
     requires begun { mine ≡ begun mine.guest mine.address mine.left }
     requires placed { StreamIsPlaced (sizes_of (seen guests.old.items)) stream.old }
@@ -324,7 +331,9 @@ pub fn take_turn(
         return Ok(ReturnCode::Dropped(ItemCount::ZERO));
     }
     match stream.operation(opposite(side)) {
-        Some(theirs) if theirs.is_open => meet(alloc, guests, stream, side, mine, theirs),
+        Some(theirs) if theirs.is_open => {
+            meet(alloc, guests, stream, payload, side, mine, theirs)
+        }
         _ => {
             stream.begin(side, mine.guest, mine.address, mine.left);
             Ok(ReturnCode::Blocked)

@@ -16,14 +16,14 @@ use core::fmt;
 #[derive(Clone, Copy, Debug, PartialEq, Eq, Hash)]
 #[must_use = "items may have moved, or the operation may wait"]
 pub enum Code {
-    /// It waits, and an event will tell its end.
-    Blocked,
     /// So many items moved.
     Completed(u32),
     /// So many items moved, and the other end is gone.
     Dropped(u32),
     /// So many items moved before it was cancelled.
     Cancelled(u32),
+    /// It waits, and an event will tell its end.
+    Blocked,
 }
 
 impl Code {
@@ -142,6 +142,16 @@ pub(crate) fn wrote<T: Default>(call: impl FnOnce(&mut T) -> u32) -> Result<T, E
     let mut out = T::default();
     match call(&mut out) {
         0 => Ok(out),
+        status => Err(error(status)),
+    }
+}
+
+// The event of a call that put its word there, if there is one, once it is done.
+#[inline(always)]
+pub(crate) fn event(call: impl FnOnce(&mut u32) -> u32) -> Result<Option<Code>, Error> {
+    let mut word = 0;
+    match call(&mut word) {
+        0 => Ok(Code::told(word)),
         status => Err(error(status)),
     }
 }

@@ -5,6 +5,7 @@
 //! `guest_write`.
 
 ghost use Rattle.std.specs.Prelude.{◌≡◌, ◌≢◌, ◌<◌, ◌↔◌, length, true, false, Err, None, IfOk, OnOk, IfSome, IfNone, IsTrue, IsErr};
+ghost use Rattle.strm_codes.specs.Types.{payload_of};
 ghost use Rattle.strm_codes.specs.declared.codes.TransmitIndex.TheVariants as index;
 ghost use Rattle.strm_memory.specs.Items.{is_number_or_none};
 ghost use Rattle.strm_buffers.specs.AllTells.{tells_of};
@@ -95,6 +96,8 @@ impl Store {
             (end_of side (stream_at self.now found.0)).operation ≡ None) }
         ensures placed { IfOk result (λ found. IsPlaced (sizes_of self.now.guests)
             (stream_at self.now found.0).payload (begun end.now.guest address found.1)) }
+        ensures payload { IfOk result (λ found.
+            (stream_at self.now found.0).payload ≡ payload_of end.now.ty) }
         ensures numbers { IfOk result (λ found. IsTrue (is_open_of end.now.guest
             (end_of (opposite side) (stream_at self.now found.0)).operation)
             → IsTrue (is_number_or_none (stream_at self.now found.0).payload)) }
@@ -123,8 +126,15 @@ impl Store {
 
     // A read or write on a stream, done.
     #[inline(always)]
-    fn take(&mut self, side: Side, stream: u32, mine: Operation) -> Result<ReturnCode, StoreError>
+    fn take(
+        &mut self,
+        side: Side,
+        stream: u32,
+        payload: &Payload,
+        mine: Operation,
+    ) -> Result<ReturnCode, StoreError>
         requires there { stream < length self.old.streams }
+        requires payload { payload.now ≡ (stream_at self.old stream).payload }
         requires idle { (end_of side (stream_at self.old stream)).operation ≡ None }
         requires begun { mine ≡ begun mine.guest mine.address mine.left }
         requires mine { IsPlaced (sizes_of self.old.guests) (stream_at self.old stream).payload mine }
@@ -136,7 +146,7 @@ impl Store {
         ensures takes_no_memory { result ≢ Err StoreError.OutOfMemory }
     {
         let meeting = &mut self.streams[stream as usize];
-        match take_turn(self.alloc, &mut self.guests, meeting, side, mine) {
+        match take_turn(self.alloc, &mut self.guests, meeting, payload, side, mine) {
             Ok(code) => Ok(code),
             Err(_) => {
                 self.is_trapped = true;
@@ -164,6 +174,54 @@ impl Store {
         ensures held { IsHandedOver self.old (tells_of writer_tells reader_tells hosts.old)
             (OnEnd side end.now (Operate address count)) → result ≢ Err StoreError.OutOfMemory }
     {
+        if end.ty.payload().is_number() {
+            return self.operate_here(hosts, side, end, address, count);
+        }
+        self.operate_apart(hosts, side, *end, address, count)
+    }
+
+    // The same of any payload, apart from the code for plain numbers. The end comes by value, so that
+    // where numbers move it lies in registers.
+    #[inline(never)]
+    fn operate_apart(
+        &mut self,
+        hosts: &mut Hosts,
+        side: Side,
+        end: NamedEnd,
+        address: u32,
+        count: u32,
+    ) -> Result<ReturnCode, StoreError>
+        requires fits { Fits self.old (tells_of writer_tells reader_tells hosts.old) }
+        ensures meets { MeetsHosted self.old self.new (tells_of writer_tells reader_tells hosts.old)
+            (tells_of writer_tells reader_tells hosts.new) (replied replies.Code result)
+            (OnEnd side end (Operate address count)) }
+        ensures takes_no_memory { may_poll (lone self.old) (OnEnd side end (Operate address count)) ≡ false
+            → result ≢ Err StoreError.OutOfMemory }
+        ensures held { IsHandedOver self.old (tells_of writer_tells reader_tells hosts.old)
+            (OnEnd side end (Operate address count)) → result ≢ Err StoreError.OutOfMemory }
+    {
+        self.operate_here(hosts, side, &end, address, count)
+    }
+
+    // The same, inlined, and so without tests of the payload where its form is known.
+    #[inline(always)]
+    fn operate_here(
+        &mut self,
+        hosts: &mut Hosts,
+        side: Side,
+        end: &NamedEnd,
+        address: u32,
+        count: u32,
+    ) -> Result<ReturnCode, StoreError>
+        requires fits { Fits self.old (tells_of writer_tells reader_tells hosts.old) }
+        ensures meets { MeetsHosted self.old self.new (tells_of writer_tells reader_tells hosts.old)
+            (tells_of writer_tells reader_tells hosts.new) (replied replies.Code result)
+            (OnEnd side end.now (Operate address count)) }
+        ensures takes_no_memory { may_poll (lone self.old) (OnEnd side end.now (Operate address count)) ≡ false
+            → result ≢ Err StoreError.OutOfMemory }
+        ensures held { IsHandedOver self.old (tells_of writer_tells reader_tells hosts.old)
+            (OnEnd side end.now (Operate address count)) → result ≢ Err StoreError.OutOfMemory }
+    {
         self.sound();
         self.served();
         match self.admit(self.operation_found(side, end, address, count)) {
@@ -175,7 +233,7 @@ impl Store {
                 }
                 None => {
                     let mine = begin(end.guest, address, found.1);
-                    self.take(side, found.0, mine)
+                    self.take(side, found.0, &end.ty.payload(), mine)
                 }
             },
             Err(error) => Err(error),
@@ -197,12 +255,50 @@ impl Store {
         ensures fits { StillFits self.old self.new }
         ensures takes_no_memory { result ≢ Err StoreError.OutOfMemory }
     {
+        if end.ty.payload().is_number() {
+            return self.alone_here(side, end, address, count);
+        }
+        self.alone_apart(side, *end, address, count)
+    }
+
+    // The same of any payload, apart from the code for plain numbers. The end comes by value, so that
+    // where numbers move it lies in registers.
+    #[inline(never)]
+    fn alone_apart(
+        &mut self,
+        side: Side,
+        end: NamedEnd,
+        address: u32,
+        count: u32,
+    ) -> Result<ReturnCode, StoreError>
+        ensures meets { Meets self.old self.new (replied replies.Code result)
+            (reaction self.old (OnEnd side end (Operate address count))) }
+        ensures fits { StillFits self.old self.new }
+        ensures takes_no_memory { result ≢ Err StoreError.OutOfMemory }
+    {
+        self.alone_here(side, &end, address, count)
+    }
+
+    // The same, inlined, and so without tests of the payload where its form is known.
+    #[inline(always)]
+    fn alone_here(
+        &mut self,
+        side: Side,
+        end: &NamedEnd,
+        address: u32,
+        count: u32,
+    ) -> Result<ReturnCode, StoreError>
+        ensures meets { Meets self.old self.new (replied replies.Code result)
+            (reaction self.old (OnEnd side end.now (Operate address count))) }
+        ensures fits { StillFits self.old self.new }
+        ensures takes_no_memory { result ≢ Err StoreError.OutOfMemory }
+    {
         self.sound();
         self.served();
         match self.admit(self.operation_found(side, end, address, count)) {
             Ok(found) => {
                 let mine = begin(end.guest, address, found.1);
-                self.take(side, found.0, mine)
+                self.take(side, found.0, &end.ty.payload(), mine)
             }
             Err(error) => Err(error),
         }

@@ -98,13 +98,11 @@ fn is_number_or_none(payload: Payload) -> bool
 fn is_within_one_guest(side: Side, end: &NamedEnd, stream: &Channel) -> bool
     ensures { result ≡ is_within_one_guest end.now.guest side end.now.ty stream.now }
 {
-    // Tested first, since for numbers nothing of the stream is looked at then.
-    if is_number_or_none(end.ty.payload()) {
-        return false;
-    }
     match stream.operation(opposite(side)) {
-        Some(theirs) => theirs.is_open && theirs.guest == end.guest,
-        None => false,
+        Some(theirs) if theirs.is_open && theirs.guest == end.guest => {
+            !is_number_or_none(end.ty.payload())
+        }
+        _ => false,
     }
 }
 

@@ -1,6 +1,6 @@
 //! Streams.
 
-use crate::answers::{code, done, wrote};
+use crate::answers::{code, done, event, wrote};
 use crate::sys;
 use crate::{Code, Error, Guest, Pair, Payload, Store};
 
@@ -156,7 +156,6 @@ impl Store {
     #[inline]
     pub fn take_event(&mut self, guest: Guest, handle: u32) -> Result<Option<Code>, Error> {
         // SAFETY: above.
-        let out = wrote(|out| unsafe { sys::strm_take_event(self.at(), guest.0, handle, out) })?;
-        Ok(Code::told(out))
+        event(|out| unsafe { sys::strm_take_event(self.at(), guest.0, handle, out) })
     }
 }

@@ -7,7 +7,7 @@ use Rattle.strm_machine.proofs.ReactionLemmas.{performs-on_end}
 use Rattle.strm_transmit.specs.Meets.{replied}
 use Rattle.strm_transmit.proofs.StepLemmas.{is_admitted, reacts, meets_admitted, meets_not_admitted}
 use Rattle.strm_transmit.proofs.StillLemmas.{still_fits}
-use Rattle.strm_transmit.proofs.store.Store.operate_alone.Goals as goal
+use Rattle.strm_transmit.proofs.store.Store.alone_here.Goals as goal
 
 pub returns-in-Ok-clause-meets : goal.returns-in-Ok-clause-meets
 returns-in-Ok-clause-meets c =
