@@ -2,12 +2,14 @@
 //! them, `tape_bytes` writes them.
 #![tactic(auto)]
 
+pub mod errors;
 pub mod laws;
 mod lists;
 mod parts;
 mod records;
 mod shapes;
 mod steps;
+pub mod tapable;
 pub mod tape;
 pub mod taping;
 pub mod untaping;

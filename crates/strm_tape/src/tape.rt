@@ -2,7 +2,8 @@
 //!
 //! Source: ours.
 
-ghost use Rattle.std.specs.Prelude.{◌≡◌, length};
+ghost use Rattle.std.specs.Prelude.{◌≡◌, ◌<◌, length, slice_get, Some};
+ghost use Rattle.strm_tape.specs.Spelling.{IsTape};
 
 use std::marker::Model;
 use strm_buffers::answers::ReaderSaid;
@@ -10,11 +11,11 @@ use strm_buffers::said::WriterSaid;
 use strm_codes::codes::TransmitIndex;
 use strm_machine::steps::Step;
 
-// What a tape has of a host writer.
+/// What a tape has of a host writer: its type, and its records in order.
 #[derive(Drop)]
-pub(crate) struct WriterTape {
-    pub(crate) ty: TransmitIndex,
-    pub(crate) said: Vec<WriterSaid>,
+pub struct WriterTape {
+    pub ty: TransmitIndex,
+    pub said: Vec<WriterSaid>,
 }
 
 impl Model for WriterTape {
@@ -25,11 +26,11 @@ impl Model for WriterTape {
     ghost view = { λ w. record { ty = w.ty; said = w.said.items } };
 }
 
-// What a tape has of a host reader.
+/// What a tape has of a host reader: its type, and its records in order.
 #[derive(Drop)]
-pub(crate) struct ReaderTape {
-    pub(crate) ty: TransmitIndex,
-    pub(crate) said: Vec<ReaderSaid>,
+pub struct ReaderTape {
+    pub ty: TransmitIndex,
+    pub said: Vec<ReaderSaid>,
 }
 
 impl Model for ReaderTape {
@@ -60,6 +61,20 @@ impl Model for Tape {
 }
 
 impl Tape {
+    /// The tape of these steps and host ends. Takes no memory.
+    pub fn new(steps: Vec<Step>, writers: Vec<WriterTape>, readers: Vec<ReaderTape>) -> Tape
+        requires { IsTape (record { steps = steps.items; writers = writers.items; readers = readers.items }) }
+        ensures steps { result.steps ≡ steps.items }
+        ensures writers { result.writers ≡ writers.items }
+        ensures readers { result.readers ≡ readers.items }
+    {
+        Tape {
+            steps,
+            writers,
+            readers,
+        }
+    }
+
     /// The steps.
     pub fn steps(&self) -> &[Step]
         ensures { result.now ≡ self.now.steps }
@@ -79,5 +94,28 @@ impl Tape {
         ensures { result ≡ length self.now.readers }
     {
         self.readers.len() as u32
+    }
+
+    /// What it has of a host writer, by its number.
+    pub fn writer(&self, number: u32) -> &WriterTape
+        requires { number < length self.now.writers }
+        ensures { slice_get self.now.writers number ≡ Some result.now }
+    {
+        &self.writers[number as usize]
+    }
+
+    /// What it has of a host reader, by its number.
+    pub fn reader(&self, number: u32) -> &ReaderTape
+        requires { number < length self.now.readers }
+        ensures { slice_get self.now.readers number ≡ Some result.now }
+    {
+        &self.readers[number as usize]
+    }
+
+    /// It can be spelled: what a caller may have to know of it. It does nothing.
+    pub fn sound(&self)
+        ensures { IsTape self.now }
+    {
+        let _ = &self.steps;
     }
 }

@@ -2,28 +2,17 @@
 //!
 //! Source: ours.
 
-ghost use Rattle.std.specs.Prelude.{◌≡◌, ◌≢◌, List, ℕ, IfOk, IsErrOf};
+ghost use Rattle.std.specs.Prelude.{◌≡◌, ◌≢◌, ◌⊎◌, List, ℕ, IfOk, IfErr, IsErrOf};
 ghost use Rattle.std.specs.Option.{option_map};
 ghost use Rattle.strm_tape.specs.Spelling.{tape_spelling, TapeOf, IsTape};
 ghost use Rattle.strm_tape.specs.Reading.{head, tape};
 
+use crate::errors::TapeError;
 use crate::lists::{few_readers, few_writers, listed_steps};
 use crate::parts::are_bytes;
 use crate::tape::Tape;
 use std::alloc::Global;
 use strm_codes::counts::OutOfMemory;
-use thiserror::Error;
-
-/// Why bytes were not made a tape.
-#[derive(Clone, Copy, Debug, PartialEq, Eq, Error)]
-pub enum TapeError {
-    /// They are no tape's spelling.
-    #[error("not a tape")]
-    NotATape,
-    /// An allocation was refused. Nothing was kept.
-    #[error("out of memory")]
-    OutOfMemory,
-}
 
 // What follows that with which a tape begins.
 #[tactic(auto, unfolding(crate::specs::Reading::head))]
@@ -84,6 +73,7 @@ pub fn untape(alloc: Global, bytes: &[u8]) -> Result<Tape, TapeError>
     ensures again { (t : TapeOf) → IsTape t → tape_spelling t ≡ bytes.now → IfOk result (λ found. found ≡ t) }
     ensures not_a_tape { IsErrOf result TapeError.NotATape → (t : TapeOf) → IsTape t →
         tape_spelling t ≢ bytes.now }
+    ensures known { IfErr result (λ e. (e ≡ TapeError.NotATape) ⊎ (e ≡ TapeError.OutOfMemory)) }
 {
     are_bytes(bytes);
     match tape(alloc, bytes) {
