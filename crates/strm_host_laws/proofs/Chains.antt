@@ -1,5 +1,5 @@
 -- The moments of a run follow each other, and the world after the last of them is where its play ends.
-use Rattle.std.proofs.Common.{◌≡◌, ℕ, Bool, true, false, cond, List, [], ◌∷◌, ◌++◌, map, refl, sym, ap, subst, ◌∙◌, inl, inr, ◌⊎◌}
+use Rattle.std.proofs.Common.{◌≡◌, ℕ, zero, suc, take, Bool, true, false, cond, List, [], ◌∷◌, ◌++◌, map, refl, sym, ap, subst, ◌∙◌, inl, inr, ◌⊎◌}
 use Rattle.strm_machine.specs.Acts.{act_of}
 use Rattle.strm_machine.specs.declared.acts.Act.{Act}
 use Rattle.strm_machine.specs.declared.acts.Act.TheVariants.{Drive}
@@ -16,7 +16,7 @@ use Rattle.strm_world.specs.Steps.{performs_in, outcome}
 use Rattle.strm_world.specs.HostPlays.{Ends, Halts, after_step, play}
 use Rattle.strm_world.proofs.OutcomeLemmas.{outcome-trapped, outcome-performs, refusal_in-drive}
 use Rattle.strm_world.proofs.DriveLemmas.{then_on-twice, then_on_same}
-use Rattle.strm_host_laws.specs.HostMoments.{Part, Acts, Turns, HostMoment, parts_of, parts_in, part_on, followed, acted, host_moments, last_of}
+use Rattle.strm_host_laws.specs.HostMoments.{Part, Acts, Turns, HostMoment, parts_of, parts_in, part_on, followed, acted, host_moments, first_moments, last_of}
 
 -- THE MOMENTS FOLLOW EACH OTHER
 
@@ -72,6 +72,15 @@ pub moments-chain : (world : World) (run : List Step) → Chain world (host_mome
 moments-chain world [] = tt
 moments-chain world (step ∷ more) =
     act-chain world (act_of step) (λ after. host_moments after more) world.state.trapped refl (λ v. moments-chain v more)
+
+-- and so do the first of them
+front-chain : (count : ℕ) (world : World) (all : List HostMoment) → Chain world all → Chain world (take count all)
+front-chain zero world all c = tt
+front-chain (suc k) world [] c = tt
+front-chain (suc k) world (m ∷ more) c = (c.0, front-chain k m.after more c.1)
+
+pub first-chain : (count : ℕ) (world : World) (run : List Step) → Chain world (first_moments count world run)
+first-chain count world run = front-chain count world (host_moments world run) (moments-chain world run)
 
 -- THE PARTS OF A STEP DO WHAT IT DOES
 

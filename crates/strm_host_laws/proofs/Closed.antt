@@ -31,9 +31,9 @@ use Rattle.strm_world.specs.HostPlays.{Ends, Halts, play}
 use Rattle.strm_world.specs.World.{World, stream_in, writer_at, reader_at, with_guests, with_kept, with_consumer, with_writer, with_reader, without_writer, leaves_writer, leaves_reader, with_stream_in}
 use Rattle.strm_world.specs.HostRefusals.{is_unknown_host, is_used, refusal_in}
 use Rattle.strm_world.specs.Does.{start}
-use Rattle.strm_host_laws.specs.HostMoments.{Part, Acts, HostMoment, part_on, host_moments, last_of}
+use Rattle.strm_host_laws.specs.HostMoments.{Part, Acts, HostMoment, part_on, host_moments, first_moments, last_of}
 use Rattle.strm_host_laws.specs.HostLaws.{is_ended, ClosesExactly}
-use Rattle.strm_host_laws.proofs.Chains.{is_part, Chain, moments-chain, StopsAt, play-ends, play-halts}
+use Rattle.strm_host_laws.proofs.Chains.{is_part, Chain, moments-chain, first-chain, StopsAt, play-ends, play-halts}
 use Rattle.strm_host_laws.proofs.Goings.{with_state, with_passed, LeftBy, Begins, Stopping, hosted, Rules, Halted, Comes, with_stream_in-same, part-comes, feed-comes, grant-comes}
 use Rattle.strm_machine.proofs.Ways.{HostsFrom, HostsFromIn, set-from}
 use Rattle.strm_machine.proofs.ShapeLemmas.{reaction-producers, reaction-from}
@@ -370,11 +370,11 @@ module _ (tag : ℕ) (limits : Limits) (old new : Tells) (run : List Step) where
   run-stands : Stands at_first (last_of at_first (host_moments at_first run))
   run-stands = chain-closes at_first at_first (host_moments at_first run) (moments-chain at_first run) (Stands-start tag limits old new)
 
-  pub moments-close : ClosesExactly at_first (last_of at_first (host_moments at_first run)).state (last_of at_first (host_moments at_first run)).writers
-  moments-close = run-stands.closes
+  pub moments-close : (count : ℕ) → ClosesExactly at_first (last_of at_first (first_moments count at_first run)).state (last_of at_first (first_moments count at_first run)).writers
+  moments-close count = (chain-closes at_first at_first (first_moments count at_first run) (first-chain count at_first run) (Stands-start tag limits old new)).closes
 
   pub runs-close : (all : List Reply) (end : World) → play [] at_first run ≡ Ends all end → ClosesExactly at_first end.state end.writers
-  runs-close all end e = subst (λ w. ClosesExactly at_first w.state w.writers) (play-ends all end [] at_first run e) moments-close
+  runs-close all end e = subst (λ w. ClosesExactly at_first w.state w.writers) (play-ends all end [] at_first run e) run-stands.closes
 
   pub stops-close : (all : List Reply) (stop : Stop) (writers : List Writer) (readers : List Reader) → play [] at_first run ≡ Halts all stop writers readers
       → ClosesExactly at_first (last_of at_first (host_moments at_first run)).state writers

@@ -1,6 +1,6 @@
 -- A run has no more moments than its steps can have: a drive round has one for each stream, and a step makes one
 -- stream at most.
-use Rattle.std.proofs.Common.{◌≡◌, ℕ, zero, suc, ◌+◌, ◌*◌, ◌≤◌, Bool, true, false, cond, List, [], ◌∷◌, length, map, Option, Some, None, refl, sym, ap, subst, ◌∙◌, arith, length-append}
+use Rattle.std.proofs.Common.{◌≡◌, ℕ, zero, suc, ◌+◌, ◌*◌, ◌≤◌, Bool, true, false, cond, List, [], ◌∷◌, length, map, take, Option, Some, None, refl, sym, ap, subst, ◌∙◌, arith, length-append}
 use Rattle.std.proofs.lemmas.Bool.{cond_both}
 use Rattle.strm_machine.specs.Acts.{act_of}
 use Rattle.strm_machine.specs.declared.acts.Act.{Act}
@@ -21,7 +21,7 @@ use Rattle.strm_world.specs.Producing.{producer_turn}
 use Rattle.strm_world.specs.Consuming.{consumer_turn}
 use Rattle.strm_world.specs.Driving.{if_open, driven_by, drive_turn, numbers_from, round_of}
 use Rattle.strm_world.proofs.OutcomeLemmas.{outcome-trapped}
-use Rattle.strm_host_laws.specs.HostMoments.{Part, Acts, Turns, HostMoment, parts_of, part_on, followed, acted, host_moments}
+use Rattle.strm_host_laws.specs.HostMoments.{Part, Acts, Turns, HostMoment, parts_of, part_on, followed, acted, host_moments, first_moments}
 use Rattle.strm_host_laws.proofs.Chains.{is_part}
 use Rattle.strm_host_laws.proofs.Forms.{HasTurned, reacted_to, Form, BySame, ByReacting, ByForsaking, ByHosting, ByFeeding, ByGranting, ByPiping, ByTurning, ByPassing, ByCalling}
 use Rattle.strm_host_laws.proofs.Goings.{IfGoes}
@@ -153,3 +153,14 @@ module _ (first : World) where
       let rest : AtMost (streams_in w + 1) most (λ v. host_moments v more) = λ v k f. moments_few v more k (omega (arith, f, few)) in
       let all = step_few (act_of step) w (streams_in w + 1) most (λ v. host_moments v more) w.state.trapped refl l (omega arith) rest in
       omega (arith, all, few)
+
+  front_few : (count : ℕ) (all : List HostMoment) → length (take count all) ≤ length all
+  front_few zero all = omega arith
+  front_few (suc k) [] = omega arith
+  front_few (suc k) (m ∷ more) = let rest = front_few k more in omega (arith, rest)
+
+  pub first_few : (count : ℕ) (w : World) (run : List Step) → Lives first w → streams_in w + length run ≤ 4294967295 → length (first_moments count w run) ≤ 4294967295 * length run
+  first_few count w run l few =
+      let all = moments_few w run l few in
+      let front = front_few count (host_moments w run) in
+      omega (arith, all, front)

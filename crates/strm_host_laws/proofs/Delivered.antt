@@ -28,11 +28,11 @@ use Rattle.strm_world.specs.Does.{start}
 use Rattle.strm_world.specs.World.{World, stream_in, writer_at, held_of, with_consumer, with_stream_in}
 use Rattle.strm_world.specs.Settling.{result_of}
 use Rattle.strm_world.specs.Attaching.{piped, without_ends, forsaken, hosted_stream}
-use Rattle.strm_host_laws.specs.HostMoments.{Part, Acts, HostMoment, host_moments, last_of}
+use Rattle.strm_host_laws.specs.HostMoments.{Part, Acts, HostMoment, first_moments, last_of}
 use Rattle.strm_host_laws.specs.HostLaws.{used_in, items_of, made_of, produced_by, produced_in, produced, host_got_in, host_got, is_made_by, is_hosted, is_piped_in, is_piped, held_by, held_first, DeliversAll}
-use Rattle.strm_host_laws.proofs.Chains.{Follows, Chain, moments-chain}
+use Rattle.strm_host_laws.proofs.Chains.{Follows, Chain, first-chain}
 use Rattle.strm_host_laws.proofs.Closed.{Stands-start}
-use Rattle.strm_host_laws.proofs.Counted.{moments_few}
+use Rattle.strm_host_laws.proofs.Counted.{first_few}
 use Rattle.strm_host_laws.proofs.Fed.{take-front}
 use Rattle.strm_host_laws.proofs.Forms.{opened, called, reacted_to, stream_of, is_making, IsCall, IsPiping, Form, BySame, ByReacting, ByForsaking, ByHosting, ByFeeding, ByGranting, ByPiping, ByTurning, ByPassing, ByCalling}
 use Rattle.strm_host_laws.proofs.Goings.{hosted, piped_to, moved_on-payload}
@@ -591,10 +591,14 @@ Lives-start tag limits old new h = record {
   supplied = h;
 }
 
-pub run-delivers : (tag : ℕ) (limits : Limits) (old new : Tells) (run : List Step) (s : ℕ) → AllSupply (start tag limits old new) → length run ≤ 4294967295
-    → DeliversAll s (host_moments (start tag limits old new) run) (last_of (start tag limits old new) (host_moments (start tag limits old new) run))
-run-delivers tag limits old new run s h few =
+-- the law of stream s in these moments, from this world on
+abbrev DeliversIn : World → List HostMoment → ℕ → Type 0
+DeliversIn w all s = DeliversAll s all (last_of w all)
+
+pub run-delivers : (tag : ℕ) (limits : Limits) (old new : Tells) (run : List Step) (count s : ℕ) → AllSupply (start tag limits old new) → length run ≤ 4294967295
+    → DeliversIn (start tag limits old new) (first_moments count (start tag limits old new) run) s
+run-delivers tag limits old new run count s h few =
     let first = start tag limits old new in
     let l = Lives-start tag limits old new h in
-    let most = moments_few first first run l (omega (arith, few)) in
-    delivers_from first s first (host_moments first run) (moments-chain first run) l (omega arith) (omega (arith, few, most))
+    let most = first_few first count first run l (omega (arith, few)) in
+    delivers_from first s first (first_moments count first run) (first-chain count first run) l (omega arith) (omega (arith, few, most))

@@ -24,9 +24,9 @@ use Rattle.strm_world.specs.Attaching.{piped}
 use Rattle.strm_world.specs.Outcomes.{Goes}
 use Rattle.strm_world.specs.HostRefusals.{is_unknown_host, refusal_in}
 use Rattle.strm_world.specs.Steps.{performs_in, unless_refused_in, outcome}
-use Rattle.strm_host_laws.specs.HostMoments.{Part, Acts, HostMoment, part_on, host_moments, last_of}
+use Rattle.strm_host_laws.specs.HostMoments.{Part, Acts, HostMoment, part_on, first_moments, last_of}
 use Rattle.strm_host_laws.specs.HostLaws.{used, used_in, all_used, fed_in, all_fed, WriterGoesOn}
-use Rattle.strm_host_laws.proofs.Chains.{is_part, Follows, Chain, moments-chain}
+use Rattle.strm_host_laws.proofs.Chains.{is_part, Follows, Chain, first-chain}
 use Rattle.strm_host_laws.proofs.Goings.{Begins, Stopping, Rules, Comes, IfGoes, is_passing, part-comes, grant-comes}
 use Rattle.strm_machine.proofs.RefusalLemmas.{not_refused, not_le}
 
@@ -286,5 +286,5 @@ chain-goes_on n w (m ∷ more) c =
       payload = rest.payload ∙ h.payload;
     }
 
-pub run-goes_on : (first : World) (run : List Step) (n : ℕ) → WriterGoesOn n (host_moments first run) (writer_at first n) (writer_at (last_of first (host_moments first run)) n)
-run-goes_on first run n = chain-goes_on n first (host_moments first run) (moments-chain first run)
+pub run-goes_on : (first : World) (run : List Step) (count n : ℕ) → WriterGoesOn n (first_moments count first run) (writer_at first n) (writer_at (last_of first (first_moments count first run)) n)
+run-goes_on first run count n = chain-goes_on n first (first_moments count first run) (first-chain count first run)

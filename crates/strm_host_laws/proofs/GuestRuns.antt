@@ -25,10 +25,10 @@ use Rattle.strm_laws.proofs.Calls.{got-push}
 use Rattle.strm_laws.proofs.Handed.{length-all_handed}
 use Rattle.strm_laws.proofs.Kept.{kind_at}
 use Rattle.strm_laws.proofs.Conserved.{Kept-empty}
-use Rattle.strm_host_laws.specs.HostMoments.{Part, Acts, Turns, HostMoment, host_moments, last_of}
+use Rattle.strm_host_laws.specs.HostMoments.{Part, Acts, Turns, HostMoment, first_moments, last_of}
 use Rattle.strm_host_laws.specs.HostLaws.{plain, plains, is_made_by, is_hosted, is_piped_in, is_piped, host_taken_in, all_taken, host_got_in, host_got, ConservesAmong, MovesByHosts}
-use Rattle.strm_host_laws.proofs.Chains.{Chain, moments-chain}
-use Rattle.strm_host_laws.proofs.StepsLeft.{left_after, Pays, Costs, moments_cost}
+use Rattle.strm_host_laws.proofs.Chains.{Chain, first-chain}
+use Rattle.strm_host_laws.proofs.StepsLeft.{left_after, Pays, Costs, first_cost}
 use Rattle.strm_host_laws.proofs.Effects.{Effect, follows_effect}
 use Rattle.strm_host_laws.proofs.Standing.{Holds, Holds-effect, Holds-empty}
 use Rattle.strm_host_laws.proofs.PartsSeen.{IsTaken, effect_taken}
@@ -262,18 +262,18 @@ keeps_empty s tag limits run a = record {
     first_account Writing = record { kept = Kept-empty s Writing tag limits; unmade = λ l. record { none = refl; silent = λ kind. refl } }
     first_account Reading = record { kept = Kept-empty s Reading tag limits; unmade = λ l. record { none = refl; silent = λ kind. refl } }
 
-module _ (tag : ℕ) (limits : Limits) (tells told : Tells) (run : List Step) (s : ℕ) (a : AreSteps run) where
+module _ (tag : ℕ) (limits : Limits) (tells told : Tells) (run : List Step) (front s : ℕ) (a : AreSteps run) where
   abbrev first : World
   first = start tag limits tells told
 
   abbrev all_moments : List HostMoment
-  all_moments = host_moments first run
+  all_moments = first_moments front first run
 
   abbrev end_state : State
   end_state = (last_of first all_moments).state
 
   run_keeps : RunKeeps s all_moments end_state (left_at s all_moments (length run))
-  run_keeps = keeps_from s [] first all_moments (length run) (moments-chain first run) (moments_cost s first run a.bytes) (keeps_empty s tag limits run a)
+  run_keeps = keeps_from s [] first all_moments (length run) (first-chain front first run) (first_cost s front first run a.bytes) (keeps_empty s tag limits run a)
 
   -- one operation at most is open
   none_writes : (stream : Stream) → stream.writer.operation ≡ None → both_open stream ≡ false

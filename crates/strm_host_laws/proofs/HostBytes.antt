@@ -50,9 +50,9 @@ use Rattle.strm_world.specs.Producing.{lowered}
 use Rattle.strm_world.specs.World.{World}
 use Rattle.strm_world.specs.Does.{start}
 use Rattle.strm_laws.specs.Laws.{AreSteps}
-use Rattle.strm_host_laws.specs.HostMoments.{Part, Acts, Turns, HostMoment, host_moments}
+use Rattle.strm_host_laws.specs.HostMoments.{Part, Acts, Turns, HostMoment, first_moments}
 use Rattle.strm_host_laws.specs.HostLaws.{plain, plains}
-use Rattle.strm_host_laws.proofs.Chains.{Follows, Chain, moments-chain}
+use Rattle.strm_host_laws.proofs.Chains.{Follows, Chain, first-chain}
 use Rattle.strm_machine.proofs.TableLemmas.{set-keeps, at_push}
 use Rattle.strm_host_laws.proofs.HostTurns.{Turned, turned_stream}
 use Rattle.strm_host_laws.proofs.Effects.{opened_by, Driven, Calls, piped_streams, piped_guests, Pipes, forsaken_by, Forsakes, Effect, ByReaction, ByRest, ByHosting, ByPiping, ByDriving, ByPassing, ByCalling, ByForsaking, Passes, passing_keeps, passing_guests, passing_other, is_idle, host_made, follows_effect}
@@ -60,7 +60,7 @@ use Rattle.strm_host_laws.proofs.Goings.{some_received-kind}
 use Rattle.strm_host_laws.proofs.PartsSeen.{IsTaken, owner_taken, effect_taken}
 use Rattle.strm_host_laws.proofs.GuestsSeen.{moment_in, forsaken_guests}
 use Rattle.strm_host_laws.proofs.Standing.{Holds, Holds-effect, Holds-empty, call_begun, opened_payload, waiting_placed}
-use Rattle.strm_host_laws.proofs.StepsLeft.{left_after, Pays, Costs, moments_cost}
+use Rattle.strm_host_laws.proofs.StepsLeft.{left_after, Pays, Costs, first_cost}
 use Rattle.strm_host_laws.proofs.TurnMoves.{moved_on-moves}
 use Rattle.strm_world.proofs.LoweredLemmas.{lowered-keeps}
 
@@ -512,14 +512,14 @@ all_aside w (m ∷ more) left c p h room =
     (effect_aside m.before.state m.after.state m.reply before m.part (room_now m.before.state m.after.state m.part m.reply left before pays here effect) effect)
     (all_aside m.after more (λ s. left_after s m.part (left s)) c.1 (λ s. (p s).1) (holds_after w m f h) (room_next m.before.state m.after.state m.part m.reply left before pays here effect))
 
-module _ (tag : ℕ) (limits : Limits) (tells said : Tells) (run : List Step) where
+module _ (tag : ℕ) (limits : Limits) (tells said : Tells) (run : List Step) (count : ℕ) where
   abbrev all_moments : List HostMoment
-  all_moments = host_moments (start tag limits tells said) run
+  all_moments = first_moments count (start tag limits tells said) run
 
   pub bytes_are_put : All LieThere (plains all_moments)
-  bytes_are_put = all_there (start tag limits tells said) all_moments (moments-chain (start tag limits tells said) run) (Holds-empty tag limits)
+  bytes_are_put = all_there (start tag limits tells said) all_moments (first-chain count (start tag limits tells said) run) (Holds-empty tag limits)
 
   pub other_bytes_stay : AreSteps run → All StaysAside (plains all_moments)
   other_bytes_stay a =
-      all_aside (start tag limits tells said) all_moments (λ s. length run) (moments-chain (start tag limits tells said) run)
-      (λ s. moments_cost s (start tag limits tells said) run a.bytes) (Holds-empty tag limits) (λ s. inr (omega (arith, a.few)))
+      all_aside (start tag limits tells said) all_moments (λ s. length run) (first-chain count (start tag limits tells said) run)
+      (λ s. first_cost s count (start tag limits tells said) run a.bytes) (Holds-empty tag limits) (λ s. inr (omega (arith, a.few)))

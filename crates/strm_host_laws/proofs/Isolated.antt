@@ -1,5 +1,5 @@
 -- Streams are isolated in every run.
-use Rattle.std.proofs.Common.{◌≡◌, ℕ, zero, suc, ◌+◌, ◌<◌, ◌≤◌, Bool, true, false, cond, List, [], ◌∷◌, map, refl, sym, subst, arith}
+use Rattle.std.proofs.Common.{◌≡◌, ℕ, zero, suc, ◌+◌, ◌<◌, ◌≤◌, Bool, true, false, cond, List, [], ◌∷◌, map, take, refl, sym, subst, arith}
 use Rattle.std.specs.Prelude.{All}
 use Rattle.std.proofs.lemmas.List.Elements.{All-nil, All-cons}
 use Rattle.strm_buffers.specs.Tells.{Tells}
@@ -14,7 +14,7 @@ use Rattle.strm_world.specs.Driving.{numbers_from}
 use Rattle.strm_world.specs.Outcomes.{Outcome, Goes, Stops, Stuck}
 use Rattle.strm_world.specs.World.{World}
 use Rattle.strm_world.proofs.OutcomeLemmas.{outcome-trapped}
-use Rattle.strm_host_laws.specs.HostMoments.{Part, Acts, Turns, HostMoment, parts_of, part_on, followed, acted, host_moments, last_of}
+use Rattle.strm_host_laws.specs.HostMoments.{Part, Acts, Turns, HostMoment, parts_of, part_on, followed, acted, host_moments, first_moments, last_of}
 use Rattle.strm_host_laws.specs.Isolation.{LeavesOthers, AreIsolated}
 use Rattle.strm_host_laws.proofs.Chains.{is_part, Follows}
 use Rattle.strm_host_laws.proofs.Closed.{Stands, Kept, SameClosed, part-closes, Stands-start}
@@ -39,6 +39,11 @@ AreApart world (m ∷ more) = (m.before ≡ world) × IsApart m × AreApart m.af
 all-by_self : (s : ℕ) (world : World) (all : List HostMoment) → AreApart world all → AllBySelf s world all
 all-by_self s world [] h = tt
 all-by_self s world (m ∷ more) h = (h.0, h.1.by_self s, all-by_self s m.after more h.2)
+
+front-apart : (count : ℕ) (world : World) (all : List HostMoment) → AreApart world all → AreApart world (take count all)
+front-apart zero world all a = tt
+front-apart (suc k) world [] a = tt
+front-apart (suc k) world (m ∷ more) a = (a.0, a.1, front-apart k m.after more a.2)
 
 all-leave : (world : World) (all : List HostMoment) → AreApart world all → All LeavesOthers all
 all-leave world [] h = All-nil LeavesOthers
@@ -133,11 +138,11 @@ module _ (first : World) where
       act-apart w (act_of step) (λ after. host_moments after more) w.state.trapped refl h (λ v k few. moments-apart v more k)
 
 -- of a run from an unused store among whichever host ends
-pub run-isolated : (tag : ℕ) (limits : Limits) (old new : Tells) (run : List Step) → AreIsolated (host_moments (start tag limits old new) run) (last_of (start tag limits old new) (host_moments (start tag limits old new) run))
-run-isolated tag limits old new run =
+pub run-isolated : (tag : ℕ) (limits : Limits) (old new : Tells) (run : List Step) (count : ℕ) → AreIsolated (first_moments count (start tag limits old new) run) (last_of (start tag limits old new) (first_moments count (start tag limits old new) run))
+run-isolated tag limits old new run count =
     let first = start tag limits old new in
-    let all = host_moments first run in
-    let apart = moments-apart first first run (record { holds = Holds-empty tag limits; stands = Stands-start tag limits old new }) in
+    let all = first_moments count first run in
+    let apart = front-apart count first (host_moments first run) (moments-apart first first run (record { holds = Holds-empty tag limits; stands = Stands-start tag limits old new })) in
     record {
       answers = λ s. unmade-runs s first all (omega arith) (all-by_self s first all apart);
       others = all-leave first all apart;

@@ -4,6 +4,7 @@ pub mod Closed
 pub mod Known
 pub mod Fed
 pub mod ReadersFed
+pub mod StoppedEnds
 pub mod Rounds
 pub mod HostTurns
 pub mod Effects

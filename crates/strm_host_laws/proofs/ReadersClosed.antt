@@ -33,9 +33,9 @@ use Rattle.strm_world.specs.Attaching.{piped, without_ends, forsaken}
 use Rattle.strm_world.specs.HostPlays.{Ends, Halts, play}
 use Rattle.strm_world.specs.Does.{start}
 use Rattle.strm_world.proofs.SettleLemmas.{delivered-owners}
-use Rattle.strm_host_laws.specs.HostMoments.{Part, Acts, HostMoment, part_on, host_moments, last_of}
+use Rattle.strm_host_laws.specs.HostMoments.{Part, Acts, HostMoment, part_on, host_moments, first_moments, last_of}
 use Rattle.strm_host_laws.specs.HostLaws.{is_ended, ReadersCloseExactly}
-use Rattle.strm_host_laws.proofs.Chains.{is_part, Chain, moments-chain, StopsAt, play-ends, play-halts}
+use Rattle.strm_host_laws.proofs.Chains.{is_part, Chain, moments-chain, first-chain, StopsAt, play-ends, play-halts}
 use Rattle.strm_host_laws.proofs.Closed.{is_new_reader, unused-unended, or-true, or-false}
 use Rattle.strm_host_laws.proofs.Effects.{pipe_is, loose_made}
 use Rattle.strm_host_laws.proofs.Forms.{HasTurned, opened, called, reacted_to, stream_of, IsRound, IsCall, IsPiping, Form, BySame, ByReacting, ByForsaking, ByHosting, ByFeeding, ByGranting, ByPiping, ByTurning, ByPassing, ByCalling, part-formed}
@@ -298,10 +298,10 @@ stopping : Stopping SameClosed
 stopping = record { begins = begins; polls = λ w n room said more e r. refl }
 
 -- whatever becomes of it where it goes on
-abbrev Any : World → World → Type 0
+abbrev pub Any : World → World → Type 0
 Any w v = Unit {0}
 
-any_rules : Rules Any
+pub any_rules : Rules Any
 any_rules = record {
   begins = record { stays = λ w. tt; joins = λ a b c f g. tt; opens = λ w s stream e. tt; says = λ w n room said more e. tt; takes = λ w r took said more e. tt; gives = λ w n k. tt; keeps = λ w n items. tt };
   reacts = λ w act. tt;
@@ -353,11 +353,11 @@ module _ (tag : ℕ) (limits : Limits) (old new : Tells) (run : List Step) where
   run-stands : Stands at_first (last_of at_first (host_moments at_first run))
   run-stands = chain-stands at_first at_first (host_moments at_first run) (moments-chain at_first run) (Holds-empty tag limits) stands_first
 
-  pub readers-close : ReadersCloseExactly at_first (last_of at_first (host_moments at_first run)).state (last_of at_first (host_moments at_first run)).readers
-  readers-close = run-stands.closes
+  pub readers-close : (count : ℕ) → ReadersCloseExactly at_first (last_of at_first (first_moments count at_first run)).state (last_of at_first (first_moments count at_first run)).readers
+  readers-close count = (chain-stands at_first at_first (first_moments count at_first run) (first-chain count at_first run) (Holds-empty tag limits) stands_first).closes
 
   pub runs-close_readers : (all : List Reply) (end : World) → play [] at_first run ≡ Ends all end → ReadersCloseExactly at_first end.state end.readers
-  runs-close_readers all end e = subst (λ w. ReadersCloseExactly at_first w.state w.readers) (play-ends all end [] at_first run e) readers-close
+  runs-close_readers all end e = subst (λ w. ReadersCloseExactly at_first w.state w.readers) (play-ends all end [] at_first run e) run-stands.closes
 
   stop-closes : (w : World) (stop : Stop) (writers : List Writer) (readers : List Reader) → StopsAt w stop writers readers → Stands at_first w → ReadersCloseExactly at_first w.state readers
   stop-closes w stop writers readers s h =

@@ -24,9 +24,9 @@ use Rattle.strm_world.specs.Outcomes.{Goes}
 use Rattle.strm_world.specs.HostRefusals.{is_unknown_host, refusal_in}
 use Rattle.strm_world.specs.Attaching.{piped}
 use Rattle.strm_world.specs.Steps.{performs_in, unless_refused_in, outcome}
-use Rattle.strm_host_laws.specs.HostMoments.{Part, Acts, HostMoment, part_on, host_moments, last_of}
+use Rattle.strm_host_laws.specs.HostMoments.{Part, Acts, HostMoment, part_on, first_moments, last_of}
 use Rattle.strm_host_laws.specs.HostLaws.{used, used_by, all_used_by, granted_in, all_granted, ReaderGoesOn}
-use Rattle.strm_host_laws.proofs.Chains.{is_part, Follows, Chain, moments-chain}
+use Rattle.strm_host_laws.proofs.Chains.{is_part, Follows, Chain, first-chain}
 use Rattle.strm_host_laws.proofs.Fed.{set-relates, used_are, heard_none, heard_both}
 use Rattle.strm_host_laws.proofs.WrittenBack.{leaves_writer-readers}
 use Rattle.strm_host_laws.proofs.Goings.{Begins, Stopping, Rules, Comes, IfGoes, is_passing, part-comes, feed-comes}
@@ -122,7 +122,7 @@ uses_both a b c u v = record {
   payload = v.payload ∙ u.payload;
 }
 
-of_uses : OfReaders Uses
+pub of_uses : OfReaders Uses
 of_uses = record {
   same = λ a. record { said = []; records = refl; spoken = omega arith; heard = refl; kind = refl; payload = refl };
   joined = uses_both;
@@ -249,5 +249,5 @@ chain-goes_on r w (m ∷ more) c =
       payload = rest.payload ∙ h.payload;
     }
 
-pub run-reader_goes_on : (first : World) (run : List Step) (r : ℕ) → ReaderGoesOn r (host_moments first run) (reader_at first r) (reader_at (last_of first (host_moments first run)) r)
-run-reader_goes_on first run r = chain-goes_on r first (host_moments first run) (moments-chain first run)
+pub run-reader_goes_on : (first : World) (run : List Step) (count r : ℕ) → ReaderGoesOn r (first_moments count first run) (reader_at first r) (reader_at (last_of first (first_moments count first run)) r)
+run-reader_goes_on first run count r = chain-goes_on r first (first_moments count first run) (first-chain count first run)

@@ -59,8 +59,8 @@ use Rattle.strm_world.specs.Settling.{with_some_received}
 use Rattle.strm_world.specs.Attaching.{withdrawn, piped, without_ends, forsaken}
 use Rattle.strm_host_laws.proofs.Goings.{some_received-by, some_received-end, some_received-payload, some_received-kind}
 use Rattle.strm_world.proofs.SettleLemmas.{is_done_with}
-use Rattle.strm_host_laws.specs.HostMoments.{Part, HostMoment, host_moments, last_of}
-use Rattle.strm_host_laws.proofs.Chains.{Follows, Chain, moments-chain}
+use Rattle.strm_host_laws.specs.HostMoments.{Part, HostMoment, first_moments, last_of}
+use Rattle.strm_host_laws.proofs.Chains.{Follows, Chain, first-chain}
 use Rattle.strm_host_laws.proofs.HostTurns.{leaves_ended, both_ended, with_done, turned_stream, turned_by, Fills, Turned, end_twice}
 use Rattle.strm_host_laws.proofs.Effects.{opened_by, Driven, Calls, Hosts, piped_in, Piped, ByStaying, ByGone, ByDry, Effect, ByReaction, ByRest, ByHosting, ByPiping, ByDriving, ByPassing, ByCalling, ByForsaking, both_over, Passes, passing_made, host_made, follows_effect}
 use Rattle.strm_host_laws.proofs.TurnMoves.{Moves, moved_on-moves, moved-theirs, moved-mine, moves-placed}
@@ -884,7 +884,7 @@ Holds-empty tag limits = record {
 }
 
 -- after whichever steps of a run from an unused store among whichever host ends
-pub run-holds : (tag : ℕ) (limits : Limits) (old new : Tells) (run : List Step) → Holds (last_of (start tag limits old new) (host_moments (start tag limits old new) run)).state
-run-holds tag limits old new run =
+pub run-holds : (tag : ℕ) (limits : Limits) (old new : Tells) (run : List Step) (count : ℕ) → Holds (last_of (start tag limits old new) (first_moments count (start tag limits old new) run)).state
+run-holds tag limits old new run count =
     let first = start tag limits old new in
-    Holds-chain first (host_moments first run) (moments-chain first run) (Holds-empty tag limits)
+    Holds-chain first (first_moments count first run) (first-chain count first run) (Holds-empty tag limits)

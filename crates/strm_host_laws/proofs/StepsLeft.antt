@@ -1,6 +1,6 @@
 -- The moments of a run, by what each does to one stream: no more of them than the run has steps may have to do
 -- with it, since a drive round goes through each stream once.
-use Rattle.std.proofs.Common.{◌≡◌, ◌≢◌, ℕ, zero, suc, ◌+◌, ◌-◌, ◌<◌, ◌≤◌, ◌==◌, Bool, true, false, cond, List, [], ◌∷◌, length, map, sym, ap, subst, ◌∙◌, inl, inr, arith}
+use Rattle.std.proofs.Common.{◌≡◌, ◌≢◌, ℕ, zero, suc, ◌+◌, ◌-◌, ◌<◌, ◌≤◌, ◌==◌, Bool, true, false, cond, List, [], ◌∷◌, length, map, take, sym, ap, subst, ◌∙◌, inl, inr, arith}
 use Rattle.std.specs.Prelude.{All}
 use Rattle.std.proofs.lemmas.Bool.{cases_eq, eq-eqb, ne_eqb}
 use Rattle.std.proofs.lemmas.List.Elements.{All-head, All-tail}
@@ -13,7 +13,7 @@ use Rattle.strm_world.specs.World.{World}
 use Rattle.strm_world.specs.Outcomes.{Outcome, Goes, Stops, Stuck}
 use Rattle.strm_world.specs.Driving.{numbers_from}
 use Rattle.strm_laws.specs.Laws.{HasBytes}
-use Rattle.strm_host_laws.specs.HostMoments.{Part, Acts, Turns, HostMoment, parts_of, part_on, followed, acted, host_moments}
+use Rattle.strm_host_laws.specs.HostMoments.{Part, Acts, Turns, HostMoment, parts_of, part_on, followed, acted, host_moments, first_moments}
 
 -- of so many, those left for stream s after a part: an act takes one, and the turn of the stream itself
 abbrev pub left_after : ℕ → Part → ℕ → ℕ
@@ -105,3 +105,11 @@ module _ (s : ℕ) where
   moments_cost world (step ∷ more) b =
       step_costs world (act_of step) (λ v. host_moments v more) (length more) world.state.trapped (All-head HasBytes step more b)
       (λ v. moments_cost v more (All-tail HasBytes step more b))
+
+  front_cost : (count : ℕ) (all : List HostMoment) (n : ℕ) → Costs s all n → Costs s (take count all) n
+  front_cost zero all n c = tt
+  front_cost (suc k) [] n c = tt
+  front_cost (suc k) (m ∷ more) n c = (c.0, front_cost k more (left_after s m.part n) c.1)
+
+  pub first_cost : (count : ℕ) (world : World) (run : List Step) → All HasBytes run → Costs s (first_moments count world run) (length run)
+  first_cost count world run b = front_cost count (host_moments world run) (length run) (moments_cost world run b)

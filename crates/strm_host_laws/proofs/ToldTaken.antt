@@ -30,9 +30,9 @@ use Rattle.strm_world.specs.Does.{start}
 use Rattle.strm_world.specs.Ends.{Reader}
 use Rattle.strm_world.specs.HostRefusals.{is_used}
 use Rattle.strm_world.specs.World.{World, stream_in, reader_at}
-use Rattle.strm_host_laws.specs.HostMoments.{Part, Acts, HostMoment, host_moments, last_of}
+use Rattle.strm_host_laws.specs.HostMoments.{Part, Acts, HostMoment, first_moments, last_of}
 use Rattle.strm_host_laws.specs.HostLaws.{plain, taken_in, taken_from, taken_by, host_taken_in, all_taken, is_piped_to, is_pipe_of, is_piped_in, TellsTaken}
-use Rattle.strm_host_laws.proofs.Chains.{Follows, Chain, moments-chain}
+use Rattle.strm_host_laws.proofs.Chains.{Follows, Chain, first-chain}
 use Rattle.strm_host_laws.proofs.Duties.{duty, Stays, Ends, Gets, pipes_duty, effect_duty}
 use Rattle.strm_host_laws.proofs.Effects.{Pipes, Effect, follows_effect}
 use Rattle.strm_host_laws.proofs.Forms.{IsRound, Form, part-formed}
@@ -46,7 +46,7 @@ use Rattle.strm_host_laws.proofs.PartsSeen.{IsTaken, owner_taken, effect_taken}
 use Rattle.strm_host_laws.proofs.ReadSeen.{taken_at, entering}
 use Rattle.strm_host_laws.proofs.Rooms.{HasRoom, WrittenOrRoom, written_or_room, written_or_room_next}
 use Rattle.strm_host_laws.proofs.Standing.{Holds, Holds-next, Holds-empty}
-use Rattle.strm_host_laws.proofs.StepsLeft.{left_after, Costs, moments_cost}
+use Rattle.strm_host_laws.proofs.StepsLeft.{left_after, Costs, first_cost}
 use Rattle.strm_host_laws.proofs.Took.{TakesOn, Took, Rests, Takes, Passes, form_took}
 
 -- ## Items
@@ -398,10 +398,10 @@ module _ (s r : ℕ) where
 abbrev pub TellsIn : World → List HostMoment → ℕ → ℕ → Type 0
 TellsIn w all s r = TellsTaken s r all (reader_at w r) (reader_at (last_of w all) r)
 
-pub run-tells_taken : (tag : ℕ) (limits : Limits) (old new : Tells) (run : List Step) (s r : ℕ) → AreSteps run
-    → TellsIn (start tag limits old new) (host_moments (start tag limits old new) run) s r
-run-tells_taken tag limits old new run s r a =
+pub run-tells_taken : (tag : ℕ) (limits : Limits) (old new : Tells) (run : List Step) (count s r : ℕ) → AreSteps run
+    → TellsIn (start tag limits old new) (first_moments count (start tag limits old new) run) s r
+run-tells_taken tag limits old new run count s r a =
     let first = start tag limits old new in
     record {
-      told = told_run s r first (host_moments first run) (length run) (moments-chain first run) (Holds-empty tag limits) (inr (omega (arith, a.few))) (moments_cost s first run a.bytes);
+      told = told_run s r first (first_moments count first run) (length run) (first-chain count first run) (Holds-empty tag limits) (inr (omega (arith, a.few))) (first_cost s count first run a.bytes);
     }

@@ -85,6 +85,16 @@ pub record WriterGoesOn (n : ℕ) (all : List HostMoment) (first last : Writer) 
   pub kind : last.kind ≡ first.kind
   pub payload : last.payload ≡ first.payload
 
+-- where a step stops, a host writer that was this one before used these records more, in order, and counted them;
+-- it heard nothing more
+pub record WriterStops (before after : Writer) : Type 0 where
+  pub said : List WriterSaid
+  pub records : before.coming ≡ said ++ after.coming
+  pub spoken : after.spoken ≡ before.spoken + length said
+  pub heard : after.heard ≡ before.heard
+  pub kind : after.kind ≡ before.kind
+  pub payload : after.payload ≡ before.payload
+
 -- WHAT HOST WRITERS PRODUCED
 
 -- what a host writer held when stream s was made of it
@@ -289,6 +299,15 @@ pub record ReaderGoesOn (r : ℕ) (all : List HostMoment) (first last : Reader) 
   pub heard : last.heard ≡ option_map (λ xs. xs ++ all_granted r all) first.heard
   pub kind : last.kind ≡ first.kind
   pub payload : last.payload ≡ first.payload
+
+-- where a step stops, a host reader used these records more, in order, and counted them; it heard nothing more
+pub record ReaderStops (before after : Reader) : Type 0 where
+  pub said : List ReaderSaid
+  pub records : before.coming ≡ said ++ after.coming
+  pub spoken : after.spoken ≡ before.spoken + length said
+  pub heard : after.heard ≡ before.heard
+  pub kind : after.kind ≡ before.kind
+  pub payload : after.payload ≡ before.payload
 
 -- a host reader that tells what it took has, behind what it had at first, exactly what was taken of its
 -- stream, if all of that are items

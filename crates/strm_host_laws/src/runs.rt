@@ -9,14 +9,14 @@ ghost use Rattle.strm_machine.specs.declared.limits.Limits.{Limits};
 ghost use Rattle.strm_machine.specs.declared.replies.Reply.{Reply};
 ghost use Rattle.strm_machine.specs.declared.steps.Step.{Step};
 ghost use Rattle.strm_machine.specs.declared.stops.Stop.{Stop};
-ghost use Rattle.strm_world.specs.Ends.{Writer, Reader};
+ghost use Rattle.strm_world.specs.Ends.{Writer, Reader, writer_in, reader_in};
 ghost use Rattle.strm_world.specs.World.{World, writer_at, reader_at};
 ghost use Rattle.strm_world.specs.HostPlays.{Ends, Halts, play};
 ghost use Rattle.strm_world.specs.Does.{start};
 ghost use Rattle.strm_laws.specs.Laws.{AreSteps};
-ghost use Rattle.strm_host_laws.specs.HostMoments.{host_moments, last_of};
+ghost use Rattle.strm_host_laws.specs.HostMoments.{host_moments, first_moments, last_of};
 ghost use Rattle.strm_host_laws.specs.Isolation.{AreIsolated};
-ghost use Rattle.strm_host_laws.specs.HostLaws.{ClosesExactly, WriterGoesOn, Supplies, DeliversAll, ReadersCloseExactly, ReaderGoesOn, TellsTaken};
+ghost use Rattle.strm_host_laws.specs.HostLaws.{ClosesExactly, WriterGoesOn, WriterStops, Supplies, DeliversAll, ReadersCloseExactly, ReaderGoesOn, ReaderStops, TellsTaken};
 
 /// The moments of a run lead to where its play ends, from whichever world.
 pub fn moments_lead_to_the_end()
@@ -31,10 +31,10 @@ pub fn ends_close_exactly()
     ensures runs { (tag : ℕ) (limits : Limits) (old new : Tells) (run : List Step) (replies : List Reply)
         (end : World) → play [] (start tag limits old new) run ≡ Ends replies end →
         ClosesExactly (start tag limits old new) end.state end.writers }
-    ensures moments { (tag : ℕ) (limits : Limits) (old new : Tells) (run : List Step) →
+    ensures moments { (tag : ℕ) (limits : Limits) (old new : Tells) (run : List Step) (count : ℕ) →
         ClosesExactly (start tag limits old new)
-        (last_of (start tag limits old new) (host_moments (start tag limits old new) run)).state
-        (last_of (start tag limits old new) (host_moments (start tag limits old new) run)).writers }
+        (last_of (start tag limits old new) (first_moments count (start tag limits old new) run)).state
+        (last_of (start tag limits old new) (first_moments count (start tag limits old new) run)).writers }
     ensures stops { (tag : ℕ) (limits : Limits) (old new : Tells) (run : List Step) (replies : List Reply)
         (stop : Stop) (writers : List Writer) (readers : List Reader) →
         play [] (start tag limits old new) run ≡ Halts replies stop writers readers →
@@ -47,10 +47,10 @@ pub fn readers_close_exactly()
     ensures runs { (tag : ℕ) (limits : Limits) (old new : Tells) (run : List Step) (replies : List Reply)
         (end : World) → play [] (start tag limits old new) run ≡ Ends replies end →
         ReadersCloseExactly (start tag limits old new) end.state end.readers }
-    ensures moments { (tag : ℕ) (limits : Limits) (old new : Tells) (run : List Step) →
+    ensures moments { (tag : ℕ) (limits : Limits) (old new : Tells) (run : List Step) (count : ℕ) →
         ReadersCloseExactly (start tag limits old new)
-        (last_of (start tag limits old new) (host_moments (start tag limits old new) run)).state
-        (last_of (start tag limits old new) (host_moments (start tag limits old new) run)).readers }
+        (last_of (start tag limits old new) (first_moments count (start tag limits old new) run)).state
+        (last_of (start tag limits old new) (first_moments count (start tag limits old new) run)).readers }
     ensures stops { (tag : ℕ) (limits : Limits) (old new : Tells) (run : List Step) (replies : List Reply)
         (stop : Stop) (writers : List Writer) (readers : List Reader) →
         play [] (start tag limits old new) run ≡ Halts replies stop writers readers →
@@ -60,20 +60,27 @@ pub fn readers_close_exactly()
 
 /// A host writer uses its records in order, each once, and hears exactly the accepted feeds to it, in
 /// order, each behind as many records as it had used when it came, and stays of its kind and payload; from
-/// whichever world, whatever the steps.
+/// whichever world, whatever the steps. Where a step stops, it uses the records of its polls, and hears
+/// nothing.
 pub fn writers_are_fed_exactly()
-    ensures { (first : World) (run : List Step) (n : ℕ) →
-        WriterGoesOn n (host_moments first run) (writer_at first n)
-        (writer_at (last_of first (host_moments first run)) n) }
+    ensures runs { (first : World) (run : List Step) (count : ℕ) (n : ℕ) →
+        WriterGoesOn n (first_moments count first run) (writer_at first n)
+        (writer_at (last_of first (first_moments count first run)) n) }
+    ensures stops { (first : World) (run : List Step) (replies : List Reply) (stop : Stop)
+        (writers : List Writer) (readers : List Reader) → play [] first run ≡ Halts replies stop writers readers →
+        (n : ℕ) → WriterStops (writer_at (last_of first (host_moments first run)) n) (writer_in writers n) }
 {}
 
 /// A host reader uses its records in order, each once, and hears exactly the accepted grants to it, in order,
 /// each behind as many records as it had used when it came, and stays of its kind and payload; from whichever
-/// world, whatever the steps.
+/// world, whatever the steps. Where a step stops, it uses the records of its polls, and hears nothing.
 pub fn readers_are_granted_exactly()
-    ensures { (first : World) (run : List Step) (r : ℕ) →
-        ReaderGoesOn r (host_moments first run) (reader_at first r)
-        (reader_at (last_of first (host_moments first run)) r) }
+    ensures runs { (first : World) (run : List Step) (count : ℕ) (r : ℕ) →
+        ReaderGoesOn r (first_moments count first run) (reader_at first r)
+        (reader_at (last_of first (first_moments count first run)) r) }
+    ensures stops { (first : World) (run : List Step) (replies : List Reply) (stop : Stop)
+        (writers : List Writer) (readers : List Reader) → play [] first run ≡ Halts replies stop writers readers →
+        (r : ℕ) → ReaderStops (reader_at (last_of first (host_moments first run)) r) (reader_in readers r) }
 {}
 
 /// On each stream of a host writer, what the writer held when the stream was made and the items of all
@@ -83,10 +90,10 @@ pub fn readers_are_granted_exactly()
 /// given up together. As many items were counted, up to the end of the count's type. A future of a host
 /// writer passes one item at most, if the writer held no more than one when the future was made.
 pub fn producers_deliver_in_order()
-    ensures { (tag : ℕ) (limits : Limits) (old new : Tells) (run : List Step) (s : ℕ) →
+    ensures { (tag : ℕ) (limits : Limits) (old new : Tells) (run : List Step) (count : ℕ) (s : ℕ) →
         ((n : ℕ) → Supplies (writer_at (start tag limits old new) n)) → length run ≤ 4294967295 →
-        DeliversAll s (host_moments (start tag limits old new) run)
-        (last_of (start tag limits old new) (host_moments (start tag limits old new) run)) }
+        DeliversAll s (first_moments count (start tag limits old new) run)
+        (last_of (start tag limits old new) (first_moments count (start tag limits old new) run)) }
 {}
 
 /// A host reader that got the read end of a stream has taken, behind what it held at first, exactly the
@@ -94,11 +101,11 @@ pub fn producers_deliver_in_order()
 /// or the front of what the stream's host writer held and produced, where each of them is an item: so what it
 /// tells is what was taken.
 pub fn readers_tell_what_they_took()
-    ensures { (tag : ℕ) (limits : Limits) (old new : Tells) (run : List Step) (s r : ℕ) → AreSteps run →
-        TellsTaken s r (host_moments (start tag limits old new) run)
+    ensures { (tag : ℕ) (limits : Limits) (old new : Tells) (run : List Step) (count : ℕ) (s r : ℕ) → AreSteps run →
+        TellsTaken s r (first_moments count (start tag limits old new) run)
         (reader_at (start tag limits old new) r)
         (reader_at (last_of (start tag limits old new)
-        (host_moments (start tag limits old new) run)) r) }
+        (first_moments count (start tag limits old new) run)) r) }
 {}
 
 /// Streams are isolated: the codes answered for a stream are those of its kind and of its own events,
@@ -106,7 +113,7 @@ pub fn readers_tell_what_they_took()
 /// stream leaves it whole, with what its host ends hold and what is kept of them. Up to its stop in a run
 /// that stops.
 pub fn streams_are_isolated()
-    ensures { (tag : ℕ) (limits : Limits) (old new : Tells) (run : List Step) →
-        AreIsolated (host_moments (start tag limits old new) run)
-        (last_of (start tag limits old new) (host_moments (start tag limits old new) run)) }
+    ensures { (tag : ℕ) (limits : Limits) (old new : Tells) (run : List Step) (count : ℕ) →
+        AreIsolated (first_moments count (start tag limits old new) run)
+        (last_of (start tag limits old new) (first_moments count (start tag limits old new) run)) }
 {}

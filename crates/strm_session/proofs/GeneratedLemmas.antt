@@ -40,6 +40,7 @@ use Rattle.strm_machine.proofs.NamedEndLemmas.{found_payload}
 use Rattle.strm_lines.proofs.GeneratorLemmas.{length-generated}
 use Rattle.strm_lines.specs.Generator.{next_state, drawn, byte_stream, drawn_step, drawn_steps, first_steps, generated}
 use Rattle.strm_transmit.specs.Guests.{is_of_guests}
+use Rattle.strm_session.proofs.KeptLemmas.{all_laws}
 use Rattle.strm_session.specs.Runs.{start_among, AreOfGuests, HasLawsAmong, IsKeptBefore, StopsAmong, StopsBy}
 use Rattle.strm_session.specs.declared.runs.RunCause.{RunCause}
 use Rattle.strm_session.specs.declared.runs.RunCause.TheVariants as causes
@@ -140,7 +141,7 @@ none_bad world step s h d (InDrive r) = absurd (let wrong = sym (ap is_of_guests
 sound_after : (first : World) (steps : List Step) (told : List Reply) (world : World) → IsKeptBefore first steps told → play [] first (take (length told) steps) ≡ Ends told world → IsSound world.state
 sound_after first steps told world k e =
     let front = take (length told) steps in
-    let laws = subst (λ (xs : List Step). HasLawsAmong first (host_moments first xs) (last_of first (host_moments first xs))) (take_all (length front) front (omega arith)) (k.kept.laws (length front)) in
+    let laws = subst (λ (xs : List Step). HasLawsAmong first (host_moments first xs) (last_of first (host_moments first xs))) (take_all (length front) front (omega arith)) (all_laws first (take (length front) front) (k.kept.laws (length front))) in
     let same : k.world ≡ world = ap end_of_play (sym k.before ∙ e) in
     subst (λ (w : World). IsSound w.state) (k.kept.ends ∙ same) laws.sound
   where

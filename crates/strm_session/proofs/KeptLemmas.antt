@@ -8,20 +8,26 @@ use Rattle.strm_laws.proofs.LawfulRuns.{AreSteps-take}
 use Rattle.strm_machine.specs.State.{State}
 use Rattle.strm_machine.specs.declared.steps.Step.{Step}
 use Rattle.strm_machine.specs.declared.replies.Reply.{Reply}
-use Rattle.strm_world.specs.World.{World}
+use Rattle.strm_world.specs.World.{World, writer_at, reader_at}
 use Rattle.strm_machine.specs.declared.stops.Stop.{Stop}
-use Rattle.strm_world.specs.Ends.{Writer, Reader}
+use Rattle.strm_world.specs.Ends.{Writer, Reader, writer_in, reader_in}
 use Rattle.strm_world.specs.HostPlays.{play, Ends, Halts}
-use Rattle.strm_host_laws.specs.HostLaws.{ClosesExactly, ReadersCloseExactly}
+use Rattle.strm_host_laws.specs.HostLaws.{ClosesExactly, WriterStops, ReadersCloseExactly, ReaderStops}
 use Rattle.strm_world.specs.Does.{AreSupplied, spent}
-use Rattle.strm_host_laws.specs.HostMoments.{host_moments, last_of}
-use Rattle.strm_session.specs.Runs.{start_among, HasLawsAmong, IsKeptAmong, IsKeptBefore, AreOfItems, DeliversEach, HaltsBy, StopCloses, StopsAmong}
+use Rattle.strm_host_laws.specs.HostMoments.{HostMoment, host_moments, last_of}
+use Rattle.strm_session.specs.Runs.{start_among, HasLawsAmong, HasLawsFirst, IsKeptAmong, IsKeptBefore, AreOfItems, DeliversEach, HaltsBy, StopCloses, StopUses, StopsAmong}
 use Rattle.strm_session.specs.declared.runs.RunCause.{RunCause}
 use Rattle.strm_session.proofs.SuppliedLemmas.{all_supply}
 
 -- the laws of whichever steps from this world
 abbrev pub LawsAmong : World → Type 0
-LawsAmong first = (steps : List Step) → AreSteps steps → HasLawsAmong first (host_moments first steps) (last_of first (host_moments first steps))
+LawsAmong first = (steps : List Step) → AreSteps steps → (count : ℕ) → HasLawsFirst count first steps
+
+-- after all their moments
+pub all_laws : (first : World) (steps : List Step) → ((count : ℕ) → HasLawsFirst count first steps) → HasLawsAmong first (host_moments first steps) (last_of first (host_moments first steps))
+all_laws first steps h =
+    let all = host_moments first steps in
+    subst (λ (xs : List HostMoment). HasLawsAmong first xs (last_of first xs)) (take_all (length all) all (omega arith)) (h (length all))
 
 -- the moments of a run lead to its end
 abbrev pub LeadsAmong : World → Type 0
@@ -35,7 +41,7 @@ module _ (first : World) (laws : LawsAmong first) (leads : LeadsAmong first) whe
   pub kept_among : (steps : List Step) (replies : List Reply) (end : World) → AreSteps steps → play [] first steps ≡ Ends replies end → IsKeptAmong first steps end
   kept_among steps replies end a e = record {
     ends = leads steps replies end e;
-    laws = λ n. laws (take n steps) (AreSteps-take steps n a);
+    laws = λ n count. laws (take n steps) (AreSteps-take steps n a) count;
   }
 
   pub kept_before : (steps : List Step) (told : List Reply) (world : World) → AreSteps (take (length told) steps) → play [] first (take (length told) steps) ≡ Ends told world → IsKeptBefore first steps told
@@ -49,7 +55,7 @@ stop_kept old new laws leads steps told cause a s = kept_before (start_among old
 pub delivers_each : (old new : Tells) (steps : List Step) (state : State) → IsKeptAmong (start_among old new) steps (spent state new) → AreOfItems old → AreSupplied new → DeliversEach (start_among old new) steps (spent state new)
 delivers_each old new steps state k o a s =
     let first = start_among old new in
-    let laws = subst (λ (xs : List Step). HasLawsAmong first (host_moments first xs) (last_of first (host_moments first xs))) (take_all (length steps) steps (omega arith)) (k.laws (length steps)) in
+    let laws = subst (λ (xs : List Step). HasLawsAmong first (host_moments first xs) (last_of first (host_moments first xs))) (take_all (length steps) steps (omega arith)) (all_laws first (take (length steps) steps) (k.laws (length steps))) in
     let now = subst (HasLawsAmong first (host_moments first steps)) k.ends laws in
     now.writers.delivers (all_supply old new state o a (λ n. (now.writers.goes_on n).payload)) s
 
@@ -67,3 +73,16 @@ module _ (first : World) (steps : List Step) where
   pub stop_closes : WritersClose → ReadersClose → (told : List Reply) (new : Tells) (stop : Option Stop) → HaltsBy first steps told new stop → StopCloses first steps new stop
   stop_closes w r told new None h = tt
   stop_closes w r told new (Some stop) h = (h.0, w told stop _ _ h.1, r told stop _ _ h.1)
+
+  -- and each used the records of its polls there
+  abbrev pub WritersStop : Type 0
+  WritersStop = (replies : List Reply) (stop : Stop) (writers : List Writer) (readers : List Reader) → play [] first steps ≡ Halts replies stop writers readers
+      → (n : ℕ) → WriterStops (writer_at (last_of first (host_moments first steps)) n) (writer_in writers n)
+
+  abbrev pub ReadersStop : Type 0
+  ReadersStop = (replies : List Reply) (stop : Stop) (writers : List Writer) (readers : List Reader) → play [] first steps ≡ Halts replies stop writers readers
+      → (r : ℕ) → ReaderStops (reader_at (last_of first (host_moments first steps)) r) (reader_in readers r)
+
+  pub stop_uses : WritersStop → ReadersStop → (told : List Reply) (new : Tells) (stop : Option Stop) → HaltsBy first steps told new stop → StopUses first steps new stop
+  stop_uses w r told new None h = tt
+  stop_uses w r told new (Some stop) h = (h.0, w told stop _ _ h.1, r told stop _ _ h.1)

@@ -26,7 +26,7 @@ use Rattle.strm_session.specs.Runs.{start, start_among, AreOfGuests, counts_of, 
 use Rattle.strm_session.specs.Playing.{IsPlayed, HasRun}
 use Rattle.strm_session.proofs.PlayLemmas.{IsAt, stops, stopped_before}
 use Rattle.strm_session.proofs.AmongLemmas.{extends_self, LedAmong, led_none, led_more, begins_among, runs_to, stops_among, stops_behind, wanting_there}
-use Rattle.strm_session.proofs.KeptLemmas.{LawsAmong, LeadsAmong, WritersClose, ReadersClose, are_first, kept_among, stop_kept, stop_closes, delivers_each}
+use Rattle.strm_session.proofs.KeptLemmas.{LawsAmong, LeadsAmong, WritersClose, ReadersClose, WritersStop, ReadersStop, are_first, kept_among, stop_kept, stop_closes, stop_uses, delivers_each}
 use Rattle.strm_session.proofs.LawLemmas.{LawsHold, StepHolds, run_kept, front_kept}
 use Rattle.strm_session.proofs.RecordLemmas.{KeepOn, keep_none, rules_of_stop, rules_more, hosts_before, stops_by_record}
 use Rattle.strm_session.proofs.AloneLemmas.{start-fits, LedByGuests, StepAlone, alone_none, alone_more, alone_before, untouched_at}
@@ -71,6 +71,12 @@ module _ (old now new : Tells) (steps left rest : List Step) (k : ℕ) (step : S
   Aside P = touches (lone state) (act_of step) ≡ false → P
 
   module _ (laws : LawsAmong (start_among old now)) (leads : LeadsAmong (start_among old now)) (few : length steps ≤ 4294967295) where
+    -- with what this step puts into a memory
+    bytes_more : HasBytes step → All HasBytes (take (k + 1) steps)
+    bytes_more bytes =
+        subst (All HasBytes) (sym (take_more steps k _ at.0.inside))
+        (All-push HasBytes (take k steps) _ p.bytes (subst HasBytes (sym at.0.is) bytes))
+
     hold : HostsHold state
     hold = hosts_before old now laws leads steps k told state (are_first steps k few p.bytes) p.led
 
@@ -85,11 +91,10 @@ module _ (old now new : Tells) (steps left rest : List Step) (k : ℕ) (step : S
       running = running;
       count = length_push told reply ∙ ap (λ n. n + 1) p.count;
       rest = at.1;
-      bytes = subst (All HasBytes) (sym (take_more steps k _ at.0.inside))
-          (All-push HasBytes (take k steps) _ p.bytes (subst HasBytes (sym at.0.is) bytes));
+      bytes = bytes_more bytes;
     }
 
-    module _ (cause : RunCause) (d : Does state next now new (Err (stop_of cause)) (λ w. step_of w step))
+    module _ (cause : RunCause) (here : HasBytes step) (d : Does state next now new (Err (stop_of cause)) (λ w. step_of w step))
         (unmet : cause ≡ causes.OutOfMemory → (s : ℕ) → GuestAsksBad (lone state) step s → ⊥)
         (wants : LeavesWanting state next now new step cause) (alone : Aside (StopsStep told state step cause × (new ≡ now))) where
       stopped_so : IsPlayed old new steps told next (Err cause)
@@ -119,6 +124,7 @@ module _ (old now new : Tells) (steps left rest : List Step) (k : ℕ) (step : S
             all = tt;
             count = omega (arith, p.count, at.0.inside);
             bytes = subst (λ n. All HasBytes (take n steps)) (sym p.count) p.bytes;
+            bytes_there = subst (λ n. All HasBytes (take (n + 1) steps)) (sym p.count) (bytes_more here);
           }
 
       -- of what the exit of a `?` answers
@@ -146,6 +152,9 @@ played_all old now steps left k told state u p e =
       all = p.count ∙ e;
       count = omega (arith, p.count, e);
       bytes = subst (λ n. All HasBytes (take n steps)) (sym p.count) p.bytes;
+      bytes_there =
+          let all : take k steps ≡ take (length told + 1) steps = take_all k steps whole ∙ sym (take_all (length told + 1) steps (omega (arith, p.count, whole))) in
+          subst (All HasBytes) all p.bytes;
     }
 
 -- of guests alone it stopped as the machine without host ends does
@@ -154,17 +163,23 @@ StoppedAlone steps told cause =
     AreOfGuests steps → (s : State) × (play [] start (take (length told) steps) ≡ Ends told s) × StopsAt steps told cause
 
 -- a run by its play, and by the laws of all runs
-module _ (laws : LawsHold) (aside : StepHolds StaysAside) (put : StepHolds LieThere) (among : (old new : Tells) → LawsAmong (start_among old new)) (leads : (old new : Tells) → LeadsAmong (start_among old new)) (writers_close : (old new : Tells) (steps : List Step) → WritersClose (start_among old new) steps) (readers_close : (old new : Tells) (steps : List Step) → ReadersClose (start_among old new) steps) (old new : Tells) (steps : List Step) (few : length steps ≤ 4294967295) (told : List Reply) (state : State) where
+module _ (laws : LawsHold) (aside : StepHolds StaysAside) (put : StepHolds LieThere) (among : (old new : Tells) → LawsAmong (start_among old new)) (leads : (old new : Tells) → LeadsAmong (start_among old new)) (writers_close : (old new : Tells) (steps : List Step) → WritersClose (start_among old new) steps) (readers_close : (old new : Tells) (steps : List Step) → ReadersClose (start_among old new) steps) (writers_stop : (old new : Tells) (steps : List Step) → WritersStop (start_among old new) steps) (readers_stop : (old new : Tells) (steps : List Step) → ReadersStop (start_among old new) steps) (old new : Tells) (steps : List Step) (few : length steps ≤ 4294967295) (told : List Reply) (state : State) where
+  -- what the first of the steps put into memories is bytes
+  abbrev BytesTo : ℕ → Type 0
+  BytesTo n = All HasBytes (take n steps)
+
   -- why it stopped, and what held before
-  stopped_by : (c : RunCause) → All HasBytes (take (length told) steps) → StopsAmong old new steps told c → StopsByRecord old new (stop_of c) → StopRules (stop_of c) old new
+  stopped_by : (c : RunCause) → BytesTo (length told) → BytesTo (length told + 1) → StopsAmong old new steps told c → StopsByRecord old new (stop_of c) → StopRules (stop_of c) old new
       → StopsWanting (start_among old new) steps told new (stop_of c) → StoppedAlone steps told c → HasStopped old new steps told c
-  stopped_by cause bytes stop by_record rules wanting alone = record {
+  stopped_by cause bytes there stop by_record rules wanting alone = record {
     stops = stop;
     by_record = by_record;
     rules = rules;
     closes = stop_closes (start_among old new) steps (writers_close old new steps) (readers_close old new steps) told new (stop_of cause) stop.halts;
+    uses = stop_uses (start_among old new) steps (writers_stop old new steps) (readers_stop old new steps) told new (stop_of cause) stop.halts;
     wanting = wanting;
     kept_before = stop_kept old new (among old new) (leads old new) steps told cause (are_first steps (length told) few bytes) stop;
+    kept_until = among old new (take (length told + 1) steps) (are_first steps (length told + 1) few there);
     alone = λ all.
         let s = alone all in
         record {
@@ -179,7 +194,7 @@ module _ (laws : LawsHold) (aside : StepHolds StaysAside) (put : StepHolds LieTh
   run_stopped cause p = record {
     ok = tt;
     received = tt;
-    stop = stopped_by cause p.bytes p.stop p.by_record p.rules p.wanting p.stop_alone;
+    stop = stopped_by cause p.bytes p.bytes_there p.stop p.by_record p.rules p.wanting p.stop_alone;
     hosts = p.hosts;
     goes_on = p.goes_on;
     count = p.count;
@@ -200,7 +215,7 @@ module _ (laws : LawsHold) (aside : StepHolds StaysAside) (put : StepHolds LieTh
     unkept = record {
       ok = tt;
       received = tt;
-      stop = stopped_by causes.OutOfMemory p.bytes (stops_behind old new steps told state p.all p.ok) tt tt (Before state (ap (play_among [] (start_among old new)) all ∙ p.ok)) (λ alone. (
+      stop = stopped_by causes.OutOfMemory p.bytes p.bytes_there (stops_behind old new steps told state p.all p.ok) tt tt (Before state (ap (play_among [] (start_among old new)) all ∙ p.ok)) (λ alone. (
         state,
         before alone,
         ([], state, ap (play [] start) (take_all (length told + 1) steps (omega (arith, p.all))) ∙ p.alone alone ∙ ap (λ t. Ends t state) (sym (append-nil told))),

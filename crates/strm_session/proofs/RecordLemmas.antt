@@ -25,7 +25,7 @@ use Rattle.strm_session.specs.Runs.{start_among}
 use Rattle.strm_machine.specs.Hosting.{HostsHold}
 use Rattle.strm_laws.specs.Laws.{AreSteps}
 use Rattle.strm_session.proofs.AmongLemmas.{LedAmong, extends_self}
-use Rattle.strm_session.proofs.KeptLemmas.{LawsAmong, LeadsAmong}
+use Rattle.strm_session.proofs.KeptLemmas.{LawsAmong, LeadsAmong, all_laws}
 use Rattle.strm_machine.specs.declared.streams.HostEnd.TheVariants as ends
 
 -- WHAT HOST ENDS TELL
@@ -269,7 +269,7 @@ hosts_before old now laws leads steps k told state a l =
     let led = (l.led (saids now) (extends_self now)).goes_on [] in
     let played : play [] first front ≡ Ends told (world_of state now (saids now)) = ap (play [] first) (sym (append-nil front)) ∙ led in
     let end = leads front told (world_of state now (saids now)) played in
-    subst (λ (w : World). HostsHold w.state) end (laws front a).hosts
+    subst (λ (w : World). HostsHold w.state) end (all_laws (start_among old now) front (laws front a)).hosts
 
 -- a step that stops a run
 pub stops_by_record : (old now new : Tells) (state next : State) (step : Step) (stop : Option Stop) → Extends old (saids now) → HostsHold state → Fits state now → Does state next now new (Err stop) (λ w. step_of w step) → StopsByRecord old new stop

@@ -1,5 +1,5 @@
 -- Runs of steps, whatever their replies are kept as. Ours.
-use Rattle.std.specs.Prelude.{◌≡◌, ◌≤◌, List, [], length, take, All, Result, IfOk, IfErr, OnOk}
+use Rattle.std.specs.Prelude.{◌≡◌, ◌+◌, ◌≤◌, List, [], length, take, All, Result, IfOk, IfErr, OnOk}
 use Rattle.strm_machine.specs.State.{State}
 use Rattle.strm_machine.specs.Plays.{play, Ends}
 use Rattle.strm_machine.specs.declared.steps.Step.{Step}
@@ -29,6 +29,7 @@ pub record IsPlayed (old new : Tells) (steps : List Step) (told : List Reply) (s
   pub all : OnOk result (length told ≡ length steps)
   pub count : length told ≤ length steps
   pub bytes : All HasBytes (take (length told) steps)
+  pub bytes_there : All HasBytes (take (length told + 1) steps)
 
 -- a run of these steps came to its end, or stopped; these are the replies, and this is what host ends told
 -- before and tell after

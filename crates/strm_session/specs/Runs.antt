@@ -29,9 +29,9 @@ use Rattle.strm_world.specs.Steps.{step_of, may_poll}
 use Rattle.strm_world.specs.Asking.{GuestAsksBad, AsksBadItem, ByGuest, stands_at}
 use Rattle.strm_world.specs.Does.{saids, spent, world_of, faults_of, Does, RunsTo, StopsWith, AreSupplied}
 use Rattle.strm_transmit.specs.Guests.{is_of_guests}
-use Rattle.strm_host_laws.specs.HostMoments.{HostMoment, host_moments, last_of}
+use Rattle.strm_host_laws.specs.HostMoments.{HostMoment, host_moments, first_moments, last_of}
 use Rattle.strm_host_laws.specs.Isolation.{AreIsolated}
-use Rattle.strm_host_laws.specs.HostLaws.{ClosesExactly, WriterGoesOn, Supplies, DeliversAll, ReadersCloseExactly, ReaderGoesOn, TellsTaken, host_got, ConservesAmong, MovesByHosts, is_hosted, is_piped, plains}
+use Rattle.strm_host_laws.specs.HostLaws.{ClosesExactly, WriterGoesOn, WriterStops, Supplies, DeliversAll, ReadersCloseExactly, ReaderGoesOn, ReaderStops, TellsTaken, host_got, ConservesAmong, MovesByHosts, is_hosted, is_piped, plains}
 use Rattle.strm_session.specs.Records.{StopsByRecord, RulesKept, StopRules, ObeyRules, NoneRose}
 use Rattle.strm_session.specs.declared.runs.RunCause.{RunCause}
 use Rattle.strm_session.specs.declared.runs.RunStop.{RunStop}
@@ -150,11 +150,17 @@ pub record HasLawsAmong (first : World) (all : List HostMoment) (end : World) : 
   pub sound : IsSound end.state
   pub isolated : AreIsolated all end
 
--- a run of these steps leads from one world to the other, and the laws hold after each step, the last one
--- too
+-- the laws after the first so many moments of these steps, where each turn in a drive round is one, up to where a
+-- step stops
+abbrev pub HasLawsFirst : ℕ → World → List Step → Type 0
+HasLawsFirst count first steps =
+    HasLawsAmong first (first_moments count first steps) (last_of first (first_moments count first steps))
+
+-- a run of these steps leads from one world to the other, and the laws hold after each step, the last one too, and
+-- in a drive round after each stream's turn
 pub record IsKeptAmong (first : World) (steps : List Step) (end : World) : Type 0 where
   pub ends : last_of first (host_moments first steps) ≡ end
-  pub laws : (n : ℕ) → HasLawsAmong first (host_moments first (take n steps)) (last_of first (host_moments first (take n steps)))
+  pub laws : (n count : ℕ) → HasLawsFirst count first (take n steps)
 
 -- what a host writer holds are items of its payload
 abbrev pub HoldsItems : WriterTells → Type 0
@@ -260,6 +266,14 @@ StopCloses first steps new (Some stop) =
     × ClosesExactly first (last_of first (host_moments first steps)).state (spent state new).writers
     × ReadersCloseExactly first (last_of first (host_moments first steps)).state (spent state new).readers
 
+-- where the machine halts, each host end used the records of its polls there, and heard no more than before
+abbrev pub StopUses : World → List Step → Tells → Option Stop → Type 0
+StopUses first steps new None = Unit {0}
+StopUses first steps new (Some stop) =
+    (state : State)
+    × ((n : ℕ) → WriterStops (writer_at (last_of first (host_moments first steps)) n) (writer_at (spent state new) n))
+    × ((r : ℕ) → ReaderStops (reader_at (last_of first (host_moments first steps)) r) (reader_at (spent state new) r))
+
 -- what host ends tell where memory was wanted: what they told behind these replies, or behind one more,
 -- which was not kept; else the step behind these replies may poll a host end
 pub data WantsThere (first : World) (steps : List Step) (told : List Reply) (new : Tells) : Type 0 where
@@ -350,17 +364,20 @@ pub record IsWhole (old new : Tells) (steps : List Step) (replies : List Reply) 
   pub kept : AreOfGuests steps → IsKept steps replies state
 
 -- a run of these steps stops behind these replies, by this cause: they are the machine's to the steps before,
--- which keep the laws. A host end that failed, or broke the rules of its kind, says so by its last record,
--- which it made in this run, and no other record that was added does; and a bad item was asked for. Exactly
--- the host ends that became gone were closed. Where memory was wanted by a step that polls none, they tell what
--- they told before it. Of guests alone it stops as without host ends
+-- which keep the laws, as do the turns of a drive round before the one that stopped. A host end that failed, or
+-- broke the rules of its kind, says so by its last record, which it made in this run, and no other record that was
+-- added does; and a bad item was asked for. Exactly the host ends that became gone were closed, and they used and
+-- heard no more than what the laws say but for the records of the step that stopped. Where memory was wanted by a
+-- step that polls none, they tell what they told before it. Of guests alone it stops as without host ends
 pub record HasStopped (old new : Tells) (steps : List Step) (replies : List Reply) (cause : RunCause) : Type 0 where
   pub stops : StopsAmong old new steps replies cause
   pub by_record : StopsByRecord old new (stop_of cause)
   pub rules : StopRules (stop_of cause) old new
   pub closes : StopCloses (start_among old new) steps new (stop_of cause)
+  pub uses : StopUses (start_among old new) steps new (stop_of cause)
   pub wanting : StopsWanting (start_among old new) steps replies new (stop_of cause)
   pub kept_before : IsKeptBefore (start_among old new) steps replies
+  pub kept_until : (count : ℕ) → HasLawsFirst count (start_among old new) (take (length replies + 1) steps)
   pub alone : AreOfGuests steps → StopsBy steps replies cause
 
 -- how a run of these steps comes out, by causes that a caller sees: memory is all that it may want where no

@@ -2,21 +2,21 @@
 //!
 //! Source: ours.
 
-ghost use Rattle.std.specs.Prelude.{◌≡◌, ◌∷◌, ◌++◌, [], List};
+ghost use Rattle.std.specs.Prelude.{◌≡◌, ◌∷◌, ◌++◌, [], List, ℕ};
 ghost use Rattle.strm_machine.specs.declared.steps.Step.{Step};
 ghost use Rattle.strm_machine.specs.declared.replies.Reply.{Reply};
 ghost use Rattle.strm_machine.specs.Moments.{moment_of};
 ghost use Rattle.strm_machine.specs.Untouched.{StaysAside, LieThere};
 ghost use Rattle.strm_laws.specs.Conservation.{moments, last};
 ghost use Rattle.strm_laws.specs.Laws.{AreSteps};
-ghost use Rattle.strm_world.specs.World.{World};
-ghost use Rattle.strm_world.specs.Ends.{Writer, Reader};
+ghost use Rattle.strm_world.specs.World.{World, writer_at, reader_at};
+ghost use Rattle.strm_world.specs.Ends.{Writer, Reader, writer_in, reader_in};
 ghost use Rattle.strm_world.specs.HostPlays.{play as play_among, Ends as EndsAmong, Halts as HaltsAmong};
 ghost use Rattle.strm_machine.specs.declared.stops.Stop.{Stop};
-ghost use Rattle.strm_host_laws.specs.HostLaws.{ClosesExactly, ReadersCloseExactly};
+ghost use Rattle.strm_host_laws.specs.HostLaws.{ClosesExactly, WriterStops, ReadersCloseExactly, ReaderStops};
 ghost use Rattle.strm_host_laws.specs.HostMoments.{host_moments, last_of};
 ghost use Rattle.strm_buffers.specs.Tells.{Tells};
-ghost use Rattle.strm_session.specs.Runs.{start, start_among, HasLaws, HasLawsAmong};
+ghost use Rattle.strm_session.specs.Runs.{start, start_among, HasLaws, HasLawsFirst};
 
 use strm_host_laws::{guests, runs};
 use strm_laws::laws::{
@@ -49,9 +49,8 @@ pub(crate) fn laws_hold()
 
 // What the laws say of every run among host ends. It does nothing.
 pub(crate) fn laws_hold_among()
-    ensures laws { (old new : Tells) (steps : List Step) → AreSteps steps → HasLawsAmong (start_among old new)
-        (host_moments (start_among old new) steps)
-        (last_of (start_among old new) (host_moments (start_among old new) steps)) }
+    ensures laws { (old new : Tells) (steps : List Step) → AreSteps steps → (count : ℕ) →
+        HasLawsFirst count (start_among old new) steps }
     ensures leads { (old new : Tells) (steps : List Step) (replies : List Reply) (end : World) →
         play_among [] (start_among old new) steps ≡ EndsAmong replies end →
         last_of (start_among old new) (host_moments (start_among old new) steps) ≡ end }
@@ -65,6 +64,16 @@ pub(crate) fn laws_hold_among()
         play_among [] (start_among old new) steps ≡ HaltsAmong replies stop writers readers →
         ReadersCloseExactly (start_among old new)
         (last_of (start_among old new) (host_moments (start_among old new) steps)).state readers }
+    ensures fed { (old new : Tells) (steps : List Step) (replies : List Reply) (stop : Stop)
+        (writers : List Writer) (readers : List Reader) →
+        play_among [] (start_among old new) steps ≡ HaltsAmong replies stop writers readers → (n : ℕ) →
+        WriterStops (writer_at (last_of (start_among old new) (host_moments (start_among old new) steps)) n)
+        (writer_in writers n) }
+    ensures granted { (old new : Tells) (steps : List Step) (replies : List Reply) (stop : Stop)
+        (writers : List Writer) (readers : List Reader) →
+        play_among [] (start_among old new) steps ≡ HaltsAmong replies stop writers readers → (r : ℕ) →
+        ReaderStops (reader_at (last_of (start_among old new) (host_moments (start_among old new) steps)) r)
+        (reader_in readers r) }
 {
     runs::moments_lead_to_the_end();
     runs::ends_close_exactly();
