@@ -1,0 +1,24 @@
+-- Host readers that follow a tape. Ours.
+use Rattle.std.specs.Prelude.{ℕ, ◌+◌, ◌-◌, ◌^◌, min, Bool, true, false, List}
+use Rattle.strm_buffers.specs.declared.answers.ReaderSaid.{ReaderSaid}
+use Rattle.strm_buffers.specs.Tells.{ReaderTells}
+use Rattle.strm_ends.specs.Takings.{scripted_reader_tells}
+use Rattle.strm_ends.specs.declared.scripted_reader.ReaderTurn.{ReaderTurn}
+use Rattle.strm_tape_ends.specs.declared.replay_reader.ReplayReader.{ReplayReader}
+
+-- one item more is asked for where one was none
+abbrev pub asked_for : Bool → ℕ → ℕ
+asked_for true taken = min (taken + 1) (2 ^ 32 - 1)
+asked_for false taken = taken
+
+-- the turn that makes such a record: as many items are taken, and one more is asked for where it was none
+abbrev pub turn_for : ReaderSaid → ReaderTurn
+turn_for said = record { take = asked_for said.bad said.taken; answer = said.answer }
+
+-- the turns of a replay reader, one a poll from the first
+abbrev pub plan_of_reader : ReplayReader → List ReaderTurn
+plan_of_reader r = r.end.turns.items
+
+-- what a replay reader tells
+abbrev pub replay_reader_tells : ReplayReader → ReaderTells
+replay_reader_tells r = scripted_reader_tells r.end
