@@ -187,9 +187,9 @@ strm_status strm_memory_write(
 strm_status strm_memory_read(
     strm_store *store, uint32_t guest, uint32_t address, uint8_t *out, size_t len);
 
-/* Puts at `out` where a guest's memory lies, and at `len` how many bytes it has; of no bytes `out`
-   stays. They lie there until the store is given up. The caller may read and write them between
-   calls, and must not during one. Refused: STRM_UNKNOWN_GUEST. */
+/* Puts at `out` where a guest's memory lies, and at `len` how many bytes it has; of no bytes `out` is
+   an address that may not be read. They lie there until the store is given up. The caller may read
+   and write them between calls, and must not during one. Refused: STRM_UNKNOWN_GUEST. */
 strm_status strm_memory_at(strm_store *store, uint32_t guest, uint8_t **out, size_t *len);
 
 /* STREAMS */

@@ -233,14 +233,14 @@ fn regions_are_inside_and_aligned(rt: HostRuntime) {
 }
 
 fn made(rt: &impl Abort, alloc: Global, size: u32) -> GuestMemory
-    ensures { length result ≡ size }
+    ensures { length result.bytes ≡ size }
 {
     GuestMemory::new(alloc, size).expect(rt, "memory")
 }
 
 // A memory of 8 bytes that holds the bytes 1, 2, 3 from an address on.
 fn filled(rt: &impl Abort, alloc: Global, address: u32) -> GuestMemory
-    ensures { length result ≡ 8 }
+    ensures { length result.bytes ≡ 8 }
 {
     let mut memory = made(rt, alloc, 8);
     is(rt, memory.store(address, b"\x01\x02\x03"), Ok(()));

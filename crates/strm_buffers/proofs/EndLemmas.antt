@@ -24,6 +24,7 @@ Fills-same w = record {
   place = sym (ap (stored_in (scalars_of w.payload) w.place (length w.marked)) (drop_all (length w.marked) w.marked (omega arith)) ∙ stored_in-nil (scalars_of w.payload) w.place (length w.marked));
   marked = take_all (length w.marked) w.marked (omega arith);
   prepared = refl;
+  base = refl;
 }
 
 -- of no items none has room, and none is past it

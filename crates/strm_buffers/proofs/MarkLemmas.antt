@@ -14,13 +14,14 @@ use Rattle.strm_memory.proofs.RegionLemmas.{AreItems-items}
 use Rattle.strm_memory.proofs.AppendLemmas.{items-bytes}
 use Rattle.strm_buffers.specs.Listing.{listed, AreKept, items_in}
 use Rattle.strm_buffers.specs.Windows.{Lent, Between, CanCount, lent_memory, lent_between, with_marked, with_direct, last_of, unmarked_kept, window_kept, KeepsRest, IsWindow, standing}
+use Rattle.strm_memory.specs.Linear.{untold}
 use Rattle.strm_buffers.proofs.ListingLemmas.{Lie, lie_none, lie_made, lie_same, length-items_in}
 use Rattle.strm_buffers.proofs.PutLemmas.{put_at-nil, put_at-same, put_at-kept, put_at-over, last_nil, length-last, stored_at-bytes, length-put_at}
 use Rattle.strm_buffers.proofs.WindowLemmas.{Kept, none_between, rest_less}
 
 module _ (payload : Payload) (memory bytes kept : List ℕ) (space address room : ℕ) where
   -- a new window over a memory
-  pub over_memory : bytes ≡ memory → kept ≡ [] → address + item_size (scalars_of payload) * room ≤ length memory → room < 4294967296 → Kept payload bytes kept space address (Some room) 0 false (lent_memory payload memory address room)
+  pub over_memory : bytes ≡ memory → kept ≡ [] → address + item_size (scalars_of payload) * room ≤ length memory → room < 4294967296 → Kept payload bytes kept space address (Some room) 0 false (lent_memory payload (untold memory) address room)
   over_memory e k h f =
       let ss = scalars_of payload in
       let w = item_size ss in

@@ -17,6 +17,7 @@ use Rattle.strm_memory.proofs.ItemLemmas.{item_fits}
 use Rattle.strm_memory.proofs.AppendLemmas.{items-bytes}
 use Rattle.strm_memory.proofs.ByteLemmas.{IsBytes-drop}
 use Rattle.strm_memory.proofs.RegionLemmas.{AreItems-items, items-number_or_none}
+use Rattle.strm_memory.specs.Linear.{LinearMemory}
 use Rattle.strm_buffers.specs.Listing.{Item, TypedItems, listed, items_in, good_items}
 use Rattle.strm_buffers.specs.Offers.{Offered, items_lent, item_behind, good_lent, left_of, is_cut, asks_bad, after_taking, IsSource, IsBadNext, IsOffer, Shows}
 use Rattle.strm_buffers.specs.Tells.{first_lent}
@@ -44,25 +45,25 @@ past_none (suc k) (x ∷ xs) e = omega (arith, past_none k xs e)
 
 -- what was lent up to the first bad one is no more than was lent
 pub good_most : (ss : List Scalar) (source : Source) → length (good_lent ss source) ≤ items_lent source
-good_most ss (Region memory address count) = length-good_items ss (drop address memory) count
+good_most ss (Region memory address count) = length-good_items ss (drop address memory.bytes) count
 good_most ss (Listed items) = omega arith
 
 -- the item behind so many of it
 pub behind_lent : (ss : List Scalar) (source : Source) (n : ℕ) → n ≤ length (good_lent ss source) → item_behind ss source n ≡ slice_get (good_lent ss source) n
 behind_lent ss (Region memory address count) n h = found (nat_lt n count) refl
   where
-    found : (b : Bool) → nat_lt n count ≡ b → (if b then decode ss (drop (address + item_size ss * n) memory) else None) ≡ slice_get (good_items ss (drop address memory) count) n
+    found : (b : Bool) → nat_lt n count ≡ b → (if b then decode ss (drop (address + item_size ss * n) memory.bytes) else None) ≡ slice_get (good_items ss (drop address memory.bytes) count) n
     found true e =
         let less : n < count = grind (arith, nat_tests) in
-        ap (decode ss) (sym (drop-drop (item_size ss * n) address memory)) ∙ behind_good ss (drop address memory) count n less h
+        ap (decode ss) (sym (drop-drop (item_size ss * n) address memory.bytes)) ∙ behind_good ss (drop address memory.bytes) count n less h
     found false e =
         let past : count ≤ n = grind (arith, nat_tests) in
-        get_past n (good_items ss (drop address memory) count) (omega (arith, past, length-good_items ss (drop address memory) count))
+        get_past n (good_items ss (drop address memory.bytes) count) (omega (arith, past, length-good_items ss (drop address memory.bytes) count))
 behind_lent ss (Listed items) n h = refl
 
 -- the first so many of it
 pub first_good : (ss : List Scalar) (source : Source) (n : ℕ) → n ≤ length (good_lent ss source) → first_lent ss source n ≡ take n (good_lent ss source)
-first_good ss (Region memory address count) n h = ap listed (good_take ss (drop address memory) count n h)
+first_good ss (Region memory address count) n h = ap listed (good_take ss (drop address memory.bytes) count n h)
 first_good ss (Listed items) n h = refl
 
 pub length-first_lent : (ss : List Scalar) (source : Source) (n : ℕ) → n ≤ length (good_lent ss source) → length (first_lent ss source n) ≡ n
@@ -85,9 +86,9 @@ lifted_fits ss bytes from false x b e t = cc
 -- no byte is bad
 pub all_bytes : (source : Source) → IsSource (One U8) source → length (good_lent (U8 ∷ []) source) ≡ items_lent source
 all_bytes (Region memory address count) h =
-    let room : count ≤ length (drop address memory) = omega (arith, h.0, length-drop address memory) in
-    let least = good_counted (U8 ∷ []) (drop address memory) count count _ (omega arith) (items-bytes (drop address memory) count room) in
-    omega (arith, least, length-good_items (U8 ∷ []) (drop address memory) count)
+    let room : count ≤ length (drop address memory.bytes) = omega (arith, h.0, length-drop address memory.bytes) in
+    let least = good_counted (U8 ∷ []) (drop address memory.bytes) count count _ (omega arith) (items-bytes (drop address memory.bytes) count room) in
+    omega (arith, least, length-good_items (U8 ∷ []) (drop address memory.bytes) count)
 all_bytes (Listed items) h = refl
 
 -- no whole number is bad
@@ -107,8 +108,8 @@ all_numbers payload memory address count t =
         let ss = scalars_of payload in
         omega (arith, good_counted ss (drop address memory) count count xs (omega arith) e, length-good_items ss (drop address memory) count)
 
-pub region_good : (payload : Payload) (source : Source) (memory : List ℕ) (address count : ℕ) → source ≡ Region memory address count → is_number_payload payload ≡ true → length (good_lent (scalars_of payload) source) ≡ items_lent source
-region_good payload source memory address count e t = rw e (all_numbers payload memory address count t)
+pub region_good : (payload : Payload) (source : Source) (memory : LinearMemory) (address count : ℕ) → source ≡ Region memory address count → is_number_payload payload ≡ true → length (good_lent (scalars_of payload) source) ≡ items_lent source
+region_good payload source memory address count e t = rw e (all_numbers payload memory.bytes address count t)
 
 -- an offer of which more good items are taken is one
 pub passed : (payload : Payload) (source : Source) (taken n : ℕ) (bad : Bool) → IsOffer payload source taken bad → taken + n ≤ length (good_lent (scalars_of payload) source) → IsOffer payload source (taken + n) bad
@@ -134,22 +135,22 @@ good_bytes payload source n p h l =
     subst P (sym p) (λ h. omega (arith, all_bytes source h, l)) h
 
 -- what a memory lends as bytes is what is left, up to the first bad one: none is bad
-region_left : (memory : List ℕ) (address count taken : ℕ) → IsSource (One U8) (Region memory address count) → taken ≤ count → byte_items (bytes_at memory (address + taken) (count - taken)) ≡ drop taken (good_items (U8 ∷ []) (drop address memory) count)
+region_left : (memory : LinearMemory) (address count taken : ℕ) → IsSource (One U8) (Region memory address count) → taken ≤ count → byte_items (bytes_at memory.bytes (address + taken) (count - taken)) ≡ drop taken (good_items (U8 ∷ []) (drop address memory.bytes) count)
 region_left memory address count taken h m =
-    let g = good_items (U8 ∷ []) (drop address memory) count in
-    let room : count ≤ length (drop address memory) = omega (arith, h.0, length-drop address memory) in
+    let g = good_items (U8 ∷ []) (drop address memory.bytes) count in
+    let room : count ≤ length (drop address memory.bytes) = omega (arith, h.0, length-drop address memory.bytes) in
     let size : length g ≡ count = all_bytes (Region memory address count) h in
-    let all : Some (take count g) ≡ Some (byte_items (take count (drop address memory))) = sym (good_take (U8 ∷ []) (drop address memory) count count (omega (arith, size))) ∙ items-bytes (drop address memory) count room in
-    let is : take count g ≡ byte_items (take count (drop address memory)) = ap listed all in
-    let whole : g ≡ byte_items (take count (drop address memory)) = sym (take_all count g (omega (arith, size))) ∙ is in
+    let all : Some (take count g) ≡ Some (byte_items (take count (drop address memory.bytes))) = sym (good_take (U8 ∷ []) (drop address memory.bytes) count count (omega (arith, size))) ∙ items-bytes (drop address memory.bytes) count room in
+    let is : take count g ≡ byte_items (take count (drop address memory.bytes)) = ap listed all in
+    let whole : g ≡ byte_items (take count (drop address memory.bytes)) = sym (take_all count g (omega (arith, size))) ∙ is in
     let parts : count ≡ taken + (count - taken) = omega (arith, m) in
-    let behind : drop taken (take count (drop address memory)) ≡ bytes_at memory (address + taken) (count - taken) = ap (λ k. drop taken (take k (drop address memory))) parts ∙ drop-take taken (count - taken) (drop address memory) ∙ ap (take (count - taken)) (drop-drop taken address memory) in
-    sym (ap byte_items behind) ∙ sym (drop-map _ taken (take count (drop address memory))) ∙ ap (drop taken) (sym whole)
+    let behind : drop taken (take count (drop address memory.bytes)) ≡ bytes_at memory.bytes (address + taken) (count - taken) = ap (λ k. drop taken (take k (drop address memory.bytes))) parts ∙ drop-take taken (count - taken) (drop address memory.bytes) ∙ ap (take (count - taken)) (drop-drop taken address memory.bytes) in
+    sym (ap byte_items behind) ∙ sym (drop-map _ taken (take count (drop address memory.bytes))) ∙ ap (drop taken) (sym whole)
 
 pub shows_left : (payload : Payload) (source : Source) (taken : ℕ) (bytes : List ℕ) → payload ≡ One U8 → IsSource payload source → taken ≤ items_lent source → Shows source taken bytes → byte_items bytes ≡ drop taken (good_lent (scalars_of payload) source)
 shows_left payload (Region memory address count) taken bytes p h m s =
     let h' = subst (λ q. IsSource q (Region memory address count)) p h in
-    ap byte_items s ∙ region_left memory address count taken h' m ∙ ap (λ q. drop taken (good_items (scalars_of q) (drop address memory) count)) (sym p)
+    ap byte_items s ∙ region_left memory address count taken h' m ∙ ap (λ q. drop taken (good_items (scalars_of q) (drop address memory.bytes) count)) (sym p)
 shows_left payload (Listed items) taken bytes p h m s = s
 
 -- an offer of which one more item is taken is one
@@ -216,7 +217,7 @@ module _ (o : Offered) (wanted : ℕ) (s : IsOffer o.payload o.source o.taken o.
       }
 
 -- where the item behind so many of a memory lies
-pub behind_fits : (payload : Payload) (memory : List ℕ) (address count taken : ℕ) (source : Source) → IsSource payload source → source ≡ Region memory address count → taken < count → address + item_size (scalars_of payload) * taken + item_size (scalars_of payload) ≤ length memory
+pub behind_fits : (payload : Payload) (memory : LinearMemory) (address count taken : ℕ) (source : Source) → IsSource payload source → source ≡ Region memory address count → taken < count → address + item_size (scalars_of payload) * taken + item_size (scalars_of payload) ≤ length memory.bytes
 behind_fits payload memory address count taken source h e k =
     let h' = subst (λ (s : Source). IsSource payload s) e h in
     omega (arith, item_fits taken count (item_size (scalars_of payload)) k, h'.0)

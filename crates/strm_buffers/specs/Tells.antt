@@ -122,6 +122,7 @@ pub record Fills (old new : Lent) : Type 0 where
   pub place : new.place ≡ stored_in (scalars_of old.payload) old.place (length old.marked) (drop (length old.marked) new.marked)
   pub marked : take (length old.marked) new.marked ≡ old.marked
   pub prepared : new.prepared ≡ old.prepared
+  pub base : new.base ≡ old.base
 
 -- the record of a poll that marked these items and holds those
 abbrev pub writer_record : Lent → Bool → List Item → List Item → Answer → WriterSaid
@@ -165,7 +166,7 @@ pub record SameOffer (old new : Offered) : Type 0 where
 
 -- the first so many items that were lent
 abbrev pub first_lent : List Scalar → Source → ℕ → List Item
-first_lent ss (Region memory address count) taken = items_in ss memory address taken
+first_lent ss (Region memory address count) taken = items_in ss memory.bytes address taken
 first_lent ss (Listed items) taken = take taken items.items
 
 -- the record of a poll of this offer, which is then so

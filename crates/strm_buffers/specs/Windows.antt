@@ -1,5 +1,7 @@
 -- What a window is to its calls: where marked items go, which those are, and the bytes behind them.
 -- Ours: wasmtime lends a reader's bytes by references into its store.
+use Rattle.std.specs.Bool.{then_some}
+use Rattle.std.specs.Ptr.{Ptr}
 use Rattle.std.specs.Prelude.{◌≡◌, ℕ, ◌+◌, ◌-◌, ◌*◌, ◌<◌, ◌≤◌, ◌⊎◌, Bool, true, false, List, [], ◌++◌, length, take, drop, replicate, Option, Some, None}
 use Rattle.strm_codes.specs.Layout.{scalars_of, item_size}
 use Rattle.strm_codes.specs.declared.scalars.Scalar.{Scalar}
@@ -8,6 +10,7 @@ use Rattle.strm_codes.specs.declared.payloads.Payload.{Payload}
 use Rattle.strm_codes.specs.declared.payloads.Payload.TheVariants.{One}
 use Rattle.strm_memory.specs.Bytes.{put_at, bytes_at}
 use Rattle.strm_memory.specs.Items.{stored_at, byte_items}
+use Rattle.strm_memory.specs.Linear.{LinearMemory}
 use Rattle.strm_buffers.specs.Listing.{Item, LieIn, items_in}
 
 -- where items go: into a memory, which has the marked ones in it and is otherwise as it was lent,
@@ -17,28 +20,31 @@ pub data Place : Type 0 where
   Between : Place
 
 -- a window: the payload, the place, the items marked so far, the bytes behind them as they stand (of
--- the room that is left, or those that were appended), and whether they may be lent
+-- the room that is left, or those that were appended), whether they may be lent, and where the memory
+-- lies, if that was told
 pub record Lent : Type 0 where
   pub payload : Payload
   pub place : Place
   pub marked : List Item
   pub unmarked : List ℕ
   pub prepared : Bool
+  pub base : Option Ptr
 
 -- a memory that is lent from an address on, with room for so many items
-abbrev pub lent_memory : Payload → List ℕ → ℕ → ℕ → Lent
+abbrev pub lent_memory : Payload → LinearMemory → ℕ → ℕ → Lent
 lent_memory payload memory address room =
     record {
       payload = payload;
-      place = Memory memory address room;
+      place = Memory memory.bytes address room;
       marked = [];
-      unmarked = bytes_at memory address (item_size (scalars_of payload) * room);
+      unmarked = bytes_at memory.bytes address (item_size (scalars_of payload) * room);
       prepared = false;
+      base = memory.base;
     }
 
 -- as much room as is wanted
 abbrev pub lent_between : Payload → Lent
-lent_between payload = record { payload = payload; place = Between; marked = []; unmarked = []; prepared = true }
+lent_between payload = record { payload = payload; place = Between; marked = []; unmarked = []; prepared = true; base = None }
 
 -- how many items there is room for in all, where that is stated
 abbrev pub room_of : Place → Option ℕ
@@ -71,6 +77,10 @@ stored_in ss Between marked items = Between
 abbrev pub memory_of : Place → List ℕ
 memory_of (Memory memory address room) = memory
 memory_of Between = []
+
+-- the memory that a window gives back
+abbrev pub given_back : Lent → LinearMemory
+given_back w = record { bytes = memory_of w.place; base = w.base }
 
 -- the room lies in the memory; between host ends nothing is to be prepared
 abbrev pub IsSoundPlace : Payload → Place → Bool → Type 0
@@ -134,7 +144,7 @@ unmarked_kept ss bytes address None marked = drop (item_size ss * marked) bytes
 unmarked_kept ss bytes address (Some room) marked =
     bytes_at bytes (address + item_size ss * marked) (item_size ss * (room - marked))
 
--- how a window is kept
+-- how a window is kept, but for where its memory lies
 abbrev pub window_kept : Payload → List ℕ → List ℕ → ℕ → Option ℕ → ℕ → Bool → Lent
 window_kept payload bytes kept address room marked prepared =
     record {
@@ -143,7 +153,17 @@ window_kept payload bytes kept address room marked prepared =
       marked = items_in (scalars_of payload) bytes address marked;
       unmarked = unmarked_kept (scalars_of payload) bytes address room marked;
       prepared = prepared;
+      base = None;
     }
+
+-- where the bytes of a stated room lie, if that was told; between host ends they may lie anywhere
+abbrev pub base_kept : Option ℕ → Bool → Ptr → Option Ptr
+base_kept None told at = None
+base_kept (Some room) told at = then_some told at
+
+-- the window with its memory there
+abbrev pub lying : Option Ptr → Lent → Lent
+lying base w = record w { base = base }
 
 -- bytes are kept for payload u8 alone, and then all that are not marked
 abbrev pub KeepsRest : Payload → List ℕ → ℕ → Type 0

@@ -2,7 +2,8 @@
 //!
 //! Source: ours. Layout: Canonical ABI, "Loading" and "Storing".
 
-ghost use Rattle.std.specs.Prelude.{◌≡◌, ◌+◌, ◌*◌, ◌^◌, ◌<◌, ◌≤◌, [], ◌∷◌, ◌++◌, length, take, drop, map, replicate, slice_get, Some, None, IsOk, IfOk, OnOk, OnErr};
+ghost use Rattle.std.specs.Prelude.{◌≡◌, ◌+◌, ◌*◌, ◌^◌, ◌<◌, ◌≤◌, [], ◌∷◌, ◌++◌, length, take, drop, map, replicate, slice_get, Some, None, IsOk, IsSome, IfOk, OnOk, OnErr};
+ghost use Rattle.std.specs.Vec.{vec_ptr};
 ghost use Rattle.strm_codes.specs.Layout.{scalars_of, item_size};
 ghost use Rattle.strm_codes.specs.Items.{FitsItem};
 ghost use Rattle.strm_codes.specs.declared.payloads.Payload.TheVariants.{One};
@@ -292,6 +293,7 @@ pub(crate) fn make_space(
     ensures ok { OnOk result (bytes.new.items ≡ with_space room bytes.old.items at (item_size (scalars_of payload) * count)) }
     ensures err { OnErr result (bytes.new.items ≡ bytes.old.items) }
     ensures out_of_memory { OnErr result (room ≡ None) }
+    ensures stays { IsSome room → vec_ptr bytes.new ≡ vec_ptr bytes.old }
 {
     match room {
         Some(_) => Ok(()),
@@ -303,7 +305,8 @@ pub(crate) fn make_space(
 pub(crate) fn write_item(bytes: &mut Vec<u8>, at: usize, item: &Value, payload: Payload)
     requires fits { FitsItem (scalars_of payload) item.now }
     requires inside { at + item_size (scalars_of payload) ≤ length bytes.old.items }
-    ensures { bytes.new.items ≡ stored_at (scalars_of payload) bytes.old.items at (item.now ∷ []) }
+    ensures items { bytes.new.items ≡ stored_at (scalars_of payload) bytes.old.items at (item.now ∷ []) }
+    ensures stays { vec_ptr bytes.new ≡ vec_ptr bytes.old }
 {
     lower_item_at(item, payload, bytes.as_mut_slice(), at);
 }
@@ -318,8 +321,9 @@ pub(crate) fn write_items(
 )
     requires lie { LieIn (scalars_of payload) source.now 0 count }
     requires inside { at + item_size (scalars_of payload) * count ≤ length bytes.old.items }
-    ensures { bytes.new.items ≡ stored_at (scalars_of payload) bytes.old.items at
+    ensures items { bytes.new.items ≡ stored_at (scalars_of payload) bytes.old.items at
         (items_in (scalars_of payload) source.now 0 count) }
+    ensures stays { vec_ptr bytes.new ≡ vec_ptr bytes.old }
 {
     match copy_region(source, 0, bytes.as_mut_slice(), at, payload, count as usize) {
         Ok(()) => {}

@@ -3,6 +3,7 @@
 //! Source: ours.
 
 ghost use Rattle.std.specs.Prelude.{◌≡◌, ◌+◌, ◌<◌, ◌≤◌, ◌++◌, length, take, replicate, OnOk, OnErr};
+ghost use Rattle.std.specs.Vec.{vec_ptr};
 ghost use Rattle.strm_memory.specs.Bytes.{put_at, IsBytes};
 ghost use Rattle.strm_codes.specs.declared.payloads.Payload.TheVariants.{One};
 ghost use Rattle.strm_codes.specs.declared.scalars.Scalar.TheVariants.{U8};
@@ -66,7 +67,8 @@ pub(crate) fn last_of(bytes: &[u8], count: usize) -> &[u8]
 // Writes bytes over others from a place on.
 pub(crate) fn put_back(bytes: &mut Vec<u8>, from: usize, new: &[u8])
     requires { from + length new.now ≤ length bytes.old.items }
-    ensures { bytes.new.items ≡ put_at bytes.old.items from new.now }
+    ensures items { bytes.new.items ≡ put_at bytes.old.items from new.now }
+    ensures stays { vec_ptr bytes.new ≡ vec_ptr bytes.old }
 {
     bytes[from..from + new.len()].copy_from_slice(new);
 }

@@ -52,7 +52,7 @@ impl Offer {
         remaining: u32,
         since: u32,
     ) -> Offer
-        requires { address + item_size (scalars_of payload) * remaining ≤ length memory }
+        requires { address + item_size (scalars_of payload) * remaining ≤ length memory.bytes }
         ensures { result ≡ record { payload = payload; source = Region memory address remaining; since = since; taken = 0; bad = false } }
     {
         Offer {

@@ -11,7 +11,7 @@ ghost use Rattle.strm_codes.specs.declared.payloads.Payload.TheVariants.{One};
 ghost use Rattle.strm_codes.specs.declared.scalars.Scalar.TheVariants.{U8};
 ghost use Rattle.strm_memory.specs.Items.{byte_items};
 ghost use Rattle.strm_buffers.specs.Listing.{LieIn, items_in};
-ghost use Rattle.strm_buffers.specs.Windows.{Between, room_of, HasRoom, CanCount, IsBehind, to_keep, lent_memory, lent_between, with_items, with_marked, with_direct, memory_of, standing, IsSoundPlace};
+ghost use Rattle.strm_buffers.specs.Windows.{Between, room_of, HasRoom, CanCount, IsBehind, to_keep, lent_memory, lent_between, with_items, with_marked, with_direct, given_back, standing, IsSoundPlace};
 
 use crate::items::{Items, item_place, make_space, write_item, write_items};
 use crate::kept_bytes::{
@@ -31,6 +31,8 @@ pub struct Window {
     payload: Payload,
     // The whole memory; or between host ends the marked items and the bytes behind them.
     bytes: Vec<u8>,
+    // Whether somebody was told where the memory lies.
+    is_told: bool,
     address: usize,
     room: Option<u32>,
     marked: u32,
@@ -40,11 +42,13 @@ pub struct Window {
 }
 
 impl Model for Window {
-    ghost use Rattle.strm_buffers.specs.Windows.{Lent, window_kept, IsWindow};
+    ghost use Rattle.std.specs.Vec.{vec_ptr};
+    ghost use Rattle.strm_buffers.specs.Windows.{Lent, window_kept, base_kept, lying, IsWindow};
 
     ghost Value = { Lent };
 
-    ghost view = { λ w. window_kept w.payload w.bytes.items w.kept.items w.address w.room w.marked w.is_prepared };
+    ghost view = { λ w. lying (base_kept w.room w.is_told (vec_ptr w.bytes))
+        (window_kept w.payload w.bytes.items w.kept.items w.address w.room w.marked w.is_prepared) };
 
     ghost invariant = { λ w. IsWindow w.payload w.bytes.items w.kept.items w.kept.capacity w.address w.room w.marked w.is_prepared };
 }
@@ -56,14 +60,15 @@ impl Window {
     /// Lends a memory from an address on, with room for so many items. Takes no memory.
     #[inline(always)]
     pub fn over(memory: GuestMemory, payload: Payload, address: u32, room: u32) -> Window
-        requires { address + item_size (scalars_of payload) * room ≤ length memory }
+        requires { address + item_size (scalars_of payload) * room ≤ length memory.bytes }
         ensures { result ≡ lent_memory payload memory address room }
     {
-        let bytes = memory.into_bytes();
+        let (bytes, is_told) = memory.into_parts();
         let alloc = *bytes.allocator();
         Window {
             payload,
             bytes,
+            is_told,
             address: address as usize,
             room: Some(room),
             marked: 0,
@@ -79,6 +84,7 @@ impl Window {
         Window {
             payload,
             bytes: Vec::new(alloc),
+            is_told: false,
             address: 0,
             room: None,
             marked: 0,
@@ -261,17 +267,18 @@ impl Window {
         &self.bytes
     }
 
-    /// Gives the memory back with the marked items in it, and their number. All its other bytes are
-    /// as they were lent.
+    /// Gives the memory back with the marked items in it, and their number. It lies where it lay, and all
+    /// its other bytes are as they were lent.
     #[inline(always)]
     pub fn into_memory(self) -> (GuestMemory, u32)
         requires { self.place ≢ Between }
-        ensures memory { result.0 ≡ memory_of self.place }
+        ensures memory { result.0 ≡ given_back self }
         ensures marked { result.1 ≡ length self.marked }
     {
         let Window {
             payload,
             mut bytes,
+            is_told,
             address,
             room,
             marked,
@@ -283,7 +290,7 @@ impl Window {
                 let left = payload.size() as usize * (room - marked) as usize;
                 let from = item_place(address, payload, marked);
                 put_back(&mut bytes, from, last_of(kept.as_slice(), left));
-                (GuestMemory::of_bytes(bytes), marked)
+                (GuestMemory::of_parts(bytes, is_told), marked)
             }
             None => unreachable!(),
         }
@@ -298,6 +305,7 @@ impl Window {
         let Window {
             payload,
             mut bytes,
+            is_told: _,
             address: _,
             room: _,
             marked,

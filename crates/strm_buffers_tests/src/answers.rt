@@ -26,7 +26,7 @@ pub fn vector(rt: &impl Abort, alloc: Global, bytes: &[u8]) -> Vec<u8>
 
 /// A memory of so many bytes.
 pub fn memory(rt: &impl Abort, alloc: Global, size: u32) -> GuestMemory
-    ensures { length result ≡ size }
+    ensures { length result.bytes ≡ size }
 {
     GuestMemory::new(alloc, size).expect(rt, "memory")
 }

@@ -35,13 +35,13 @@ use Rattle.strm_chain.proofs.NamingLemmas.{IsPerformed, performed}
 
 -- ## Guests
 
-guest_is : (state next : State) (size n : ℕ) → IsPerformed state (Make (AGuest size)) (replies.Number n) next → next ≡ record state { guests = state.guests ++ (record { memory = replicate size 0; handles = no_handles; sets = no_sets }) ∷ [] }
+guest_is : (state next : State) (size n : ℕ) → IsPerformed state (Make (AGuest size)) (replies.Number n) next → next ≡ record state { guests = state.guests ++ (record { memory = replicate size 0; base = None; handles = no_handles; sets = no_sets }) ∷ [] }
 unfolding performs
 guest_is state next size n p = sym (ap (λ (r : Reaction). r.state) p.does)
 
 pub guest_made : (p q : Play) (n k : ℕ) → Adds p q (steps.Guest 8192) (replies.Number n) → AreMade k 0 p → AreMade (k + 1) 0 q
 guest_made p q n k a m =
-    let x : Guest = record { memory = replicate 8192 0; handles = no_handles; sets = no_sets } in
+    let x : Guest = record { memory = replicate 8192 0; base = None; handles = no_handles; sets = no_sets } in
     let is = guest_is p.state q.state 8192 n (performed p.state (act_of (steps.Guest 8192)) (replies.Number n) q.state a.reacts refl) in
     let guests : q.state.guests ≡ p.state.guests ++ x ∷ [] = ap (λ (s : State). s.guests) is in
     record {

@@ -6,6 +6,9 @@ use Rattle.std.specs.Prelude.{Bool, nat_lt, ◌&&◌}
 use Rattle.std.proofs.lemmas.Bool.{le-ltb}
 use Rattle.strm_memory.specs.Region.{bytes_out_of_bounds}
 use Rattle.strm_machine.specs.State.{State, empty, memory_in, with_bytes}
+use Rattle.std.specs.Ptr.{Ptr}
+use Rattle.strm_machine.specs.Bases.{with_base_in}
+use Rattle.strm_machine.proofs.BaseLemmas.{with_base-keeps}
 use Rattle.strm_machine.proofs.RefusalLemmas.{BytesFit}
 use Rattle.strm_machine.proofs.SoundLemmas.{IsSound-guests}
 use Rattle.strm_machine.specs.Reactions.{Reaction, reaction, lowers_context}
@@ -87,6 +90,17 @@ lent_among state guest bytes among =
     record {
       unhosted = record {
         sound = IsSound-guests state _ (with_memory-keeps state.guests guest (refill (length memory) memory bytes) (sym (length_refill (length memory) memory bytes refl))) among.unhosted.sound;
+        none = among.unhosted.none;
+      };
+      fits = record { writers = among.fits.writers; readers = among.fits.readers };
+    }
+
+-- and one of which it is told where it lies
+pub told_among : (state : State) (guest : ℕ) (base : Ptr) → IsAmongGuests state → IsAmongGuests (with_base_in state guest base)
+told_among state guest base among =
+    record {
+      unhosted = record {
+        sound = IsSound-guests state _ (with_base-keeps state.guests guest base) among.unhosted.sound;
         none = among.unhosted.none;
       };
       fits = record { writers = among.fits.writers; readers = among.fits.readers };

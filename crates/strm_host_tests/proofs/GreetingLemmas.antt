@@ -22,6 +22,7 @@ written_fills w capacity bytes =
       place = ap (stored_in (scalars_of w.payload) w.place (length w.marked)) (sym (drop_at w.marked items (length w.marked) refl));
       marked = take_at w.marked items (length w.marked) refl;
       prepared = refl;
+      base = refl;
     }
 
 pub greets_fills : (old new : Lent) → Greets old new → Fills old new

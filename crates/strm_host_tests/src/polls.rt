@@ -28,7 +28,7 @@ pub const DROPPED: HostTurn = Turn::Ready(StreamResult::Dropped);
 
 /// A memory of so many bytes.
 pub fn memory(rt: &impl Abort, alloc: Global, size: u32) -> GuestMemory
-    ensures { length result ≡ size }
+    ensures { length result.bytes ≡ size }
 {
     GuestMemory::new(alloc, size).expect(rt, "memory")
 }

@@ -34,6 +34,7 @@ pub mod LawfulLemmas
 pub mod AgreeLemmas
 pub mod HeldLemmas
 pub mod UntouchedLemmas
+pub mod BaseLemmas
 pub mod PutLemmas
 pub mod AskedLemmas
 pub mod HostLemmas

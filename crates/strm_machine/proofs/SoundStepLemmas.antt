@@ -38,9 +38,9 @@ poke-keeps state g address bytes fits =
     with_memory-keeps state.guests g (put_at memory address bytes) (length-poked memory address bytes fits.inside)
 
 -- a guest more
-pub guest-sound : (state : State) (size : ℕ) → GuestFits state size → IsSound state → IsSound (record state { guests = state.guests ++ (record { memory = replicate size 0; handles = no_handles; sets = no_sets }) ∷ [] })
+pub guest-sound : (state : State) (size : ℕ) → GuestFits state size → IsSound state → IsSound (record state { guests = state.guests ++ (record { memory = replicate size 0; base = None; handles = no_handles; sets = no_sets }) ∷ [] })
 guest-sound state size fits h =
-    let guest : Guest = record { memory = replicate size 0; handles = no_handles; sets = no_sets } in
+    let guest : Guest = record { memory = replicate size 0; base = None; handles = no_handles; sets = no_sets } in
     let many : length guest.memory ≡ size = length-replicate {A = ℕ} size 0 in
     let total : sum (sizes_of state.guests) ≡ bytes_in_use state = sum-map (λ k. length k.memory) state.guests in
     IsSound-guest state guest refl refl (omega (arith, total, many, fits.bytes)) h

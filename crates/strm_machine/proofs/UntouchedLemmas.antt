@@ -246,7 +246,7 @@ bytes_stay state act reply g address bytes p =
 -- a guest behind the others
 guest_stays : (state : State) (size : ℕ) → StaysAside (as_moment state (Make (makings.Guest size)) (makes state (makings.Guest size)))
 guest_stays state size =
-    let guest : Guest = record { memory = replicate size 0; handles = no_handles; sets = no_sets } in
+    let guest : Guest = record { memory = replicate size 0; base = None; handles = no_handles; sets = no_sets } in
     stays_all (as_moment state (Make (makings.Guest size)) (makes state (makings.Guest size)))
     (omega (arith, length-append state.guests (guest ∷ [])))
     (λ g l. ap (λ (k : Guest). k.memory) (get_or_append_left state.guests (guest ∷ []) no_guest g l))

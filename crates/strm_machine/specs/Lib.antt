@@ -1,5 +1,6 @@
 pub mod Acts
 pub mod State
+pub mod Bases
 pub mod Sides
 pub mod Meetings
 pub mod Turns

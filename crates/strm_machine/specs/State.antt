@@ -2,7 +2,8 @@
 -- between them, the host ends that it knows, and error contexts.
 -- Component Model, "Stream State", "Waitable State" and `ErrorContext`; wasmtime,
 -- futures_and_streams.rs.
-use Rattle.std.specs.Prelude.{ℕ, ℤ, ◌+◌, ◌*◌, Bool, false, true, ◌&&◌, not, List, [], length, replicate, slice_index_or, slice_set, sum_by, count_by, None}
+use Rattle.std.specs.Prelude.{ℕ, ℤ, ◌+◌, ◌*◌, Bool, false, true, ◌&&◌, not, List, [], length, replicate, slice_index_or, slice_set, sum_by, count_by, Option, None}
+use Rattle.std.specs.Ptr.{Ptr}
 use Rattle.strm_codes.specs.declared.codes.TransmitKind.TheVariants.{Stream as AStream}
 use Rattle.strm_codes.specs.declared.payloads.Payload.TheVariants.{Nothing}
 use Rattle.strm_handles.specs.Handles.{Handles, no_handles, live_of}
@@ -21,6 +22,9 @@ use Rattle.strm_machine.specs.declared.streams.Stream.{Stream}
 -- a guest's bytes, what its handles stand for, and its waitable sets
 pub record Guest : Type 0 where
   pub memory : List ℕ
+  -- where the first of its bytes lies, once that was told, which no step changes. wasmtime,
+  -- `VMMemoryDefinition::base`
+  pub base : Option Ptr
   pub handles : Handles
   pub sets : Sets
 
@@ -82,7 +86,7 @@ stream_limit = 4294967295
 
 -- what stands past the last guest
 abbrev pub no_guest : Guest
-no_guest = record { memory = []; handles = no_handles; sets = no_sets }
+no_guest = record { memory = []; base = None; handles = no_handles; sets = no_sets }
 
 -- the guest of a number
 abbrev pub guest_in : List Guest → ℕ → Guest

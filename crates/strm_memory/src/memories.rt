@@ -2,8 +2,11 @@
 //!
 //! Source: wasmtime, `futures_and_streams.rs`, `check_bounds`; Canonical ABI, `BufferGuestImpl`.
 
-ghost use Rattle.std.specs.Prelude.{◌≡◌, ℕ, ◌+◌, ◌*◌, ◌<◌, ◌≤◌, ◌↔◌, [], ◌++◌, length, replicate, drop, is_err, IsTrue, IsNone, IfOk, OnOk, OnErr, IsOk, IsErr, IsErrOf, IsSomeAnd, vec_len, vec_capacity};
+ghost use Rattle.std.specs.Prelude.{◌≡◌, ℕ, ◌+◌, ◌*◌, ◌<◌, ◌≤◌, ◌↔◌, [], ◌++◌, length, replicate, drop, is_err, IsTrue, IsNone, IfOk, OnOk, OnErr, IsOk, IsErr, IsErrOf, IsSomeAnd, IfSome, Some, vec_len, vec_capacity};
 ghost use Rattle.strm_codes.specs.Layout.{scalars_of, item_size};
+ghost use Rattle.std.specs.Vec.{vec_ptr};
+ghost use Rattle.std.specs.Bool.{then_some};
+ghost use Rattle.strm_memory.specs.Linear.{untold, with_contents};
 ghost use Rattle.strm_memory.specs.Bytes.{put_at, bytes_at};
 ghost use Rattle.strm_memory.specs.Items.{items_at, stored_at, AreItems, IsFirstBad, is_number_or_none};
 
@@ -17,18 +20,21 @@ use strm_codes::payloads::Payload;
 use strm_codes::values::Value;
 use thiserror::Error;
 
-/// The bytes of a guest. Addresses begin at 0.
+/// The bytes of a guest. Addresses begin at 0. Once somebody was told where they lie, they lie there.
 #[derive(Drop)]
 pub struct GuestMemory {
     bytes: Vec<u8>,
+    is_told: bool,
 }
 
 impl Model for GuestMemory {
-    ghost use Rattle.std.specs.Prelude.{ℕ, List};
+    ghost use Rattle.std.specs.Vec.{vec_ptr};
+    ghost use Rattle.std.specs.Bool.{then_some};
+    ghost use Rattle.strm_memory.specs.Linear.{LinearMemory};
 
-    ghost Value = { List ℕ };
+    ghost Value = { LinearMemory };
 
-    ghost view = { λ m. m.bytes.items };
+    ghost view = { λ m. record { bytes = m.bytes.items; base = then_some m.is_told (vec_ptr m.bytes) } };
 }
 
 /// Some bytes pass the memory's end.
@@ -54,55 +60,71 @@ impl GuestMemory {
 
     /// So many zero bytes. After `OutOfMemory` nothing was kept.
     pub fn new(alloc: Global, size: u32) -> Result<GuestMemory, OutOfMemory>
-        ensures { IfOk result (λ memory. memory ≡ replicate size 0) }
+        ensures { IfOk result (λ memory. memory ≡ untold (replicate size 0)) }
     {
         match vec![in alloc; 0u8; size as usize] {
-            Ok(bytes) => Ok(GuestMemory { bytes }),
+            Ok(bytes) => Ok(GuestMemory::of_bytes(bytes)),
             Err(_) => Err(OutOfMemory),
         }
     }
 
     /// No bytes: what stands in place of a memory that is lent. Takes no memory.
     pub fn empty(alloc: Global) -> GuestMemory
-        ensures { result ≡ [] }
+        ensures { result ≡ untold [] }
     {
-        GuestMemory {
-            bytes: Vec::new(alloc),
-        }
+        GuestMemory::of_bytes(Vec::new(alloc))
     }
 
     /// The memory that consists of these bytes. Takes no memory.
     pub fn of_bytes(bytes: Vec<u8>) -> GuestMemory
-        ensures { result ≡ bytes.items }
+        ensures { result ≡ untold bytes.items }
     {
-        GuestMemory { bytes }
+        GuestMemory::of_parts(bytes, false)
     }
 
-    /// All bytes, and no memory behind. Takes no memory.
-    pub fn into_bytes(self) -> Vec<u8>
-        ensures { result.items ≡ self }
+    /// The memory that consists of these bytes, and whether somebody was told where they lie. Takes no
+    /// memory.
+    pub fn of_parts(bytes: Vec<u8>, is_told: bool) -> GuestMemory
+        ensures { result ≡ record { bytes = bytes.items; base = then_some is_told (vec_ptr bytes) } }
     {
-        let GuestMemory { bytes } = self;
-        bytes
+        GuestMemory { bytes, is_told }
+    }
+
+    /// All bytes, and whether somebody was told where they lie; and no memory behind. Takes no memory.
+    pub fn into_parts(self) -> (Vec<u8>, bool)
+        ensures bytes { result.0.items ≡ self.bytes }
+        ensures base { then_some result.1 (vec_ptr result.0) ≡ self.base }
+    {
+        let GuestMemory { bytes, is_told } = self;
+        (bytes, is_told)
+    }
+
+    /// Where the first byte lies, which is told: from now on they lie there.
+    pub fn tell_base(&mut self) -> *const u8
+        ensures told { self.new ≡ record self.old { base = Some result } }
+        ensures again { IfSome self.old.base (λ base. result ≡ base) }
+    {
+        self.is_told = true;
+        self.bytes.as_ptr()
     }
 
     /// How many bytes there are.
     pub fn len(&self) -> usize
-        ensures { result ≡ length self.now }
+        ensures { result ≡ length self.now.bytes }
     {
         self.bytes.len()
     }
 
     /// All bytes.
     pub fn bytes(&self) -> &[u8]
-        ensures { result.now ≡ self.now }
+        ensures { result.now ≡ self.now.bytes }
     {
         self.bytes.as_slice()
     }
 
     /// All bytes, to write.
     pub fn bytes_mut(&mut self) -> &mut [u8]
-        ensures value { result.now ≡ self.old }
+        ensures value { result.now ≡ self.old.bytes }
         ensures* lends { sem 𝓛 (LendsBytes self.entry result) }
     {
         self.bytes.as_mut_slice()
@@ -110,8 +132,8 @@ impl GuestMemory {
 
     /// So many bytes from an address on.
     pub fn slice(&self, address: u32, len: u32) -> &[u8]
-        requires { address + len ≤ length self.now }
-        ensures { result.now ≡ bytes_at self.now address len }
+        requires { address + len ≤ length self.now.bytes }
+        ensures { result.now ≡ bytes_at self.now.bytes address len }
     {
         &self.bytes[address as usize..address as usize + len as usize]
     }
@@ -119,8 +141,8 @@ impl GuestMemory {
     /// Writes bytes from an address on. No bytes look at no address. Takes no memory.
     pub fn store(&mut self, address: u32, bytes: &[u8]) -> Result<(), OutOfBounds>
         ensures out_of_bounds { is_err result ≡
-            bytes_out_of_bounds (length self.old) address (length bytes.now) }
-        ensures ok { OnOk result (self.new ≡ put_at self.old address bytes.now) }
+            bytes_out_of_bounds (length self.old.bytes) address (length bytes.now) }
+        ensures ok { OnOk result (self.new ≡ with_contents self.old (put_at self.old.bytes address bytes.now)) }
         ensures err { OnErr result (self.new ≡ self.old) }
         ensures no_bytes { length bytes.now ≡ 0 → self.new ≡ self.old }
     {
@@ -144,7 +166,7 @@ impl GuestMemory {
         address: u32,
         count: ItemCount,
     ) -> Result<(), RegionError>
-        ensures { result ≡ region_of (length self.now) (scalars_of payload) address count }
+        ensures { result ≡ region_of (length self.now.bytes) (scalars_of payload) address count }
     {
         let len = payload.size() as usize * count.as_usize();
         if len == 0 {
@@ -170,15 +192,15 @@ impl GuestMemory {
         payload: Payload,
         count: ItemCount,
     ) -> Result<(), BadItem>
-        requires source_holds { from + item_size (scalars_of payload) * count ≤ length source.now }
-        requires self_holds { address + item_size (scalars_of payload) * count ≤ length self.old }
-        ensures ok { OnOk result (IsSomeAnd (items_at (scalars_of payload) source.now from count)
-            (λ xs. self.new ≡ stored_at (scalars_of payload) self.old address xs)) }
-        ensures bad { IsErr result ↔ IsNone (items_at (scalars_of payload) source.now from count) }
+        requires source_holds { from + item_size (scalars_of payload) * count ≤ length source.now.bytes }
+        requires self_holds { address + item_size (scalars_of payload) * count ≤ length self.old.bytes }
+        ensures ok { OnOk result (IsSomeAnd (items_at (scalars_of payload) source.now.bytes from count)
+            (λ xs. self.new ≡ with_contents self.old (stored_at (scalars_of payload) self.old.bytes address xs))) }
+        ensures bad { IsErr result ↔ IsNone (items_at (scalars_of payload) source.now.bytes from count) }
         ensures err { OnErr result (self.new ≡ self.old) }
         ensures number_or_none { IsTrue (is_number_or_none payload) → IsOk result }
-        ensures numbers { IsTrue (is_number_or_none payload) → self.new ≡ put_at self.old address
-            (bytes_at source.now from (item_size (scalars_of payload) * count)) }
+        ensures numbers { IsTrue (is_number_or_none payload) → self.new ≡ with_contents self.old (put_at self.old.bytes
+            address (bytes_at source.now.bytes from (item_size (scalars_of payload) * count))) }
     {
         let to = address as usize;
         copy_region(
@@ -195,10 +217,10 @@ impl GuestMemory {
     /// and then lowering them, however the two regions overlap. Takes no memory.
     pub fn copy_within(&mut self, from: u32, to: u32, payload: Payload, count: ItemCount)
         requires number_or_none { IsTrue (is_number_or_none payload) }
-        requires from_inside { from + item_size (scalars_of payload) * count ≤ length self.old }
-        requires to_inside { to + item_size (scalars_of payload) * count ≤ length self.old }
-        ensures { IsSomeAnd (items_at (scalars_of payload) self.old from count)
-            (λ xs. self.new ≡ stored_at (scalars_of payload) self.old to xs) }
+        requires from_inside { from + item_size (scalars_of payload) * count ≤ length self.old.bytes }
+        requires to_inside { to + item_size (scalars_of payload) * count ≤ length self.old.bytes }
+        ensures { IsSomeAnd (items_at (scalars_of payload) self.old.bytes from count)
+            (λ xs. self.new ≡ with_contents self.old (stored_at (scalars_of payload) self.old.bytes to xs)) }
     {
         copy_within_items(self.bytes.as_mut_slice(), from, to, payload, count);
     }
@@ -211,11 +233,11 @@ impl GuestMemory {
         count: ItemCount,
         out: &mut Vec<Value>,
     ) -> Result<(), LiftError>
-        requires { address + item_size (scalars_of payload) * count ≤ length self.now }
-        ensures ok { OnOk result (IsSomeAnd (items_at (scalars_of payload) self.now address count)
+        requires { address + item_size (scalars_of payload) * count ≤ length self.now.bytes }
+        ensures ok { OnOk result (IsSomeAnd (items_at (scalars_of payload) self.now.bytes address count)
             (λ xs. out.new.items ≡ out.old.items ++ xs)) }
         ensures bad_item { (index : ℕ) → IsErrOf result (LiftError.BadItem index) →
-            IsFirstBad (scalars_of payload) (drop address self.now) count index }
+            IsFirstBad (scalars_of payload) (drop address self.now.bytes) count index }
         ensures out_of_memory { IsErrOf result LiftError.OutOfMemory →
             vec_capacity out.old < vec_len out.old + count }
         ensures err { OnErr result (out.new.items ≡ out.old.items) }
@@ -234,8 +256,8 @@ impl GuestMemory {
     pub fn lower(&mut self, address: u32, items: &[Value], payload: Payload)
         requires fit { AreItems (scalars_of payload) items.now }
         requires holds { address
-            + item_size (scalars_of payload) * length items.now ≤ length self.old }
-        ensures { self.new ≡ stored_at (scalars_of payload) self.old address items.now }
+            + item_size (scalars_of payload) * length items.now ≤ length self.old.bytes }
+        ensures { self.new ≡ with_contents self.old (stored_at (scalars_of payload) self.old.bytes address items.now) }
     {
         lower_fields(
             items,

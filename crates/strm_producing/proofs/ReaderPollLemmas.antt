@@ -20,9 +20,12 @@ use Rattle.strm_buffers.specs.Listing.{Item, TypedItems, listed, items_in}
 use Rattle.strm_buffers.specs.Offers.{Offered, IsBadNext, IsMemoryOf}
 use Rattle.strm_buffers.specs.Said.{IfAnswered}
 use Rattle.strm_buffers.specs.Tells.{ReaderTells, PollsReader, reader_record, first_lent}
-use Rattle.strm_machine.specs.State.{Guest, memory_in, with_memory}
+use Rattle.strm_machine.specs.State.{Guest, memory_in}
+use Rattle.strm_memory.specs.Linear.{LinearMemory, untold}
+use Rattle.strm_turns.specs.Guests.{linear_in, with_linear}
+use Rattle.strm_turns.proofs.GuestLemmas.{with_linear-twice}
 use Rattle.strm_machine.specs.declared.streams.Operation.{Operation}
-use Rattle.strm_machine.proofs.StateLemmas.{with_memory-same, with_memory-twice}
+use Rattle.strm_machine.proofs.StateLemmas.{with_memory-same}
 use Rattle.strm_machine.proofs.CarryLemmas.{no_scalars}
 use Rattle.strm_memory.proofs.ItemLemmas.{items-add}
 use Rattle.strm_world.specs.Consuming.{lifted}
@@ -112,11 +115,12 @@ module _ (guests : List Guest) (payload : Payload) (write : Operation) where
   -- ## Lent and returned
 
   -- the guests are as they were, where the offer that came back is of the source that was lent
-  pub items_returned : (source : Source) (since : ℕ) (between after : List Guest) → source ≡ (lent_items guests payload write since).source → between ≡ with_memory guests write.guest []
-      → ((m : List ℕ) → IsMemoryOf source m → after ≡ with_memory between write.guest m) → after ≡ guests
+  pub items_returned : (source : Source) (since : ℕ) (between after : List Guest) → source ≡ (lent_items guests payload write since).source → between ≡ with_linear guests write.guest (untold [])
+      → ((m : LinearMemory) → IsMemoryOf source m → after ≡ with_linear between write.guest m) → after ≡ guests
   items_returned source since between after is o b =
-      b memory (subst (λ s. IsMemoryOf s memory) (sym is) refl)
-      ∙ rw o (with_memory-twice guests write.guest [] memory ∙ with_memory-same guests write.guest)
+      let lent : LinearMemory = linear_in guests write.guest in
+      b lent (subst (λ s. IsMemoryOf s lent) (sym is) refl)
+      ∙ rw o (with_linear-twice guests write.guest (untold []) lent ∙ with_memory-same guests write.guest)
 
   -- ## A poll
 

@@ -8,12 +8,15 @@ use Rattle.strm_codes.specs.declared.payloads.Payload.{Payload}
 use Rattle.strm_memory.specs.Items.{stored, stored_at, encode_from}
 use Rattle.strm_memory.proofs.RegionLemmas.{stored_at-nil}
 use Rattle.strm_buffers.specs.Listing.{Item}
-use Rattle.strm_buffers.specs.Windows.{Lent, Place, Memory, HasRoom, lent_memory, memory_of}
+use Rattle.strm_buffers.specs.Windows.{Lent, Place, Memory, HasRoom, lent_memory, memory_of, given_back}
 use Rattle.strm_buffers.specs.Tells.{Fills}
 use Rattle.strm_machine.specs.State.{Guest, memory_in, with_memory}
 use Rattle.strm_machine.specs.declared.streams.Operation.{Operation}
-use Rattle.strm_machine.proofs.StateLemmas.{with_memory-same, with_memory-twice}
+use Rattle.strm_machine.proofs.StateLemmas.{with_memory-same}
+use Rattle.strm_memory.specs.Linear.{LinearMemory, untold}
 use Rattle.strm_machine.proofs.CarryLemmas.{no_scalars}
+use Rattle.strm_turns.specs.Guests.{linear_in, with_linear}
+use Rattle.strm_turns.proofs.GuestLemmas.{with_linear-twice}
 use Rattle.strm_world.specs.Producing.{lowered}
 use Rattle.strm_producing.specs.Regions.{region_address}
 use Rattle.strm_producing.specs.Polls.{Lowers}
@@ -58,16 +61,16 @@ module _ (guests : List Guest) (payload : Payload) (read : Operation) where
   -- the window that the region is lent to
   abbrev region_window : Bool → Lent
   region_window prepared =
-      record (lent_memory payload (memory_in guests read.guest) (region_address payload read) read.left) { prepared = prepared }
+      record (lent_memory payload (linear_in guests read.guest) (region_address payload read) read.left) { prepared = prepared }
 
   -- a region lent, with the guest left without bytes, and returned as it is after a call
   pub record Returns (between after : List Guest) (window filled : Lent) : Type 0 where
     pub prepared : Bool
     pub lent : window ≡ region_window prepared
-    pub out : between ≡ with_memory guests read.guest []
+    pub out : between ≡ with_linear guests read.guest (untold [])
     pub fills : Fills window filled
     pub room : HasRoom filled.place (length filled.marked) 0
-    pub back : after ≡ with_memory between read.guest (memory_of filled.place)
+    pub back : after ≡ with_linear between read.guest (given_back filled)
 
   module _ (between after : List Guest) (window filled : Lent) (h : Returns between after window filled) where
     place_is : filled.place ≡ Memory (stored_at (scalars_of payload) (memory_in guests read.guest) (region_address payload read + item_size (scalars_of payload) * 0) filled.marked) (region_address payload read) read.left
@@ -80,7 +83,10 @@ module _ (guests : List Guest) (payload : Payload) (read : Operation) where
     marked_lowered =
         let at : region_address payload read + item_size (scalars_of payload) * 0 ≡ region_address payload read = omega arith in
         let memory = ap memory_of place_is ∙ ap (λ k. stored_at (scalars_of payload) (memory_in guests read.guest) k filled.marked) at ∙ stored_region payload read (memory_in guests read.guest) filled.marked marked_few in
-        h.back ∙ ap (λ g. with_memory g read.guest (memory_of filled.place)) h.out ∙ with_memory-twice guests read.guest [] (memory_of filled.place) ∙ ap (with_memory guests read.guest) memory
+        let lies : filled.base ≡ (linear_in guests read.guest).base = h.fills.base ∙ ap (λ (w : Lent). w.base) h.lent in
+        h.back ∙ ap (λ g. with_linear g read.guest (given_back filled)) h.out ∙ with_linear-twice guests read.guest (untold []) (given_back filled)
+        ∙ ap (λ b. with_linear guests read.guest (record { bytes = memory_of filled.place; base = b })) lies
+        ∙ ap (with_memory guests read.guest) memory
 
     pub marked_lowers : Lowers guests after payload read
     marked_lowers = record { items = filled.marked; few = marked_few; lowered = marked_lowered }
@@ -90,8 +96,10 @@ module _ (guests : List Guest) (payload : Payload) (read : Operation) where
   lowered-none = rw (stored_at-nil (scalars_of payload) (memory_in guests read.guest) read.address) (with_memory-same guests read.guest)
 
   -- a region lent, and returned without a call
-  pub unpolled : (between after : List Guest) (window : Lent) → window ≡ region_window false → between ≡ with_memory guests read.guest [] → after ≡ with_memory between read.guest (memory_of window.place) → Lowers guests after payload read
+  pub unpolled : (between after : List Guest) (window : Lent) → window ≡ region_window false → between ≡ with_linear guests read.guest (untold []) → after ≡ with_linear between read.guest (given_back window) → Lowers guests after payload read
   unpolled between after window l o b =
-      let whole : memory_of window.place ≡ memory_in guests read.guest = rw l refl in
-      let same : after ≡ guests = b ∙ rw (o, whole) (with_memory-twice guests read.guest [] (memory_in guests read.guest) ∙ with_memory-same guests read.guest) in
+      let whole : given_back window ≡ linear_in guests read.guest = rw l refl in
+      let same : after ≡ guests =
+          b ∙ ap (with_linear between read.guest) whole
+          ∙ rw o (with_linear-twice guests read.guest (untold []) (linear_in guests read.guest) ∙ with_memory-same guests read.guest) in
       record { items = []; few = omega arith; lowered = same ∙ sym lowered-none }

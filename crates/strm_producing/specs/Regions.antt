@@ -4,8 +4,9 @@ use Rattle.strm_codes.specs.Layout.{scalars_of, item_size}
 use Rattle.strm_codes.specs.declared.payloads.Payload.{Payload}
 use Rattle.strm_buffers.specs.declared.sources.Source.TheVariants.{Region}
 use Rattle.strm_buffers.specs.Offers.{Offered}
-use Rattle.strm_machine.specs.State.{Guest, memory_in}
+use Rattle.strm_machine.specs.State.{Guest}
 use Rattle.strm_machine.specs.declared.streams.Operation.{Operation}
+use Rattle.strm_turns.specs.Guests.{linear_in}
 
 -- the address of the next items; those that take no bytes may be read or written at any address, past
 -- the memory's end too, and then lie at its front
@@ -17,7 +18,7 @@ region_address payload operation =
 abbrev pub lent_items : List Guest → Payload → Operation → ℕ → Offered
 lent_items guests payload write since = record {
   payload = payload;
-  source = Region (memory_in guests write.guest) (region_address payload write) write.left;
+  source = Region (linear_in guests write.guest) (region_address payload write) write.left;
   since = since;
   taken = 0;
   bad = false;

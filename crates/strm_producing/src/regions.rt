@@ -4,12 +4,12 @@
 //! Source: wasmtime, `futures_and_streams.rs`, `Destination` of a guest's read and `Source` of a guest's
 //! write. Ours: the window or the offer owns the guest's memory meanwhile; nothing is copied.
 
-ghost use Rattle.std.specs.Prelude.{◌≡◌, ◌≢◌, ◌*◌, ◌<◌, ℕ, List, [], length};
-ghost use Rattle.strm_machine.specs.State.{with_memory, memory_in};
+ghost use Rattle.std.specs.Prelude.{◌≡◌, ◌≢◌, ◌*◌, ◌<◌, [], length};
+ghost use Rattle.strm_memory.specs.Linear.{LinearMemory, untold};
 ghost use Rattle.strm_machine.specs.Soundness.{sizes_of, IsPlaced};
-ghost use Rattle.strm_buffers.specs.Windows.{Between, HasRoom, lent_memory, memory_of};
+ghost use Rattle.strm_buffers.specs.Windows.{Between, HasRoom, lent_memory, given_back};
 ghost use Rattle.strm_buffers.specs.Offers.{IsRegion, IsMemoryOf};
-ghost use Rattle.strm_turns.specs.Guests.{seen};
+ghost use Rattle.strm_turns.specs.Guests.{seen, linear_in, with_linear};
 ghost use Rattle.strm_producing.specs.Regions.{region_address, lent_items};
 
 use std::alloc::Global;
@@ -41,9 +41,10 @@ pub fn lend_region(
     read: &Operation,
 ) -> Window
     requires placed { IsPlaced (sizes_of (seen guests.old.items)) payload.now read.now }
-    ensures window { result ≡ lent_memory payload.now (memory_in (seen guests.old.items) read.now.guest)
+    ensures window { result ≡ lent_memory payload.now (linear_in (seen guests.old.items) read.now.guest)
         (region_address payload.now read.now) read.now.left }
-    ensures guests { seen guests.new.items ≡ with_memory (seen guests.old.items) read.now.guest [] }
+    ensures guests { seen guests.new.items
+        ≡ with_linear (seen guests.old.items) read.now.guest (untold []) }
     ensures count { length guests.new.items ≡ length guests.old.items }
 {
     let memory = take_memory(alloc, guests, read.guest as usize);
@@ -59,7 +60,7 @@ pub fn return_region(guests: &mut Vec<Guest>, guest: u32, window: Window) -> u32
     ensures marked { result ≡ length window.marked }
     ensures room { HasRoom window.place result 0 }
     ensures guests { seen guests.new.items ≡
-        with_memory (seen guests.old.items) guest (memory_of window.place) }
+        with_linear (seen guests.old.items) guest (given_back window) }
 {
     // For the clause `room`: the marked items are within the room.
     let _ = window.marked();
@@ -80,7 +81,8 @@ pub fn lend_items(
 ) -> Offer
     requires placed { IsPlaced (sizes_of (seen guests.old.items)) payload.now write.now }
     ensures offer { result ≡ lent_items (seen guests.old.items) payload.now write.now since }
-    ensures guests { seen guests.new.items ≡ with_memory (seen guests.old.items) write.now.guest [] }
+    ensures guests { seen guests.new.items
+        ≡ with_linear (seen guests.old.items) write.now.guest (untold []) }
     ensures count { length guests.new.items ≡ length guests.old.items }
 {
     let memory = take_memory(alloc, guests, write.guest as usize);
@@ -94,8 +96,8 @@ pub fn return_items(guests: &mut Vec<Guest>, guest: u32, offer: Offer) -> u32
     requires there { guest < length guests.old.items }
     requires memory { IsRegion offer.source }
     ensures taken { result ≡ offer.taken }
-    ensures guests { (memory : List ℕ) → IsMemoryOf offer.source memory →
-        seen guests.new.items ≡ with_memory (seen guests.old.items) guest memory }
+    ensures guests { (memory : LinearMemory) → IsMemoryOf offer.source memory →
+        seen guests.new.items ≡ with_linear (seen guests.old.items) guest memory }
 {
     let (memory, taken) = offer.into_memory();
     put_memory(guests, guest as usize, memory);

@@ -16,9 +16,13 @@ use Rattle.strm_handles.specs.Handles.{Handles, no_handles, live_of, next_index}
 use Rattle.strm_handles.proofs.HandleLemmas.{live_of-no_handles}
 use Rattle.strm_machine.specs.State as machine
 use Rattle.strm_memory.specs.Bytes.{put_at}
+use Rattle.strm_memory.specs.Linear.{untold}
 use Rattle.strm_sets.specs.Sets.{Sets, no_sets}
 use Rattle.strm_contexts.specs.Contexts.{len as contexts_there}
 use Rattle.strm_machine.specs.State.{State, guest_in, no_guest, sets_in, no_stream, stream_at, memory_in, with_memory, with_sets, with_table, is_live, handles_in_use, sets_in_use, bytes_in_use}
+use Rattle.strm_machine.specs.Bases.{with_base, with_base_in}
+use Rattle.strm_machine.proofs.BaseLemmas.{with_base-keeps}
+use Rattle.std.specs.Ptr.{Ptr}
 use Rattle.strm_machine.specs.Soundness.{IsSound, sizes_of, handles_of}
 use Rattle.strm_machine.specs.Sides.{end_of}
 use Rattle.strm_machine.specs.Tests.{are_places_full}
@@ -66,7 +70,7 @@ pub record AddsGuest (old new : Inside) (g : ours.Guest) (size : ℕ) : Type 0 w
   pub live_sets : new.live_sets ≡ old.live_sets
   pub guests : new.guests.items ≡ old.guests.items ++ g ∷ []
   pub bytes : new.bytes ≡ old.bytes + size
-  pub memory : g.memory ≡ replicate size 0
+  pub memory : g.memory ≡ untold (replicate size 0)
   pub handles : g.table.handles ≡ no_handles
   pub sets : g.sets ≡ no_sets
 
@@ -85,7 +89,7 @@ sets_held g = how_many g.sets
 pub IsStore-guest : (old new : Inside) (g : ours.Guest) (size : ℕ) → AddsGuest old new g size → refusal (state_of old) (Make (Guest size)) ≡ None → IsStore old → IsStore new
 IsStore-guest old new g size h e s =
     let fits = guest_fits (state_of old) size e in
-    let many : length g.memory ≡ size = rw h.memory (length-replicate size 0) in
+    let many : length g.memory.bytes ≡ size = rw h.memory (length-replicate size 0) in
     let total : sum (sizes_of (seen old.guests.items)) ≡ bytes_in_use (state_of old) = sum-map (λ k. length k.memory) (seen old.guests.items) in
     let sound = IsSound-guest (state_of old) (guest_of g) h.handles h.sets (omega (arith, total, many, fits.bytes)) s.sound in
     let after = state_of-guest old new g size h in
@@ -93,7 +97,7 @@ IsStore-guest old new g size h e s =
     let live : handles_in_use (state_of old) ≡ handles_in_use (state_of new) = added _ _ _ (sum_by_push (λ k. live_of k.handles) (seen old.guests.items) (guest_of g)) none ∙ sym (ap handles_in_use after) in
     let no_set : sets_held (guest_of g) ≡ 0 = ap how_many h.sets in
     let sets : sets_in_use (state_of old) ≡ sets_in_use (state_of new) = added _ _ _ (sum_by_push sets_held (seen old.guests.items) (guest_of g)) no_set ∙ sym (ap sets_in_use after) in
-    let bytes : bytes_in_use (state_of old) + length g.memory ≡ bytes_in_use (state_of new) = sym (sum_by_push (λ k. length k.memory) (seen old.guests.items) (guest_of g)) ∙ sym (ap bytes_in_use after) in
+    let bytes : bytes_in_use (state_of old) + length g.memory.bytes ≡ bytes_in_use (state_of new) = sym (sum_by_push (λ k. length k.memory) (seen old.guests.items) (guest_of g)) ∙ sym (ap bytes_in_use after) in
     record {
       sound = rw after sound;
       limit = rw (h.counter, h.same.limits) s.limit;
@@ -251,31 +255,50 @@ IsSound-same a b g s c h = record {
 
 -- ## Bytes
 
--- another memory for a guest
-pub record PutsMemory (old new : Inside) (g : ℕ) (memory : List ℕ) : Type 0 where
+-- other guests, with nothing else changed
+pub record PutsGuests (old new : Inside) (put : List machine.Guest) : Type 0 where
   pub same : SameBut old new
   pub counter : new.counter ≡ old.counter
   pub streams : new.streams ≡ old.streams
   pub live_streams : new.live_streams ≡ old.live_streams
   pub live_sets : new.live_sets ≡ old.live_sets
   pub count : new.bytes ≡ old.bytes
-  pub guests : seen new.guests.items ≡ with_memory (seen old.guests.items) g memory
+  pub guests : seen new.guests.items ≡ put
+
+-- other bytes in the memory of a guest
+abbrev pub PutsMemory : Inside → Inside → ℕ → List ℕ → Type 0
+PutsMemory old new g memory = PutsGuests old new (with_memory (seen old.guests.items) g memory)
 
 -- the state then
 pub puts-state : (old new : Inside) (g : ℕ) (memory : List ℕ) → PutsMemory old new g memory → state_of new ≡ record (state_of old) { guests = with_memory (seen old.guests.items) g memory }
 puts-state old new g memory h =
     rw (h.same.tag, h.same.limits, h.same.producers, h.same.kept, h.same.consumers, h.same.contexts, h.same.trapped, h.streams, h.guests) refl
 
--- one as long as before
-pub IsStore-memory : (old new : Inside) (g : ℕ) (memory : List ℕ) → PutsMemory old new g memory → length memory ≡ length (memory_in (seen old.guests.items) g) → IsStore old → IsStore new
-IsStore-memory old new g memory h size i =
-    let keeps = with_memory-keeps (seen old.guests.items) g memory size in
+-- somebody was told where the memory of a guest lies
+abbrev pub TellsBase : Inside → Inside → ℕ → Ptr → Type 0
+TellsBase old new g base = PutsGuests old new (with_base (seen old.guests.items) g base)
+
+-- the state then
+pub tells-state : (old new : Inside) (g : ℕ) (base : Ptr) → TellsBase old new g base → state_of new ≡ with_base_in (state_of old) g base
+tells-state old new g base h =
+    rw (h.same.tag, h.same.limits, h.same.producers, h.same.kept, h.same.consumers, h.same.contexts, h.same.trapped, h.streams, h.guests) refl
+
+-- guests with the memory lengths, the handles and the sets of those before
+IsStore-guests : (old new : Inside) (guests : List machine.Guest) → PutsGuests old new guests → GuestsKeep (seen old.guests.items) guests → IsStore old → IsStore new
+IsStore-guests old new guests h keeps i =
     let kept : GuestsKeep (seen old.guests.items) (seen new.guests.items) = rw h.guests keeps in
     let state : state_of new ≡ record (state_of old) { guests = seen new.guests.items } = rw (h.same.tag, h.same.limits, h.same.producers, h.same.kept, h.same.consumers, h.same.contexts, h.same.trapped, h.streams) refl in
     IsStore-counted old new
     (kept_tables old new (record { limits = h.same.limits; counter = h.counter; live_sets = h.live_sets; bytes = h.count; guests = kept }) i)
     (kept_streams old new h.streams h.live_streams (record { producers = h.same.producers; kept = h.same.kept; consumers = h.same.consumers }) i)
     (rw state (IsSound-guests (state_of old) (seen new.guests.items) kept i.sound)) i
+
+pub IsStore-base : (old new : Inside) (g : ℕ) (base : Ptr) → TellsBase old new g base → IsStore old → IsStore new
+IsStore-base old new g base h i = IsStore-guests old new _ h (with_base-keeps (seen old.guests.items) g base) i
+
+-- bytes as many as before
+pub IsStore-memory : (old new : Inside) (g : ℕ) (memory : List ℕ) → PutsMemory old new g memory → length memory ≡ length (memory_in (seen old.guests.items) g) → IsStore old → IsStore new
+IsStore-memory old new g memory h size i = IsStore-guests old new _ h (with_memory-keeps (seen old.guests.items) g memory size) i
 
 -- bytes put into a guest's memory
 abbrev pub PutsBytes : Inside → Inside → ℕ → ℕ → List ℕ → Type 0

@@ -3,6 +3,7 @@ use Rattle.std.specs.Prelude.{◌≡◌, ◌↔◌, ℕ, List, map, sum_by, coun
 use Rattle.strm_codes.specs.Layout.{scalars_of}
 use Rattle.strm_codes.specs.declared.payloads.Payload.{Payload}
 use Rattle.strm_memory.specs.Items.{items_at, stored_at}
+use Rattle.strm_memory.specs.Linear.{LinearMemory}
 use Rattle.strm_memory.specs.declared.copies.BadItem.{BadItem}
 use Rattle.strm_codes.specs.declared.codes.TransmitIndex.{TransmitIndex}
 use Rattle.strm_codes.specs.declared.codes.TransmitIndex.TheVariants as index
@@ -20,7 +21,16 @@ use Rattle.strm_turns.specs.declared.guests.Guest.{Guest}
 
 -- a guest as the machine's: its memory, what its handles stand for, and its waitable sets
 abbrev pub guest_of : Guest → machine.Guest
-guest_of g = record { memory = g.memory; handles = g.table.handles; sets = g.sets }
+guest_of g = record { memory = g.memory.bytes; base = g.memory.base; handles = g.table.handles; sets = g.sets }
+
+-- a guest's memory: its bytes, and where they lie, once that was told
+abbrev pub linear_in : List machine.Guest → ℕ → LinearMemory
+linear_in guests g = record { bytes = memory_in guests g; base = (guest_in guests g).base }
+
+-- the guests with another memory for one of them, which lies elsewhere
+abbrev pub with_linear : List machine.Guest → ℕ → LinearMemory → List machine.Guest
+with_linear guests g memory =
+    slice_set guests g (record (guest_in guests g) { memory = memory.bytes; base = memory.base })
 
 -- the guests, as the machine's
 abbrev pub seen : List Guest → List machine.Guest

@@ -2,12 +2,14 @@
 //!
 //! Source: wasmtime, the component instances that a store keeps.
 
-ghost use Rattle.std.specs.Prelude.{◌≡◌, ◌≢◌, ◌+◌, ◌*◌, ◌<◌, ◌≤◌, [], length, take, drop, false};
+ghost use Rattle.std.specs.Prelude.{◌≡◌, ◌≢◌, ◌+◌, ◌*◌, ◌<◌, ◌≤◌, [], length, take, drop, false, IfSome};
 ghost use Rattle.strm_codes.specs.Layout.{scalars_of, item_size};
 ghost use Rattle.strm_memory.specs.Bytes.{put_at};
 ghost use Rattle.strm_memory.specs.Region.{bytes_out_of_bounds};
 ghost use Rattle.strm_machine.specs.State.{memory_in, with_memory};
-ghost use Rattle.strm_turns.specs.Guests.{seen, Receives};
+ghost use Rattle.strm_machine.specs.Bases.{base_in, with_base};
+ghost use Rattle.strm_memory.specs.Linear.{untold};
+ghost use Rattle.strm_turns.specs.Guests.{seen, linear_in, with_linear, Receives};
 
 use std::alloc::Global;
 use std::mem;
@@ -30,7 +32,7 @@ pub struct Guest {
 #[inline(always)]
 pub fn memory(guests: &Vec<Guest>, guest: usize) -> &GuestMemory
     requires { guest < length guests.now.items }
-    ensures { result.now ≡ memory_in (seen guests.now.items) guest }
+    ensures { result.now ≡ linear_in (seen guests.now.items) guest }
 {
     &guests[guest].memory
 }
@@ -39,8 +41,8 @@ pub fn memory(guests: &Vec<Guest>, guest: usize) -> &GuestMemory
 #[inline(always)]
 pub fn take_memory(alloc: Global, guests: &mut Vec<Guest>, guest: usize) -> GuestMemory
     requires { guest < length guests.old.items }
-    ensures memory { result ≡ memory_in (seen guests.old.items) guest }
-    ensures rest { seen guests.new.items ≡ with_memory (seen guests.old.items) guest [] }
+    ensures memory { result ≡ linear_in (seen guests.old.items) guest }
+    ensures rest { seen guests.new.items ≡ with_linear (seen guests.old.items) guest (untold []) }
     ensures count { length guests.new.items ≡ length guests.old.items }
 {
     mem::replace(&mut guests[guest].memory, GuestMemory::empty(alloc))
@@ -50,7 +52,7 @@ pub fn take_memory(alloc: Global, guests: &mut Vec<Guest>, guest: usize) -> Gues
 #[inline(always)]
 pub fn put_memory(guests: &mut Vec<Guest>, guest: usize, memory: GuestMemory)
     requires { guest < length guests.old.items }
-    ensures guests { seen guests.new.items ≡ with_memory (seen guests.old.items) guest memory }
+    ensures guests { seen guests.new.items ≡ with_linear (seen guests.old.items) guest memory }
     ensures count { length guests.new.items ≡ length guests.old.items }
 {
     guests[guest].memory = memory;
@@ -154,6 +156,17 @@ pub fn receive_between(
             count,
         )
     }
+}
+
+/// Where a guest's memory lies, which is told: from now on it lies there. Takes no memory.
+pub fn tell_base(guests: &mut Vec<Guest>, guest: usize) -> *const u8
+    requires { guest < length guests.old.items }
+    ensures told { seen guests.new.items ≡ with_base (seen guests.old.items) guest result }
+    ensures again { IfSome (base_in (seen guests.old.items) guest) (λ base. result ≡ base) }
+    ensures count { length guests.new.items ≡ length guests.old.items }
+{
+    let memory = &mut guests[guest].memory;
+    memory.tell_base()
 }
 
 /// Puts bytes into a guest's memory.

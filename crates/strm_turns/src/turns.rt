@@ -9,6 +9,7 @@ ghost use Rattle.strm_machine.specs.Sides.{opposite, end_of, with_end, with_oper
 ghost use Rattle.strm_machine.specs.Tests.{is_open_of};
 ghost use Rattle.strm_machine.specs.State as machine;
 ghost use Rattle.strm_machine.specs.State.{memory_in};
+ghost use Rattle.strm_memory.specs.Linear.{with_contents};
 ghost use Rattle.strm_memory.specs.Region.{is_out_of_bounds};
 ghost use Rattle.strm_memory.specs.Items.{items_at, stored_at, is_number_or_none};
 ghost use Rattle.std.specs.Prelude.{IsTrue, IsSomeAnd};
@@ -128,10 +129,10 @@ fn carry_within(
 
 fn move_within(memory: &mut GuestMemory, from: u32, to: u32, payload: Payload, count: ItemCount)
     requires numbers { IsTrue (is_number_or_none payload) }
-    requires source { from + item_size (scalars_of payload) * count ≤ length memory.old }
-    requires target { to + item_size (scalars_of payload) * count ≤ length memory.old }
-    ensures { IsSomeAnd (items_at (scalars_of payload) memory.old from count)
-        (λ xs. memory.new ≡ stored_at (scalars_of payload) memory.old to xs) }
+    requires source { from + item_size (scalars_of payload) * count ≤ length memory.old.bytes }
+    requires target { to + item_size (scalars_of payload) * count ≤ length memory.old.bytes }
+    ensures { IsSomeAnd (items_at (scalars_of payload) memory.old.bytes from count)
+        (λ xs. memory.new ≡ with_contents memory.old (stored_at (scalars_of payload) memory.old.bytes to xs)) }
 {
     copy_within_items(memory.bytes_mut(), from, to, payload, count);
 }

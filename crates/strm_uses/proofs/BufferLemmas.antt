@@ -5,6 +5,7 @@ use Rattle.strm_codes.specs.Layout.{scalars_of, item_size}
 use Rattle.strm_codes.specs.declared.payloads.Payload.{Payload}
 use Rattle.strm_memory.specs.Bytes.{bytes_at, IsApart}
 use Rattle.strm_memory.specs.Items.{stored_at}
+use Rattle.strm_memory.specs.Linear.{LinearMemory}
 use Rattle.strm_memory.proofs.RegionLemmas.{bytes_at-stored_at}
 use Rattle.strm_buffers.specs.Windows.{Lent, Place, Memory, HasRoom, lent_memory, memory_of}
 use Rattle.strm_buffers.specs.Tells.{Fills}
@@ -13,15 +14,15 @@ apart_less : (address n k other m : ℕ) → k ≤ n → IsApart address n other
 apart_less address n k other m h (inl behind) = inl (omega (arith, h, behind))
 apart_less address n k other m h (inr before) = inr before
 
-module _ (payload : Payload) (memory after : List ℕ) (address room count : ℕ) (w v : Lent) (h : address + item_size (scalars_of payload) * room ≤ length memory) (e : w ≡ record (lent_memory payload memory address room) { prepared = true }) where
+module _ (payload : Payload) (memory : LinearMemory) (after : List ℕ) (address room count : ℕ) (w v : Lent) (h : address + item_size (scalars_of payload) * room ≤ length memory.bytes) (e : w ≡ record (lent_memory payload memory address room) { prepared = true }) where
   -- the bytes that lie apart from the room
   pub stays_outside : Fills w v → after ≡ memory_of v.place → count ≡ length v.marked → HasRoom v.place count 0
-      → (other n : ℕ) → IsApart address (item_size (scalars_of payload) * room) other n → bytes_at after other n ≡ bytes_at memory other n
+      → (other n : ℕ) → IsApart address (item_size (scalars_of payload) * room) other n → bytes_at after other n ≡ bytes_at memory.bytes other n
   stays_outside f a c r other n apart =
       let ss = scalars_of payload in
-      let place : v.place ≡ Memory (stored_at ss memory (address + item_size ss * 0) v.marked) address room = f.place ∙ rw e refl in
+      let place : v.place ≡ Memory (stored_at ss memory.bytes (address + item_size ss * 0) v.marked) address room = f.place ∙ rw e refl in
       let at : address + item_size ss * 0 ≡ address = omega arith in
       let few : count + 0 ≤ room = subst (λ (p : Place). HasRoom p count 0) place r in
       let most : item_size ss * length v.marked ≤ item_size ss * room = mul-le-mul_left (item_size ss) (omega (arith, few, c)) in
-      let is : after ≡ stored_at ss memory address v.marked = a ∙ ap memory_of place ∙ ap (λ k. stored_at ss memory k v.marked) at in
-      rw is (bytes_at-stored_at ss memory address v.marked other n (omega (arith, most, h)) (apart_less address (item_size ss * room) (item_size ss * length v.marked) other n most apart))
+      let is : after ≡ stored_at ss memory.bytes address v.marked = a ∙ ap memory_of place ∙ ap (λ k. stored_at ss memory.bytes k v.marked) at in
+      rw is (bytes_at-stored_at ss memory.bytes address v.marked other n (omega (arith, most, h)) (apart_less address (item_size ss * room) (item_size ss * length v.marked) other n most apart))

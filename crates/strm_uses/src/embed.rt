@@ -1,6 +1,6 @@
 //! A store among guests alone: three bytes go from one guest to another.
 
-ghost use Rattle.std.specs.Prelude.{◌≡◌, ◌≢◌, ℕ, take, length, false, Some, Ok, Err, IfOk};
+ghost use Rattle.std.specs.Prelude.{◌≡◌, ◌≢◌, ℕ, take, length, false, Some, Ok, Err, IfOk, IfSome};
 ghost use Rattle.strm_codes.specs.declared.codes.ReturnCode.TheVariants.{Completed};
 ghost use Rattle.strm_machine.specs.State.{memory_in, stream_at};
 ghost use Rattle.strm_uses.specs.declared.embed.Told.TheVariants.{Trap};
@@ -87,4 +87,27 @@ pub fn fill(store: &mut GuestStore, guest: u32, byte: u8) -> bool
     }
     store.memory_mut(guest).fill(byte);
     true
+}
+
+/// Reads for a guest, and asks before and after where its memory lies: at the same address, whatever the
+/// read answered. None where there is no such guest.
+pub fn read_in_place(
+    store: &mut GuestStore,
+    guest: u32,
+    handle: u32,
+    address: u32,
+    count: u32,
+) -> Option<(*const u8, *const u8)>
+    ensures { IfSome result (λ bases. bases.0 ≡ bases.1) }
+{
+    if !store.has_guest(guest) {
+        return None;
+    }
+    let before = store.memory_base(guest);
+    let _ = store.stream_read(guest, BYTES, handle, address, count);
+    if !store.has_guest(guest) {
+        return None;
+    }
+    let after = store.memory_base(guest);
+    Some((before, after))
 }

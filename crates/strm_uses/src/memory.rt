@@ -1,6 +1,7 @@
 //! Two guests' memories: bytes go from one to the other.
 
 ghost use Rattle.std.specs.Prelude.{◌≡◌, ◌+◌, ◌≤◌, length, IsOk, OnOk, OnErr};
+ghost use Rattle.strm_memory.specs.Linear.{with_contents};
 ghost use Rattle.strm_memory.specs.Bytes.{put_at, bytes_at};
 
 use strm_codes::counts::ItemCount;
@@ -11,7 +12,7 @@ use strm_memory::memories::{GuestMemory, RegionError};
 const BYTES: Payload = Payload::One(Scalar::U8);
 
 /// Sends bytes from one guest's memory to another's. They arrive as they are, and all else there
-/// stays; where one of the regions is not inside its memory, nothing changes.
+/// stays, also where it lies; where one of the regions is not inside its memory, nothing changes.
 pub fn send(
     writer: &GuestMemory,
     from: u32,
@@ -19,8 +20,9 @@ pub fn send(
     to: u32,
     count: ItemCount,
 ) -> Result<(), RegionError>
-    ensures arrived { OnOk result (reader.new ≡ put_at reader.old to (bytes_at writer.now from count)) }
-    ensures inside { from + count ≤ length writer.now → to + count ≤ length reader.old → IsOk result }
+    ensures arrived { OnOk result (reader.new
+        ≡ with_contents reader.old (put_at reader.old.bytes to (bytes_at writer.now.bytes from count))) }
+    ensures inside { from + count ≤ length writer.now.bytes → to + count ≤ length reader.old.bytes → IsOk result }
     ensures refused { OnErr result (reader.new ≡ reader.old) }
 {
     if count.equals_u32(0) {

@@ -2,8 +2,9 @@
 //!
 //! Ours.
 
-ghost use Rattle.std.specs.Prelude.{◌≡◌, ◌≢◌, ◌<◌, ◌↔◌, ◌≤◌, Some, length, take, drop};
+ghost use Rattle.std.specs.Prelude.{◌≡◌, ◌≢◌, ◌<◌, ◌↔◌, ◌≤◌, Some, IsSome, IfSome, length, take, drop};
 ghost use Rattle.strm_machine.specs.State.{State, memory_in};
+ghost use Rattle.strm_machine.specs.Bases.{base_in, with_base_in};
 ghost use Rattle.strm_machine.specs.Reactions.{react};
 ghost use Rattle.strm_machine.specs.declared.steps.Step.TheVariants as steps;
 ghost use Rattle.strm_c.specs.Queries.{bytes_answer};
@@ -11,7 +12,6 @@ ghost use Rattle.strm_c.specs.Statuses.{Answers, AnswersOr, found_status};
 
 use crate::handles::StoreHandle;
 use crate::statuses::{Status, done, found, number};
-use std::ptr;
 use strm_codes::refusals::Refusal;
 use strm_embed::guest_store::GuestStore;
 
@@ -64,34 +64,40 @@ pub extern "C" fn strm_memory_read(
     status
 }
 
-// Where bytes begin, and how many they are.
-fn place(memory: &[u8], out: &mut *const u8, len: &mut usize)
-    ensures size { len.new ≡ length memory.now }
-    ensures no_bytes { length memory.now ≡ 0 → out.new ≡ out.old }
+// How many bytes a guest's memory has.
+fn len_of(store: &GuestStore, guest: u32) -> Option<usize>
+    ensures there { IsSome result ↔ (guest < length store.now.guests) }
+    ensures len { IfSome result (λ len. len ≡ length (memory_in store.now.guests guest)) }
 {
-    *len = memory.len();
-    if !memory.is_empty() {
-        *out = ptr::from_ref(&memory[0]);
+    match store.memory(guest) {
+        Some(memory) => Some(memory.len()),
+        None => None,
     }
 }
 
-// The same of a guest's memory.
-fn place_of(store: &GuestStore, guest: u32, out: &mut *const u8, len: &mut usize) -> Status
-    ensures there { result ≡ 0 ↔ (guest < length store.now.guests) }
-    ensures unknown { result ≡ 1 ↔ (length store.now.guests ≤ guest) }
-    ensures size { result ≡ 0 → len.new ≡ length (memory_in store.now.guests guest) }
+// Tells where a guest's memory lies, and how many bytes it has.
+fn tell(store: &mut GuestStore, guest: u32, out: &mut *const u8, len: &mut usize) -> Status
+    ensures there { result ≡ 0 ↔ (guest < length store.old.guests) }
+    ensures unknown { result ≡ 1 ↔ (length store.old.guests ≤ guest) }
+    ensures told { result ≡ 0 → store.new ≡ with_base_in store.old guest out.new }
+    ensures again { result ≡ 0 → IfSome (base_in store.old.guests guest) (λ base. out.new ≡ base) }
+    ensures size { result ≡ 0 → len.new ≡ length (memory_in store.old.guests guest) }
     ensures kept { result ≢ 0 → (out.new ≡ out.old) × (len.new ≡ len.old) }
+    ensures same { result ≢ 0 → store.new ≡ store.old }
 {
-    let Some(memory) = store.memory(guest) else {
-        return u32::from(Refusal::UnknownGuest.number());
-    };
-    place(memory, out, len);
-    0
+    match len_of(store, guest) {
+        Some(found) => {
+            *len = found;
+            *out = store.memory_base(guest);
+            0
+        }
+        None => u32::from(Refusal::UnknownGuest.number()),
+    }
 }
 
-/// Puts at `out` where a guest's memory lies, and at `len` how many bytes it has; of no bytes `out` stays.
-/// They lie there until the store is given up. The caller may read and write them between calls, and must
-/// not during one. Refused: UnknownGuest.
+/// Puts at `out` where a guest's memory lies, and at `len` how many bytes it has; of no bytes `out` is an
+/// address that may not be read. They lie there until the store is given up. The caller may read and write
+/// them between calls, and must not during one. Refused: UnknownGuest.
 #[unsafe(no_mangle)]
 pub extern "C" fn strm_memory_at(
     store: &mut StoreHandle,
@@ -103,9 +109,11 @@ pub extern "C" fn strm_memory_at(
     requires { store.old.state ≡ Some s }
     ensures there { result ≡ 0 ↔ (guest < length s.guests) }
     ensures unknown { result ≡ 1 ↔ (length s.guests ≤ guest) }
+    ensures told { result ≡ 0 → store.new.state ≡ Some (with_base_in s guest out.new) }
+    ensures again { result ≡ 0 → IfSome (base_in s.guests guest) (λ base. out.new ≡ base) }
     ensures size { result ≡ 0 → len.new ≡ length (memory_in s.guests guest) }
     ensures kept { result ≢ 0 → (out.new ≡ out.old) × (len.new ≡ len.old) }
-    ensures same { store.new.state ≡ Some s }
+    ensures same { result ≢ 0 → store.new.state ≡ Some s }
 {
-    place_of(store.store_mut(), guest, out, len)
+    tell(store.store_mut(), guest, out, len)
 }

@@ -4,6 +4,7 @@
 //! `canon error-context.new` and the others.
 
 ghost use Rattle.std.specs.Prelude.{◌≡◌, ◌≢◌, Err};
+ghost use Rattle.strm_machine.specs.Bases.{BasesStay};
 ghost use Rattle.strm_machine.specs.Reactions.{react, lowers_context};
 ghost use Rattle.strm_machine.specs.Refusals.{first_of, context_reasons};
 ghost use Rattle.strm_machine.specs.ErrorContexts.{context_number};
@@ -14,7 +15,7 @@ ghost use Rattle.strm_transmit.specs.Meets.{Meets, replied, admitted, or_found};
 use crate::guest_store::GuestStore;
 use strm_transmit::errors::StoreError;
 
-#[tactic(auto, using(crate::proofs::AmongLemmas::plain_among))]
+#[tactic(auto, using(crate::proofs::AmongLemmas::plain_among, crate::proofs::BaseLemmas::plain_stays))]
 impl GuestStore {
     /// An error context of so many bytes of the guest's memory, which are its message, in UTF-8. Answers
     /// its handle. `canon error-context.new`.
@@ -26,6 +27,7 @@ impl GuestStore {
     ) -> Result<u32, StoreError>
         ensures meets { Meets self.old self.new (replied replies.Number result)
             (react self.old (steps.ErrNew guest address len)) }
+        ensures stays { BasesStay self.old.guests self.new.guests }
     {
         self.store.error_context_new(guest, address, len)
     }
@@ -40,6 +42,7 @@ impl GuestStore {
     ) -> Result<u32, StoreError>
         ensures meets { Meets self.old self.new (replied replies.Number result)
             (react self.old (steps.ErrText guest handle address)) }
+        ensures stays { BasesStay self.old.guests self.new.guests }
         ensures takes_no_memory { result ≢ Err StoreError.OutOfMemory }
     {
         self.store.error_context_message(guest, handle, address)
@@ -55,6 +58,7 @@ impl GuestStore {
     ) -> Result<u32, StoreError>
         ensures meets { Meets self.old self.new (replied replies.Number result)
             (react self.old (steps.ErrMove guest handle to)) }
+        ensures stays { BasesStay self.old.guests self.new.guests }
     {
         self.store.error_context_transfer(guest, handle, to)
     }
@@ -63,6 +67,7 @@ impl GuestStore {
     pub fn error_context_lower(&mut self, rep: u32, guest: u32) -> Result<u32, StoreError>
         ensures meets { Meets self.old self.new (replied replies.Number result)
             (lowers_context self.old rep guest) }
+        ensures stays { BasesStay self.old.guests self.new.guests }
     {
         self.store.error_context_lower(rep, guest)
     }
@@ -72,6 +77,7 @@ impl GuestStore {
     pub fn error_context_drop(&mut self, guest: u32, handle: u32) -> Result<(), StoreError>
         ensures meets { Meets self.old self.new (replied (λ _. replies.Done) result)
             (react self.old (steps.ErrDrop guest handle)) }
+        ensures stays { BasesStay self.old.guests self.new.guests }
         ensures takes_no_memory { result ≢ Err StoreError.OutOfMemory }
     {
         self.store.error_context_drop(guest, handle)

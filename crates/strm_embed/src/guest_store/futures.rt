@@ -4,6 +4,7 @@
 
 ghost use Rattle.std.specs.Prelude.{◌≢◌, Err};
 ghost use Rattle.strm_codes.specs.declared.codes.TransmitIndex.TheVariants as index;
+ghost use Rattle.strm_machine.specs.Bases.{BasesStay};
 ghost use Rattle.strm_machine.specs.Reactions.{react};
 ghost use Rattle.strm_machine.specs.declared.replies.Reply.TheVariants as replies;
 ghost use Rattle.strm_machine.specs.declared.steps.Step.TheVariants as steps;
@@ -17,13 +18,14 @@ use strm_machine::replies::Pair;
 use strm_machine::streams::Side;
 use strm_transmit::errors::StoreError;
 
-#[tactic(auto, using(crate::proofs::AmongLemmas::plain_among))]
+#[tactic(auto, using(crate::proofs::AmongLemmas::plain_among, crate::proofs::BaseLemmas::plain_stays))]
 impl GuestStore {
     /// A new future whose ends one guest gets: their handles go into its table, the read end's first.
     /// `canon future.new`. Refused as `stream_new` is.
     pub fn future_new(&mut self, guest: u32, payload: Payload) -> Result<Pair, StoreError>
         ensures meets { Meets self.old self.new (replied replies.Pair result)
             (react self.old (steps.New guest (index.Future payload))) }
+        ensures stays { BasesStay self.old.guests self.new.guests }
     {
         self.store.future_new(guest, payload)
     }
@@ -38,6 +40,7 @@ impl GuestStore {
     ) -> Result<ReturnCode, StoreError>
         ensures meets { Meets self.old self.new (replied replies.Code result)
             (react self.old (steps.Write guest (index.Future payload) handle address 1)) }
+        ensures stays { BasesStay self.old.guests self.new.guests }
         ensures takes_no_memory { result ≢ Err StoreError.OutOfMemory }
     {
         let ty = TransmitIndex::Future(payload);
@@ -55,6 +58,7 @@ impl GuestStore {
     ) -> Result<ReturnCode, StoreError>
         ensures meets { Meets self.old self.new (replied replies.Code result)
             (react self.old (steps.Read guest (index.Future payload) handle address 1)) }
+        ensures stays { BasesStay self.old.guests self.new.guests }
         ensures takes_no_memory { result ≢ Err StoreError.OutOfMemory }
     {
         let ty = TransmitIndex::Future(payload);
@@ -71,6 +75,7 @@ impl GuestStore {
     ) -> Result<ReturnCode, StoreError>
         ensures meets { Meets self.old self.new (replied replies.Code result)
             (react self.old (steps.CancelWrite guest (index.Future payload) handle)) }
+        ensures stays { BasesStay self.old.guests self.new.guests }
         ensures takes_no_memory { result ≢ Err StoreError.OutOfMemory }
     {
         self.store.future_cancel_write(guest, payload, handle)
@@ -85,13 +90,14 @@ impl GuestStore {
     ) -> Result<ReturnCode, StoreError>
         ensures meets { Meets self.old self.new (replied replies.Code result)
             (react self.old (steps.CancelRead guest (index.Future payload) handle)) }
+        ensures stays { BasesStay self.old.guests self.new.guests }
         ensures takes_no_memory { result ≢ Err StoreError.OutOfMemory }
     {
         self.store.future_cancel_read(guest, payload, handle)
     }
 }
 
-#[tactic(auto, using(crate::proofs::AmongLemmas::hosted_meets))]
+#[tactic(auto, using(crate::proofs::AmongLemmas::hosted_meets, crate::proofs::BaseLemmas::hosted_stays))]
 impl GuestStore {
     /// Drops the write end of a future. `canon future.drop-writable`. It is refused (FutureWithoutValue)
     /// before the value has passed, or the end was told that nobody reads it.
@@ -103,6 +109,7 @@ impl GuestStore {
     ) -> Result<(), StoreError>
         ensures meets { Meets self.old self.new (replied (λ _. replies.Done) result)
             (react self.old (steps.DropWrite guest (index.Future payload) handle)) }
+        ensures stays { BasesStay self.old.guests self.new.guests }
         ensures takes_no_memory { result ≢ Err StoreError.OutOfMemory }
     {
         let mut hosts = no_hosts(self.alloc);
@@ -119,6 +126,7 @@ impl GuestStore {
     ) -> Result<(), StoreError>
         ensures meets { Meets self.old self.new (replied (λ _. replies.Done) result)
             (react self.old (steps.DropRead guest (index.Future payload) handle)) }
+        ensures stays { BasesStay self.old.guests self.new.guests }
         ensures takes_no_memory { result ≢ Err StoreError.OutOfMemory }
     {
         let mut hosts = no_hosts(self.alloc);

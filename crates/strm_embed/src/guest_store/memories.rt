@@ -2,8 +2,9 @@
 //!
 //! Meaning: `on_memory` of `Reactions.antt` of `strm_machine`. Ours.
 
-ghost use Rattle.std.specs.Prelude.{◌≡◌, ◌≢◌, ◌<◌, ◌↔◌, Err, OnOk, OnErr, IsTrue, length, take, drop};
+ghost use Rattle.std.specs.Prelude.{◌≡◌, ◌≢◌, ◌<◌, ◌↔◌, Err, OnOk, OnErr, IfSome, IsTrue, length, take, drop};
 ghost use Rattle.strm_machine.specs.State.{memory_in};
+ghost use Rattle.strm_machine.specs.Bases.{base_in, with_base_in, BasesStay};
 ghost use Rattle.strm_machine.specs.Reactions.{react};
 ghost use Rattle.strm_machine.specs.Refusals.{first_of, bytes_reasons};
 ghost use Rattle.strm_machine.specs.declared.replies.Reply.TheVariants as replies;
@@ -34,15 +35,28 @@ impl GuestStore {
     {
         self.store.memory_mut(guest)
     }
+
+    /// Where a guest's memory lies, which is told: from now on it lies there, through every call
+    /// (`stays`), until the store is given up; also of a store that was trapped. Of a
+    /// memory without bytes it is the address of nothing. `has_guest` tells whether the guest is there.
+    /// wasmtime, `VMMemoryDefinition::base`.
+    pub fn memory_base(&mut self, guest: u32) -> *const u8
+        requires { guest < length self.old.guests }
+        ensures told { self.new ≡ with_base_in self.old guest result }
+        ensures again { IfSome (base_in self.old.guests guest) (λ base. result ≡ base) }
+    {
+        self.store.memory_base(guest)
+    }
 }
 
-#[tactic(auto, using(crate::proofs::AmongLemmas::plain_among))]
+#[tactic(auto, using(crate::proofs::AmongLemmas::plain_among, crate::proofs::BaseLemmas::plain_stays))]
 impl GuestStore {
     /// A guest with a memory of so many zero bytes. Answers its number; the first is 0. Refused, in this
     /// order, are bytes past 268,435,456 of all guests together, and the guest past 1,048,576.
     pub fn add_guest(&mut self, size: u32) -> Result<u32, StoreError>
         ensures meets { Meets self.old self.new (replied replies.Number result)
             (react self.old (steps.Guest size)) }
+        ensures stays { BasesStay self.old.guests self.new.guests }
     {
         self.store.add_guest(size)
     }
@@ -51,6 +65,7 @@ impl GuestStore {
     pub fn write_memory(&mut self, guest: u32, address: u32, bytes: &[u8]) -> Result<(), StoreError>
         ensures meets { Meets self.old self.new (replied (λ _. replies.Done) result)
             (react self.old (steps.Poke guest address bytes.now)) }
+        ensures stays { BasesStay self.old.guests self.new.guests }
         ensures takes_no_memory { result ≢ Err StoreError.OutOfMemory }
     {
         self.store.write_memory(guest, address, bytes)

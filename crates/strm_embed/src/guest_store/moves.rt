@@ -5,6 +5,7 @@
 
 ghost use Rattle.std.specs.Prelude.{◌≡◌, ◌≢◌, Err};
 ghost use Rattle.strm_codes.specs.declared.codes.TransmitIndex.TheVariants as index;
+ghost use Rattle.strm_machine.specs.Bases.{BasesStay};
 ghost use Rattle.strm_machine.specs.Reactions.{react};
 ghost use Rattle.strm_machine.specs.declared.replies.Reply.TheVariants as replies;
 ghost use Rattle.strm_machine.specs.declared.steps.Step.TheVariants as steps;
@@ -16,7 +17,7 @@ use strm_codes::payloads::Payload;
 use strm_machine::replies::Pair;
 use strm_transmit::errors::StoreError;
 
-#[tactic(auto, using(crate::proofs::AmongLemmas::plain_among))]
+#[tactic(auto, using(crate::proofs::AmongLemmas::plain_among, crate::proofs::BaseLemmas::plain_stays))]
 impl GuestStore {
     /// A stream or future between two guests, which may be one: the read end's handle goes into the
     /// reader's table first, and then the write end's into the writer's. Refused as `stream_new` is.
@@ -28,6 +29,7 @@ impl GuestStore {
     ) -> Result<Pair, StoreError>
         ensures meets { Meets self.old self.new (replied replies.Pair result)
             (react self.old (steps.Between writer reader ty)) }
+        ensures stays { BasesStay self.old.guests self.new.guests }
     {
         self.store.new_between(writer, reader, ty)
     }
@@ -43,6 +45,7 @@ impl GuestStore {
     ) -> Result<u32, StoreError>
         ensures meets { Meets self.old self.new (replied replies.Number result)
             (react self.old (steps.Move guest (index.Stream payload) handle to)) }
+        ensures stays { BasesStay self.old.guests self.new.guests }
         ensures takes_no_memory { guest ≡ to → result ≢ Err StoreError.OutOfMemory }
     {
         self.store.stream_transfer(guest, payload, handle, to)
@@ -58,6 +61,7 @@ impl GuestStore {
     ) -> Result<u32, StoreError>
         ensures meets { Meets self.old self.new (replied replies.Number result)
             (react self.old (steps.Move guest (index.Future payload) handle to)) }
+        ensures stays { BasesStay self.old.guests self.new.guests }
         ensures takes_no_memory { guest ≡ to → result ≢ Err StoreError.OutOfMemory }
     {
         self.store.future_transfer(guest, payload, handle, to)
@@ -68,6 +72,7 @@ impl GuestStore {
     pub fn lift(&mut self, guest: u32, ty: TransmitIndex, handle: u32) -> Result<u32, StoreError>
         ensures meets { Meets self.old self.new (replied replies.Number result)
             (react self.old (steps.Lift guest ty handle)) }
+        ensures stays { BasesStay self.old.guests self.new.guests }
         ensures takes_no_memory { result ≢ Err StoreError.OutOfMemory }
     {
         self.store.lift(guest, ty, handle)
@@ -78,17 +83,19 @@ impl GuestStore {
     pub fn lower(&mut self, reader: u32, guest: u32, ty: TransmitIndex) -> Result<u32, StoreError>
         ensures meets { Meets self.old self.new (replied replies.Number result)
             (react self.old (steps.Lower reader guest ty)) }
+        ensures stays { BasesStay self.old.guests self.new.guests }
     {
         self.store.lower(reader, guest, ty)
     }
 }
 
-#[tactic(auto, using(crate::proofs::AmongLemmas::hosted_meets))]
+#[tactic(auto, using(crate::proofs::AmongLemmas::hosted_meets, crate::proofs::BaseLemmas::hosted_stays))]
 impl GuestStore {
     /// Drops the loose read end of a stream.
     pub fn close(&mut self, reader: u32) -> Result<(), StoreError>
         ensures meets { Meets self.old self.new (replied (λ _. replies.Done) result)
             (react self.old (steps.Close reader)) }
+        ensures stays { BasesStay self.old.guests self.new.guests }
         ensures takes_no_memory { result ≢ Err StoreError.OutOfMemory }
     {
         let mut hosts = no_hosts(self.alloc);

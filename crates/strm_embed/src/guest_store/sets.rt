@@ -4,6 +4,7 @@
 //! others.
 
 ghost use Rattle.std.specs.Prelude.{◌≢◌, Err};
+ghost use Rattle.strm_machine.specs.Bases.{BasesStay};
 ghost use Rattle.strm_machine.specs.Reactions.{react};
 ghost use Rattle.strm_machine.specs.declared.replies.Reply.TheVariants as replies;
 ghost use Rattle.strm_machine.specs.declared.steps.Step.TheVariants as steps;
@@ -13,12 +14,13 @@ use crate::guest_store::GuestStore;
 use strm_machine::replies::Member;
 use strm_transmit::errors::StoreError;
 
-#[tactic(auto, using(crate::proofs::AmongLemmas::plain_among))]
+#[tactic(auto, using(crate::proofs::AmongLemmas::plain_among, crate::proofs::BaseLemmas::plain_stays))]
 impl GuestStore {
     /// A new waitable set. Answers its handle. `canon waitable-set.new`.
     pub fn set_new(&mut self, guest: u32) -> Result<u32, StoreError>
         ensures meets { Meets self.old self.new (replied replies.Number result)
             (react self.old (steps.SetNew guest)) }
+        ensures stays { BasesStay self.old.guests self.new.guests }
     {
         self.store.set_new(guest)
     }
@@ -28,6 +30,7 @@ impl GuestStore {
     pub fn set_join(&mut self, guest: u32, set: u32, handle: u32) -> Result<(), StoreError>
         ensures meets { Meets self.old self.new (replied (λ _. replies.Done) result)
             (react self.old (steps.SetJoin guest set handle)) }
+        ensures stays { BasesStay self.old.guests self.new.guests }
     {
         self.store.set_join(guest, set, handle)
     }
@@ -36,6 +39,7 @@ impl GuestStore {
     pub fn set_poll(&mut self, guest: u32, set: u32) -> Result<Option<Member>, StoreError>
         ensures meets { Meets self.old self.new (replied replies.Member result)
             (react self.old (steps.SetPoll guest set)) }
+        ensures stays { BasesStay self.old.guests self.new.guests }
         ensures takes_no_memory { result ≢ Err StoreError.OutOfMemory }
     {
         self.store.set_poll(guest, set)
@@ -46,6 +50,7 @@ impl GuestStore {
     pub fn set_drop(&mut self, guest: u32, set: u32) -> Result<(), StoreError>
         ensures meets { Meets self.old self.new (replied (λ _. replies.Done) result)
             (react self.old (steps.SetDrop guest set)) }
+        ensures stays { BasesStay self.old.guests self.new.guests }
         ensures takes_no_memory { result ≢ Err StoreError.OutOfMemory }
     {
         self.store.set_drop(guest, set)

@@ -4,6 +4,7 @@
 
 ghost use Rattle.std.specs.Prelude.{◌≢◌, Err};
 ghost use Rattle.strm_codes.specs.declared.codes.TransmitIndex.TheVariants as index;
+ghost use Rattle.strm_machine.specs.Bases.{BasesStay};
 ghost use Rattle.strm_machine.specs.Reactions.{react};
 ghost use Rattle.strm_machine.specs.declared.replies.Reply.TheVariants as replies;
 ghost use Rattle.strm_machine.specs.declared.steps.Step.TheVariants as steps;
@@ -17,7 +18,7 @@ use strm_machine::replies::Pair;
 use strm_machine::streams::Side;
 use strm_transmit::errors::StoreError;
 
-#[tactic(auto, using(crate::proofs::AmongLemmas::plain_among))]
+#[tactic(auto, using(crate::proofs::AmongLemmas::plain_among, crate::proofs::BaseLemmas::plain_stays))]
 impl GuestStore {
     /// A new stream whose ends one guest gets: their handles go into its table, the read end's first.
     /// `canon stream.new`. Refused, in this order, are an unknown guest, a table without a number left,
@@ -25,6 +26,7 @@ impl GuestStore {
     pub fn stream_new(&mut self, guest: u32, payload: Payload) -> Result<Pair, StoreError>
         ensures meets { Meets self.old self.new (replied replies.Pair result)
             (react self.old (steps.New guest (index.Stream payload))) }
+        ensures stays { BasesStay self.old.guests self.new.guests }
     {
         self.store.stream_new(guest, payload)
     }
@@ -41,6 +43,7 @@ impl GuestStore {
     ) -> Result<ReturnCode, StoreError>
         ensures meets { Meets self.old self.new (replied replies.Code result)
             (react self.old (steps.Write guest (index.Stream payload) handle address count)) }
+        ensures stays { BasesStay self.old.guests self.new.guests }
         ensures takes_no_memory { result ≢ Err StoreError.OutOfMemory }
     {
         let ty = TransmitIndex::Stream(payload);
@@ -60,6 +63,7 @@ impl GuestStore {
     ) -> Result<ReturnCode, StoreError>
         ensures meets { Meets self.old self.new (replied replies.Code result)
             (react self.old (steps.Read guest (index.Stream payload) handle address count)) }
+        ensures stays { BasesStay self.old.guests self.new.guests }
         ensures takes_no_memory { result ≢ Err StoreError.OutOfMemory }
     {
         let ty = TransmitIndex::Stream(payload);
@@ -77,6 +81,7 @@ impl GuestStore {
     ) -> Result<ReturnCode, StoreError>
         ensures meets { Meets self.old self.new (replied replies.Code result)
             (react self.old (steps.CancelWrite guest (index.Stream payload) handle)) }
+        ensures stays { BasesStay self.old.guests self.new.guests }
         ensures takes_no_memory { result ≢ Err StoreError.OutOfMemory }
     {
         self.store.stream_cancel_write(guest, payload, handle)
@@ -91,6 +96,7 @@ impl GuestStore {
     ) -> Result<ReturnCode, StoreError>
         ensures meets { Meets self.old self.new (replied replies.Code result)
             (react self.old (steps.CancelRead guest (index.Stream payload) handle)) }
+        ensures stays { BasesStay self.old.guests self.new.guests }
         ensures takes_no_memory { result ≢ Err StoreError.OutOfMemory }
     {
         self.store.stream_cancel_read(guest, payload, handle)
@@ -101,13 +107,14 @@ impl GuestStore {
     pub fn take_event(&mut self, guest: u32, handle: u32) -> Result<Option<ReturnCode>, StoreError>
         ensures meets { Meets self.old self.new (replied replies.Event result)
             (react self.old (steps.Event guest handle)) }
+        ensures stays { BasesStay self.old.guests self.new.guests }
         ensures takes_no_memory { result ≢ Err StoreError.OutOfMemory }
     {
         self.store.take_event(guest, handle)
     }
 }
 
-#[tactic(auto, using(crate::proofs::AmongLemmas::hosted_meets))]
+#[tactic(auto, using(crate::proofs::AmongLemmas::hosted_meets, crate::proofs::BaseLemmas::hosted_stays))]
 impl GuestStore {
     /// Drops the write end of a stream. `canon stream.drop-writable`.
     pub fn stream_drop_writable(
@@ -118,6 +125,7 @@ impl GuestStore {
     ) -> Result<(), StoreError>
         ensures meets { Meets self.old self.new (replied (λ _. replies.Done) result)
             (react self.old (steps.DropWrite guest (index.Stream payload) handle)) }
+        ensures stays { BasesStay self.old.guests self.new.guests }
         ensures takes_no_memory { result ≢ Err StoreError.OutOfMemory }
     {
         let mut hosts = no_hosts(self.alloc);
@@ -134,6 +142,7 @@ impl GuestStore {
     ) -> Result<(), StoreError>
         ensures meets { Meets self.old self.new (replied (λ _. replies.Done) result)
             (react self.old (steps.DropRead guest (index.Stream payload) handle)) }
+        ensures stays { BasesStay self.old.guests self.new.guests }
         ensures takes_no_memory { result ≢ Err StoreError.OutOfMemory }
     {
         let mut hosts = no_hosts(self.alloc);

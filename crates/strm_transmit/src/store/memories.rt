@@ -2,8 +2,9 @@
 //!
 //! Meaning: the making of a guest, and `on_memory` of `Reactions.antt` of `strm_machine`. Ours.
 
-ghost use Rattle.std.specs.Prelude.{◌≡◌, ◌≢◌, ◌<◌, ◌≤◌, ◌↔◌, Err, None, IsTrue, length};
+ghost use Rattle.std.specs.Prelude.{◌≡◌, ◌≢◌, ◌<◌, ◌≤◌, ◌↔◌, Err, None, IsTrue, IfSome, length};
 ghost use Rattle.strm_machine.specs.State.{memory_in};
+ghost use Rattle.strm_machine.specs.Bases.{base_in, with_base_in};
 ghost use Rattle.strm_machine.specs.Refusals.{refusal, first_of, bytes_reasons};
 ghost use Rattle.strm_machine.specs.Reactions.{react, performs, goes};
 ghost use Rattle.strm_machine.specs.declared.acts.Act.TheVariants.{Make, OnMemory};
@@ -21,7 +22,7 @@ use strm_handles::tables::HandleTable;
 use strm_machine::chunks::Chunk;
 use strm_memory::memories::GuestMemory;
 use strm_sets::sets::WaitableSets;
-use strm_turns::guests::{Guest, read_bytes, write_bytes};
+use strm_turns::guests::{Guest, read_bytes, tell_base, write_bytes};
 
 /// The bytes of all memories together, at most.
 const MOST_BYTES: u64 = 268_435_456;
@@ -95,6 +96,17 @@ impl Store {
         let guest = &mut self.guests[guest as usize];
         let memory = &mut guest.memory;
         memory.bytes_mut()
+    }
+
+    /// Where a guest's memory lies, which is told: from now on it lies there, whatever is done to the store,
+    /// until the store is given up; also of a store that was trapped. Of a memory without bytes it is the
+    /// address of nothing. `has_guest` tells whether the guest is there.
+    pub fn memory_base(&mut self, guest: u32) -> *const u8
+        requires { guest < length self.old.guests }
+        ensures told { self.new ≡ with_base_in self.old guest result }
+        ensures again { IfSome (base_in self.old.guests guest) (λ base. result ≡ base) }
+    {
+        tell_base(&mut self.guests, guest as usize)
     }
 
     // Whether so many bytes of a guest's memory may be looked at.
