@@ -100,6 +100,6 @@ module _ (guests : List Guest) (payload : Payload) (read : Operation) where
   unpolled between after window l o b =
       let whole : given_back window ≡ linear_in guests read.guest = rw l refl in
       let same : after ≡ guests =
-          b ∙ ap (with_linear between read.guest) whole
-          ∙ rw o (with_linear-twice guests read.guest (untold []) (linear_in guests read.guest) ∙ with_memory-same guests read.guest) in
+      b ∙ ap (with_linear between read.guest) whole
+      ∙ rw o (with_linear-twice guests read.guest (untold []) (linear_in guests read.guest) ∙ with_memory-same guests read.guest) in
       record { items = []; few = omega arith; lowered = same ∙ sym lowered-none }

@@ -25,7 +25,9 @@ use Rattle.strm_transmit.specs.Meets.{Meets, admitted, or_found}
 use Rattle.strm_transmit.specs.declared.store.Store.TheInside.{Inside}
 use Rattle.strm_transmit.specs.declared.errors.StoreError.{StoreError}
 use Rattle.strm_transmit.proofs.StepLemmas.{is_admitted, not_admitted}
-use Rattle.strm_transmit.proofs.StoreLemmas.{PutsBytes, sets-with_table, IsCounted, more_counted, kept_tables, kept_streams, IsStore-counted}
+use Rattle.strm_transmit.proofs.StoreLemmas.{PutsBytes, sets-with_table, IsCounted, more_counted, kept_tables, kept_streams, Agrees, agrees_still, IsStore-counted}
+use Rattle.strm_transmit.proofs.ToldLemmas.{members-with_table, told-same}
+use Rattle.strm_machine.proofs.HeldLemmas.{StateIsHeld}
 
 -- all but guests, error contexts and the handles' counter stays
 pub record KeepsRest (old new : Inside) : Type 0 where
@@ -39,6 +41,7 @@ pub record KeepsRest (old new : Inside) : Type 0 where
   pub live_streams : new.live_streams ≡ old.live_streams
   pub live_sets : new.live_sets ≡ old.live_sets
   pub bytes : new.bytes ≡ old.bytes
+  pub ready : new.ready ≡ old.ready
 
 -- one guest has other handles, and the error contexts are others
 pub record SetsContexts (old new : Inside) (g : ℕ) (handles : Handles) (contexts : Contexts) : Type 0 where
@@ -49,8 +52,20 @@ module _ (old new : Inside) (g : ℕ) (handles : Handles) (contexts : Contexts) 
   pub state_of-contexts : state_of new ≡ record (state_of old) { guests = with_handles (seen old.guests.items) g handles; contexts = contexts }
   state_of-contexts = rw (k.tag, k.limits, k.trapped, k.streams, k.producers, k.kept, k.consumers, h.guests, h.others) refl
 
-  pub IsStore-contexts : IsCounted new → IsSound (record (state_of old) { guests = with_handles (seen old.guests.items) g handles; contexts = contexts }) → IsStore old → IsStore new
-  IsStore-contexts counted sound i =
+  -- the state then
+  abbrev pub then : State
+  then = record (state_of old) { guests = with_handles (seen old.guests.items) g handles; contexts = contexts }
+
+  agrees-contexts : StateIsHeld then → IsStore old → Agrees new
+  agrees-contexts held i =
+      let guests = seen old.guests.items in
+      record {
+        held = subst StateIsHeld (sym state_of-contexts) held;
+        told = rw (k.streams, k.ready, h.guests) (told-same guests (with_handles guests g handles) old.streams.items old.ready.items (members-with_table guests g handles (sets_in guests g) (λ n q. refl)) i.told);
+      }
+
+  pub IsStore-contexts : IsCounted new → IsSound then → StateIsHeld then → IsStore old → IsStore new
+  IsStore-contexts counted sound held i =
       let guests = seen old.guests.items in
       IsStore-counted old new
       (record {
@@ -60,7 +75,7 @@ module _ (old new : Inside) (g : ℕ) (handles : Handles) (contexts : Contexts) 
         bytes = k.bytes;
       })
       (kept_streams old new k.streams k.live_streams (record { producers = k.producers; kept = k.kept; consumers = k.consumers }) i)
-      (subst IsSound (sym state_of-contexts) sound) i
+      (subst IsSound (sym state_of-contexts) sound) (agrees-contexts held i) i
 
 -- the handles of a context are below the limit, and its message is short
 pub count_below : (s : Inside) (number : ℕ) → IsStore s → count_at s.contexts number ≤ s.counter.live
@@ -88,13 +103,14 @@ module _ (old new : Inside) (g number : ℕ) (contexts : Contexts) (k : KeepsRes
       IsStore-counted old new
       (kept_tables old new (record { limits = k.limits; counter = c; live_sets = k.live_sets; bytes = k.bytes; guests = rw e (all_kept (seen old.guests.items)) }) i)
       (kept_streams old new k.streams k.live_streams (record { producers = k.producers; kept = k.kept; consumers = k.consumers }) i)
-      (subst IsSound (sym (same_state e f)) i.sound) i
+      (subst IsSound (sym (same_state e f)) i.sound)
+      (agrees_still old new (rw e (all_kept (seen old.guests.items))) (ap (λ (v : _). v.items) k.streams) k.ready i) i
 
-  pub IsStore-gives : {A E : Type 0} (r : Result A E) → Gives r old new g number contexts → old.counter.live < old.counter.limit → IsSound (context_given (state_of old) g number contexts) → IsStore old → IsStore new
-  IsStore-gives (Ok v) h below sound i =
+  pub IsStore-gives : {A E : Type 0} (r : Result A E) → Gives r old new g number contexts → old.counter.live < old.counter.limit → IsSound (context_given (state_of old) g number contexts) → StateIsHeld (context_given (state_of old) g number contexts) → IsStore old → IsStore new
+  IsStore-gives (Ok v) h below sound held i =
       IsStore-contexts old new g _ contexts k (record { guests = h.guests; others = h.others })
-      (more_counted old new k.limits h.counter h.live below i) sound i
-  IsStore-gives (Err v) h below sound i = same_store h.err h.same h.kept i
+      (more_counted old new k.limits h.counter h.live below i) sound held i
+  IsStore-gives (Err v) h below sound held i = same_store h.err h.same h.kept i
 
 -- the message of an error context was put into a guest's memory
 pub texts-put : (old new : Inside) (g handle address number : ℕ) → PutsBytes old new g address (message_named (state_of old) g handle) → number ≡ length (message_named (state_of old) g handle) → texts (state_of old) g handle address ≡ goes (replies.Number number) (state_of new)

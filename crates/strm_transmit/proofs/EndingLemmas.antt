@@ -14,6 +14,7 @@ use Rattle.strm_handles.specs.declared.errors.HandleError.{HandleError}
 use Rattle.strm_machine.specs.State as machine
 use Rattle.strm_machine.specs.State.{State, guest_in, stream_at}
 use Rattle.strm_machine.specs.Turns.{Turn}
+use Rattle.strm_machine.specs.Moments.{is_end}
 use Rattle.strm_machine.specs.Tests.{Name, named, named_by, end_named, stream_named, side_named, side_of}
 use Rattle.strm_machine.specs.declared.acts.NamedEnd.{NamedEnd}
 use Rattle.strm_machine.specs.Soundness.{sizes_of, is_idle_state, IsSound, StreamIsPlaced}
@@ -29,6 +30,7 @@ use Rattle.strm_machine.proofs.SideLemmas.{same_side_is, StreamKeeps}
 use Rattle.strm_machine.proofs.SoundLemmas.{placed_at}
 use Rattle.strm_turns.specs.Guests.{seen, removable}
 use Rattle.strm_transmit.specs.Inside.{state_of, IsStore}
+use Rattle.strm_transmit.specs.Telling.{Retells}
 use Rattle.strm_transmit.specs.declared.store.Store.TheInside.{Inside}
 use Rattle.strm_transmit.proofs.StoreLemmas.{SameBut, IsStore-turn}
 use Rattle.strm_machine.proofs.TurnLemmas.{all_kept}
@@ -42,6 +44,7 @@ pub record SetsStream (old new : Inside) (s : ℕ) (stream : Stream) : Type 0 wh
   pub live_sets : new.live_sets ≡ old.live_sets
   pub bytes : new.bytes ≡ old.bytes
   pub streams : new.streams.items ≡ set old.streams.items s stream
+  pub retold : Retells (seen old.guests.items) stream old.ready.items new.ready.items
 
 -- the turn of a stream that became another, with all guests as they were
 abbrev set_turn : List machine.Guest → Stream → Turn
@@ -72,6 +75,7 @@ IsStore-set old new s stream l keeps h i =
       bytes = h.bytes;
       guests = ap (λ (g : _). seen g.items) h.guests;
       streams = h.streams;
+      retold = h.retold;
     }) i
 
 idle_writable : (state : TransmitLocalState) → is_idle_state state ≡ true → side_of state ≡ Writing → IsOk (writable state)
@@ -126,8 +130,12 @@ named_made state side end s h fits same =
     by_name (Ok name) l k = l
     by_name (Err error) l k = cc
 
+-- the handle names that end
+pub named_end_is : (state : State) (side : Side) (end : NamedEnd) → IsSound state → LeaveFits state side end → is_end (stream_named (named state end)) side (end_named state end.guest end.handle) ≡ true
+named_end_is state side end h fits =
+    (on_end-found state side end Drop h fits.there (named_ok state end fits.found) (same_side_is side (side_named (named state end)) fits.same)).held
+
 -- and the handle is one of an end
 pub named_end : (state : State) (side : Side) (end : NamedEnd) → IsSound state → LeaveFits state side end → is_ok (end_named state end.guest end.handle) ≡ true
 named_end state side end h fits =
-    let found = on_end-found state side end Drop h fits.there (named_ok state end fits.found) (same_side_is side (side_named (named state end)) fits.same) in
-    is_end-ok (stream_named (named state end)) side (end_named state end.guest end.handle) found.held
+    is_end-ok (stream_named (named state end)) side (end_named state end.guest end.handle) (named_end_is state side end h fits)

@@ -7,7 +7,7 @@ use Rattle.strm_codes.specs.declared.codes.TransmitIndex.{TransmitIndex}
 use Rattle.strm_codes.specs.declared.refusals.Refusal.{Refusal}
 use Rattle.strm_codes.specs.declared.refusals.Refusal.TheVariants as refusals
 use Rattle.strm_buffers.specs.Tells.{ReaderTells, Tells, no_reader_tells, told_by, with_told, told_by_reader, with_told_reader, fed, granted}
-use Rattle.strm_machine.specs.State.{State, host_limit, stream_limit, no_stream, no_producer, producer_at, consumer_at, is_live, is_host, idle_end}
+use Rattle.strm_machine.specs.State.{State, host_limit, stream_limit, no_stream, no_producer, producer_at, consumer_at, is_live, is_held, is_host, idle_end}
 use Rattle.strm_machine.specs.Tests.{are_places_full, are_streams_full}
 use Rattle.strm_machine.specs.Refusals.{Reason, where_, first_of, reader_reasons}
 use Rattle.strm_machine.specs.declared.acts.Act.TheVariants.{OnHost}
@@ -36,8 +36,10 @@ use Rattle.strm_transmit.proofs.ServedLemmas.{at_set, same_stream, same_host, se
 use Rattle.strm_transmit.proofs.FitsLemmas.{AreMade, Fits-told, Fits-told_reader}
 use Rattle.strm_transmit.proofs.StepLemmas.{is_admitted}
 use Rattle.strm_transmit.proofs.HostStepLemmas.{does_admitted, Does-after, Fits-after, all_stays, unchanged}
-use Rattle.strm_transmit.proofs.StoreLemmas.{live_by, live_weight, kept_tables, IsStore-counted, IsSound-same}
-use Rattle.std.proofs.lemmas.List.{get_or_past, map-append}
+use Rattle.strm_transmit.proofs.StoreLemmas.{live_by, live_weight, kept_tables, Agrees, agrees_still, IsStore-counted, IsSound-same}
+use Rattle.strm_transmit.proofs.ToldLemmas.{but-besides, besides-push, told-unheld, IsHeld-push}
+use Rattle.strm_machine.proofs.HeldLemmas.{IsHeld}
+use Rattle.std.proofs.lemmas.List.{get_or_past, get_or_push, map-append}
 use Rattle.std.proofs.lemmas.List.Elements.{All-push, All-weaker}
 use Rattle.std.proofs.lemmas.List.Sums.{sum_by_push}
 use Rattle.strm_machine.specs.Soundness.{sizes_of, handles_of, type_with, type_of, types_of, AreNamed, OperationIsPlaced, StreamIsPlaced, IsSound}
@@ -317,6 +319,7 @@ pub record HostsStream (old new : Inside) (n : ℕ) (stream : Stream) (p : Produ
   pub producers : new.producers ≡ set old.producers n p
   pub place : PlaceMade old.kept.items new.kept.items n stream.payload
   pub consumers : new.consumers ≡ old.consumers
+  pub ready : new.ready ≡ old.ready
 
 state_of-hosted : (old new : Inside) (n : ℕ) (stream : Stream) (p : Producer) → HostsStream old new n stream p → padded new.kept.items ≡ padded old.kept.items → state_of new ≡ record (state_of old) { streams = old.streams.items ++ stream ∷ []; producers = set old.producers n p }
 state_of-hosted old new n stream p h k = rw (h.tag, h.limits, h.contexts, h.trapped, h.guests, h.streams, h.producers, h.consumers, k) refl
@@ -340,6 +343,25 @@ hosted_served old n stream p m h =
     all Writing k o = rw (same_host k n stream.writer.owner o m.writer) (writer_now old.producers old.consumers n p m.kept ∙ m.serves)
     all Reading k o = absurd (no_host stream.reader.owner k m.reader o)
 
+-- no guest has an end of the stream
+agrees_hosted : (old new : Inside) (n : ℕ) (stream : Stream) (p : Producer) → HostsStream old new n stream p → IsStore old → Agrees new
+agrees_hosted old new n stream p h i =
+    let guests = seen old.guests.items in
+    let more = old.streams.items ++ stream ∷ [] in
+    let s = length old.streams.items in
+    let held : IsHeld guests more = IsHeld-push guests old.streams.items stream unheld i.held in
+    record {
+      held = rw (h.guests, h.streams) held;
+      told = rw (h.guests, h.streams, h.ready)
+          (told-unheld guests more s held old.ready.items
+          (λ side. ap (λ (x : Stream). is_held (end_of side x).owner) (get_or_push old.streams.items stream no_stream s refl) ∙ unheld side)
+          (but-besides guests guests old.streams.items more s old.ready.items (λ _ _ _. refl) (besides-push old.streams.items stream) i.told));
+    }
+  where
+    unheld : (side : Side) → is_held (end_of side stream).owner ≡ false
+    unheld Writing = ap (λ (x : End). is_held x.owner) h.writer
+    unheld Reading = ap (λ (x : End). is_held x.owner) h.reader
+
 pub IsStore-hosted : (old new : Inside) (n : ℕ) (stream : Stream) (p : Producer) → HostsStream old new n stream p → IsStore old → IsStore new
 IsStore-hosted old new n stream p h i =
     let writer : stream.writer.owner ≡ Host n = ap (λ (x : End). x.owner) h.writer in
@@ -358,7 +380,8 @@ IsStore-hosted old new n stream p h i =
       kept = rw (h.producers, h.streams) (have_hosted old.producers old.kept.items old.streams.items i.kept old.consumers new.kept.items n p stream i.served (omega (arith, i.served.all, h.kept)) h.serves h.unused h.place);
       few = rw h.streams (omega (arith, h.few, length-append old.streams.items (stream ∷ [])));
     })
-    (subst IsSound (sym (state_of-hosted old new n stream p h (view_made old.producers old.kept.items old.streams.items i.kept new.kept.items n stream.payload h.unused h.place))) (IsSound-hosted (state_of old) stream (set old.producers n p) idle i.sound)) i
+    (subst IsSound (sym (state_of-hosted old new n stream p h (view_made old.producers old.kept.items old.streams.items i.kept new.kept.items n stream.payload h.unused h.place))) (IsSound-hosted (state_of old) stream (set old.producers n p) idle i.sound))
+    (agrees_hosted old new n stream p h i) i
 
 -- places were made, and none of them is used
 pub record GrowsPlaces (old new : Inside) : Type 0 where
@@ -373,6 +396,7 @@ pub record GrowsPlaces (old new : Inside) : Type 0 where
   pub producers : new.producers ≡ old.producers
   pub consumers : new.consumers ≡ old.consumers
   pub grown : HasGrown old.kept.items new.kept.items
+  pub ready : new.ready ≡ old.ready
 
 pub IsStore-grown : (old new : Inside) → GrowsPlaces old new → IsStore old → IsStore new
 IsStore-grown old new h i =
@@ -384,7 +408,8 @@ IsStore-grown old new h i =
       kept = rw (h.producers, h.streams) (have_grown old.producers old.kept.items old.streams.items i.kept new.kept.items h.grown);
       few = rw h.streams i.few_streams;
     })
-    (IsSound-same (state_of old) (state_of new) (ap (λ (g : _). seen g.items) h.guests) h.streams h.contexts i.sound) i
+    (IsSound-same (state_of old) (state_of new) (ap (λ (g : _). seen g.items) h.guests) h.streams h.contexts i.sound)
+    (agrees_still old new (rw h.guests (all_kept (seen old.guests.items))) h.streams h.ready i) i
 
 -- a state with a stream more, which host writer n serves
 abbrev pub with_hosted : State → ℕ → Stream → Producer → State

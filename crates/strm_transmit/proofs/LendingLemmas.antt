@@ -29,6 +29,7 @@ module _ (s : Inside) (g : ℕ) (x : Guest) (there : g < length s.guests.items) 
     live_streams = refl;
     live_sets = refl;
     count = refl;
+    ready = refl;
     guests = seen-with_memory s.guests.items g x (rewritten x.memory.bytes bytes) there is;
   }
 

@@ -6,6 +6,8 @@ pub mod KeptLemmas
 pub mod FitsLemmas
 pub mod StillLemmas
 pub mod ForsakeLemmas
+pub mod ToldLemmas
+pub mod HeldStoreLemmas
 pub mod StoreLemmas
 pub mod LendingLemmas
 pub mod OperationLemmas

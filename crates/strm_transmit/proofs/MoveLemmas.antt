@@ -1,12 +1,12 @@
 -- The store after an end of a stream has another owner, and its handle was freed, given or neither.
-use Rattle.std.proofs.Common.{◌≡◌, ℕ, ◌+◌, ◌<◌, true, false, length, set, None, refl, sym, ap, ◌∙◌, subst, ⊎_elim}
-use Rattle.std.specs.Prelude.{count_by, is_ok}
+use Rattle.std.proofs.Common.{◌≡◌, ℕ, ◌+◌, ◌<◌, true, false, length, set, Option, None, refl, sym, ap, ◌∙◌, subst, ⊎_elim, inl, inr}
+use Rattle.std.specs.Prelude.{count_by, is_ok, ◌⊎◌}
 use Rattle.std.proofs.lemmas.Bool.{cases_lt}
-use Rattle.std.proofs.lemmas.List.{get_or_past, length-set}
+use Rattle.std.proofs.lemmas.List.{get_or_past, get_or-set_same, length-set}
 use Rattle.strm_codes.specs.declared.codes.TransmitIndex.{TransmitIndex}
 use Rattle.strm_handles.specs.Counters.{counted, uncounted}
-use Rattle.strm_sets.specs.Sets.{left}
-use Rattle.strm_machine.specs.State.{State, sets_in, no_stream, stream_at, is_loose, is_host, is_live, sets_in_use}
+use Rattle.strm_sets.specs.Sets.{left, set_of}
+use Rattle.strm_machine.specs.State.{State, sets_in, no_stream, stream_at, is_loose, is_held, is_host, is_live, sets_in_use}
 use Rattle.strm_machine.specs.Sides.{end_of}
 use Rattle.strm_machine.specs.Moves.{without_handle, next_in, with_owner}
 use Rattle.strm_machine.specs.Tests.{named, end_named, stream_named, side_named}
@@ -35,20 +35,33 @@ use Rattle.strm_transmit.specs.declared.store.Store.TheInside.{Inside}
 use Rattle.strm_transmit.proofs.ServedLemmas.{ComesNoHost, AreServed-set}
 use Rattle.strm_transmit.proofs.EndingLemmas.{named_made}
 use Rattle.strm_transmit.proofs.KeptLemmas.{have_set}
-use Rattle.strm_transmit.proofs.StoreLemmas.{SameBut, sets-with_table, kept_counted, more_counted, less_counted, fits_below, CountsStreams, IsStore-counted, IsSound-same}
+use Rattle.strm_transmit.proofs.StoreLemmas.{SameBut, sets-with_table, kept_counted, more_counted, less_counted, fits_below, CountsStreams, Agrees, IsStore-counted, IsSound-same}
+use Rattle.strm_transmit.specs.Telling.{Ready, AreTold, Retells, Leaves}
+use Rattle.strm_transmit.proofs.ToldLemmas.{ToldBut, members-with_table, besides-set, but-besides, but-members, but-left, leaves-left, told-retold, IsHeld-set}
+use Rattle.strm_transmit.proofs.HeldStoreLemmas.{performs-held}
+use Rattle.strm_machine.proofs.HeldLemmas.{StateIsHeld, IsHeld, IsHeld-removed, owned_beside}
+use Rattle.strm_machine.proofs.NamedEndLemmas.{is_end-ok}
+use Rattle.strm_machine.specs.Moments.{is_end}
 
--- an end of stream s has another owner
-pub record SetsOwner (old new : Inside) (s : ℕ) (side : Side) (owner : Owner) : Type 0 where
+-- an end of stream s has another owner, and its ends are told again
+pub record SetsOwner (old new : Inside) (s : ℕ) (side : Side) (owner : Owner) (between : Ready) : Type 0 where
   pub same : SameBut old new
   pub bytes : new.bytes ≡ old.bytes
   pub live_sets : new.live_sets ≡ old.live_sets
   pub counted : new.live_streams ≡ count_by is_live new.streams.items
   pub streams : new.streams.items ≡ set old.streams.items s (with_owner side (stream_at (state_of old) s) owner)
+  pub retold : Retells (seen new.guests.items) (with_owner side (stream_at (state_of old) s) owner) between new.ready.items
 
 -- the handles of guests stay, and their counter
 pub record KeepsHandles (old new : Inside) : Type 0 where
   pub counter : new.counter ≡ old.counter
   pub guests : new.guests ≡ old.guests
+
+-- a handle leaves its set
+pub record LeavesHome (old : Inside) (g handle : ℕ) (between : Ready) : Type 0 where
+  pub home : Option ℕ
+  pub is : home ≡ set_of (sets_in (seen old.guests.items) g) handle
+  pub leaves : Leaves g handle home old.ready.items between
 
 -- a handle of a guest is freed and counted off
 pub record FreesHandle (old new : Inside) (g handle : ℕ) : Type 0 where
@@ -67,7 +80,29 @@ owned-payload : (side : Side) (stream : Stream) (owner : Owner) → (with_owner 
 owned-payload Writing stream owner = refl
 owned-payload Reading stream owner = refl
 
-module _ (old new : Inside) (s : ℕ) (side : Side) (owner : Owner) (l : s < length old.streams.items) (u : is_host owner ≡ false) (o : SetsOwner old new s side owner) (i : IsStore old) where
+-- the owner of an end that got one, and those of the others
+owned-owner : (side : Side) (stream : Stream) (owner : Owner) → (end_of side (with_owner side stream owner)).owner ≡ owner
+owned-owner Writing stream owner = refl
+owned-owner Reading stream owner = refl
+
+owned-across : (side other : Side) (stream : Stream) (owner : Owner) → is_held (end_of side stream).owner ≡ false → is_held owner ≡ false
+    → ((end_of other (with_owner side stream owner)).owner ≡ (end_of other stream).owner) ⊎ ((is_held (end_of other stream).owner ≡ false) × (is_held (end_of other (with_owner side stream owner)).owner ≡ false))
+owned-across Writing Writing stream owner was now = inr (was, now)
+owned-across Writing Reading stream owner was now = inl refl
+owned-across Reading Writing stream owner was now = inl refl
+owned-across Reading Reading stream owner was now = inr (was, now)
+
+module _ (old new : Inside) (s : ℕ) (side : Side) (owner : Owner) (between : Ready) (l : s < length old.streams.items) (u : is_host owner ≡ false) (o : SetsOwner old new s side owner between) (i : IsStore old) where
+  -- the stream then
+  abbrev given : Stream
+  given = with_owner side (stream_at (state_of old) s) owner
+
+  -- what is known of the ends of other streams, once they are told of these
+  told_again : IsHeld (seen new.guests.items) new.streams.items → ToldBut (seen new.guests.items) (set old.streams.items s given) s between → AreTold (seen new.guests.items) new.streams.items new.ready.items
+  told_again held but =
+      rw o.streams
+      (told-retold (seen new.guests.items) (set old.streams.items s given) s (rw o.streams at held) between new.ready.items given (get_or-set_same old.streams.items s given no_stream l) but o.retold)
+
   -- the stream alone
   owned : IsSound (record (state_of old) { streams = new.streams.items })
   owned = rw o.streams (IsSound-set (state_of old) s side (record (end_of side (stream_at (state_of old) s)) { owner = owner }) l (Unchanged refl) i.sound)
@@ -89,8 +124,17 @@ module _ (old new : Inside) (s : ℕ) (side : Side) (owner : Owner) (l : s < len
   as_many : sets_among (seen new.guests.items) ≡ sets_among (seen old.guests.items) → new.live_sets ≡ sets_in_use (state_of new)
   as_many e = o.live_sets ∙ i.sets ∙ sym e
 
-  pub IsStore-owned : KeepsHandles old new → IsStore new
-  IsStore-owned h =
+  agrees_owned : is_held (end_of side (stream_at (state_of old) s)).owner ≡ false → is_held owner ≡ false → between ≡ old.ready.items → KeepsHandles old new → Agrees new
+  agrees_owned was now same h =
+      let guests = seen old.guests.items in
+      let held : IsHeld (seen new.guests.items) new.streams.items = rw (h.guests, o.streams) (IsHeld-set guests old.streams.items s given l (λ other. owned-across side other (stream_at (state_of old) s) owner was now) i.held) in
+      record {
+        held = held;
+        told = told_again held (rw (h.guests, same) (but-besides guests guests old.streams.items (set old.streams.items s given) s old.ready.items (λ _ _ _. refl) (besides-set old.streams.items s given) i.told));
+      }
+
+  pub IsStore-owned : is_held (end_of side (stream_at (state_of old) s)).owner ≡ false → is_held owner ≡ false → between ≡ old.ready.items → KeepsHandles old new → IsStore new
+  IsStore-owned was now same h =
       IsStore-counted old new
       (record {
         handles = kept_counted old new o.same.limits h.counter (ap (λ (g : _). live_in (seen g.items)) h.guests) i;
@@ -99,10 +143,28 @@ module _ (old new : Inside) (s : ℕ) (side : Side) (owner : Owner) (l : s < len
         bytes = o.bytes;
       })
       counts
-      (IsSound-same (record (state_of old) { streams = new.streams.items }) (state_of new) (ap (λ (g : _). seen g.items) h.guests) refl o.same.contexts owned) i
+      (IsSound-same (record (state_of old) { streams = new.streams.items }) (state_of new) (ap (λ (g : _). seen g.items) h.guests) refl o.same.contexts owned) (agrees_owned was now same h) i
 
-  pub IsStore-released : (g handle : ℕ) → is_ok (end_named (state_of old) g handle) ≡ true → FreesHandle old new g handle → IsStore new
-  IsStore-released g handle ok h =
+  agrees_released : (g handle : ℕ) → g < length (seen old.guests.items) → is_end s side (end_named (state_of old) g handle) ≡ true → is_held owner ≡ false → LeavesHome old g handle between → FreesHandle old new g handle → Agrees new
+  agrees_released g handle there is now leaves h =
+      let guests = seen old.guests.items in
+      let freed = without_handle_in guests g handle in
+      let more = set old.streams.items s given in
+      let held : IsHeld (seen new.guests.items) new.streams.items =
+      rw (h.guests, o.streams)
+      (IsHeld-removed guests old.streams.items more g s side there (λ k other. owned_beside old.streams.items s side l owner k other) i.held handle (left (sets_in guests g) handle) is
+      (ap (λ (x : Stream). is_held (end_of side x).owner) (get_or-set_same old.streams.items s given no_stream l) ∙ ap is_held (owned-owner side (stream_at (state_of old) s) owner) ∙ now)) in
+      record {
+        held = held;
+        told = told_again held
+            (rw h.guests
+            (but-left guests freed more s g handle (leaves-left guests g _ handle there) old.ready.items between leaves.home leaves.is leaves.leaves
+            (but-besides guests guests old.streams.items more s old.ready.items (λ _ _ _. refl) (besides-set old.streams.items s given) i.told)));
+      }
+
+  pub IsStore-released : (g handle : ℕ) → g < length (seen old.guests.items) → is_end s side (end_named (state_of old) g handle) ≡ true → is_held owner ≡ false → LeavesHome old g handle between → FreesHandle old new g handle → IsStore new
+  IsStore-released g handle there is now leaves h =
+      let ok : is_ok (end_named (state_of old) g handle) ≡ true = is_end-ok s side (end_named (state_of old) g handle) is in
       IsStore-counted old new
       (record {
         handles = less_counted old new o.same.limits h.counter h.live i;
@@ -112,7 +174,7 @@ module _ (old new : Inside) (s : ℕ) (side : Side) (owner : Owner) (l : s < len
       })
       counts
       (IsSound-same (without_handle (record (state_of old) { streams = new.streams.items }) g handle) (state_of new) h.guests refl o.same.contexts
-      (IsSound-freed (record (state_of old) { streams = new.streams.items }) g handle ok owned)) i
+      (IsSound-freed (record (state_of old) { streams = new.streams.items }) g handle ok owned)) (agrees_released g handle there is now leaves h) i
 
 -- ## Handles that are given
 
@@ -140,6 +202,15 @@ lowers-sound : (state : State) (reader g : ℕ) (ty : TransmitIndex) → state.t
 unfolding performs
 lowers-sound state reader g ty t e h = performs-sound state (OnLoose reader (Lower g ty)) t e h
 
+-- handles and ends agree then
+transfers-held : (state : State) (side : Side) (end : NamedEnd) (to s : ℕ) → refusal state (Transfer end to) ≡ None → s ≡ stream_named (named state end) → side ≡ side_named (named state end) → IsSound state → StateIsHeld state → StateIsHeld (transfers state s side end to).state
+unfolding performs
+transfers-held state side end to s e stream_is side_is h held = rw (stream_is, side_is) (performs-held state (Transfer end to) e h held)
+
+lowers-held : (state : State) (reader g : ℕ) (ty : TransmitIndex) → refusal state (OnLoose reader (Lower g ty)) ≡ None → IsSound state → StateIsHeld state → StateIsHeld (lowers state reader g ty).state
+unfolding performs
+lowers-held state reader g ty e h held = performs-held state (OnLoose reader (Lower g ty)) e h held
+
 -- what the machine does with an end that may move
 pub performs-transfer : (state : State) (end : NamedEnd) (to : ℕ) → performs state (Transfer end to) ≡ transfers state (stream_named (named state end)) (side_named (named state end)) end to
 unfolding performs
@@ -150,12 +221,28 @@ moved_made : (state : State) (end : NamedEnd) (to s : ℕ) → refusal state (Tr
 moved_made state end to s e same h = named_made state (side_named (named state end)) end s h (move_fits state end to e).leaves same
 
 -- the end of a stream went to a guest, under this handle
-module _ (old new : Inside) (s : ℕ) (side : Side) (end : NamedEnd) (to number : ℕ) (o : SetsOwner old new s side (Held to number)) (m : MovesHandle old new side end to s) (n : number ≡ next_in (without_handle (state_of old) end.guest end.handle) to) where
+module _ (old new : Inside) (s : ℕ) (side : Side) (end : NamedEnd) (to number : ℕ) (between : Ready) (o : SetsOwner old new s side (Held to number) between) (m : MovesHandle old new side end to s) (n : number ≡ next_in (without_handle (state_of old) end.guest end.handle) to) where
   pub transfers-is : transfers (state_of old) s side end to ≡ goes (replies.Number number) (state_of new)
   transfers-is = rw (o.same.tag, o.same.limits, o.same.producers, o.same.kept, o.same.consumers, o.same.contexts, o.same.trapped, m.guests, o.streams, n) refl
 
-  pub IsStore-moved : old.is_trapped ≡ false → refusal (state_of old) (Transfer end to) ≡ None → s ≡ stream_named (named (state_of old) end) → side ≡ side_named (named (state_of old) end) → IsStore old → IsStore new
-  IsStore-moved t e stream_is side_is i =
+  agrees_moved : LeavesHome old end.guest end.handle between → refusal (state_of old) (Transfer end to) ≡ None → s ≡ stream_named (named (state_of old) end) → side ≡ side_named (named (state_of old) end) → IsStore old → Agrees new
+  agrees_moved leaves e stream_is side_is i =
+      let guests = seen old.guests.items in
+      let freed = without_handle_in guests end.guest end.handle in
+      let more = set old.streams.items s (with_owner side (stream_at (state_of old) s) (Held to number)) in
+      let made = moved_made (state_of old) end to s e stream_is i.sound in
+      let held : StateIsHeld (state_of new) = subst (λ (r : Reaction). StateIsHeld r.state) transfers-is (transfers-held (state_of old) side end to s e stream_is side_is i.sound i.held) in
+      record {
+        held = held;
+        told = told_again old new s side (Held to number) between made refl o i held
+            (rw m.guests
+            (but-members freed (with_end_in freed to side end.ty s) more s between (members-with_table freed to _ (sets_in freed to) (λ n q. refl))
+            (but-left guests freed more s end.guest end.handle (leaves-left guests end.guest _ end.handle (move_fits (state_of old) end to e).leaves.there) old.ready.items between leaves.home leaves.is leaves.leaves
+            (but-besides guests guests old.streams.items more s old.ready.items (λ _ _ _. refl) (besides-set old.streams.items s _) i.told))));
+      }
+
+  pub IsStore-moved : LeavesHome old end.guest end.handle between → old.is_trapped ≡ false → refusal (state_of old) (Transfer end to) ≡ None → s ≡ stream_named (named (state_of old) end) → side ≡ side_named (named (state_of old) end) → IsStore old → IsStore new
+  IsStore-moved leaves t e stream_is side_is i =
       let guests = seen old.guests.items in
       let freed = without_handle_in guests end.guest end.handle in
       IsStore-counted old new
@@ -165,8 +252,8 @@ module _ (old new : Inside) (s : ℕ) (side : Side) (end : NamedEnd) (to number 
         sizes = ap sizes_of m.guests ∙ sizes_of-with_handles freed to _ ∙ sizes_of-with_table guests end.guest _ _;
         bytes = o.bytes;
       })
-      (counts old new s side (Held to number) (moved_made (state_of old) end to s e stream_is i.sound) refl o i)
-      (subst (λ (r : Reaction). IsSound r.state) transfers-is (transfers-sound (state_of old) side end to s t e stream_is side_is i.sound)) i
+      (counts old new s side (Held to number) between (moved_made (state_of old) end to s e stream_is i.sound) refl o i)
+      (subst (λ (r : Reaction). IsSound r.state) transfers-is (transfers-sound (state_of old) side end to s t e stream_is side_is i.sound)) (agrees_moved leaves e stream_is side_is i) i
 
 -- ## Loose ends
 
@@ -178,13 +265,33 @@ loose_made state reader e =
 pub close_made : (state : State) (reader : ℕ) → refusal state (OnLoose reader Close) ≡ None → reader < length state.streams
 close_made state reader e = loose_made state reader (close_fits state reader e)
 
+loose_unheld : (owner : Owner) → is_loose owner ≡ true → is_held owner ≡ false
+loose_unheld (Held g handle) e = cc
+loose_unheld _ e = refl
+
+-- and no guest has it
+pub close_unheld : (state : State) (reader : ℕ) → refusal state (OnLoose reader Close) ≡ None → is_held (stream_at state reader).reader.owner ≡ false
+close_unheld state reader e = loose_unheld (stream_at state reader).reader.owner (close_fits state reader e)
+
 pub lower_made : (state : State) (reader g : ℕ) (ty : TransmitIndex) → refusal state (OnLoose reader (Lower g ty)) ≡ None → reader < length state.streams
 lower_made state reader g ty e = loose_made state reader (lower_fits state reader g ty e).loose
 
 -- a loose end came into a guest, under this handle
-module _ (old new : Inside) (s g : ℕ) (ty : TransmitIndex) (number : ℕ) (o : SetsOwner old new s Reading (Held g number)) (m : GivesHandle old new Reading ty g s) (n : number ≡ next_in (state_of old) g) where
+module _ (old new : Inside) (s g : ℕ) (ty : TransmitIndex) (number : ℕ) (o : SetsOwner old new s Reading (Held g number) old.ready.items) (m : GivesHandle old new Reading ty g s) (n : number ≡ next_in (state_of old) g) where
   pub lowers-is : lowers (state_of old) s g ty ≡ goes (replies.Number number) (state_of new)
   lowers-is = rw (o.same.tag, o.same.limits, o.same.producers, o.same.kept, o.same.consumers, o.same.contexts, o.same.trapped, m.guests, o.streams, n) refl
+
+  agrees_lowered : refusal (state_of old) (OnLoose s (Lower g ty)) ≡ None → IsStore old → Agrees new
+  agrees_lowered e i =
+      let guests = seen old.guests.items in
+      let more = set old.streams.items s (with_owner Reading (stream_at (state_of old) s) (Held g number)) in
+      let held : StateIsHeld (state_of new) = subst (λ (r : Reaction). StateIsHeld r.state) lowers-is (lowers-held (state_of old) s g ty e i.sound i.held) in
+      record {
+        held = held;
+        told = told_again old new s Reading (Held g number) old.ready.items (lower_made (state_of old) s g ty e) refl o i held
+            (rw m.guests
+            (but-besides guests (with_end_in guests g Reading ty s) old.streams.items more s old.ready.items (members-with_table guests g _ (sets_in guests g) (λ n q. refl)) (besides-set old.streams.items s _) i.told));
+      }
 
   pub IsStore-lowered : old.is_trapped ≡ false → refusal (state_of old) (OnLoose s (Lower g ty)) ≡ None → IsStore old → IsStore new
   IsStore-lowered t e i =
@@ -197,5 +304,5 @@ module _ (old new : Inside) (s g : ℕ) (ty : TransmitIndex) (number : ℕ) (o :
         sizes = ap sizes_of m.guests ∙ sizes_of-with_handles guests g _;
         bytes = o.bytes;
       })
-      (counts old new s Reading (Held g number) (lower_made (state_of old) s g ty e) refl o i)
-      (subst (λ (r : Reaction). IsSound r.state) lowers-is (lowers-sound (state_of old) s g ty t e i.sound)) i
+      (counts old new s Reading (Held g number) old.ready.items (lower_made (state_of old) s g ty e) refl o i)
+      (subst (λ (r : Reaction). IsSound r.state) lowers-is (lowers-sound (state_of old) s g ty t e i.sound)) (agrees_lowered e i) i

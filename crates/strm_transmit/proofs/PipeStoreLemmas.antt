@@ -1,7 +1,7 @@
 -- The loose read end of a stream that goes to a host reader: what refuses it, what the machine does, the
 -- host ends that the store needs then, and what the store keeps.
-use Rattle.std.proofs.Common.{◌≡◌, ℕ, ◌<◌, ◌==◌, Bool, true, false, cond, List, [], ◌∷◌, length, set, Option, Some, None, Ok, refl, sym, ap, subst, ◌∙◌, ⊎_elim, arith}
-use Rattle.std.specs.Prelude.{count_by, not, ◌&&◌}
+use Rattle.std.proofs.Common.{◌≡◌, ℕ, ◌<◌, ◌==◌, Bool, true, false, cond, List, [], ◌∷◌, length, set, Option, Some, None, Ok, refl, sym, ap, subst, ◌∙◌, ⊎_elim, inl, inr, arith}
+use Rattle.std.specs.Prelude.{count_by, not, ◌&&◌, ◌⊎◌}
 use Rattle.std.specs.Option.{option_map}
 use Rattle.std.proofs.lemmas.Bool.{cases_lt, not-false}
 use Rattle.std.proofs.lemmas.Bool.Decides.{nat_tests}
@@ -15,7 +15,7 @@ use Rattle.strm_codes.specs.declared.payloads.Payload.{Payload}
 use Rattle.strm_codes.specs.declared.refusals.Refusal.TheVariants as refusals
 use Rattle.strm_buffers.specs.Listing.{Item}
 use Rattle.strm_buffers.specs.Tells.{WriterTells, Tells, told_by, with_told, told_by_reader, closed_reader as closed_tells}
-use Rattle.strm_machine.specs.State.{State, no_stream, no_consumer, producer_at, consumer_at, stream_at, is_live, is_host, is_loose}
+use Rattle.strm_machine.specs.State.{State, no_stream, no_consumer, producer_at, consumer_at, stream_at, is_live, is_held, is_host, is_loose}
 use Rattle.strm_machine.specs.Hosting.{duty_among}
 use Rattle.strm_machine.specs.Moves.{with_owner}
 use Rattle.strm_machine.specs.Sides.{end_of}
@@ -59,7 +59,10 @@ use Rattle.strm_transmit.proofs.HostStepLemmas.{does_admitted, Does-after, Fits-
 use Rattle.strm_transmit.proofs.HostingLemmas.{no_logs, type_told, host_refusal-is, passes, known_host, unused_is}
 use Rattle.strm_transmit.proofs.KeptLemmas.{have_set}
 use Rattle.strm_transmit.proofs.ServedLemmas.{at_set, same_stream, same_host, serves_none, keeps_writers, reader_now, AreServed-turned}
-use Rattle.strm_transmit.proofs.StoreLemmas.{kept_tables, IsStore-counted, IsSound-same}
+use Rattle.strm_transmit.specs.Telling.{Retells}
+use Rattle.strm_transmit.proofs.ToldLemmas.{but-besides, besides-set, told-retold, IsHeld-set}
+use Rattle.strm_machine.proofs.HeldLemmas.{IsHeld}
+use Rattle.strm_transmit.proofs.StoreLemmas.{kept_tables, Agrees, IsStore-counted, IsSound-same}
 
 -- ## What refuses a pipe
 
@@ -297,6 +300,31 @@ dry-held state tells s n held h over e logs =
     ∙ sym (ap (is_dry_told state tells) h.owner)
     ∙ sym (is_dry-told state tells logs s (stream_at state s).writer.owner (λ m o. serving state tells m s (record { served = h.served; made = h.made; owner = o; fits = h.fits })))
 
+-- a writer of which nothing comes any more is no guest's
+dry_unheld : (world : World) (owner : Owner) → true ≡ is_dry world owner → is_held owner ≡ false
+dry_unheld world Gone e = refl
+dry_unheld world (Host n) e = refl
+dry_unheld world Loose e = cc
+dry_unheld world (Held g handle) e = cc
+
+-- and so are both ends of a stream at a host reader
+pub piped_unheld : (first : State) (tells : Tells) (s r : ℕ) → MayAttach first tells s r → (old new : State) → s < length old.streams → new ≡ handed_to old s r → ((logs : Logs) → true ≡ is_dry (world_of new tells logs) (stream_at new s).writer.owner) → (side : Side) → is_held (end_of side (stream_at new s)).owner ≡ false
+piped_unheld first tells s r h old new l e dry Writing = dry_unheld (world_of new tells no_logs) (stream_at new s).writer.owner (dry no_logs)
+piped_unheld first tells s r h old new l e dry Reading =
+    ap (λ (x : State). is_held (stream_at x s).reader.owner) e
+    ∙ ap (λ (x : Stream). is_held x.reader.owner) (get_or-set_same old.streams s (with_owner Reading (stream_at old s) (Host r)) no_stream l)
+
+-- a write whose report is withdrawn leaves the read end loose
+pub withdrawn_loose : (old new : State) (s : ℕ) → s < length old.streams → new ≡ with_stream_at old s (report_withdrawn (stream_at old s)) → is_loose (stream_at old s).reader.owner ≡ true → is_loose (stream_at new s).reader.owner ≡ true
+withdrawn_loose old new s l e loose =
+    ap (λ (x : State). is_loose (stream_at x s).reader.owner) e
+    ∙ ap (λ (x : Stream). is_loose x.reader.owner) (get_or-set_same old.streams s (report_withdrawn (stream_at old s)) no_stream l)
+    ∙ loose
+
+-- and its stream is still there
+pub withdrawn_made : (old new : State) (s : ℕ) → s < length old.streams → new ≡ with_stream_at old s (report_withdrawn (stream_at old s)) → s < length new.streams
+withdrawn_made old new s l e = rw e (omega (arith, l, length-set old.streams s (report_withdrawn (stream_at old s))))
+
 -- both ends of stream s went, one after the other
 pub ended_stream : (old mid new : State) (s : ℕ) → s < length old.streams → mid ≡ with_stream_at old s (with_owner Reading (stream_at old s) Gone) → new ≡ with_stream_at mid s (with_owner Writing (stream_at mid s) Gone) → new ≡ with_stream_at old s (without_ends (stream_at old s))
 ended_stream old mid new s l e f =
@@ -339,6 +367,8 @@ pub record HandsTo (old new : Inside) (s r : ℕ) (c : Consumer) : Type 0 where
   pub producers : new.producers ≡ old.producers
   pub same_kept : new.kept ≡ old.kept
   pub consumers : new.consumers ≡ set old.consumers r c
+  pub loose : is_loose (stream_at (state_of old) s).reader.owner ≡ true
+  pub retold : Retells (seen new.guests.items) (with_owner Reading (stream_at (state_of old) s) (Host r)) old.ready.items new.ready.items
 
 module _ (old new : Inside) (s r : ℕ) (c : Consumer) (h : HandsTo old new s r c) (i : IsStore old) where
   abbrev given : Stream
@@ -367,9 +397,31 @@ module _ (old new : Inside) (s r : ℕ) (c : Consumer) (h : HandsTo old new s r 
       let stream = IsSound-set (state_of old) s Reading (record (end_of Reading (stream_at (state_of old) s)) { owner = Host r }) h.made (Unchanged refl) i.sound in
       IsSound-same (record (state_of old) { streams = set old.streams.items s given }) (state_of new) (ap (λ (g : _). seen g.items) h.guests) h.streams h.contexts stream
 
+  agrees : Agrees new
+  agrees =
+      let guests = seen old.guests.items in
+      let more = set old.streams.items s given in
+      let same : seen new.guests.items ≡ guests = ap (λ (g : _). seen g.items) h.guests in
+      let held : IsHeld guests more = IsHeld-set guests old.streams.items s given h.made owners i.held in
+      let retold : Retells guests given old.ready.items new.ready.items = subst (λ (x : _). Retells x given old.ready.items new.ready.items) same h.retold in
+      record {
+        held = rw (same, h.streams) held;
+        told = rw (same, h.streams)
+            (told-retold guests more s held old.ready.items new.ready.items given (get_or-set_same old.streams.items s given no_stream h.made)
+            (but-besides guests guests old.streams.items more s old.ready.items (λ _ _ _. refl) (besides-set old.streams.items s given) i.told) retold);
+      }
+    where
+      loose_unheld : (owner : Owner) → is_loose owner ≡ true → is_held owner ≡ false
+      loose_unheld (Held g handle) e = cc
+      loose_unheld _ e = refl
+
+      owners : (side : Side) → ((end_of side given).owner ≡ (end_of side (stream_at (state_of old) s)).owner) ⊎ ((is_held (end_of side (stream_at (state_of old) s)).owner ≡ false) × (is_held (end_of side given).owner ≡ false))
+      owners Writing = inl refl
+      owners Reading = inr (loose_unheld (stream_at (state_of old) s).reader.owner h.loose, refl)
+
   pub IsStore-handed : IsStore new
   IsStore-handed =
       IsStore-counted old new
       (kept_tables old new (record { limits = h.limits; counter = h.counter; live_sets = h.live_sets; bytes = h.bytes; guests = rw h.guests (all_kept (seen old.guests.items)) }) i)
       (record { live = h.counted; served = served; kept = places; few = rw (h.streams, length-set old.streams.items s given) i.few_streams })
-      sound i
+      sound agrees i

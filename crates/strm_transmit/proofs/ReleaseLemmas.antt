@@ -2,12 +2,14 @@
 -- after it.
 use Rattle.std.proofs.Common.{◌≡◌, ℕ, ◌<◌, ◌||◌, Bool, true, false, cond, length, get_or, set, Option, Some, None, refl, sym, ap, subst, ◌∙◌, arith}
 use Rattle.strm_buffers.specs.Tells.{Tells, told_by}
-use Rattle.strm_machine.specs.State.{State, no_producer, producer_at, stream_at}
+use Rattle.strm_machine.specs.State.{State, no_producer, producer_at, stream_at, is_held}
 use Rattle.strm_machine.specs.declared.streams.Duty.TheVariants.{Serves, Ended}
 use Rattle.strm_machine.specs.declared.streams.Owner.{Owner}
 use Rattle.strm_machine.specs.declared.streams.Owner.TheVariants.{Held, Host, Loose, Gone}
 use Rattle.strm_machine.specs.declared.streams.Producer.{Producer}
-use Rattle.strm_machine.specs.declared.streams.Side.TheVariants.{Writing}
+use Rattle.strm_machine.specs.declared.streams.Side.TheVariants.{Writing, Reading}
+use Rattle.strm_machine.specs.declared.streams.Side.{Side}
+use Rattle.strm_machine.specs.Sides.{end_of}
 use Rattle.strm_machine.specs.declared.streams.Stream.{Stream}
 use Rattle.strm_world.specs.Attaching.{has_items, without_ends}
 use Rattle.strm_world.specs.Releasing.{KnowsHeld, unless_spent, released_by, released_where, released_among, released, released_in, after_release}
@@ -38,6 +40,24 @@ released_writes state s n e = by state.trapped e
     by : (b : Bool) → cond b None (released_by state (λ k. (producer_at state k).holding) (stream_at state s).writer.owner (stream_at state s).reader.owner) ≡ Some n → (stream_at state s).writer.owner ≡ Host n
     by true f = cc f
     by false f = owners_are state (λ k. (producer_at state k).holding) (stream_at state s).writer.owner (stream_at state s).reader.owner n f
+
+-- and the read end is loose, so no guest has one of them
+loose_then : (state : State) (holding : ℕ → Bool) (w r : Owner) (n : ℕ) → released_by state holding w r ≡ Some n → is_held r ≡ false
+loose_then state holding (Host m) Loose n e = refl
+loose_then state holding (Host m) (Held g handle) n e = cc
+loose_then state holding (Host m) (Host k) n e = refl
+loose_then state holding (Host m) Gone n e = refl
+loose_then state holding (Held g handle) r n e = cc
+loose_then state holding Loose r n e = cc
+loose_then state holding Gone r n e = cc
+
+pub released_unheld : (state : State) (s n : ℕ) → released state s ≡ Some n → (side : Side) → is_held (end_of side (stream_at state s)).owner ≡ false
+released_unheld state s n e Writing = ap is_held (released_writes state s n e)
+released_unheld state s n e Reading = by state.trapped e
+  where
+    by : (b : Bool) → cond b None (released_by state (λ k. (producer_at state k).holding) (stream_at state s).writer.owner (stream_at state s).reader.owner) ≡ Some n → is_held (stream_at state s).reader.owner ≡ false
+    by true f = cc f
+    by false f = loose_then state (λ k. (producer_at state k).holding) (stream_at state s).writer.owner (stream_at state s).reader.owner n f
 
 -- by what host writers tell it is the same
 pub known_release : (state : State) (tells : Tells) (s : ℕ) → AreServed state.producers state.consumers state.streams → KnowsHeld state tells → released state s ≡ released_among state tells s

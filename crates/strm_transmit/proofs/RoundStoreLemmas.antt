@@ -1,14 +1,14 @@
 -- The store after a poll of a pipe's round: what it may index, and what it keeps.
-use Rattle.std.proofs.Common.{◌≡◌, false, ℕ, ◌<◌, List, [], ◌∷◌, ◌++◌, length, drop, get_or, set, Result, refl, sym, ap, subst, ◌∙◌, arith}
+use Rattle.std.proofs.Common.{◌≡◌, false, ℕ, ◌<◌, List, [], ◌∷◌, ◌++◌, length, drop, get_or, set, Result, refl, sym, ap, subst, ◌∙◌, inl, arith}
 use Rattle.std.specs.Prelude.{count_by, nat_lt}
 use Rattle.std.proofs.lemmas.Bool.Decides.{nat_tests}
-use Rattle.std.proofs.lemmas.List.{length-set, get_or_default}
+use Rattle.std.proofs.lemmas.List.{length-set, get_or_default, get_or-set_same}
 use Rattle.std.proofs.Math.Seq.{drop-length}
 use Rattle.strm_codes.specs.declared.codes.TransmitKind.{TransmitKind}
 use Rattle.strm_buffers.specs.Listing.{Item, TypedItems}
 use Rattle.strm_buffers.specs.declared.answers.Answer.{Answer}
 use Rattle.strm_buffers.specs.Tells.{WriterTells, ReaderTells, Tells, told_by, with_told, told_by_reader, with_told_reader}
-use Rattle.strm_machine.specs.State.{State, no_producer, no_consumer, no_stream, producer_at, kept_at, consumer_at, stream_at, is_live}
+use Rattle.strm_machine.specs.State.{State, no_producer, no_consumer, no_stream, producer_at, kept_at, consumer_at, stream_at, is_held, is_live}
 use Rattle.strm_machine.specs.Hosting.{duty_among}
 use Rattle.strm_machine.specs.Soundness.{sizes_of, StreamIsPlaced}
 use Rattle.strm_machine.specs.declared.streams.Consumer.{Consumer}
@@ -17,6 +17,8 @@ use Rattle.strm_machine.specs.declared.streams.End.{End}
 use Rattle.strm_machine.specs.declared.streams.Producer.{Producer}
 use Rattle.strm_machine.specs.declared.streams.Side.{Side}
 use Rattle.strm_machine.specs.declared.streams.Side.TheVariants.{Writing, Reading}
+use Rattle.strm_machine.specs.declared.streams.Owner.TheVariants.{Host}
+use Rattle.strm_machine.specs.Sides.{end_of}
 use Rattle.strm_machine.specs.declared.streams.Stream.{Stream}
 use Rattle.strm_machine.proofs.SoundLemmas.{type_of-same, IsSound-stream, placed_at}
 use Rattle.strm_machine.proofs.TableLemmas.{set-keeps}
@@ -33,7 +35,9 @@ use Rattle.strm_transmit.specs.declared.store.Store.TheInside.{Inside}
 use Rattle.strm_transmit.proofs.KeptLemmas.{padded-at, padded-set, have_set, have_items}
 use Rattle.strm_transmit.proofs.SceneStoreLemmas.{number_kept, serving_fits, reader_kept, reading_fits}
 use Rattle.strm_transmit.proofs.ServedLemmas.{ComesNoHost, same_owners, not_unused, AreServed-set}
-use Rattle.strm_transmit.proofs.StoreLemmas.{live_weight, live_sum, CountsTables, kept_tables, IsStore-counted, IsSound-same}
+use Rattle.strm_transmit.proofs.StoreLemmas.{live_weight, live_sum, CountsTables, kept_tables, Agrees, agrees_still, IsStore-counted, IsSound-same}
+use Rattle.strm_transmit.proofs.ToldLemmas.{but-besides, besides-set, told-unheld, IsHeld-set}
+use Rattle.strm_machine.proofs.HeldLemmas.{IsHeld}
 
 -- ## What is held
 
@@ -198,6 +202,12 @@ pub record LeavesItems (old new : Inside) (n : ℕ) (x : TypedItems) : Type 0 wh
   pub reader_duties : (m : ℕ) → (get_or new.consumers m no_consumer).duty ≡ (get_or old.consumers m no_consumer).duty
   pub kept : new.kept.items ≡ set old.kept.items n x
   pub payload : x.payload ≡ (get_or old.kept.items n nothing_kept).payload
+  pub ready : new.ready ≡ old.ready
+
+-- no guest has an end that a host end has
+pub hosts_held : (stream : Stream) (n r : ℕ) → stream.writer.owner ≡ Host n → stream.reader.owner ≡ Host r → (side : Side) → is_held (end_of side stream).owner ≡ false
+hosts_held stream n r writer reader Writing = ap is_held writer
+hosts_held stream n r writer reader Reading = ap is_held reader
 
 -- one stream is another of the same type, with the same ends
 pub record SameEnds (before after : Stream) : Type 0 where
@@ -240,7 +250,8 @@ module _ (old new : Inside) (n s : ℕ) (x : TypedItems) (h : LeavesItems old ne
   IsStore-items streams live =
       IsStore-counted old new tables
       (record { live = rw (live, streams) i.streams; served = rw streams served; kept = rw streams places; few = rw streams i.few_streams })
-      (IsSound-same (state_of old) (state_of new) (ap (λ (g : _). seen g.items) h.guests) (ap (λ (v : _). v.items) streams) h.contexts i.sound) i
+      (IsSound-same (state_of old) (state_of new) (ap (λ (g : _). seen g.items) h.guests) (ap (λ (v : _). v.items) streams) h.contexts i.sound)
+      (agrees_still old new (rw h.guests (all_kept (seen old.guests.items))) (ap (λ (v : _). v.items) streams) h.ready i) i
 
   -- the stream is another
   module _ (after : Stream) (l : s < length old.streams.items) (k : SameEnds (stream_at (state_of old) s) after) (streams : new.streams.items ≡ set old.streams.items s after) where
@@ -261,8 +272,26 @@ module _ (old new : Inside) (n s : ℕ) (x : TypedItems) (h : LeavesItems old ne
         let was = placed_at (state_of old) s l i.sound in
         rw (k.payload, k.writer, k.reader) (record { writer = was.writer; reader = was.reader })
 
-    pub IsStore-passed : new.live_streams ≡ old.live_streams → IsStore new
-    IsStore-passed live =
+    -- no guest has one of its ends
+    agrees_passed : ((side : Side) → is_held (end_of side before).owner ≡ false) → Agrees new
+    agrees_passed unheld =
+        let guests = seen old.guests.items in
+        let more = set old.streams.items s after in
+        let held : IsHeld guests more = IsHeld-set guests old.streams.items s after l (λ side. inl (same_owner side)) i.held in
+        record {
+          held = rw (h.guests, streams) held;
+          told = rw (h.guests, streams, h.ready)
+              (told-unheld guests more s held old.ready.items
+              (λ side. ap (λ (x : Stream). is_held (end_of side x).owner) (get_or-set_same old.streams.items s after no_stream l) ∙ ap is_held (same_owner side) ∙ unheld side)
+              (but-besides guests guests old.streams.items more s old.ready.items (λ _ _ _. refl) (besides-set old.streams.items s after) i.told));
+        }
+      where
+        same_owner : (side : Side) → (end_of side after).owner ≡ (end_of side before).owner
+        same_owner Writing = ap (λ (v : End). v.owner) k.writer
+        same_owner Reading = ap (λ (v : End). v.owner) k.reader
+
+    pub IsStore-passed : ((side : Side) → is_held (end_of side before).owner ≡ false) → new.live_streams ≡ old.live_streams → IsStore new
+    IsStore-passed unheld live =
         IsStore-counted old new tables
         (record {
           live = rw streams (live ∙ i.streams ∙ sym as_many);
@@ -271,7 +300,7 @@ module _ (old new : Inside) (n s : ℕ) (x : TypedItems) (h : LeavesItems old ne
           few = rw (streams, length-set old.streams.items s after) i.few_streams;
         })
         (IsSound-same (record (state_of old) { streams = set old.streams.items s after }) (state_of new) (ap (λ (g : _). seen g.items) h.guests) streams h.contexts
-        (IsSound-stream (state_of old) s after (type_of-same after before k.payload k.kind) placed i.sound)) i
+        (IsSound-stream (state_of old) s after (type_of-same after before k.payload k.kind) placed i.sound)) (agrees_passed unheld) i
 
 -- what is kept of one host end keeps its duty
 pub duties_set : (ps : List Producer) (n : ℕ) (q : Producer) → q.duty ≡ (get_or ps n no_producer).duty → (m : ℕ) → (get_or (set ps n q) m no_producer).duty ≡ (get_or ps m no_producer).duty

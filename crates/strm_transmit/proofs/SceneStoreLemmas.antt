@@ -1,12 +1,13 @@
 -- The store after a host end had its turn.
 use mir.Val.{bool_byte}
-use Rattle.std.proofs.Common.{◌≡◌, ℕ, ◌+◌, ◌-◌, ◌<◌, Bool, true, false, cond, List, length, get_or, set, sym, ap, ◌∙◌, subst, arith}
-use Rattle.std.specs.Prelude.{count_by}
-use Rattle.std.proofs.lemmas.List.{length-set, get_or_default}
-use Rattle.strm_machine.specs.State.{State, no_stream, stream_at, producer_at, consumer_at, is_live}
+use Rattle.std.proofs.Common.{◌≡◌, ℕ, ◌+◌, ◌-◌, ◌<◌, Bool, true, false, cond, List, length, get_or, set, refl, sym, ap, ◌∙◌, subst, inl, inr, arith}
+use Rattle.std.specs.Prelude.{count_by, ◌⊎◌}
+use Rattle.std.proofs.lemmas.List.{length-set, get_or_default, get_or-set_same}
+use Rattle.strm_machine.specs.State.{Guest, State, no_stream, guest_in, stream_at, producer_at, consumer_at, is_held, is_live}
 use Rattle.strm_machine.specs.Hosting.{duty_among}
-use Rattle.strm_machine.specs.Sides.{end_of}
+use Rattle.strm_machine.specs.Sides.{opposite, end_of}
 use Rattle.strm_machine.specs.Soundness.{IsSound}
+use Rattle.strm_machine.specs.declared.streams.Owner.{Owner}
 use Rattle.strm_machine.specs.declared.streams.Owner.TheVariants.{Host, Gone}
 use Rattle.strm_machine.specs.declared.streams.Duty.TheVariants.{Serves}
 use Rattle.strm_machine.specs.declared.streams.Side.{Side}
@@ -24,8 +25,12 @@ use Rattle.strm_transmit.proofs.ServedLemmas.{same_stream, same_host, not_unused
 use Rattle.strm_transmit.proofs.KeptLemmas.{have_set, have_producer}
 use Rattle.strm_transmit.proofs.SceneLemmas.{SceneKeeps}
 use Rattle.strm_transmit.proofs.TakeLemmas.{TakingKeeps}
-use Rattle.strm_machine.proofs.TurnLemmas.{all_kept}
-use Rattle.strm_transmit.proofs.StoreLemmas.{live_by, live_weight, live_sum, kept_tables, IsStore-counted, IsSound-same}
+use Rattle.strm_machine.proofs.TurnLemmas.{GuestsKeep, all_kept}
+use Rattle.strm_transmit.proofs.StoreLemmas.{live_by, live_weight, live_sum, kept_tables, Agrees, IsStore-counted, IsSound-same}
+use Rattle.strm_transmit.specs.Telling.{Retells, member_of}
+use Rattle.strm_transmit.proofs.ToldLemmas.{SameMembers, members-sets, but-besides, besides-set, told-retold, IsHeld-set}
+use Rattle.strm_machine.proofs.HeldLemmas.{IsHeld, IsHeld-same}
+use Rattle.strm_machine.proofs.TableLemmas.{handles-same}
 
 -- how many streams have an end left, after one of them became another
 byte_is : (b : Bool) → bool_byte b ≡ live_by b
@@ -45,6 +50,45 @@ live_counted streams s before after live was is l e n w k =
     let sum = live_sum streams s after l in
     omega (arith, n, old, new, fewer, sum)
 
+-- the ends of a stream whose host end, on this side, may be gone: no guest had it, and none has it
+moves_held : (host : Side) (old new : Stream) (done : Bool) → (end_of host new).owner ≡ cond done Gone (end_of host old).owner → (end_of (opposite host) new).owner ≡ (end_of (opposite host) old).owner → is_held (end_of host old).owner ≡ false
+    → (side : Side) → ((end_of side new).owner ≡ (end_of side old).owner) ⊎ ((is_held (end_of side old).owner ≡ false) × (is_held (end_of side new).owner ≡ false))
+moves_held host old new done leaves stays unheld = by host leaves stays unheld
+  where
+    gone_or : (done : Bool) (owner : Owner) → is_held owner ≡ false → is_held (cond done Gone owner) ≡ false
+    gone_or true owner e = refl
+    gone_or false owner e = e
+
+    by : (host : Side) → (end_of host new).owner ≡ cond done Gone (end_of host old).owner → (end_of (opposite host) new).owner ≡ (end_of (opposite host) old).owner → is_held (end_of host old).owner ≡ false
+        → (side : Side) → ((end_of side new).owner ≡ (end_of side old).owner) ⊎ ((is_held (end_of side old).owner ≡ false) × (is_held (end_of side new).owner ≡ false))
+    by Writing l s u Writing = inr (u, ap is_held l ∙ gone_or done _ u)
+    by Writing l s u Reading = inl s
+    by Reading l s u Writing = inl s
+    by Reading l s u Reading = inr (u, ap is_held l ∙ gone_or done _ u)
+
+-- one stream became another, and its ends were told again
+agrees_turned : (old new : Inside) (s : ℕ) (after : Stream) → s < length old.streams.items → (guests : List Guest) → seen new.guests.items ≡ guests
+    → ((g : ℕ) → (guest_in guests g).handles ≡ (guest_in (seen old.guests.items) g).handles) → SameMembers (seen old.guests.items) guests
+    → ((side : Side) → ((end_of side after).owner ≡ (end_of side (stream_at (state_of old) s)).owner) ⊎ ((is_held (end_of side (stream_at (state_of old) s)).owner ≡ false) × (is_held (end_of side after).owner ≡ false)))
+    → new.streams.items ≡ set old.streams.items s after → Retells guests after old.ready.items new.ready.items → IsStore old → Agrees new
+agrees_turned old new s after l guests e handles members owners streams retold i =
+    let before = seen old.guests.items in
+    let more = set old.streams.items s after in
+    let held : IsHeld guests more = IsHeld-same before guests more more handles (λ k side. refl) (IsHeld-set before old.streams.items s after l owners i.held) in
+    record {
+      held = rw (e, streams) held;
+      told = rw (e, streams)
+          (told-retold guests more s held old.ready.items new.ready.items after (get_or-set_same old.streams.items s after no_stream l)
+          (but-besides before guests old.streams.items more s old.ready.items members (besides-set old.streams.items s after) i.told) retold);
+    }
+
+-- what guests keep where they are those of a turn
+keeps_handles : {before guests after : List Guest} → GuestsKeep before after → guests ≡ after → (g : ℕ) → (guest_in guests g).handles ≡ (guest_in before g).handles
+keeps_handles {before} {guests} {after} k e g = ap (λ (x : List Guest). (guest_in x g).handles) e ∙ handles-same before after g k.handles
+
+keeps_sets : {before guests after : List Guest} → GuestsKeep before after → guests ≡ after → SameMembers before guests
+keeps_sets {before} {guests} {after} k e g number handle = ap (λ (x : List Guest). member_of x g number handle) e ∙ members-sets before after k.sets g number handle
+
 -- what a turn left of a scene
 pub record TakesScene (old new : Inside) (s n : ℕ) (after : Scene) : Type 0 where
   pub tag : new.tag ≡ old.tag
@@ -59,6 +103,7 @@ pub record TakesScene (old new : Inside) (s n : ℕ) (after : Scene) : Type 0 wh
   pub producers : new.producers ≡ set old.producers n after.producer
   pub kept : new.kept ≡ old.kept
   pub consumers : new.consumers ≡ old.consumers
+  pub retold : Retells (seen new.guests.items) after.stream old.ready.items new.ready.items
 
 -- the scene of a turn in a store
 abbrev pub scene_of : Inside → ℕ → ℕ → WriterTells → Scene
@@ -108,7 +153,7 @@ module _ (old new : Inside) (s n : ℕ) (tells : WriterTells) (after : Scene) (l
       IsStore-counted old new
       (kept_tables old new (record { limits = h.limits; counter = h.counter; live_sets = h.live_sets; bytes = h.bytes; guests = rw h.guests k.guests }) i)
       (record { live = h.counted; served = served; kept = places; few = rw (h.streams, length-set old.streams.items s after.stream) i.few_streams })
-      sound i
+      sound (agrees_turned old new s after.stream l (seen new.guests.items) refl (keeps_handles k.guests h.guests) (keeps_sets k.guests h.guests) (moves_held Writing (stream_at (state_of old) s) after.stream k.stream.done k.stream.leaves k.stream.stays (ap is_held o)) h.streams h.retold i) i
 
 -- ## The host writer that serves a stream
 
@@ -140,6 +185,7 @@ pub record TakesTaking (old new : Inside) (s r : ℕ) (after : Taking) : Type 0 
   pub producers : new.producers ≡ old.producers
   pub kept : new.kept ≡ old.kept
   pub consumers : new.consumers ≡ set old.consumers r after.consumer
+  pub retold : Retells (seen new.guests.items) after.stream old.ready.items new.ready.items
 
 -- what a turn touches in a store
 abbrev pub taking_of : Inside → ℕ → ℕ → ReaderTells → Taking
@@ -188,7 +234,7 @@ module _ (old new : Inside) (s r : ℕ) (tells : ReaderTells) (after : Taking) (
       IsStore-counted old new
       (kept_tables old new (record { limits = h.limits; counter = h.counter; live_sets = h.live_sets; bytes = h.bytes; guests = rw same_guests (all_kept (seen old.guests.items)) }) i)
       (record { live = h.counted; served = taken_served; kept = places_then; few = rw (h.streams, length-set old.streams.items s after.stream) i.few_streams })
-      taken_sound i
+      taken_sound (agrees_turned old new s after.stream l (seen new.guests.items) refl (λ g. ap (λ (x : _). (guest_in x g).handles) same_guests) (λ g number handle. ap (λ (x : _). member_of x g number handle) same_guests) (moves_held Reading (stream_at (state_of old) s) after.stream k.stream.done k.stream.leaves k.stream.stays (ap is_held o)) h.streams h.retold i) i
 
 -- ## The host reader that serves a stream
 

@@ -1,13 +1,15 @@
 -- The store after a waitable set was made, joined, left or dropped, and the member that a poll finds.
-use Rattle.std.proofs.Common.{◌≡◌, ◌≢◌, ℕ, ◌+◌, ◌-◌, ◌<◌, Bool, true, false, cond, List, [], ◌∷◌, length, Option, Some, None, Result, Ok, Err, refl, sym, ap, ◌∙◌, subst, arith}
+use Rattle.std.proofs.Common.{◌≡◌, ◌≢◌, ℕ, ◌+◌, ◌-◌, ◌<◌, Bool, true, false, cond, ◌&&◌, List, [], ◌∷◌, length, not, Option, Some, None, Result, Ok, Err, refl, sym, ap, ◌∙◌, subst, arith}
 use Rattle.std.specs.Prelude.{nat_eq, ◌==◌, OnOk, OnErr, IfSome, IfNone}
 use Rattle.std.specs.List.{list_any}
+use Rattle.std.specs.Option.{option_map}
+use Rattle.strm_sets.specs.Ready.{is_in}
 use Rattle.strm_handles.specs.Counters.{counted, uncounted}
 use Rattle.strm_handles.specs.Handles.{entry_at}
-use Rattle.strm_sets.specs.Sets.{Sets, is_there, members, joined, left, HasNoMember, IsLeastReady, NoneReady}
+use Rattle.strm_sets.specs.Sets.{Sets, is_there, is_member, set_of, members, joined, left, HasNoMember, IsLeastReady, NoneReady}
 use Rattle.strm_sets.proofs.SetLemmas.{among_members}
 use Rattle.strm_sets.proofs.TieLemmas.{eq-other}
-use Rattle.strm_machine.specs.State.{Guest, State, guest_in, sets_in, with_sets}
+use Rattle.strm_machine.specs.State.{Guest, State, no_guest, guest_in, sets_in, with_sets}
 use Rattle.strm_machine.specs.Tests.{end_named}
 use Rattle.strm_machine.specs.WaitableSets.{set_named, number_named, has_some, has_member, is_ready, ready_member, sets_changed}
 use Rattle.strm_machine.specs.Refusals.{slot_reasons, joined_reasons, first_of, refusal}
@@ -22,7 +24,13 @@ use Rattle.strm_machine.proofs.SoundStepLemmas.{on_set-sound, with_set-sound}
 use Rattle.strm_turns.specs.Guests.{seen, live_in, sets_among, with_set_in, without_set_in}
 use Rattle.strm_transmit.specs.Inside.{state_of, IsStore}
 use Rattle.strm_transmit.specs.declared.store.Store.TheInside.{Inside}
-use Rattle.strm_transmit.proofs.StoreLemmas.{SameBut, how_many, sets-with_table, live-with_sets, kept_counted, more_counted, less_counted, fits_below, CountsTables, kept_streams, IsStore-counted}
+use Rattle.strm_transmit.proofs.StoreLemmas.{SameBut, how_many, sets-with_table, live-with_sets, kept_counted, more_counted, less_counted, fits_below, CountsTables, kept_streams, Agrees, IsStore-counted}
+use Rattle.strm_transmit.proofs.ToldLemmas.{SameMembers, members-with_table, told-same, leaves-left, told-left, joins-joined, Joins, told-joined, ready_is}
+use Rattle.strm_transmit.specs.Telling.{Ready, AreTold, Leaves, member_of}
+use Rattle.strm_machine.specs.declared.streams.Stream.{Stream}
+use Rattle.strm_machine.proofs.HeldLemmas.{StateIsHeld, IsHeld, IsHeld-same}
+use Rattle.strm_transmit.proofs.HeldStoreLemmas.{on_set-held, with_set-held}
+use Rattle.strm_machine.proofs.TableLemmas.{set-keeps}
 
 -- streams and memories stay
 pub record KeepsStreams (old new : Inside) : Type 0 where
@@ -31,13 +39,20 @@ pub record KeepsStreams (old new : Inside) : Type 0 where
   pub live_streams : new.live_streams ≡ old.live_streams
   pub bytes : new.bytes ≡ old.bytes
 
-IsStore-tables : (old new : Inside) → KeepsStreams old new → CountsTables old new → IsSound (state_of new) → IsStore old → IsStore new
-IsStore-tables old new k tables sound i =
-    IsStore-counted old new tables (kept_streams old new k.streams k.live_streams (record { producers = k.same.producers; kept = k.same.kept; consumers = k.same.consumers }) i) sound i
+IsStore-tables : (old new : Inside) → KeepsStreams old new → CountsTables old new → IsSound (state_of new) → Agrees new → IsStore old → IsStore new
+IsStore-tables old new k tables sound agrees i =
+    IsStore-counted old new tables (kept_streams old new k.streams k.live_streams (record { producers = k.same.producers; kept = k.same.kept; consumers = k.same.consumers }) i) sound agrees i
 
 -- the state, where streams stay and guests are these
 state_with : (old new : Inside) → KeepsStreams old new → (guests : List Guest) → seen new.guests.items ≡ guests → state_of new ≡ record (state_of old) { guests = guests }
 state_with old new k guests e = rw (k.same.tag, k.same.limits, k.same.producers, k.same.kept, k.same.consumers, k.same.contexts, k.same.trapped, k.streams, e) refl
+
+-- handles and ends agree, and guests have the members that they had
+agrees_tables : (old new : Inside) → KeepsStreams old new → (guests : List Guest) → seen new.guests.items ≡ guests → new.ready ≡ old.ready → SameMembers (seen old.guests.items) guests → StateIsHeld (record (state_of old) { guests = guests }) → IsStore old → Agrees new
+agrees_tables old new k guests e ready members held i = record {
+  held = subst StateIsHeld (sym (state_with old new k guests e)) held;
+  told = rw (k.streams, ready, e) (told-same (seen old.guests.items) guests old.streams.items old.ready.items members i.told);
+}
 
 -- ## A set more
 
@@ -48,6 +63,7 @@ pub record GivesSet (old new : Inside) (g : ℕ) : Type 0 where
   pub sets : sets_among (seen new.guests.items) ≡ sets_among (seen old.guests.items) + 1
   pub live_sets : new.live_sets ≡ old.live_sets + 1
   pub guests : seen new.guests.items ≡ with_set_in (seen old.guests.items) g
+  pub ready : new.ready ≡ old.ready
 
 pub IsStore-made_set : (old new : Inside) (g : ℕ) → KeepsStreams old new → GivesSet old new g → refusal (state_of old) (Make (Set g)) ≡ None → IsStore old → IsStore new
 IsStore-made_set old new g k h e i =
@@ -59,9 +75,25 @@ IsStore-made_set old new g k h e i =
       sizes = ap sizes_of h.guests ∙ sizes_of-with_table (seen old.guests.items) g _ _;
       bytes = k.bytes;
     })
-    (subst IsSound (sym (state_with old new k (with_set_in (seen old.guests.items) g) h.guests)) (with_set-sound (state_of old) g i.sound e)) i
+    (subst IsSound (sym (state_with old new k (with_set_in (seen old.guests.items) g) h.guests)) (with_set-sound (state_of old) g i.sound e))
+    (agrees_tables old new k (with_set_in (seen old.guests.items) g) h.guests h.ready (members-with_table (seen old.guests.items) g _ _ (λ n q. refl)) (with_set-held (state_of old) g i.sound i.held e) i) i
 
 -- ## A set joined or left
+
+no_members : (xs : List ℕ) (n : ℕ) → has_some xs ≡ false → list_any (nat_eq n) xs ≡ false
+no_members [] n e = refl
+no_members (x ∷ xs) n e = cc
+
+not_is : (b : Bool) → not b ≡ true → b ≡ false
+not_is true e = cc
+not_is false e = refl
+
+-- each handle names what it named where sets alone are others
+sets_held_still : (guests : List Guest) (g : ℕ) (sets : Sets) (streams : List Stream) → IsHeld guests streams → IsHeld (with_sets guests g sets) streams
+sets_held_still guests g sets streams h =
+    IsHeld-same guests (with_sets guests g sets) streams streams
+    (λ k. set-keeps (λ (x : Guest). x.handles) guests g k (record (guest_in guests g) { sets = sets }) no_guest refl)
+    (λ s side. refl) h
 
 -- handles and sets stay counted as they were
 pub record KeepsCounts (old new : Inside) : Type 0 where
@@ -69,8 +101,9 @@ pub record KeepsCounts (old new : Inside) : Type 0 where
   pub live_sets : new.live_sets ≡ old.live_sets
 
 module _ (old new : Inside) (k : KeepsStreams old new) (n : KeepsCounts old new) (i : IsStore old) where
-  same_guests : seen new.guests.items ≡ seen old.guests.items → IsStore new
-  same_guests e =
+  -- nothing joined
+  pub same_guests : seen new.guests.items ≡ seen old.guests.items → new.ready ≡ old.ready → IsStore new
+  same_guests e ready =
       IsStore-tables old new k
       (record {
         handles = kept_counted old new k.same.limits n.counter (ap live_in e) i;
@@ -78,10 +111,12 @@ module _ (old new : Inside) (k : KeepsStreams old new) (n : KeepsCounts old new)
         sizes = ap sizes_of e;
         bytes = k.bytes;
       })
-      (subst IsSound (sym (state_with old new k (seen old.guests.items) e)) i.sound) i
+      (subst IsSound (sym (state_with old new k (seen old.guests.items) e)) i.sound)
+      (agrees_tables old new k (seen old.guests.items) e ready (λ _ _ _. refl) i.held i) i
 
-  other_sets : (g : ℕ) (sets : Sets) → how_many sets ≡ how_many (sets_in (seen old.guests.items) g) → IsSound (sets_changed (state_of old) g sets) → seen new.guests.items ≡ with_sets (seen old.guests.items) g sets → IsStore new
-  other_sets g sets many sound e =
+  other_sets : (g : ℕ) (sets : Sets) → how_many sets ≡ how_many (sets_in (seen old.guests.items) g) → IsSound (sets_changed (state_of old) g sets) → seen new.guests.items ≡ with_sets (seen old.guests.items) g sets
+      → AreTold (with_sets (seen old.guests.items) g sets) old.streams.items new.ready.items → IsStore new
+  other_sets g sets many sound e told =
       let handles = (guest_in (seen old.guests.items) g).handles in
       IsStore-tables old new k
       (record {
@@ -90,7 +125,11 @@ module _ (old new : Inside) (k : KeepsStreams old new) (n : KeepsCounts old new)
         sizes = ap sizes_of e ∙ sizes_of-with_table (seen old.guests.items) g handles sets;
         bytes = k.bytes;
       })
-      (subst IsSound (sym (state_with old new k (with_sets (seen old.guests.items) g sets) e)) sound) i
+      (subst IsSound (sym (state_with old new k (with_sets (seen old.guests.items) g sets) e)) sound)
+      (record {
+        held = subst StateIsHeld (sym (state_with old new k (with_sets (seen old.guests.items) g sets) e)) (sets_held_still (seen old.guests.items) g sets old.streams.items i.held);
+        told = rw (k.streams, e) told;
+      }) i
 
   module _ (g set handle : ℕ) (may : refusal (state_of old) (OnSet g set (Join handle)) ≡ None) where
     abbrev sets : Sets
@@ -105,14 +144,37 @@ module _ (old new : Inside) (k : KeepsStreams old new) (n : KeepsCounts old new)
         subst (λ t. IsSound (sets_changed (state_of old) g (cond t (left sets handle) (joined sets handle (number_named (set_named (state_of old) g set)))))) e
         (on_set-sound (state_of old) g set (Join handle) i.sound may)
 
-    pub IsStore-left : set ≡ 0 → SetsBecome (left sets handle) → IsStore new
-    IsStore-left zero e = other_sets g (left sets handle) refl (joined_sound true (rw zero refl)) e
+    -- the handle's guest is there
+    guest_there : g < length (seen old.guests.items)
+    guest_there = (on_set_fits (state_of old) g set (Join handle) may).0
 
-    pub IsStore-joined : {A E : Type 0} (r : Result A E) (number : ℕ) → set ≢ 0 → number ≡ number_named (set_named (state_of old) g set) → OnOk r (SetsBecome (joined sets handle number)) → OnErr r (seen new.guests.items ≡ seen old.guests.items) → IsStore new
-    IsStore-joined (Ok v) number some is ok err =
+    pub IsStore-left : (home : Option ℕ) → set ≡ 0 → home ≡ set_of sets handle → Leaves g handle home old.ready.items new.ready.items → SetsBecome (left sets handle) → IsStore new
+    IsStore-left home zero is leaves e =
+        other_sets g (left sets handle) refl (joined_sound true (rw zero refl)) e
+        (told-left (seen old.guests.items) _ old.streams.items g handle old.ready.items new.ready.items home
+        (leaves-left (seen old.guests.items) g _ handle guest_there) is leaves i.told)
+
+    -- what is said once the handle has joined
+    pub record JoinsAt (number : ℕ) (alone says : Bool) : Type 0 where
+      pub home : Option ℕ
+      pub is : home ≡ set_of sets handle
+      pub between : Ready
+      pub leaves : Leaves g handle home old.ready.items between
+      pub joins : Joins g number handle alone says between new.ready.items
+      pub empty : alone ≡ not (has_member (state_of old) g number)
+      pub ready : says ≡ is_ready (state_of old) g handle
+
+    none_before : (number : ℕ) (alone : Bool) → alone ≡ not (has_member (state_of old) g number) → alone ≡ true → (other : ℕ) → member_of (seen old.guests.items) g number other ≡ false
+    none_before number alone is e other =
+        sym (among_members sets number other) ∙ no_members (members sets number) other (not_is (has_member (state_of old) g number) (sym is ∙ e))
+
+    pub IsStore-joined : (number : ℕ) (alone says : Bool) → set ≢ 0 → number ≡ number_named (set_named (state_of old) g set) → SetsBecome (joined sets handle number) → JoinsAt number alone says → IsStore new
+    IsStore-joined number alone says some is ok joins =
         other_sets g (joined sets handle number) refl
         (subst (λ m. IsSound (sets_changed (state_of old) g (joined sets handle m))) (sym is) (joined_sound false (eq-other set 0 some))) ok
-    IsStore-joined (Err v) number some is ok err = same_guests err
+        (told-joined (seen old.guests.items) _ old.streams.items g handle number (joins-joined (seen old.guests.items) g _ handle number guest_there) joins.home joins.is alone says
+        old.ready.items joins.between new.ready.items joins.leaves joins.joins (none_before number alone joins.empty)
+        (λ s side owner. joins.ready ∙ ready_is (state_of old) g number i.sound i.held old.ready.items i.told handle s side owner) i.told)
 
 -- the set that is joined is there
 pub joined_made : (state : State) (g set handle number : ℕ) → IsSound state → refusal state (OnSet g set (Join handle)) ≡ None → set ≢ 0 → number ≡ number_named (set_named state g set) → is_there (sets_in state.guests g) number ≡ true
@@ -134,10 +196,6 @@ pub record DropsSet (state : State) (g set number : ℕ) : Type 0 where
   pub made : is_there (sets_in state.guests g) number ≡ true
   pub empty : HasNoMember (sets_in state.guests g) number
 
-no_members : (xs : List ℕ) (n : ℕ) → has_some xs ≡ false → list_any (nat_eq n) xs ≡ false
-no_members [] n e = refl
-no_members (x ∷ xs) n e = cc
-
 pub drops_set : (state : State) (g set number : ℕ) → IsSound state → refusal state (OnSet g set Drop) ≡ None → number ≡ number_named (set_named state g set) → DropsSet state g set number
 drops_set state g set number h may is =
     let first = on_set_fits state g set Drop may in
@@ -157,6 +215,7 @@ pub record TakesSet (old new : Inside) (g set number : ℕ) : Type 0 where
   pub sets : sets_among (seen new.guests.items) + 1 ≡ sets_among (seen old.guests.items)
   pub live_sets : new.live_sets ≡ old.live_sets - 1
   pub guests : seen new.guests.items ≡ without_set_in (seen old.guests.items) g set number
+  pub ready : new.ready ≡ old.ready
 
 pub IsStore-dropped_set : (old new : Inside) (g set number : ℕ) → KeepsStreams old new → TakesSet old new g set number → refusal (state_of old) (OnSet g set Drop) ≡ None → number ≡ number_named (set_named (state_of old) g set) → IsStore old → IsStore new
 IsStore-dropped_set old new g set number k h may is i =
@@ -168,7 +227,9 @@ IsStore-dropped_set old new g set number k h may is i =
       bytes = k.bytes;
     })
     (subst IsSound (sym (state_with old new k (without_set_in (seen old.guests.items) g set (number_named (set_named (state_of old) g set))) (h.guests ∙ ap (without_set_in (seen old.guests.items) g set) is)))
-    (on_set-sound (state_of old) g set Drop i.sound may)) i
+    (on_set-sound (state_of old) g set Drop i.sound may))
+    (agrees_tables old new k (without_set_in (seen old.guests.items) g set (number_named (set_named (state_of old) g set))) (h.guests ∙ ap (without_set_in (seen old.guests.items) g set) is) h.ready
+    (members-with_table (seen old.guests.items) g _ _ (λ n q. refl)) (on_set-held (state_of old) g set Drop i.sound i.held may) i) i
 
 -- ## The member that a poll finds, by what a look at each member says
 
@@ -184,3 +245,34 @@ found_by says state g number there (Some handle) tells here some none =
 found_by says state g number there None tells here some none =
     sym (ready_member-none state g number
     (subst (λ k. NoneReady (λ n ready. is_ready state g n ≡ ready) k number) here (λ n m. tells n false (none n m))))
+
+-- ## The member that a poll finds, where the ready members are known
+
+-- a list of just the members that are ready
+abbrev pub ListsReady : List ℕ → State → ℕ → ℕ → Type 0
+ListsReady handles state g number = (n : ℕ) → is_in handles n ≡ (is_member (sets_in state.guests g) number n && is_ready state g n)
+
+both_true : (a b : Bool) → (a && b) ≡ true → (a ≡ true) × (b ≡ true)
+both_true true b e = (refl, e)
+both_true false b e = cc
+
+second_false : (a b : Bool) → (a && b) ≡ false → a ≡ true → b ≡ false
+second_false true b e t = e
+second_false false b e t = cc
+
+pub found_among : (handles : List ℕ) (state : State) (g number : ℕ) (found : Option ℕ) → ListsReady handles state g number → IfSome found (λ n. is_in handles n ≡ true) → IfSome found (λ n. (other : ℕ) → other < n → is_in handles other ≡ false) → IfNone found ((other : ℕ) → is_in handles other ≡ false) → found ≡ ready_member state g number
+found_among handles state g number (Some n) lists ready least none =
+    let is = both_true _ _ (sym (lists n) ∙ ready) in
+    sym (ready_member-least state g number n
+    (record { member = is.0; ready = is.1; least = λ other below m. second_false _ _ (sym (lists other) ∙ least other below) m }))
+found_among handles state g number None lists ready least none =
+    sym (ready_member-none state g number (λ other m. second_false _ _ (sym (lists other) ∙ none other) m))
+
+pub among_ready : (handles : List ℕ) (state : State) (g number : ℕ) (found : Option ℕ) → ListsReady handles state g number → IfSome found (λ n. is_in handles n ≡ true) → IfSome found (λ n. is_ready state g n ≡ true)
+among_ready handles state g number (Some n) lists ready = (both_true _ _ (sym (lists n) ∙ ready)).1
+among_ready handles state g number None lists ready = tt
+
+-- what is lent of what is known
+pub lists_lent : {A : Type 0} (lent : Option A) (handles : A → List ℕ) (known : Option (List ℕ)) (says : ℕ → Bool) → option_map handles lent ≡ known → ((n : ℕ) → IfSome known (λ list. is_in list n ≡ says n)) → IfSome lent (λ x. (n : ℕ) → is_in (handles x) n ≡ says n)
+lists_lent None handles known says e h = tt
+lists_lent (Some x) handles known says e h = λ n. subst (λ k. IfSome k (λ list. is_in list n ≡ says n)) (sym e) (h n)

@@ -2,7 +2,7 @@
 use Rattle.std.proofs.Common.{◌≡◌, ℕ, Bool, false, cond, get_or, set, ◌+◌, ◌<◌, ◌≤◌, List, [], ◌∷◌, ◌++◌, length, map, sum_by, refl, sym, ap, ◌∙◌, subst, None, replicate, arith, length-append}
 use Rattle.std.specs.Prelude.{sum, count_by, nat_lt, ◌*◌}
 use Rattle.std.proofs.Math.Seq.{map-set_same}
-use Rattle.std.proofs.lemmas.List.{map-append, length-map, length-replicate, length-set, get_or_default}
+use Rattle.std.proofs.lemmas.List.{map-append, length-map, length-replicate, length-set, get_or_default, get_or-set_same, get_or_push}
 use Rattle.std.proofs.lemmas.List.Sums.{sum_by_push, sum_by-set, sum-map}
 use Rattle.std.proofs.lemmas.Simd.{map-map}
 use Rattle.strm_machine.specs.Turns.{Turn}
@@ -17,7 +17,7 @@ use Rattle.strm_handles.proofs.HandleLemmas.{live_of-no_handles}
 use Rattle.strm_machine.specs.State as machine
 use Rattle.strm_memory.specs.Bytes.{put_at}
 use Rattle.strm_memory.specs.Linear.{untold}
-use Rattle.strm_sets.specs.Sets.{Sets, no_sets}
+use Rattle.strm_sets.specs.Sets.{Sets, no_sets, is_member}
 use Rattle.strm_contexts.specs.Contexts.{len as contexts_there}
 use Rattle.strm_machine.specs.State.{State, guest_in, no_guest, sets_in, no_stream, stream_at, memory_in, with_memory, with_sets, with_table, is_live, handles_in_use, sets_in_use, bytes_in_use}
 use Rattle.strm_machine.specs.Bases.{with_base, with_base_in}
@@ -32,7 +32,7 @@ use Rattle.strm_machine.specs.declared.acts.Making.TheVariants.{Guest, Between}
 use Rattle.strm_machine.specs.declared.acts.MemoryAct.TheVariants.{Poke}
 use Rattle.strm_machine.specs.declared.acts.Act.TheVariants.{Make, OnMemory}
 use Rattle.strm_machine.specs.declared.replies.Reply.TheVariants as replies
-use Rattle.strm_machine.proofs.RefusalLemmas.{BytesFit, guest_fits, poke_fits, pair_fits}
+use Rattle.strm_machine.proofs.RefusalLemmas.{BytesFit, PairFits, guest_fits, poke_fits, pair_fits}
 use Rattle.strm_machine.proofs.SoundLemmas.{IsSound-guest, IsSound-guests, IsSound-turn, IsSound-with_stream, sizes_of-with_handles}
 use Rattle.strm_machine.proofs.BoundLemmas.{length-poked}
 use Rattle.strm_machine.proofs.TurnLemmas.{GuestsKeep, TurnKeeps, all_kept, with_memory-keeps, sets_of}
@@ -45,6 +45,10 @@ use Rattle.strm_turns.specs.declared.guests.Guest as ours
 use Rattle.strm_transmit.specs.declared.store.Store.TheInside.{Inside}
 use Rattle.strm_transmit.proofs.ServedLemmas.{AreServed-set, AreServed-push, same_owners}
 use Rattle.strm_transmit.proofs.KeptLemmas.{have_set, have_push}
+use Rattle.strm_machine.proofs.HeldLemmas.{StateIsHeld, IsHeld, IsHeld-same, between_held}
+use Rattle.strm_machine.proofs.TableLemmas.{handles-same, handles-more, sets-more, owner-set_stays}
+use Rattle.strm_transmit.specs.Telling.{AreTold, Retells, member_of}
+use Rattle.strm_transmit.proofs.ToldLemmas.{SameMembers, told-more, members-sets, members-with_table, but-besides, besides-set, besides-push, told-same, told-retold}
 
 -- fields that a call leaves as they were
 pub record SameBut (old new : Inside) : Type 0 where
@@ -73,6 +77,7 @@ pub record AddsGuest (old new : Inside) (g : ours.Guest) (size : ℕ) : Type 0 w
   pub memory : g.memory ≡ untold (replicate size 0)
   pub handles : g.table.handles ≡ no_handles
   pub sets : g.sets ≡ no_sets
+  pub ready : new.ready.items ≡ old.ready.items ++ [] ∷ []
 
 state_of-guest : (old new : Inside) (g : ours.Guest) (size : ℕ) → AddsGuest old new g size → state_of new ≡ record (state_of old) { guests = seen old.guests.items ++ guest_of g ∷ [] }
 state_of-guest old new g size h =
@@ -100,6 +105,8 @@ IsStore-guest old new g size h e s =
     let bytes : bytes_in_use (state_of old) + length g.memory.bytes ≡ bytes_in_use (state_of new) = sym (sum_by_push (λ k. length k.memory) (seen old.guests.items) (guest_of g)) ∙ sym (ap bytes_in_use after) in
     record {
       sound = rw after sound;
+      held = subst StateIsHeld (sym after) (IsHeld-same (seen old.guests.items) (seen old.guests.items ++ guest_of g ∷ []) old.streams.items old.streams.items (λ k. handles-more (seen old.guests.items) (guest_of g) k h.handles) (λ k side. refl) s.held);
+      told = rw (h.streams, h.ready, h.guests, seen-push old.guests.items g) (told-same (seen old.guests.items) (seen old.guests.items ++ guest_of g ∷ []) old.streams.items _ (λ k number handle. ap (λ (x : Sets). is_member x number handle) (sets-more (seen old.guests.items) (guest_of g) k h.sets)) (told-more (seen old.guests.items) old.streams.items old.ready.items s.told));
       limit = rw (h.counter, h.same.limits) s.limit;
       live = ap (λ (c : Counter). c.live) h.counter ∙ s.live ∙ live;
       within = rw h.counter s.within;
@@ -225,12 +232,26 @@ kept_streams old new streams live same i = record {
   few = rw streams i.few_streams;
 }
 
+-- handles and ends agree, and what is known of ready members is so
+pub record Agrees (new : Inside) : Type 0 where
+  pub held : StateIsHeld (state_of new)
+  pub told : AreTold (seen new.guests.items) new.streams.items new.ready.items
+
+-- guests that keep their handles and sets, beside the same streams
+pub agrees_still : (old new : Inside) → GuestsKeep (seen old.guests.items) (seen new.guests.items) → new.streams.items ≡ old.streams.items → new.ready ≡ old.ready → IsStore old → Agrees new
+agrees_still old new guests streams ready i = record {
+  held = rw streams (IsHeld-same (seen old.guests.items) (seen new.guests.items) old.streams.items old.streams.items (λ k. handles-same (seen old.guests.items) (seen new.guests.items) k guests.handles) (λ k side. refl) i.held);
+  told = rw (streams, ready) (told-same (seen old.guests.items) (seen new.guests.items) old.streams.items old.ready.items (members-sets (seen old.guests.items) (seen new.guests.items) guests.sets) i.told);
+}
+
 -- the parts are the whole
-pub IsStore-counted : (old new : Inside) → CountsTables old new → CountsStreams new → IsSound (state_of new) → IsStore old → IsStore new
-IsStore-counted old new tables streams sound i =
+pub IsStore-counted : (old new : Inside) → CountsTables old new → CountsStreams new → IsSound (state_of new) → Agrees new → IsStore old → IsStore new
+IsStore-counted old new tables streams sound agrees i =
     let count = same_count (seen old.guests.items) (seen new.guests.items) tables.sizes in
     record {
       sound = sound;
+      held = agrees.held;
+      told = agrees.told;
       limit = tables.handles.limit;
       live = tables.handles.live;
       within = tables.handles.within;
@@ -263,6 +284,7 @@ pub record PutsGuests (old new : Inside) (put : List machine.Guest) : Type 0 whe
   pub live_streams : new.live_streams ≡ old.live_streams
   pub live_sets : new.live_sets ≡ old.live_sets
   pub count : new.bytes ≡ old.bytes
+  pub ready : new.ready ≡ old.ready
   pub guests : seen new.guests.items ≡ put
 
 -- other bytes in the memory of a guest
@@ -291,7 +313,8 @@ IsStore-guests old new guests h keeps i =
     IsStore-counted old new
     (kept_tables old new (record { limits = h.same.limits; counter = h.counter; live_sets = h.live_sets; bytes = h.count; guests = kept }) i)
     (kept_streams old new h.streams h.live_streams (record { producers = h.same.producers; kept = h.same.kept; consumers = h.same.consumers }) i)
-    (rw state (IsSound-guests (state_of old) (seen new.guests.items) kept i.sound)) i
+    (rw state (IsSound-guests (state_of old) (seen new.guests.items) kept i.sound))
+    (agrees_still old new kept (ap (λ (v : _). v.items) h.streams) h.ready i) i
 
 pub IsStore-base : (old new : Inside) (g : ℕ) (base : Ptr) → TellsBase old new g base → IsStore old → IsStore new
 IsStore-base old new g base h i = IsStore-guests old new _ h (with_base-keeps (seen old.guests.items) g base) i
@@ -332,6 +355,7 @@ pub record TakesTurn (old new : Inside) (s : ℕ) (t : Turn) : Type 0 where
   pub bytes : new.bytes ≡ old.bytes
   pub guests : seen new.guests.items ≡ t.guests
   pub streams : new.streams.items ≡ set old.streams.items s t.stream
+  pub retold : Retells t.guests t.stream old.ready.items new.ready.items
 
 abbrev pub live_by : Bool → ℕ
 live_by b = cond b 1 0
@@ -342,6 +366,21 @@ live_weight stream = live_by (is_live stream)
 
 pub live_sum : (streams : List Stream) (s : ℕ) (stream : Stream) → s < length streams → count_by is_live (set streams s stream) + live_weight (get_or streams s no_stream) ≡ count_by is_live streams + live_weight stream
 live_sum streams s stream l = sum_by-set live_weight streams s stream no_stream l
+
+-- what is known of the ends of the stream is as the turn left them
+agrees_turned : (old new : Inside) (s : ℕ) (t : Turn) → s < length old.streams.items → TurnKeeps (seen old.guests.items) (stream_at (state_of old) s) t → TakesTurn old new s t → IsStore old → Agrees new
+agrees_turned old new s t l keeps h i =
+    let before = seen old.guests.items in
+    let held : IsHeld t.guests (set old.streams.items s t.stream) = IsHeld-same before t.guests old.streams.items (set old.streams.items s t.stream)
+    (λ k. handles-same before t.guests k keeps.guests.handles)
+    (λ k side. owner-set_stays old.streams.items s t.stream k side (record { writer = keeps.stream.writer; reader = keeps.stream.reader })) i.held in
+    record {
+      held = rw (h.guests, h.streams) held;
+      told = rw (h.guests, h.streams)
+          (told-retold t.guests (set old.streams.items s t.stream) s held old.ready.items new.ready.items t.stream (get_or-set_same old.streams.items s t.stream no_stream l)
+          (but-besides before t.guests old.streams.items (set old.streams.items s t.stream) s old.ready.items (members-sets before t.guests keeps.guests.sets) (besides-set old.streams.items s t.stream) i.told)
+          h.retold);
+    }
 
 -- guests and one stream as a turn left them, which keeps handles, memory lengths, type and owners
 pub IsStore-turn : (old new : Inside) (s : ℕ) (t : Turn) → s < length old.streams.items → TurnKeeps (seen old.guests.items) (stream_at (state_of old) s) t → TakesTurn old new s t → IsStore old → IsStore new
@@ -357,7 +396,8 @@ IsStore-turn old new s t l keeps h i =
       kept = rw (h.producers, h.kept, h.streams) (have_set old.producers old.kept.items old.streams.items i.kept s t.stream l keeps.stream.payload);
       few = rw (h.streams, length-set old.streams.items s t.stream) i.few_streams;
     })
-    (IsSound-same (record (state_of old) { guests = t.guests; streams = set old.streams.items s t.stream }) (state_of new) h.guests h.streams h.contexts (IsSound-turn (state_of old) s t keeps i.sound)) i
+    (IsSound-same (record (state_of old) { guests = t.guests; streams = set old.streams.items s t.stream }) (state_of new) h.guests h.streams h.contexts (IsSound-turn (state_of old) s t keeps i.sound))
+    (agrees_turned old new s t l keeps h i) i
   where
     as_many : (a w b v n : ℕ) → a + w ≡ b + v → v ≡ w → n ≡ b → n ≡ a
     as_many a w b v n e f g = omega (arith, e, f, g)
@@ -369,10 +409,15 @@ IsStore-kept s producers consumers h k i =
     IsStore-counted s new
     (kept_tables s new (record { limits = refl; counter = refl; live_sets = refl; bytes = refl; guests = all_kept (seen s.guests.items) }) i)
     (record { live = i.streams; served = h; kept = k; few = i.few_streams })
-    (IsSound-same (state_of s) (state_of new) refl refl refl i.sound) i
+    (IsSound-same (state_of s) (state_of new) refl refl refl i.sound)
+    (agrees_still s new (all_kept (seen s.guests.items)) refl refl i) i
 
 pub stream_at-there : (s : Inside) (stream : ℕ) (x : Stream) → stream < length s.streams.items → x ≡ get_or s.streams.items stream x → stream_at (state_of s) stream ≡ x
 stream_at-there s stream x l e = get_or_default s.streams.items stream no_stream x l ∙ sym e
+
+-- the stream that an index reads once one was set there
+pub set_at : (old : List Stream) (new : List Stream) (s : ℕ) (given x : Stream) → s < length old → new ≡ set old s given → x ≡ get_or new s x → x ≡ given
+set_at old new s given x l e is = is ∙ ap (λ (xs : List Stream). get_or xs s x) e ∙ get_or-set_same old s given x l
 
 -- ## One stream more
 
@@ -396,6 +441,7 @@ pub record MakesStream (old new : Inside) (writer reader : ℕ) (ty : TransmitIn
   pub bytes : new.bytes ≡ old.bytes
   pub guests : seen new.guests.items ≡ with_ends (seen old.guests.items) writer reader ty (length old.streams.items)
   pub streams : new.streams.items ≡ old.streams.items ++ stream_made old writer reader ty ∷ []
+  pub retold : Retells (seen new.guests.items) (stream_made old writer reader ty) old.ready.items new.ready.items
 
 state_of-made : (old new : Inside) (writer reader : ℕ) (ty : TransmitIndex) → MakesStream old new writer reader ty → state_of new ≡ with_stream (state_of old) writer reader ty
 unfolding with_stream
@@ -415,6 +461,26 @@ sets-made : (guests : List machine.Guest) (writer reader : ℕ) (ty : TransmitIn
 sets-made guests writer reader ty s =
     let held = with_read_end guests reader ty s in
     sets-with_table held writer _ (sets_in held writer) refl ∙ sets-with_table guests reader _ (sets_in guests reader) refl
+
+members-made : (guests : List machine.Guest) (writer reader : ℕ) (ty : TransmitIndex) (s : ℕ) → SameMembers guests (with_ends guests writer reader ty s)
+members-made guests writer reader ty s k number handle =
+    let held = with_read_end guests reader ty s in
+    members-with_table held writer _ (sets_in held writer) (λ n q. refl) k number handle ∙ members-with_table guests reader _ (sets_in guests reader) (λ n q. refl) k number handle
+
+-- what is known of the ends of the stream is as they were made
+agrees_made : (old new : Inside) (writer reader : ℕ) (ty : TransmitIndex) → MakesStream old new writer reader ty → PairFits (state_of old) writer reader ty → IsStore old → Agrees new
+agrees_made old new writer reader ty h fits i =
+    let guests = seen old.guests.items in
+    let stream = stream_made old writer reader ty in
+    let s = length old.streams.items in
+    let held : StateIsHeld (state_of new) = subst StateIsHeld (sym (state_of-made old new writer reader ty h)) (between_held (state_of old) writer reader ty fits i.held) in
+    record {
+      held = held;
+      told = rw h.streams
+          (told-retold (seen new.guests.items) (old.streams.items ++ stream ∷ []) s (rw h.streams at held) old.ready.items new.ready.items stream (get_or_push old.streams.items stream no_stream s refl)
+          (but-besides guests (seen new.guests.items) old.streams.items (old.streams.items ++ stream ∷ []) s old.ready.items (λ k number handle. ap (λ (x : _). member_of x k number handle) h.guests ∙ members-made guests writer reader ty s k number handle) (besides-push old.streams.items stream) i.told)
+          h.retold);
+    }
 
 pub IsStore-made : (old new : Inside) (writer reader : ℕ) (ty : TransmitIndex) → MakesStream old new writer reader ty → refusal (state_of old) (Make (Between writer reader ty)) ≡ None → IsStore old → IsStore new
 IsStore-made old new writer reader ty h e i =
@@ -439,7 +505,8 @@ IsStore-made old new writer reader ty h e i =
       kept = rw (h.same.producers, h.same.kept, h.streams) (have_push old.producers old.kept.items old.streams.items i.kept old.consumers stream i.served);
       few = rw h.streams (omega (arith, fits.streams, length-append old.streams.items (stream ∷ [])));
     })
-    (subst IsSound (sym (state_of-made old new writer reader ty h)) (IsSound-with_stream (state_of old) writer reader ty fits.read fits.write i.sound)) i
+    (subst IsSound (sym (state_of-made old new writer reader ty h)) (IsSound-with_stream (state_of old) writer reader ty fits.read fits.write i.sound))
+    (agrees_made old new writer reader ty h fits i) i
 
 -- the numbers that the two handles got
 abbrev pub numbers_of : Inside → ℕ → ℕ → TransmitIndex → ℕ → ℕ × ℕ

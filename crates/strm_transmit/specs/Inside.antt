@@ -13,7 +13,9 @@ use Rattle.strm_machine.specs.declared.streams.Owner.TheVariants.{Host}
 use Rattle.strm_machine.specs.declared.streams.Producer.{Producer}
 use Rattle.strm_machine.specs.declared.streams.Side.{Side}
 use Rattle.strm_machine.specs.declared.streams.Stream.{Stream}
+use Rattle.strm_machine.proofs.HeldLemmas.{StateIsHeld}
 use Rattle.strm_turns.specs.Guests.{seen}
+use Rattle.strm_transmit.specs.Telling.{AreTold}
 use Rattle.strm_transmit.specs.declared.store.Store.TheInside.{Inside}
 
 -- of host writers for which the store has no place yet nothing is kept
@@ -60,9 +62,12 @@ pub record HavePlaces (producers : List Producer) (kept : List TypedItems) (stre
   pub unused : (n : ℕ) → (slice_index_or producers n no_producer).duty ≡ Unused →
       (slice_index_or kept n nothing_kept).items ≡ []
 
--- handles name streams and sets, and operations lie in memory; what is counted is what is there
+-- handles name streams and sets, and operations lie in memory; an end that a handle names is its guest's
+-- under that handle; what is counted is what is there, and what is known of ready members is so
 pub record IsStore (s : Inside) : Type 0 where
   pub sound : IsSound (state_of s)
+  pub held : StateIsHeld (state_of s)
+  pub told : AreTold (seen s.guests.items) s.streams.items s.ready.items
   pub limit : s.counter.limit ≡ s.limits.handles
   pub live : s.counter.live ≡ handles_in_use (state_of s)
   pub within : s.counter.live ≤ s.counter.limit

@@ -1,4 +1,5 @@
 pub mod Celled
+pub mod Telling
 pub mod Inside
 pub mod Keeping
 pub mod Lending

@@ -10,6 +10,7 @@
 pub mod errors;
 pub mod steps;
 pub mod store;
+mod telling;
 
 pub use strm_machine::chunks::Chunk;
 pub use strm_machine::limits::Limits;

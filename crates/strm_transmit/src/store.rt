@@ -35,6 +35,7 @@ use strm_contexts::contexts::ErrorContexts;
 use strm_handles::counters::HandleCounter;
 use strm_machine::limits::Limits;
 use strm_machine::streams::{Consumer, Duty, Producer};
+use strm_sets::ready::ReadySets;
 use strm_turns::channels::Channel;
 use strm_turns::guests::Guest;
 use strm_turns::owners::is_live;
@@ -86,6 +87,8 @@ pub struct Store {
     // The bytes of all memories together.
     bytes: u32,
     is_trapped: bool,
+    // What is known of the ready members of each guest's sets.
+    ready: Vec<ReadySets>,
     alloc: Global,
 }
 
@@ -134,6 +137,7 @@ impl Store {
             live_sets: 0,
             bytes: 0,
             is_trapped: false,
+            ready: Vec::new(alloc),
             alloc,
         }
     }

@@ -5,7 +5,7 @@
 //! `canon stream.cancel-{read,write}` and those of `canon future`; wasmtime, `guest_drop_readable`,
 //! `guest_drop_writable`, `guest_cancel_read` and `guest_cancel_write`.
 
-ghost use Rattle.std.specs.Prelude.{◌≡◌, ◌≢◌, ◌<◌, true, length, Err, IfOk, IfErr, is_some};
+ghost use Rattle.std.specs.Prelude.{◌≡◌, ◌≢◌, ◌<◌, true, length, Err, IfOk, IfErr, IsSome, is_some};
 ghost use Rattle.std.specs.Option.{option_map};
 ghost use Rattle.strm_codes.specs.declared.codes.TransmitIndex.TheVariants as index;
 ghost use Rattle.strm_buffers.specs.AllTells.{tells_of};
@@ -19,6 +19,7 @@ ghost use Rattle.strm_machine.specs.declared.acts.Act.TheVariants.{OnEnd, Event}
 ghost use Rattle.strm_machine.specs.declared.acts.EndAct.TheVariants.{Drop, Cancel};
 ghost use Rattle.strm_machine.specs.declared.replies.Reply.TheVariants as replies;
 ghost use Rattle.strm_machine.specs.declared.steps.Step.TheVariants as steps;
+ghost use Rattle.strm_machine.specs.declared.streams.Owner.TheVariants.{Held};
 ghost use Rattle.strm_machine.proofs.NameLemmas.{IsEndError};
 ghost use Rattle.strm_world.specs.Does.{Fits};
 ghost use Rattle.strm_transmit.specs.Celled.{cell_named};
@@ -28,6 +29,7 @@ ghost use Rattle.strm_transmit.specs.Hosted.{StillFits, MeetsHosted};
 use crate::errors::StoreError;
 use crate::store::Store;
 use crate::store::refusals::{refusal_of, side_of};
+use crate::telling::retell;
 use strm_buffers::hosts::Hosts;
 use strm_codes::codes::{ReturnCode, TransmitIndex};
 use strm_codes::payloads::Payload;
@@ -51,6 +53,9 @@ impl Store {
         ensures answer { result ≡ end_named self.now guest handle }
         ensures there { IfOk result (λ name. name.0 < length self.now.streams) }
         ensures others { IfErr result IsEndError }
+        ensures own { IfOk result (λ name.
+            (end_of (side_named (end_named self.now guest handle))
+            (stream_at self.now (stream_named (end_named self.now guest handle)))).owner ≡ Held guest handle) }
     {
         self.guests[guest as usize].table.end_rep(handle)
     }
@@ -73,7 +78,11 @@ impl Store {
     /// exactly where no such guest is there, or the handle is no end of a stream or future. It takes
     /// no memory.
     pub fn cell(&self, guest: u32, handle: u32) -> Option<&EventCell>
-        ensures { option_map (λ cell. cell.now) result ≡ cell_named self.now guest handle }
+        ensures exact { option_map (λ cell. cell.now) result ≡ cell_named self.now guest handle }
+        // And the end is this guest's, under this handle: none that was moved or dropped.
+        ensures own { IsSome result →
+            (end_of (side_named (end_named self.now guest handle))
+            (stream_at self.now (stream_named (end_named self.now guest handle)))).owner ≡ Held guest handle }
     {
         if self.is_unknown_guest(guest) {
             return None;
@@ -104,7 +113,10 @@ impl Store {
         requires { stream < length self.old.streams }
         ensures { tells self.old stream side ≡ goes (replies.Event result) self.new }
     {
-        self.streams[stream as usize].deliver(side)
+        let meeting = &mut self.streams[stream as usize];
+        let told = meeting.deliver(side);
+        retell(&mut self.ready, &self.guests, meeting);
+        told
     }
 
     /// What the end that a handle names is to be told, if anything: the report of its read or
@@ -258,7 +270,10 @@ impl Store {
         requires busy { is_some (end_of side (stream_at self.old stream)).operation ≡ true }
         ensures { cancels self.old stream side ≡ goes (replies.Code result) self.new }
     {
-        cancel_operation(&mut self.streams[stream as usize], side)
+        let meeting = &mut self.streams[stream as usize];
+        let code = cancel_operation(meeting, side);
+        retell(&mut self.ready, &self.guests, meeting);
+        code
     }
 
     /// Cancels the operation of the end that a handle names. It ends with what it was to be told, of

@@ -22,6 +22,7 @@ ghost use Rattle.strm_transmit.specs.Hosted.{StillFits};
 
 use crate::errors::StoreError;
 use crate::store::Store;
+use crate::telling::retell;
 use strm_codes::codes::TransmitIndex;
 use strm_codes::payloads::Payload;
 use strm_codes::refusals::Refusal;
@@ -150,6 +151,7 @@ impl Store {
                 handle: read,
             },
         );
+        retell(&mut self.ready, &self.guests, &joined);
         self.streams.push_reserved(joined);
         self.live_streams += 1;
         Ok(Pair {

@@ -8,7 +8,8 @@ ghost use Rattle.std.specs.Prelude.{◌≡◌, ◌≢◌, ◌<◌, false, length
 ghost use Rattle.strm_codes.specs.declared.codes.TransmitIndex.TheVariants as index;
 ghost use Rattle.strm_buffers.specs.AllTells.{tells_of};
 ghost use Rattle.strm_machine.specs.Acts.{act_of};
-ghost use Rattle.strm_machine.specs.State.{stream_at, is_host};
+ghost use Rattle.strm_machine.specs.State.{stream_at, is_held, is_host};
+ghost use Rattle.strm_machine.specs.Sides.{end_of};
 ghost use Rattle.strm_machine.specs.Tests.{named, stream_named, side_named, same_kind, is_unknown_reader};
 ghost use Rattle.strm_machine.specs.Moves.{without_handle, next_in, with_owner};
 ghost use Rattle.strm_machine.specs.Refusals.{refusal, first_of, last_reasons, given_reasons};
@@ -25,6 +26,7 @@ ghost use Rattle.strm_transmit.specs.Hosted.{StillFits, MeetsHosted};
 
 use crate::errors::StoreError;
 use crate::store::Store;
+use crate::telling::{home_of, leave, retell};
 use strm_buffers::hosts::Hosts;
 use strm_codes::codes::{TransmitIndex, TransmitKind};
 use strm_codes::payloads::Payload;
@@ -50,12 +52,19 @@ impl Store {
     // An end of a stream has another owner.
     pub(crate) fn own(&mut self, stream: u32, side: Side, owner: Owner)
         requires there { stream < length self.old.streams }
+        requires unheld { is_held (end_of side (stream_at self.old stream)).owner ≡ false }
         requires owner { is_host owner ≡ false }
+        requires given { is_held owner ≡ false }
         ensures { self.new ≡ with_stream_at self.old stream
             (with_owner side (stream_at self.old stream) owner) }
     {
         let (streams, live_streams) = (&mut self.streams, &mut self.live_streams);
         set_owner(streams, live_streams, stream as usize, side, owner);
+        retell(
+            &mut self.ready,
+            &self.guests,
+            &self.streams[stream as usize],
+        );
     }
 
     // A guest's handle is freed, and the end of a stream that it names has another owner.
@@ -63,13 +72,21 @@ impl Store {
         requires fits { LeaveFits self.old side end.now }
         requires stream { stream ≡ stream_named (named self.old end.now) }
         requires owner { is_host owner ≡ false }
+        requires given { is_held owner ≡ false }
         ensures { self.new ≡ with_stream_at (without_handle self.old end.now.guest end.now.handle)
             stream (with_owner side (stream_at self.old stream) owner) }
     {
+        let home = home_of(&self.guests, end.guest as usize, end.handle);
         let (guests, counter) = (&mut self.guests, &mut self.counter);
         remove_end(guests, counter, side, end);
         let (streams, live_streams) = (&mut self.streams, &mut self.live_streams);
         set_owner(streams, live_streams, stream as usize, side, owner);
+        leave(&mut self.ready, end.guest as usize, home, end.handle);
+        retell(
+            &mut self.ready,
+            &self.guests,
+            &self.streams[stream as usize],
+        );
     }
 
     // The number that an end gets in a guest's table, once its handle is freed.
@@ -138,11 +155,18 @@ impl Store {
         ensures takes_no_memory { end.now.guest ≡ to → result ≢ Err StoreError.OutOfMemory }
     {
         let (stream, side) = found;
+        let home = home_of(&self.guests, end.guest as usize, end.handle);
         let (guests, counter) = (&mut self.guests, &mut self.counter);
         let handle = move_end(guests, counter, side, end, to as usize, stream)?;
         let owner = Owner::Held { guest: to, handle };
         let (streams, live_streams) = (&mut self.streams, &mut self.live_streams);
         set_owner(streams, live_streams, stream as usize, side, owner);
+        leave(&mut self.ready, end.guest as usize, home, end.handle);
+        retell(
+            &mut self.ready,
+            &self.guests,
+            &self.streams[stream as usize],
+        );
         Ok(handle)
     }
 
@@ -290,6 +314,11 @@ impl Store {
         let owner = Owner::Held { guest, handle };
         let (streams, live_streams) = (&mut self.streams, &mut self.live_streams);
         set_owner(streams, live_streams, reader as usize, Side::Reading, owner);
+        retell(
+            &mut self.ready,
+            &self.guests,
+            &self.streams[reader as usize],
+        );
         Ok(handle)
     }
 

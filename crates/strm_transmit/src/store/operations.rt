@@ -30,6 +30,7 @@ ghost use Rattle.strm_transmit.specs.Hosted.{lone, IsHandedOver, MeetsHosted, St
 
 use crate::errors::StoreError;
 use crate::store::Store;
+use crate::telling::retell;
 use strm_buffers::hosts::Hosts;
 use strm_codes::codes::{ReturnCode, TransmitIndex};
 use strm_codes::counts::{ItemCount, StreamOpTooBig};
@@ -146,7 +147,9 @@ impl Store {
         ensures takes_no_memory { result ≢ Err StoreError.OutOfMemory }
     {
         let meeting = &mut self.streams[stream as usize];
-        match take_turn(self.alloc, &mut self.guests, meeting, payload, side, mine) {
+        let taken = take_turn(self.alloc, &mut self.guests, meeting, payload, side, mine);
+        retell(&mut self.ready, &self.guests, meeting);
+        match taken {
             Ok(code) => Ok(code),
             Err(_) => {
                 self.is_trapped = true;

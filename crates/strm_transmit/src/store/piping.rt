@@ -3,9 +3,9 @@
 //! Meaning: `Attaching.antt` and `HostRefusals.antt` of `strm_world`. Source: wasmtime,
 //! `StreamReader::pipe` and `FutureReader::pipe`.
 
-ghost use Rattle.std.specs.Prelude.{◌≡◌, ◌≢◌, ◌<◌, Err, length, Ok, Some};
+ghost use Rattle.std.specs.Prelude.{◌≡◌, ◌≢◌, ◌<◌, true, false, Err, length, Ok, Some};
 ghost use Rattle.strm_buffers.specs.AllTells.{tells_of};
-ghost use Rattle.strm_machine.specs.State.{host_limit, consumer_at, stream_at, is_loose};
+ghost use Rattle.strm_machine.specs.State.{host_limit, consumer_at, stream_at, is_held, is_loose};
 ghost use Rattle.strm_machine.specs.Refusals.{first_of, reader_reasons};
 ghost use Rattle.strm_machine.specs.Reactions.{with_stream_at};
 ghost use Rattle.strm_machine.specs.Soundness.{type_with};
@@ -13,7 +13,9 @@ ghost use Rattle.strm_machine.specs.declared.acts.Act.TheVariants.{OnHost};
 ghost use Rattle.strm_machine.specs.declared.acts.HostAct.TheVariants.{Pipe};
 ghost use Rattle.strm_machine.specs.declared.replies.Reply.TheVariants as replies;
 ghost use Rattle.strm_machine.specs.declared.streams.Duty.TheVariants.{Unused, Serves};
+ghost use Rattle.strm_machine.specs.Sides.{end_of};
 ghost use Rattle.strm_machine.specs.declared.streams.Owner.TheVariants.{Loose};
+ghost use Rattle.strm_machine.specs.declared.streams.Side.{Side};
 ghost use Rattle.strm_world.specs.Attaching.{is_dry, without_ends, pipes};
 ghost use Rattle.strm_world.specs.HostRefusals.{refusal_in};
 ghost use Rattle.strm_world.specs.Does.{Logs, world_of, Fits, Does};
@@ -25,6 +27,7 @@ use crate::errors::StoreError;
 use crate::store::hosting::is_unknown_host;
 use crate::store::moves::same_kind;
 use crate::store::{Store, type_with};
+use crate::telling::retell;
 use strm_buffers::hosts::Hosts;
 use strm_codes::codes::TransmitIndex;
 use strm_codes::refusals::Refusal;
@@ -86,12 +89,15 @@ impl Store {
         requires { stream < length self.old.streams }
         ensures { self.new ≡ with_stream_at self.old stream (report_withdrawn (stream_at self.old stream)) }
     {
-        withdraw(&mut self.streams[stream as usize]);
+        let meeting = &mut self.streams[stream as usize];
+        withdraw(meeting);
+        retell(&mut self.ready, &self.guests, meeting);
     }
 
     // A stream has its read end at a host reader that was not used.
     fn hand_to(&mut self, stream: u32, host: u32)
         requires there { stream < length self.old.streams }
+        requires loose { is_loose (stream_at self.old stream).reader.owner ≡ true }
         requires known { host < host_limit }
         requires unused { (consumer_at self.old host).duty ≡ Unused }
         ensures { self.new ≡ handed_to self.old stream host }
@@ -99,6 +105,11 @@ impl Store {
         let (streams, live_streams) = (&mut self.streams, &mut self.live_streams);
         let owner = Owner::Host { number: host };
         set_owner(streams, live_streams, stream as usize, Side::Reading, owner);
+        retell(
+            &mut self.ready,
+            &self.guests,
+            &self.streams[stream as usize],
+        );
         self.consumers[host as usize] = Consumer {
             duty: Duty::Serves { stream },
             since: 0,
@@ -127,7 +138,8 @@ impl Store {
 
     // Both ends of a stream are gone.
     pub(crate) fn end_stream(&mut self, stream: u32)
-        requires { stream < length self.old.streams }
+        requires there { stream < length self.old.streams }
+        requires unheld { (side : Side) → is_held (end_of side (stream_at self.old stream)).owner ≡ false }
         ensures { self.new ≡ with_stream_at self.old stream (without_ends (stream_at self.old stream)) }
     {
         self.own(stream, Side::Reading, Owner::Gone);
@@ -137,6 +149,7 @@ impl Store {
     // A pipe ends: both ends of the stream are gone, and host ends are closed.
     pub(crate) fn end_pipe(&mut self, hosts: &mut Hosts, stream: u32, host: u32)
         requires there { stream < length self.old.streams }
+        requires unheld { (side : Side) → is_held (end_of side (stream_at self.old stream)).owner ≡ false }
         requires serves { (consumer_at self.old host).duty ≡ Serves stream }
         requires fits { Fits self.old (tells_of writer_tells reader_tells hosts.old) }
         ensures { EndsPipe (stream_at self.old stream).writer.owner self.old self.new

@@ -4,9 +4,10 @@
 //! `Reactions.antt`. Source: Canonical ABI, `canon waitable-set.{new,poll,drop}` and
 //! `canon waitable.join`. Ours: a poll answers the least member that is ready.
 
-ghost use Rattle.std.specs.Prelude.{◌≡◌, ◌≢◌, ◌<◌, ◌+◌, ◌∷◌, [], true, length, Err, Some, None, IfOk, IfErr, IfSome};
+ghost use Rattle.std.specs.Prelude.{◌≡◌, ◌≢◌, ℕ, ◌<◌, ◌+◌, ◌&&◌, ◌∷◌, [], true, length, Err, Some, None, IfOk, IfErr, IfSome};
 ghost use Rattle.strm_codes.specs.declared.refusals.Refusal.TheVariants as refusals;
-ghost use Rattle.strm_sets.specs.Sets.{is_there};
+ghost use Rattle.strm_sets.specs.Ready.{is_in};
+ghost use Rattle.strm_sets.specs.Sets.{is_there, is_member};
 ghost use Rattle.strm_machine.specs.State.{sets_in};
 ghost use Rattle.strm_machine.specs.WaitableSets.{set_named, number_named, has_member, is_in_set, is_ready, ready_member, without_set_named};
 ghost use Rattle.strm_machine.specs.Refusals.{where_, refusal, first_of, slot_reasons, joined_reasons};
@@ -23,9 +24,11 @@ ghost use Rattle.strm_transmit.specs.Hosted.{StillFits};
 use crate::errors::StoreError;
 use crate::store::Store;
 use crate::store::refusals::{refusal_of, side_of};
+use crate::telling::{home_of, join, leave};
 use strm_codes::refusals::Refusal;
 use strm_handles::errors::HandleError;
 use strm_machine::replies::Member;
+use strm_sets::ready::ReadyMembers;
 use strm_turns::sets::{give_set, has_member, is_in_set, join_set, leave_set, remove_set};
 
 // One more than a count that is below a limit, which is there for the contract alone.
@@ -150,11 +153,18 @@ impl Store {
         ensures { Meets self.old self.new (replied (λ _. replies.Done) result)
             (joins self.old guest set handle) }
     {
+        let home = home_of(&self.guests, guest as usize, handle);
         if set == 0 {
             leave_set(&mut self.guests, guest as usize, handle);
+            leave(&mut self.ready, guest as usize, home, handle);
             return Ok(());
         }
+        let is_empty = !has_member(&self.guests, guest as usize, number);
+        let is_ready = self.is_ready(guest, handle);
         join_set(&mut self.guests, guest as usize, number, handle)?;
+        let (ready, guest) = (&mut self.ready, guest as usize);
+        leave(ready, guest, home, handle);
+        join(ready, guest, number, is_empty, handle, is_ready);
         Ok(())
     }
 
@@ -193,8 +203,20 @@ impl Store {
         }
     }
 
-    // The least member of a set that is ready. No member behind it is looked at.
-    fn ready_member(&self, guest: u32, number: u32) -> Option<u32>
+    // The ready members of a set, where they are known.
+    fn known(&self, guest: u32, number: u32) -> Option<&ReadyMembers>
+        ensures { IfSome result (λ members. (handle : ℕ) → is_in members.now handle
+            ≡ (is_member (sets_in self.now.guests guest) number handle && is_ready self.now guest handle)) }
+    {
+        if guest as usize >= self.ready.len() {
+            return None;
+        }
+        self.ready[guest as usize].known(number)
+    }
+
+    // The least member of a set that is ready, where the members are asked one by one. No member behind
+    // it is looked at.
+    fn first_ready(&self, guest: u32, number: u32) -> Option<u32>
         requires there { guest < length self.now.guests }
         requires made { is_there (sets_in self.now.guests guest) number ≡ true }
         ensures exact { result ≡ ready_member self.now guest number }
@@ -202,6 +224,19 @@ impl Store {
     {
         let sets = &self.guests[guest as usize].sets;
         sets.poll(number, |handle| self.is_ready(guest, handle))
+    }
+
+    // The least member of a set that is ready. Where the ready members are known, no other is looked at.
+    fn ready_member(&self, guest: u32, number: u32) -> Option<u32>
+        requires there { guest < length self.now.guests }
+        requires made { is_there (sets_in self.now.guests guest) number ≡ true }
+        ensures exact { result ≡ ready_member self.now guest number }
+        ensures ready { IfSome result (λ handle. is_ready self.now guest handle ≡ true) }
+    {
+        match self.known(guest, number) {
+            Some(members) => members.least(),
+            None => self.first_ready(guest, number),
+        }
     }
 
     // A member that is ready is told its report.

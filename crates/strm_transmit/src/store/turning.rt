@@ -27,6 +27,7 @@ ghost use Rattle.strm_transmit.specs.Turning.{TurnsStream, TakesStream, stops_by
 
 use crate::errors::StoreError;
 use crate::store::Store;
+use crate::telling::retell;
 use std::alloc::Global;
 use strm_buffers::hosts::Hosts;
 use strm_codes::codes::ReturnCode;
@@ -151,6 +152,7 @@ impl Store {
     {
         let meeting = &mut self.streams[stream as usize];
         meeting.begin(side, operation.guest, operation.address, operation.left);
+        retell(&mut self.ready, &self.guests, meeting);
     }
 
     // The turn of the host writer that serves a stream, for the open read on it.
@@ -176,6 +178,7 @@ impl Store {
         let producer = &mut self.producers[number as usize];
         let (guests, place) = (&mut self.guests, number as usize);
         let turned = turn_of(self.alloc, guests, served, producer, hosts, place, read);
+        retell(&mut self.ready, &self.guests, served);
         self.live_streams = self.live_streams - u32::from(was_live) + u32::from(is_live(served));
         turned
     }
@@ -203,6 +206,7 @@ impl Store {
         let consumer = &mut self.consumers[number as usize];
         let (guests, place) = (&mut self.guests, number as usize);
         let taken = take_of(self.alloc, guests, served, consumer, hosts, place, write);
+        retell(&mut self.ready, &self.guests, served);
         self.live_streams = self.live_streams - u32::from(was_live) + u32::from(is_live(served));
         taken
     }

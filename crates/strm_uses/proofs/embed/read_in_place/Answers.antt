@@ -14,6 +14,6 @@ pub returns-else-has_guest-2 : goal.returns-else-has_guest-2
 returns-else-has_guest-2 c =
     let guest = c.args.guest in
     let told : base_in c.memory_base-before.new.self.guests guest ≡ Some c.memory_base-before.result =
-        ap (λ (s : State). base_in s.guests guest) c.memory_base-before.ensures.told
-        ∙ told_there c.args.store.now.guests guest c.memory_base-before.result (c.has_guest.ensures.0 c.if-has_guest.true) in
+    ap (λ (s : State). base_in s.guests guest) c.memory_base-before.ensures.told
+    ∙ told_there c.args.store.now.guests guest c.memory_base-before.result (c.has_guest.ensures.0 c.if-has_guest.true) in
     sym (subst (λ (o : Option Ptr). IfSome o (λ base. c.memory_base-after.result ≡ base)) (c.stream_read.ensures.stays guest ∙ told) c.memory_base-after.ensures.again)

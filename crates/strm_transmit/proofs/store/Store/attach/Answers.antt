@@ -1,5 +1,5 @@
 use Rattle.std.proofs.Common.{◌∙◌, true, false}
-use Rattle.strm_transmit.proofs.PipeStoreLemmas.{may_attach, handed-is, mid_fits, dry_before, pipes-goes, pipes-ended_by, ended-fits_by}
+use Rattle.strm_transmit.proofs.PipeStoreLemmas.{may_attach, handed-is, mid_fits, dry_before, pipes-goes, pipes-ended_by, ended-fits_by, pipe_made, withdrawn_loose, withdrawn_made, piped_unheld}
 use Rattle.strm_transmit.proofs.store.Store.attach.Goals as goal
 
 pub is_dry-requires-clause-fits : goal.is_dry-requires-clause-fits
@@ -34,3 +34,14 @@ pub returns-else-is_dry-clause-fits : goal.returns-else-is_dry-clause-fits
 returns-else-is_dry-clause-fits g c =
     let h = may_attach c.args.self.now _ c.args.stream c.args.host c.served.ensures c.requires.may c.requires.fits in
     mid_fits _ _ _ _ h _ (c.hand_to.ensures ∙ handed-is _ _ _ _ h _ c.withdraw_report.ensures)
+
+pub hand_to-requires-clause-loose : goal.hand_to-requires-clause-loose
+hand_to-requires-clause-loose g c =
+    let h = may_attach c.args.self.now _ c.args.stream c.args.host c.served.ensures c.requires.may c.requires.fits in
+    withdrawn_loose c.args.self.now c.withdraw_report.new.self c.args.stream (pipe_made _ _ _ _ h) c.withdraw_report.ensures c.requires.may.loose
+
+pub end_pipe-requires-clause-unheld : goal.end_pipe-requires-clause-unheld
+end_pipe-requires-clause-unheld g c =
+    let h = may_attach c.args.self.now _ c.args.stream c.args.host c.served.ensures c.requires.may c.requires.fits in
+    piped_unheld _ _ _ _ h c.withdraw_report.new.self c.hand_to.new.self
+    (withdrawn_made c.args.self.now c.withdraw_report.new.self c.args.stream (pipe_made _ _ _ _ h) c.withdraw_report.ensures) c.hand_to.ensures c.if-is_dry.ensures

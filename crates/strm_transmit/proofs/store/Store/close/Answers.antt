@@ -3,7 +3,7 @@ use Rattle.strm_world.proofs.OutcomeLemmas.{refusal_in-on_loose}
 use Rattle.strm_transmit.proofs.StepLemmas.{is_admitted, meets_not_admitted}
 use Rattle.strm_transmit.proofs.HostStepLemmas.{hosted_not_admitted}
 use Rattle.strm_transmit.proofs.DropLemmas.{drops-loose, drops-loose-alone, dropped-fits, drops-hosted, still_made}
-use Rattle.strm_transmit.proofs.MoveLemmas.{close_made}
+use Rattle.strm_transmit.proofs.MoveLemmas.{close_made, close_unheld}
 use Rattle.strm_transmit.proofs.store.Store.close.Goals as goal
 
 pub own-requires-clause-there : goal.own-requires-clause-there
@@ -34,3 +34,7 @@ pub forsake-requires-clause-there : goal.forsake-requires-clause-there
 forsake-requires-clause-there g c =
     still_made c.args.self.now c.own.new.self c.args.reader _ c.own.ensures
     (close_made c.args.self.now c.args.reader (is_admitted c.args.self.now _ _ _ _ c.close_fits.ensures c.in-Ok.ensures.exact).none)
+
+pub own-requires-clause-unheld : goal.own-requires-clause-unheld
+own-requires-clause-unheld g c =
+    close_unheld c.args.self.now c.args.reader (is_admitted c.args.self.now _ _ _ _ c.close_fits.ensures c.in-Ok.ensures.exact).none

@@ -32,5 +32,6 @@ invariant_of-self c =
       sets = c.remove_set.ensures.sets;
       live_sets = refl;
       guests = c.remove_set.ensures.guests;
+      ready = refl;
     })
     (rw (← c.self.view_is) at c.requires.may) (rw (← c.self.view_is) at c.requires.number) c.self.invariant

@@ -31,6 +31,7 @@ invariant_of-self g c =
       guests = refl;
       live_sets = refl;
       bytes = refl;
+      ready = refl;
       count = length-set i.producers c.args.writer _;
       duties = duties_set i.producers c.args.writer _ (fetches_duty _ _ _ _ c.fetch_of-fetched.ensures.fetches);
       count_readers = refl;

@@ -21,6 +21,7 @@ invariant_of-self c =
       guests = refl;
       live_sets = refl;
       bytes = refl;
+      ready = refl;
       count = refl;
       duties = λ m. refl;
       count_readers = refl;

@@ -1,4 +1,8 @@
-use Rattle.std.proofs.Common.{refl, arith}
+use Rattle.std.proofs.Common.{refl, subst, arith}
+use Rattle.strm_machine.specs.declared.streams.Stream.{Stream}
+use Rattle.strm_turns.specs.Guests.{seen}
+use Rattle.strm_transmit.specs.Telling.{Retells}
+use Rattle.strm_transmit.proofs.StoreLemmas.{set_at}
 use Rattle.strm_transmit.proofs.PipeStoreLemmas.{IsStore-handed}
 use Rattle.strm_transmit.proofs.store.Store.hand_to.Goals as goal
 
@@ -22,5 +26,8 @@ invariant_of-self c =
       producers = refl;
       same_kept = refl;
       consumers = refl;
+      loose = rw (← c.self.view_is) at c.requires.loose;
+      retold = subst (λ (x : Stream). Retells (seen c.self.inside.guests.items) x c.self.inside.ready.items c.retell.new.ready.items)
+          (set_at c.self.inside.streams.items c.set_owner.new.streams.items c.args.stream _ c.index.result.now (rw (← c.self.view_is) at c.requires.there) c.set_owner.ensures.streams c.index.ensures) c.retell.ensures;
     })
     c.self.invariant

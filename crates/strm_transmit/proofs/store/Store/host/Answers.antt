@@ -30,6 +30,7 @@ invariant_of-self-2 c =
       producers = refl;
       place = c.in_ok-make_place.ensures.ok;
       consumers = refl;
+      ready = refl;
     })
     c.self.invariant
 
@@ -48,6 +49,7 @@ invariant_of-self-in_err-make_place c =
       producers = refl;
       consumers = refl;
       grown = c.in_err-make_place.ensures.err;
+      ready = refl;
     })
     c.self.invariant
 
@@ -82,6 +84,7 @@ returns-clause-ok c =
       producers = refl;
       place = c.in_ok-make_place.ensures.ok;
       consumers = refl;
+      ready = refl;
     })
     c.args.self.now c.self.view_is c.self.invariant _ c.new-hosted.ensures _
     (ap (λ s. record no_producer { duty = Serves s; holding = c.args.holding }) (number ∙ ap (λ (x : State). length x.streams) c.self.view_is))

@@ -1,7 +1,10 @@
-use Rattle.std.proofs.Common.{refl, arith}
-use Rattle.std.proofs.lemmas.List.{length-map}
+use Rattle.std.proofs.Common.{◌≡◌, List, length, refl, ap, ◌∙◌, subst, arith}
+use Rattle.strm_machine.specs.declared.streams.Stream.{Stream}
+use Rattle.strm_transmit.specs.Telling.{Retells}
+use Rattle.strm_transmit.proofs.StoreLemmas.{set_at}
+use Rattle.std.proofs.lemmas.List.{length-map, length-set}
 use Rattle.strm_machine.proofs.RefusalLemmas.{lower_fits}
-use Rattle.strm_turns.specs.Guests.{guest_of}
+use Rattle.strm_turns.specs.Guests.{guest_of, seen}
 use Rattle.strm_transmit.specs.Inside.{state_of}
 use Rattle.strm_transmit.proofs.MoveLemmas.{lower_made, IsStore-lowered}
 use Rattle.strm_transmit.proofs.store.Store.lower_loose.Goals as goal
@@ -23,6 +26,12 @@ give_end-requires-clause-below c =
 pub set_owner-requires-clause-there : goal.set_owner-requires-clause-there
 set_owner-requires-clause-there c = lower_made (state_of c.self.inside) c.args.reader c.args.guest c.args.ty (rw (← c.self.view_is) at c.requires.may)
 
+pub index-requires : goal.index-requires
+index-requires c =
+    let made = lower_made (state_of c.self.inside) c.args.reader c.args.guest c.args.ty (rw (← c.self.view_is) at c.requires.may) in
+    let same : length c.set_owner.new.streams.items ≡ length c.self.inside.streams.items = ap (λ (xs : List Stream). length xs) c.set_owner.ensures.streams ∙ length-set c.self.inside.streams.items c.args.reader _ in
+    omega (arith, made, same, c.set_owner.new.streams.ok)
+
 pub invariant_of-self-2 : goal.invariant_of-self-2
 invariant_of-self-2 c =
     IsStore-lowered c.self.inside _ c.args.reader c.args.guest c.args.ty c.in_ok-handle.handle
@@ -32,6 +41,8 @@ invariant_of-self-2 c =
       live_sets = refl;
       counted = c.set_owner.ensures.counted;
       streams = c.set_owner.ensures.streams;
+      retold = subst (λ (x : Stream). Retells (seen c.give_end.new.guests.items) x c.self.inside.ready.items c.retell.new.ready.items)
+          (set_at c.self.inside.streams.items c.set_owner.new.streams.items c.args.reader _ c.index.result.now (lower_made (state_of c.self.inside) c.args.reader c.args.guest c.args.ty (rw (← c.self.view_is) at c.requires.may)) c.set_owner.ensures.streams c.index.ensures) c.retell.ensures;
     })
     (record { counter = c.in_ok-handle.ensures.counter; live = c.in_ok-handle.ensures.live; guests = c.in_ok-handle.ensures.guests })
     c.in_ok-handle.ensures.number

@@ -9,6 +9,7 @@ use Rattle.strm_machine.specs.declared.streams.Stream.{Stream}
 use Rattle.strm_turns.specs.Guests.{guest_of, seen}
 use Rattle.strm_transmit.proofs.StoreLemmas.{MakesStream, IsStore-made, performs-made, numbers_of, joined_is, pair_is}
 use Rattle.strm_transmit.specs.Inside.{state_of}
+use Rattle.strm_transmit.specs.Telling.{Retells}
 use Rattle.strm_transmit.proofs.store.Store.make.Goals as goal
 
 pub insert_ends-requires-clause-writer : goal.insert_ends-requires-clause-writer
@@ -49,7 +50,7 @@ invariant_of-self-2 c =
     let joined = joined_is old c.args.writer c.args.reader c.args.ty c.in_ok-numbers.numbers c.new-joined.result
     (c.in_ok-numbers.ensures.numbers ∙ ap (numbers_of old c.args.writer c.args.reader c.args.ty) number)
     (rw (c.new-joined.ensures, c.kind-kind.ensures, c.payload-payload.ensures) refl) in
-    let made : MakesStream c.self.inside (record c.self.inside { counter = c.insert_ends.new.counter; guests = c.insert_ends.new.guests; streams = c.push_reserved.new.self; live_streams = c.self.inside.live_streams + 1 }) c.args.writer c.args.reader c.args.ty = record {
+    let made : MakesStream c.self.inside (record c.self.inside { counter = c.insert_ends.new.counter; guests = c.insert_ends.new.guests; streams = c.push_reserved.new.self; live_streams = c.self.inside.live_streams + 1; ready = c.retell.new.ready }) c.args.writer c.args.reader c.args.ty = record {
       same = record { tag = refl; limits = refl; producers = refl; kept = refl; consumers = refl; contexts = refl; trapped = refl };
       counter = c.in_ok-numbers.ensures.counter;
       live = c.in_ok-numbers.ensures.live;
@@ -58,6 +59,7 @@ invariant_of-self-2 c =
       bytes = refl;
       guests = c.in_ok-numbers.ensures.guests ∙ ap (with_ends (seen old.guests.items) c.args.writer c.args.reader c.args.ty) number;
       streams = c.push_reserved.ensures.items ∙ rw c.in_ok-reserve.ensures.items (ap (λ (s : Stream). old.streams.items ++ s ∷ []) joined);
+      retold = subst (λ (s : Stream). Retells (seen c.insert_ends.new.guests.items) s old.ready.items c.retell.new.ready.items) joined c.retell.ensures;
     } in
     IsStore-made old _ c.args.writer c.args.reader c.args.ty made (rw (← c.self.view_is) at c.requires) c.self.invariant
 
@@ -68,7 +70,7 @@ returns c =
     let joined = joined_is old c.args.writer c.args.reader c.args.ty c.in_ok-numbers.numbers c.new-joined.result
     (c.in_ok-numbers.ensures.numbers ∙ ap (numbers_of old c.args.writer c.args.reader c.args.ty) number)
     (rw (c.new-joined.ensures, c.kind-kind.ensures, c.payload-payload.ensures) refl) in
-    let made : MakesStream c.self.inside (record c.self.inside { counter = c.insert_ends.new.counter; guests = c.insert_ends.new.guests; streams = c.push_reserved.new.self; live_streams = c.self.inside.live_streams + 1 }) c.args.writer c.args.reader c.args.ty = record {
+    let made : MakesStream c.self.inside (record c.self.inside { counter = c.insert_ends.new.counter; guests = c.insert_ends.new.guests; streams = c.push_reserved.new.self; live_streams = c.self.inside.live_streams + 1; ready = c.retell.new.ready }) c.args.writer c.args.reader c.args.ty = record {
       same = record { tag = refl; limits = refl; producers = refl; kept = refl; consumers = refl; contexts = refl; trapped = refl };
       counter = c.in_ok-numbers.ensures.counter;
       live = c.in_ok-numbers.ensures.live;
@@ -77,6 +79,7 @@ returns c =
       bytes = refl;
       guests = c.in_ok-numbers.ensures.guests ∙ ap (with_ends (seen old.guests.items) c.args.writer c.args.reader c.args.ty) number;
       streams = c.push_reserved.ensures.items ∙ rw c.in_ok-reserve.ensures.items (ap (λ (s : Stream). old.streams.items ++ s ∷ []) joined);
+      retold = subst (λ (s : Stream). Retells (seen c.insert_ends.new.guests.items) s old.ready.items c.retell.new.ready.items) joined c.retell.ensures;
     } in
     rw (← c.self.view_is)
     (performs-made old _ c.args.writer c.args.reader c.args.ty _ made

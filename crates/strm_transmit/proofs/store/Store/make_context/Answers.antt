@@ -4,6 +4,7 @@ use Rattle.strm_machine.proofs.ContextStepLemmas.{context_fits}
 use Rattle.strm_machine.proofs.SoundStepLemmas.{with_context-sound}
 use Rattle.strm_turns.specs.Guests.{guest_of}
 use Rattle.strm_transmit.specs.Inside.{state_of}
+use Rattle.strm_transmit.proofs.HeldStoreLemmas.{with_context-held}
 use Rattle.strm_transmit.proofs.StoreLemmas.{fits_below}
 use Rattle.strm_transmit.proofs.ContextLemmas.{IsStore-gives}
 use Rattle.strm_transmit.proofs.store.Store.make_context.Goals as goal
@@ -25,11 +26,12 @@ invariant_of-self c =
     let fits = context_fits (state_of c.self.inside) c.args.guest c.args.address c.args.len may in
     let did = c.give_context.ensures in
     IsStore-gives c.self.inside _ c.args.guest _ _
-    (record { tag = refl; limits = refl; trapped = refl; streams = refl; producers = refl; kept = refl; consumers = refl; live_streams = refl; live_sets = refl; bytes = refl })
+    (record { tag = refl; limits = refl; trapped = refl; streams = refl; producers = refl; kept = refl; consumers = refl; live_streams = refl; live_sets = refl; bytes = refl; ready = refl })
     c.give_context.result
     (record { guests = did.guests; others = did.contexts; counter = did.counter; live = did.live; err = did.err; same = did.same; kept = did.kept })
     (fits_below c.self.inside c.self.invariant fits.handle.handles)
     (with_context-sound (state_of c.self.inside) c.args.guest c.args.address c.args.len c.self.invariant.sound may)
+    (with_context-held (state_of c.self.inside) c.args.guest c.args.address c.args.len c.self.invariant.sound c.self.invariant.held may)
     c.self.invariant
 
 pub invariant_of-self-2 : goal.invariant_of-self-2
@@ -38,9 +40,10 @@ invariant_of-self-2 c =
     let fits = context_fits (state_of c.self.inside) c.args.guest c.args.address c.args.len may in
     let did = c.give_context.ensures in
     IsStore-gives c.self.inside _ c.args.guest _ _
-    (record { tag = refl; limits = refl; trapped = refl; streams = refl; producers = refl; kept = refl; consumers = refl; live_streams = refl; live_sets = refl; bytes = refl })
+    (record { tag = refl; limits = refl; trapped = refl; streams = refl; producers = refl; kept = refl; consumers = refl; live_streams = refl; live_sets = refl; bytes = refl; ready = refl })
     c.give_context.result
     (record { guests = did.guests; others = did.contexts; counter = did.counter; live = did.live; err = did.err; same = did.same; kept = did.kept })
     (fits_below c.self.inside c.self.invariant fits.handle.handles)
     (with_context-sound (state_of c.self.inside) c.args.guest c.args.address c.args.len c.self.invariant.sound may)
+    (with_context-held (state_of c.self.inside) c.args.guest c.args.address c.args.len c.self.invariant.sound c.self.invariant.held may)
     c.self.invariant

@@ -34,5 +34,6 @@ invariant_of-self-2 c =
       sets = c.in_ok-handle.ensures.sets;
       live_sets = c.one_more-self-inside.ensures;
       guests = c.in_ok-handle.ensures.guests;
+      ready = refl;
     })
     (rw (← c.self.view_is) at c.requires) c.self.invariant

@@ -19,6 +19,7 @@ invariant_of-self c =
       live_streams = refl;
       live_sets = refl;
       count = refl;
+      ready = refl;
       guests = c.tell_base.ensures.told;
     })
     c.self.invariant
@@ -34,6 +35,7 @@ returns-clause-told c =
       live_streams = refl;
       live_sets = refl;
       count = refl;
+      ready = refl;
       guests = c.tell_base.ensures.told;
     }))
 

@@ -1,13 +1,21 @@
-use Rattle.std.proofs.Common.{ℕ, refl, ap, arith}
-use Rattle.std.proofs.lemmas.List.{length-map}
+use Rattle.std.proofs.Common.{◌≡◌, ℕ, List, length, refl, ap, ◌∙◌, subst, arith}
+use Rattle.strm_machine.specs.declared.streams.Stream.{Stream}
+use Rattle.strm_transmit.specs.Telling.{Retells}
+use Rattle.strm_transmit.proofs.StoreLemmas.{set_at}
+use Rattle.std.proofs.lemmas.List.{length-map, length-set}
 use Rattle.strm_machine.specs.Tests.{named, side_named}
 use Rattle.strm_machine.specs.declared.streams.Side.{Side}
 use Rattle.strm_machine.proofs.RefusalLemmas.{move_fits}
-use Rattle.strm_turns.specs.Guests.{guest_of}
+use Rattle.strm_turns.specs.Guests.{guest_of, seen}
 use Rattle.strm_transmit.specs.Inside.{state_of}
 use Rattle.strm_transmit.proofs.EndingLemmas.{removable_named, named_made}
 use Rattle.strm_transmit.proofs.MoveLemmas.{IsStore-moved}
 use Rattle.strm_transmit.proofs.store.Store.move_named.Goals as goal
+
+pub home_of-home-requires : goal.home_of-home-requires
+home_of-home-requires c =
+    let fits = move_fits (state_of c.self.inside) c.args.end.now c.args.to (rw (← c.self.view_is) at c.requires.may) in
+    omega (arith, fits.leaves.there, length-map c.self.inside.guests.items guest_of)
 
 pub move_end-requires-clause-from : goal.move_end-requires-clause-from
 move_end-requires-clause-from c =
@@ -38,18 +46,32 @@ set_owner-requires-clause-there c =
     named_made state (side_named (named state c.args.end.now)) c.args.end.now c.args.found.0 c.self.invariant.sound fits.leaves
     (ap (λ (q : ℕ × Side). q.0) (rw (← c.self.view_is) at c.requires.found))
 
+pub index-requires : goal.index-requires
+index-requires c =
+    let fits = move_fits (state_of c.self.inside) c.args.end.now c.args.to (rw (← c.self.view_is) at c.requires.may) in
+    let made = named_made (state_of c.self.inside) (side_named (named (state_of c.self.inside) c.args.end.now)) c.args.end.now c.args.found.0 c.self.invariant.sound fits.leaves
+    (ap (λ (q : ℕ × Side). q.0) (rw (← c.self.view_is) at c.requires.found)) in
+    let same : length c.set_owner.new.streams.items ≡ length c.self.inside.streams.items = ap (λ (xs : List Stream). length xs) c.set_owner.ensures.streams ∙ length-set c.self.inside.streams.items c.args.found.0 _ in
+    omega (arith, made, same, c.set_owner.new.streams.ok)
+
 pub invariant_of-self-2 : goal.invariant_of-self-2
 invariant_of-self-2 c =
-    IsStore-moved c.self.inside _ c.args.found.0 c.args.found.1 c.args.end.now c.args.to c.in_ok-handle.handle
+    let fits = move_fits (state_of c.self.inside) c.args.end.now c.args.to (rw (← c.self.view_is) at c.requires.may) in
+    let made = named_made (state_of c.self.inside) (side_named (named (state_of c.self.inside) c.args.end.now)) c.args.end.now c.args.found.0 c.self.invariant.sound fits.leaves
+    (ap (λ (q : ℕ × Side). q.0) (rw (← c.self.view_is) at c.requires.found)) in
+    IsStore-moved c.self.inside _ c.args.found.0 c.args.found.1 c.args.end.now c.args.to c.in_ok-handle.handle c.leave.new.ready.items
     (record {
       same = record { tag = refl; limits = refl; producers = refl; kept = refl; consumers = refl; contexts = refl; trapped = refl };
       bytes = refl;
       live_sets = refl;
       counted = c.set_owner.ensures.counted;
       streams = c.set_owner.ensures.streams;
+      retold = subst (λ (x : Stream). Retells (seen c.move_end.new.guests.items) x c.leave.new.ready.items c.retell.new.ready.items)
+          (set_at c.self.inside.streams.items c.set_owner.new.streams.items c.args.found.0 _ c.index.result.now made c.set_owner.ensures.streams c.index.ensures) c.retell.ensures;
     })
     (record { counter = c.in_ok-handle.ensures.counter; live = c.in_ok-handle.ensures.live; guests = c.in_ok-handle.ensures.guests })
     c.in_ok-handle.ensures.number
+    (record { home = c.home_of-home.result; is = c.home_of-home.ensures; leaves = c.leave.ensures })
     (rw (← c.self.view_is) at c.requires.untrapped) (rw (← c.self.view_is) at c.requires.may)
     (ap (λ (q : ℕ × Side). q.0) (rw (← c.self.view_is) at c.requires.found)) (ap (λ (q : ℕ × Side). q.1) (rw (← c.self.view_is) at c.requires.found))
     c.self.invariant

@@ -1,9 +1,9 @@
-use Rattle.std.proofs.Common.{refl, sym, ◌∙◌}
+use Rattle.std.proofs.Common.{refl, sym, ap, ◌∙◌}
 use Rattle.std.proofs.lemmas.List.{length-set}
 use Rattle.strm_machine.specs.declared.streams.Side.TheVariants.{Writing, Reading}
 use Rattle.strm_transmit.proofs.StoreLemmas.{stream_at-there}
 use Rattle.strm_transmit.proofs.RoundLemmas.{offers_keep}
-use Rattle.strm_transmit.proofs.RoundStoreLemmas.{writer_known, reader_known, writer_fits, reader_fits, serves, place, entry_there, entry_payload, entry_type, offers_in, IsStore-passed, duties_set, reader_duties_set}
+use Rattle.strm_transmit.proofs.RoundStoreLemmas.{writer_known, reader_known, writer_fits, reader_fits, serves, place, entry_there, entry_payload, entry_type, offers_in, IsStore-passed, duties_set, reader_duties_set, hosts_held}
 use Rattle.strm_transmit.proofs.store.Store.offer.Goals as goal
 
 pub bounds-self-inside-place : goal.bounds-self-inside-place
@@ -49,10 +49,12 @@ invariant_of-self g c =
       count_readers = length-set i.consumers c.args.reader _;
       reader_duties = reader_duties_set i.consumers c.args.reader _ keeps.duty;
       kept = refl;
+      ready = refl;
       payload = c.offer_of-offered.ensures.payload ∙ entry_type i.kept.items c.args.writer c.index_mut-kept.result.now (place c.self.inside c.args.self.now _ c.args.stream c.args.writer c.args.reader c.self.view_is c.self.invariant c.requires.pipe).there c.index_mut-kept.ensures.value;
     })
     (serves c.self.inside c.args.self.now _ c.args.stream c.args.writer c.args.reader c.self.view_is c.self.invariant c.requires.pipe) c.self.invariant _ there
-    (record { kind = keeps.kind; payload = keeps.payload; writer = keeps.ends Writing; reader = keeps.ends Reading }) refl refl
+    (record { kind = keeps.kind; payload = keeps.payload; writer = keeps.ends Writing; reader = keeps.ends Reading })
+    refl (hosts_held _ c.args.writer c.args.reader (rw (← c.self.view_is) at c.requires.pipe.writer) (rw (← c.self.view_is) at c.requires.pipe.reader)) refl
 
 pub returns : goal.returns
 returns g c =

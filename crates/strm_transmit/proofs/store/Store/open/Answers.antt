@@ -1,4 +1,4 @@
-use Rattle.std.proofs.Common.{refl, ap, ◌∙◌, sym, set}
+use Rattle.std.proofs.Common.{refl, ap, ◌∙◌, sym, set, subst}
 use Rattle.strm_machine.specs.Sides.{with_operation}
 use Rattle.strm_machine.specs.State.{stream_at}
 use Rattle.strm_machine.specs.Soundness.{sizes_of}
@@ -7,6 +7,7 @@ use Rattle.strm_machine.specs.declared.streams.Stream.{Stream}
 use Rattle.strm_machine.proofs.SideLemmas.{with_operation-keeps}
 use Rattle.strm_turns.specs.Guests.{seen}
 use Rattle.strm_transmit.specs.Inside.{state_of}
+use Rattle.strm_transmit.specs.Telling.{Retells}
 use Rattle.strm_transmit.proofs.StoreLemmas.{stream_at-there}
 use Rattle.strm_transmit.proofs.EndingLemmas.{IsStore-set}
 use Rattle.strm_transmit.proofs.store.Store.open.Goals as goal
@@ -27,5 +28,6 @@ invariant_of-self c =
       live_sets = refl;
       bytes = refl;
       streams = ap (set c.self.inside.streams.items c.args.stream) (c.begin.ensures ∙ ap (λ (o : Operation). with_operation c.args.side c.index_mut-meeting.result.now o) (sym c.requires.begun) ∙ ap (λ (s : Stream). with_operation c.args.side s c.args.operation) (sym here));
+      retold = subst (λ (x : Stream). Retells (seen c.self.inside.guests.items) x c.self.inside.ready.items c.retell.new.ready.items) (c.begin.ensures ∙ ap (λ (o : Operation). with_operation c.args.side c.index_mut-meeting.result.now o) (sym c.requires.begun) ∙ ap (λ (s : Stream). with_operation c.args.side s c.args.operation) (sym here)) c.retell.ensures;
     })
     c.self.invariant

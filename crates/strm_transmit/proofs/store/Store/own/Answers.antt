@@ -1,16 +1,22 @@
-use Rattle.std.proofs.Common.{refl}
+use Rattle.std.proofs.Common.{subst, refl}
+use Rattle.strm_machine.specs.declared.streams.Stream.{Stream}
+use Rattle.strm_turns.specs.Guests.{seen}
+use Rattle.strm_transmit.specs.Telling.{Retells}
 use Rattle.strm_transmit.proofs.MoveLemmas.{IsStore-owned}
+use Rattle.strm_transmit.proofs.StoreLemmas.{set_at}
 use Rattle.strm_transmit.proofs.store.Store.own.Goals as goal
 
 pub invariant_of-self : goal.invariant_of-self
 invariant_of-self c =
-    IsStore-owned c.self.inside _ c.args.stream c.args.side c.args.owner (rw (← c.self.view_is) at c.requires.there) c.requires.owner
+    IsStore-owned c.self.inside _ c.args.stream c.args.side c.args.owner c.self.inside.ready.items (rw (← c.self.view_is) at c.requires.there) c.requires.owner
     (record {
       same = record { tag = refl; limits = refl; producers = refl; kept = refl; consumers = refl; contexts = refl; trapped = refl };
       bytes = refl;
       live_sets = refl;
       counted = c.set_owner.ensures.counted;
       streams = c.set_owner.ensures.streams;
+      retold = subst (λ (x : Stream). Retells (seen c.self.inside.guests.items) x c.self.inside.ready.items c.retell.new.ready.items)
+          (set_at c.self.inside.streams.items c.set_owner.new.streams.items c.args.stream _ c.index.result.now (rw (← c.self.view_is) at c.requires.there) c.set_owner.ensures.streams c.index.ensures) c.retell.ensures;
     })
-    c.self.invariant
+    c.self.invariant (rw (← c.self.view_is) at c.requires.unheld) c.requires.given refl
     (record { counter = refl; guests = refl })

@@ -24,6 +24,7 @@ invariant_of-self c =
       live_streams = refl;
       live_sets = refl;
       count = refl;
+      ready = refl;
       guests = c.write_bytes.ensures.guests;
     })
     (rw (← c.self.view_is) at c.requires) c.self.invariant
@@ -39,5 +40,6 @@ returns c =
       live_streams = refl;
       live_sets = refl;
       count = refl;
+      ready = refl;
       guests = c.write_bytes.ensures.guests;
     }))

@@ -1,6 +1,13 @@
-use Rattle.std.proofs.Common.{refl}
+use Rattle.std.proofs.Common.{◌≡◌, ◌<◌, true, List, length, refl, sym, ap, ◌∙◌, subst, arith}
+use Rattle.std.proofs.lemmas.List.{length-set}
+use Rattle.strm_machine.specs.Moments.{is_end}
+use Rattle.strm_machine.specs.Tests.{end_named}
+use Rattle.strm_machine.specs.declared.streams.Stream.{Stream}
+use Rattle.strm_turns.specs.Guests.{seen}
+use Rattle.strm_transmit.specs.Telling.{Retells}
+use Rattle.strm_transmit.proofs.StoreLemmas.{set_at}
 use Rattle.strm_transmit.specs.Inside.{state_of}
-use Rattle.strm_transmit.proofs.EndingLemmas.{removable_named, named_made, named_end}
+use Rattle.strm_transmit.proofs.EndingLemmas.{removable_named, named_made, named_end_is}
 use Rattle.strm_transmit.proofs.MoveLemmas.{IsStore-released}
 use Rattle.strm_transmit.proofs.store.Store.release.Goals as goal
 
@@ -13,18 +20,32 @@ set_owner-requires-clause-there c =
     named_made (state_of c.self.inside) c.args.side c.args.end.now c.args.stream c.self.invariant.sound
     (rw (← c.self.view_is) at c.requires.fits) (rw (← c.self.view_is) at c.requires.stream)
 
+pub index-requires : goal.index-requires
+index-requires c =
+    let made = named_made (state_of c.self.inside) c.args.side c.args.end.now c.args.stream c.self.invariant.sound
+    (rw (← c.self.view_is) at c.requires.fits) (rw (← c.self.view_is) at c.requires.stream) in
+    let same : length c.set_owner.new.streams.items ≡ length c.self.inside.streams.items = ap (λ (xs : List Stream). length xs) c.set_owner.ensures.streams ∙ length-set c.self.inside.streams.items c.args.stream _ in
+    omega (arith, made, same, c.set_owner.new.streams.ok)
+
 pub invariant_of-self : goal.invariant_of-self
 invariant_of-self c =
-    IsStore-released c.self.inside _ c.args.stream c.args.side c.args.owner
-    (named_made (state_of c.self.inside) c.args.side c.args.end.now c.args.stream c.self.invariant.sound
-    (rw (← c.self.view_is) at c.requires.fits) (rw (← c.self.view_is) at c.requires.stream)) c.requires.owner
+    let i = c.self.inside in
+    let state = state_of i in
+    let fits = rw (← c.self.view_is) at c.requires.fits in
+    let stream = rw (← c.self.view_is) at c.requires.stream in
+    let made = named_made state c.args.side c.args.end.now c.args.stream c.self.invariant.sound fits stream in
+    IsStore-released i _ c.args.stream c.args.side c.args.owner c.leave.new.ready.items made c.requires.owner
     (record {
       same = record { tag = refl; limits = refl; producers = refl; kept = refl; consumers = refl; contexts = refl; trapped = refl };
       bytes = refl;
       live_sets = refl;
       counted = c.set_owner.ensures.counted;
       streams = c.set_owner.ensures.streams;
+      retold = subst (λ (x : Stream). Retells (seen c.remove_end.new.guests.items) x c.leave.new.ready.items c.retell.new.ready.items)
+          (set_at i.streams.items c.set_owner.new.streams.items c.args.stream _ c.index.result.now made c.set_owner.ensures.streams c.index.ensures) c.retell.ensures;
     })
-    c.self.invariant c.args.end.now.guest c.args.end.now.handle
-    (named_end (state_of c.self.inside) c.args.side c.args.end.now c.self.invariant.sound (rw (← c.self.view_is) at c.requires.fits))
+    c.self.invariant c.args.end.now.guest c.args.end.now.handle fits.there
+    (subst (λ n. is_end n c.args.side (end_named state c.args.end.now.guest c.args.end.now.handle) ≡ true) (sym stream) (named_end_is state c.args.side c.args.end.now c.self.invariant.sound fits))
+    c.requires.given
+    (record { home = c.home_of-home.result; is = c.home_of-home.ensures; leaves = c.leave.ensures })
     (record { counter = c.remove_end.ensures.counter; live = c.remove_end.ensures.live; guests = c.remove_end.ensures.guests })

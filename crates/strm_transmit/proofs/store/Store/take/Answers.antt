@@ -1,16 +1,17 @@
-use Rattle.std.proofs.Common.{ap, sym, refl, ◌∙◌, set, arith}
+use Rattle.std.proofs.Common.{ap, sym, refl, ◌∙◌, set, subst, arith}
 use Rattle.std.proofs.lemmas.Grind.{common_steps}
 use Rattle.strm_machine.specs.Turns.{Turn, turn}
 use Rattle.strm_machine.proofs.TurnLemmas.{turn-keeps}
 use Rattle.strm_machine.proofs.SoundLemmas.{placed_at}
 use Rattle.strm_turns.specs.Guests.{seen}
 use Rattle.strm_transmit.specs.Inside.{state_of}
+use Rattle.strm_transmit.specs.Telling.{Retells}
 use Rattle.strm_transmit.proofs.StoreLemmas.{IsStore-turn, stream_at-there}
 use Rattle.strm_transmit.proofs.store.Store.take.Goals as goal
 
 pub invariant_of-self : goal.invariant_of-self
 invariant_of-self c =
-    let e = ap (λ s. turn c.args.side (seen c.self.inside.guests.items) s c.args.mine) (stream_at-there c.self.inside c.args.stream c.index_mut-meeting.result.now (rw (← c.self.view_is) at c.requires.there) c.index_mut-meeting.ensures.value) ∙ c.take_turn.ensures in
+    let e = ap (λ s. turn c.args.side (seen c.self.inside.guests.items) s c.args.mine) (stream_at-there c.self.inside c.args.stream c.index_mut-meeting.result.now (rw (← c.self.view_is) at c.requires.there) c.index_mut-meeting.ensures.value) ∙ c.take_turn-taken.ensures in
     let there = rw (← c.self.view_is) at c.requires.there in
     IsStore-turn c.self.inside _ c.args.stream _ there
     (turn-keeps c.args.side _ _ c.args.mine (placed_at (state_of c.self.inside) c.args.stream there c.self.invariant.sound) (rw (← c.self.view_is) at c.requires.mine))
@@ -27,12 +28,13 @@ invariant_of-self c =
       bytes = refl;
       guests = sym (ap (λ (t : Turn). t.guests) e);
       streams = sym (ap (λ (t : Turn). set c.self.inside.streams.items c.args.stream t.stream) e);
+      retold = subst (λ (t : Turn). Retells t.guests t.stream c.self.inside.ready.items c.retell.new.ready.items) (sym e) c.retell.ensures;
     })
     c.self.invariant
 
 pub invariant_of-self-in-Err : goal.invariant_of-self-in-Err
 invariant_of-self-in-Err c =
-    let e = ap (λ s. turn c.args.side (seen c.self.inside.guests.items) s c.args.mine) (stream_at-there c.self.inside c.args.stream c.index_mut-meeting.result.now (rw (← c.self.view_is) at c.requires.there) c.index_mut-meeting.ensures.value) ∙ c.take_turn.ensures in
+    let e = ap (λ s. turn c.args.side (seen c.self.inside.guests.items) s c.args.mine) (stream_at-there c.self.inside c.args.stream c.index_mut-meeting.result.now (rw (← c.self.view_is) at c.requires.there) c.index_mut-meeting.ensures.value) ∙ c.take_turn-taken.ensures in
     let there = rw (← c.self.view_is) at c.requires.there in
     IsStore-turn c.self.inside _ c.args.stream _ there
     (turn-keeps c.args.side _ _ c.args.mine (placed_at (state_of c.self.inside) c.args.stream there c.self.invariant.sound) (rw (← c.self.view_is) at c.requires.mine))
@@ -49,6 +51,7 @@ invariant_of-self-in-Err c =
       bytes = refl;
       guests = sym (ap (λ (t : Turn). t.guests) e);
       streams = sym (ap (λ (t : Turn). set c.self.inside.streams.items c.args.stream t.stream) e);
+      retold = subst (λ (t : Turn). Retells t.guests t.stream c.self.inside.ready.items c.retell.new.ready.items) (sym e) c.retell.ensures;
     })
     c.self.invariant
 

@@ -1,4 +1,4 @@
-use Rattle.std.proofs.Common.{refl, ap, ◌∙◌, sym, set}
+use Rattle.std.proofs.Common.{refl, ap, ◌∙◌, sym, set, subst}
 use Rattle.strm_machine.specs.Endings.{delivered}
 use Rattle.strm_machine.specs.State.{stream_at}
 use Rattle.strm_machine.specs.Soundness.{sizes_of}
@@ -6,6 +6,7 @@ use Rattle.strm_machine.specs.declared.streams.Stream.{Stream}
 use Rattle.strm_machine.proofs.EndingLemmas.{delivered-keeps}
 use Rattle.strm_turns.specs.Guests.{seen}
 use Rattle.strm_transmit.specs.Inside.{state_of}
+use Rattle.strm_transmit.specs.Telling.{Retells}
 use Rattle.strm_transmit.proofs.StoreLemmas.{stream_at-there}
 use Rattle.strm_transmit.proofs.EndingLemmas.{IsStore-set}
 use Rattle.strm_transmit.proofs.store.Store.tell.Goals as goal
@@ -13,7 +14,7 @@ use Rattle.strm_transmit.proofs.store.Store.tell.Goals as goal
 pub invariant_of-self : goal.invariant_of-self
 invariant_of-self c =
     let there = rw (← c.self.view_is) at c.requires in
-    let here = stream_at-there c.self.inside c.args.stream c.index_mut.result.now there c.index_mut.ensures.value in
+    let here = stream_at-there c.self.inside c.args.stream c.index_mut-meeting.result.now there c.index_mut-meeting.ensures.value in
     let stream = stream_at (state_of c.self.inside) c.args.stream in
     IsStore-set c.self.inside _ c.args.stream (delivered c.args.side stream) there
     (delivered-keeps c.args.side (sizes_of (seen c.self.inside.guests.items)) stream)
@@ -24,6 +25,7 @@ invariant_of-self c =
       live_streams = refl;
       live_sets = refl;
       bytes = refl;
-      streams = ap (set c.self.inside.streams.items c.args.stream) (c.deliver.ensures.stream ∙ ap (λ (s : Stream). delivered c.args.side s) (sym here));
+      streams = ap (set c.self.inside.streams.items c.args.stream) (c.deliver-told.ensures.stream ∙ ap (λ (s : Stream). delivered c.args.side s) (sym here));
+      retold = subst (λ (x : Stream). Retells (seen c.self.inside.guests.items) x c.self.inside.ready.items c.retell.new.ready.items) (c.deliver-told.ensures.stream ∙ ap (λ (s : Stream). delivered c.args.side s) (sym here)) c.retell.ensures;
     })
     c.self.invariant

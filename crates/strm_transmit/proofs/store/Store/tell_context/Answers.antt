@@ -29,6 +29,7 @@ invariant_of-self c =
       live_streams = refl;
       live_sets = refl;
       count = refl;
+      ready = refl;
       guests = rw (← number) c.tell_message.ensures.guests;
     })
     fits.bytes c.self.invariant
@@ -45,6 +46,7 @@ returns c =
       live_streams = refl;
       live_sets = refl;
       count = refl;
+      ready = refl;
       guests = rw (← number) c.tell_message.ensures.guests;
     })
     (rw (← number) c.tell_message.ensures.len))

@@ -1,6 +1,6 @@
 use Rattle.std.proofs.Common.{sym, ◌∙◌}
 use Rattle.strm_machine.specs.declared.streams.Side.TheVariants.{Writing}
-use Rattle.strm_transmit.proofs.ReleaseLemmas.{released_writes, known_release, after_some, release_fits, release_knows}
+use Rattle.strm_transmit.proofs.ReleaseLemmas.{released_writes, released_unheld, known_release, after_some, release_fits, release_knows}
 use Rattle.strm_transmit.proofs.store.Store.try_release.Goals as goal
 
 pub retire-requires-clause-serves : goal.retire-requires-clause-serves
@@ -28,3 +28,7 @@ returns-in-Some-clause-known c tells h =
 pub returns-in_default-clause-exact : goal.returns-in_default-clause-exact
 returns-in_default-clause-exact c tells h =
     c.releasable-released.ensures ∙ known_release c.args.self.now tells c.args.reader c.served.ensures h
+
+pub end_stream-requires-clause-unheld : goal.end_stream-requires-clause-unheld
+end_stream-requires-clause-unheld c =
+    released_unheld c.args.self.now c.args.reader c.in-Some.number (sym c.releasable-released.ensures ∙ c.in-Some.is)

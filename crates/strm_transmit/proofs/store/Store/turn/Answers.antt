@@ -49,5 +49,6 @@ invariant_of-self g c =
       producers = refl;
       kept = refl;
       consumers = refl;
+      retold = c.retell.ensures;
     })
     c.self.invariant

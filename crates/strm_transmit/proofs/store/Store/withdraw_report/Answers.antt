@@ -1,8 +1,10 @@
-use Rattle.std.proofs.Common.{refl, ap, ◌∙◌, sym, set}
+use Rattle.std.proofs.Common.{refl, ap, ◌∙◌, sym, set, subst}
 use Rattle.strm_machine.specs.State.{stream_at}
 use Rattle.strm_machine.specs.Soundness.{sizes_of}
+use Rattle.strm_machine.specs.declared.streams.Stream.{Stream}
 use Rattle.strm_turns.specs.Guests.{seen}
 use Rattle.strm_transmit.specs.Inside.{state_of}
+use Rattle.strm_transmit.specs.Telling.{Retells}
 use Rattle.strm_transmit.specs.Piping.{report_withdrawn}
 use Rattle.strm_transmit.proofs.StoreLemmas.{stream_at-there}
 use Rattle.strm_transmit.proofs.EndingLemmas.{IsStore-set}
@@ -12,7 +14,7 @@ use Rattle.strm_transmit.proofs.store.Store.withdraw_report.Goals as goal
 pub invariant_of-self : goal.invariant_of-self
 invariant_of-self c =
     let there = rw (← c.self.view_is) at c.requires in
-    let here = stream_at-there c.self.inside c.args.stream c.index_mut.result.now there c.index_mut.ensures.value in
+    let here = stream_at-there c.self.inside c.args.stream c.index_mut-meeting.result.now there c.index_mut-meeting.ensures.value in
     let stream = stream_at (state_of c.self.inside) c.args.stream in
     IsStore-set c.self.inside _ c.args.stream (report_withdrawn stream) there
     (withdrawn-keeps (sizes_of (seen c.self.inside.guests.items)) stream)
@@ -24,5 +26,6 @@ invariant_of-self c =
       live_sets = refl;
       bytes = refl;
       streams = ap (set c.self.inside.streams.items c.args.stream) (c.withdraw.ensures ∙ ap report_withdrawn (sym here));
+      retold = subst (λ (x : Stream). Retells (seen c.self.inside.guests.items) x c.self.inside.ready.items c.retell.new.ready.items) (c.withdraw.ensures ∙ ap report_withdrawn (sym here)) c.retell.ensures;
     })
     c.self.invariant
