@@ -13,6 +13,7 @@ use Rattle.strm_machine.specs.Untouched.{StaysAside, LieThere}
 use Rattle.strm_machine.specs.declared.steps.Step.{Step}
 use Rattle.strm_machine.specs.declared.replies.Reply.{Reply}
 use Rattle.strm_transmit.specs.Hosted.{lone}
+use Rattle.strm_world.specs.World.{World}
 use Rattle.strm_world.specs.Steps.{step_of, touches}
 use Rattle.strm_world.specs.Does.{Fits, Does}
 use Rattle.strm_world.specs.Asking.{GuestAsksBad}
@@ -168,9 +169,13 @@ module _ (laws : LawsHold) (aside : StepHolds StaysAside) (put : StepHolds LieTh
   abbrev BytesTo : ℕ → Type 0
   BytesTo n = All HasBytes (take n steps)
 
+  -- the world that it begins from
+  abbrev begun : World
+  begun = start_among old new
+
   -- why it stopped, and what held before
   stopped_by : (c : RunCause) → BytesTo (length told) → BytesTo (length told + 1) → StopsAmong old new steps told c → StopsByRecord old new (stop_of c) → StopRules (stop_of c) old new
-      → StopsWanting (start_among old new) steps told new (stop_of c) → StoppedAlone steps told c → HasStopped old new steps told c
+      → StopsWanting begun steps told new (stop_of c) → StoppedAlone steps told c → HasStopped old new steps told c
   stopped_by cause bytes there stop by_record rules wanting alone = record {
     stops = stop;
     by_record = by_record;

@@ -37,7 +37,7 @@ use Rattle.strm_transmit.proofs.EndingLemmas.{named_made}
 use Rattle.strm_transmit.proofs.KeptLemmas.{have_set}
 use Rattle.strm_transmit.proofs.StoreLemmas.{SameBut, sets-with_table, kept_counted, more_counted, less_counted, fits_below, CountsStreams, Agrees, IsStore-counted, IsSound-same}
 use Rattle.strm_transmit.specs.Telling.{Ready, AreTold, Retells, Leaves}
-use Rattle.strm_transmit.proofs.ToldLemmas.{ToldBut, members-with_table, besides-set, but-besides, but-members, but-left, leaves-left, told-retold, IsHeld-set}
+use Rattle.strm_transmit.proofs.ToldLemmas.{SameOrFree, ToldBut, members-with_table, besides-set, but-besides, but-members, but-left, leaves-left, told-retold, IsHeld-set}
 use Rattle.strm_transmit.proofs.HeldStoreLemmas.{performs-held}
 use Rattle.strm_machine.proofs.HeldLemmas.{StateIsHeld, IsHeld, IsHeld-removed, owned_beside}
 use Rattle.strm_machine.proofs.NamedEndLemmas.{is_end-ok}
@@ -86,7 +86,7 @@ owned-owner Writing stream owner = refl
 owned-owner Reading stream owner = refl
 
 owned-across : (side other : Side) (stream : Stream) (owner : Owner) → is_held (end_of side stream).owner ≡ false → is_held owner ≡ false
-    → ((end_of other (with_owner side stream owner)).owner ≡ (end_of other stream).owner) ⊎ ((is_held (end_of other stream).owner ≡ false) × (is_held (end_of other (with_owner side stream owner)).owner ≡ false))
+    → SameOrFree (end_of other stream).owner (end_of other (with_owner side stream owner)).owner
 owned-across Writing Writing stream owner was now = inr (was, now)
 owned-across Writing Reading stream owner was now = inl refl
 owned-across Reading Writing stream owner was now = inl refl

@@ -307,8 +307,12 @@ dry_unheld world (Host n) e = refl
 dry_unheld world Loose e = cc
 dry_unheld world (Held g handle) e = cc
 
+-- the writer of a stream is dry, whatever is recorded
+abbrev IsDryAt : State → Tells → ℕ → Type 0
+IsDryAt state tells s = (logs : Logs) → true ≡ is_dry (world_of state tells logs) (stream_at state s).writer.owner
+
 -- and so are both ends of a stream at a host reader
-pub piped_unheld : (first : State) (tells : Tells) (s r : ℕ) → MayAttach first tells s r → (old new : State) → s < length old.streams → new ≡ handed_to old s r → ((logs : Logs) → true ≡ is_dry (world_of new tells logs) (stream_at new s).writer.owner) → (side : Side) → is_held (end_of side (stream_at new s)).owner ≡ false
+pub piped_unheld : (first : State) (tells : Tells) (s r : ℕ) → MayAttach first tells s r → (old new : State) → s < length old.streams → new ≡ handed_to old s r → IsDryAt new tells s → (side : Side) → is_held (end_of side (stream_at new s)).owner ≡ false
 piped_unheld first tells s r h old new l e dry Writing = dry_unheld (world_of new tells no_logs) (stream_at new s).writer.owner (dry no_logs)
 piped_unheld first tells s r h old new l e dry Reading =
     ap (λ (x : State). is_held (stream_at x s).reader.owner) e

@@ -28,7 +28,7 @@ use Rattle.strm_transmit.proofs.TakeLemmas.{TakingKeeps}
 use Rattle.strm_machine.proofs.TurnLemmas.{GuestsKeep, all_kept}
 use Rattle.strm_transmit.proofs.StoreLemmas.{live_by, live_weight, live_sum, kept_tables, Agrees, IsStore-counted, IsSound-same}
 use Rattle.strm_transmit.specs.Telling.{Retells, member_of}
-use Rattle.strm_transmit.proofs.ToldLemmas.{SameMembers, members-sets, but-besides, besides-set, told-retold, IsHeld-set}
+use Rattle.strm_transmit.proofs.ToldLemmas.{SameOrFree, SameMembers, members-sets, but-besides, besides-set, told-retold, IsHeld-set}
 use Rattle.strm_machine.proofs.HeldLemmas.{IsHeld, IsHeld-same}
 use Rattle.strm_machine.proofs.TableLemmas.{handles-same}
 
@@ -50,37 +50,49 @@ live_counted streams s before after live was is l e n w k =
     let sum = live_sum streams s after l in
     omega (arith, n, old, new, fewer, sum)
 
+-- each end of a stream has the owner that it had, or was and is held by no guest
+abbrev KeepsOwners : Stream → Stream → Type 0
+KeepsOwners old new = (side : Side) → SameOrFree (end_of side old).owner (end_of side new).owner
+
 -- the ends of a stream whose host end, on this side, may be gone: no guest had it, and none has it
-moves_held : (host : Side) (old new : Stream) (done : Bool) → (end_of host new).owner ≡ cond done Gone (end_of host old).owner → (end_of (opposite host) new).owner ≡ (end_of (opposite host) old).owner → is_held (end_of host old).owner ≡ false
-    → (side : Side) → ((end_of side new).owner ≡ (end_of side old).owner) ⊎ ((is_held (end_of side old).owner ≡ false) × (is_held (end_of side new).owner ≡ false))
+moves_held : (host : Side) (old new : Stream) (done : Bool) → (end_of host new).owner ≡ cond done Gone (end_of host old).owner → (end_of (opposite host) new).owner ≡ (end_of (opposite host) old).owner → is_held (end_of host old).owner ≡ false → KeepsOwners old new
 moves_held host old new done leaves stays unheld = by host leaves stays unheld
   where
     gone_or : (done : Bool) (owner : Owner) → is_held owner ≡ false → is_held (cond done Gone owner) ≡ false
     gone_or true owner e = refl
     gone_or false owner e = e
 
-    by : (host : Side) → (end_of host new).owner ≡ cond done Gone (end_of host old).owner → (end_of (opposite host) new).owner ≡ (end_of (opposite host) old).owner → is_held (end_of host old).owner ≡ false
-        → (side : Side) → ((end_of side new).owner ≡ (end_of side old).owner) ⊎ ((is_held (end_of side old).owner ≡ false) × (is_held (end_of side new).owner ≡ false))
+    by : (host : Side) → (end_of host new).owner ≡ cond done Gone (end_of host old).owner → (end_of (opposite host) new).owner ≡ (end_of (opposite host) old).owner → is_held (end_of host old).owner ≡ false → KeepsOwners old new
     by Writing l s u Writing = inr (u, ap is_held l ∙ gone_or done _ u)
     by Writing l s u Reading = inl s
     by Reading l s u Writing = inl s
     by Reading l s u Reading = inr (u, ap is_held l ∙ gone_or done _ u)
 
+-- guests whose handles are as they were
+abbrev KeepsHandles : List Guest → List Guest → Type 0
+KeepsHandles old new = (g : ℕ) → (guest_in new g).handles ≡ (guest_in old g).handles
+
 -- one stream became another, and its ends were told again
-agrees_turned : (old new : Inside) (s : ℕ) (after : Stream) → s < length old.streams.items → (guests : List Guest) → seen new.guests.items ≡ guests
-    → ((g : ℕ) → (guest_in guests g).handles ≡ (guest_in (seen old.guests.items) g).handles) → SameMembers (seen old.guests.items) guests
-    → ((side : Side) → ((end_of side after).owner ≡ (end_of side (stream_at (state_of old) s)).owner) ⊎ ((is_held (end_of side (stream_at (state_of old) s)).owner ≡ false) × (is_held (end_of side after).owner ≡ false)))
-    → new.streams.items ≡ set old.streams.items s after → Retells guests after old.ready.items new.ready.items → IsStore old → Agrees new
-agrees_turned old new s after l guests e handles members owners streams retold i =
-    let before = seen old.guests.items in
-    let more = set old.streams.items s after in
-    let held : IsHeld guests more = IsHeld-same before guests more more handles (λ k side. refl) (IsHeld-set before old.streams.items s after l owners i.held) in
-    record {
-      held = rw (e, streams) held;
-      told = rw (e, streams)
-          (told-retold guests more s held old.ready.items new.ready.items after (get_or-set_same old.streams.items s after no_stream l)
-          (but-besides before guests old.streams.items more s old.ready.items members (besides-set old.streams.items s after) i.told) retold);
-    }
+module _ (old new : Inside) (s : ℕ) (after : Stream) (l : s < length old.streams.items) where
+  -- the guests before
+  abbrev before : List Guest
+  before = seen old.guests.items
+
+  -- the streams then
+  abbrev more : List Stream
+  more = set old.streams.items s after
+
+  agrees_turned : (guests : List Guest) → seen new.guests.items ≡ guests → KeepsHandles before guests → SameMembers before guests
+      → KeepsOwners (stream_at (state_of old) s) after → new.streams.items ≡ more
+      → Retells guests after old.ready.items new.ready.items → IsStore old → Agrees new
+  agrees_turned guests e handles members owners streams retold i =
+      let held : IsHeld guests more = IsHeld-same before guests more more handles (λ k side. refl) (IsHeld-set before old.streams.items s after l owners i.held) in
+      record {
+        held = rw (e, streams) held;
+        told = rw (e, streams)
+            (told-retold guests more s held old.ready.items new.ready.items after (get_or-set_same old.streams.items s after no_stream l)
+            (but-besides before guests old.streams.items more s old.ready.items members (besides-set old.streams.items s after) i.told) retold);
+      }
 
 -- what guests keep where they are those of a turn
 keeps_handles : {before guests after : List Guest} → GuestsKeep before after → guests ≡ after → (g : ℕ) → (guest_in guests g).handles ≡ (guest_in before g).handles

@@ -114,8 +114,12 @@ module _ (old new : Inside) (k : KeepsStreams old new) (n : KeepsCounts old new)
       (subst IsSound (sym (state_with old new k (seen old.guests.items) e)) i.sound)
       (agrees_tables old new k (seen old.guests.items) e ready (λ _ _ _. refl) i.held i) i
 
-  other_sets : (g : ℕ) (sets : Sets) → how_many sets ≡ how_many (sets_in (seen old.guests.items) g) → IsSound (sets_changed (state_of old) g sets) → seen new.guests.items ≡ with_sets (seen old.guests.items) g sets
-      → AreTold (with_sets (seen old.guests.items) g sets) old.streams.items new.ready.items → IsStore new
+  -- the guests with other sets in one of them
+  abbrev with_sets_of : ℕ → Sets → List Guest
+  with_sets_of g sets = with_sets (seen old.guests.items) g sets
+
+  other_sets : (g : ℕ) (sets : Sets) → how_many sets ≡ how_many (sets_in (seen old.guests.items) g) → IsSound (sets_changed (state_of old) g sets) → seen new.guests.items ≡ with_sets_of g sets
+      → AreTold (with_sets_of g sets) old.streams.items new.ready.items → IsStore new
   other_sets g sets many sound e told =
       let handles = (guest_in (seen old.guests.items) g).handles in
       IsStore-tables old new k
@@ -260,7 +264,11 @@ second_false : (a b : Bool) → (a && b) ≡ false → a ≡ true → b ≡ fals
 second_false true b e t = e
 second_false false b e t = cc
 
-pub found_among : (handles : List ℕ) (state : State) (g number : ℕ) (found : Option ℕ) → ListsReady handles state g number → IfSome found (λ n. is_in handles n ≡ true) → IfSome found (λ n. (other : ℕ) → other < n → is_in handles other ≡ false) → IfNone found ((other : ℕ) → is_in handles other ≡ false) → found ≡ ready_member state g number
+-- no member with a smaller handle is among these
+abbrev NoneBelow : List ℕ → ℕ → Type 0
+NoneBelow handles n = (other : ℕ) → other < n → is_in handles other ≡ false
+
+pub found_among : (handles : List ℕ) (state : State) (g number : ℕ) (found : Option ℕ) → ListsReady handles state g number → IfSome found (λ n. is_in handles n ≡ true) → IfSome found (NoneBelow handles) → IfNone found ((other : ℕ) → is_in handles other ≡ false) → found ≡ ready_member state g number
 found_among handles state g number (Some n) lists ready least none =
     let is = both_true _ _ (sym (lists n) ∙ ready) in
     sym (ready_member-least state g number n

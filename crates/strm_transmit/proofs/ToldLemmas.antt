@@ -9,6 +9,7 @@ use Rattle.std.proofs.lemmas.Bool.{cases_eq, and_parts, eqb-true}
 use Rattle.std.proofs.lemmas.List.{get_or-set_same, get_or-set_other, get_or_past, get_or_push}
 use Rattle.strm_sets.specs.Sets.{Sets, is_member, is_number}
 use Rattle.strm_machine.specs.Words.{Guest, State, Handles, no_stream, stream_at, sets_in, guest_in, with_table, end_of, opposite, same_side, is_end, Name, end_named, is_held, IsSound}
+use Rattle.strm_machine.specs.declared.streams.Owner.{Owner}
 use Rattle.strm_machine.specs.declared.streams.Owner.TheVariants.{Held}
 use Rattle.strm_machine.specs.declared.streams.Side.{Side}
 use Rattle.strm_machine.specs.declared.streams.Side.TheVariants.{Writing, Reading}
@@ -244,10 +245,13 @@ eqb_is : (a b : ℕ) → nat_eq a b ≡ true → a ≡ b
 eqb_is a b e = ⊎_elim (λ same. same) (λ ne. absurd (never (sym e ∙ eq-other a b ne))) (cases_eq a b)
 
 module _ (guests others : List Guest) (streams : List Stream) (g handle set : ℕ) (joins : JoinsSet guests others g handle set) (home : Option ℕ) (is : home ≡ set_of (sets_in guests g) handle) (is_empty is_ready : Bool) where
+  -- an end of this handle has a report or not, as was said
+  abbrev SaysReport : Type 0
+  SaysReport = (s : ℕ) (side : Side) → owner_in streams s side ≡ Held g handle → is_ready ≡ has_report side (get_or streams s no_stream)
+
   pub told-joined : (old between new : Ready) → Leaves g handle home old between → Joins g set handle is_empty is_ready between new
       → (is_empty ≡ true → (other : ℕ) → member_of guests g set other ≡ false)
-      → ((s : ℕ) (side : Side) → owner_in streams s side ≡ Held g handle → is_ready ≡ has_report side (get_or streams s no_stream))
-      → AreTold guests streams old → AreTold others streams new
+      → SaysReport → AreTold guests streams old → AreTold others streams new
   told-joined old between new left joined empty ready h = record {
     told = λ k number other s side owner member.
         ⊎_elim
@@ -277,9 +281,13 @@ module _ (guests others : List Guest) (streams : List Stream) (g handle set : �
 
 -- ## Owners that no guest is
 
+-- an owner is the one that it was, or was and is no guest
+abbrev pub SameOrFree : Owner → Owner → Type 0
+SameOrFree old new = (new ≡ old) ⊎ ((is_held old ≡ false) × (is_held new ≡ false))
+
 -- each end has the owner that it had, or was and is held by no guest
 pub IsHeld-either : (guests : List Guest) (streams more : List Stream)
-    → ((s : ℕ) (side : Side) → (owner_in more s side ≡ owner_in streams s side) ⊎ ((is_held (owner_in streams s side) ≡ false) × (is_held (owner_in more s side) ≡ false)))
+    → ((s : ℕ) (side : Side) → SameOrFree (owner_in streams s side) (owner_in more s side))
     → IsHeld guests streams → IsHeld guests more
 IsHeld-either guests streams more either h = record {
   tables = h.tables;
@@ -294,7 +302,7 @@ IsHeld-either guests streams more either h = record {
 
 -- one stream is another, each of whose ends has the owner that it had, or was and is held by no guest
 pub IsHeld-set : (guests : List Guest) (streams : List Stream) (s : ℕ) (x : Stream) → s < length streams
-    → ((side : Side) → ((end_of side x).owner ≡ owner_in streams s side) ⊎ ((is_held (owner_in streams s side) ≡ false) × (is_held (end_of side x).owner ≡ false)))
+    → ((side : Side) → SameOrFree (owner_in streams s side) (end_of side x).owner)
     → IsHeld guests streams → IsHeld guests (set streams s x)
 IsHeld-set guests streams s x l either h =
     IsHeld-either guests streams (set streams s x)

@@ -3,10 +3,15 @@ use Rattle.strm_machine.specs.Sides.{end_of, opposite}
 use Rattle.strm_machine.specs.declared.streams.Owner.TheVariants.{Held}
 use Rattle.strm_machine.specs.declared.streams.Side.{Side}
 use Rattle.strm_machine.specs.declared.streams.Side.TheVariants.{Writing, Reading}
+use Rattle.strm_machine.specs.declared.streams.Stream.{Stream}
 use Rattle.strm_turns.specs.Guests.{seen}
 use Rattle.strm_transmit.specs.Telling.{SaysOf, member_of, has_report}
 use Rattle.strm_transmit.proofs.ToldLemmas.{never}
 use Rattle.strm_transmit.proofs.telling.retell.Goals as goal
+
+-- a guest has the end on a side under this handle
+abbrev Owns : Stream → Side → ℕ → ℕ → Type 0
+Owns stream side g handle = (end_of side stream).owner ≡ Held g handle
 
 pub returns : goal.returns
 returns c = record {
@@ -17,8 +22,8 @@ returns c = record {
       (λ owner member. absurd (never (none Reading owner member)));
 }
   where
-    told : (side : Side) (g number handle : ℕ) → (end_of side c.args.stream.now).owner ≡ Held g handle
-        → ((end_of (opposite side) c.args.stream.now).owner ≡ Held g handle → ⊥)
+    told : (side : Side) (g number handle : ℕ) → Owns c.args.stream.now side g handle
+        → (Owns c.args.stream.now (opposite side) g handle → ⊥)
         → member_of (seen c.args.guests.now.items) g number handle ≡ true
         → SaysOf c.retell_end-2.new.ready.items g number handle (has_report side c.args.stream.now)
     told Writing g number handle owner apart member =
