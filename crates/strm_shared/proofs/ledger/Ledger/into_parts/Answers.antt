@@ -1,6 +1,9 @@
-use Rattle.std.proofs.Common.{ap, ◌∙◌}
-use Rattle.strm_shared.specs.Histories.{state_of}
+use Rattle.std.proofs.Common.{ap, subst, ◌∙◌}
+use Rattle.strm_shared.specs.Histories.{state_of, IsLegal}
 use Rattle.strm_shared.proofs.ledger.Ledger.into_parts.Goals as goal
+
+pub returns-clause-legal : goal.returns-clause-legal
+returns-clause-legal c = subst (λ a. IsLegal a.limits a.log) c.self.view_is c.self.invariant.legal
 
 pub returns-clause-parts : goal.returns-clause-parts
 returns-clause-parts c = (
