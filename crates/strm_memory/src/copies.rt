@@ -16,9 +16,11 @@ use crate::moves::copy_bytes;
 use strm_codes::counts::ItemCount;
 use strm_codes::payloads::Payload;
 use strm_codes::scalars::Scalar;
+use thiserror::Error;
 
 /// An item holds a character that is no Unicode scalar value.
-#[derive(Clone, Copy, Debug, PartialEq, Eq)]
+#[derive(Clone, Copy, Debug, PartialEq, Eq, Error)]
+#[error("an item is no Unicode scalar value")]
 pub struct BadItem;
 
 /// Copies so many items from the front of one slice to the front of another, as by lifting all of

@@ -245,6 +245,14 @@ impl ReadySets {
         }
     }
 
+    /// Whether no set was ever joined, so that nothing is known of any.
+    #[inline(always)]
+    pub fn is_empty(&self) -> bool
+        ensures { result ≡ true → self.now ≡ [] }
+    {
+        self.slots.is_empty()
+    }
+
     /// The ready members of a set, where they are known.
     #[inline(always)]
     pub fn known(&self, set: u32) -> Option<&ReadyMembers>

@@ -99,6 +99,7 @@ impl HandleTable {
     }
 
     /// The number of a stream, and the state of its end.
+    #[inline(always)]
     pub fn stream_rep(
         &self,
         ty: Payload,
@@ -111,6 +112,7 @@ impl HandleTable {
     }
 
     /// The number of a future, and the state of its end.
+    #[inline(always)]
     pub fn future_rep(
         &self,
         ty: Payload,
@@ -123,6 +125,7 @@ impl HandleTable {
     }
 
     /// The number of a stream or future, whatever its payload, and the state of its end. Ours.
+    #[inline(always)]
     pub fn end_rep(&self, idx: u32) -> Result<(u32, TransmitLocalState), HandleError>
         ensures { result ≡ end_rep_of self.now.handles idx }
     {
