@@ -8,7 +8,7 @@ ghost use Rattle.strm_codes.specs.Layout.{scalars_of, item_size};
 ghost use Rattle.strm_codes.specs.Items.{FitsItem};
 ghost use Rattle.strm_codes.specs.declared.payloads.Payload.TheVariants.{One};
 ghost use Rattle.strm_codes.specs.declared.scalars.Scalar.TheVariants.{U8};
-ghost use Rattle.strm_memory.specs.Items.{stored_at, AreItems, byte_items};
+ghost use Rattle.strm_memory.specs.Items.{stored, stored_at, AreItems, byte_items};
 ghost use Rattle.strm_buffers.specs.Keeping.{with_space};
 ghost use Rattle.strm_buffers.specs.Listing.{kept_items, items_in, AreKept, LieIn, AreStored};
 
@@ -236,6 +236,15 @@ impl Items {
         }
     }
 
+    /// Writes the items over bytes from their front on, one behind the other, all at once. Padding stays as
+    /// it was. Takes no memory.
+    pub fn write_over(&self, bytes: &mut [u8])
+        requires { item_size (scalars_of self.now.payload) * length self.now.items ≤ length bytes.old }
+        ensures { bytes.new ≡ stored (scalars_of self.now.payload) bytes.old self.now.items }
+    {
+        write_from(self.bytes(), bytes, self.payload(), self.len());
+    }
+
     /// Takes so many items off the front.
     pub fn skip(&mut self, count: usize)
         requires { count ≤ length self.old.items }
@@ -309,6 +318,19 @@ pub(crate) fn write_item(bytes: &mut Vec<u8>, at: usize, item: &Value, payload: 
     ensures stays { vec_ptr bytes.new ≡ vec_ptr bytes.old }
 {
     lower_item_at(item, payload, bytes.as_mut_slice(), at);
+}
+
+// Writes so many items with which a source begins over bytes from their front on.
+fn write_from(source: &[u8], bytes: &mut [u8], payload: Payload, count: usize)
+    requires lie { LieIn (scalars_of payload) source.now 0 count }
+    requires inside { item_size (scalars_of payload) * count ≤ length bytes.old }
+    ensures { bytes.new ≡ stored (scalars_of payload) bytes.old
+        (items_in (scalars_of payload) source.now 0 count) }
+{
+    match copy_region(source, 0, bytes, 0, payload, count) {
+        Ok(()) => {}
+        Err(_) => unreachable!(),
+    }
 }
 
 // Writes so many items at a place with which a source begins.

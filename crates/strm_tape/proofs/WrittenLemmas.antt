@@ -1,15 +1,15 @@
 -- Items written again over zeros: that they lie so in the bytes, and are kept in the new ones.
-use Rattle.std.proofs.Common.{◌≡◌, ℕ, ◌⊎◌, inl, inr, ◌+◌, ◌*◌, ◌<◌, ◌≤◌, Bool, cond, List, [], ◌∷◌, ◌++◌, get_or, slice_get, length, take, drop, replicate, Option, Some, None, IsSomeAnd, refl, sym, ap, ◌∙◌, arith}
+use Rattle.std.proofs.Common.{◌≡◌, ℕ, ◌+◌, ◌*◌, ◌<◌, Bool, true, cond, List, [], ◌++◌, length, take, drop, replicate, Option, Some, None, IsSomeAnd, refl, sym, ap, subst, ◌∙◌, arith}
 use Rattle.std.specs.Str.{bytes_eq}
 use Rattle.std.proofs.lemmas.List.{length-replicate, drop_all, take_all, append-nil}
-use Rattle.strm_codes.specs.Layout.{scalars_of, item_size}
-use Rattle.std.proofs.lemmas.Option.{none-some}
-use Rattle.std.proofs.lemmas.Option.{get_or_from_slice_get, slice_get_cases}
+use Rattle.std.proofs.lemmas.Slice.Eq.{bytes_eq-Decides}
+use Rattle.strm_codes.specs.Layout.{scalars_of, item_size, is_number_payload}
 use Rattle.strm_codes.specs.declared.scalars.Scalar.{Scalar}
 use Rattle.strm_codes.specs.declared.payloads.Payload.{Payload}
-use Rattle.strm_memory.specs.Bytes.{IsBytes}
-use Rattle.strm_memory.specs.Items.{items, stored, stored_at}
-use Rattle.strm_memory.proofs.ItemLemmas.{item_fits, stores_from, stored_next, stored_end}
+use Rattle.strm_codes.specs.declared.payloads.Payload.TheVariants.{Nothing, One, Tuple}
+use Rattle.strm_memory.specs.Bytes.{put_at, IsBytes}
+use Rattle.strm_memory.specs.Items.{items, stored}
+use Rattle.strm_memory.proofs.CopyLemmas.{numbers_copied_at}
 use Rattle.strm_memory.proofs.RegionLemmas.{length-items, AreItems-items, length-stored_at}
 use Rattle.strm_buffers.specs.Listing.{Item, items_in, AreKept}
 use Rattle.strm_buffers.proofs.ListingLemmas.{kept_stored, are_stored}
@@ -52,26 +52,45 @@ module _ (payload : Payload) (bytes zeros new : List ℕ) (len n : ℕ) where
       by None e is = elim is [ ]
       by (Some xs) e is = again_by xs f size few z all e is
 
--- one item more is written over bytes, and then the others behind it
-pub record Lowered (ss : List Scalar) (size : ℕ) (xs : List Item) (old new : List ℕ) (k : ℕ) : Type 0 where
-  pub same : length new ≡ length old
-  pub rest : stores_from ss size xs (k + 1) new ≡ stores_from ss size xs k old
+-- bytes that are whole numbers, and the same bytes anew: these are kept, and lie as they are written
+pub record Plain (payload : Payload) (bytes written : List ℕ) (n : ℕ) : Type 0 where
+  pub kept : AreKept payload written 0 n
+  pub exact : items_as_written (scalars_of payload) bytes n ≡ Some (items_in (scalars_of payload) written 0 n)
 
-there : (xs : List Item) (k : ℕ) (x : Item) → slice_get xs k ≡ Some x → k < length xs
-there xs k x e = by (slice_get_cases xs k).1
-  where
-    by : ((y : Item) × (k < length xs) × (slice_get xs k ≡ Some y) × (get_or xs k y ≡ y)) ⊎ ((length xs ≤ k) × (slice_get xs k ≡ None)) → k < length xs
-    by (inl y) = y.1
-    by (inr n) = absurd (none-some x (sym n.1 ∙ e))
+-- numbers copied over as many zeros
+copied_plain : (payload : Payload) (bytes : List ℕ) (n : ℕ) → is_number_payload payload ≡ true → IsBytes bytes → length bytes ≡ item_size (scalars_of payload) * n → IsSomeAnd (items (scalars_of payload) bytes n) (λ xs. bytes ≡ stored (scalars_of payload) (replicate (length bytes) 0) xs)
+copied_plain Nothing bytes n t f size = cc
+copied_plain (Tuple shape) bytes n t f size = cc
+copied_plain (One s) bytes n t f size =
+    let zeros : List ℕ = replicate (length bytes) 0 in
+    let front : List ℕ = take (length bytes) bytes in
+    let all : front ≡ bytes = take_all (length bytes) bytes (omega arith) in
+    let none : drop (0 + length front) zeros ≡ [] = drop_all (0 + length front) zeros (omega (arith, ap length all, length-replicate {A = ℕ} (length bytes) 0)) in
+    let same : bytes ≡ put_at zeros 0 front = sym (ap (λ l. front ++ l) none ∙ append-nil front ∙ all) in
+    numbers_copied_at s n bytes zeros bytes 0 0 (length bytes) t f (omega (arith, size)) size same
 
-pub lowered_next : (ss : List Scalar) (size : ℕ) (xs : List Item) (old new : List ℕ) (k : ℕ) (x : Item) → slice_get xs k ≡ Some x → size ≡ item_size ss → size * length xs ≤ length old → new ≡ stored_at ss old (size * k) (x ∷ []) → Lowered ss size xs old new k
-lowered_next ss size xs old new k x e s room is =
-    let less : k < length xs = there xs k x e in
-    let fits : size * k + size ≤ size * length xs = item_fits k (length xs) size less in
-    record {
-      same = ap length is ∙ length-stored_at ss old (size * k) (x ∷ []) (omega (arith, fits, room, s));
-      rest = stored_next ss size xs old new k x less (sym (get_or_from_slice_get xs k x x e)) s room is;
-    }
+module _ (payload : Payload) (bytes : List ℕ) (n : ℕ) where
+  plain_by : (xs : List Item) → IsBytes bytes → length bytes ≡ item_size (scalars_of payload) * n → n < 4294967295 → items (scalars_of payload) bytes n ≡ Some xs → bytes ≡ stored (scalars_of payload) (replicate (length bytes) 0) xs → Plain payload bytes bytes n
+  plain_by xs f size few e is =
+      let count : length xs ≡ n = length-items (scalars_of payload) bytes n xs e in
+      let sized : length bytes ≡ item_size (scalars_of payload) * length xs = size ∙ ap (λ k. item_size (scalars_of payload) * k) (sym count) in
+      let kept = kept_stored payload bytes xs n
+      (record { all = sized; are = ap (items (scalars_of payload) bytes) count ∙ e; fit = AreItems-items (scalars_of payload) bytes n xs f e })
+      (sym count) few in
+      let region : region_bytes (scalars_of payload) xs ≡ bytes = ap (λ k. stored (scalars_of payload) (replicate k 0) xs) (sym sized) ∙ sym is in
+      let equal : bytes_eq bytes bytes ≡ true = (bytes_eq-Decides bytes bytes).1 refl in
+      record {
+        kept = kept.0;
+        exact = rw (e, region, equal) refl;
+      }
 
-pub lowered_all : (ss : List Scalar) (size : ℕ) (xs : List Item) (bytes : List ℕ) (k : ℕ) → length xs ≤ k → bytes ≡ stores_from ss size xs k bytes
-lowered_all ss size xs bytes k h = sym (stored_end ss bytes (size * k) k xs h)
+  plain : IsBytes bytes → length bytes ≡ item_size (scalars_of payload) * n → n < 4294967295 → IsSomeAnd (items (scalars_of payload) bytes n) (λ xs. bytes ≡ stored (scalars_of payload) (replicate (length bytes) 0) xs) → Plain payload bytes bytes n
+  plain f size few copied = by (items (scalars_of payload) bytes n) refl copied
+    where
+      by : (o : Option (List Item)) → items (scalars_of payload) bytes n ≡ o → IsSomeAnd o (λ xs. bytes ≡ stored (scalars_of payload) (replicate (length bytes) 0) xs) → Plain payload bytes bytes n
+      by None e is = elim is [ ]
+      by (Some xs) e is = plain_by xs f size few e is
+
+pub plain_at : (payload : Payload) (bytes new : List ℕ) (n : ℕ) → new ≡ bytes → is_number_payload payload ≡ true → IsBytes bytes → length bytes ≡ item_size (scalars_of payload) * n → n < 4294967295 → Plain payload bytes new n
+plain_at payload bytes new n e t f size few =
+    subst (λ w. Plain payload bytes w n) (sym e) (plain payload bytes n f size few (copied_plain payload bytes n t f size))

@@ -3,14 +3,14 @@
 //!
 //! Source: ours.
 
-ghost use Rattle.std.specs.Prelude.{◌≡◌, ◌<◌, ◌*◌, ◌++◌, ◌∷◌, [], Bool, true, false, length, replicate, slice_get, if◌then◌else◌, Some, None, IsTrue, IfOk};
+ghost use Rattle.std.specs.Prelude.{◌≡◌, ◌<◌, ◌*◌, ◌++◌, ◌∷◌, [], Bool, true, false, length, replicate, slice_get, if◌then◌else◌, Some, None, IsTrue, IfOk, OnOk};
 ghost use Rattle.std.specs.Option.{option_map};
-ghost use Rattle.strm_codes.specs.Layout.{scalars_of, item_size};
+ghost use Rattle.strm_codes.specs.Layout.{scalars_of, item_size, is_number_payload};
 ghost use Rattle.strm_buffers.specs.Listing.{items_in, AreKept};
 ghost use Rattle.strm_tape.specs.Reading.{made, flag, answers, answer, room_of, room, items_as_written, region, items_of, writer_record, reader_record, typed};
 
 use crate::parts::{are_bytes, byte, number, within};
-use crate::writing::put_zeros;
+use crate::writing::{put, put_zeros};
 use std::alloc::Global;
 use strm_buffers::answers::{Answer, ReaderSaid};
 use strm_buffers::items::Items;
@@ -119,6 +119,51 @@ fn fill(
     }
 }
 
+// The same of whole numbers: whatever they are, they lie so, and are written once.
+fn fill_plain(
+    bytes: &[u8],
+    payload: Payload,
+    count: u32,
+    written: &mut Vec<u8>,
+) -> Result<(), OutOfMemory>
+    requires number { is_number_payload payload ≡ true }
+    requires all { length bytes.now ≡ item_size (scalars_of payload) * count }
+    requires empty { written.old.items ≡ [] }
+    requires few { count < 4294967295 }
+    ensures kept { OnOk result (AreKept payload written.new.items 0 count) }
+    ensures exact { OnOk result (items_as_written (scalars_of payload) bytes.now count
+        ≡ Some (items_in (scalars_of payload) written.new.items 0 count)) }
+{
+    are_bytes(bytes);
+    match put(written, bytes) {
+        Ok(()) => Ok(()),
+        Err(error) => Err(error),
+    }
+}
+
+// The same of items of any payload.
+fn fill_any(
+    bytes: &[u8],
+    payload: Payload,
+    count: u32,
+    written: &mut Vec<u8>,
+) -> Result<bool, OutOfMemory>
+    requires all { length bytes.now ≡ item_size (scalars_of payload) * count }
+    requires empty { written.old.items ≡ [] }
+    requires few { count < 4294967295 }
+    ensures kept { IfOk result (λ same. IsTrue same → AreKept payload written.new.items 0 count) }
+    ensures exact { IfOk result (λ same. items_as_written (scalars_of payload) bytes.now count
+        ≡ (if same then Some (items_in (scalars_of payload) written.new.items 0 count) else None)) }
+{
+    if !payload.is_number() {
+        return fill(bytes, payload, count, written);
+    }
+    match fill_plain(bytes, payload, count, written) {
+        Ok(()) => Ok(true),
+        Err(error) => Err(error),
+    }
+}
+
 // The items that these bytes are, where they lie in them as they are written over zeros.
 fn items_of_bytes(
     alloc: Global,
@@ -132,7 +177,7 @@ fn items_of_bytes(
         ≡ option_map (typed payload.now) (items_as_written (scalars_of payload.now) bytes.now count)) }
 {
     let mut written = Vec::new(alloc);
-    match fill(bytes, *payload, count, &mut written) {
+    match fill_any(bytes, *payload, count, &mut written) {
         Ok(true) => Ok(Some(Items::of_bytes(*payload, written, count as usize))),
         Ok(false) => Ok(None),
         Err(error) => Err(error),

@@ -18,7 +18,6 @@ use strm_buffers::items::Items;
 use strm_buffers::said::WriterSaid;
 use strm_codes::counts::OutOfMemory;
 use strm_machine::steps::Step;
-use strm_memory::items::lower_item_at;
 
 // The byte of yes or no.
 fn flag_byte(flag: bool) -> u8
@@ -50,20 +49,6 @@ fn put_room(out: &mut Vec<u8>, room: Option<u32>) -> Result<(), OutOfMemory>
     }
 }
 
-// Writes items over bytes, one behind the other.
-fn lower_items(items: &Items, bytes: &mut [u8])
-    requires { length bytes.old
-        ≡ item_size (scalars_of items.now.payload) * length items.now.items }
-    ensures { bytes.new ≡ stored (scalars_of items.now.payload) bytes.old items.now.items }
-{
-    let payload = items.payload();
-    let size = payload.size() as usize;
-    for k in 0..items.len() {
-        let item = items.get(k);
-        lower_item_at(&item, items.payload(), bytes, size * k);
-    }
-}
-
 // Items as they lie in bytes that were 0.
 fn put_items(out: &mut Vec<u8>, items: &Items) -> Result<(), OutOfMemory>
     ensures { OnOk result (out.new.items ≡ out.old.items
@@ -74,7 +59,7 @@ fn put_items(out: &mut Vec<u8>, items: &Items) -> Result<(), OutOfMemory>
         Ok(()) => {}
         Err(error) => return Err(error),
     }
-    lower_items(items, &mut out[start..]);
+    items.write_over(&mut out[start..]);
     Ok(())
 }
 
