@@ -108,10 +108,8 @@ impl Items {
         ensures bytes { T.payload ≡ One U8 → IsOk result }
     {
         let count = values.len();
-        match bytes_of_values(alloc, values) {
-            Ok(bytes) => Ok(Items::of_bytes(T::payload(), bytes, count)),
-            Err(error) => Err(error),
-        }
+        let bytes = bytes_of_values(alloc, values)?;
+        Ok(Items::of_bytes(T::payload(), bytes, count))
     }
 
     // The bytes of the items.
@@ -197,10 +195,7 @@ impl Items {
         ensures err { OnErr result (self.new ≡ self.old) }
     {
         let end = self.bytes.len();
-        match self.bytes.append_item(end, item, self.payload) {
-            Ok(()) => {}
-            Err(error) => return Err(error),
-        }
+        self.bytes.append_item(end, item, self.payload)?;
         self.len += 1;
         Ok(())
     }
@@ -213,10 +208,7 @@ impl Items {
         ensures ok { OnOk result (self.new.items ≡ self.old.items ++ more.now.items) }
         ensures err { OnErr result (self.new ≡ self.old) }
     {
-        match self.bytes.extend(more.bytes()) {
-            Ok(()) => {}
-            Err(error) => return Err(error),
-        }
+        self.bytes.extend(more.bytes())?;
         self.len += more.len();
         Ok(())
     }
@@ -225,15 +217,13 @@ impl Items {
     pub fn copy(&self) -> Result<Items, OutOfMemory>
         ensures { IfOk result (λ items. items ≡ self.now) }
     {
-        match self.bytes.copy_from(self.start) {
-            Ok(bytes) => Ok(Items {
-                payload: self.payload,
-                bytes,
-                start: 0,
-                len: self.len,
-            }),
-            Err(error) => Err(error),
-        }
+        let bytes = self.bytes.copy_from(self.start)?;
+        Ok(Items {
+            payload: self.payload,
+            bytes,
+            start: 0,
+            len: self.len,
+        })
     }
 
     /// Writes the items over bytes from their front on, one behind the other, all at once. Padding stays as
@@ -279,10 +269,7 @@ pub(crate) fn append_item(
         (take at bytes.old.items ++ replicate (item_size (scalars_of payload)) 0) at (item.now ∷ [])) }
     ensures err { OnErr result (bytes.new.items ≡ bytes.old.items) }
 {
-    match append_zeros(bytes, at, payload.size() as usize) {
-        Ok(()) => {}
-        Err(error) => return Err(error),
-    }
+    append_zeros(bytes, at, payload.size() as usize)?;
     write_item(bytes, at, item, payload);
     Ok(())
 }
@@ -374,10 +361,7 @@ fn store_values<T: Payloaded>(alloc: Global, values: &[T]) -> Result<Vec<u8>, Ou
     ensures { IfOk result (λ bytes. AreStored (scalars_of T.payload) bytes.items (map T.item values.now)) }
 {
     let mut bytes = Vec::new(alloc);
-    match append_zeros(&mut bytes, 0, T::payload().size() as usize * values.len()) {
-        Ok(()) => {}
-        Err(error) => return Err(error),
-    }
+    append_zeros(&mut bytes, 0, T::payload().size() as usize * values.len())?;
     put_values(values, bytes.as_mut_slice());
     Ok(bytes)
 }

@@ -47,10 +47,8 @@ pub fn mark_rest(window: &mut Window, items: &Items) -> Result<usize, OutOfMemor
     ensures fills { Fills window.old window.new }
 {
     let count = count_in_room(window, items);
-    match mark_first(window, items, count) {
-        Ok(()) => Ok(count),
-        Err(error) => Err(error),
-    }
+    mark_first(window, items, count)?;
+    Ok(count)
 }
 
 // How many of these items there is room for, where the first are marked.

@@ -36,15 +36,13 @@ impl WriterSaid {
     pub fn copy(&self) -> Result<WriterSaid, OutOfMemory>
         ensures { IfOk result (λ said. said ≡ self.now) }
     {
-        match self.items.copy() {
-            Ok(items) => Ok(WriterSaid {
-                room: self.room,
-                finish: self.finish,
-                items,
-                answer: self.answer,
-            }),
-            Err(error) => Err(error),
-        }
+        let items = self.items.copy()?;
+        Ok(WriterSaid {
+            room: self.room,
+            finish: self.finish,
+            items,
+            answer: self.answer,
+        })
     }
 
     /// Whether a host writer of this kind broke the rules in this poll.

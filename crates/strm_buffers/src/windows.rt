@@ -167,10 +167,7 @@ impl Window {
         ensures out_of_memory { OnErr result (self.old.place ≡ Between) }
     {
         let at = item_place(self.address, self.payload, self.marked);
-        match make_space(&mut self.bytes, self.room, at, self.payload, 1) {
-            Ok(()) => {}
-            Err(error) => return Err(error),
-        }
+        make_space(&mut self.bytes, self.room, at, self.payload, 1)?;
         write_item(&mut self.bytes, at, item, self.payload);
         self.marked += 1;
         Ok(())
@@ -187,10 +184,7 @@ impl Window {
         ensures out_of_memory { OnErr result (self.old.place ≡ Between) }
     {
         let at = item_place(self.address, self.payload, self.marked);
-        match make_space(&mut self.bytes, self.room, at, self.payload, count) {
-            Ok(()) => {}
-            Err(error) => return Err(error),
-        }
+        make_space(&mut self.bytes, self.room, at, self.payload, count)?;
         write_items(&mut self.bytes, at, bytes, self.payload, count);
         self.marked += count;
         Ok(())
@@ -224,10 +218,7 @@ impl Window {
         match self.room {
             Some(_) => Ok(()),
             None => {
-                match append_zeros(&mut self.bytes, self.marked as usize, capacity) {
-                    Ok(()) => {}
-                    Err(error) => return Err(error),
-                }
+                append_zeros(&mut self.bytes, self.marked as usize, capacity)?;
                 Ok(())
             }
         }

@@ -101,10 +101,7 @@ impl Feeds {
             return Err(OutOfMemory);
         }
         let rest_before = self.rest.len();
-        match append(&mut self.rest, rest) {
-            Ok(()) => {}
-            Err(error) => return Err(error),
-        }
+        append(&mut self.rest, rest)?;
         match self.bytes.extend_from_slice(items) {
             Ok(()) => {}
             Err(_) => {

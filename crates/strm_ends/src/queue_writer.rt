@@ -132,13 +132,9 @@ impl HostWriter for QueueWriter {
             ≡ queue_fed (queue_tells self.old).payload (queue_of self.old) bytes.now) }
         ensures same_queue { OnErr result (queue_of self.new ≡ queue_of self.old) }
     {
-        match self.fed.feed(self.polls.len(), bytes) {
-            Ok(()) => {
-                self.is_ended |= bytes.is_empty();
-                Ok(())
-            }
-            Err(error) => Err(error),
-        }
+        self.fed.feed(self.polls.len(), bytes)?;
+        self.is_ended |= bytes.is_empty();
+        Ok(())
     }
 
     fn close(&mut self)
@@ -156,15 +152,13 @@ impl HostWriter for QueueWriter {
 
     fn record_at(&self, index: usize) -> Result<WriterSaid, OutOfMemory> {
         let poll = self.polls[index];
-        match self.fed.copy(poll.start, poll.count) {
-            Ok(items) => Ok(WriterSaid {
-                room: poll.room,
-                finish: poll.finish,
-                items,
-                answer: poll.answer,
-            }),
-            Err(error) => Err(error),
-        }
+        let items = self.fed.copy(poll.start, poll.count)?;
+        Ok(WriterSaid {
+            room: poll.room,
+            finish: poll.finish,
+            items,
+            answer: poll.answer,
+        })
     }
 }
 
@@ -208,10 +202,7 @@ impl QueueWriter {
         let room = window.room();
         let queued = self.fed.len() - self.given;
         let count = (most_given(self.kind, room) as usize).min(queued);
-        match self.fed.mark(window, self.given, count as u32) {
-            Ok(()) => {}
-            Err(error) => return Err(error),
-        }
+        self.fed.mark(window, self.given, count as u32)?;
         let answer = self.answer(finish, queued, queued - count);
         self.polls.push_reserved(Poll {
             room,

@@ -130,13 +130,9 @@ impl HostWriter for ScriptedWriter {
         // Its turns stay.
         ensures turns { self.new.turns.items ≡ self.old.turns.items }
     {
-        match mark_in_room(window, &self.held) {
-            Ok(count) => {
-                self.held.skip(count);
-                Ok(())
-            }
-            Err(error) => Err(error),
-        }
+        let count = mark_in_room(window, &self.held)?;
+        self.held.skip(count);
+        Ok(())
     }
 
     fn feed(&mut self, _bytes: &[u8]) -> Result<(), OutOfMemory>
@@ -229,14 +225,8 @@ impl ScriptedWriter {
         }
         let next = &self.turns[0].items;
         next.sound();
-        let count = match mark_in_room(window, next) {
-            Ok(count) => count,
-            Err(error) => return Err(error),
-        };
-        let mut held = match next.copy() {
-            Ok(held) => held,
-            Err(error) => return Err(error),
-        };
+        let count = mark_in_room(window, next)?;
+        let mut held = next.copy()?;
         held.skip(count);
         let WriterTurn { items, answer } = self.turns.remove(0);
         self.held = held;

@@ -39,10 +39,7 @@ fn steps(alloc: Global, count: u32, bytes: &[u8]) -> Result<Option<(Vec<Step>, &
         let Some((found, behind)) = step(rest) else {
             return Ok(None);
         };
-        match push_item(&mut all, found) {
-            Ok(()) => {}
-            Err(error) => return Err(error),
-        }
+        push_item(&mut all, found)?;
         rest = behind;
     }
     Ok(Some((all, rest)))
@@ -76,15 +73,10 @@ fn writer_records<'a>(
     let mut all = Vec::new(alloc);
     let mut rest = bytes;
     for k in 0..count {
-        let (found, behind) = match writer_record(alloc, *payload, rest) {
-            Ok(Some(found)) => found,
-            Ok(None) => return Ok(None),
-            Err(error) => return Err(error),
+        let Some((found, behind)) = writer_record(alloc, *payload, rest)? else {
+            return Ok(None);
         };
-        match push_item(&mut all, found) {
-            Ok(()) => {}
-            Err(error) => return Err(error),
-        }
+        push_item(&mut all, found)?;
         rest = behind;
     }
     Ok(Some((all, rest)))
@@ -105,10 +97,7 @@ fn reader_records(
         let Some((found, behind)) = reader_record(rest) else {
             return Ok(None);
         };
-        match push_item(&mut all, found) {
-            Ok(()) => {}
-            Err(error) => return Err(error),
-        }
+        push_item(&mut all, found)?;
         rest = behind;
     }
     Ok(Some((all, rest)))
@@ -125,11 +114,10 @@ fn writer(alloc: Global, bytes: &[u8]) -> Result<Option<(WriterTape, &[u8])>, Ou
     let Some((count, rest)) = number(rest) else {
         return Ok(None);
     };
-    match writer_records(alloc, &ty.payload(), count, rest) {
-        Ok(Some((said, behind))) => Ok(Some((WriterTape { ty, said }, behind))),
-        Ok(None) => Ok(None),
-        Err(error) => Err(error),
-    }
+    let Some((said, behind)) = writer_records(alloc, &ty.payload(), count, rest)? else {
+        return Ok(None);
+    };
+    Ok(Some((WriterTape { ty, said }, behind)))
 }
 
 // What a tape has of a host reader, and what follows it.
@@ -143,11 +131,10 @@ fn reader(alloc: Global, bytes: &[u8]) -> Result<Option<(ReaderTape, &[u8])>, Ou
     let Some((count, rest)) = number(rest) else {
         return Ok(None);
     };
-    match reader_records(alloc, count, rest) {
-        Ok(Some((said, behind))) => Ok(Some((ReaderTape { ty, said }, behind))),
-        Ok(None) => Ok(None),
-        Err(error) => Err(error),
-    }
+    let Some((said, behind)) = reader_records(alloc, count, rest)? else {
+        return Ok(None);
+    };
+    Ok(Some((ReaderTape { ty, said }, behind)))
 }
 
 // So many host writers, and what follows them.
@@ -162,15 +149,10 @@ fn writers(
     let mut all = Vec::new(alloc);
     let mut rest = bytes;
     for k in 0..count {
-        let (found, behind) = match writer(alloc, rest) {
-            Ok(Some(found)) => found,
-            Ok(None) => return Ok(None),
-            Err(error) => return Err(error),
+        let Some((found, behind)) = writer(alloc, rest)? else {
+            return Ok(None);
         };
-        match push_item(&mut all, found) {
-            Ok(()) => {}
-            Err(error) => return Err(error),
-        }
+        push_item(&mut all, found)?;
         rest = behind;
     }
     Ok(Some((all, rest)))
@@ -188,15 +170,10 @@ fn readers(
     let mut all = Vec::new(alloc);
     let mut rest = bytes;
     for k in 0..count {
-        let (found, behind) = match reader(alloc, rest) {
-            Ok(Some(found)) => found,
-            Ok(None) => return Ok(None),
-            Err(error) => return Err(error),
+        let Some((found, behind)) = reader(alloc, rest)? else {
+            return Ok(None);
         };
-        match push_item(&mut all, found) {
-            Ok(()) => {}
-            Err(error) => return Err(error),
-        }
+        push_item(&mut all, found)?;
         rest = behind;
     }
     Ok(Some((all, rest)))

@@ -113,10 +113,8 @@ fn fill(
     ensures exact { IfOk result (λ same. items_as_written (scalars_of payload) bytes.now count
         ≡ (if same then Some (items_in (scalars_of payload) written.new.items 0 count) else None)) }
 {
-    match put_zeros(written, bytes.len()) {
-        Ok(()) => Ok(write_again(bytes, payload, count, written)),
-        Err(error) => Err(error),
-    }
+    put_zeros(written, bytes.len())?;
+    Ok(write_again(bytes, payload, count, written))
 }
 
 // The same of whole numbers: whatever they are, they lie so, and are written once.
@@ -135,10 +133,7 @@ fn fill_plain(
         ≡ Some (items_in (scalars_of payload) written.new.items 0 count)) }
 {
     are_bytes(bytes);
-    match put(written, bytes) {
-        Ok(()) => Ok(()),
-        Err(error) => Err(error),
-    }
+    put(written, bytes)
 }
 
 // The same of items of any payload.
@@ -158,10 +153,8 @@ fn fill_any(
     if !payload.is_number() {
         return fill(bytes, payload, count, written);
     }
-    match fill_plain(bytes, payload, count, written) {
-        Ok(()) => Ok(true),
-        Err(error) => Err(error),
-    }
+    fill_plain(bytes, payload, count, written)?;
+    Ok(true)
 }
 
 // The items that these bytes are, where they lie in them as they are written over zeros.
@@ -177,11 +170,10 @@ fn items_of_bytes(
         ≡ option_map (typed payload.now) (items_as_written (scalars_of payload.now) bytes.now count)) }
 {
     let mut written = Vec::new(alloc);
-    match fill_any(bytes, *payload, count, &mut written) {
-        Ok(true) => Ok(Some(Items::of_bytes(*payload, written, count as usize))),
-        Ok(false) => Ok(None),
-        Err(error) => Err(error),
+    if !fill_any(bytes, *payload, count, &mut written)? {
+        return Ok(None);
     }
+    Ok(Some(Items::of_bytes(*payload, written, count as usize)))
 }
 
 // So many items, and what follows them.
@@ -201,11 +193,10 @@ fn region(
         return Ok(None);
     }
     let (front, rest) = bytes.split_at(size);
-    match items_of_bytes(alloc, &payload, count, front) {
-        Ok(Some(items)) => Ok(Some((items, rest))),
-        Ok(None) => Ok(None),
-        Err(error) => Err(error),
-    }
+    let Some(items) = items_of_bytes(alloc, &payload, count, front)? else {
+        return Ok(None);
+    };
+    Ok(Some((items, rest)))
 }
 
 // Items behind their number, and what follows them.
@@ -243,10 +234,8 @@ pub(crate) fn writer_record(
     let Some((finish, rest)) = flag(rest) else {
         return Ok(None);
     };
-    let (items, rest) = match items_of(alloc, payload, rest) {
-        Ok(Some(found)) => found,
-        Ok(None) => return Ok(None),
-        Err(error) => return Err(error),
+    let Some((items, rest)) = items_of(alloc, payload, rest)? else {
+        return Ok(None);
     };
     let Some((answer, rest)) = answer(rest) else {
         return Ok(None);

@@ -55,10 +55,7 @@ fn put_items(out: &mut Vec<u8>, items: &Items) -> Result<(), OutOfMemory>
         ++ region_bytes (scalars_of items.now.payload) items.now.items) }
 {
     let start = out.len();
-    match put_zeros(out, items.payload().size() as usize * items.len()) {
-        Ok(()) => {}
-        Err(error) => return Err(error),
-    }
+    put_zeros(out, items.payload().size() as usize * items.len())?;
     items.write_over(&mut out[start..]);
     Ok(())
 }
@@ -67,22 +64,10 @@ fn put_items(out: &mut Vec<u8>, items: &Items) -> Result<(), OutOfMemory>
 fn put_writer_record(out: &mut Vec<u8>, said: &WriterSaid) -> Result<(), OutOfMemory>
     ensures { OnOk result (out.new.items ≡ out.old.items ++ writer_record_bytes said.now) }
 {
-    match put_room(out, said.room) {
-        Ok(()) => {}
-        Err(error) => return Err(error),
-    }
-    match put(out, &[flag_byte(said.finish)]) {
-        Ok(()) => {}
-        Err(error) => return Err(error),
-    }
-    match put_number(out, said.items.len() as u32) {
-        Ok(()) => {}
-        Err(error) => return Err(error),
-    }
-    match put_items(out, &said.items) {
-        Ok(()) => {}
-        Err(error) => return Err(error),
-    }
+    put_room(out, said.room)?;
+    put(out, &[flag_byte(said.finish)])?;
+    put_number(out, said.items.len() as u32)?;
+    put_items(out, &said.items)?;
     put(out, &[answer_number(said.answer)])
 }
 
@@ -90,22 +75,10 @@ fn put_writer_record(out: &mut Vec<u8>, said: &WriterSaid) -> Result<(), OutOfMe
 fn put_reader_record(out: &mut Vec<u8>, said: &ReaderSaid) -> Result<(), OutOfMemory>
     ensures { OnOk result (out.new.items ≡ out.old.items ++ reader_record_bytes said.now) }
 {
-    match put_number(out, said.offered) {
-        Ok(()) => {}
-        Err(error) => return Err(error),
-    }
-    match put_number(out, said.since) {
-        Ok(()) => {}
-        Err(error) => return Err(error),
-    }
-    match put(out, &[flag_byte(said.finish)]) {
-        Ok(()) => {}
-        Err(error) => return Err(error),
-    }
-    match put_number(out, said.taken) {
-        Ok(()) => {}
-        Err(error) => return Err(error),
-    }
+    put_number(out, said.offered)?;
+    put_number(out, said.since)?;
+    put(out, &[flag_byte(said.finish)])?;
+    put_number(out, said.taken)?;
     put(out, &[flag_byte(said.bad), answer_number(said.answer)])
 }
 
@@ -114,10 +87,7 @@ fn put_steps(out: &mut Vec<u8>, steps: &[Step]) -> Result<(), OutOfMemory>
     ensures { OnOk result (out.new.items ≡ out.old.items ++ flat_map step_bytes steps.now) }
 {
     for k in 0..steps.len() {
-        match put_step(out, &steps[k]) {
-            Ok(()) => {}
-            Err(error) => return Err(error),
-        }
+        put_step(out, &steps[k])?;
     }
     Ok(())
 }
@@ -127,10 +97,7 @@ fn put_writer_records(out: &mut Vec<u8>, said: &[WriterSaid]) -> Result<(), OutO
     ensures { OnOk result (out.new.items ≡ out.old.items ++ flat_map writer_record_bytes said.now) }
 {
     for k in 0..said.len() {
-        match put_writer_record(out, &said[k]) {
-            Ok(()) => {}
-            Err(error) => return Err(error),
-        }
+        put_writer_record(out, &said[k])?;
     }
     Ok(())
 }
@@ -140,10 +107,7 @@ fn put_reader_records(out: &mut Vec<u8>, said: &[ReaderSaid]) -> Result<(), OutO
     ensures { OnOk result (out.new.items ≡ out.old.items ++ flat_map reader_record_bytes said.now) }
 {
     for k in 0..said.len() {
-        match put_reader_record(out, &said[k]) {
-            Ok(()) => {}
-            Err(error) => return Err(error),
-        }
+        put_reader_record(out, &said[k])?;
     }
     Ok(())
 }
@@ -153,14 +117,8 @@ fn put_writer(out: &mut Vec<u8>, writer: &WriterTape) -> Result<(), OutOfMemory>
     requires { IsU32 (length writer.now.said) }
     ensures { OnOk result (out.new.items ≡ out.old.items ++ writer_bytes writer.now) }
 {
-    match put_type(out, &writer.ty) {
-        Ok(()) => {}
-        Err(error) => return Err(error),
-    }
-    match put_number(out, writer.said.len() as u32) {
-        Ok(()) => {}
-        Err(error) => return Err(error),
-    }
+    put_type(out, &writer.ty)?;
+    put_number(out, writer.said.len() as u32)?;
     put_writer_records(out, &writer.said)
 }
 
@@ -169,14 +127,8 @@ fn put_reader(out: &mut Vec<u8>, reader: &ReaderTape) -> Result<(), OutOfMemory>
     requires { IsU32 (length reader.now.said) }
     ensures { OnOk result (out.new.items ≡ out.old.items ++ reader_bytes reader.now) }
 {
-    match put_type(out, &reader.ty) {
-        Ok(()) => {}
-        Err(error) => return Err(error),
-    }
-    match put_number(out, reader.said.len() as u32) {
-        Ok(()) => {}
-        Err(error) => return Err(error),
-    }
+    put_type(out, &reader.ty)?;
+    put_number(out, reader.said.len() as u32)?;
     put_reader_records(out, &reader.said)
 }
 
@@ -186,10 +138,7 @@ fn put_writers(out: &mut Vec<u8>, writers: &[WriterTape]) -> Result<(), OutOfMem
     ensures { OnOk result (out.new.items ≡ out.old.items ++ flat_map writer_bytes writers.now) }
 {
     for k in 0..writers.len() {
-        match put_writer(out, &writers[k]) {
-            Ok(()) => {}
-            Err(error) => return Err(error),
-        }
+        put_writer(out, &writers[k])?;
     }
     Ok(())
 }
@@ -200,10 +149,7 @@ fn put_readers(out: &mut Vec<u8>, readers: &[ReaderTape]) -> Result<(), OutOfMem
     ensures { OnOk result (out.new.items ≡ out.old.items ++ flat_map reader_bytes readers.now) }
 {
     for k in 0..readers.len() {
-        match put_reader(out, &readers[k]) {
-            Ok(()) => {}
-            Err(error) => return Err(error),
-        }
+        put_reader(out, &readers[k])?;
     }
     Ok(())
 }
@@ -212,30 +158,12 @@ fn put_readers(out: &mut Vec<u8>, readers: &[ReaderTape]) -> Result<(), OutOfMem
 fn put_tape(out: &mut Vec<u8>, tape: &Tape) -> Result<(), OutOfMemory>
     ensures { OnOk result (out.new.items ≡ out.old.items ++ tape_spelling tape.now) }
 {
-    match put(out, b"STRT\x01") {
-        Ok(()) => {}
-        Err(error) => return Err(error),
-    }
-    match put_number(out, tape.steps.len() as u32) {
-        Ok(()) => {}
-        Err(error) => return Err(error),
-    }
-    match put_steps(out, &tape.steps) {
-        Ok(()) => {}
-        Err(error) => return Err(error),
-    }
-    match put(out, &[tape.writers.len() as u8]) {
-        Ok(()) => {}
-        Err(error) => return Err(error),
-    }
-    match put_writers(out, &tape.writers) {
-        Ok(()) => {}
-        Err(error) => return Err(error),
-    }
-    match put(out, &[tape.readers.len() as u8]) {
-        Ok(()) => {}
-        Err(error) => return Err(error),
-    }
+    put(out, b"STRT\x01")?;
+    put_number(out, tape.steps.len() as u32)?;
+    put_steps(out, &tape.steps)?;
+    put(out, &[tape.writers.len() as u8])?;
+    put_writers(out, &tape.writers)?;
+    put(out, &[tape.readers.len() as u8])?;
     put_readers(out, &tape.readers)
 }
 
@@ -267,8 +195,6 @@ pub fn tape_bytes(alloc: Global, tape: &Tape) -> Result<TapeBytes, OutOfMemory>
     ensures { IfOk result (λ bytes. bytes ≡ tape_spelling tape.now) }
 {
     let mut items = Vec::new(alloc);
-    match put_tape(&mut items, tape) {
-        Ok(()) => Ok(TapeBytes { items }),
-        Err(error) => Err(error),
-    }
+    put_tape(&mut items, tape)?;
+    Ok(TapeBytes { items })
 }

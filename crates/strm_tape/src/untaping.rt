@@ -38,20 +38,14 @@ fn tape(alloc: Global, bytes: &[u8]) -> Result<Option<(Tape, &[u8])>, OutOfMemor
     let Some(rest) = head(bytes) else {
         return Ok(None);
     };
-    let (steps, rest) = match listed_steps(alloc, rest) {
-        Ok(Some(found)) => found,
-        Ok(None) => return Ok(None),
-        Err(error) => return Err(error),
+    let Some((steps, rest)) = listed_steps(alloc, rest)? else {
+        return Ok(None);
     };
-    let (writers, rest) = match few_writers(alloc, rest) {
-        Ok(Some(found)) => found,
-        Ok(None) => return Ok(None),
-        Err(error) => return Err(error),
+    let Some((writers, rest)) = few_writers(alloc, rest)? else {
+        return Ok(None);
     };
-    let (readers, rest) = match few_readers(alloc, rest) {
-        Ok(Some(found)) => found,
-        Ok(None) => return Ok(None),
-        Err(error) => return Err(error),
+    let Some((readers, rest)) = few_readers(alloc, rest)? else {
+        return Ok(None);
     };
     Ok(Some((
         Tape {

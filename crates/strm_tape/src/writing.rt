@@ -80,10 +80,8 @@ fn place_of(scalar: Scalar) -> u8
 fn put_one(out: &mut Vec<u8>, place: u8, first: u32) -> Result<(), OutOfMemory>
     ensures { OnOk result (out.new.items ≡ out.old.items ++ place ∷ number_bytes first) }
 {
-    match put(out, &[place]) {
-        Ok(()) => put_number(out, first),
-        Err(error) => Err(error),
-    }
+    put(out, &[place])?;
+    put_number(out, first)
 }
 
 // A place, and two numbers.
@@ -91,10 +89,8 @@ fn put_two(out: &mut Vec<u8>, place: u8, first: u32, second: u32) -> Result<(), 
     ensures { OnOk result (out.new.items ≡ out.old.items
         ++ place ∷ number_bytes first ++ number_bytes second) }
 {
-    match put_one(out, place, first) {
-        Ok(()) => put_number(out, second),
-        Err(error) => Err(error),
-    }
+    put_one(out, place, first)?;
+    put_number(out, second)
 }
 
 // A place, and three numbers.
@@ -108,10 +104,8 @@ fn put_three(
     ensures { OnOk result (out.new.items ≡ out.old.items
         ++ place ∷ number_bytes first ++ number_bytes second ++ number_bytes third) }
 {
-    match put_two(out, place, first, second) {
-        Ok(()) => put_number(out, third),
-        Err(error) => Err(error),
-    }
+    put_two(out, place, first, second)?;
+    put_number(out, third)
 }
 
 // A place, a number and bytes behind their number.
@@ -119,10 +113,8 @@ fn put_chunk(out: &mut Vec<u8>, bytes: &Chunk) -> Result<(), OutOfMemory>
     ensures { OnOk result (out.new.items ≡ out.old.items ++ counted_bytes bytes.now) }
 {
     let slice = bytes.as_slice();
-    match put(out, &[slice.len() as u8]) {
-        Ok(()) => put(out, slice),
-        Err(error) => Err(error),
-    }
+    put(out, &[slice.len() as u8])?;
+    put(out, slice)
 }
 
 // The scalars of a tuple behind their number.
@@ -130,10 +122,7 @@ fn put_shape(out: &mut Vec<u8>, scalars: &[Scalar]) -> Result<(), OutOfMemory>
     ensures { OnOk result (out.new.items ≡ out.old.items ++ map scalar_number scalars.now) }
 {
     for k in 0..scalars.len() {
-        match put(out, &[place_of(scalars[k])]) {
-            Ok(()) => {}
-            Err(error) => return Err(error),
-        }
+        put(out, &[place_of(scalars[k])])?;
     }
     Ok(())
 }
@@ -147,10 +136,8 @@ pub(crate) fn put_payload(out: &mut Vec<u8>, payload: &Payload) -> Result<(), Ou
         Payload::One(scalar) => put(out, &[1, place_of(*scalar)]),
         Payload::Tuple(shape) => {
             let scalars = shape.as_slice();
-            match put(out, &[2, scalars.len() as u8]) {
-                Ok(()) => put_shape(out, scalars),
-                Err(error) => Err(error),
-            }
+            put(out, &[2, scalars.len() as u8])?;
+            put_shape(out, scalars)
         }
     }
 }
@@ -160,14 +147,14 @@ pub(crate) fn put_type(out: &mut Vec<u8>, ty: &TransmitIndex) -> Result<(), OutO
     ensures { OnOk result (out.new.items ≡ out.old.items ++ type_bytes ty.now) }
 {
     match ty {
-        TransmitIndex::Stream(payload) => match put(out, &[0]) {
-            Ok(()) => put_payload(out, payload),
-            Err(error) => Err(error),
-        },
-        TransmitIndex::Future(payload) => match put(out, &[1]) {
-            Ok(()) => put_payload(out, payload),
-            Err(error) => Err(error),
-        },
+        TransmitIndex::Stream(payload) => {
+            put(out, &[0])?;
+            put_payload(out, payload)
+        }
+        TransmitIndex::Future(payload) => {
+            put(out, &[1])?;
+            put_payload(out, payload)
+        }
     }
 }
 
@@ -181,10 +168,8 @@ fn put_one_and_type(
     ensures { OnOk result (out.new.items ≡ out.old.items
         ++ place ∷ arguments_bytes (Number first ∷ Typed ty.now ∷ [])) }
 {
-    match put_one(out, place, first) {
-        Ok(()) => put_type(out, ty),
-        Err(error) => Err(error),
-    }
+    put_one(out, place, first)?;
+    put_type(out, ty)
 }
 
 // A place, two numbers and a type.
@@ -198,10 +183,8 @@ fn put_two_and_type(
     ensures { OnOk result (out.new.items ≡ out.old.items
         ++ place ∷ arguments_bytes (Number first ∷ Number second ∷ Typed ty.now ∷ [])) }
 {
-    match put_two(out, place, first, second) {
-        Ok(()) => put_type(out, ty),
-        Err(error) => Err(error),
-    }
+    put_two(out, place, first, second)?;
+    put_type(out, ty)
 }
 
 // A place, and what names an end.
@@ -215,10 +198,8 @@ fn put_end(
     ensures { OnOk result (out.new.items ≡ out.old.items
         ++ place ∷ arguments_bytes (Number guest ∷ Typed ty.now ∷ Number handle ∷ [])) }
 {
-    match put_one_and_type(out, place, guest, ty) {
-        Ok(()) => put_number(out, handle),
-        Err(error) => Err(error),
-    }
+    put_one_and_type(out, place, guest, ty)?;
+    put_number(out, handle)
 }
 
 // The same, and one number more.
@@ -233,10 +214,8 @@ fn put_end_and_one(
     ensures { OnOk result (out.new.items ≡ out.old.items
         ++ place ∷ arguments_bytes (Number guest ∷ Typed ty.now ∷ Number handle ∷ Number more ∷ [])) }
 {
-    match put_end(out, place, guest, ty, handle) {
-        Ok(()) => put_number(out, more),
-        Err(error) => Err(error),
-    }
+    put_end(out, place, guest, ty, handle)?;
+    put_number(out, more)
 }
 
 // A place, and what a read or write names.
@@ -252,10 +231,8 @@ fn put_operands(
     ensures { OnOk result (out.new.items ≡ out.old.items
         ++ place ∷ arguments_bytes (operands guest ty.now handle address count)) }
 {
-    match put_end_and_one(out, place, guest, ty, handle, address) {
-        Ok(()) => put_number(out, count),
-        Err(error) => Err(error),
-    }
+    put_end_and_one(out, place, guest, ty, handle, address)?;
+    put_number(out, count)
 }
 
 // A place, a number and bytes.
@@ -268,10 +245,8 @@ fn put_one_and_bytes(
     ensures { OnOk result (out.new.items ≡ out.old.items
         ++ place ∷ number_bytes first ++ counted_bytes bytes.now) }
 {
-    match put_one(out, place, first) {
-        Ok(()) => put_chunk(out, bytes),
-        Err(error) => Err(error),
-    }
+    put_one(out, place, first)?;
+    put_chunk(out, bytes)
 }
 
 // A place, two numbers and bytes.
@@ -285,10 +260,8 @@ fn put_two_and_bytes(
     ensures { OnOk result (out.new.items ≡ out.old.items
         ++ place ∷ number_bytes first ++ number_bytes second ++ counted_bytes bytes.now) }
 {
-    match put_two(out, place, first, second) {
-        Ok(()) => put_chunk(out, bytes),
-        Err(error) => Err(error),
-    }
+    put_two(out, place, first, second)?;
+    put_chunk(out, bytes)
 }
 
 /// A step.

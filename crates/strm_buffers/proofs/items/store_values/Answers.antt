@@ -12,6 +12,6 @@ returns g c =
     let zeros = c.append_zeros.new.bytes in
     let size : c.size.result ≡ item_size ss = c.size.ensures.exact ∙ ap (λ p. item_size (scalars_of p)) c.payload.ensures in
     let all : length zeros.items ≡ item_size ss * length xs =
-    ap length c.in-Ok.ensures.ok ∙ length-replicate (c.size.result * length c.args.values.now) 0 ∙ ap (λ w. w * length c.args.values.now) size ∙ ap (λ n. item_size ss * n) (sym (length-map c.args.values.now g.T.Payloaded.item)) in
+    ap length c.in_ok-append_zeros.ensures.ok ∙ length-replicate (c.size.result * length c.args.values.now) 0 ∙ ap (λ w. w * length c.args.values.now) size ∙ ap (λ n. item_size ss * n) (sym (length-map c.args.values.now g.T.Payloaded.item)) in
     are_stored ss zeros.items c.put_values.new.bytes zeros.len xs all (omega (arith, zeros.ok.0)) c.put_values.ensures.fit
     (c.put_values.ensures.stored ∙ ap (λ b. stored ss b xs) c.as_mut_slice.ensures.value)

@@ -10,7 +10,7 @@ returns-in_default c =
 
 pub loop-k-preserved : goal.loop-k-preserved
 loop-k-preserved c =
-    rw c.in-Ok.ensures
+    rw c.in_ok-push_item.ensures
     (many_on step c.loop-k.all.items (c.args.count - c.loop-k.k) (c.args.count - (c.loop-k.k + 1)) c.loop-k.rest.now (c.in-Some.found, c.in-Some.behind.now) (omega (arith, c.loop-k-test.true)) (sym c.in-Some.ensures)
     ∙ c.loop-k.invariant)
 

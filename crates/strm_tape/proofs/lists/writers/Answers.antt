@@ -3,15 +3,15 @@ use Rattle.strm_tape.specs.Reading.{writer}
 use Rattle.strm_tape.proofs.ManyLemmas.{many_stopped, many_on, many_over}
 use Rattle.strm_tape.proofs.lists.writers.Goals as goal
 
-pub returns-in-Ok-None : goal.returns-in-Ok-None
-returns-in-Ok-None c =
-    sym (many_stopped writer c.loop-k.all.items (c.args.count - c.loop-k.k) c.loop-k.rest.now (omega (arith, c.loop-k-test.true)) (sym (rw c.in-Ok-None.field-0-is at c.in-Ok-None.ensures)))
+pub returns-in_default : goal.returns-in_default
+returns-in_default c =
+    sym (many_stopped writer c.loop-k.all.items (c.args.count - c.loop-k.k) c.loop-k.rest.now (omega (arith, c.loop-k-test.true)) (sym (rw c.in_default.is at c.in_ok-found.ensures)))
     ∙ c.loop-k.invariant
 
 pub loop-k-preserved : goal.loop-k-preserved
 loop-k-preserved c =
-    rw c.in-Ok.ensures
-    (many_on writer c.loop-k.all.items (c.args.count - c.loop-k.k) (c.args.count - (c.loop-k.k + 1)) c.loop-k.rest.now (c.in-Ok-Some.found.0, c.in-Ok-Some.found.1.now) (omega (arith, c.loop-k-test.true)) (sym (rw c.in-Ok-Some.field-0-is at c.in-Ok-Some.ensures))
+    rw c.in_ok-push_item.ensures
+    (many_on writer c.loop-k.all.items (c.args.count - c.loop-k.k) (c.args.count - (c.loop-k.k + 1)) c.loop-k.rest.now (c.in-Some.found, c.in-Some.behind.now) (omega (arith, c.loop-k-test.true)) (sym (rw c.in-Some.is at c.in_ok-found.ensures))
     ∙ c.loop-k.invariant)
 
 pub returns : goal.returns

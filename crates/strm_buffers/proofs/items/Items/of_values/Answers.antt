@@ -9,12 +9,12 @@ pub of_bytes-requires : goal.of_bytes-requires
 of_bytes-requires g c =
     let xs = map g.T.Payloaded.item c.args.values.items in
     let count : c.len-count.result ≡ length xs = omega (arith, c.len-count.ensures, length-map c.args.values.items g.T.Payloaded.item, c.args.values.ok.0) in
-    rw c.payload.ensures (kept_stored g.T.Payloaded.payload c.in-Ok.bytes.items xs c.len-count.result c.in-Ok.ensures.stored count (omega (arith, c.len-count.ensures, c.requires, c.args.values.ok.0))).0
+    rw c.payload.ensures (kept_stored g.T.Payloaded.payload c.in_ok-bytes.bytes.items xs c.len-count.result c.in_ok-bytes.ensures.stored count (omega (arith, c.len-count.ensures, c.requires, c.args.values.ok.0))).0
 
-pub returns-in-Ok-clause-items : goal.returns-in-Ok-clause-items
-returns-in-Ok-clause-items g c =
+pub returns-clause-items : goal.returns-clause-items
+returns-clause-items g c =
     let xs = map g.T.Payloaded.item c.args.values.items in
     let count : c.len-count.result ≡ length xs = omega (arith, c.len-count.ensures, length-map c.args.values.items g.T.Payloaded.item, c.args.values.ok.0) in
     ap (λ v. v.items) c.of_bytes.ensures
-    ∙ ap (λ p. items_in (scalars_of p) c.in-Ok.bytes.items 0 c.len-count.result) c.payload.ensures
-    ∙ (kept_stored g.T.Payloaded.payload c.in-Ok.bytes.items xs c.len-count.result c.in-Ok.ensures.stored count (omega (arith, c.len-count.ensures, c.requires, c.args.values.ok.0))).1
+    ∙ ap (λ p. items_in (scalars_of p) c.in_ok-bytes.bytes.items 0 c.len-count.result) c.payload.ensures
+    ∙ (kept_stored g.T.Payloaded.payload c.in_ok-bytes.bytes.items xs c.len-count.result c.in_ok-bytes.ensures.stored count (omega (arith, c.len-count.ensures, c.requires, c.args.values.ok.0))).1

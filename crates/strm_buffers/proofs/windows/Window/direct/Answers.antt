@@ -12,10 +12,10 @@ none_there None e h = cc
 none_there (Some x) e h = cc
 
 pub invariant_of-self-in-None : goal.invariant_of-self-in-None
-invariant_of-self-in-None c = (direct_none c.self.inside.payload _ _ _ _ _ _ _ _ _ _ c.in-None.is c.self.invariant (ap lying_nowhere c.self.view_is) c.requires.bytes c.requires.few c.in-Ok.ensures.ok).is_window
+invariant_of-self-in-None c = (direct_none c.self.inside.payload _ _ _ _ _ _ _ _ _ _ c.in-None.is c.self.invariant (ap lying_nowhere c.self.view_is) c.requires.bytes c.requires.few c.in_ok-append_zeros-in-None.ensures.ok).is_window
 
-pub returns-in-Ok-clause-ok : goal.returns-in-Ok-clause-ok
-returns-in-Ok-clause-ok c =
+pub returns-in_ok-append_zeros-in-None-clause-ok : goal.returns-in_ok-append_zeros-in-None-clause-ok
+returns-in_ok-append_zeros-in-None-clause-ok c =
     let s = c.self.inside in
     let stays = base_stays s.room s.is_told (vec_ptr s.bytes) _ (λ h. none_there s.room c.in-None.is h) in
-    lies_there _ _ _ ((direct_none c.self.inside.payload _ _ _ _ _ _ _ _ _ _ c.in-None.is c.self.invariant (ap lying_nowhere c.self.view_is) c.requires.bytes c.requires.few c.in-Ok.ensures.ok).is) (stays ∙ ap (λ (w : Lent). w.base) c.self.view_is)
+    lies_there _ _ _ ((direct_none c.self.inside.payload _ _ _ _ _ _ _ _ _ _ c.in-None.is c.self.invariant (ap lying_nowhere c.self.view_is) c.requires.bytes c.requires.few c.in_ok-append_zeros-in-None.ensures.ok).is) (stays ∙ ap (λ (w : Lent). w.base) c.self.view_is)

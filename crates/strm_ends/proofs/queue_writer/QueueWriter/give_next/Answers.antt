@@ -35,13 +35,13 @@ returns-clause-marked c =
     let room = room_of c.args.window.now.place in
     let most : c.most_given.result ≡ most_given old.kind room = c.most_given.ensures.exact ∙ ap (most_given old.kind) c.room-room.ensures in
     let count : c.min-count.result ≡ min (most_given old.kind room) (length old.fed.items - old.given) = omega (arith, most, c.min-count.ensures, c.len.ensures) in
-    c.in-Ok-mark.ensures.marked ∙ given_is (most_given old.kind room) c.min-count.result old.given old.fed.items count
+    c.in_ok-mark.ensures.marked ∙ given_is (most_given old.kind room) c.min-count.result old.given old.fed.items count
 
 pub returns-clause-fit : goal.returns-clause-fit
 returns-clause-fit c =
     let old = c.args.self.now in
     let ss = scalars_of old.fed.payload in
-    rw c.in-Ok-mark.ensures.marked (AreItems-take ss c.min-count.result (drop old.given old.fed.items) (AreItems-drop ss old.given old.fed.items c.sound.ensures))
+    rw c.in_ok-mark.ensures.marked (AreItems-take ss c.min-count.result (drop old.given old.fed.items) (AreItems-drop ss old.given old.fed.items c.sound.ensures))
 
 pub returns-clause-answer : goal.returns-clause-answer
 returns-clause-answer c =
@@ -64,4 +64,4 @@ returns-clause-queue c =
 pub returns-clause-said : goal.returns-clause-said
 returns-clause-said c =
     let old = c.args.self.now in
-    rw (c.push_reserved.ensures.items, c.reserve.ensures.items, map-append (said_of old.fed.payload old.fed.items) old.polls.items, c.in-Ok-mark.ensures.marked, c.room-room.ensures, c.requires.payload) refl
+    rw (c.push_reserved.ensures.items, c.reserve.ensures.items, map-append (said_of old.fed.payload old.fed.items) old.polls.items, c.in_ok-mark.ensures.marked, c.room-room.ensures, c.requires.payload) refl

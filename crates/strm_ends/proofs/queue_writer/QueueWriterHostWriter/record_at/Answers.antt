@@ -17,10 +17,10 @@ copy-requires c =
     let is : IsPoll s.fed.items c.index-poll.result.now = rw c.index-poll.ensures (s.polled c.args.index c.index-poll.result.now within) in
     record { there = is.0; few = is.1 }
 
-pub returns-in-Ok-clause-exact : goal.returns-in-Ok-clause-exact
-returns-in-Ok-clause-exact c =
+pub returns-clause-exact : goal.returns-clause-exact
+returns-clause-exact c =
     let s = c.args.self.now in
     let within : c.args.index < length s.polls.items = omega (arith, c.requires, length-map s.polls.items (said_of s.fed.payload s.fed.items)) in
     slice_get-map (said_of s.fed.payload s.fed.items) s.polls.items c.args.index
     ∙ ap (option_map (said_of s.fed.payload s.fed.items)) (slice_get_read s.polls.items (length s.polls.items) c.args.index c.index-poll.result.now refl within c.index-poll.ensures)
-    ∙ rw c.in-Ok.ensures refl
+    ∙ rw c.in_ok-items.ensures refl

@@ -17,7 +17,7 @@ pub invariant_of-self-2-clause-holding : goal.invariant_of-self-2-clause-holding
 invariant_of-self-2-clause-holding c =
     let old = c.args.self.now in
     let some : 0 < length old.turns.items = omega (arith, c.requires.next, old.turns.ok.0) in
-    rw (c.skip.ensures.payload, c.in-Ok-copy.ensures, c.index.ensures) (old.typed 0 c.index.result.now some)
+    rw (c.skip.ensures.payload, c.in_ok-held.ensures, c.index.ensures) (old.typed 0 c.index.result.now some)
 
 -- and so is what is recorded
 pub invariant_of-self-2-clause-recorded : goal.invariant_of-self-2-clause-recorded
