@@ -133,7 +133,8 @@ fn fill_plain(
         ≡ Some (items_in (scalars_of payload) written.new.items 0 count)) }
 {
     are_bytes(bytes);
-    put(written, bytes)
+    put(written, bytes)?;
+    Ok(())
 }
 
 // The same of items of any payload.
