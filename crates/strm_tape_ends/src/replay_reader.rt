@@ -39,12 +39,10 @@ impl ReplayReader {
             IfOk result (λ r. plan_of_reader r ≡ map turn_for t.said) }
     {
         let reader = tape.reader(number);
-        match turns_of(alloc, &reader.said) {
-            Ok(turns) => Ok(ReplayReader {
-                end: ScriptedReader::new(alloc, reader.ty.kind(), reader.ty.payload(), turns),
-            }),
-            Err(error) => Err(error),
-        }
+        let turns = turns_of(alloc, &reader.said)?;
+        Ok(ReplayReader {
+            end: ScriptedReader::new(alloc, reader.ty.kind(), reader.ty.payload(), turns),
+        })
     }
 }
 
@@ -75,10 +73,7 @@ fn turns_of(alloc: Global, said: &[ReaderSaid]) -> Result<Vec<ReaderTurn>, OutOf
 {
     let mut turns = Vec::new(alloc);
     for k in 0..said.len() {
-        match push_turn(&mut turns, turn_for(&said[k])) {
-            Ok(()) => {}
-            Err(error) => return Err(error),
-        }
+        push_turn(&mut turns, turn_for(&said[k]))?;
     }
     Ok(turns)
 }

@@ -54,18 +54,16 @@ impl ReplayWriter {
         let writer = tape.writer(number);
         let held = Items::new(alloc, writer.ty.payload());
         let payload = held.payload();
-        match backwards(alloc, &writer.said, &payload) {
-            Ok(backwards) => Ok(ReplayWriter {
-                kind: writer.ty.kind(),
-                payload,
-                backwards,
-                held,
-                said: Vec::new(alloc),
-                closed: false,
-                alloc,
-            }),
-            Err(error) => Err(error),
-        }
+        let backwards = backwards(alloc, &writer.said, &payload)?;
+        Ok(ReplayWriter {
+            kind: writer.ty.kind(),
+            payload,
+            backwards,
+            held,
+            said: Vec::new(alloc),
+            closed: false,
+            alloc,
+        })
     }
 }
 
@@ -73,10 +71,7 @@ impl ReplayWriter {
 fn push_copy(records: &mut Vec<WriterSaid>, said: &WriterSaid) -> Result<(), OutOfMemory>
     ensures { OnOk result (records.new.items ≡ records.old.items ++ said.now ∷ []) }
 {
-    let copy = match said.copy() {
-        Ok(copy) => copy,
-        Err(error) => return Err(error),
-    };
+    let copy = said.copy()?;
     match records.push(copy) {
         Ok(()) => Ok(()),
         Err(_) => Err(OutOfMemory),
@@ -95,10 +90,7 @@ fn backwards(
 {
     let mut records = Vec::new(alloc);
     for k in 0..said.len() {
-        match push_copy(&mut records, &said[k]) {
-            Ok(()) => {}
-            Err(error) => return Err(error),
-        }
+        push_copy(&mut records, &said[k])?;
     }
     records.reverse();
     Ok(records)
@@ -161,13 +153,9 @@ fn rest_of(alloc: Global, items: &Items, count: usize) -> Result<Items, OutOfMem
     if count == items.len() {
         return Ok(Items::new(alloc, items.payload()));
     }
-    match items.copy() {
-        Ok(mut rest) => {
-            rest.skip(count);
-            Ok(rest)
-        }
-        Err(error) => Err(error),
-    }
+    let mut rest = items.copy()?;
+    rest.skip(count);
+    Ok(rest)
 }
 
 impl HostWriter for ReplayWriter {
@@ -236,13 +224,9 @@ impl HostWriter for ReplayWriter {
         // Its plan stays.
         ensures plan { plan_of self.new ≡ plan_of self.old }
     {
-        match mark_in_room(window, &self.held) {
-            Ok(count) => {
-                self.held.skip(count);
-                Ok(())
-            }
-            Err(error) => Err(error),
-        }
+        let count = mark_in_room(window, &self.held)?;
+        self.held.skip(count);
+        Ok(())
     }
 
     fn feed(&mut self, _bytes: &[u8]) -> Result<(), OutOfMemory>
@@ -337,14 +321,8 @@ impl ReplayWriter {
         }
         let next = &last_of(&self.backwards, &self.payload).items;
         next.sound();
-        let count = match mark_in_room(window, next) {
-            Ok(count) => count,
-            Err(error) => return Err(error),
-        };
-        let held = match rest_of(self.alloc, next, count) {
-            Ok(held) => held,
-            Err(error) => return Err(error),
-        };
+        let count = mark_in_room(window, next)?;
+        let held = rest_of(self.alloc, next, count)?;
         let last = take_last(&mut self.backwards, &self.payload);
         let answer = last.answer;
         self.held = held;

@@ -11,6 +11,6 @@ pub invariant_of-self-2 : goal.invariant_of-self-2
 invariant_of-self-2 c =
     record {
       typed = c.take_last-last.ensures.typed;
-      holding = c.in-Ok-rest_of.ensures.payload ∙ ap (λ (said : WriterSaid). said.payload) c.behind-self.view_is ∙ c.last_of.ensures.payload;
+      holding = c.in_ok-held.ensures.payload ∙ ap (λ (said : WriterSaid). said.payload) c.behind-self.view_is ∙ c.last_of.ensures.payload;
       recorded = c.push_record.ensures.typed;
     }
