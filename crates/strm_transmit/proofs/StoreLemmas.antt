@@ -48,7 +48,7 @@ use Rattle.strm_transmit.proofs.KeptLemmas.{have_set, have_push}
 use Rattle.strm_machine.proofs.HeldLemmas.{StateIsHeld, IsHeld, IsHeld-same, between_held}
 use Rattle.strm_machine.proofs.TableLemmas.{handles-same, handles-more, sets-more, owner-set_stays}
 use Rattle.strm_transmit.specs.Telling.{AreTold, Retells, member_of}
-use Rattle.strm_transmit.proofs.ToldLemmas.{SameMembers, told-more, members-sets, members-with_table, but-besides, besides-set, besides-push, told-same, told-retold}
+use Rattle.strm_transmit.proofs.ToldLemmas.{SameMembers, members-sets, members-with_table, but-besides, besides-set, besides-push, told-same, told-retold}
 
 -- fields that a call leaves as they were
 pub record SameBut (old new : Inside) : Type 0 where
@@ -77,7 +77,7 @@ pub record AddsGuest (old new : Inside) (g : ours.Guest) (size : ℕ) : Type 0 w
   pub memory : g.memory ≡ untold (replicate size 0)
   pub handles : g.table.handles ≡ no_handles
   pub sets : g.sets ≡ no_sets
-  pub ready : new.ready.items ≡ old.ready.items ++ [] ∷ []
+  pub ready : new.ready ≡ old.ready
 
 state_of-guest : (old new : Inside) (g : ours.Guest) (size : ℕ) → AddsGuest old new g size → state_of new ≡ record (state_of old) { guests = seen old.guests.items ++ guest_of g ∷ [] }
 state_of-guest old new g size h =
@@ -106,7 +106,7 @@ IsStore-guest old new g size h e s =
     record {
       sound = rw after sound;
       held = subst StateIsHeld (sym after) (IsHeld-same (seen old.guests.items) (seen old.guests.items ++ guest_of g ∷ []) old.streams.items old.streams.items (λ k. handles-more (seen old.guests.items) (guest_of g) k h.handles) (λ k side. refl) s.held);
-      told = rw (h.streams, h.ready, h.guests, seen-push old.guests.items g) (told-same (seen old.guests.items) (seen old.guests.items ++ guest_of g ∷ []) old.streams.items _ (λ k number handle. ap (λ (x : Sets). is_member x number handle) (sets-more (seen old.guests.items) (guest_of g) k h.sets)) (told-more (seen old.guests.items) old.streams.items old.ready.items s.told));
+      told = rw (h.streams, h.ready, h.guests, seen-push old.guests.items g) (told-same (seen old.guests.items) (seen old.guests.items ++ guest_of g ∷ []) old.streams.items old.ready.items (λ k number handle. ap (λ (x : Sets). is_member x number handle) (sets-more (seen old.guests.items) (guest_of g) k h.sets)) s.told);
       limit = rw (h.counter, h.same.limits) s.limit;
       live = ap (λ (c : Counter). c.live) h.counter ∙ s.live ∙ live;
       within = rw h.counter s.within;

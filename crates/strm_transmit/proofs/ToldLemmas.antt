@@ -1,6 +1,6 @@
 -- What the store knows of ready members, and that handles and ends agree, after each change: a change of
 -- one stream leaves what is known of the ends of others, and then those of this one are told again.
-use Rattle.std.proofs.Common.{◌≡◌, ◌≢◌, ℕ, zero, suc, ◌<◌, ◌≤◌, Bool, true, false, ◌&&◌, List, [], ◌∷◌, ◌++◌, length, get_or, set, Option, Some, None, is_some, Result, Ok, Err, arith, refl, sym, ap, ◌∙◌, subst, ⊎_elim, inl, inr}
+use Rattle.std.proofs.Common.{◌≡◌, ◌≢◌, ℕ, suc, ◌<◌, ◌≤◌, Bool, true, false, ◌&&◌, List, [], ◌∷◌, ◌++◌, length, get_or, set, Option, Some, None, is_some, Ok, Err, arith, refl, sym, ap, ◌∙◌, subst, ⊎_elim, inl, inr}
 use Rattle.std.specs.Prelude.{nat_eq, ◌==◌, ◌⊎◌, is_ok}
 use Rattle.std.specs.Cmp.{nat_eq_equiv}
 use Rattle.std.specs.FinMap.{get-empty}
@@ -90,19 +90,6 @@ pub told-same : (guests others : List Guest) (streams : List Stream) (ready : Re
 told-same guests others streams ready members h = record {
   told = λ g number handle s side owner member. h.told g number handle s side owner (sym (members g number handle) ∙ member);
   within = λ g number handle none. h.within g number handle (sym (members g number handle) ∙ none);
-}
-
--- nothing is known of the sets of one guest more
-says-more : (ready : Ready) (g number handle : ℕ) (b : Bool) → SaysOf ready g number handle b → SaysOf (ready ++ [] ∷ []) g number handle b
-says-more [] zero number handle b h = h
-says-more [] (suc g) number handle b h = h
-says-more (x ∷ xs) zero number handle b h = h
-says-more (x ∷ xs) (suc g) number handle b h = says-more xs g number handle b h
-
-pub told-more : (guests : List Guest) (streams : List Stream) (ready : Ready) → AreTold guests streams ready → AreTold guests streams (ready ++ [] ∷ [])
-told-more guests streams ready h = record {
-  told = λ g number handle s side owner member. says-more ready g number handle _ (h.told g number handle s side owner member);
-  within = λ g number handle none. says-more ready g number handle false (h.within g number handle none);
 }
 
 -- ## The ends of that stream

@@ -1,10 +1,10 @@
 //! Which members of waitable sets are ready, kept as ends get reports and lose them, so that a poll
-//! asks no member.
+//! asks no member. Nothing is kept until an end joins a set.
 //!
 //! Meaning: `Telling.antt`, and `Ready.antt` of `strm_sets`. Source: Component Model,
 //! `Waitable.has_pending_event`. Ours: that it is kept. No memory is taken but by a join.
 
-ghost use Rattle.std.specs.Prelude.{◌≡◌, ◌≢◌, ℕ, Bool, true, false, nat_eq, ◌<◌, length, Some, is_some};
+ghost use Rattle.std.specs.Prelude.{◌≡◌, ◌≢◌, ℕ, Bool, true, false, nat_eq, ◌<◌, length, [], slice_index_or, Some, is_some};
 ghost use Rattle.strm_sets.specs.Sets.{set_of, is_number};
 ghost use Rattle.strm_machine.specs.State.{sets_in};
 ghost use Rattle.strm_machine.specs.Sides.{end_of};
@@ -12,6 +12,7 @@ ghost use Rattle.strm_machine.specs.declared.streams.Owner.TheVariants.{Held};
 ghost use Rattle.strm_turns.specs.Guests.{seen};
 ghost use Rattle.strm_transmit.specs.Telling.{SaysOf, member_of, has_report, Retells, Leaves};
 
+use std::alloc::Global;
 use strm_machine::streams::{Owner, Side};
 use strm_sets::ready::ReadySets;
 use strm_turns::channels::Channel;
@@ -61,6 +62,14 @@ fn retell_held(
     }
 }
 
+// Whether nothing is known of the sets of a guest.
+#[inline(always)]
+fn knows_nothing(ready: &Vec<ReadySets>, guest: usize) -> bool
+    ensures { result ≡ true → slice_index_or ready.now.items guest [] ≡ [] }
+{
+    guest >= ready.len() || ready[guest].is_empty()
+}
+
 // The same of the end on a side of a stream, if a guest has it.
 #[inline(always)]
 fn retell_end(ready: &mut Vec<ReadySets>, guests: &Vec<Guest>, stream: &Channel, side: Side)
@@ -72,10 +81,14 @@ fn retell_end(ready: &mut Vec<ReadySets>, guests: &Vec<Guest>, stream: &Channel,
         → member_of (seen guests.now.items) g number handle ≡ true → b ≡ has_report side stream.now)
         → SaysOf ready.new.items g number handle b }
 {
-    if let Owner::Held { guest, handle } = stream.owner(side) {
-        let is_ready = stream.report(side).is_some();
-        retell_held(ready, guests, guest as usize, handle, is_ready);
+    let Owner::Held { guest, handle } = stream.owner(side) else {
+        return;
+    };
+    if knows_nothing(ready, guest as usize) {
+        return;
     }
+    let is_ready = stream.report(side).is_some();
+    retell_held(ready, guests, guest as usize, handle, is_ready);
 }
 
 /// What is known of the ends of a stream is as it is now. It takes no memory.
@@ -83,6 +96,9 @@ fn retell_end(ready: &mut Vec<ReadySets>, guests: &Vec<Guest>, stream: &Channel,
 pub(crate) fn retell(ready: &mut Vec<ReadySets>, guests: &Vec<Guest>, stream: &Channel)
     ensures { Retells (seen guests.now.items) stream.now ready.old.items ready.new.items }
 {
+    if ready.is_empty() {
+        return;
+    }
     retell_end(ready, guests, stream, Side::Writing);
     retell_end(ready, guests, stream, Side::Reading);
 }
@@ -99,12 +115,24 @@ pub(crate) fn leave(ready: &mut Vec<ReadySets>, guest: usize, home: Option<u32>,
     }
 }
 
+// Places up to that of a guest, where there is memory; nothing is known of the sets of new ones.
+fn widen(ready: &mut Vec<ReadySets>, guest: usize, alloc: Global)
+    ensures { (g : ℕ) → slice_index_or ready.new.items g [] ≡ slice_index_or ready.old.items g [] }
+{
+    while ready.len() <= guest {
+        if ready.push(ReadySets::new(alloc)).is_err() {
+            return;
+        }
+    }
+}
+
 // A set of a guest is to have one member more; whether it had none before.
-fn make_place(ready: &mut Vec<ReadySets>, guest: usize, set: u32, is_empty: bool)
+fn make_place(ready: &mut Vec<ReadySets>, guest: usize, set: u32, is_empty: bool, alloc: Global)
     ensures { (g number other : ℕ) (b : Bool) → SaysOf ready.old.items g number other b
         → (g ≡ guest → number ≡ set → is_empty ≡ true → b ≡ false)
         → SaysOf ready.new.items g number other b }
 {
+    widen(ready, guest, alloc);
     if guest < ready.len() {
         ready[guest].join(set, is_empty);
     }
@@ -119,6 +147,7 @@ pub(crate) fn join(
     is_empty: bool,
     handle: u32,
     is_ready: bool,
+    alloc: Global,
 )
     ensures told { SaysOf ready.new.items guest set handle is_ready }
     ensures others { (g number other : ℕ) (b : Bool) → SaysOf ready.old.items g number other b
@@ -126,6 +155,6 @@ pub(crate) fn join(
         → (g ≡ guest → number ≡ set → is_empty ≡ true → b ≡ false)
         → SaysOf ready.new.items g number other b }
 {
-    make_place(ready, guest, set, is_empty);
+    make_place(ready, guest, set, is_empty, alloc);
     set_ready(ready, guest, set, handle, is_ready);
 }

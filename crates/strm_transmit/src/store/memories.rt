@@ -21,7 +21,6 @@ use strm_codes::refusals::Refusal;
 use strm_handles::tables::HandleTable;
 use strm_machine::chunks::Chunk;
 use strm_memory::memories::GuestMemory;
-use strm_sets::ready::ReadySets;
 use strm_sets::sets::WaitableSets;
 use strm_turns::guests::{Guest, read_bytes, tell_base, write_bytes};
 
@@ -59,13 +58,11 @@ impl Store {
         let number = self.guests.len() as u32;
         let memory = GuestMemory::new(self.alloc, size)?;
         self.guests.reserve(1)?;
-        self.ready.reserve(1)?;
         self.guests.push_reserved(Guest {
             memory,
             table: HandleTable::new(self.alloc),
             sets: WaitableSets::new(self.alloc),
         });
-        self.ready.push_reserved(ReadySets::new(self.alloc));
         self.bytes += size;
         Ok(number)
     }

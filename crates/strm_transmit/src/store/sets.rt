@@ -164,7 +164,7 @@ impl Store {
         join_set(&mut self.guests, guest as usize, number, handle)?;
         let (ready, guest) = (&mut self.ready, guest as usize);
         leave(ready, guest, home, handle);
-        join(ready, guest, number, is_empty, handle, is_ready);
+        join(ready, guest, number, is_empty, handle, is_ready, self.alloc);
         Ok(())
     }
 

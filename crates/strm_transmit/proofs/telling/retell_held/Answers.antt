@@ -1,4 +1,4 @@
-use Rattle.std.proofs.Common.{◌≡◌, true, false, length, sym, ◌∙◌, arith}
+use Rattle.std.proofs.Common.{sym, ◌∙◌, arith}
 use Rattle.std.proofs.lemmas.List.{length-map}
 use Rattle.strm_turns.specs.Guests.{guest_of, seen}
 use Rattle.strm_transmit.proofs.ToldLemmas.{never, no_member_past}

@@ -23,14 +23,14 @@ invariant_of-self-2 c =
       memory = c.in_ok-memory.ensures;
       handles = c.new-2.ensures.empty;
       sets = c.new-3.ensures;
-      ready = c.push_reserved-2.ensures.items ∙ rw (c.in_ok-reserve-2.ensures.items, c.new-4.ensures) refl;
+      ready = refl;
     })
     (rw (← c.self.view_is) at c.requires) c.self.invariant
 
 pub returns : goal.returns
 returns c =
     rw (← c.self.view_is)
-    (performs-guest c.self.inside (record c.self.inside { guests = c.push_reserved.new.self; bytes = c.self.inside.bytes + c.args.size; ready = c.push_reserved-2.new.self }) (record { memory = c.in_ok-memory.memory; table = c.new-2.result; sets = c.new-3.result }) c.args.size c.len-number.result
+    (performs-guest c.self.inside (record c.self.inside { guests = c.push_reserved.new.self; bytes = c.self.inside.bytes + c.args.size }) (record { memory = c.in_ok-memory.memory; table = c.new-2.result; sets = c.new-3.result }) c.args.size c.len-number.result
     (record {
       same = record { tag = refl; limits = refl; producers = refl; kept = refl; consumers = refl; contexts = refl; trapped = refl };
       counter = refl;
@@ -42,6 +42,6 @@ returns c =
       memory = c.in_ok-memory.ensures;
       handles = c.new-2.ensures.empty;
       sets = c.new-3.ensures;
-      ready = c.push_reserved-2.ensures.items ∙ rw (c.in_ok-reserve-2.ensures.items, c.new-4.ensures) refl;
+      ready = refl;
     })
     (omega (arith, c.len-number.ensures, c.self.inside.guests.ok)))
