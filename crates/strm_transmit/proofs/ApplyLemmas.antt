@@ -1,13 +1,15 @@
 -- A step is the call that its act names, in which a refusal is a reply.
-use Rattle.std.proofs.Common.{◌≡◌, Result, Ok, Err, refl}
+use Rattle.std.proofs.Common.{◌≡◌, Result, Ok, Err, refl, sym, subst}
 use Rattle.std.specs.Prelude.{IfErr}
 use Rattle.strm_buffers.specs.Tells.{Tells}
 use Rattle.strm_machine.specs.State.{State}
 use Rattle.strm_machine.specs.Reactions.{Reaction}
 use Rattle.strm_machine.specs.declared.acts.Act.{Act}
 use Rattle.strm_machine.specs.declared.replies.Reply.{Reply}
+use Rattle.strm_world.specs.Does.{Answered, Does}
+use Rattle.strm_world.specs.Steps.{outcome}
 use Rattle.strm_transmit.specs.Meets.{Meets, refused_too}
-use Rattle.strm_transmit.specs.Hosted.{answered, MayBeDone, Leaves, MeetsAlone}
+use Rattle.strm_transmit.specs.Hosted.{answered, MayBeDone, Leaves, MeetsAlone, MeetsHosted}
 use Rattle.strm_transmit.specs.declared.errors.StoreError.{StoreError}
 use Rattle.strm_transmit.specs.declared.errors.StoreError.TheVariants.{Refused, HostFailed, HostBroke, BadItem, StoreTrapped, OutOfMemory}
 use Rattle.strm_transmit.proofs.HostStepLemmas.{Settles}
@@ -60,3 +62,13 @@ refused-settled (Err (HostBroke end)) s = s
 refused-settled (Err (BadItem stream)) s = s
 refused-settled (Err StoreTrapped) s = s
 refused-settled (Err OutOfMemory) s = s
+
+-- and the same call of the machine among host ends
+pub refused-hosted : (old new : State) (tells told : Tells) (result : Result Reply StoreError) (act : Act) → MeetsHosted old new tells told result act → MeetsHosted old new tells told (refused_too result) act
+refused-hosted old new tells told result act m = record {
+  does = subst (λ (a : Answered). Does old new tells told a (λ world. outcome world act)) (sym (refused-answered result)) m.does;
+  fits = m.fits;
+  alone = λ u. refused-alone old new tells told result act (m.alone u);
+  err = refused-leaves old new tells told act result m.err;
+  wanting = refused-wanting old tells act result m.wanting;
+}

@@ -50,6 +50,95 @@ pub fn apply(store: &mut Store, hosts: &mut Hosts, step: &Step) -> Result<Reply,
     ensures held { IsHandedOver store.old (tells_of writer_tells reader_tells hosts.old) (act_of step.now)
         → result ≢ Err StoreError.OutOfMemory }
 {
+    perform_step(store, hosts, step)
+}
+
+// What a step does. Reads, writes and events, of which a run has most, go to their calls at once.
+#[inline(always)]
+fn perform_step(store: &mut Store, hosts: &mut Hosts, step: &Step) -> Result<Reply, StoreError>
+    requires fits { Fits store.old (tells_of writer_tells reader_tells hosts.old) }
+    ensures meets { MeetsHosted store.old store.new (tells_of writer_tells reader_tells hosts.old)
+        (tells_of writer_tells reader_tells hosts.new) result (act_of step.now) }
+    ensures settled { IfOk result (λ reply. IsTrue (is_settled reply)) }
+    ensures refused { (refusal : Refusal) → result ≢ Err (StoreError.Refused refusal) }
+    ensures takes_no_memory { act_takes_memory (act_of step.now) ≡ false → may_poll (lone store.old) (act_of step.now) ≡ false
+        → result ≢ Err StoreError.OutOfMemory }
+    ensures held { IsHandedOver store.old (tells_of writer_tells reader_tells hosts.old) (act_of step.now)
+        → result ≢ Err StoreError.OutOfMemory }
+{
+    store.sound();
+    store.served();
+    match *step {
+        Step::Write {
+            guest,
+            ty,
+            handle,
+            address,
+            count,
+        } => reply(operate(
+            store,
+            hosts,
+            Side::Writing,
+            &NamedEnd { guest, ty, handle },
+            address,
+            count,
+        )),
+        Step::Read {
+            guest,
+            ty,
+            handle,
+            address,
+            count,
+        } => reply(operate(
+            store,
+            hosts,
+            Side::Reading,
+            &NamedEnd { guest, ty, handle },
+            address,
+            count,
+        )),
+        Step::Event { guest, handle } => reply(event(store, guest, handle)),
+        _ => perform_act(store, hosts, step),
+    }
+}
+
+// A read or write of the end that is named.
+#[inline(always)]
+fn operate(
+    store: &mut Store,
+    hosts: &mut Hosts,
+    side: Side,
+    end: &NamedEnd,
+    address: u32,
+    count: u32,
+) -> Result<Reply, StoreError>
+    requires fits { Fits store.old (tells_of writer_tells reader_tells hosts.old) }
+    ensures meets { MeetsHosted store.old store.new (tells_of writer_tells reader_tells hosts.old)
+        (tells_of writer_tells reader_tells hosts.new) result (acts.OnEnd side end.now (end_acts.Operate address count)) }
+    ensures settled { IfOk result (λ reply. IsTrue (is_settled reply)) }
+    ensures takes_no_memory { may_poll (lone store.old) (acts.OnEnd side end.now (end_acts.Operate address count)) ≡ false
+        → result ≢ Err StoreError.OutOfMemory }
+    ensures held { IsHandedOver store.old (tells_of writer_tells reader_tells hosts.old) (acts.OnEnd side end.now (end_acts.Operate address count))
+        → result ≢ Err StoreError.OutOfMemory }
+{
+    store
+        .operate(hosts, side, end, address, count)
+        .map(Reply::Code)
+}
+
+// What a step does, seen as its act, apart from the code of those three.
+#[inline(never)]
+fn perform_act(store: &mut Store, hosts: &mut Hosts, step: &Step) -> Result<Reply, StoreError>
+    requires fits { Fits store.old (tells_of writer_tells reader_tells hosts.old) }
+    ensures meets { MeetsHosted store.old store.new (tells_of writer_tells reader_tells hosts.old)
+        (tells_of writer_tells reader_tells hosts.new) result (act_of step.now) }
+    ensures settled { IfOk result (λ reply. IsTrue (is_settled reply)) }
+    ensures refused { (refusal : Refusal) → result ≢ Err (StoreError.Refused refusal) }
+    ensures takes_no_memory { act_takes_memory (act_of step.now) ≡ false → may_poll (lone store.old) (act_of step.now) ≡ false
+        → result ≢ Err StoreError.OutOfMemory }
+    ensures held { IsHandedOver store.old (tells_of writer_tells reader_tells hosts.old) (act_of step.now)
+        → result ≢ Err StoreError.OutOfMemory }
+{
     reply(perform(store, hosts, &Act::of(step)))
 }
 
@@ -175,11 +264,7 @@ fn on_end(
     store.sound();
     store.served();
     match act {
-        EndAct::Operate { address, count } => {
-            store
-                .operate(hosts, side, end, address, count)
-                .map(Reply::Code)
-        }
+        EndAct::Operate { address, count } => operate(store, hosts, side, end, address, count),
         EndAct::Drop => store.drop_side(hosts, side, end).map(done),
         EndAct::Cancel => cancel(store, side, end),
         EndAct::Lift => lift(store, side, end),
@@ -242,6 +327,7 @@ fn on_host(
 }
 
 // What an end is to be told.
+#[inline(always)]
 fn event(store: &mut Store, guest: u32, handle: u32) -> Result<Reply, StoreError>
     ensures meets { Meets store.old store.new result
         (reaction store.old (acts.Event guest handle)) }
