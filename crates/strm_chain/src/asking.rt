@@ -92,16 +92,13 @@ fn chain_of(alloc: Global, words: &[String]) -> Result<Option<Vec<Stage>>, OutOf
     if words.len() > MAX_STAGES {
         return Ok(None);
     }
-    match stages_of(alloc, words) {
-        Ok(Some(stages)) => {
-            if count_twice(stages.as_slice()) > MAX_TWICE {
-                return Ok(None);
-            }
-            Ok(Some(stages))
-        }
-        Ok(None) => Ok(None),
-        Err(error) => Err(error),
+    let Some(stages) = stages_of(alloc, words)? else {
+        return Ok(None);
+    };
+    if count_twice(stages.as_slice()) > MAX_TWICE {
+        return Ok(None);
     }
+    Ok(Some(stages))
 }
 
 /// The chain that the words ask for.
@@ -115,9 +112,8 @@ pub(crate) fn plan_of(alloc: Global, words: &[String]) -> Result<Option<Plan>, O
     let Some(chunk) = number_within(first.as_bytes(), 16, 64) else {
         return Ok(None);
     };
-    match chain_of(alloc, rest) {
-        Ok(Some(stages)) => Ok(Some(Plan { chunk, stages })),
-        Ok(None) => Ok(None),
-        Err(error) => Err(error),
-    }
+    let Some(stages) = chain_of(alloc, rest)? else {
+        return Ok(None);
+    };
+    Ok(Some(Plan { chunk, stages }))
 }

@@ -24,6 +24,7 @@ use std::marker::Model;
 use strm_codes::counts::OutOfMemory;
 use strm_laws::laws::conservation;
 use strm_lines::lists::{Replies, Steps};
+use thiserror::Error;
 
 /// The most stages of a chain.
 pub const MAX_STAGES: usize = 8;
@@ -35,15 +36,19 @@ pub const MAX_TWICE: usize = 2;
 pub const MAX_INPUT: usize = 65_536;
 
 /// Why there is no chain, or no end of one.
-#[derive(Clone, Copy, Debug, PartialEq, Eq)]
+#[derive(Clone, Copy, Debug, PartialEq, Eq, Error)]
 pub enum ChainError {
     /// There are more than 8 stages.
+    #[error("there are more than {max} stages", max = MAX_STAGES)]
     TooManyStages,
     /// More than 2 of them are `Twice`.
+    #[error("more than {max} stages give each byte twice", max = MAX_TWICE)]
     TooManyTwice,
     /// The input has more than 65,536 bytes.
+    #[error("the input has more than {max} bytes", max = MAX_INPUT)]
     TooLong,
     /// An allocation was refused, or a play has no room for a step more.
+    #[error("out of memory")]
     OutOfMemory,
 }
 

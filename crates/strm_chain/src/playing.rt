@@ -163,14 +163,10 @@ fn play_once(
     if steps.as_slice().len() >= MAX_STEPS {
         return Err(OutOfMemory);
     }
-    match answer(alloc, store, step) {
-        Ok(reply) => {
-            keep_step(steps, step)?;
-            keep_reply(replies, &reply)?;
-            Ok(reply)
-        }
-        Err(error) => Err(error),
-    }
+    let reply = answer(alloc, store, step)?;
+    keep_step(steps, step)?;
+    keep_reply(replies, &reply)?;
+    Ok(reply)
 }
 
 // Keeps a step.

@@ -100,10 +100,9 @@ fn answer_words<S: Source>(
         × (length front ≤ MAX_INPUT + 1) }
     ensures unread { ¬ IsAsked (map string_bytes words.now) → source.new ≡ source.old }
 {
-    match plan_of(alloc, words) {
-        Ok(Some(plan)) => answer_plan(alloc, &plan, source),
-        Ok(None) => fixed(alloc, USAGE, b"usage: chain CHUNK STAGE..\n".as_slice()),
-        Err(error) => Err(error),
+    match plan_of(alloc, words)? {
+        Some(plan) => answer_plan(alloc, &plan, source),
+        None => fixed(alloc, USAGE, b"usage: chain CHUNK STAGE..\n".as_slice()),
     }
 }
 

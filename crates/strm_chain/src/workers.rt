@@ -125,13 +125,12 @@ fn hear_of_read(
     let Some(handle) = worker.read else {
         return Err(OutOfMemory);
     };
-    match play_event(player, guest, handle) {
-        Ok(Some(code)) => {
+    match play_event(player, guest, handle)? {
+        Some(code) => {
             take_read(player, worker, guest, code)?;
             Ok(ChainTurn::Moved)
         }
-        Ok(None) => Ok(ChainTurn::Idle),
-        Err(error) => Err(error),
+        None => Ok(ChainTurn::Idle),
     }
 }
 
@@ -147,13 +146,12 @@ fn hear_of_write(
     let Some(handle) = worker.write else {
         return Err(OutOfMemory);
     };
-    match play_event(player, guest, handle) {
-        Ok(Some(code)) => {
+    match play_event(player, guest, handle)? {
+        Some(code) => {
             hand_over(worker, code)?;
             Ok(ChainTurn::Moved)
         }
-        Ok(None) => Ok(ChainTurn::Idle),
-        Err(error) => Err(error),
+        None => Ok(ChainTurn::Idle),
     }
 }
 
@@ -177,16 +175,15 @@ fn begin_read(
         address: READ_AT,
         count: chunk,
     };
-    match play_code(player, &step) {
-        Ok(ReturnCode::Blocked) => {
+    match play_code(player, &step)? {
+        ReturnCode::Blocked => {
             worker.doing = Doing::Reading;
             Ok(ChainTurn::Moved)
         }
-        Ok(code) => {
+        code => {
             take_read(player, worker, guest, code)?;
             Ok(ChainTurn::Moved)
         }
-        Err(error) => Err(error),
     }
 }
 
@@ -214,16 +211,15 @@ fn begin_write(
         address: WRITE_AT,
         count: bytes.as_slice().len() as u32,
     };
-    match play_code(player, &step) {
-        Ok(ReturnCode::Blocked) => {
+    match play_code(player, &step)? {
+        ReturnCode::Blocked => {
             worker.doing = Doing::Writing;
             Ok(ChainTurn::Moved)
         }
-        Ok(code) => {
+        code => {
             hand_over(worker, code)?;
             Ok(ChainTurn::Moved)
         }
-        Err(error) => Err(error),
     }
 }
 

@@ -104,9 +104,7 @@ impl<'a, B: WriteBuffer<u8> + Drop> Destination<'a, u8, B> {
         ensures out_of_memory { OnErr result (self.entry.produced.now.window.place ≡ Between) }
     {
         let Destination { produced, items: _ } = self;
-        match produced.window.direct(capacity) {
-            Ok(()) => Ok(DirectDestination { produced }),
-            Err(error) => Err(error),
-        }
+        produced.window.direct(capacity)?;
+        Ok(DirectDestination { produced })
     }
 }

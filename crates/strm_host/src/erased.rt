@@ -139,13 +139,9 @@ impl<P: StreamProducer> HostWriter for Erased<P> {
     }
 
     fn give(&mut self, window: &mut Window) -> Result<(), OutOfMemory> {
-        match mark_in_room(window, &self.held) {
-            Ok(count) => {
-                self.held.skip(count);
-                Ok(())
-            }
-            Err(error) => Err(error),
-        }
+        let count = mark_in_room(window, &self.held)?;
+        self.held.skip(count);
+        Ok(())
     }
 
     fn feed(&mut self, _bytes: &[u8]) -> Result<(), OutOfMemory> {

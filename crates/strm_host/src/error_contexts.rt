@@ -57,10 +57,8 @@ impl ErrorContext {
             (context_number store.now guest handle)) ≡ Err error) }
         ensures takes_no_memory { result ≢ Err StoreError.OutOfMemory }
     {
-        match store.error_context_rep(guest, handle) {
-            Ok(rep) => Ok(ErrorContext { rep }),
-            Err(error) => Err(error),
-        }
+        let rep = store.error_context_rep(guest, handle)?;
+        Ok(ErrorContext { rep })
     }
 
     /// Gives a guest a handle to it (`Store::error_context_lower`).

@@ -73,10 +73,8 @@ impl<T: Payloaded> FutureReader<T> {
         ensures calls { Makes store.old store.new (tells_of writer_tells reader_tells hosts.now) writer (Future T.payload) result }
         ensures fits { Fits store.new (tells_of writer_tells reader_tells hosts.now) }
     {
-        match ReadEnd::host(store, hosts, writer, FutureReader::<T>::ty()) {
-            Ok(end) => Ok(FutureReader::of(end)),
-            Err(error) => Err(error),
-        }
+        let end = ReadEnd::host(store, hosts, writer, FutureReader::<T>::ty())?;
+        Ok(FutureReader::of(end))
     }
 
     /// Takes the read end out of a guest (`Store::lift`).
@@ -85,10 +83,8 @@ impl<T: Payloaded> FutureReader<T> {
         ensures fits { StillFits store.old store.new }
         ensures takes_no_memory { result ≢ Err no_memory }
     {
-        match ReadEnd::lift(store, guest, FutureReader::<T>::ty(), handle) {
-            Ok(end) => Ok(FutureReader::of(end)),
-            Err(error) => Err(error),
-        }
+        let end = ReadEnd::lift(store, guest, FutureReader::<T>::ty(), handle)?;
+        Ok(FutureReader::of(end))
     }
 
     /// Gives a guest the read end (`Store::lower`): its handle. The reader is then used; an error leaves

@@ -105,9 +105,7 @@ pub trait StreamProducer: Drop {
         ensures payload { IfOk result (λ items. items.payload ≡ Self.Item.payload) }
         ensures items { IfOk result (λ items. items.items ≡ map Self.Item.item (Self.Buffer.items buffer)) }
     {
-        match buffer.take_all(alloc) {
-            Ok(values) => Items::of_values::<Self::Item>(alloc, values),
-            Err(error) => Err(error),
-        }
+        let values = buffer.take_all(alloc)?;
+        Items::of_values::<Self::Item>(alloc, values)
     }
 }

@@ -53,25 +53,17 @@ pub(crate) fn fetch<P: StreamProducer>(
     ensures leaves { IfOk result (λ _. P.leaves producer.old (room_of window.old.place) finish producer.new) }
 {
     window.sound();
-    let (answer, mut items) = match produce(alloc, producer, window, finish) {
-        Ok(done) => done,
-        Err(error) => return Err(error),
-    };
+    let (answer, mut items) = produce(alloc, producer, window, finish)?;
     items.sound();
     // For its clause: what is marked is within the room.
     let _ = window.marked();
-    let count = match mark_rest(window, &items) {
-        Ok(count) => count,
-        Err(error) => return Err(error),
-    };
-    match rest_of(alloc, &mut items, count) {
-        Ok(held) => Ok(Fetched {
-            answer,
-            items,
-            held,
-        }),
-        Err(error) => Err(error),
-    }
+    let count = mark_rest(window, &items)?;
+    let held = rest_of(alloc, &mut items, count)?;
+    Ok(Fetched {
+        answer,
+        items,
+        held,
+    })
 }
 
 // What stands behind so many items: their bytes are not copied, but shared with these.
@@ -85,13 +77,9 @@ fn rest_of(alloc: Global, items: &mut Items, count: usize) -> Result<Items, OutO
         return Ok(Items::new(alloc, items.payload()));
     }
     items.share();
-    match items.copy() {
-        Ok(mut rest) => {
-            rest.skip(count);
-            Ok(rest)
-        }
-        Err(error) => Err(error),
-    }
+    let mut rest = items.copy()?;
+    rest.skip(count);
+    Ok(rest)
 }
 
 // What a poll answered, and all items that it produced: the first of them are marked.
@@ -148,10 +136,8 @@ fn gather<P: StreamProducer>(
     ensures payload { IfOk result (λ items. items.payload ≡ P.Item.payload) }
     ensures items { IfOk result (λ items. items.items ≡ window.now.marked ++ map P.Item.item (P.Buffer.items buffer)) }
 {
-    match P::items_of(alloc, buffer) {
-        Ok(items) => put_behind_marked(window, items),
-        Err(error) => Err(error),
-    }
+    let items = P::items_of(alloc, buffer)?;
+    put_behind_marked(window, items)
 }
 
 // The marked items, and these behind them.
@@ -164,12 +150,7 @@ fn put_behind_marked(window: &Window, items: Items) -> Result<Items, OutOfMemory
     if window.marked() == 0 {
         return Ok(items);
     }
-    let mut all = match window.marked_items() {
-        Ok(all) => all,
-        Err(error) => return Err(error),
-    };
-    match all.append(&items) {
-        Ok(()) => Ok(all),
-        Err(error) => Err(error),
-    }
+    let mut all = window.marked_items()?;
+    all.append(&items)?;
+    Ok(all)
 }

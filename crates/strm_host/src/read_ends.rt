@@ -107,10 +107,8 @@ impl ReadEnd {
             None => {}
         }
         let tag = store.tag();
-        match store.host_new(hosts, writer) {
-            Ok(stream) => Ok(ReadEnd::of(tag, stream)),
-            Err(error) => Err(ReaderError::Store(error)),
-        }
+        let stream = store.host_new(hosts, writer)?;
+        Ok(ReadEnd::of(tag, stream))
     }
 
     /// `Store::lift` of an end of this type.
@@ -125,10 +123,8 @@ impl ReadEnd {
         ensures takes_no_memory { result ≢ Err no_memory }
     {
         let tag = store.tag();
-        match store.lift(guest, ty, handle) {
-            Ok(stream) => Ok(ReadEnd::of(tag, stream)),
-            Err(error) => Err(ReaderError::Store(error)),
-        }
+        let stream = store.lift(guest, ty, handle)?;
+        Ok(ReadEnd::of(tag, stream))
     }
 
     /// `Store::lower`. After Ok it is used.
@@ -147,13 +143,9 @@ impl ReadEnd {
             Some(error) => return Err(error),
             None => {}
         }
-        match store.lower(self.id.rep(), guest, ty) {
-            Ok(handle) => {
-                self.use_up();
-                Ok(handle)
-            }
-            Err(error) => Err(ReaderError::Store(error)),
-        }
+        let handle = store.lower(self.id.rep(), guest, ty)?;
+        self.use_up();
+        Ok(handle)
     }
 
     /// `Store::pipe`. After Ok it is used.
@@ -175,13 +167,9 @@ impl ReadEnd {
             Some(error) => return Err(error),
             None => {}
         }
-        match store.pipe(hosts, self.id.rep(), reader) {
-            Ok(()) => {
-                self.use_up();
-                Ok(())
-            }
-            Err(error) => Err(ReaderError::Store(error)),
-        }
+        store.pipe(hosts, self.id.rep(), reader)?;
+        self.use_up();
+        Ok(())
     }
 
     /// `Store::try_release`. After a number it is used.
@@ -218,13 +206,9 @@ impl ReadEnd {
             Some(error) => return Err(error),
             None => {}
         }
-        match store.close(hosts, self.id.rep()) {
-            Ok(()) => {
-                self.use_up();
-                Ok(())
-            }
-            Err(error) => Err(ReaderError::Store(error)),
-        }
+        store.close(hosts, self.id.rep())?;
+        self.use_up();
+        Ok(())
     }
 }
 

@@ -73,10 +73,8 @@ impl<T: Payloaded> StreamReader<T> {
         ensures calls { Makes store.old store.new (tells_of writer_tells reader_tells hosts.now) writer (Stream T.payload) result }
         ensures fits { Fits store.new (tells_of writer_tells reader_tells hosts.now) }
     {
-        match ReadEnd::host(store, hosts, writer, StreamReader::<T>::ty()) {
-            Ok(end) => Ok(StreamReader::of(end)),
-            Err(error) => Err(error),
-        }
+        let end = ReadEnd::host(store, hosts, writer, StreamReader::<T>::ty())?;
+        Ok(StreamReader::of(end))
     }
 
     /// Takes the read end out of a guest (`Store::lift`).
@@ -85,10 +83,8 @@ impl<T: Payloaded> StreamReader<T> {
         ensures fits { StillFits store.old store.new }
         ensures takes_no_memory { result ≢ Err no_memory }
     {
-        match ReadEnd::lift(store, guest, StreamReader::<T>::ty(), handle) {
-            Ok(end) => Ok(StreamReader::of(end)),
-            Err(error) => Err(error),
-        }
+        let end = ReadEnd::lift(store, guest, StreamReader::<T>::ty(), handle)?;
+        Ok(StreamReader::of(end))
     }
 
     /// Gives a guest the read end (`Store::lower`): its handle. The reader is then used; an error leaves

@@ -28,14 +28,8 @@ pub fn send(
     if count.equals_u32(0) {
         return Ok(());
     }
-    match writer.region(BYTES, from, count) {
-        Ok(()) => {}
-        Err(error) => return Err(error),
-    }
-    match reader.region(BYTES, to, count) {
-        Ok(()) => {}
-        Err(error) => return Err(error),
-    }
+    writer.region(BYTES, from, count)?;
+    reader.region(BYTES, to, count)?;
     match reader.receive(to, writer, from, BYTES, count) {
         Ok(()) => Ok(()),
         Err(_) => unreachable!(),

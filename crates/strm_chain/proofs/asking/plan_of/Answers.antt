@@ -7,7 +7,7 @@ pub returns-in_default-number_within-clause-none :
 returns-in_default-number_within-clause-none c = λ _.
     asks_chunk (λ w. string_bytes w) c.args.words.now c.in-Some.rest.now c.in-Some.first.now c.as_bytes.result.now c.in-Some.ensures.cases.0 c.as_bytes.ensures.value c.in_default-number_within.ensures
 
-pub returns-in-Ok-Some-clause-some : goal.returns-in-Ok-Some-clause-some
-returns-in-Ok-Some-clause-some c =
+pub returns-clause-some : goal.returns-clause-some
+returns-clause-some c =
     asks (λ w. string_bytes w) c.args.words.now c.in-Some.rest.now c.in-Some.first.now c.as_bytes.result.now c.in-Some.ensures.cases.0 c.as_bytes.ensures.value
-    c.in-Some-number_within.chunk c.in-Ok-Some.stages.items c.in-Some-number_within.ensures (rw c.in-Ok-Some.field-0-is at c.in-Ok-Some.ensures.some) (rw c.in-Ok-Some.field-0-is at c.in-Ok-Some.ensures.few) (rw c.in-Ok-Some.field-0-is at c.in-Ok-Some.ensures.few_twice)
+    c.in-Some-number_within.chunk c.in-Some-2.stages.items c.in-Some-number_within.ensures (rw c.in-Some-2.is at c.in_ok-stages.ensures.some) (rw c.in-Some-2.is at c.in_ok-stages.ensures.few) (rw c.in-Some-2.is at c.in_ok-stages.ensures.few_twice)
