@@ -30,7 +30,9 @@ use strm_machine::steps::Step;
 use strm_machine::streams::Side;
 
 /// Does a step. A refusal is a reply; what comes as an error stops a run. The host ends are those that
-/// the store needs (`Store::fits`).
+/// the store needs (`Store::fits`). It is inlined, so that a reply of a few bytes is not copied as one that
+/// may have 64.
+#[inline(always)]
 pub fn apply(store: &mut Store, hosts: &mut Hosts, step: &Step) -> Result<Reply, StoreError>
     requires fits { Fits store.old (tells_of writer_tells reader_tells hosts.old) }
     ensures does { Does store.old store.new (tells_of writer_tells reader_tells hosts.old)
@@ -98,7 +100,7 @@ fn perform_step(store: &mut Store, hosts: &mut Hosts, step: &Step) -> Result<Rep
             count,
         )),
         Step::Event { guest, handle } => reply(event(store, guest, handle)),
-        _ => perform_act(store, hosts, step),
+        _ => reply(perform_act(store, hosts, step)),
     }
 }
 
@@ -133,13 +135,12 @@ fn perform_act(store: &mut Store, hosts: &mut Hosts, step: &Step) -> Result<Repl
     ensures meets { MeetsHosted store.old store.new (tells_of writer_tells reader_tells hosts.old)
         (tells_of writer_tells reader_tells hosts.new) result (act_of step.now) }
     ensures settled { IfOk result (λ reply. IsTrue (is_settled reply)) }
-    ensures refused { (refusal : Refusal) → result ≢ Err (StoreError.Refused refusal) }
     ensures takes_no_memory { act_takes_memory (act_of step.now) ≡ false → may_poll (lone store.old) (act_of step.now) ≡ false
         → result ≢ Err StoreError.OutOfMemory }
     ensures held { IsHandedOver store.old (tells_of writer_tells reader_tells hosts.old) (act_of step.now)
         → result ≢ Err StoreError.OutOfMemory }
 {
-    reply(perform(store, hosts, &Act::of(step)))
+    perform(store, hosts, &Act::of(step))
 }
 
 // A refusal is a reply.

@@ -1,9 +1,4 @@
-use Rattle.strm_transmit.proofs.ApplyLemmas.{refused-hosted, refused-settled}
 use Rattle.strm_transmit.proofs.steps.perform_act.Goals as goal
 
 pub returns-clause-meets : goal.returns-clause-meets
-returns-clause-meets g c =
-    rw c.reply.ensures (refused-hosted c.args.store.now _ _ _ c.perform.result _ (rw c.of.ensures at c.perform.ensures.meets))
-
-pub returns-clause-settled : goal.returns-clause-settled
-returns-clause-settled g c = rw c.reply.ensures (refused-settled c.perform.result c.perform.ensures.settled)
+returns-clause-meets g c = rw c.of.ensures at c.perform.ensures.meets
