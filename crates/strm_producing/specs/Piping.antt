@@ -1,6 +1,6 @@
 -- What the two polls of a pipe's round do to what they touch: the round's parts without the rest of the
 -- world. Ours.
-use Rattle.std.specs.Prelude.{◌≡◌, ℕ, ◌≤◌, true, false, ◌||◌, List, ◌++◌, length, take, drop, None, Result, Ok, Err}
+use Rattle.std.specs.Prelude.{◌≡◌, ◌≢◌, ◌⊎◌, ℕ, true, false, ◌||◌, List, [], ◌++◌, length, take, drop, None, Result, Ok, Err}
 use Rattle.strm_codes.specs.declared.codes.TransmitKind.{TransmitKind}
 use Rattle.strm_buffers.specs.declared.answers.Answer.{Answer}
 use Rattle.strm_buffers.specs.declared.answers.Answer.TheVariants as answers
@@ -171,17 +171,28 @@ pub record OfferBreaks (old new : Offering) (said : ReaderSaid) : Type 0 where
   pub broke : breaks_as_reader old.stream.kind said ≡ true
   pub after : new ≡ gathered old new.reader
 
--- a writer whose items memory was wanting for, or that gave them: it has no record more
-pub record SaysNothing (old new : WriterTells) : Type 0 where
-  pub said : new.said ≡ old.said
-  pub faults : old.faults ≤ new.faults
-  pub kind : new.kind ≡ old.kind
-  pub payload : new.payload ≡ old.payload
+-- a writer that holds items, and gave none of them
+pub record HoldsStill (old new : WriterTells) : Type 0 where
+  pub some : old.holds ≢ []
+  pub same : new ≡ old
+
+-- what a writer tells where memory was wanting for what is held: it holds its items still, or gave them all
+abbrev pub GathersNone : WriterTells → WriterTells → Type 0
+GathersNone old new = HoldsStill old new ⊎ (new ≡ given old None)
+
+-- memory was wanting before the poll: the writer's items were not kept, and the reader was not polled
+pub record Ungathered (old new : Offering) : Type 0 where
+  pub writer : HoldsStill old.writer new.writer
+  pub reader : new.reader ≡ old.reader
+
+-- it was wanting behind that: the writer gave all that it held, and the reader has no record more
+pub record Unoffered (old new : Offering) : Type 0 where
+  pub writer : new.writer ≡ given old.writer None
+  pub reader : KeepsReader old.reader new.reader
 
 -- an offer for which memory was wanting adds no record
 pub record OfferWants (old new : Offering) : Type 0 where
-  pub writer : SaysNothing old.writer new.writer
-  pub reader : KeepsReader old.reader new.reader
+  pub ends : Ungathered old new ⊎ Unoffered old new
   pub stream : new.stream ≡ old.stream
   pub consumer : new.consumer ≡ old.consumer
 

@@ -6,7 +6,7 @@
 
 ghost use Rattle.std.specs.Prelude.{◌≡◌, ◌++◌, [], length, None, IfOk, OnOk, OnErr};
 ghost use Rattle.strm_buffers.specs.Tells.{KeepsWriter, KeepsReader, given};
-ghost use Rattle.strm_producing.specs.Piping.{fetching, Fetches, offering, Offers, FetchedSo, PassedSo, SaysNothing, judged_fetch};
+ghost use Rattle.strm_producing.specs.Piping.{fetching, Fetches, offering, Offers, FetchedSo, PassedSo, GathersNone, judged_fetch};
 
 use crate::settling::receive_some;
 use crate::taking::{TakeError, judge, since_after};
@@ -90,8 +90,8 @@ pub fn fetch(
     Ok(())
 }
 
-// What a host writer holds is kept too, behind what was kept. After want of memory, items that the
-// writer gave are lost only where some were kept besides.
+// What a host writer holds is kept too, behind what was kept. After want of memory the writer holds its
+// items still, or gave them all; those are lost, and only where some were kept besides.
 fn gather(
     alloc: Global,
     kept: &mut Items,
@@ -101,9 +101,13 @@ fn gather(
     ensures payload { kept.new.payload ≡ kept.old.payload }
     ensures items { OnOk result (kept.new.items ≡ kept.old.items ++ (writer_tells writer.old).holds) }
     ensures ok { OnOk result (writer_tells writer.new ≡ given (writer_tells writer.old) None) }
-    ensures no_memory { OnErr result (SaysNothing (writer_tells writer.old) (writer_tells writer.new)) }
+    ensures no_memory { OnErr result (GathersNone (writer_tells writer.old) (writer_tells writer.new)) }
 {
-    if kept.len() + held_by(writer) > MOST_ITEMS as usize {
+    let holds = held_by(writer);
+    if holds == 0 {
+        return Ok(());
+    }
+    if kept.len() + holds > MOST_ITEMS as usize {
         return Err(OutOfMemory);
     }
     let mut window = Window::unbounded(alloc, kept.payload());

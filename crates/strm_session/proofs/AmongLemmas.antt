@@ -16,15 +16,16 @@ use Rattle.strm_world.specs.World.{World}
 use Rattle.strm_world.specs.Asking.{GuestAsksBad, AsksBadItem, ByGuest, InCall, InDrive}
 use Rattle.strm_world.proofs.AskingLemmas.{stops-asks, asks-stops}
 use Rattle.strm_machine.specs.Reactions.{Reaction}
-use Rattle.strm_machine.specs.declared.stops.Stop.TheVariants.{BadItem}
+use Rattle.strm_machine.specs.declared.stops.Stop.TheVariants.{HostFailed, BadItem}
 use Rattle.strm_machine.proofs.AskedLemmas.{bad-traps}
 use Rattle.std.specs.Prelude.{slice_get}
 use Rattle.std.proofs.lemmas.Option.{slice_get_within, slice_get-get_or}
 use Rattle.strm_world.specs.Does.{Logs, Begins, AllBegin, saids, Extends, world_of, spent, faults_of, Caused, Does, RunsTo, AreSupplied}
 use Rattle.strm_world.proofs.DoesLemmas.{rose_more}
 use Rattle.strm_session.specs.Records.{HostsGoOn}
-use Rattle.strm_session.specs.Runs.{start, start_among, stop_of, HaltsBy, Raised, StaysThere, StopsAsking, WantsUnmet, StopsAmong, WantsThere, Before, Behind, InPoll, StopsWanting, WantsStep, MayPoll, Untouched, Unkept, LeavesWanting}
+use Rattle.strm_session.specs.Runs.{start, start_among, stop_of, HaltsBy, Raised, StaysThere, StopsAsking, WantsUnmet, StopsAmong, WantsThere, Before, Behind, InPoll, BeforeOffer, StopsWanting, WantsStep, Polling, Untouched, Unkept, LeavesWanting}
 use Rattle.strm_transmit.specs.Hosted.{lone}
+use Rattle.strm_transmit.specs.WantsMemory.{WantsInPoll, InAPoll, InADrive}
 use Rattle.strm_session.specs.declared.runs.RunCause.{RunCause}
 use Rattle.strm_session.specs.declared.runs.RunCause.TheVariants as causes
 use Rattle.strm_session.proofs.PlayLemmas.{IsAt, take-at}
@@ -170,8 +171,27 @@ module _ (old now new : Tells) (steps : List Step) (k : ℕ) (step : Step) (told
   untouched : new ≡ now → play [] among (take (length told) steps) ≡ Ends told (spent state new)
   untouched same = replied (subst (λ t. Extends now (saids t)) (sym same) (extends_self now)) ∙ ap (λ t. Ends told (world_of state t (saids new))) (sym same)
 
-  pub wants_there : Extends now (saids new) → WantsStep state next now new step → WantsThere among steps told new
-  wants_there e (MayPoll p) = InPoll (world_of state now (saids new)) step (replied e) (ap (slice_get steps) n ∙ slice_get-get_or steps k step at.inside ∙ ap Some at.is) p
+  -- had the host end that was polled failed
+  polled_there : WantsInPoll state now new (λ w. step_of w step) → WantsThere old new steps told
+  polled_there w =
+      let halts = halts_by old now w.more steps k step told state w.state at l (Some (HostFailed w.end)) w.does in
+      InPoll w.end w.more halts.0 w.fails halts.1
+
+  pub wants_there : Extends now (saids new) → WantsStep state next now new step → WantsThere old new steps told
+  wants_there e (Polling (InAPoll w)) = polled_there w
+  wants_there e (Polling (InADrive s m r drives b)) = BeforeOffer (record {
+    world = world_of state now (saids new);
+    before = replied e;
+    step = step;
+    next = ap (slice_get steps) n ∙ slice_get-get_or steps k step at.inside ∙ ap Some at.is;
+    drives = drives;
+    stream = s;
+    writer = m;
+    reader = r;
+    state = b.state;
+    behind = b.does.gives (saids new) (extends_self new);
+    holds = b.holds;
+  })
   wants_there e (Untouched s same) = Before state (untouched same)
   wants_there e (Unkept reply d) =
       let more = led_more old now new steps k step told state next at l reply d in
@@ -180,7 +200,7 @@ module _ (old now new : Tells) (steps : List Step) (k : ℕ) (step : Step) (told
       ∙ ap (play [] among) (sym (append-nil (take (k + 1) steps)))
       ∙ (more.led (saids new) (extends_self new)).goes_on [])
 
-  pub wanting_there : (cause : RunCause) → Extends now (saids new) → LeavesWanting state next now new step cause → StopsWanting among steps told new (stop_of cause)
+  pub wanting_there : (cause : RunCause) → Extends now (saids new) → LeavesWanting state next now new step cause → StopsWanting old new steps told (stop_of cause)
   wanting_there causes.OutOfMemory e w = wants_there e w
   wanting_there (causes.HostFailed end) e w = tt
   wanting_there (causes.HostBroke end) e w = tt

@@ -175,7 +175,7 @@ module _ (laws : LawsHold) (aside : StepHolds StaysAside) (put : StepHolds LieTh
 
   -- why it stopped, and what held before
   stopped_by : (c : RunCause) → BytesTo (length told) → BytesTo (length told + 1) → StopsAmong old new steps told c → StopsByRecord old new (stop_of c) → StopRules (stop_of c) old new
-      → StopsWanting begun steps told new (stop_of c) → StoppedAlone steps told c → HasStopped old new steps told c
+      → StopsWanting old new steps told (stop_of c) → StoppedAlone steps told c → HasStopped old new steps told c
   stopped_by cause bytes there stop by_record rules wanting alone = record {
     stops = stop;
     by_record = by_record;

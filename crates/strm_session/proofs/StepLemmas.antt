@@ -19,7 +19,7 @@ use Rattle.strm_transmit.specs.Meets.{Meets, act_takes_memory, takes_memory}
 use Rattle.strm_transmit.specs.Hosted.{answered, lone, Wanting, Leaves}
 use Rattle.strm_transmit.specs.declared.errors.StoreError.{StoreError}
 use Rattle.strm_transmit.specs.declared.errors.StoreError.TheVariants as errors
-use Rattle.strm_session.specs.Runs.{stop_of, StopsStep, WantsStep, MayPoll, Untouched, LeavesWanting}
+use Rattle.strm_session.specs.Runs.{stop_of, StopsStep, WantsStep, Polling, Untouched, LeavesWanting}
 use Rattle.strm_session.specs.declared.runs.RunCause.{RunCause}
 use Rattle.strm_session.specs.declared.runs.RunCause.TheVariants as causes
 use Rattle.strm_session.proofs.PlayLemmas.{goes_on_done}
@@ -75,11 +75,11 @@ wanted_error error cause e o = none_wanted error (e ∙ ap (λ c. Err (stop_of c
 
 -- what a step leaves that found no memory
 pub leaves_wanting : (old new : State) (tells told : Tells) (step : Step) (error : StoreError) (cause : RunCause) → ◌≡◌ {A = Answered} (answered (Err error)) (Err (stop_of cause)) → Leaves (act_of step) old new tells told error → LeavesWanting old new tells told step cause
-leaves_wanting old new tells told step errors.OutOfMemory causes.OutOfMemory e l = by (may_poll (lone old) (act_of step)) refl l
+leaves_wanting old new tells told step errors.OutOfMemory causes.OutOfMemory e l = by (may_poll (lone old) (act_of step)) l
   where
-    by : (b : Bool) → may_poll (lone old) (act_of step) ≡ b → Wanting b old new tells told → WantsStep old new tells told step
-    by true p l = MayPoll p
-    by false p l = Untouched l.same l.ends
+    by : (b : Bool) → Wanting b (act_of step) old new tells told → WantsStep old new tells told step
+    by true l = Polling l.wants
+    by false l = Untouched l.same l.ends
 leaves_wanting old new tells told step (errors.Refused refusal) causes.OutOfMemory e l = cc
 leaves_wanting old new tells told step (errors.HostFailed end) causes.OutOfMemory e l = cc
 leaves_wanting old new tells told step (errors.HostBroke end) causes.OutOfMemory e l = cc

@@ -20,7 +20,7 @@ pub record IsPlayed (old new : Tells) (steps : List Step) (told : List Reply) (s
   pub by_record : IfErr result (λ cause. StopsByRecord old new (stop_of cause))
   pub rules_kept : OnOk result (RulesKept old new)
   pub rules : IfErr result (λ cause. StopRules (stop_of cause) old new)
-  pub wanting : IfErr result (λ cause. StopsWanting (start_among old new) steps told new (stop_of cause))
+  pub wanting : IfErr result (λ cause. StopsWanting old new steps told (stop_of cause))
   pub alone : AreOfGuests steps → OnOk result (play [] start steps ≡ Ends told state)
   pub stop_alone : AreOfGuests steps → IfErr result (λ cause. (s : State)
       × (play [] start (take (length told) steps) ≡ Ends told s) × StopsAt steps told cause)

@@ -8,6 +8,8 @@ use Rattle.strm_machine.specs.Plays.{play, Ends, Halts}
 use Rattle.strm_machine.specs.Moments.{Moment}
 use Rattle.strm_machine.specs.Soundness.{IsSound, both_open, AreUnmoved}
 use Rattle.strm_machine.specs.declared.streams.Side.{Side}
+use Rattle.strm_machine.specs.declared.acts.Act.TheVariants.{Drive}
+use Rattle.strm_machine.specs.declared.streams.HostEnd.{HostEnd}
 use Rattle.strm_machine.specs.declared.steps.Step.{Step}
 use Rattle.strm_machine.specs.declared.replies.Reply.{Reply}
 use Rattle.strm_machine.specs.declared.replies.Reply.TheVariants as replies
@@ -24,8 +26,9 @@ use Rattle.strm_machine.specs.Hosting.{HostsHold}
 use Rattle.strm_world.specs.World.{World, writer_at, reader_at, stream_in}
 use Rattle.strm_world.specs.HostPlays.{play as play_among}
 use Rattle.strm_world.specs.HostPlays as world_plays
-use Rattle.strm_transmit.specs.Hosted.{lone}
-use Rattle.strm_world.specs.Steps.{step_of, may_poll}
+use Rattle.strm_transmit.specs.WantsMemory.{FailsOnce, HoldsBefore, WantsIn, up_to_offer}
+use Rattle.strm_world.specs.Outcomes.{Goes}
+use Rattle.strm_world.specs.Steps.{step_of}
 use Rattle.strm_world.specs.Asking.{GuestAsksBad, AsksBadItem, ByGuest, stands_at}
 use Rattle.strm_world.specs.Does.{saids, spent, world_of, faults_of, Does, RunsTo, StopsWith, AreSupplied}
 use Rattle.strm_transmit.specs.Guests.{is_of_guests}
@@ -274,28 +277,44 @@ StopUses first steps new (Some stop) =
     × ((n : ℕ) → WriterStops (writer_at (last_of first (host_moments first steps)) n) (writer_at (spent state new) n))
     × ((r : ℕ) → ReaderStops (reader_at (last_of first (host_moments first steps)) r) (reader_at (spent state new) r))
 
--- what host ends tell where memory was wanted: what they told behind these replies, or behind one more,
--- which was not kept; else the step behind these replies may poll a host end
-pub data WantsThere (first : World) (steps : List Step) (told : List Reply) (new : Tells) : Type 0 where
-  Before : (state : State) → play_among [] first (take (length told) steps) ≡ world_plays.Ends told (spent state new) →
-      WantsThere first steps told new
+-- the step behind these replies is a drive round, in which memory was wanted before items that a host writer holds
+-- itself were offered along a pipe: host ends tell what they told then
+pub record WantsOffer (old new : Tells) (steps : List Step) (told : List Reply) : Type 0 where
+  pub world : World
+  pub before : play_among [] (start_among old new) (take (length told) steps) ≡ world_plays.Ends told world
+  pub step : Step
+  pub next : slice_get steps (length told) ≡ Some step
+  pub drives : act_of step ≡ Drive
+  pub stream : ℕ
+  pub writer : ℕ
+  pub reader : ℕ
+  pub state : State
+  pub behind : up_to_offer stream writer reader world ≡ Goes replies.Done (spent state new)
+  pub holds : HoldsBefore stream writer reader state new
+
+-- what host ends tell where memory was wanted: what they told behind these replies, or behind one more, which was
+-- not kept; or what they would tell had one that was polled failed in that poll, with no items, so that the machine
+-- halted behind these replies, but for its record of it; or what they told in a drive round before an offer
+pub data WantsThere (old new : Tells) (steps : List Step) (told : List Reply) : Type 0 where
+  Before : (state : State) → play_among [] (start_among old new) (take (length told) steps) ≡ world_plays.Ends told (spent state new) →
+      WantsThere old new steps told
   Behind : (reply : Reply) (state : State) →
-      play_among [] first (take (length told + 1) steps) ≡ world_plays.Ends (told ++ reply ∷ []) (spent state new) →
-      WantsThere first steps told new
-  InPoll : (world : World) (step : Step) →
-      play_among [] first (take (length told) steps) ≡ world_plays.Ends told world →
-      slice_get steps (length told) ≡ Some step → may_poll world (act_of step) ≡ true →
-      WantsThere first steps told new
+      play_among [] (start_among old new) (take (length told + 1) steps) ≡ world_plays.Ends (told ++ reply ∷ []) (spent state new) →
+      WantsThere old new steps told
+  InPoll : (end : HostEnd) (more : Tells) (state : State) → FailsOnce end new more →
+      StopsWith (start_among old more) steps told (stops.HostFailed end) more state →
+      WantsThere old new steps told
+  BeforeOffer : WantsOffer old new steps told → WantsThere old new steps told
 
 -- the same of a run that stops by this cause
-abbrev pub StopsWanting : World → List Step → List Reply → Tells → Option Stop → Type 0
-StopsWanting first steps told new None = WantsThere first steps told new
-StopsWanting first steps told new (Some stop) = Unit {0}
+abbrev pub StopsWanting : Tells → Tells → List Step → List Reply → Option Stop → Type 0
+StopsWanting old new steps told None = WantsThere old new steps told
+StopsWanting old new steps told (Some stop) = Unit {0}
 
 -- a step that found no memory may have polled a host end; else it changed nothing, or was done, and its reply
 -- was not kept
 pub data WantsStep (old new : State) (tells told : Tells) (step : Step) : Type 0 where
-  MayPoll : may_poll (lone old) (act_of step) ≡ true → WantsStep old new tells told step
+  Polling : WantsIn old tells told (act_of step) → WantsStep old new tells told step
   Untouched : new ≡ old → told ≡ tells → WantsStep old new tells told step
   Unkept : (reply : Reply) → Does old new tells told (Ok reply) (λ world. step_of world step) →
       WantsStep old new tells told step
@@ -367,15 +386,15 @@ pub record IsWhole (old new : Tells) (steps : List Step) (replies : List Reply) 
 -- which keep the laws, as do the turns of a drive round before the one that stopped. A host end that failed, or
 -- broke the rules of its kind, says so by its last record, which it made in this run, and no other record that was
 -- added does; and a bad item was asked for. Exactly the host ends that became gone were closed, and they used and
--- heard no more than what the laws say but for the records of the step that stopped. Where memory was wanted by a
--- step that polls none, they tell what they told before it. Of guests alone it stops as without host ends
+-- heard no more than what the laws say but for the records of the step that stopped. Where memory was wanted, they
+-- tell what they did before it, or had one of them failed there. Of guests alone it stops as without host ends
 pub record HasStopped (old new : Tells) (steps : List Step) (replies : List Reply) (cause : RunCause) : Type 0 where
   pub stops : StopsAmong old new steps replies cause
   pub by_record : StopsByRecord old new (stop_of cause)
   pub rules : StopRules (stop_of cause) old new
   pub closes : StopCloses (start_among old new) steps new (stop_of cause)
   pub uses : StopUses (start_among old new) steps new (stop_of cause)
-  pub wanting : StopsWanting (start_among old new) steps replies new (stop_of cause)
+  pub wanting : StopsWanting old new steps replies (stop_of cause)
   pub kept_before : IsKeptBefore (start_among old new) steps replies
   pub kept_until : (count : ℕ) → HasLawsFirst count (start_among old new) (take (length replies + 1) steps)
   pub alone : AreOfGuests steps → StopsBy steps replies cause

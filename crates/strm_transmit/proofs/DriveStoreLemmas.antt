@@ -1,7 +1,7 @@
 -- A drive round in a store: what is due of a stream, and the round as it passes from one served stream
 -- to the next.
 use Rattle.std.proofs.Common.{◌≡◌, ℕ, ◌+◌, ◌-◌, ◌<◌, ◌≤◌, Bool, true, false, cond, length, Option, Some, None, Result, Ok, Err, refl, sym, ap, subst, ◌∙◌, arith}
-use Rattle.std.specs.Prelude.{not, ◌&&◌}
+use Rattle.std.specs.Prelude.{not, ◌&&◌, IfErr}
 use Rattle.strm_buffers.specs.Tells.{Tells}
 use Rattle.strm_machine.specs.State.{State, stream_at, is_host}
 use Rattle.strm_machine.specs.Hosting.{duty_of}
@@ -9,6 +9,7 @@ use Rattle.strm_machine.specs.Sides.{opposite, end_of}
 use Rattle.strm_machine.specs.declared.acts.Act.TheVariants.{Drive}
 use Rattle.strm_machine.specs.declared.replies.Reply.{Reply}
 use Rattle.strm_machine.specs.declared.replies.Reply.TheVariants as replies
+use Rattle.strm_machine.specs.declared.stops.Stop.TheVariants.{HostFailed}
 use Rattle.strm_machine.specs.declared.streams.Duty.TheVariants.{Serves}
 use Rattle.strm_machine.specs.declared.streams.Operation.{Operation}
 use Rattle.strm_machine.specs.declared.streams.Owner.{Owner}
@@ -19,11 +20,11 @@ use Rattle.strm_machine.specs.declared.streams.Stream.{Stream}
 use Rattle.strm_machine.proofs.HostLemmas.{host_number}
 use Rattle.strm_world.specs.World.{World, stream_in}
 use Rattle.strm_world.specs.Outcomes.{done}
-use Rattle.strm_world.specs.Piping.{pipe_round}
+use Rattle.strm_world.specs.Piping.{fetches, pipe_round}
 use Rattle.strm_world.specs.Driving.{drive_turn, driven, round_of}
 use Rattle.strm_world.specs.Steps.{performs_in, outcome}
 use Rattle.strm_world.specs.Does.{Logs, world_of, Answered, Fits, Does}
-use Rattle.strm_world.proofs.DoesLemmas.{Does-untold, Does-as}
+use Rattle.strm_world.proofs.DoesLemmas.{Does-then, Does-untold, Does-as}
 use Rattle.strm_world.proofs.OutcomeLemmas.{outcome-performs, refusal_in-drive}
 use Rattle.strm_world.proofs.DriveLemmas.{drive_turn-alone, drive_turn-due, waits_open, drive_turn-idle, drive_turn-due_write, drive_turn-idle_write, drive_turn-piped, drives_first, EndsDone, Does-drives_alone, Does-drives_one, Does-drives_stop}
 use Rattle.strm_world.proofs.FitsLemmas.{are_alone}
@@ -32,8 +33,11 @@ use Rattle.strm_transmit.specs.Hosted.{answered, IsStop, MeetsHosted}
 use Rattle.strm_transmit.specs.Inside.{AreServed}
 use Rattle.strm_transmit.specs.Rounds.{ends_by, pipe_ends, IsPipe}
 use Rattle.strm_transmit.specs.Turning.{turn_for, due_in, due_on, IsNextAmong, all_ends, NextServed}
+use Rattle.strm_transmit.specs.WantsMemory.{WantsInPoll, WantsBefore, WantsAt, InPoll, BeforeOffer, WantsInTurn, WantsInDrive, WantsIn, InAPoll, InADrive, IfWanting, up_to_offer}
 use Rattle.strm_transmit.specs.declared.errors.StoreError.{StoreError}
+use Rattle.strm_transmit.specs.declared.errors.StoreError.TheVariants as errors
 use Rattle.strm_transmit.proofs.RoundLemmas.{ends_are}
+use Rattle.strm_transmit.proofs.WantsLemmas.{wanting_result, poll_as}
 use Rattle.strm_transmit.proofs.OperateLemmas.{Halts, hosted_polled, cause_of, stop_is}
 
 -- ## One stream
@@ -159,6 +163,17 @@ piped-turn state tells s n r e logs =
     let ends = ends_are (stream_at state s).writer.owner (stream_at state s).reader.owner n r e in
     drive_turn-piped (world_of state tells logs) s n r ends.0 ends.1
 
+-- memory was wanting in the turn of its host end
+pub due-wants : (side : Side) (state : State) (tells told : Tells) (s n : ℕ) (operation : Operation) → ◌≡◌ {A = Due} (due_on side (stream_at state s)) (Some (n, operation)) → WantsInPoll state tells told (turn_for side s n operation) → WantsInTurn s state tells told
+due-wants side state tells told s n operation e w =
+    (0, 0, InPoll (poll_as state tells told (turn_for side s n operation) (λ v. drive_turn v s) (due-turn side state tells s n operation e) w))
+
+-- or in the round of a pipe
+pub piped-wants : (state : State) (tells told : Tells) (s n r : ℕ) → ◌≡◌ {A = Option (ℕ × ℕ)} (pipe_ends (stream_at state s)) (Some (n, r)) → WantsAt s n r state tells told (λ w. pipe_round w s n r) (λ w. fetches w s n r) → WantsInTurn s state tells told
+piped-wants state tells told s n r e (InPoll w) =
+    (n, r, InPoll (poll_as state tells told (λ v. pipe_round v s n r) (λ v. drive_turn v s) (piped-turn state tells s n r e) w))
+piped-wants state tells told s n r e (BeforeOffer b) = (n, r, BeforeOffer b)
+
 -- ## The round
 
 module _ (old now : State) (tells told : Tells) (h : AreServed now.producers now.consumers now.streams) (next : ℕ) (d : Does old now tells told (Ok replies.Done) (drives_first next)) where
@@ -169,6 +184,15 @@ module _ (old now : State) (tells told : Tells) (h : AreServed now.producers now
       subst (λ k. Does old now tells told (Ok replies.Done) (drives_first k)) sum
       (Does-drives_alone old now tells told next (s - next) d
       (λ logs. are_alone now told logs next (s - next) h.serves (λ side n t e a b. none side n t e a (omega (arith, b, sum)))))
+
+  -- before an offer along stream s, which is the next one that is served
+  before_offer : (after : Tells) (s n r : ℕ) → IsNextAmong now all_ends next s → WantsBefore s n r now told after (λ w. fetches w s n r) → WantsBefore s n r old tells after (up_to_offer s n r)
+  before_offer after s n r served b = record {
+    state = b.state;
+    does = Does-then old now b.state tells told after replies.Done (Ok replies.Done) (drives_first s) (λ w. fetches w s n r)
+        (passed s served.behind (λ side m k f a c. let far = served.least side m k tt f a in omega (arith, far, c))) b.does;
+    holds = b.holds;
+  }
 
   -- a stream more
   pub drive_on : (new : State) (after : Tells) (s : ℕ) (result : Answered) → IsNextAmong now all_ends next s → EndsDone result → Does now new told after result (λ w. drive_turn w s) → Does old new tells after result (drives_first (s + 1))
@@ -203,8 +227,37 @@ module _ (old new : State) (tells told : Tells) where
   drive_round result d =
       Does-as old new tells told result (drives_first (length old.streams)) (λ w. driven w (round_of w)) (λ logs. refl) d
 
-  pub hosted_drive : {T : Type 0} (f : T → Reply) (result : Result T StoreError) → old.trapped ≡ false → Does old new tells told (answered (replied f result)) (λ w. driven w (round_of w)) → Fits new told → Halts result new → MeetsHosted old new tells told (replied f result) Drive
-  hosted_drive f result t does =
+  drive-wants : old.trapped ≡ false → WantsInDrive old tells told → WantsIn old tells told Drive
+  drive-wants t (s, n, r, InPoll w) =
+      InAPoll (poll_as old tells told (λ w. driven w (round_of w)) (λ w. outcome w Drive) (λ logs. drive-is (world_of old tells logs) t) w)
+  drive-wants t (s, n, r, BeforeOffer b) = InADrive s n r refl b
+
+  abbrev pub WantsDriven : {T : Type 0} → Result T StoreError → Type 0
+  WantsDriven result = IfErr result (λ error. IfWanting error (WantsInDrive old tells told))
+
+  pub hosted_drive : {T : Type 0} (f : T → Reply) (result : Result T StoreError) → old.trapped ≡ false → Does old new tells told (answered (replied f result)) (λ w. driven w (round_of w)) → Fits new told → Halts result new → WantsDriven result → MeetsHosted old new tells told (replied f result) Drive
+  hosted_drive f result t does fits halts wants =
       hosted_polled old new tells told Drive refl f result
       (Does-as old new tells told (answered (replied f result)) (λ w. driven w (round_of w)) (λ w. outcome w Drive) (λ logs. drive-is (world_of old tells logs) t) does)
-      (record { untrapped = t; none = λ logs. refusal_in-drive (world_of old tells logs) })
+      (record { untrapped = t; none = λ logs. refusal_in-drive (world_of old tells logs) }) fits halts
+      (wanting_result result (drive-wants t) wants)
+
+module _ (old now : State) (tells told after : Tells) (h : AreServed now.producers now.consumers now.streams) (next : ℕ) (d : Does old now tells told (Ok replies.Done) (drives_first next)) (s : ℕ) (served : IsNextAmong now all_ends next s) where
+  -- memory was wanting in the turn of stream s, which is the next one that is served
+  pub drive_wants : s + 1 ≤ length old.streams → WantsInTurn s now told after → WantsInDrive old tells after
+  drive_wants made (n, r, InPoll w) = (
+    s,
+    n,
+    r,
+    InPoll (record {
+      end = w.end;
+      more = w.more;
+      fails = w.fails;
+      state = w.state;
+      does = drive_round old w.state tells w.more (Err (Some (HostFailed w.end)))
+          (drive_stop old w.state tells w.more (s + 1) (length old.streams) (errors.HostFailed w.end) tt made
+          (drive_on old now tells told h next d w.state w.more s (Err (Some (HostFailed w.end))) served tt w.does));
+    }),
+  )
+  drive_wants made (n, r, BeforeOffer b) =
+      (s, n, r, BeforeOffer (before_offer old now tells told h next d after s n r served b))

@@ -1,4 +1,5 @@
 pub mod StepLemmas
+pub mod WantsLemmas
 pub mod HostStepLemmas
 pub mod ApplyLemmas
 pub mod ServedLemmas

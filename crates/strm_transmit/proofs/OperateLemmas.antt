@@ -24,6 +24,7 @@ use Rattle.strm_world.specs.Does.{world_of, Fits, Does, Answered}
 use Rattle.strm_transmit.specs.Meets.{replied}
 use Rattle.strm_transmit.specs.Hosted.{answered, lone, MayBeDone, Leaves, IsHandedOver, IsStop, MeetsHosted}
 use Rattle.strm_transmit.specs.Turning.{turn_for, polls_for}
+use Rattle.strm_transmit.specs.WantsMemory.{WantsInPoll, WantsIn, InAPoll, IfWanting}
 use Rattle.strm_transmit.specs.declared.errors.StoreError.{StoreError}
 use Rattle.strm_transmit.specs.declared.errors.StoreError.TheVariants.{Refused, HostFailed, HostBroke, BadItem, StoreTrapped, OutOfMemory}
 use Rattle.strm_codes.specs.declared.codes.ReturnCode.{ReturnCode}
@@ -37,6 +38,7 @@ use Rattle.strm_world.proofs.FitsLemmas.{KeepsKind, Fits-stream}
 use Rattle.strm_world.proofs.ReadLemmas.{Does-read, Does-read_stop}
 use Rattle.strm_world.proofs.WriteLemmas.{Does-write, Does-write_stop}
 use Rattle.strm_world.proofs.OutcomeLemmas.{refusal_in-on_end}
+use Rattle.strm_transmit.proofs.WantsLemmas.{wanting_result}
 use Rattle.strm_transmit.proofs.HostStepLemmas.{PerformsAs, does_admitted, Settles, unpolled}
 
 -- ## A call that polled a host end
@@ -47,24 +49,28 @@ pub record Halts {T : Type 0} (result : Result T StoreError) (new : State) : Typ
   pub trapped : IfErr result (λ _. new.trapped ≡ true)
 
 module _ (old new : State) (tells told : Tells) (act : Act) (polls : may_poll (lone old) act ≡ true) where
-  leaves_stop : (error : StoreError) → IsStop error → new.trapped ≡ true → Leaves act old new tells told error
-  leaves_stop (Refused r) s t = absurd s
-  leaves_stop (HostFailed end) s t = t
-  leaves_stop (HostBroke end) s t = t
-  leaves_stop (BadItem stream) s t = t
-  leaves_stop StoreTrapped s t = absurd s
-  leaves_stop OutOfMemory s t = rw polls t
+  -- where memory was wanting
+  abbrev pub WantsSo : {T : Type 0} → Result T StoreError → Type 0
+  WantsSo result = IfErr result (λ error. IfWanting error (WantsIn old tells told act))
 
-  leaves_if : {T : Type 0} (f : T → Reply) (result : Result T StoreError) → Halts result new → IfErr (replied f result) (Leaves act old new tells told)
-  leaves_if f (Ok v) h = tt
-  leaves_if f (Err error) h = leaves_stop error h.stop h.trapped
+  leaves_stop : (error : StoreError) → IsStop error → new.trapped ≡ true → IfWanting error (WantsIn old tells told act) → Leaves act old new tells told error
+  leaves_stop (Refused r) s t w = absurd s
+  leaves_stop (HostFailed end) s t w = t
+  leaves_stop (HostBroke end) s t w = t
+  leaves_stop (BadItem stream) s t w = t
+  leaves_stop StoreTrapped s t w = absurd s
+  leaves_stop OutOfMemory s t w = rw polls (record { trapped = t; wants = w })
 
-  pub hosted_polled : {T : Type 0} (f : T → Reply) (result : Result T StoreError) → Does old new tells told (answered (replied f result)) (λ w. outcome w act) → MayBeDone old tells act → Fits new told → Halts result new → MeetsHosted old new tells told (replied f result) act
-  hosted_polled f result does may fits halts = record {
+  leaves_if : {T : Type 0} (f : T → Reply) (result : Result T StoreError) → Halts result new → WantsSo result → IfErr (replied f result) (Leaves act old new tells told)
+  leaves_if f (Ok v) h w = tt
+  leaves_if f (Err error) h w = leaves_stop error h.stop h.trapped w
+
+  pub hosted_polled : {T : Type 0} (f : T → Reply) (result : Result T StoreError) → Does old new tells told (answered (replied f result)) (λ w. outcome w act) → MayBeDone old tells act → Fits new told → Halts result new → WantsSo result → MeetsHosted old new tells told (replied f result) act
+  hosted_polled f result does may fits halts wants = record {
     does = does;
     fits = fits;
     alone = λ u. absurd (true≢false (sym polls ∙ unpolled (lone old) act u));
-    err = leaves_if f result halts;
+    err = leaves_if f result halts wants;
     wanting = λ w. may;
   }
 
@@ -136,6 +142,17 @@ module _ (old mid new : State) (tells told : Tells) (s n : ℕ) (operation : Ope
       (subst (λ (x : State). DoesTurn side x new (Err (cause_of error))) e
       (subst (DoesTurn side mid new) same turn)))
 
+-- memory was wanting in the turn
+pub turn-wants : (old mid : State) (tells told : Tells) (s n : ℕ) (operation : Operation) (side : Side) → mid ≡ opened_on side old s operation → WantsInPoll mid tells told (turn_for side s n operation)
+    → WantsInPoll old tells told (polls_for side s n operation)
+turn-wants old mid tells told s n operation side e w = record {
+  end = w.end;
+  more = w.more;
+  fails = w.fails;
+  state = w.state;
+  does = turn-stops old mid w.state tells w.more s n operation side e (HostFailed w.end) tt w.does;
+}
+
 -- ## A read or write with a host end across
 
 -- a read or write of the named end that nothing refuses, on stream s, whose other end host end n has
@@ -179,10 +196,25 @@ module _ (old new : State) (tells told : Tells) (side : Side) (end : NamedEnd) (
   may : MayBeDone old tells act
   may = record { untrapped = h.untrapped; none = λ logs. refusal_in-on_end (world_of old tells logs) side end (Operate address count) ∙ h.none }
 
-  pub hosted_across : {T : Type 0} (f : T → Reply) (result : Result T StoreError) → Does old new tells told (answered (replied f result)) (polls_for side s n operation) → Fits new told → Halts result new → MeetsHosted old new tells told (replied f result) act
-  hosted_across f result does =
+  wants_across : WantsInPoll old tells told (polls_for side s n operation) → WantsIn old tells told act
+  wants_across w =
+      InAPoll (record {
+        end = w.end;
+        more = w.more;
+        fails = w.fails;
+        state = w.state;
+        does = does_admitted old w.state tells w.more act (Err (Some (stops.HostFailed w.end))) (polls_for side s n operation) may polls w.does;
+      })
+
+  -- where memory was wanting, it was so in the turn
+  abbrev pub WantsTurn : {T : Type 0} → Result T StoreError → Type 0
+  WantsTurn result = IfErr result (λ error. IfWanting error (WantsInPoll old tells told (polls_for side s n operation)))
+
+  pub hosted_across : {T : Type 0} (f : T → Reply) (result : Result T StoreError) → Does old new tells told (answered (replied f result)) (polls_for side s n operation) → Fits new told → Halts result new → WantsTurn result → MeetsHosted old new tells told (replied f result) act
+  hosted_across f result does fits halts wants =
       hosted_polled old new tells told act across f result
-      (does_admitted old new tells told act (answered (replied f result)) (polls_for side s n operation) may polls does) may
+      (does_admitted old new tells told act (answered (replied f result)) (polls_for side s n operation) may polls does) may fits halts
+      (wanting_result result wants_across wants)
 
 -- items that the writer holds are those that are held for the read
 pub held_there : (state : State) (tells : Tells) (side : Side) (end : NamedEnd) (address count n s : ℕ) (operation : Operation) → IsAcross state side end address count n s operation → IsHandedOver state tells (operating side end address count) → (side ≡ Reading) × ((told_by tells n).holds ≢ [])

@@ -29,9 +29,11 @@ use Rattle.strm_producing.proofs.StepLemmas.{scene_in, told_in, turned_in, stop_
 use Rattle.strm_transmit.specs.Inside.{AreServed}
 use Rattle.strm_transmit.specs.Hosted.{answered, IsStop}
 use Rattle.strm_transmit.specs.Turning.{TurnsStream, stops_by}
+use Rattle.strm_transmit.specs.WantsMemory.{WantsInPoll, IfWanting}
 use Rattle.strm_transmit.proofs.ServedLemmas.{serving_kept}
 use Rattle.strm_transmit.proofs.FitsLemmas.{keeps-closed, Fits-told, Fits-producer, Fits-ended, other_guests, though_trapped, HasWriter, serving}
 use Rattle.strm_transmit.proofs.HostStepLemmas.{Does-after, Fits-after}
+use Rattle.strm_transmit.proofs.WantsLemmas.{turn_wants}
 use Rattle.strm_transmit.proofs.SceneLemmas.{SceneKeeps, turn_keeps}
 
 -- ## A turn that stops keeps what is kept of the writer
@@ -176,6 +178,10 @@ module _ (old : State) (tells : Tells) (n s : ℕ) (read : Operation) (h : IsSer
 
     pub stops-length : length new.streams ≡ length old.streams
     stops-length = ap (λ (x : State). length x.streams) is ∙ mid-length mid told (Err e) t
+
+    -- where memory was wanting
+    pub stops-wants : IfWanting (stops_by e n) (WantsInPoll old tells told (λ w. producer_turn w s n read))
+    stops-wants = turn_wants old tells told n s read is_serving t.after t.ends e t.turns
 
   module _ (mid new : State) (told after : Tells) (t : TurnsStream old mid tells told n s read (Ok tt)) (g : (stream_at mid s).writer.owner ≡ Gone) (c : ClosesWriter (told_by told n) (told_by after n))
       (is : new ≡ ended_in mid n) (others : after ≡ with_told told n (told_by after n)) where

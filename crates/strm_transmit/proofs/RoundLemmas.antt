@@ -1,12 +1,12 @@
 -- The round of a pipe in a store: each of its parts is the machine's, and leaves host ends that the store
 -- fits.
-use Rattle.std.proofs.Common.{◌≡◌, ℕ, zero, suc, ◌==◌, Bool, true, false, cond, List, [], ◌∷◌, ◌++◌, length, drop, get_or, set, Option, Some, None, Result, Ok, Err, refl, sym, ap, subst, ◌∙◌}
+use Rattle.std.proofs.Common.{◌≡◌, ◌≢◌, ◌⊎◌, ℕ, ◌==◌, ◌≤◌, Bool, true, false, cond, List, [], ◌∷◌, ◌++◌, length, drop, get_or, set, Option, Some, None, Result, Ok, Err, refl, sym, ap, subst, ◌∙◌, inl, inr, arith}
 use Rattle.std.specs.Prelude.{not, ◌&&◌}
 use Rattle.std.proofs.lemmas.List.{length-set, get_or-set_same, set-get_or}
 use Rattle.strm_codes.specs.declared.codes.TransmitKind.{TransmitKind}
 use Rattle.strm_buffers.specs.declared.answers.Answer.{Answer}
 use Rattle.strm_buffers.specs.Listing.{Item}
-use Rattle.strm_buffers.specs.Tells.{WriterTells, Tells, told_by, with_told, told_by_reader, with_told_reader, given, closed_reader as closed_tells}
+use Rattle.strm_buffers.specs.Tells.{WriterTells, ReaderTells, Tells, no_reader_tells, told_by, with_told, told_by_reader, with_told_reader, given, KeepsReader, closed_reader as closed_tells}
 use Rattle.strm_machine.specs.State.{State, no_producer, no_stream, producer_at, kept_at, consumer_at, stream_at}
 use Rattle.strm_machine.specs.Reactions.{with_stream_at}
 use Rattle.strm_machine.specs.Sides.{end_of}
@@ -29,9 +29,9 @@ use Rattle.strm_world.proofs.GrowLemmas.{follows-told, follows-then, grows-same,
 use Rattle.strm_world.proofs.PollLemmas.{IsServing}
 use Rattle.strm_world.proofs.ReaderLemmas.{ended_reader_in, grows-same_reader, follows-told_reader}
 use Rattle.strm_world.proofs.SettleLemmas.{AreBothLeft}
-use Rattle.strm_world.proofs.PipeLemmas.{IsFetched, Does-fetches_none, Does-fetches, Does-fetches_failed, Does-fetches_broke, IsOffered, offered_tells, passed_in, Does-round_stop}
+use Rattle.strm_world.proofs.PipeLemmas.{gathered_in, IsFetched, Does-fetches_none, Does-fetches, Does-fetches_failed, Does-fetches_broke, IsOffered, offered_tells, passed_in, Does-round, Does-round_stop}
 use Rattle.strm_world.proofs.PipeRoundLemmas.{Does-offers_none, Does-offers, Does-offers_failed, Does-offers_bad, Does-offers_broke, Does-ends_not, Does-ends}
-use Rattle.strm_producing.specs.Piping.{Fetching, Fetches, Offering, Offers}
+use Rattle.strm_producing.specs.Piping.{Fetching, Fetches, Offering, offering, Ungathered, Unoffered, OfferWants, Offers}
 use Rattle.strm_producing.specs.declared.taking.TakeError.{TakeError}
 use Rattle.strm_producing.specs.declared.taking.TakeError.TheVariants as takes
 use Rattle.strm_producing.specs.declared.turns.TurnError.{TurnError}
@@ -48,16 +48,15 @@ use Rattle.strm_transmit.specs.declared.errors.StoreError.{StoreError}
 use Rattle.strm_transmit.proofs.OperateLemmas.{cause_of as stop_cause, stop_is}
 use Rattle.strm_transmit.proofs.ProduceLemmas.{stop-is}
 use Rattle.strm_transmit.proofs.TakeLemmas.{cause_of, cause-is}
+use Rattle.strm_transmit.specs.WantsMemory.{writer_failed, reader_failed, FailsOnce, WantsInPoll, WantsAt, InPoll, BeforeOffer, WantsInOffer, Polled, Unpolled, IfWanting}
+use Rattle.strm_transmit.proofs.WantsLemmas.{set_again, none_from, none_to, fails_polled, fails_offered, fails_writer, fails_reader}
+use Rattle.strm_world.proofs.TurnLemmas.{told-same}
+use Rattle.strm_machine.specs.declared.stops.Stop.TheVariants.{HostFailed}
+use Rattle.strm_machine.specs.declared.streams.HostEnd.TheVariants as ends
 
 -- other items are kept
 other_kept : (state : State) (kept : List (List Item)) (tells : Tells) → Fits state tells → Fits (record state { kept = kept }) tells
 other_kept state kept tells fits = record { writers = fits.writers; readers = fits.readers }
-
--- two changes of a place, the second of what the first left
-set_again : {A : Type 0} (xs : List A) (n : ℕ) (x d : A) (f : A → A) → set (set xs n x) n (f (get_or (set xs n x) n d)) ≡ set xs n (f x)
-set_again [] n x d f = refl
-set_again (y ∷ ys) zero x d f = refl
-set_again (y ∷ ys) (suc n) x d f = ap (λ zs. y ∷ zs) (set_again ys n x d f)
 
 -- a fetch keeps the duty
 pub fetches_duty : (result : Result (Unit {0}) TurnError) (kind : TransmitKind) (old new : Fetching) → Fetches result kind old new → new.producer.duty ≡ old.producer.duty
@@ -107,6 +106,39 @@ offers_keep (Err takes.Failed) old new f = same_stream old new (ap (λ (x : Offe
 offers_keep (Err takes.BadItem) old new f = same_stream old new (ap (λ (x : Offering). x.stream) f.1.after) (ap (λ (x : Offering). x.consumer) f.1.after)
 offers_keep (Err takes.Broke) old new f = same_stream old new (ap (λ (x : Offering). x.stream) f.1.after) (ap (λ (x : Offering). x.consumer) f.1.after)
 offers_keep (Err takes.OutOfMemory) old new f = same_stream old new f.stream f.consumer
+
+-- what an offer for which memory was wanting keeps of what its ends tell
+pub record SaysNothing (old new : Offering) : Type 0 where
+  pub said : new.writer.said ≡ old.writer.said
+  pub faults : old.writer.faults ≤ new.writer.faults
+  pub kind : new.writer.kind ≡ old.writer.kind
+  pub payload : new.writer.payload ≡ old.writer.payload
+  pub reader : KeepsReader old.reader new.reader
+
+same_writer : (old new : WriterTells) → new.faults ≡ old.faults → old.faults ≤ new.faults
+same_writer old new e = omega (arith, e)
+
+keeps_itself : (t : ReaderTells) → KeepsReader t t
+keeps_itself t = record { said = refl; holds = refl; faults = omega arith; closed = refl; heard = refl; kind = refl; payload = refl }
+
+pub says_nothing : (old new : Offering) → OfferWants old new → SaysNothing old new
+says_nothing old new w = by w.ends
+  where
+    by : Ungathered old new ⊎ Unoffered old new → SaysNothing old new
+    by (inl u) = record {
+      said = ap (λ (x : WriterTells). x.said) u.writer.same;
+      faults = same_writer old.writer new.writer (ap (λ (x : WriterTells). x.faults) u.writer.same);
+      kind = ap (λ (x : WriterTells). x.kind) u.writer.same;
+      payload = ap (λ (x : WriterTells). x.payload) u.writer.same;
+      reader = subst (KeepsReader old.reader) (sym u.reader) (keeps_itself old.reader);
+    }
+    by (inr u) = record {
+      said = ap (λ (x : WriterTells). x.said) u.writer;
+      faults = same_writer old.writer new.writer (ap (λ (x : WriterTells). x.faults) u.writer);
+      kind = ap (λ (x : WriterTells). x.kind) u.writer;
+      payload = ap (λ (x : WriterTells). x.payload) u.writer;
+      reader = u.reader;
+    }
 
 -- ## A pipe
 
@@ -233,6 +265,22 @@ module _ (old : State) (tells : Tells) (s n r : ℕ) (h : Rounds old tells s n r
     pub fetch_stops-pipe : (e : TurnError) → FetchesStream old mid tells told s n (Err e) → IsPipe new told s n r
     fetch_stops-pipe e t = subst (λ (x : State). IsPipe x told s n r) (sym is) (trapped_pipe mid told s n r (fetched-pipe mid told (Err e) t))
 
+    -- where memory was wanting
+    pub fetch-wants : (e : TurnError) → FetchesStream old mid tells told s n (Err e) → IfWanting (stops_by e n) (WantsInPoll old tells told (λ w. fetches w s n r))
+    fetch-wants Failed t = tt
+    fetch-wants Broke t = tt
+    fetch-wants OutOfMemory t =
+        let said = none_from t.after.tells None false in
+        let more = writer_failed t.after.tells said in
+        let polled : IsFetched old tells n s r said more = record { serving = is_serving; wants = due; polls = fails_polled (told_by tells n) t.after.tells None false t.fetches.tells (nothing_held due); room = refl; finish = refl } in
+        record {
+          end = ends.Writer n;
+          more = with_told tells n more;
+          fails = subst (λ x. FailsOnce (ends.Writer n) x (with_told tells n more)) (sym t.ends) (fails_writer tells n t.after.tells said (record { failed = refl; none = refl }));
+          state = old;
+          does = Does-fetches_failed old tells n s r said more polled old refl refl;
+        }
+
     pub fetch_stops-length : (e : TurnError) → FetchesStream old mid tells told s n (Err e) → length new.streams ≡ length old.streams
     fetch_stops-length e t = ap (λ (x : State). length x.streams) is ∙ fetched-length mid told (Err e) t
 
@@ -264,8 +312,8 @@ module _ (old : State) (tells : Tells) (s n r : ℕ) (h : Rounds old tells s n r
       let k = t.offers.1 in
       record { writer = given_keeps t.after (ap (λ (x : Offering). x.writer) k.after); reader = record { kind = k.polled.polls.kind; payload = k.polled.polls.payload } }
   offer_type mid told (Err takes.OutOfMemory) t =
-      let k = t.offers in
-      record { writer = record { kind = k.writer.kind; payload = k.writer.payload }; reader = record { kind = k.reader.kind; payload = k.reader.payload } }
+      let k = says_nothing _ t.after t.offers in
+      record { writer = record { kind = k.kind; payload = k.payload }; reader = record { kind = k.reader.kind; payload = k.reader.payload } }
 
   module _ (mid : State) (told : Tells) (result : Result Answer TakeError) (t : OffersStream old mid tells told s n r result) where
     here : stream_at mid s ≡ t.after.stream
@@ -345,12 +393,12 @@ module _ (old : State) (tells : Tells) (s n r : ℕ) (h : Rounds old tells s n r
         (Does-offers_broke old tells n s r t.offers.0 t.after.reader (record { serving = is_serving; offers = due; there = is_reading.there; polls = k.polled.polls; offered = k.polled.offered; since = k.polled.after; finish = k.polled.finish; good = k.polled.good })
         new k.failed k.good k.broke (same_producers t))
     offer_stops takes.OutOfMemory t =
-        let k = t.offers in
+        let k = says_nothing _ t.after t.offers in
         let given_up = with_told tells n t.after.writer in
         Does-after refl t.ends
         (Does-follows old new tells (with_told_reader given_up r t.after.reader) (Err None) (offer_part s n r)
         (follows-then tells given_up (with_told_reader given_up r t.after.reader)
-        (follows-told tells n t.after.writer is_serving.there (grows-same (told_by tells n) t.after.writer k.writer.payload k.writer.said k.writer.faults))
+        (follows-told tells n t.after.writer is_serving.there (grows-same (told_by tells n) t.after.writer k.payload k.said k.faults))
         (follows-told_reader given_up r t.after.reader is_reading.there (grows-same_reader (told_by_reader tells r) t.after.reader k.reader.said k.reader.faults)))
         (λ logs x. tt) tt)
 
@@ -359,6 +407,62 @@ module _ (old : State) (tells : Tells) (s n r : ℕ) (h : Rounds old tells s n r
 
     pub offer_stops-fits : (e : TakeError) → OffersStream old mid tells told s n r (Err e) → Fits new told
     offer_stops-fits e t = subst (λ (x : State). Fits x told) (sym is) (though_trapped mid told (offered-pipe mid told (Err e) t).fits)
+
+    -- what the offer began with
+    abbrev offer_old : Offering
+    offer_old = offering (stream_at old s) (consumer_at old r) (kept_at old n) (told_by tells n) (told_by_reader tells r)
+
+    -- host ends tell what it left
+    abbrev TellsSo : Offering → Type 0
+    TellsSo after = told ≡ with_told_reader (with_told tells n after.writer) r after.reader
+
+    -- memory was wanting before the poll
+    unpolled : (after : Offering) → TellsSo after → Ungathered offer_old after → WantsInOffer n old tells told (offer_part s n r)
+    unpolled after e u =
+        let same : told ≡ tells =
+        e
+        ∙ ap (λ w. with_told_reader (with_told tells n w) r after.reader) u.writer.same
+        ∙ ap (λ t. with_told_reader (with_told tells n (told_by tells n)) r t) u.reader
+        ∙ ap (λ (x : Tells). with_told_reader x r (told_by_reader tells r)) (told-same tells n)
+        ∙ ap (λ rs. record tells { readers = rs }) (set-get_or tells.readers r no_reader_tells) in
+        Unpolled same (subst (λ (x : Tells). (told_by x n).holds ≢ []) (sym same) u.writer.some)
+
+    -- or in it
+    polled : (after : Offering) → TellsSo after → Unoffered offer_old after → WantsInOffer n old tells told (offer_part s n r)
+    polled after e u =
+        let offered = length (held_on old tells n) in
+        let since = (consumer_at old r).since in
+        let said = none_to offered since false in
+        let more = reader_failed after.reader said in
+        let gave = with_told tells n (given (told_by tells n) None) in
+        let o : IsOffered old tells n s r said more = record {
+          serving = is_serving;
+          offers = due;
+          there = is_reading.there;
+          polls = fails_offered (told_by_reader tells r) after.reader offered since false u.reader;
+          offered = refl;
+          since = refl;
+          finish = refl;
+          good = refl;
+        } in
+        Polled (record {
+          end = ends.Reader r;
+          more = with_told_reader gave r more;
+          fails = subst (λ x. FailsOnce (ends.Reader r) x (with_told_reader gave r more)) (sym (ends_then after u.writer e)) (fails_reader gave r after.reader said (record { failed = refl; none = refl; good = refl }));
+          state = gathered_in old tells n;
+          does = Does-offers_failed old tells n s r said more o (gathered_in old tells n) refl refl;
+        })
+
+    offer_wants : (after : Offering) → TellsSo after → Ungathered offer_old after ⊎ Unoffered offer_old after → WantsInOffer n old tells told (offer_part s n r)
+    offer_wants after e (inl u) = unpolled after e u
+    offer_wants after e (inr u) = polled after e u
+
+    -- where memory was wanting
+    pub offer-wants : (e : TakeError) → OffersStream old mid tells told s n r (Err e) → IfWanting (stops_taking e r s) (WantsInOffer n old tells told (offer_part s n r))
+    offer-wants takes.Failed t = tt
+    offer-wants takes.BadItem t = tt
+    offer-wants takes.Broke t = tt
+    offer-wants takes.OutOfMemory t = offer_wants t.after t.ends t.offers.ends
 
     pub offer_stops-length : (e : TakeError) → OffersStream old mid tells told s n r (Err e) → length new.streams ≡ length old.streams
     offer_stops-length e t = ap (λ (x : State). length x.streams) is ∙ offered-length mid told (Err e) t
@@ -420,3 +524,36 @@ round-stops old new tells told s n r error stop d =
     subst (λ (x : Answered). Does old new tells told x (λ w. pipe_round w s n r)) (sym same)
     (Does-round_stop old new tells told s n r (stop_cause error)
     (subst (λ (x : Answered). Does old new tells told x (λ w. fetches w s n r)) same d))
+
+-- memory was wanting in a round of stream s
+abbrev RoundWants : State → Tells → Tells → ℕ → ℕ → ℕ → Type 0
+RoundWants old tells told s n r = WantsAt s n r old tells told (λ w. pipe_round w s n r) (λ w. fetches w s n r)
+
+-- in its fetch
+pub round-fetch_wants : (old : State) (tells told : Tells) (s n r : ℕ) → WantsInPoll old tells told (λ w. fetches w s n r) → RoundWants old tells told s n r
+round-fetch_wants old tells told s n r w =
+    InPoll (record {
+      end = w.end;
+      more = w.more;
+      fails = w.fails;
+      state = w.state;
+      does = Does-round_stop old w.state tells w.more s n r (Some (HostFailed w.end)) w.does;
+    })
+
+module _ (old mid : State) (tells told more : Tells) (s n r : ℕ) (d : Does old mid tells told (Ok replies.Done) (λ w. fetches w s n r)) (p : IsPipe mid told s n r) where
+  -- or in the offer behind it
+  pub round-offer_wants : WantsInOffer n mid told more (offer_part s n r) → RoundWants old tells more s n r
+  round-offer_wants (Polled w) =
+      InPoll (record {
+        end = w.end;
+        more = w.more;
+        fails = w.fails;
+        state = w.state;
+        does = Does-round old mid w.state tells told w.more s n r (Err (Some (HostFailed w.end))) d w.does;
+      })
+  round-offer_wants (Unpolled same held) =
+      BeforeOffer (record {
+        state = mid;
+        does = subst (λ (x : Tells). Does old mid tells x (Ok replies.Done) (λ w. fetches w s n r)) (sym same) d;
+        holds = record { writer = p.writer; reader = p.reader; held = held };
+      })

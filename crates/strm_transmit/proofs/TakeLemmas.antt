@@ -37,6 +37,8 @@ use Rattle.strm_producing.specs.declared.taking.TakeError.TheVariants.{Failed, O
 use Rattle.strm_transmit.specs.Inside.{AreServed}
 use Rattle.strm_transmit.specs.Hosted.{answered, IsStop}
 use Rattle.strm_transmit.specs.Turning.{TakesStream, stops_taking}
+use Rattle.strm_transmit.specs.WantsMemory.{WantsInPoll, IfWanting}
+use Rattle.strm_transmit.proofs.WantsLemmas.{taking_wants}
 use Rattle.strm_transmit.proofs.FitsLemmas.{KeepsReaderType, Fits-told_reader, Fits-consumer, Fits-reader_ended, other_guests, though_trapped, HasReader, IsReading, reading}
 use Rattle.strm_transmit.proofs.HostStepLemmas.{Does-after, Fits-after}
 use Rattle.strm_transmit.proofs.SceneLemmas.{StreamMoves, moved_on-moves, stays-moves}
@@ -171,6 +173,13 @@ module _ (old : State) (tells : Tells) (r s : ℕ) (write : Operation) (i : IsRe
   take_stops Broke new after t k = turn-reader_broke old tells r s write t.0 new.tells (polled_with t.0 new.tells t.1.polled) after t.1.failed t.1.good t.1.broke k
   take_stops OutOfMemory new after t k = turn-reader_wanting old after tells r new.tells its_turn i.there t.tells
 
+  -- memory was wanting
+  pub take_wants : (e : TakeError) (new : Taking) (told : Tells) → told ≡ told_after tells r new → Takes (Err e) (taking_in old tells r s) new write → IfWanting (stops_taking e r s) (WantsInPoll old tells told its_turn)
+  take_wants Failed new told x t = tt
+  take_wants BadItem new told x t = tt
+  take_wants Broke new told x t = tt
+  take_wants OutOfMemory new told x t = taking_wants old tells told r s write i.there new.tells x t.tells
+
 -- ## In a store
 
 -- a write for which the host reader of its stream has its turn
@@ -277,3 +286,7 @@ module _ (old : State) (tells : Tells) (r s : ℕ) (write : Operation) (h : IsTa
 
     pub stops-length : length new.streams ≡ length old.streams
     stops-length = ap (λ (x : State). length x.streams) is ∙ mid-length mid told (Err e) t
+
+    -- where memory was wanting
+    pub stops-wants : IfWanting (stops_taking e r s) (WantsInPoll old tells told (λ w. consumer_turn w s r write))
+    stops-wants = take_wants old tells r s write is_reading e t.after told t.ends t.takes

@@ -22,6 +22,7 @@ use Rattle.strm_world.specs.HostRefusals.{refusal_in}
 use Rattle.strm_world.specs.Steps.{outcome, may_poll, touches}
 use Rattle.strm_world.specs.Does.{Logs, world_of, Answered, FitsWriter, FitsReader, Fits, Does}
 use Rattle.strm_transmit.specs.Meets.{Meets}
+use Rattle.strm_transmit.specs.WantsMemory.{WantsIn}
 use Rattle.strm_transmit.specs.declared.errors.StoreError.{StoreError}
 use Rattle.strm_transmit.specs.declared.errors.StoreError.TheVariants.{Refused, HostFailed, HostBroke, BadItem, StoreTrapped, OutOfMemory}
 
@@ -72,18 +73,22 @@ pub record Stays (old new : State) (tells told : Tells) : Type 0 where
   pub same : new ≡ old
   pub ends : told ≡ tells
 
--- what want of memory leaves: where a host end may be polled, a trapped store; anywhere else nothing
--- has changed
-abbrev pub Wanting : Bool → State → State → Tells → Tells → Type 0
-Wanting true old new tells told = new.trapped ≡ true
-Wanting false old new tells told = Stays old new tells told
+-- what want of memory leaves where a host end may be polled: a trapped store, and what host ends then tell
+pub record TrapsWanting (act : Act) (old new : State) (tells told : Tells) : Type 0 where
+  pub trapped : new.trapped ≡ true
+  pub wants : WantsIn old tells told act
+
+-- what it leaves: that where a host end may be polled; anywhere else nothing has changed
+abbrev pub Wanting : Bool → Act → State → State → Tells → Tells → Type 0
+Wanting true act old new tells told = TrapsWanting act old new tells told
+Wanting false act old new tells told = Stays old new tells told
 
 -- what an error leaves: a refusal and a store that was trapped change nothing, and a stop traps the
 -- store
 abbrev pub Leaves : Act → State → State → Tells → Tells → StoreError → Type 0
 Leaves act old new tells told (Refused refusal) = Stays old new tells told
 Leaves act old new tells told StoreTrapped = Stays old new tells told
-Leaves act old new tells told OutOfMemory = Wanting (may_poll (lone old) act) old new tells told
+Leaves act old new tells told OutOfMemory = Wanting (may_poll (lone old) act) act old new tells told
 Leaves act old new tells told _ = new.trapped ≡ true
 
 -- a host writer has the write end of stream s, and holds items

@@ -4,6 +4,7 @@ pub mod Inside
 pub mod Keeping
 pub mod Lending
 pub mod Meets
+pub mod WantsMemory
 pub mod Hosted
 pub mod Turning
 pub mod Piping

@@ -14,6 +14,7 @@ ghost use Rattle.strm_world.specs.Does.{Fits, Does};
 ghost use Rattle.strm_transmit.specs.Inside.{AreServed};
 ghost use Rattle.strm_transmit.specs.Meets.{replied};
 ghost use Rattle.strm_transmit.specs.Hosted.{answered, IsStop, MeetsHosted};
+ghost use Rattle.strm_transmit.specs.WantsMemory.{WantsInTurn, WantsInDrive, IfWanting};
 ghost use Rattle.strm_transmit.specs.Rounds.{pipe_ends};
 ghost use Rattle.strm_transmit.specs.Turning.{due_on, least_of, next_of, NextServed};
 
@@ -109,6 +110,8 @@ impl Store {
         ensures there { length self.new.streams ≡ length self.old.streams }
         ensures stop { IfErr result IsStop }
         ensures trapped { IfErr result (λ _. self.new.trapped ≡ true) }
+        ensures wanting { IfErr result (λ error. IfWanting error (WantsInTurn stream self.old
+            (tells_of writer_tells reader_tells hosts.old) (tells_of writer_tells reader_tells hosts.new))) }
     {
         self.sound();
         if let Some(read) = self.due(stream, Side::Reading) {
@@ -131,6 +134,8 @@ impl Store {
         ensures there { length self.new.streams ≡ length self.old.streams }
         ensures stop { IfErr result IsStop }
         ensures trapped { IfErr result (λ _. self.new.trapped ≡ true) }
+        ensures wanting { IfErr result (λ error. IfWanting error (WantsInTurn stream self.old
+            (tells_of writer_tells reader_tells hosts.old) (tells_of writer_tells reader_tells hosts.new))) }
     {
         match self.pipe_ends(stream) {
             Some(ends) => self.pipe_round(hosts, stream, ends.0, ends.1),
@@ -147,6 +152,8 @@ impl Store {
         ensures fits { Fits self.new (tells_of writer_tells reader_tells hosts.new) }
         ensures stop { IfErr result IsStop }
         ensures trapped { IfErr result (λ _. self.new.trapped ≡ true) }
+        ensures wanting { IfErr result (λ error. IfWanting error (WantsInDrive self.old
+            (tells_of writer_tells reader_tells hosts.old) (tells_of writer_tells reader_tells hosts.new))) }
     {
         let mut next = 0;
         while let Some(stream) = self.next_served(next) {

@@ -15,6 +15,7 @@ ghost use Rattle.strm_world.specs.Does.{Fits, Does};
 ghost use Rattle.strm_producing.specs.Piping.{fetching, Fetches, offering, Offers};
 ghost use Rattle.strm_transmit.specs.Meets.{replied};
 ghost use Rattle.strm_transmit.specs.Hosted.{answered, IsStop};
+ghost use Rattle.strm_transmit.specs.WantsMemory.{WantsInPoll, WantsAt, WantsInOffer, IfWanting};
 ghost use Rattle.strm_transmit.specs.Rounds.{pipe_ends, IsPipe, held_on, fetch_due, offer_due, end_due, FetchesStream, OffersStream, offer_part};
 
 use crate::errors::StoreError;
@@ -195,6 +196,9 @@ impl Store {
         ensures there { length self.new.streams ≡ length self.old.streams }
         ensures stop { IfErr result IsStop }
         ensures trapped { IfErr result (λ _. self.new.trapped ≡ true) }
+        ensures wanting { IfErr result (λ error. IfWanting error (WantsInPoll self.old
+            (tells_of writer_tells reader_tells hosts.old) (tells_of writer_tells reader_tells hosts.new)
+            (λ world. fetches world stream writer reader))) }
     {
         self.served();
         if !self.is_fetch_due(hosts, stream, writer, reader) {
@@ -278,6 +282,9 @@ impl Store {
         ensures there { length self.new.streams ≡ length self.old.streams }
         ensures stop { IfErr result IsStop }
         ensures trapped { IfErr result (λ _. self.new.trapped ≡ true) }
+        ensures wanting { IfErr result (λ error. IfWanting error (WantsInOffer writer self.old
+            (tells_of writer_tells reader_tells hosts.old) (tells_of writer_tells reader_tells hosts.new)
+            (offer_part stream writer reader))) }
     {
         self.served();
         if !self.is_offer_due(hosts, stream, writer, reader) {
@@ -311,6 +318,9 @@ impl Store {
         ensures there { length self.new.streams ≡ length self.old.streams }
         ensures stop { IfErr result IsStop }
         ensures trapped { IfErr result (λ _. self.new.trapped ≡ true) }
+        ensures wanting { IfErr result (λ error. IfWanting error (WantsAt stream writer reader self.old
+            (tells_of writer_tells reader_tells hosts.old) (tells_of writer_tells reader_tells hosts.new)
+            (λ world. pipe_round world stream writer reader) (λ world. fetches world stream writer reader))) }
     {
         match self.fetch_if_due(hosts, stream, writer, reader) {
             Ok(()) => self.offer_and_end(hosts, stream, writer, reader),

@@ -23,6 +23,7 @@ ghost use Rattle.strm_world.specs.Consuming.{consumer_turn};
 ghost use Rattle.strm_world.specs.Does.{Fits, Does};
 ghost use Rattle.strm_transmit.specs.Meets.{replied};
 ghost use Rattle.strm_transmit.specs.Hosted.{answered, IsStop};
+ghost use Rattle.strm_transmit.specs.WantsMemory.{WantsInPoll, IfWanting};
 ghost use Rattle.strm_transmit.specs.Turning.{TurnsStream, TakesStream, stops_by, stops_taking, turn_for, polls_for};
 
 use crate::errors::StoreError;
@@ -242,6 +243,9 @@ impl Store {
         ensures untrapped { IfOk result (λ _. self.new.trapped ≡ self.old.trapped) }
         ensures stop { IfErr result IsStop }
         ensures trapped { IfErr result (λ _. self.new.trapped ≡ true) }
+        ensures wanting { IfErr result (λ error. IfWanting error (WantsInPoll self.old
+            (tells_of writer_tells reader_tells hosts.old) (tells_of writer_tells reader_tells hosts.new)
+            (λ world. producer_turn world stream number read.now))) }
         ensures held { (told_by (tells_of writer_tells reader_tells hosts.old) number).holds ≢ []
             → IsOk result }
     {
@@ -285,6 +289,9 @@ impl Store {
         ensures there { length self.new.streams ≡ length self.old.streams }
         ensures stop { IfErr result IsStop }
         ensures trapped { IfErr result (λ _. self.new.trapped ≡ true) }
+        ensures wanting { IfErr result (λ error. IfWanting error (WantsInPoll self.old
+            (tells_of writer_tells reader_tells hosts.old) (tells_of writer_tells reader_tells hosts.new)
+            (λ world. consumer_turn world stream number write.now))) }
     {
         self.sound();
         self.served();
@@ -326,6 +333,9 @@ impl Store {
         ensures there { length self.new.streams ≡ length self.old.streams }
         ensures stop { IfErr result IsStop }
         ensures trapped { IfErr result (λ _. self.new.trapped ≡ true) }
+        ensures wanting { IfErr result (λ error. IfWanting error (WantsInPoll self.old
+            (tells_of writer_tells reader_tells hosts.old) (tells_of writer_tells reader_tells hosts.new)
+            (turn_for side stream number operation.now))) }
         ensures held { side ≡ Reading → (told_by (tells_of writer_tells reader_tells hosts.old) number).holds ≢ []
             → IsOk result }
     {
@@ -371,6 +381,9 @@ impl Store {
         ensures fits { Fits self.new (tells_of writer_tells reader_tells hosts.new) }
         ensures stop { IfErr result IsStop }
         ensures trapped { IfErr result (λ _. self.new.trapped ≡ true) }
+        ensures wanting { IfErr result (λ error. IfWanting error (WantsInPoll self.old
+            (tells_of writer_tells reader_tells hosts.old) (tells_of writer_tells reader_tells hosts.new)
+            (polls_for side stream number operation))) }
         ensures held { side ≡ Reading → (told_by (tells_of writer_tells reader_tells hosts.old) number).holds ≢ []
             → IsOk result }
     {

@@ -1,6 +1,7 @@
 use Rattle.std.proofs.Common.{refl, ◌+◌, ◌∙◌, arith}
 use Rattle.strm_world.proofs.DriveLemmas.{Does-drives_none}
-use Rattle.strm_transmit.proofs.DriveStoreLemmas.{drive_on, drive_end, ends_stop, drive_stop, drive_round}
+use Rattle.strm_transmit.proofs.DriveStoreLemmas.{drive_on, drive_end, ends_stop, drive_stop, drive_round, drive_wants}
+use Rattle.strm_transmit.proofs.WantsLemmas.{wanting_as}
 use Rattle.strm_transmit.proofs.store.Store.drive_all.Goals as goal
 
 pub loop-stream-init : goal.loop-stream-init
@@ -57,3 +58,12 @@ returns-clause-does g c =
 
 pub returns-clause-fits : goal.returns-clause-fits
 returns-clause-fits g c = c.loop-stream.invariant.fits
+
+pub returns-in-Err-clause-wanting : goal.returns-in-Err-clause-wanting
+returns-in-Err-clause-wanting g c =
+    let i = c.loop-stream.invariant in
+    let next = c.in-Some.ensures.next in
+    let made = c.in-Some.ensures.served.made next.side next.number c.in-Some.stream next.serves in
+    wanting_as c.in-Err.error
+    (drive_wants c.args.self.now c.loop-stream.self _ _ _ c.in-Some.ensures.served c.loop-stream.next i.does c.in-Some.stream next (omega (arith, made, i.made)))
+    c.in-Err.ensures.wanting

@@ -1,5 +1,5 @@
 use Rattle.std.proofs.Common.{rules}
-use Rattle.strm_transmit.proofs.RoundLemmas.{rounds, nothing_held, fetch-none, fetched-does, fetched-pipe, fetch-stops, fetch_stops-pipe}
+use Rattle.strm_transmit.proofs.RoundLemmas.{rounds, nothing_held, fetch-none, fetched-does, fetched-pipe, fetch-stops, fetch-wants, fetch_stops-pipe}
 use Rattle.strm_transmit.proofs.store.Store.fetch_if_due.Goals as goal
 
 pub returns-then-not-is_fetch_due-clause-does : goal.returns-then-not-is_fetch_due-clause-does
@@ -19,3 +19,6 @@ returns-in-Err-clause-does g c = rw c.stop_of.ensures (fetch-stops c.args.self.n
 
 pub returns-in-Err-clause-pipe : goal.returns-in-Err-clause-pipe
 returns-in-Err-clause-pipe g c = fetch_stops-pipe c.args.self.now _ c.args.stream c.args.writer c.args.reader (rounds c.args.self.now _ c.args.stream c.args.writer c.args.reader c.served.ensures c.requires.pipe) _ _ _ (search rules) c.trap.ensures c.in-Err.error c.in-Err.ensures
+
+pub returns-in-Err-clause-wanting : goal.returns-in-Err-clause-wanting
+returns-in-Err-clause-wanting g c = rw c.stop_of.ensures (fetch-wants c.args.self.now _ c.args.stream c.args.writer c.args.reader (rounds c.args.self.now _ c.args.stream c.args.writer c.args.reader c.served.ensures c.requires.pipe) _ _ _ (search rules) c.trap.ensures c.in-Err.error c.in-Err.ensures)

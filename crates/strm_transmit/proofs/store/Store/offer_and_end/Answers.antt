@@ -1,5 +1,5 @@
 use Rattle.std.proofs.Common.{rules}
-use Rattle.strm_transmit.proofs.RoundLemmas.{rounds, offered-pipe, offer-none, offered-does, offer-stops, offer_stops-fits}
+use Rattle.strm_transmit.proofs.RoundLemmas.{rounds, offered-pipe, offer-none, offered-does, offer-stops, offer-wants, offer_stops-fits}
 use Rattle.strm_transmit.proofs.store.Store.offer_and_end.Goals as goal
 
 pub returns-then-not-is_offer_due-clause-does : goal.returns-then-not-is_offer_due-clause-does
@@ -16,3 +16,6 @@ returns-in-Err-clause-does g c = rw c.stop_taking.ensures (offer-stops c.args.se
 
 pub returns-in-Err-clause-fits : goal.returns-in-Err-clause-fits
 returns-in-Err-clause-fits g c = offer_stops-fits c.args.self.now _ c.args.stream c.args.writer c.args.reader (rounds c.args.self.now _ c.args.stream c.args.writer c.args.reader c.served.ensures c.requires.pipe) _ _ _ (search rules) c.trap.ensures c.in-Err.error c.in-Err.ensures
+
+pub returns-in-Err-clause-wanting : goal.returns-in-Err-clause-wanting
+returns-in-Err-clause-wanting g c = rw c.stop_taking.ensures (offer-wants c.args.self.now _ c.args.stream c.args.writer c.args.reader (rounds c.args.self.now _ c.args.stream c.args.writer c.args.reader c.served.ensures c.requires.pipe) _ _ _ (search rules) c.trap.ensures c.in-Err.error c.in-Err.ensures)

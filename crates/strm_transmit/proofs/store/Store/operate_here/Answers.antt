@@ -23,7 +23,7 @@ returns-in-Some-clause-meets g c =
       owner = c.in-Some.ensures.some;
     })
     replies.Code c.poll_across.result c.poll_across.ensures.does c.poll_across.ensures.fits
-    (record { stop = c.poll_across.ensures.stop; trapped = c.poll_across.ensures.trapped })
+    (record { stop = c.poll_across.ensures.stop; trapped = c.poll_across.ensures.trapped }) c.poll_across.ensures.wanting
 
 pub returns-in-Some-clause-held : goal.returns-in-Some-clause-held
 returns-in-Some-clause-held g c = λ held.

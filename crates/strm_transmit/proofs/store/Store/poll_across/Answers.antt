@@ -1,4 +1,5 @@
-use Rattle.strm_transmit.proofs.OperateLemmas.{opened-fits, turn-answers, turn-stops}
+use Rattle.strm_transmit.proofs.OperateLemmas.{opened-fits, turn-answers, turn-stops, turn-wants}
+use Rattle.strm_transmit.proofs.WantsLemmas.{wanting_as}
 use Rattle.strm_transmit.proofs.store.Store.poll_across.Goals as goal
 
 pub host_turn-requires-clause-fits : goal.host_turn-requires-clause-fits
@@ -14,3 +15,7 @@ returns-in-Ok-clause-fits g c = c.answer.ensures.fits _ c.in-Ok.ensures.fits
 pub returns-in-Err-clause-does : goal.returns-in-Err-clause-does
 returns-in-Err-clause-does g c =
     turn-stops c.args.self.now _ _ _ _ c.args.stream c.args.number c.args.operation c.args.side c.open.ensures _ c.in-Err.ensures.stop c.in-Err.ensures.does
+
+pub returns-in-Err-clause-wanting : goal.returns-in-Err-clause-wanting
+returns-in-Err-clause-wanting g c =
+    wanting_as c.in-Err.error (turn-wants c.args.self.now _ _ _ c.args.stream c.args.number c.args.operation c.args.side c.open.ensures) c.in-Err.ensures.wanting

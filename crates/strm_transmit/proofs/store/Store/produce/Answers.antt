@@ -1,5 +1,5 @@
 use Rattle.std.proofs.Common.{rules}
-use Rattle.strm_transmit.proofs.ProduceLemmas.{stream_goes, is_served, mid-made, mid-length, mid-fits, mid-duty, told-there, produced-stays, stop-stops, stops-does, stops-fits, stops-length, left-does, left-fits_as, left-length}
+use Rattle.strm_transmit.proofs.ProduceLemmas.{stream_goes, is_served, mid-made, mid-length, mid-fits, mid-duty, told-there, produced-stays, stop-stops, stops-does, stops-fits, stops-length, stops-wants, left-does, left-fits_as, left-length}
 use Rattle.strm_transmit.proofs.store.Store.produce.Goals as goal
 
 pub stream-requires : goal.stream-requires
@@ -70,3 +70,8 @@ pub returns-clause-there : goal.returns-clause-there
 returns-clause-there g c =
     let h = is_served _ _ _ _ _ c.sound.ensures c.served.ensures c.requires.there c.requires.owner c.requires.fits c.requires.placed in
     left-length _ _ _ _ _ h _ _ _ _ c.in-Ok.ensures (search rules) c.close_writer.ensures.closes c.retire.ensures c.close_writer.ensures.others
+
+pub returns-in-Err-clause-wanting : goal.returns-in-Err-clause-wanting
+returns-in-Err-clause-wanting g c =
+    let h = is_served _ _ _ _ _ c.sound.ensures c.served.ensures c.requires.there c.requires.owner c.requires.fits c.requires.placed in
+    rw c.stop_of.ensures (stops-wants _ _ _ _ _ h _ _ _ c.in-Err.error c.in-Err.ensures c.trap.ensures)

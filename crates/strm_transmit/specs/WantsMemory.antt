@@ -1,0 +1,112 @@
+-- What host ends tell where memory was wanting in a step that may poll them: what they would tell had the one that
+-- was polled failed in that poll, but for its record of it; or, before items that a host writer holds are offered
+-- along a pipe, what they tell then. Ours.
+use Rattle.std.specs.Prelude.{◌≡◌, ◌≢◌, ℕ, false, [], ◌∷◌, ◌++◌, Some, Ok, Err}
+use Rattle.strm_buffers.specs.declared.answers.Answer.TheVariants.{Failed}
+use Rattle.strm_buffers.specs.declared.answers.ReaderSaid.{ReaderSaid}
+use Rattle.strm_buffers.specs.Said.{WriterSaid}
+use Rattle.strm_buffers.specs.Tells.{WriterTells, ReaderTells, Tells, one_more, told_by, with_told, told_by_reader, with_told_reader}
+use Rattle.strm_machine.specs.State.{State, stream_at}
+use Rattle.strm_machine.specs.declared.acts.Act.{Act}
+use Rattle.strm_machine.specs.declared.acts.Act.TheVariants.{Drive}
+use Rattle.strm_machine.specs.declared.replies.Reply.TheVariants as replies
+use Rattle.strm_machine.specs.declared.stops.Stop.TheVariants.{HostFailed}
+use Rattle.strm_machine.specs.declared.streams.HostEnd.{HostEnd}
+use Rattle.strm_machine.specs.declared.streams.HostEnd.TheVariants as ends
+use Rattle.strm_machine.specs.declared.streams.Owner.TheVariants.{Host}
+use Rattle.strm_world.specs.World.{World}
+use Rattle.strm_world.specs.Outcomes.{Outcome, then_on}
+use Rattle.strm_world.specs.Piping.{fetches}
+use Rattle.strm_world.specs.Driving.{drive_turn, driven, numbers_from, round_of}
+use Rattle.strm_world.specs.Steps.{outcome}
+use Rattle.strm_world.specs.Does.{Does}
+use Rattle.strm_transmit.specs.declared.errors.StoreError.{StoreError}
+use Rattle.strm_transmit.specs.declared.errors.StoreError.TheVariants.{OutOfMemory}
+
+-- A RECORD THAT WAS NOT MADE
+
+-- a poll in which a host writer failed, and produced nothing
+pub record ProducesNone (said : WriterSaid) : Type 0 where
+  pub failed : said.answer ≡ Failed
+  pub none : said.items ≡ []
+
+-- a poll in which a host reader failed, and took nothing
+pub record TakesNone (said : ReaderSaid) : Type 0 where
+  pub failed : said.answer ≡ Failed
+  pub none : said.taken ≡ 0
+  pub good : said.bad ≡ false
+
+-- a host writer with this record more
+abbrev pub writer_failed : WriterTells → WriterSaid → WriterTells
+writer_failed tells said = record tells { said = tells.said ++ said ∷ []; faults = one_more tells.faults }
+
+-- a host reader with this record more
+abbrev pub reader_failed : ReaderTells → ReaderSaid → ReaderTells
+reader_failed tells said = record tells { said = tells.said ++ said ∷ []; faults = one_more tells.faults }
+
+-- all host ends tell the same, but that this one had one poll more, in which it failed, with no items
+abbrev pub FailsOnce : HostEnd → Tells → Tells → Type 0
+FailsOnce (ends.Writer n) told more =
+    (said : WriterSaid) × ProducesNone said × (more ≡ with_told told n (writer_failed (told_by told n) said))
+FailsOnce (ends.Reader r) told more =
+    (said : ReaderSaid) × TakesNone said × (more ≡ with_told_reader told r (reader_failed (told_by_reader told r) said))
+
+-- a poll found no memory: had the host end failed in it, the machine would stop there, and host ends would tell
+-- what they tell, with that record more
+pub record WantsInPoll (old : State) (tells told : Tells) (machine : World → Outcome) : Type 0 where
+  pub end : HostEnd
+  pub more : Tells
+  pub fails : FailsOnce end told more
+  pub state : State
+  pub does : Does old state tells more (Err (Some (HostFailed end))) machine
+
+-- ALONG A PIPE
+
+-- host writer n holds items itself, which are to be offered to host reader r along stream s
+pub record HoldsBefore (s n r : ℕ) (state : State) (told : Tells) : Type 0 where
+  pub writer : (stream_at state s).writer.owner ≡ Host n
+  pub reader : (stream_at state s).reader.owner ≡ Host r
+  pub held : (told_by told n).holds ≢ []
+
+-- memory was wanting before they were offered: host ends tell what they tell behind this part of what the machine
+-- does
+pub record WantsBefore (s n r : ℕ) (old : State) (tells told : Tells) (part : World → Outcome) : Type 0 where
+  pub state : State
+  pub does : Does old state tells told (Ok replies.Done) part
+  pub holds : HoldsBefore s n r state told
+
+-- in a poll of what the machine does in all, or behind a part of it, before an offer along stream s
+pub data WantsAt (s n r : ℕ) (old : State) (tells told : Tells) (whole part : World → Outcome) : Type 0 where
+  InPoll : WantsInPoll old tells told whole → WantsAt s n r old tells told whole part
+  BeforeOffer : WantsBefore s n r old tells told part → WantsAt s n r old tells told whole part
+
+-- in the offer along stream s, before which nothing was done
+pub data WantsInOffer (n : ℕ) (old : State) (tells told : Tells) (offer : World → Outcome) : Type 0 where
+  Polled : WantsInPoll old tells told offer → WantsInOffer n old tells told offer
+  Unpolled : told ≡ tells → (told_by told n).holds ≢ [] → WantsInOffer n old tells told offer
+
+-- in the turn of stream s
+abbrev pub WantsInTurn : ℕ → State → Tells → Tells → Type 0
+WantsInTurn s old tells told =
+    (n : ℕ) × (r : ℕ) × WantsAt s n r old tells told (λ w. drive_turn w s) (λ w. fetches w s n r)
+
+-- a drive round up to an offer along stream s: the turns of the streams before it, and its own fetch
+abbrev pub up_to_offer : ℕ → ℕ → ℕ → World → Outcome
+up_to_offer s n r world = then_on (driven world (numbers_from 0 s)) (λ w. fetches w s n r)
+
+-- in a drive round
+abbrev pub WantsInDrive : State → Tells → Tells → Type 0
+WantsInDrive old tells told =
+    (s : ℕ) × (n : ℕ) × (r : ℕ) × WantsAt s n r old tells told (λ w. driven w (round_of w)) (up_to_offer s n r)
+
+-- IN A STEP
+
+-- in a poll of the step, or in a drive round before an offer along a pipe
+pub data WantsIn (old : State) (tells told : Tells) (act : Act) : Type 0 where
+  InAPoll : WantsInPoll old tells told (λ w. outcome w act) → WantsIn old tells told act
+  InADrive : (s n r : ℕ) → act ≡ Drive → WantsBefore s n r old tells told (up_to_offer s n r) → WantsIn old tells told act
+
+-- where an error is want of memory, this holds
+abbrev pub IfWanting : StoreError → Type 0 → Type 0
+IfWanting OutOfMemory P = P
+IfWanting _ P = Unit {0}
