@@ -29,7 +29,7 @@ ghost use Rattle.strm_transmit.specs.Meets.{Meets, replied, or_found};
 ghost use Rattle.strm_transmit.specs.Hosted.{lone, IsHandedOver, MeetsHosted, StillFits};
 
 use crate::errors::StoreError;
-use crate::store::Store;
+use crate::store::{Store, type_with};
 use crate::telling::retell;
 use strm_buffers::hosts::Hosts;
 use strm_codes::codes::{ReturnCode, TransmitIndex};
@@ -54,6 +54,20 @@ fn items_asked(ty: TransmitIndex, count: u32) -> Result<ItemCount, StreamOpTooBi
         TransmitIndex::Stream(_) => ItemCount::new(count),
         TransmitIndex::Future(_) => ItemCount::new(1),
     }
+}
+
+// A type of plain numbers, made anew from its scalar: then no more of its payload is loaded and kept.
+#[inline(always)]
+fn number_type(ty: TransmitIndex) -> Option<TransmitIndex>
+    ensures { IfSome result (λ same. same ≡ ty) }
+{
+    let Payload::One(scalar) = ty.payload() else {
+        return None;
+    };
+    if !scalar.is_whole_number() {
+        return None;
+    }
+    Some(type_with(ty.kind(), Payload::One(scalar)))
 }
 
 impl Store {
@@ -177,10 +191,13 @@ impl Store {
         ensures held { IsHandedOver self.old (tells_of writer_tells reader_tells hosts.old)
             (OnEnd side end.now (Operate address count)) → result ≢ Err StoreError.OutOfMemory }
     {
-        if end.ty.payload().is_number() {
-            return self.operate_here(hosts, side, end, address, count);
+        match number_type(end.ty) {
+            Some(ty) => {
+                let end = NamedEnd { ty, ..*end };
+                self.operate_here(hosts, side, &end, address, count)
+            }
+            None => self.operate_apart(hosts, side, *end, address, count),
         }
-        self.operate_apart(hosts, side, *end, address, count)
     }
 
     // The same of any payload, apart from the code for plain numbers. The end comes by value, so that
@@ -258,10 +275,13 @@ impl Store {
         ensures fits { StillFits self.old self.new }
         ensures takes_no_memory { result ≢ Err StoreError.OutOfMemory }
     {
-        if end.ty.payload().is_number() {
-            return self.alone_here(side, end, address, count);
+        match number_type(end.ty) {
+            Some(ty) => {
+                let end = NamedEnd { ty, ..*end };
+                self.alone_here(side, &end, address, count)
+            }
+            None => self.alone_apart(side, *end, address, count),
         }
-        self.alone_apart(side, *end, address, count)
     }
 
     // The same of any payload, apart from the code for plain numbers. The end comes by value, so that
