@@ -100,7 +100,7 @@ fn perform_step(store: &mut Store, hosts: &mut Hosts, step: &Step) -> Result<Rep
             count,
         )),
         Step::Event { guest, handle } => reply(event(store, guest, handle)),
-        _ => reply(perform_act(store, hosts, step)),
+        _ => perform_act(store, hosts, step),
     }
 }
 
@@ -128,9 +128,26 @@ fn operate(
         .map(Reply::Code)
 }
 
-// What a step does, seen as its act, apart from the code of those three.
-#[inline(never)]
+// What any step does, seen as its act. Inlined, so that the place of its answer is made ready where it is
+// wanted alone.
+#[inline(always)]
 fn perform_act(store: &mut Store, hosts: &mut Hosts, step: &Step) -> Result<Reply, StoreError>
+    requires fits { Fits store.old (tells_of writer_tells reader_tells hosts.old) }
+    ensures meets { MeetsHosted store.old store.new (tells_of writer_tells reader_tells hosts.old)
+        (tells_of writer_tells reader_tells hosts.new) result (act_of step.now) }
+    ensures settled { IfOk result (λ reply. IsTrue (is_settled reply)) }
+    ensures refused { (refusal : Refusal) → result ≢ Err (StoreError.Refused refusal) }
+    ensures takes_no_memory { act_takes_memory (act_of step.now) ≡ false → may_poll (lone store.old) (act_of step.now) ≡ false
+        → result ≢ Err StoreError.OutOfMemory }
+    ensures held { IsHandedOver store.old (tells_of writer_tells reader_tells hosts.old) (act_of step.now)
+        → result ≢ Err StoreError.OutOfMemory }
+{
+    reply(perform_apart(store, hosts, step))
+}
+
+// The same, apart from the code of reads, writes and events; a refusal is an error still.
+#[inline(never)]
+fn perform_apart(store: &mut Store, hosts: &mut Hosts, step: &Step) -> Result<Reply, StoreError>
     requires fits { Fits store.old (tells_of writer_tells reader_tells hosts.old) }
     ensures meets { MeetsHosted store.old store.new (tells_of writer_tells reader_tells hosts.old)
         (tells_of writer_tells reader_tells hosts.new) result (act_of step.now) }

@@ -196,12 +196,34 @@ impl Store {
                 let end = NamedEnd { ty, ..*end };
                 self.operate_here(hosts, side, &end, address, count)
             }
-            None => self.operate_apart(hosts, side, *end, address, count),
+            None => self.operate_any(hosts, side, end, address, count),
         }
     }
 
-    // The same of any payload, apart from the code for plain numbers. The end comes by value, so that
-    // where numbers move it lies in registers.
+    // The same of any payload. Inlined, so that the end is copied there alone.
+    #[inline(always)]
+    fn operate_any(
+        &mut self,
+        hosts: &mut Hosts,
+        side: Side,
+        end: &NamedEnd,
+        address: u32,
+        count: u32,
+    ) -> Result<ReturnCode, StoreError>
+        requires fits { Fits self.old (tells_of writer_tells reader_tells hosts.old) }
+        ensures meets { MeetsHosted self.old self.new (tells_of writer_tells reader_tells hosts.old)
+            (tells_of writer_tells reader_tells hosts.new) (replied replies.Code result)
+            (OnEnd side end.now (Operate address count)) }
+        ensures takes_no_memory { may_poll (lone self.old) (OnEnd side end.now (Operate address count)) ≡ false
+            → result ≢ Err StoreError.OutOfMemory }
+        ensures held { IsHandedOver self.old (tells_of writer_tells reader_tells hosts.old)
+            (OnEnd side end.now (Operate address count)) → result ≢ Err StoreError.OutOfMemory }
+    {
+        self.operate_apart(hosts, side, *end, address, count)
+    }
+
+    // The same, apart from the code for plain numbers. The end comes by value, so that where numbers move
+    // it lies in registers.
     #[inline(never)]
     fn operate_apart(
         &mut self,
@@ -280,12 +302,29 @@ impl Store {
                 let end = NamedEnd { ty, ..*end };
                 self.alone_here(side, &end, address, count)
             }
-            None => self.alone_apart(side, *end, address, count),
+            None => self.alone_any(side, end, address, count),
         }
     }
 
-    // The same of any payload, apart from the code for plain numbers. The end comes by value, so that
-    // where numbers move it lies in registers.
+    // The same of any payload. Inlined, so that the end is copied there alone.
+    #[inline(always)]
+    fn alone_any(
+        &mut self,
+        side: Side,
+        end: &NamedEnd,
+        address: u32,
+        count: u32,
+    ) -> Result<ReturnCode, StoreError>
+        ensures meets { Meets self.old self.new (replied replies.Code result)
+            (reaction self.old (OnEnd side end.now (Operate address count))) }
+        ensures fits { StillFits self.old self.new }
+        ensures takes_no_memory { result ≢ Err StoreError.OutOfMemory }
+    {
+        self.alone_apart(side, *end, address, count)
+    }
+
+    // The same, apart from the code for plain numbers. The end comes by value, so that where numbers move
+    // it lies in registers.
     #[inline(never)]
     fn alone_apart(
         &mut self,
