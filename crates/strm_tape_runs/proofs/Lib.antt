@@ -1,0 +1,6 @@
+pub mod SameLemmas
+pub mod MarkLemmas
+pub mod ZipLemmas
+pub mod DifferLemmas
+pub mod RunLemmas
+pub mod PlayLemmas

@@ -1,0 +1,7 @@
+use Rattle.std.proofs.Common.{◌≡◌, map, take}
+use Rattle.strm_tape_runs.specs.Marks.{mark_of}
+use Rattle.strm_tape_runs.proofs.marks.writer_marks.Given as goal
+
+abbrev pub invariant-loop-n : goal.invariant-loop-n
+invariant-loop-n g l =
+    l.marks.items ≡ map (λ b. mark_of ((goal.HostWriter-dyn g (b.vtable, b.value)).writer_tells b.value)) (take l.n l.hosts.writers.items)

@@ -1,0 +1,14 @@
+use Rattle.std.proofs.Common.{arith}
+use Rattle.strm_tape_runs.specs.Marks.{writer_behind, reader_behind}
+use Rattle.strm_tape_runs.proofs.ZipLemmas.{few_made}
+use Rattle.strm_tape_runs.proofs.taking.tape_behind.Goals as goal
+
+pub new-requires : goal.new-requires
+new-requires g c = record {
+  few_steps = omega (arith, c.requires.few);
+  steps = c.requires.steps;
+  few_writers = few_made writer_behind _ c.deref.ensures.value c.requires.few_writers c.in-Ok.ensures.tapes;
+  writers = c.in-Ok.ensures.sound;
+  few_readers = few_made reader_behind _ c.deref-2.ensures.value c.requires.few_readers c.in-Ok-reader_tapes.ensures.tapes;
+  readers = c.in-Ok-reader_tapes.ensures.sound;
+}

@@ -1,0 +1,5 @@
+pub mod Taking
+pub mod Marks
+pub mod Playing
+pub mod Differing
+pub mod Errors

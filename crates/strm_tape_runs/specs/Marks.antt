@@ -1,0 +1,46 @@
+-- What is kept of host ends before a run, and what they recorded behind it. Ours.
+use Rattle.std.specs.Prelude.{◌≡◌, ℕ, ◌≤◌, List, [], ◌∷◌, ◌++◌, length, drop, slice_get, Some}
+use Rattle.strm_machine.specs.declared.steps.Step.{Step}
+use Rattle.strm_buffers.specs.Tells.{WriterTells, ReaderTells, Tells}
+use Rattle.strm_tape.specs.Spelling.{WriterTape, ReaderTape, TapeOf}
+use Rattle.strm_tape_runs.specs.declared.marks.Mark.{Mark}
+use Rattle.strm_tape_runs.specs.declared.marks.Marks.{Marks}
+use Rattle.strm_tape_runs.specs.Taking.{writer_type, reader_type, zip_with}
+
+-- the type of a host writer, and how many records it has
+abbrev pub mark_of : WriterTells → Mark
+mark_of tells = record { ty = writer_type tells; records = length tells.said }
+
+-- the same of a host reader
+abbrev pub reader_mark_of : ReaderTells → Mark
+reader_mark_of tells = record { ty = reader_type tells; records = length tells.said }
+
+-- what a host writer recorded behind a mark
+abbrev pub writer_behind : Mark → WriterTells → WriterTape
+writer_behind mark tells = record { ty = mark.ty; said = drop mark.records tells.said }
+
+-- what a host reader recorded behind a mark
+abbrev pub reader_behind : Mark → ReaderTells → ReaderTape
+reader_behind mark tells = record { ty = mark.ty; said = drop mark.records tells.said }
+
+-- the tape of these steps, and of what host ends that tell this recorded behind their marks
+abbrev pub tape_behind : List Step → Marks → Tells → TapeOf
+tape_behind steps marks tells = record {
+  steps = steps;
+  writers = zip_with writer_behind marks.writers.items tells.writers;
+  readers = zip_with reader_behind marks.readers.items tells.readers;
+}
+
+-- a host writer has at least as many records as a mark says
+abbrev pub IsReached : Mark → WriterTells → Type 0
+IsReached mark tells = mark.records ≤ length tells.said
+
+-- a host reader has
+abbrev pub ReaderReached : Mark → ReaderTells → Type 0
+ReaderReached mark tells = mark.records ≤ length tells.said
+
+-- the element of a list at this place was put behind others
+pub record IsNext {A : Type 0} (xs : List A) (index : ℕ) (old new : List A) : Type 0 where
+  pub one : A
+  pub there : slice_get xs index ≡ Some one
+  pub behind : new ≡ old ++ one ∷ []

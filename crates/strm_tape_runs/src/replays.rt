@@ -1,0 +1,76 @@
+//! A tape that is played.
+//!
+//! Source: ours.
+
+ghost use Rattle.std.specs.Prelude.{◌≡◌, ◌⊎◌, ℕ, Bool, IfOk, IsErrOf};
+ghost use Rattle.strm_buffers.specs.AllTells.{tells_of};
+ghost use Rattle.strm_session.specs.Records.{HostsGoOn};
+ghost use Rattle.strm_tape_runs.specs.Taking.{tape_of_run};
+ghost use Rattle.strm_tape_runs.specs.Errors.{IsReplayError};
+ghost use Rattle.strm_tape_runs.specs.Playing.{IsRunOf, WasRun, FoundMemory, IsPlayOf, AreEndsOf};
+ghost use Rattle.strm_tape_runs.specs.Differing.{FirstDiffer};
+
+use crate::differing::{Difference, first_difference};
+use crate::marks::Marks;
+use crate::runs::wanted_memory;
+use std::alloc::Global;
+use strm_alike::runs_are_alike;
+use strm_buffers::hosts::Hosts;
+use strm_session::runs::{RunStop, Transcript, run};
+use strm_tape::errors::TapeError;
+use strm_tape::tape::Tape;
+
+/// Runs the steps of a tape among host ends of its types, as `run` does, and sees whether the records that these
+/// add are the tape's. Where they are not, it names the first host end whose records differ, host writers being
+/// before host readers, and the first of its records, from 0, that differs or is wanting on one side.
+///
+/// `OutOfMemory` also comes where the run stops for want of memory.
+pub fn replay(
+    alloc: Global,
+    tape: &Tape,
+    hosts: &mut Hosts,
+) -> Result<Result<Transcript, RunStop>, TapeError>
+    requires ends { AreEndsOf tape.now (tells_of writer_tells reader_tells hosts.old) }
+
+    // The run is one of `run`, and what was added is what the tape has.
+    ensures ran { IfOk result (λ end. IsRunOf (tells_of writer_tells reader_tells hosts.old)
+        (tells_of writer_tells reader_tells hosts.new) tape.now.steps end) }
+    ensures memory { IfOk result (λ end. FoundMemory end) }
+    ensures same { IfOk result (λ _. tape_of_run tape.now.steps (tells_of writer_tells reader_tells hosts.old)
+        (tells_of writer_tells reader_tells hosts.new) ≡ tape.now) }
+
+    // It is the machine's play of that tape.
+    ensures plays { IfOk result (λ end. IsPlayOf tape.now end) }
+
+    // Where it differs, the run is one of `run` too, and the first difference is told.
+    ensures differs { (reader : Bool) (end at : ℕ) → IsErrOf result (TapeError.Differs reader end at) →
+        FirstDiffer (tape_of_run tape.now.steps (tells_of writer_tells reader_tells hosts.old)
+        (tells_of writer_tells reader_tells hosts.new)) tape.now reader end at }
+    ensures adds { (reader : Bool) (end at : ℕ) → IsErrOf result (TapeError.Differs reader end at) →
+        WasRun (tells_of writer_tells reader_tells hosts.old)
+        (tells_of writer_tells reader_tells hosts.new) tape.now.steps }
+    ensures other { (error : TapeError) → IsErrOf result error → IsReplayError error }
+
+    // Without memory, it was run, or nothing was done.
+    ensures wanting { IsErrOf result TapeError.OutOfMemory →
+        (tells_of writer_tells reader_tells hosts.new ≡ tells_of writer_tells reader_tells hosts.old)
+        ⊎ WasRun (tells_of writer_tells reader_tells hosts.old) (tells_of writer_tells reader_tells hosts.new) tape.now.steps }
+    ensures hosts { HostsGoOn (tells_of writer_tells reader_tells hosts.old)
+        (tells_of writer_tells reader_tells hosts.new) }
+{
+    let marks = match Marks::of(alloc, hosts) {
+        Ok(marks) => marks,
+        Err(_) => return Err(TapeError::OutOfMemory),
+    };
+    tape.sound();
+    runs_are_alike();
+    let end = run(alloc, tape.steps(), hosts);
+    if wanted_memory(&end) {
+        return Err(TapeError::OutOfMemory);
+    }
+    match first_difference(hosts, &marks, tape) {
+        Ok(None) => Ok(end),
+        Ok(Some(Difference { reader, end, at })) => Err(TapeError::Differs { reader, end, at }),
+        Err(_) => Err(TapeError::OutOfMemory),
+    }
+}

@@ -1,0 +1,144 @@
+//! A run that is put on tape.
+//!
+//! Source: ours.
+
+ghost use Rattle.std.specs.Prelude.{◌≡◌, ◌≢◌, ◌≤◌, ◌⊎◌, ℕ, false, All, length, IfOk, IsErr, IsErrOf};
+ghost use Rattle.strm_buffers.specs.AllTells.{tells_of};
+ghost use Rattle.strm_lines.specs.Grammar.{HasLine};
+ghost use Rattle.strm_session.specs.Records.{HostsGoOn};
+ghost use Rattle.strm_tape_runs.specs.Taking.{NoneHolds, IsFirstHolding, tape_of_run};
+ghost use Rattle.strm_tape_runs.specs.Errors.{IsTakingError};
+ghost use Rattle.strm_tape_runs.specs.Playing.{IsRunOf, WasRun, FoundMemory, IsPlayOf};
+
+use crate::marks::{Marks, first_holding};
+use crate::taking::tape_behind;
+use std::alloc::Global;
+use strm_alike::runs_are_alike;
+use strm_buffers::hosts::Hosts;
+use strm_codes::counts::OutOfMemory;
+use strm_machine::steps::Step;
+use strm_session::runs::{RunCause, RunStop, Transcript, run};
+use strm_tape::errors::TapeError;
+use strm_tape::tapable::are_tapable;
+use strm_tape::tape::Tape;
+
+/// A run, and its tape.
+#[derive(Drop)]
+pub struct Taped {
+    /// How the run came out.
+    pub end: Result<Transcript, RunStop>,
+    /// The steps, and of each host end its type and the records that it added in the run.
+    pub tape: Tape,
+}
+
+/// Runs the steps as `run` does, and puts them on a tape with the records that the host ends add.
+///
+/// It is refused before anything is run where a host writer holds items, and then where a step has no place on a
+/// tape. After `OutOfMemory` there is no tape. It also comes where the run stops for want of memory, and where a
+/// host end made a record that no tape holds, or 2^32 records: one with a room of 2^28 items or more, with more
+/// taken than offered, or of another payload than before. No store makes such a record.
+pub fn tape_run(alloc: Global, steps: &[Step], hosts: &mut Hosts) -> Result<Taped, TapeError>
+    requires few { length steps.now ≤ 4294967295 }
+    requires writers { length (tells_of writer_tells reader_tells hosts.old).writers ≤ 64 }
+    requires readers { length (tells_of writer_tells reader_tells hosts.old).readers ≤ 64 }
+
+    // The run is one of `run`, and the tape has its steps and the records that it added.
+    ensures ran { IfOk result (λ t. IsRunOf (tells_of writer_tells reader_tells hosts.old)
+        (tells_of writer_tells reader_tells hosts.new) steps.now t.end) }
+    ensures memory { IfOk result (λ t. FoundMemory t.end) }
+    ensures tape { IfOk result (λ t. t.tape ≡ tape_of_run steps.now
+        (tells_of writer_tells reader_tells hosts.old) (tells_of writer_tells reader_tells hosts.new)) }
+
+    // It is the machine's play of that tape.
+    ensures plays { IfOk result (λ t. IsPlayOf t.tape t.end) }
+
+    // The first host writer that holds items is named, exactly where one does; else a step has no place on a
+    // tape, exactly where that is told.
+    ensures holding { (n : ℕ) → IsFirstHolding n (tells_of writer_tells reader_tells hosts.old) →
+        IsErrOf result (TapeError.Holding n) }
+    ensures holds { (n : ℕ) → IsErrOf result (TapeError.Holding n) →
+        IsFirstHolding n (tells_of writer_tells reader_tells hosts.old) }
+    ensures not_tapable { NoneHolds (tells_of writer_tells reader_tells hosts.old) → ¬ All HasLine steps.now →
+        IsErrOf result TapeError.NotTapable }
+    ensures untapable { IsErrOf result TapeError.NotTapable →
+        NoneHolds (tells_of writer_tells reader_tells hosts.old) × (¬ All HasLine steps.now) }
+    ensures other { (error : TapeError) → IsErrOf result error → IsTakingError error }
+
+    // What it did to the host ends: where it was refused, nothing; without memory, it was run, or nothing was done.
+    ensures refused { (error : TapeError) → IsErrOf result error → error ≢ TapeError.OutOfMemory →
+        tells_of writer_tells reader_tells hosts.new ≡ tells_of writer_tells reader_tells hosts.old }
+    ensures wanting { IsErrOf result TapeError.OutOfMemory →
+        (tells_of writer_tells reader_tells hosts.new ≡ tells_of writer_tells reader_tells hosts.old)
+        ⊎ WasRun (tells_of writer_tells reader_tells hosts.old) (tells_of writer_tells reader_tells hosts.new) steps.now }
+    ensures hosts { HostsGoOn (tells_of writer_tells reader_tells hosts.old)
+        (tells_of writer_tells reader_tells hosts.new) }
+{
+    if let Some(writer) = first_holding(hosts) {
+        return Err(TapeError::Holding { writer });
+    }
+    if !are_tapable(steps) {
+        return Err(TapeError::NotTapable);
+    }
+    match run_on_tape(alloc, steps, hosts) {
+        Ok(taped) => Ok(taped),
+        Err(_) => Err(TapeError::OutOfMemory),
+    }
+}
+
+// The steps, in a list of their own.
+fn copy_steps(alloc: Global, steps: &[Step]) -> Result<Vec<Step>, OutOfMemory>
+    ensures { IfOk result (λ copy. copy.items ≡ steps.now) }
+{
+    match steps.to_vec(alloc) {
+        Ok(copy) => Ok(copy),
+        Err(_) => Err(OutOfMemory),
+    }
+}
+
+/// Whether a run stopped for want of memory.
+pub(crate) fn wanted_memory(end: &Result<Transcript, RunStop>) -> bool
+    ensures { result ≡ false → FoundMemory end.now }
+{
+    match end {
+        Ok(_) => false,
+        Err(stop) => stop.cause == RunCause::OutOfMemory,
+    }
+}
+
+// Runs steps that have a place on a tape among host ends that hold nothing.
+fn run_on_tape(alloc: Global, steps: &[Step], hosts: &mut Hosts) -> Result<Taped, OutOfMemory>
+    requires few { length steps.now ≤ 4294967295 }
+    requires tapable { All HasLine steps.now }
+    requires writers { length (tells_of writer_tells reader_tells hosts.old).writers ≤ 64 }
+    requires readers { length (tells_of writer_tells reader_tells hosts.old).readers ≤ 64 }
+    requires held { NoneHolds (tells_of writer_tells reader_tells hosts.old) }
+    ensures ran { IfOk result (λ t. IsRunOf (tells_of writer_tells reader_tells hosts.old)
+        (tells_of writer_tells reader_tells hosts.new) steps.now t.end) }
+    ensures memory { IfOk result (λ t. FoundMemory t.end) }
+    ensures tape { IfOk result (λ t. t.tape ≡ tape_of_run steps.now
+        (tells_of writer_tells reader_tells hosts.old) (tells_of writer_tells reader_tells hosts.new)) }
+    ensures plays { IfOk result (λ t. IsPlayOf t.tape t.end) }
+    ensures wanting { IsErr result →
+        (tells_of writer_tells reader_tells hosts.new ≡ tells_of writer_tells reader_tells hosts.old)
+        ⊎ WasRun (tells_of writer_tells reader_tells hosts.old) (tells_of writer_tells reader_tells hosts.new) steps.now }
+    ensures hosts { HostsGoOn (tells_of writer_tells reader_tells hosts.old)
+        (tells_of writer_tells reader_tells hosts.new) }
+{
+    let copy = match copy_steps(alloc, steps) {
+        Ok(copy) => copy,
+        Err(error) => return Err(error),
+    };
+    let marks = match Marks::of(alloc, hosts) {
+        Ok(marks) => marks,
+        Err(error) => return Err(error),
+    };
+    let end = run(alloc, steps, hosts);
+    runs_are_alike();
+    if wanted_memory(&end) {
+        return Err(OutOfMemory);
+    }
+    match tape_behind(alloc, copy, hosts, &marks) {
+        Ok(tape) => Ok(Taped { end, tape }),
+        Err(error) => Err(error),
+    }
+}

@@ -1,0 +1,286 @@
+//! What host ends recorded behind marks, as the parts of a tape.
+
+ghost use Rattle.std.specs.Prelude.{◌≡◌, ◌<◌, ◌≤◌, ◌↔◌, ◌∷◌, ◌++◌, [], All, length, drop, slice_get, Some, IsTrue, IfOk, OnOk};
+ghost use Rattle.std.specs.List.{AllZip};
+ghost use Rattle.strm_codes.specs.Types.{payload_of};
+ghost use Rattle.strm_buffers.specs.AllTells.{tells_of};
+ghost use Rattle.strm_lines.specs.Grammar.{HasLine};
+ghost use Rattle.strm_tape.specs.Spelling.{IsRoom, IsWriterRecord, IsReaderRecord, IsWriterTape, IsReaderTape};
+ghost use Rattle.strm_tape_runs.specs.Taking.{zip_with};
+ghost use Rattle.strm_tape_runs.specs.Marks.{writer_behind, reader_behind, tape_behind, IsReached, ReaderReached, IsNext};
+
+use crate::marks::{Mark, Marks};
+use crate::records::{
+    reader_record_at, reader_records, same_payload, writer_record_at, writer_records,
+};
+use std::alloc::Global;
+use strm_buffers::answers::ReaderSaid;
+use strm_buffers::hosts::Hosts;
+use strm_buffers::readers::HostReader;
+use strm_buffers::said::WriterSaid;
+use strm_buffers::writers::HostWriter;
+use strm_codes::counts::OutOfMemory;
+use strm_codes::payloads::Payload;
+use strm_machine::steps::Step;
+use strm_tape::tapable::sound_type;
+use strm_tape::tape::{ReaderTape, Tape, WriterTape};
+
+// Whether a room can be spelled.
+fn is_room(room: Option<u32>) -> bool
+    ensures { IsTrue result ↔ IsRoom room }
+{
+    match room {
+        Some(room) => room < 268_435_456,
+        None => true,
+    }
+}
+
+// Whether a record of a host writer of this payload can be spelled.
+fn is_writer_record(said: &WriterSaid, payload: &Payload) -> bool
+    ensures { IsTrue result → IsWriterRecord payload.now said.now }
+{
+    said.items.sound();
+    let _len = said.items.len();
+    is_room(said.room) && same_payload(said.items.payload(), *payload)
+}
+
+// Whether a record of a host reader can be spelled.
+fn is_reader_record(said: ReaderSaid) -> bool
+    ensures { IsTrue result → IsReaderRecord said }
+{
+    said.taken <= said.offered
+}
+
+// Adds a record at the end.
+fn push_said(records: &mut Vec<WriterSaid>, said: WriterSaid) -> Result<(), OutOfMemory>
+    ensures { OnOk result (records.new.items ≡ records.old.items ++ said ∷ []) }
+{
+    match records.push(said) {
+        Ok(()) => Ok(()),
+        Err(_) => Err(OutOfMemory),
+    }
+}
+
+// Adds a record of a host writer, by its place, at the end of others.
+fn push_writer_record(
+    records: &mut Vec<WriterSaid>,
+    writer: &Box<dyn HostWriter>,
+    index: usize,
+    payload: &Payload,
+) -> Result<(), OutOfMemory>
+    requires there { index < length (writer_tells writer.now).said }
+    requires each { All (IsWriterRecord payload.now) records.old.items }
+    ensures next { OnOk result (IsNext (writer_tells writer.now).said index records.old.items records.new.items) }
+    ensures each { OnOk result (All (IsWriterRecord payload.now) records.new.items) }
+{
+    let said = match writer_record_at(writer, index) {
+        Ok(said) => said,
+        Err(error) => return Err(error),
+    };
+    if is_writer_record(&said, payload) {
+        push_said(records, said)
+    } else {
+        Err(OutOfMemory)
+    }
+}
+
+// The records of a host writer behind a mark.
+fn writer_records_behind(
+    alloc: Global,
+    writer: &Box<dyn HostWriter>,
+    mark: &Mark,
+) -> Result<Vec<WriterSaid>, OutOfMemory>
+    requires { mark.now.records ≤ length (writer_tells writer.now).said }
+    ensures said { IfOk result (λ said. said.items ≡ drop mark.now.records (writer_tells writer.now).said) }
+    ensures each { IfOk result (λ said. All (IsWriterRecord (payload_of mark.now.ty)) said.items) }
+{
+    let payload = mark.ty.payload();
+    let from = mark.records;
+    let mut records = Vec::new(alloc);
+    for k in 0..writer_records(writer) - from {
+        match push_writer_record(&mut records, writer, from + k, &payload) {
+            Ok(()) => {}
+            Err(error) => return Err(error),
+        }
+    }
+    Ok(records)
+}
+
+// What a tape has of a host writer.
+fn writer_tape(
+    alloc: Global,
+    writer: &Box<dyn HostWriter>,
+    mark: &Mark,
+) -> Result<WriterTape, OutOfMemory>
+    requires { mark.now.records ≤ length (writer_tells writer.now).said }
+    ensures tape { IfOk result (λ tape. tape ≡ writer_behind mark.now (writer_tells writer.now)) }
+    ensures sound { IfOk result IsWriterTape }
+{
+    sound_type(&mark.ty);
+    let said = match writer_records_behind(alloc, writer, mark) {
+        Ok(said) => said,
+        Err(error) => return Err(error),
+    };
+    if said.len() > 4_294_967_295 {
+        return Err(OutOfMemory);
+    }
+    Ok(WriterTape { ty: mark.ty, said })
+}
+
+// Adds a record of a host reader, by its place, at the end of others.
+fn push_reader_record(
+    records: &mut Vec<ReaderSaid>,
+    reader: &Box<dyn HostReader>,
+    index: usize,
+) -> Result<(), OutOfMemory>
+    requires there { index < length (reader_tells reader.now).said }
+    requires each { All IsReaderRecord records.old.items }
+    ensures next { OnOk result (IsNext (reader_tells reader.now).said index records.old.items records.new.items) }
+    ensures each { OnOk result (All IsReaderRecord records.new.items) }
+{
+    let said = reader_record_at(reader, index);
+    if !is_reader_record(said) {
+        return Err(OutOfMemory);
+    }
+    match records.push(said) {
+        Ok(()) => Ok(()),
+        Err(_) => Err(OutOfMemory),
+    }
+}
+
+// The records of a host reader behind a mark.
+fn reader_records_behind(
+    alloc: Global,
+    reader: &Box<dyn HostReader>,
+    mark: &Mark,
+) -> Result<Vec<ReaderSaid>, OutOfMemory>
+    requires { mark.now.records ≤ length (reader_tells reader.now).said }
+    ensures said { IfOk result (λ said. said.items ≡ drop mark.now.records (reader_tells reader.now).said) }
+    ensures each { IfOk result (λ said. All IsReaderRecord said.items) }
+{
+    let from = mark.records;
+    let mut records = Vec::new(alloc);
+    for k in 0..reader_records(reader) - from {
+        match push_reader_record(&mut records, reader, from + k) {
+            Ok(()) => {}
+            Err(error) => return Err(error),
+        }
+    }
+    Ok(records)
+}
+
+// What a tape has of a host reader.
+fn reader_tape(
+    alloc: Global,
+    reader: &Box<dyn HostReader>,
+    mark: &Mark,
+) -> Result<ReaderTape, OutOfMemory>
+    requires { mark.now.records ≤ length (reader_tells reader.now).said }
+    ensures tape { IfOk result (λ tape. tape ≡ reader_behind mark.now (reader_tells reader.now)) }
+    ensures sound { IfOk result IsReaderTape }
+{
+    sound_type(&mark.ty);
+    let said = match reader_records_behind(alloc, reader, mark) {
+        Ok(said) => said,
+        Err(error) => return Err(error),
+    };
+    if said.len() > 4_294_967_295 {
+        return Err(OutOfMemory);
+    }
+    Ok(ReaderTape { ty: mark.ty, said })
+}
+
+// Adds the tape of a host writer at the end.
+fn push_writer_tape(tapes: &mut Vec<WriterTape>, tape: WriterTape) -> Result<(), OutOfMemory>
+    ensures { OnOk result (tapes.new.items ≡ tapes.old.items ++ tape ∷ []) }
+{
+    match tapes.push(tape) {
+        Ok(()) => Ok(()),
+        Err(_) => Err(OutOfMemory),
+    }
+}
+
+// Adds the tape of a host reader at the end.
+fn push_reader_tape(tapes: &mut Vec<ReaderTape>, tape: ReaderTape) -> Result<(), OutOfMemory>
+    ensures { OnOk result (tapes.new.items ≡ tapes.old.items ++ tape ∷ []) }
+{
+    match tapes.push(tape) {
+        Ok(()) => Ok(()),
+        Err(_) => Err(OutOfMemory),
+    }
+}
+
+// What a tape has of host writers.
+fn writer_tapes(
+    alloc: Global,
+    hosts: &Hosts,
+    marks: &[Mark],
+) -> Result<Vec<WriterTape>, OutOfMemory>
+    requires reached { AllZip IsReached marks.now (tells_of writer_tells reader_tells hosts.now).writers }
+    ensures tapes { IfOk result (λ tapes. tapes.items
+        ≡ zip_with writer_behind marks.now (tells_of writer_tells reader_tells hosts.now).writers) }
+    ensures sound { IfOk result (λ tapes. All IsWriterTape tapes.items) }
+{
+    let mut tapes = Vec::new(alloc);
+    for n in 0..marks.len() {
+        let tape = match writer_tape(alloc, &hosts.writers[n], &marks[n]) {
+            Ok(tape) => tape,
+            Err(error) => return Err(error),
+        };
+        match push_writer_tape(&mut tapes, tape) {
+            Ok(()) => {}
+            Err(error) => return Err(error),
+        }
+    }
+    Ok(tapes)
+}
+
+// What a tape has of host readers.
+fn reader_tapes(
+    alloc: Global,
+    hosts: &Hosts,
+    marks: &[Mark],
+) -> Result<Vec<ReaderTape>, OutOfMemory>
+    requires reached { AllZip ReaderReached marks.now (tells_of writer_tells reader_tells hosts.now).readers }
+    ensures tapes { IfOk result (λ tapes. tapes.items
+        ≡ zip_with reader_behind marks.now (tells_of writer_tells reader_tells hosts.now).readers) }
+    ensures sound { IfOk result (λ tapes. All IsReaderTape tapes.items) }
+{
+    let mut tapes = Vec::new(alloc);
+    for r in 0..marks.len() {
+        let tape = match reader_tape(alloc, &hosts.readers[r], &marks[r]) {
+            Ok(tape) => tape,
+            Err(error) => return Err(error),
+        };
+        match push_reader_tape(&mut tapes, tape) {
+            Ok(()) => {}
+            Err(error) => return Err(error),
+        }
+    }
+    Ok(tapes)
+}
+
+/// The tape of these steps, and of what host ends recorded behind their marks.
+pub(crate) fn tape_behind(
+    alloc: Global,
+    steps: Vec<Step>,
+    hosts: &Hosts,
+    marks: &Marks,
+) -> Result<Tape, OutOfMemory>
+    requires few { length steps.items ≤ 4294967295 }
+    requires steps { All HasLine steps.items }
+    requires writers { AllZip IsReached marks.now.writers.items (tells_of writer_tells reader_tells hosts.now).writers }
+    requires readers { AllZip ReaderReached marks.now.readers.items (tells_of writer_tells reader_tells hosts.now).readers }
+    requires few_writers { length marks.now.writers.items ≤ 64 }
+    requires few_readers { length marks.now.readers.items ≤ 64 }
+    ensures { IfOk result (λ tape. tape ≡ tape_behind steps.items marks.now (tells_of writer_tells reader_tells hosts.now)) }
+{
+    let writers = match writer_tapes(alloc, hosts, &marks.writers) {
+        Ok(writers) => writers,
+        Err(error) => return Err(error),
+    };
+    match reader_tapes(alloc, hosts, &marks.readers) {
+        Ok(readers) => Ok(Tape::new(steps, writers, readers)),
+        Err(error) => Err(error),
+    }
+}
