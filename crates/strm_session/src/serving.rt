@@ -272,8 +272,8 @@ fn answer_steps(alloc: Global, steps: &StepRows, hosts: &mut Hosts) -> Result<Ou
     }
 }
 
-// The status by which a run stops, and the cause that it stands for; want of memory has none.
-fn status_of(cause: RunCause) -> Result<(u8, Stop), OutOfMemory>
+/// The status by which a run stops, and the cause that it stands for; want of memory has none.
+pub fn status_of(cause: RunCause) -> Result<(u8, Stop), OutOfMemory>
     ensures stop { IfOk result (λ told. IsStop told.0) }
     ensures cause { IfOk result (λ told. IsStatusOf told.0 cause told.1) }
     ensures memory { IsErr result → cause ≡ RunCause.OutOfMemory }

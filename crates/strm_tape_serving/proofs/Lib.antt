@@ -1,0 +1,4 @@
+pub mod ModeLemmas
+pub mod ReadLemmas
+pub mod TakeLemmas
+pub mod PlayLemmas

@@ -1,0 +1,38 @@
+use Rattle.std.proofs.Common.{inl, refl, ap, ◌∙◌, map, arith}
+use denote.Param.Object.{read_made}
+use Rattle.strm_buffers.specs.Tells.{WriterTells, ReaderTells}
+use Rattle.strm_tape_ends.specs.Replays.{replay_tells}
+use Rattle.strm_tape_ends.specs.ReaderPlans.{replay_reader_tells}
+use Rattle.tape.proofs.FollowLemmas.{following, following_reader, follows_next, follow_all, ends_of}
+use Rattle.tape.proofs.played_among_ends.Object-1 as boxed_writer
+use Rattle.tape.proofs.played_among_ends.Object-2 as boxed_reader
+use Rattle.tape.proofs.played_among_ends.OwnLists as owns
+use Rattle.tape.proofs.played_among_ends.Goals as goal
+
+pub loop-n-init : goal.loop-n-init
+loop-n-init g c = ap (map (λ b. (owns.own-1.entry b.vtable).1.writer_tells b.value)) c.new-writers.ensures.items
+
+pub loop-n-preserved : goal.loop-n-preserved
+loop-n-preserved g c =
+    let made = read_made {G = boxed_writer.Members} owns.own-1 (owns.own-1.entry (inl tt)) (inl tt) refl WriterTells (λ j. j.1.writer_tells) in
+    follows_next (λ b. (owns.own-1.entry b.vtable).1.writer_tells b.value) following c.loop-n.writers.items c.push.new.self.items c.into_dyn_box.result c.args.tape.now.writers c.loop-n.n
+    (omega (arith, c.loop-n-test.true, c.writers-n-end.ensures)) c.loop-n.invariant c.in_ok-push.ensures.items
+    (λ t e. made _ _ _ c.into_dyn_box.ensures.1 ∙ ap replay_tells c.in_ok-new.ensures.ok ∙ c.in-Ok.ensures.tells t e)
+
+pub loop-r-init : goal.loop-r-init
+loop-r-init g c = ap (map (λ b. (owns.own-2.entry b.vtable).1.reader_tells b.value)) c.new-readers.ensures.items
+
+pub loop-r-preserved : goal.loop-r-preserved
+loop-r-preserved g c =
+    let made = read_made {G = boxed_reader.Members} owns.own-2 (owns.own-2.entry (inl tt)) (inl tt) refl ReaderTells (λ j. j.1.reader_tells) in
+    follows_next (λ b. (owns.own-2.entry b.vtable).1.reader_tells b.value) following_reader c.loop-r.readers.items c.push-in-loop-r.new.self.items c.into_dyn_box-in_ok-new-2.result c.args.tape.now.readers c.loop-r.r
+    (omega (arith, c.loop-r-test.true, c.readers-r-end.ensures)) c.loop-r.invariant c.in_ok-push-2.ensures.items
+    (λ t e. made _ _ _ c.into_dyn_box-in_ok-new-2.ensures.1 ∙ ap replay_reader_tells c.in_ok-new-2.ensures.ok ∙ c.in-Ok-new.ensures.tells t e)
+
+pub tape_play-requires : goal.tape_play-requires
+tape_play-requires g c =
+    record {
+      ends = ends_of c.args.tape.now _
+          (follow_all (λ b. (owns.own-1.entry b.vtable).1.writer_tells b.value) following c.loop-n.writers.items c.args.tape.now.writers c.loop-n.n (omega (arith, c.loop-n-test.false, c.writers-n-end.ensures)) c.loop-n.invariant)
+          (follow_all (λ b. (owns.own-2.entry b.vtable).1.reader_tells b.value) following_reader c.loop-r.readers.items c.args.tape.now.readers c.loop-r.r (omega (arith, c.loop-r-test.false, c.readers-r-end.ensures)) c.loop-r.invariant);
+    }

@@ -1,0 +1,45 @@
+use Rattle.std.proofs.Common.{◌≡◌, ℕ, List, inl, inr, refl, ap, ◌∙◌}
+use denote.Param.Object.{read_made}
+use Rattle.strm_codes.specs.declared.codes.TransmitKind.TheVariants.{Stream}
+use Rattle.strm_codes.specs.declared.payloads.Payload.TheVariants.{One}
+use Rattle.strm_codes.specs.declared.scalars.Scalar.TheVariants.{U8}
+use Rattle.strm_buffers.specs.Tells.{WriterTells, ReaderTells}
+use Rattle.strm_ends.specs.QueueTells.{queue_tells}
+use Rattle.strm_ends.specs.Credits.{credit_tells, ungranted}
+use Rattle.strm_host.specs.Erasing.{erased_tells, unpolled}
+use Rattle.strm_host.specs.Lists.{list_faults}
+use Rattle.tape.proofs.taken_among_ends.Object-1 as boxed_writer
+use Rattle.tape.proofs.taken_among_ends.Object-2 as boxed_reader
+use Rattle.tape.proofs.taken_among_ends.OwnLists as owns
+use Rattle.tape.proofs.TellsLemmas.{both}
+use Rattle.tape.proofs.taken_among_ends.Goals as goal
+
+-- what a boxed end tells is what the end in it does: the boxes are made of a queue, of a list, of an empty
+-- stream and of a reader with a credit
+pub taken-requires-clause-writers : goal.taken-requires-clause-writers
+taken-requires-clause-writers g c =
+    let queue = read_made {G = boxed_writer.Members} owns.own-1 (owns.own-1.entry (inl tt)) (inl tt) refl WriterTells (λ j. j.1.writer_tells) in
+    let list = read_made {G = boxed_writer.Members} owns.own-1 (owns.own-1.entry (inr (inl tt))) (inr (inl tt)) refl WriterTells (λ j. j.1.writer_tells) in
+    let none = read_made {G = boxed_writer.Members} owns.own-1 (owns.own-1.entry (inr (inr (inl tt)))) (inr (inr (inl tt))) refl WriterTells (λ j. j.1.writer_tells) in
+    rw (c.in_ok-from_array.ensures.items)
+    (both (queue _ _ _ c.into_dyn_box.ensures.1 ∙ ap queue_tells c.in_ok-new.ensures.ok ∙ c.new.ensures.tells)
+    (both (queue _ _ _ c.into_dyn_box-in_ok-new-2.ensures.1 ∙ ap queue_tells c.in_ok-new-2.ensures.ok ∙ c.new-3.ensures.tells)
+    (both (queue _ _ _ c.into_dyn_box-in_ok-new-3.ensures.1 ∙ ap queue_tells c.in_ok-new-3.ensures.ok ∙ c.new-5.ensures.tells)
+    (both (queue _ _ _ c.into_dyn_box-in_ok-new-4.ensures.1 ∙ ap queue_tells c.in_ok-new-4.ensures.ok ∙ c.new-7.ensures.tells)
+    (both (queue _ _ _ c.into_dyn_box-in_ok-new-5.ensures.1 ∙ ap queue_tells c.in_ok-new-5.ensures.ok ∙ c.new-9.ensures.tells)
+    (both (list _ _ _ c.into_dyn_box-in_ok-new-6.ensures.1 ∙ ap erased_tells c.in_ok-new-6.ensures.ok ∙ c.stream.ensures.tells ∙ ap (λ (xs : List ℕ). unpolled Stream (One U8) (list_faults xs)) c.in_ok-five.ensures)
+    (both (list _ _ _ c.into_dyn_box-in_ok-new-7.ensures.1 ∙ ap erased_tells c.in_ok-new-7.ensures.ok ∙ c.stream-2.ensures.tells ∙ ap (λ (xs : List ℕ). unpolled Stream (One U8) (list_faults xs)) c.in_ok-five-2.ensures)
+    (both (none _ _ _ c.into_dyn_box-in_ok-new-8.ensures.1 ∙ ap erased_tells c.in_ok-new-8.ensures.ok ∙ c.stream-3.ensures.tells) refl))))))))
+
+pub taken-requires-clause-readers : goal.taken-requires-clause-readers
+taken-requires-clause-readers g c =
+    let credit = read_made {G = boxed_reader.Members} owns.own-2 (owns.own-2.entry (inl tt)) (inl tt) refl ReaderTells (λ j. j.1.reader_tells) in
+    rw (c.in_ok-from_array-2.ensures.items)
+    (both (credit _ _ _ c.into_dyn_box-in_ok-new-9.ensures.1 ∙ ap credit_tells c.in_ok-new-9.ensures.ok ∙ c.new-15.ensures.tells)
+    (both (credit _ _ _ c.into_dyn_box-in_ok-new-10.ensures.1 ∙ ap credit_tells c.in_ok-new-10.ensures.ok ∙ c.new-17.ensures.tells)
+    (both (credit _ _ _ c.into_dyn_box-in_ok-new-11.ensures.1 ∙ ap credit_tells c.in_ok-new-11.ensures.ok ∙ c.new-19.ensures.tells)
+    (both (credit _ _ _ c.into_dyn_box-in_ok-new-12.ensures.1 ∙ ap credit_tells c.in_ok-new-12.ensures.ok ∙ c.new-21.ensures.tells)
+    (both (credit _ _ _ c.into_dyn_box-in_ok-new-13.ensures.1 ∙ ap credit_tells c.in_ok-new-13.ensures.ok ∙ c.new-23.ensures.tells)
+    (both (credit _ _ _ c.into_dyn_box-in_ok-new-14.ensures.1 ∙ ap credit_tells c.in_ok-new-14.ensures.ok ∙ c.new-25.ensures.tells)
+    (both (credit _ _ _ c.into_dyn_box-in_ok-new-15.ensures.1 ∙ ap credit_tells c.in_ok-new-15.ensures.ok ∙ c.new-27.ensures.tells ∙ ap (ungranted Stream) c.payload.ensures)
+    (both (credit _ _ _ c.into_dyn_box-in_ok-new-16.ensures.1 ∙ ap credit_tells c.in_ok-new-16.ensures.ok ∙ c.new-29.ensures.tells) refl))))))))

@@ -1,0 +1,170 @@
+//! The program of tapes: runs the lines of its input and writes the run's tape, or plays a tape and writes
+//! its replies.
+#![tactic(auto)]
+
+ghost use Rattle.std.specs.Prelude.{◌≡◌, ◌∷◌, [], IfOk};
+ghost use Rattle.strm_buffers.specs.AllTells.{tells_of};
+ghost use Rattle.strm_tape_runs.specs.Playing.{AreEndsOf};
+ghost use Rattle.strm_tape_serving.specs.Playing.{IsPlayStatus};
+ghost use Rattle.strm_tape_serving.specs.Taking.{IsTakeStatus};
+ghost use Rattle.tape.specs.HostEnds.{writers, readers};
+
+use std::alloc::{AllocError, Global};
+use std::process::ExitCode;
+use std::{env, io};
+use strm_buffers::hosts::Hosts;
+use strm_buffers::readers::HostReader;
+use strm_buffers::writers::HostWriter;
+use strm_codes::codes::TransmitKind;
+use strm_codes::payloads::Payload;
+use strm_codes::scalars::Scalar;
+use strm_ends::credit_reader::CreditReader;
+use strm_ends::queue_writer::QueueWriter;
+use strm_host::empty::Empty;
+use strm_host::erased::Erased;
+use strm_memory::payloaded::Payloaded;
+use strm_ports::ports::{Sink, Source};
+use strm_ports::standard::{StdinSource, StdoutSink};
+use strm_tape::tape::Tape;
+use strm_tape_ends::replay_reader::ReplayReader;
+use strm_tape_ends::replay_writer::ReplayWriter;
+use strm_tape_serving::modes::{Mode, tape_mode};
+use strm_tape_serving::playing::tape_play;
+use strm_tape_serving::reading::tape_read;
+use strm_tape_serving::statuses::OUT_OF_MEMORY;
+use strm_tape_serving::taking::tape_take;
+
+const STREAM: TransmitKind = TransmitKind::Stream;
+
+const FUTURE: TransmitKind = TransmitKind::Future;
+
+const NOTHING: Payload = Payload::Nothing;
+
+const BYTE: Payload = Payload::One(Scalar::U8);
+
+const WORD: Payload = Payload::One(Scalar::U32);
+
+const CHAR: Payload = Payload::One(Scalar::Char);
+
+// The items of a stream that is ready.
+fn five(alloc: Global) -> Result<Vec<u8>, AllocError>
+    ensures { IfOk result (λ list. list.items ≡ 1 ∷ 2 ∷ 3 ∷ 4 ∷ 5 ∷ []) }
+{
+    Ok(vec![in alloc; 1u8, 2, 3, 4, 5]?)
+}
+
+// Takes a script among the host ends of the program `strm`, none of which was used before.
+fn taken<S: Source, K: Sink>(
+    alloc: Global,
+    source: &mut S,
+    sink: &mut K,
+    hosts: &mut Hosts,
+) -> ExitCode
+    requires writers { (tells_of writer_tells reader_tells hosts.old).writers ≡ writers }
+    requires readers { (tells_of writer_tells reader_tells hosts.old).readers ≡ readers }
+{
+    ExitCode::from(tape_take(alloc, source, sink, hosts))
+}
+
+// The same among new ones: eight writers, which are five queues, two streams of five bytes, and one of none;
+// and eight readers, each with a credit.
+fn taken_among_ends<S: Source, K: Sink>(
+    alloc: Global,
+    source: &mut S,
+    sink: &mut K,
+) -> Result<ExitCode, AllocError> {
+    let writers: [Box<dyn HostWriter>; 8] = [
+        Box::new(alloc, QueueWriter::new(alloc, STREAM, BYTE))?,
+        Box::new(alloc, QueueWriter::new(alloc, STREAM, WORD))?,
+        Box::new(alloc, QueueWriter::new(alloc, STREAM, NOTHING))?,
+        Box::new(alloc, QueueWriter::new(alloc, STREAM, CHAR))?,
+        Box::new(alloc, QueueWriter::new(alloc, FUTURE, WORD))?,
+        Box::new(alloc, Erased::stream(alloc, five(alloc)?))?,
+        Box::new(alloc, Erased::stream(alloc, five(alloc)?))?,
+        Box::new(alloc, Erased::stream(alloc, Empty::<u8>::new()))?,
+    ];
+    let readers: [Box<dyn HostReader>; 8] = [
+        Box::new(alloc, CreditReader::new(alloc, STREAM, BYTE))?,
+        Box::new(alloc, CreditReader::new(alloc, STREAM, WORD))?,
+        Box::new(alloc, CreditReader::new(alloc, STREAM, NOTHING))?,
+        Box::new(alloc, CreditReader::new(alloc, STREAM, CHAR))?,
+        Box::new(alloc, CreditReader::new(alloc, FUTURE, WORD))?,
+        Box::new(alloc, CreditReader::new(alloc, STREAM, BYTE))?,
+        Box::new(
+            alloc,
+            CreditReader::new(alloc, STREAM, <(u8, u32)>::payload()),
+        )?,
+        Box::new(alloc, CreditReader::new(alloc, FUTURE, NOTHING))?,
+    ];
+    let mut hosts = Hosts {
+        writers: Vec::from_array(alloc, writers)?,
+        readers: Vec::from_array(alloc, readers)?,
+    };
+    Ok(taken(alloc, source, sink, &mut hosts))
+}
+
+// Plays a tape among host ends that follow it.
+fn played_among_ends<K: Sink>(
+    alloc: Global,
+    tape: &Tape,
+    sink: &mut K,
+) -> Result<ExitCode, AllocError> {
+    let mut writers: Vec<Box<dyn HostWriter>> = Vec::new(alloc);
+    for n in 0..tape.writers() {
+        let Ok(writer) = ReplayWriter::new(alloc, tape, n) else {
+            return Ok(ExitCode::from(OUT_OF_MEMORY));
+        };
+        writers.push(Box::new(alloc, writer)?)?;
+    }
+    let mut readers: Vec<Box<dyn HostReader>> = Vec::new(alloc);
+    for r in 0..tape.readers() {
+        let Ok(reader) = ReplayReader::new(alloc, tape, r) else {
+            return Ok(ExitCode::from(OUT_OF_MEMORY));
+        };
+        readers.push(Box::new(alloc, reader)?)?;
+    }
+    let mut hosts = Hosts { writers, readers };
+    Ok(ExitCode::from(tape_play(alloc, tape, &mut hosts, sink)))
+}
+
+// Does what the words say, from a source and to a sink.
+fn answered<S: Source, K: Sink>(
+    alloc: Global,
+    words: &Vec<String>,
+    source: &mut S,
+    sink: &mut K,
+) -> Result<ExitCode, AllocError> {
+    match tape_mode(words, sink) {
+        Ok(Mode::Take) => taken_among_ends(alloc, source, sink),
+        Ok(Mode::Play) => match tape_read(alloc, source, sink) {
+            Ok(tape) => played_among_ends(alloc, &tape, sink),
+            Err(status) => Ok(ExitCode::from(status)),
+        },
+        Err(status) => Ok(ExitCode::from(status)),
+    }
+}
+
+fn main(rt: HostRuntime) -> io::Result<ExitCode> {
+    let alloc = rt.alloc();
+    let mut words: Vec<String> = Vec::new(alloc);
+    match env::args(&rt) {
+        Ok(mut all) => {
+            let _name = all.next();
+            match all.collect(alloc) {
+                Ok(rest) => words = rest,
+                Err(_) => return Ok(ExitCode::from(OUT_OF_MEMORY)),
+            }
+        }
+        Err(error) if error.kind() == io::ErrorKind::OutOfMemory => {
+            return Ok(ExitCode::from(OUT_OF_MEMORY));
+        }
+        // A word that is no UTF-8 is none of the program's.
+        Err(_) => {}
+    }
+    let mut source = StdinSource::new(rt.stdin());
+    let mut sink = StdoutSink::new(rt.stdout());
+    match answered(alloc, &words, &mut source, &mut sink) {
+        Ok(code) => Ok(code),
+        Err(_) => Ok(ExitCode::from(OUT_OF_MEMORY)),
+    }
+}
