@@ -96,9 +96,16 @@ fn retell_end(ready: &mut Vec<ReadySets>, guests: &Vec<Guest>, stream: &Channel,
 pub(crate) fn retell(ready: &mut Vec<ReadySets>, guests: &Vec<Guest>, stream: &Channel)
     ensures { Retells (seen guests.now.items) stream.now ready.old.items ready.new.items }
 {
-    if ready.is_empty() {
-        return;
+    if !ready.is_empty() {
+        retell_ends(ready, guests, stream);
     }
+}
+
+// The same where some guest knows of a set, apart from the code for none.
+#[inline(never)]
+fn retell_ends(ready: &mut Vec<ReadySets>, guests: &Vec<Guest>, stream: &Channel)
+    ensures { Retells (seen guests.now.items) stream.now ready.old.items ready.new.items }
+{
     retell_end(ready, guests, stream, Side::Writing);
     retell_end(ready, guests, stream, Side::Reading);
 }

@@ -328,6 +328,25 @@ impl Channel {
         }
     }
 
+    /// The waiting operation of the end on a side met the other side, and no item moved. Apart from the
+    /// code of those where some do.
+    #[inline(never)]
+    pub(crate) fn advance_by_none(&mut self, side: Side)
+        requires open { IsSomeAnd (end_of side self.old).operation (λ operation.
+            operation.is_open ≡ true) }
+        requires counted { IsSomeAnd (end_of side self.old).operation (λ operation.
+            operation.moved < count_limit) }
+        requires room { IsSomeAnd (end_of side self.old).operation (λ operation.
+            operation.address < 2 ^ 32) }
+        ensures { self.new ≡ with_end side self.old (record (end_of side self.old) {
+          operation = option_map (λ operation. advanced self.old.payload operation 0)
+              (end_of side self.old).operation;
+        }) }
+    {
+        let payload = self.payload;
+        self.advance(side, &payload, ItemCount::ZERO);
+    }
+
     /// So many items of the open operation on a side came from a host end, or went to it.
     #[inline(always)]
     pub fn progress(&mut self, side: Side, count: ItemCount)
@@ -406,7 +425,7 @@ impl Channel {
     }
 
     /// The end on a side learns that the other one is gone.
-    #[inline(always)]
+    #[inline(never)]
     pub fn learn(&mut self, side: Side)
         ensures { self.new ≡ with_end side self.old (record (end_of side self.old) { told = true }) }
     {
@@ -429,14 +448,22 @@ impl Channel {
         }
     }
 
+    // A future's value has passed. Apart from the code of streams.
+    #[inline(never)]
+    fn pass(&mut self)
+        ensures { self.new ≡ record self.old { passed = true } }
+    {
+        self.writer.cell.pass();
+        self.reader.cell.pass();
+    }
+
     /// So many items more were received; a future's value has passed then.
     #[inline(always)]
     pub fn receive(&mut self, count: u32)
         ensures { self.new ≡ with_received self.old count }
     {
         if self.kind() == TransmitKind::Future {
-            self.writer.cell.pass();
-            self.reader.cell.pass();
+            self.pass();
         }
         self.received = self.received.saturating_add(u128::from(count));
     }

@@ -62,6 +62,15 @@ fn meeting(write: ItemCount, read: ItemCount) -> Meeting
     }
 }
 
+// A read or write begins behind one that completed alone, apart from the code of those that wait at once.
+#[inline(never)]
+fn begin_behind(stream: &mut Channel, side: Side, guest: u32, address: u32, count: ItemCount)
+    requires idle { (end_of side stream.old).operation ≡ None }
+    ensures { stream.new ≡ with_operation side stream.old (begun guest address count) }
+{
+    stream.begin(side, guest, address, count);
+}
+
 // A side completes alone. Inlined, as what follows, so that operations stay in registers.
 #[inline(always)]
 fn complete_alone(
@@ -83,9 +92,8 @@ fn complete_alone(
     if same_side(who, side) {
         return ReturnCode::completed(stream.kind(), ItemCount::ZERO);
     }
-    let payload = stream.payload();
-    stream.advance(opposite(side), &payload, ItemCount::ZERO);
-    stream.begin(side, mine.guest, mine.address, mine.left);
+    stream.advance_by_none(opposite(side));
+    begin_behind(stream, side, mine.guest, mine.address, mine.left);
     ReturnCode::Blocked
 }
 

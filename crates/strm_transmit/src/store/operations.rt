@@ -172,6 +172,32 @@ impl Store {
         }
     }
 
+    // The same of one that is just called, apart from the code that refuses: so that is inlined in a run.
+    #[inline(never)]
+    fn take_apart(
+        &mut self,
+        side: Side,
+        stream: u32,
+        guest: u32,
+        address: u32,
+        count: ItemCount,
+    ) -> Result<ReturnCode, StoreError>
+        requires there { stream < length self.old.streams }
+        requires idle { (end_of side (stream_at self.old stream)).operation ≡ None }
+        requires mine { IsPlaced (sizes_of self.old.guests) (stream_at self.old stream).payload
+            (begun guest address count) }
+        requires numbers { IsTrue (is_open_of guest (end_of (opposite side) (stream_at self.old stream)).operation)
+            → IsTrue (is_number_or_none (stream_at self.old stream).payload) }
+        requires untrapped { self.old.trapped ≡ false }
+        ensures meets { Meets self.old self.new (replied replies.Code result)
+            (on_stream self.old stream side (begun guest address count)) }
+        ensures takes_no_memory { result ≢ Err StoreError.OutOfMemory }
+    {
+        let payload = self.stream(stream).payload();
+        let mine = begin(guest, address, count);
+        self.take(side, stream, &payload, mine)
+    }
+
     /// A read or write of the end that is named; a future's count is not looked at.
     #[inline(always)]
     pub(crate) fn operate(
@@ -267,16 +293,12 @@ impl Store {
         self.sound();
         self.served();
         match self.admit(self.operation_found(side, end, address, count)) {
-            // Begun in each arm, so that without a host end it goes to the stream and not through memory.
             Ok(found) => match self.host_across(side, found.0) {
                 Some(number) => {
                     let mine = begin(end.guest, address, found.1);
                     self.poll_across(hosts, found.0, side, number, mine)
                 }
-                None => {
-                    let mine = begin(end.guest, address, found.1);
-                    self.take(side, found.0, &end.ty.payload(), mine)
-                }
+                None => self.take_apart(side, found.0, end.guest, address, found.1),
             },
             Err(error) => Err(error),
         }

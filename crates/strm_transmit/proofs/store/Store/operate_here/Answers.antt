@@ -41,13 +41,13 @@ returns-in-Some-clause-held g c = λ held.
 pub returns-in-None-clause-meets : goal.returns-in-None-clause-meets
 returns-in-None-clause-meets g c =
     let found = is_admitted c.args.self.now _ _ _ _ c.operation_found.ensures.exact c.in-Ok.ensures.exact in
-    hosted_alone c.args.self.now _ _ _ (replied replies.Code c.take.result) c.sound.ensures c.served.ensures.made
+    hosted_alone c.args.self.now _ _ _ (replied replies.Code c.take_apart.result) c.sound.ensures c.served.ensures.made
     (operate-alone c.args.self.now c.args.side c.args.end.now c.args.address c.args.count _ (ap (λ q. q.0) found.same) c.in-None.ensures.none)
-    (settled_code c.take.result)
-    (meets_admitted c.args.self.now c.take.new.self _ (replied replies.Code c.take.result) _
+    (settled_code c.take_apart.result)
+    (meets_admitted c.args.self.now c.take_apart.new.self _ (replied replies.Code c.take_apart.result) _
     (reacts _ _ _ _ (λ q. on_stream c.args.self.now q.0 c.args.side (begun c.args.end.now.guest c.args.address q.1)) found
     (performs-on_end c.args.self.now c.args.side c.args.end.now (Operate c.args.address c.args.count)))
-    (rw c.begin-mine-in-None.ensures at c.take.ensures.meets))
+    c.take_apart.ensures.meets)
     c.requires.fits
 
 pub returns-in-Err-clause-meets : goal.returns-in-Err-clause-meets

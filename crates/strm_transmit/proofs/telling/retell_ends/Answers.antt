@@ -7,7 +7,7 @@ use Rattle.strm_machine.specs.declared.streams.Stream.{Stream}
 use Rattle.strm_turns.specs.Guests.{seen}
 use Rattle.strm_transmit.specs.Telling.{SaysOf, member_of, has_report}
 use Rattle.strm_transmit.proofs.ToldLemmas.{never}
-use Rattle.strm_transmit.proofs.telling.retell.Goals as goal
+use Rattle.strm_transmit.proofs.telling.retell_ends.Goals as goal
 
 -- a guest has the end on a side under this handle
 abbrev Owns : Stream → Side → ℕ → ℕ → Type 0
