@@ -4,3 +4,5 @@ pub mod ZipLemmas
 pub mod DifferLemmas
 pub mod RunLemmas
 pub mod PlayLemmas
+pub mod FairLemmas
+pub mod FairRuns

@@ -48,7 +48,7 @@ use Rattle.strm_tape_runs.proofs.ZipLemmas.{zip_with-map}
 pub hosts_stay : (tells : Tells) → HostsGoOn tells tells
 hosts_stay tells = record { begins = extends_self tells; faults = λ end. omega arith; supplied = λ h. h }
 
-begins_length : {A : Type 0} (said log : List A) → Begins said log → length said ≤ length log
+pub begins_length : {A : Type 0} (said log : List A) → Begins said log → length said ≤ length log
 begins_length said log e =
     let counted = ap (λ xs. length xs) e ∙ length-append said (drop (length said) log) in
     omega (arith, counted)
@@ -94,7 +94,7 @@ kind_back : (kind : TransmitKind) (payload : Payload) → kind_of (type_with kin
 kind_back Stream payload = refl
 kind_back Future payload = refl
 
-payload_back : (kind : TransmitKind) (payload : Payload) → payload_of (type_with kind payload) ≡ payload
+pub payload_back : (kind : TransmitKind) (payload : Payload) → payload_of (type_with kind payload) ≡ payload
 payload_back Stream payload = refl
 payload_back Future payload = refl
 
@@ -180,7 +180,7 @@ halts_too told stop ws rs (Ends told' b) h = elim h [ ]
 halts_too told stop ws rs (Hangs told') h = elim h [ ]
 
 -- the stop of a cause that is not want of memory
-stop_found : (cause : RunCause) → cause ≢ causes.OutOfMemory → (why : Stop) × (stop_of cause ≡ Some why)
+pub stop_found : (cause : RunCause) → cause ≢ causes.OutOfMemory → (why : Stop) × (stop_of cause ≡ Some why)
 stop_found (causes.HostFailed end) n = (_, refl)
 stop_found (causes.HostBroke end) n = (_, refl)
 stop_found (causes.BadItem s) n = (_, refl)

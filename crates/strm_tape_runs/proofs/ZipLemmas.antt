@@ -1,8 +1,10 @@
 -- Two lists made one by one into one.
-use Rattle.std.proofs.Common.{◌≡◌, ℕ, zero, suc, ◌+◌, ◌<◌, ◌≤◌, List, [], ◌∷◌, ◌++◌, length, take, drop, map, get_or, refl, sym, ap, ◌∙◌, subst, arith}
+use Rattle.std.proofs.Common.{◌≡◌, ℕ, zero, suc, ◌+◌, ◌-◌, ◌<◌, ◌≤◌, List, [], ◌∷◌, ◌++◌, length, take, drop, map, get_or, Some, refl, sym, ap, ◌∙◌, subst, arith}
+use Rattle.std.specs.Prelude.{All, slice_get}
 use Rattle.std.specs.List.{AllZip}
 use Rattle.std.proofs.lemmas.List.{take_more, take_all, length-map}
 use Rattle.std.proofs.Math.ListN.{get_or-map}
+use Rattle.std.proofs.lemmas.List.Elements.{All-get_or}
 use Rattle.std.proofs.lemmas.Option.{slice_get_within, get_or_from_slice_get}
 use Rattle.strm_tape_runs.specs.Taking.{zip_with}
 use Rattle.strm_tape_runs.specs.Marks.{IsNext}
@@ -91,3 +93,10 @@ few_made f {xs = xs} ys e few h =
     let b = ap (λ vs. length vs) h in
     let c = short-zip_with f xs ys in
     omega (arith, few, a, b, c)
+
+-- what holds of all behind a place holds of one
+pub behind_all : {A : Type 0} (P : A → Type 0) (xs : List A) (from index : ℕ) (x : A) → from ≤ index → slice_get xs index ≡ Some x → All P (drop from xs) → P x
+behind_all P xs from index x l e h =
+    let same : index ≡ from + (index - from) = omega (arith, l) in
+    let there = get-drop xs from (index - from) x (subst (λ k. slice_get xs k ≡ Some x) same e) in
+    subst P (get_or_from_slice_get (drop from xs) (index - from) x x there) (All-get_or P (drop from xs) (index - from) x (slice_get_within (drop from xs) (index - from) x there) h)

@@ -1,8 +1,11 @@
 -- What is kept of host ends before a run, and what they recorded behind it. Ours.
-use Rattle.std.specs.Prelude.{◌≡◌, ℕ, ◌≤◌, List, [], ◌∷◌, ◌++◌, length, drop, slice_get, Some}
+use Rattle.std.specs.Prelude.{◌≡◌, ℕ, ◌≤◌, List, [], ◌∷◌, ◌++◌, length, drop, slice_get, All, Some}
 use Rattle.strm_machine.specs.declared.steps.Step.{Step}
+use Rattle.strm_codes.specs.Types.{payload_of}
+use Rattle.strm_buffers.specs.Said.{WriterSaid}
+use Rattle.strm_buffers.specs.declared.answers.ReaderSaid.{ReaderSaid}
 use Rattle.strm_buffers.specs.Tells.{WriterTells, ReaderTells, Tells}
-use Rattle.strm_tape.specs.Spelling.{WriterTape, ReaderTape, TapeOf}
+use Rattle.strm_tape.specs.Spelling.{IsRoom, WriterTape, ReaderTape, TapeOf}
 use Rattle.strm_tape_runs.specs.declared.marks.Mark.{Mark}
 use Rattle.strm_tape_runs.specs.declared.marks.Marks.{Marks}
 use Rattle.strm_tape_runs.specs.Taking.{writer_type, reader_type, zip_with}
@@ -38,6 +41,25 @@ IsReached mark tells = mark.records ≤ length tells.said
 -- a host reader has
 abbrev pub ReaderReached : Mark → ReaderTells → Type 0
 ReaderReached mark tells = mark.records ≤ length tells.said
+
+-- a record of a host writer states a room that is a count, if it states one
+abbrev pub FairRoom : WriterSaid → Type 0
+FairRoom said = IsRoom said.room
+
+-- a record of a host reader took no more than was offered
+abbrev pub FairTaking : ReaderSaid → Type 0
+FairTaking said = said.taken ≤ said.offered
+
+-- what a host writer recorded behind a mark has a place on a tape
+pub record IsTapable (mark : Mark) (tells : WriterTells) : Type 0 where
+  pub reached : IsReached mark tells
+  pub rooms : All FairRoom (drop mark.records tells.said)
+  pub typed : tells.payload ≡ payload_of mark.ty
+
+-- what a host reader did has
+pub record ReaderTapable (mark : Mark) (tells : ReaderTells) : Type 0 where
+  pub reached : ReaderReached mark tells
+  pub taken : All FairTaking (drop mark.records tells.said)
 
 -- the element of a list at this place was put behind others
 pub record IsNext {A : Type 0} (xs : List A) (index : ℕ) (old new : List A) : Type 0 where

@@ -67,8 +67,8 @@ fn same_items(a: &Items, b: &Items) -> bool
     true
 }
 
-/// Whether two payloads are the same.
-pub(crate) fn same_payload(a: Payload, b: Payload) -> bool
+// Whether two payloads are the same.
+fn same_payload(a: Payload, b: Payload) -> bool
     ensures { IsTrue result ↔ a ≡ b }
 {
     a == b

@@ -16,6 +16,8 @@ use std::alloc::Global;
 use strm_alike::runs_are_alike;
 use strm_buffers::hosts::Hosts;
 use strm_codes::counts::OutOfMemory;
+use strm_host_laws::guests::totals_are_counts;
+use strm_host_laws::runs::{moments_lead_to_the_end, writers_are_fed_exactly};
 use strm_machine::steps::Step;
 use strm_session::runs::{RunCause, RunStop, Transcript, run};
 use strm_tape::errors::TapeError;
@@ -35,8 +37,7 @@ pub struct Taped {
 ///
 /// It is refused before anything is run where a host writer holds items, and then where a step has no place on a
 /// tape. After `OutOfMemory` there is no tape. It also comes where the run stops for want of memory, and where a
-/// host end made a record that no tape holds, or 2^32 records: one with a room of 2^28 items or more, with more
-/// taken than offered, or of another payload than before. No store makes such a record.
+/// host end adds more records than a tape has room for, which are 2^32 - 1.
 pub fn tape_run(alloc: Global, steps: &[Step], hosts: &mut Hosts) -> Result<Taped, TapeError>
     requires few { length steps.now ≤ 4294967295 }
     requires writers { length (tells_of writer_tells reader_tells hosts.old).writers ≤ 64 }
@@ -134,6 +135,9 @@ fn run_on_tape(alloc: Global, steps: &[Step], hosts: &mut Hosts) -> Result<Taped
     };
     let end = run(alloc, steps, hosts);
     runs_are_alike();
+    totals_are_counts();
+    moments_lead_to_the_end();
+    writers_are_fed_exactly();
     if wanted_memory(&end) {
         return Err(OutOfMemory);
     }

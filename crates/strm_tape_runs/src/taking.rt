@@ -1,18 +1,16 @@
 //! What host ends recorded behind marks, as the parts of a tape.
 
-ghost use Rattle.std.specs.Prelude.{◌≡◌, ◌<◌, ◌≤◌, ◌↔◌, ◌∷◌, ◌++◌, [], All, length, drop, slice_get, Some, IsTrue, IfOk, OnOk};
+ghost use Rattle.std.specs.Prelude.{◌≡◌, ◌<◌, ◌≤◌, ◌∷◌, ◌++◌, [], All, length, drop, slice_get, Some, IfOk, OnOk};
 ghost use Rattle.std.specs.List.{AllZip};
 ghost use Rattle.strm_codes.specs.Types.{payload_of};
 ghost use Rattle.strm_buffers.specs.AllTells.{tells_of};
 ghost use Rattle.strm_lines.specs.Grammar.{HasLine};
-ghost use Rattle.strm_tape.specs.Spelling.{IsRoom, IsWriterRecord, IsReaderRecord, IsWriterTape, IsReaderTape};
+ghost use Rattle.strm_tape.specs.Spelling.{IsWriterRecord, IsReaderRecord, IsWriterTape, IsReaderTape};
 ghost use Rattle.strm_tape_runs.specs.Taking.{zip_with};
-ghost use Rattle.strm_tape_runs.specs.Marks.{writer_behind, reader_behind, tape_behind, IsReached, ReaderReached, IsNext};
+ghost use Rattle.strm_tape_runs.specs.Marks.{writer_behind, reader_behind, tape_behind, FairRoom, FairTaking, IsTapable, ReaderTapable, IsNext};
 
 use crate::marks::{Mark, Marks};
-use crate::records::{
-    reader_record_at, reader_records, same_payload, writer_record_at, writer_records,
-};
+use crate::records::{reader_record_at, reader_records, writer_record_at, writer_records};
 use std::alloc::Global;
 use strm_buffers::answers::ReaderSaid;
 use strm_buffers::hosts::Hosts;
@@ -20,35 +18,27 @@ use strm_buffers::readers::HostReader;
 use strm_buffers::said::WriterSaid;
 use strm_buffers::writers::HostWriter;
 use strm_codes::counts::OutOfMemory;
-use strm_codes::payloads::Payload;
 use strm_machine::steps::Step;
 use strm_tape::tapable::sound_type;
 use strm_tape::tape::{ReaderTape, Tape, WriterTape};
 
-// Whether a room can be spelled.
-fn is_room(room: Option<u32>) -> bool
-    ensures { IsTrue result ↔ IsRoom room }
+// A record of a host writer of a mark's payload, with such a room, can be spelled. It does nothing.
+fn sound_record(said: &WriterSaid, mark: &Mark)
+    requires payload { said.now.payload ≡ payload_of mark.now.ty }
+    requires room { FairRoom said.now }
+    ensures { IsWriterRecord (payload_of mark.now.ty) said.now }
 {
-    match room {
-        Some(room) => room < 268_435_456,
-        None => true,
-    }
-}
-
-// Whether a record of a host writer of this payload can be spelled.
-fn is_writer_record(said: &WriterSaid, payload: &Payload) -> bool
-    ensures { IsTrue result → IsWriterRecord payload.now said.now }
-{
+    let _ty = &mark.ty;
     said.items.sound();
     let _len = said.items.len();
-    is_room(said.room) && same_payload(said.items.payload(), *payload)
 }
 
-// Whether a record of a host reader can be spelled.
-fn is_reader_record(said: ReaderSaid) -> bool
-    ensures { IsTrue result → IsReaderRecord said }
+// A record of a host reader that took no more than was offered can be spelled. It does nothing.
+fn sound_reader_record(said: ReaderSaid)
+    requires { FairTaking said }
+    ensures { IsReaderRecord said }
 {
-    said.taken <= said.offered
+    let _said = said;
 }
 
 // Adds a record at the end.
@@ -66,22 +56,21 @@ fn push_writer_record(
     records: &mut Vec<WriterSaid>,
     writer: &Box<dyn HostWriter>,
     index: usize,
-    payload: &Payload,
+    mark: &Mark,
 ) -> Result<(), OutOfMemory>
     requires there { index < length (writer_tells writer.now).said }
-    requires each { All (IsWriterRecord payload.now) records.old.items }
+    requires behind { mark.now.records ≤ index }
+    requires tapable { IsTapable mark.now (writer_tells writer.now) }
+    requires each { All (IsWriterRecord (payload_of mark.now.ty)) records.old.items }
     ensures next { OnOk result (IsNext (writer_tells writer.now).said index records.old.items records.new.items) }
-    ensures each { OnOk result (All (IsWriterRecord payload.now) records.new.items) }
+    ensures each { OnOk result (All (IsWriterRecord (payload_of mark.now.ty)) records.new.items) }
 {
     let said = match writer_record_at(writer, index) {
         Ok(said) => said,
         Err(error) => return Err(error),
     };
-    if is_writer_record(&said, payload) {
-        push_said(records, said)
-    } else {
-        Err(OutOfMemory)
-    }
+    sound_record(&said, mark);
+    push_said(records, said)
 }
 
 // The records of a host writer behind a mark.
@@ -90,15 +79,14 @@ fn writer_records_behind(
     writer: &Box<dyn HostWriter>,
     mark: &Mark,
 ) -> Result<Vec<WriterSaid>, OutOfMemory>
-    requires { mark.now.records ≤ length (writer_tells writer.now).said }
+    requires { IsTapable mark.now (writer_tells writer.now) }
     ensures said { IfOk result (λ said. said.items ≡ drop mark.now.records (writer_tells writer.now).said) }
     ensures each { IfOk result (λ said. All (IsWriterRecord (payload_of mark.now.ty)) said.items) }
 {
-    let payload = mark.ty.payload();
     let from = mark.records;
     let mut records = Vec::new(alloc);
     for k in 0..writer_records(writer) - from {
-        match push_writer_record(&mut records, writer, from + k, &payload) {
+        match push_writer_record(&mut records, writer, from + k, mark) {
             Ok(()) => {}
             Err(error) => return Err(error),
         }
@@ -112,7 +100,7 @@ fn writer_tape(
     writer: &Box<dyn HostWriter>,
     mark: &Mark,
 ) -> Result<WriterTape, OutOfMemory>
-    requires { mark.now.records ≤ length (writer_tells writer.now).said }
+    requires { IsTapable mark.now (writer_tells writer.now) }
     ensures tape { IfOk result (λ tape. tape ≡ writer_behind mark.now (writer_tells writer.now)) }
     ensures sound { IfOk result IsWriterTape }
 {
@@ -132,16 +120,17 @@ fn push_reader_record(
     records: &mut Vec<ReaderSaid>,
     reader: &Box<dyn HostReader>,
     index: usize,
+    mark: &Mark,
 ) -> Result<(), OutOfMemory>
     requires there { index < length (reader_tells reader.now).said }
+    requires behind { mark.now.records ≤ index }
+    requires tapable { ReaderTapable mark.now (reader_tells reader.now) }
     requires each { All IsReaderRecord records.old.items }
     ensures next { OnOk result (IsNext (reader_tells reader.now).said index records.old.items records.new.items) }
     ensures each { OnOk result (All IsReaderRecord records.new.items) }
 {
     let said = reader_record_at(reader, index);
-    if !is_reader_record(said) {
-        return Err(OutOfMemory);
-    }
+    sound_reader_record(said);
     match records.push(said) {
         Ok(()) => Ok(()),
         Err(_) => Err(OutOfMemory),
@@ -154,14 +143,14 @@ fn reader_records_behind(
     reader: &Box<dyn HostReader>,
     mark: &Mark,
 ) -> Result<Vec<ReaderSaid>, OutOfMemory>
-    requires { mark.now.records ≤ length (reader_tells reader.now).said }
+    requires { ReaderTapable mark.now (reader_tells reader.now) }
     ensures said { IfOk result (λ said. said.items ≡ drop mark.now.records (reader_tells reader.now).said) }
     ensures each { IfOk result (λ said. All IsReaderRecord said.items) }
 {
     let from = mark.records;
     let mut records = Vec::new(alloc);
     for k in 0..reader_records(reader) - from {
-        match push_reader_record(&mut records, reader, from + k) {
+        match push_reader_record(&mut records, reader, from + k, mark) {
             Ok(()) => {}
             Err(error) => return Err(error),
         }
@@ -175,7 +164,7 @@ fn reader_tape(
     reader: &Box<dyn HostReader>,
     mark: &Mark,
 ) -> Result<ReaderTape, OutOfMemory>
-    requires { mark.now.records ≤ length (reader_tells reader.now).said }
+    requires { ReaderTapable mark.now (reader_tells reader.now) }
     ensures tape { IfOk result (λ tape. tape ≡ reader_behind mark.now (reader_tells reader.now)) }
     ensures sound { IfOk result IsReaderTape }
 {
@@ -216,7 +205,7 @@ fn writer_tapes(
     hosts: &Hosts,
     marks: &[Mark],
 ) -> Result<Vec<WriterTape>, OutOfMemory>
-    requires reached { AllZip IsReached marks.now (tells_of writer_tells reader_tells hosts.now).writers }
+    requires tapable { AllZip IsTapable marks.now (tells_of writer_tells reader_tells hosts.now).writers }
     ensures tapes { IfOk result (λ tapes. tapes.items
         ≡ zip_with writer_behind marks.now (tells_of writer_tells reader_tells hosts.now).writers) }
     ensures sound { IfOk result (λ tapes. All IsWriterTape tapes.items) }
@@ -241,7 +230,7 @@ fn reader_tapes(
     hosts: &Hosts,
     marks: &[Mark],
 ) -> Result<Vec<ReaderTape>, OutOfMemory>
-    requires reached { AllZip ReaderReached marks.now (tells_of writer_tells reader_tells hosts.now).readers }
+    requires tapable { AllZip ReaderTapable marks.now (tells_of writer_tells reader_tells hosts.now).readers }
     ensures tapes { IfOk result (λ tapes. tapes.items
         ≡ zip_with reader_behind marks.now (tells_of writer_tells reader_tells hosts.now).readers) }
     ensures sound { IfOk result (λ tapes. All IsReaderTape tapes.items) }
@@ -269,8 +258,8 @@ pub(crate) fn tape_behind(
 ) -> Result<Tape, OutOfMemory>
     requires few { length steps.items ≤ 4294967295 }
     requires steps { All HasLine steps.items }
-    requires writers { AllZip IsReached marks.now.writers.items (tells_of writer_tells reader_tells hosts.now).writers }
-    requires readers { AllZip ReaderReached marks.now.readers.items (tells_of writer_tells reader_tells hosts.now).readers }
+    requires writers { AllZip IsTapable marks.now.writers.items (tells_of writer_tells reader_tells hosts.now).writers }
+    requires readers { AllZip ReaderTapable marks.now.readers.items (tells_of writer_tells reader_tells hosts.now).readers }
     requires few_writers { length marks.now.writers.items ≤ 64 }
     requires few_readers { length marks.now.readers.items ≤ 64 }
     ensures { IfOk result (λ tape. tape ≡ tape_behind steps.items marks.now (tells_of writer_tells reader_tells hosts.now)) }

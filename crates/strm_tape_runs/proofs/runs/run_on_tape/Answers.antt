@@ -1,8 +1,10 @@
 use Rattle.std.proofs.Common.{inr, ap, subst, sym, ◌∙◌}
 use Rattle.strm_buffers.specs.AllTells.{tells_of}
+use Rattle.strm_session.specs.Runs.{start_among}
 use Rattle.strm_tape_runs.specs.Marks.{tape_behind}
 use Rattle.strm_tape_runs.specs.Playing.{IsRunOf, IsPlayOf}
-use Rattle.strm_tape_runs.proofs.RunLemmas.{hosts_stay, reach_writers, reach_readers, tape_is, run_plays}
+use Rattle.strm_tape_runs.proofs.RunLemmas.{hosts_stay, tape_is, run_plays}
+use Rattle.strm_tape_runs.proofs.FairRuns.{program_limits, run_tapable, run_readers_tapable}
 use Rattle.strm_tape_runs.proofs.runs.run_on_tape.Goals as goal
 
 pub returns-in-Err-clause-hosts : goal.returns-in-Err-clause-hosts
@@ -13,11 +15,17 @@ returns-in-Err-of-clause-hosts g c = hosts_stay _
 
 pub tape_behind-requires-clause-writers : goal.tape_behind-requires-clause-writers
 tape_behind-requires-clause-writers g c =
-    reach_writers c.in-Ok-of.marks.writers.items (tells_of (λ b. (goal.HostWriter-dyn g b).writer_tells b.1) (λ b. (goal.HostReader-dyn g b).reader_tells b.1) c.args.hosts.now) (tells_of (λ b. (goal.HostWriter-dyn g b).writer_tells b.1) (λ b. (goal.HostReader-dyn g b).reader_tells b.1) c.run-end.new.hosts) c.in-Ok-of.ensures.writers c.run-end.ensures.hosts
+    let run : IsRunOf (tells_of (λ b. (goal.HostWriter-dyn g b).writer_tells b.1) (λ b. (goal.HostReader-dyn g b).reader_tells b.1) c.args.hosts.now) (tells_of (λ b. (goal.HostWriter-dyn g b).writer_tells b.1) (λ b. (goal.HostReader-dyn g b).reader_tells b.1) c.run-end.new.hosts) c.args.steps.now c.run-end.result = record { ok = c.run-end.ensures.ok; received = c.run-end.ensures.received; stop = c.run-end.ensures.stop; at = c.run-end.ensures.at; goes_on = c.run-end.ensures.hosts; alone = c.run-end.ensures.alone; decided = c.run-end.ensures.decided } in
+    run_tapable (tells_of (λ b. (goal.HostWriter-dyn g b).writer_tells b.1) (λ b. (goal.HostReader-dyn g b).reader_tells b.1) c.args.hosts.now) (tells_of (λ b. (goal.HostWriter-dyn g b).writer_tells b.1) (λ b. (goal.HostReader-dyn g b).reader_tells b.1) c.run-end.new.hosts)
+    (λ run count s. c.totals_are_counts.ensures 0 program_limits (tells_of (λ b. (goal.HostWriter-dyn g b).writer_tells b.1) (λ b. (goal.HostReader-dyn g b).reader_tells b.1) c.args.hosts.now) (tells_of (λ b. (goal.HostWriter-dyn g b).writer_tells b.1) (λ b. (goal.HostReader-dyn g b).reader_tells b.1) c.run-end.new.hosts) run count s) (c.moments_lead_to_the_end.ensures (start_among (tells_of (λ b. (goal.HostWriter-dyn g b).writer_tells b.1) (λ b. (goal.HostReader-dyn g b).reader_tells b.1) c.args.hosts.now) (tells_of (λ b. (goal.HostWriter-dyn g b).writer_tells b.1) (λ b. (goal.HostReader-dyn g b).reader_tells b.1) c.run-end.new.hosts))) (c.writers_are_fed_exactly.ensures.runs (start_among (tells_of (λ b. (goal.HostWriter-dyn g b).writer_tells b.1) (λ b. (goal.HostReader-dyn g b).reader_tells b.1) c.args.hosts.now) (tells_of (λ b. (goal.HostWriter-dyn g b).writer_tells b.1) (λ b. (goal.HostReader-dyn g b).reader_tells b.1) c.run-end.new.hosts))) (c.writers_are_fed_exactly.ensures.stops (start_among (tells_of (λ b. (goal.HostWriter-dyn g b).writer_tells b.1) (λ b. (goal.HostReader-dyn g b).reader_tells b.1) c.args.hosts.now) (tells_of (λ b. (goal.HostWriter-dyn g b).writer_tells b.1) (λ b. (goal.HostReader-dyn g b).reader_tells b.1) c.run-end.new.hosts)))
+    c.args.steps.now c.run-end.result c.in-Ok-of.marks.writers.items c.in-Ok-of.ensures.writers run (c.wanted_memory.ensures c.if-wanted_memory.false)
 
 pub tape_behind-requires-clause-readers : goal.tape_behind-requires-clause-readers
 tape_behind-requires-clause-readers g c =
-    reach_readers c.in-Ok-of.marks.readers.items (tells_of (λ b. (goal.HostWriter-dyn g b).writer_tells b.1) (λ b. (goal.HostReader-dyn g b).reader_tells b.1) c.args.hosts.now) (tells_of (λ b. (goal.HostWriter-dyn g b).writer_tells b.1) (λ b. (goal.HostReader-dyn g b).reader_tells b.1) c.run-end.new.hosts) c.in-Ok-of.ensures.readers c.run-end.ensures.hosts
+    let run : IsRunOf (tells_of (λ b. (goal.HostWriter-dyn g b).writer_tells b.1) (λ b. (goal.HostReader-dyn g b).reader_tells b.1) c.args.hosts.now) (tells_of (λ b. (goal.HostWriter-dyn g b).writer_tells b.1) (λ b. (goal.HostReader-dyn g b).reader_tells b.1) c.run-end.new.hosts) c.args.steps.now c.run-end.result = record { ok = c.run-end.ensures.ok; received = c.run-end.ensures.received; stop = c.run-end.ensures.stop; at = c.run-end.ensures.at; goes_on = c.run-end.ensures.hosts; alone = c.run-end.ensures.alone; decided = c.run-end.ensures.decided } in
+    run_readers_tapable (tells_of (λ b. (goal.HostWriter-dyn g b).writer_tells b.1) (λ b. (goal.HostReader-dyn g b).reader_tells b.1) c.args.hosts.now) (tells_of (λ b. (goal.HostWriter-dyn g b).writer_tells b.1) (λ b. (goal.HostReader-dyn g b).reader_tells b.1) c.run-end.new.hosts)
+    (λ run count s. c.totals_are_counts.ensures 0 program_limits (tells_of (λ b. (goal.HostWriter-dyn g b).writer_tells b.1) (λ b. (goal.HostReader-dyn g b).reader_tells b.1) c.args.hosts.now) (tells_of (λ b. (goal.HostWriter-dyn g b).writer_tells b.1) (λ b. (goal.HostReader-dyn g b).reader_tells b.1) c.run-end.new.hosts) run count s) (c.moments_lead_to_the_end.ensures (start_among (tells_of (λ b. (goal.HostWriter-dyn g b).writer_tells b.1) (λ b. (goal.HostReader-dyn g b).reader_tells b.1) c.args.hosts.now) (tells_of (λ b. (goal.HostWriter-dyn g b).writer_tells b.1) (λ b. (goal.HostReader-dyn g b).reader_tells b.1) c.run-end.new.hosts))) (c.writers_are_fed_exactly.ensures.runs (start_among (tells_of (λ b. (goal.HostWriter-dyn g b).writer_tells b.1) (λ b. (goal.HostReader-dyn g b).reader_tells b.1) c.args.hosts.now) (tells_of (λ b. (goal.HostWriter-dyn g b).writer_tells b.1) (λ b. (goal.HostReader-dyn g b).reader_tells b.1) c.run-end.new.hosts))) (c.writers_are_fed_exactly.ensures.stops (start_among (tells_of (λ b. (goal.HostWriter-dyn g b).writer_tells b.1) (λ b. (goal.HostReader-dyn g b).reader_tells b.1) c.args.hosts.now) (tells_of (λ b. (goal.HostWriter-dyn g b).writer_tells b.1) (λ b. (goal.HostReader-dyn g b).reader_tells b.1) c.run-end.new.hosts)))
+    c.args.steps.now c.run-end.result c.in-Ok-of.marks.readers.items c.in-Ok-of.ensures.readers run (c.wanted_memory.ensures c.if-wanted_memory.false)
 
 pub returns-in-Ok-tape_behind-clause-tape : goal.returns-in-Ok-tape_behind-clause-tape
 returns-in-Ok-tape_behind-clause-tape g c =

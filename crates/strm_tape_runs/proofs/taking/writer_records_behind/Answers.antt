@@ -1,9 +1,6 @@
-use Rattle.std.proofs.Common.{subst}
-use Rattle.std.specs.Prelude.{All}
-use Rattle.strm_tape.specs.Spelling.{IsWriterRecord}
 use Rattle.strm_tape_runs.proofs.ZipLemmas.{behind_next}
 use Rattle.strm_tape_runs.proofs.taking.writer_records_behind.Goals as goal
 
 pub loop-k-preserved : goal.loop-k-preserved
 loop-k-preserved g c =
-    (behind_next _ c.args.mark.now.records c.loop-k.k c.loop-k.records.items c.push_writer_record.new.records.items c.in-Ok.ensures.next c.loop-k.invariant.0, subst (λ p. All (IsWriterRecord p) c.push_writer_record.new.records.items) c.payload-payload.ensures c.in-Ok.ensures.each)
+    (behind_next _ c.args.mark.now.records c.loop-k.k c.loop-k.records.items c.push_writer_record.new.records.items c.in-Ok.ensures.next c.loop-k.invariant.0, c.in-Ok.ensures.each)
