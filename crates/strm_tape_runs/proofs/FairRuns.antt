@@ -1,5 +1,5 @@
 -- The records that host ends add in a run have a place on a tape.
-use Rattle.std.proofs.Common.{◌≡◌, ℕ, suc, List, [], ◌∷◌, ◌++◌, length, drop, map, Option, Some, None, Result, Ok, Err, refl, sym, ap, subst, ◌∙◌, arith}
+use Rattle.std.proofs.Common.{◌≡◌, ℕ, suc, ◌+◌, ◌≤◌, List, [], ◌∷◌, ◌++◌, length, drop, map, Option, Some, None, Result, Ok, Err, refl, sym, ap, subst, ◌∙◌, arith, length-append}
 use Rattle.std.specs.Prelude.{All}
 use Rattle.std.specs.List.{AllZip}
 use Rattle.std.proofs.lemmas.List.{take_all, drop_all, append-nil, append_assoc}
@@ -18,6 +18,10 @@ use Rattle.strm_world.specs.Outcomes.{Outcome, Goes, Stops, Stuck}
 use Rattle.strm_world.specs.Steps.{step_of}
 use Rattle.strm_host_laws.specs.HostMoments.{HostMoment, host_moments, first_moments, last_of}
 use Rattle.strm_host_laws.specs.HostLaws.{WriterGoesOn, WriterStops}
+use Rattle.strm_machine.specs.Hosting.{HostsHold}
+use Rattle.strm_machine.specs.declared.streams.Duty.{Duty}
+use Rattle.strm_machine.specs.declared.streams.Duty.TheVariants.{Serves}
+use Rattle.strm_machine.specs.declared.streams.Side.TheVariants.{Writing, Reading}
 use Rattle.strm_machine.specs.declared.streams.Producer.{Producer}
 use Rattle.strm_world.specs.Does.{AllBegin, saids, writers_from, readers_from, spent}
 use Rattle.strm_session.specs.declared.runs.RunStop.{RunStop}
@@ -28,7 +32,7 @@ use Rattle.strm_tape_runs.specs.declared.marks.Mark.{Mark}
 use Rattle.strm_tape_runs.specs.Marks.{FairRoom, FairTaking, mark_of, reader_mark_of, IsTapable, ReaderTapable}
 use Rattle.strm_tape_runs.specs.Playing.{IsRunOf, FoundMemory}
 use Rattle.strm_tape_runs.proofs.RunLemmas.{begins_length, payload_back, stop_found}
-use Rattle.strm_tape_runs.proofs.FairLemmas.{LeftFew, ReadsFew, EndsUsed, StepFares, step-fares}
+use Rattle.strm_tape_runs.proofs.FairLemmas.{LeftFew, ReadsFew, UsedFew, Writes, Reads, EndsUsed, StepFares, step-fares}
 
 -- the limits of a run's store
 abbrev pub program_limits : Limits
@@ -36,18 +40,36 @@ program_limits = record { handles = 1000000; places = 1000000 }
 
 -- RECORDS IN A ROW
 
-used_twice : {A : Type 0} (P : A → Type 0) (all mid rest : List A) → Used P all mid → Used P mid rest → Used P all rest
-used_twice P all mid rest a b =
-    (a.0 ++ b.0, a.1 ∙ ap (λ ys. a.0 ++ ys) b.1 ∙ sym (append_assoc a.0 b.0 rest), All-append P a.0 b.0 a.2 b.2)
+used_twice : {A : Type 0} (j k : ℕ) (P : A → Type 0) (all mid rest : List A) → UsedFew j P all mid → UsedFew k P mid rest → UsedFew (j + k) P all rest
+used_twice j k P all mid rest a b =
+    let x = a.0 in
+    let y = b.0 in
+    let both = length-append x.0 y.0 in
+    ((x.0 ++ y.0, x.1 ∙ ap (λ ys. x.0 ++ ys) y.1 ∙ sym (append_assoc x.0 y.0 rest), All-append P x.0 y.0 x.2 y.2), omega (arith, both, a.1, b.1))
+
+used_more_at_most : {A : Type 0} (j k : ℕ) (P : A → Type 0) (all rest : List A) → j ≤ k → UsedFew j P all rest → UsedFew k P all rest
+used_more_at_most j k P all rest l a = (a.0, omega (arith, l, a.1))
 
 -- all that were to come were used
-all_used : {A : Type 0} (P : A → Type 0) (all rest : List A) → rest ≡ [] → Used P all rest → All P all
-all_used P all rest e u = subst (All P) (sym (u.1 ∙ ap (λ ys. u.0 ++ ys) e ∙ append-nil u.0)) u.2
+whole_used : {A : Type 0} (P : A → Type 0) (all rest : List A) (u : Used P all rest) → rest ≡ [] → all ≡ u.0
+whole_used P all rest u e = u.1 ∙ ap (λ ys. u.0 ++ ys) e ∙ append-nil u.0
 
-ends_twice : (first w : World) (ws : List Writer) (rs : List Reader) → EndsUsed first w.writers w.readers → EndsUsed w ws rs → EndsUsed first ws rs
-ends_twice first w ws rs a b = record {
-  writers = λ n. used_twice FairRoom _ _ _ (a.writers n) (b.writers n);
-  readers = λ r. used_twice FairTaking _ _ _ (a.readers r) (b.readers r);
+all_used : {A : Type 0} (k : ℕ) (P : A → Type 0) (all rest : List A) → rest ≡ [] → UsedFew k P all rest → All P all
+all_used k P all rest e u = subst (All P) (sym (whole_used P all rest u.0 e)) u.0.2
+
+few_used : {A : Type 0} (k : ℕ) (P : A → Type 0) (all rest : List A) → rest ≡ [] → UsedFew k P all rest → length all ≤ k
+few_used k P all rest e u = let long = ap (λ xs. length xs) (whole_used P all rest u.0 e) in omega (arith, long, u.1)
+
+ends_twice : (j : ℕ) (first w : World) (ws : List Writer) (rs : List Reader) → EndsUsed first j w.writers w.readers → EndsUsed w 1 ws rs → EndsUsed first (j + 1) ws rs
+ends_twice j first w ws rs a b = record {
+  writers = λ n. used_twice j 1 FairRoom _ _ _ (a.writers n) (b.writers n);
+  readers = λ r. used_twice j 1 FairTaking _ _ _ (a.readers r) (b.readers r);
+}
+
+ends_at_most : (j k : ℕ) (first : World) (ws : List Writer) (rs : List Reader) → j ≤ k → EndsUsed first j ws rs → EndsUsed first k ws rs
+ends_at_most j k first ws rs l a = record {
+  writers = λ n. used_more_at_most j k FairRoom _ _ l (a.writers n);
+  readers = λ r. used_more_at_most j k FairTaking _ _ l (a.readers r);
 }
 
 -- ONE STEP MORE
@@ -89,7 +111,23 @@ AllCounted first = (run : List Step) (count s : ℕ) → AreCounted (stream_in (
 abbrev pub AllLead : World → Type 0
 AllLead first = (run : List Step) (replies : List Reply) (end : World) → play [] first run ≡ Ends replies end → last_of first (host_moments first run) ≡ end
 
-module _ (first : World) (counted : AllCounted first) (lead : AllLead first) where
+-- host ends and streams agree, in whichever run from it
+abbrev pub AllHold : World → Type 0
+AllHold first = (run : List Step) (count : ℕ) → HostsHold (last_of first (first_moments count first run)).state
+
+served_by : Duty → ℕ
+served_by (Serves s) = s
+served_by _ = 0
+
+one_writer : (w : World) → HostsHold w.state → (n s t : ℕ) → Writes w n s → Writes w n t → t ≡ s
+unfolding served_by
+one_writer w h n s t a b = ap served_by (sym ((h.serve Writing n t).serves b) ∙ (h.serve Writing n s).serves a)
+
+one_reader : (w : World) → HostsHold w.state → (r s t : ℕ) → Reads w r s → Reads w r t → t ≡ s
+unfolding served_by
+one_reader w h r s t a b = ap served_by (sym ((h.serve Reading r t).serves b) ∙ (h.serve Reading r s).serves a)
+
+module _ (first : World) (counted : AllCounted first) (hold : AllHold first) (lead : AllLead first) where
   few_there : (front : List Step) (told : List Reply) (w : World) → play [] first front ≡ Ends told w → (s : ℕ) → ReadsFew (stream_in w s)
   few_there front told w e s =
       let all = host_moments first front in
@@ -97,39 +135,53 @@ module _ (first : World) (counted : AllCounted first) (lead : AllLead first) whe
       let here = subst (λ (x : World). AreCounted (stream_in x s)) (lead front told w e) there in
       counted_few (stream_in w s).reader.operation here.1
 
-  -- what was used up to a world
-  abbrev Fair : World → Type 0
-  Fair w = EndsUsed first w.writers w.readers
+  hold_there : (front : List Step) (told : List Reply) (w : World) → play [] first front ≡ Ends told w → HostsHold w.state
+  hold_there front told w e =
+      let all = host_moments first front in
+      let there = subst (λ (xs : List HostMoment). HostsHold (last_of first xs).state) (take_all (length all) all (omega arith)) (hold front (length all)) in
+      subst (λ (x : World). HostsHold x.state) (lead front told w e) there
+
+  -- a run of these steps leads to this world
+  abbrev Leads : List Step → List Reply → World → Type 0
+  Leads front told w = play [] first front ≡ Ends told w
+
+  -- what was used up to a world, of each end so many at most
+  abbrev Fair : ℕ → World → Type 0
+  Fair k w = EndsUsed first k w.writers w.readers
 
   -- what a run that comes out so used
-  abbrev Out : Played → Type 0
-  Out (Ends told w) = EndsUsed first w.writers w.readers
-  Out (Halts told stop ws rs) = EndsUsed first ws rs
-  Out (Hangs told) = Unit {0}
+  abbrev Out : ℕ → Played → Type 0
+  Out k (Ends told w) = Fair k w
+  Out k (Halts told stop ws rs) = EndsUsed first k ws rs
+  Out k (Hangs told) = Unit {0}
 
-  abbrev RestFair : List Reply → List Step → List Step → Step → Type 0
-  RestFair told more front step =
-      (reply : Reply) (v : World) → play [] first (front ++ step ∷ []) ≡ Ends (told ++ reply ∷ []) v → EndsUsed first v.writers v.readers → Out (play (told ++ reply ∷ []) v more)
+  abbrev RestFair : ℕ → ℕ → List Reply → List Step → List Step → Step → Type 0
+  RestFair m k told more front step =
+      (reply : Reply) (v : World) → play [] first (front ++ step ∷ []) ≡ Ends (told ++ reply ∷ []) v → Fair (k + 1) v → Out m (play (told ++ reply ∷ []) v more)
 
-  by_outcome : (front : List Step) (told : List Reply) (w : World) (step : Step) (more : List Step) → play [] first front ≡ Ends told w → Fair w → RestFair told more front step
-      → (o : Outcome) → step_of w step ≡ o → StepFares w o → Out (after_step told o (λ t v. play t v more))
-  by_outcome front told w step more e u rest (Goes reply v) q h = rest reply v (one_on first front told w step reply v e q) (ends_twice first w v.writers v.readers u h)
-  by_outcome front told w step more e u rest (Stops stop ws rs) q h = ends_twice first w ws rs u h
-  by_outcome front told w step more e u rest Stuck q h = tt
+  by_outcome : (m k : ℕ) (front : List Step) (told : List Reply) (w : World) (step : Step) (more : List Step) → k + 1 ≤ m → Leads front told w → Fair k w → RestFair m k told more front step
+      → (o : Outcome) → step_of w step ≡ o → StepFares w o → Out m (after_step told o (λ t v. play t v more))
+  by_outcome m k front told w step more l e u rest (Goes reply v) q h = rest reply v (one_on first front told w step reply v e q) (ends_twice k first w v.writers v.readers u h)
+  by_outcome m k front told w step more l e u rest (Stops stop ws rs) q h = ends_at_most (k + 1) m first ws rs l (ends_twice k first w ws rs u h)
+  by_outcome m k front told w step more l e u rest Stuck q h = tt
 
-  run_fair : (rest front : List Step) (told : List Reply) (w : World) → play [] first front ≡ Ends told w → EndsUsed first w.writers w.readers → Out (play told w rest)
-  run_fair [] front told w e u = u
-  run_fair (step ∷ more) front told w e u =
-      by_outcome front told w step more e u (λ reply v f k. run_fair more (front ++ step ∷ []) (told ++ reply ∷ []) v f k) (step_of w step) refl (step-fares w (few_there front told w e) step)
+  run_fair : (m k : ℕ) (rest front : List Step) (told : List Reply) (w : World) → k + length rest ≤ m → play [] first front ≡ Ends told w → Fair k w → Out m (play told w rest)
+  run_fair m k [] front told w l e u = ends_at_most k m first w.writers w.readers (omega (arith, l)) u
+  run_fair m k (step ∷ more) front told w l e u =
+      let h = hold_there front told w e in
+      by_outcome m k front told w step more (omega (arith, l)) e u (λ reply v f x. run_fair m (k + 1) more (front ++ step ∷ []) (told ++ reply ∷ []) v (omega (arith, l)) f x) (step_of w step) refl
+      (step-fares w (one_writer w h) (one_reader w h) (few_there front told w e) step)
 
-  whole_fair : (steps : List Step) → Out (play [] first steps)
-  whole_fair steps = run_fair steps [] [] first refl (record { writers = λ n. ([], refl, All-nil FairRoom); readers = λ r. ([], refl, All-nil FairTaking) })
+  whole_fair : (steps : List Step) → Out (length steps) (play [] first steps)
+  whole_fair steps =
+      run_fair (length steps) 0 steps [] [] first (omega arith) refl
+      (record { writers = λ n. (([], refl, All-nil FairRoom), omega arith); readers = λ r. (([], refl, All-nil FairTaking), omega arith) })
 
-  pub ended_fair : (steps : List Step) (told : List Reply) (w : World) → play [] first steps ≡ Ends told w → EndsUsed first w.writers w.readers
-  ended_fair steps told w e = subst Out e (whole_fair steps)
+  pub ended_fair : (steps : List Step) (told : List Reply) (w : World) → play [] first steps ≡ Ends told w → Fair (length steps) w
+  ended_fair steps told w e = subst (Out (length steps)) e (whole_fair steps)
 
-  pub halted_fair : (steps : List Step) (told : List Reply) (stop : Stop) (ws : List Writer) (rs : List Reader) → play [] first steps ≡ Halts told stop ws rs → EndsUsed first ws rs
-  halted_fair steps told stop ws rs e = subst Out e (whole_fair steps)
+  pub halted_fair : (steps : List Step) (told : List Reply) (stop : Stop) (ws : List Writer) (rs : List Reader) → play [] first steps ≡ Halts told stop ws rs → EndsUsed first (length steps) ws rs
+  halted_fair steps told stop ws rs e = subst (Out (length steps)) e (whole_fair steps)
 
 -- WHAT HOST ENDS TELL
 
@@ -142,38 +194,48 @@ abbrev as_readers : List ReaderTells → List ReaderTells → List Reader
 as_readers ws vs = readers_from ws (map (λ (v : ReaderTells). v.said) vs)
 
 -- all that host writers added was used in a run, and they stayed of their payloads
-record WritersGo (ps qs : List Producer) (ws vs : List WriterTells) : Type 0 where
-  used : (n : ℕ) → Used FairRoom (writer_in (as_writers ps ws vs) n).coming (writer_in (as_writers qs vs vs) n).coming
+record WritersGo (k : ℕ) (ps qs : List Producer) (ws vs : List WriterTells) : Type 0 where
+  used : (n : ℕ) → UsedFew k FairRoom (writer_in (as_writers ps ws vs) n).coming (writer_in (as_writers qs vs vs) n).coming
   typed : (n : ℕ) → (writer_in (as_writers qs vs vs) n).payload ≡ (writer_in (as_writers ps ws vs) n).payload
 
 -- all that host readers added was
-abbrev ReadersGo : List ReaderTells → List ReaderTells → Type 0
-ReadersGo ws vs = (r : ℕ) → Used FairTaking (reader_in (as_readers ws vs) r).coming (reader_in (as_readers vs vs) r).coming
+abbrev ReadersGo : ℕ → List ReaderTells → List ReaderTells → Type 0
+ReadersGo k ws vs = (r : ℕ) → UsedFew k FairTaking (reader_in (as_readers ws vs) r).coming (reader_in (as_readers vs vs) r).coming
 
-writers_tapable : (ps qs : List Producer) (ws vs : List WriterTells) → AllBegin (map (λ w. w.said) ws) (map (λ w. w.said) vs) → WritersGo ps qs ws vs → AllZip IsTapable (map mark_of ws) vs
-writers_tapable ps qs [] [] b g = tt
-writers_tapable ps qs [] (v ∷ vs) b g = absurd b
-writers_tapable ps qs (w ∷ ws) [] b g = absurd b
-writers_tapable ps qs (w ∷ ws) (v ∷ vs) b g = (
-  record {
-    reached = begins_length w.said v.said b.0;
-    rooms = all_used FairRoom (drop (length w.said) v.said) (drop (length v.said) v.said) (drop_all (length v.said) v.said (omega arith)) (g.used 0);
-    typed = g.typed 0 ∙ sym (payload_back w.kind w.payload);
-  },
-  writers_tapable (drop 1 ps) (drop 1 qs) ws vs b.1 (record { used = λ n. g.used (suc n); typed = λ n. g.typed (suc n) }),
-)
+writers_tapable : (k : ℕ) (ps qs : List Producer) (ws vs : List WriterTells) → k ≤ 4294967295 → AllBegin (map (λ w. w.said) ws) (map (λ w. w.said) vs) → WritersGo k ps qs ws vs → AllZip IsTapable (map mark_of ws) vs
+writers_tapable k ps qs [] [] l b g = tt
+writers_tapable k ps qs [] (v ∷ vs) l b g = absurd b
+writers_tapable k ps qs (w ∷ ws) [] l b g = absurd b
+writers_tapable k ps qs (w ∷ ws) (v ∷ vs) l b g =
+    let added = drop (length w.said) v.said in
+    let rest = drop (length v.said) v.said in
+    let none = drop_all (length v.said) v.said (omega arith) in
+    let few = few_used k FairRoom added rest none (g.used 0) in (
+      record {
+        reached = begins_length w.said v.said b.0;
+        rooms = all_used k FairRoom added rest none (g.used 0);
+        typed = g.typed 0 ∙ sym (payload_back w.kind w.payload);
+        few = omega (arith, l, few);
+      },
+      writers_tapable k (drop 1 ps) (drop 1 qs) ws vs l b.1 (record { used = λ n. g.used (suc n); typed = λ n. g.typed (suc n) }),
+    )
 
-readers_tapable : (ws vs : List ReaderTells) → AllBegin (map (λ w. w.said) ws) (map (λ w. w.said) vs) → ReadersGo ws vs → AllZip ReaderTapable (map reader_mark_of ws) vs
-readers_tapable [] [] b u = tt
-readers_tapable [] (v ∷ vs) b u = absurd b
-readers_tapable (w ∷ ws) [] b u = absurd b
-readers_tapable (w ∷ ws) (v ∷ vs) b u = (
-  record {
-    reached = begins_length w.said v.said b.0;
-    taken = all_used FairTaking (drop (length w.said) v.said) (drop (length v.said) v.said) (drop_all (length v.said) v.said (omega arith)) (u 0);
-  },
-  readers_tapable ws vs b.1 (λ n. u (suc n)),
-)
+readers_tapable : (k : ℕ) (ws vs : List ReaderTells) → k ≤ 4294967295 → AllBegin (map (λ w. w.said) ws) (map (λ w. w.said) vs) → ReadersGo k ws vs → AllZip ReaderTapable (map reader_mark_of ws) vs
+readers_tapable k [] [] l b u = tt
+readers_tapable k [] (v ∷ vs) l b u = absurd b
+readers_tapable k (w ∷ ws) [] l b u = absurd b
+readers_tapable k (w ∷ ws) (v ∷ vs) l b u =
+    let added = drop (length w.said) v.said in
+    let rest = drop (length v.said) v.said in
+    let none = drop_all (length v.said) v.said (omega arith) in
+    let few = few_used k FairTaking added rest none (u 0) in (
+      record {
+        reached = begins_length w.said v.said b.0;
+        taken = all_used k FairTaking added rest none (u 0);
+        few = omega (arith, l, few);
+      },
+      readers_tapable k ws vs l b.1 (λ n. u (suc n)),
+    )
 
 -- host writers stay of their payloads
 abbrev pub AllGoOn : World → Type 0
@@ -188,18 +250,18 @@ moments_typed first go run n =
     subst (λ (xs : List HostMoment). (writer_at (last_of first xs) n).payload ≡ (writer_at first n).payload) (take_all (length all) all (omega arith)) (go run (length all) n).payload
 
 -- a run that found memory used these records of the host ends, which stayed of their payloads
-record CameOut (old new : Tells) : Type 0 where
+record CameOut (k : ℕ) (old new : Tells) : Type 0 where
   ps : List Producer
-  used : EndsUsed (start_among old new) (writers_from ps new.writers (saids new).writers) (readers_from new.readers (saids new).readers)
+  used : EndsUsed (start_among old new) k (writers_from ps new.writers (saids new).writers) (readers_from new.readers (saids new).readers)
   typed : (n : ℕ) → (writer_in (writers_from ps new.writers (saids new).writers) n).payload ≡ (writer_at (start_among old new) n).payload
 
-module _ (old new : Tells) (counted : AllCounted (start_among old new)) (lead : AllLead (start_among old new)) (go : AllGoOn (start_among old new)) (stop : AllStop (start_among old new)) where
-  came_out : (steps : List Step) (end : Result Transcript RunStop) → IsRunOf old new steps end → FoundMemory end → CameOut old new
+module _ (old new : Tells) (counted : AllCounted (start_among old new)) (hold : AllHold (start_among old new)) (lead : AllLead (start_among old new)) (go : AllGoOn (start_among old new)) (stop : AllStop (start_among old new)) where
+  came_out : (steps : List Step) (end : Result Transcript RunStop) → IsRunOf old new steps end → FoundMemory end → CameOut (length steps) old new
   came_out steps (Ok t) r m =
       let first = start_among old new in
       record {
         ps = t.store.producers;
-        used = ended_fair first counted lead steps t.replies (spent t.store new) r.ok.played;
+        used = ended_fair first counted hold lead steps t.replies (spent t.store new) r.ok.played;
         typed = λ n. subst (λ (w : World). (writer_at w n).payload ≡ (writer_at first n).payload) (lead steps t.replies (spent t.store new) r.ok.played) (moments_typed first go steps n);
       }
   came_out steps (Err s) r m =
@@ -208,19 +270,19 @@ module _ (old new : Tells) (counted : AllCounted (start_among old new)) (lead : 
       let halts = subst (λ (o : Option Stop). HaltsBy first steps s.replies new o) why.1 r.stop.stops.halts in
       record {
         ps = halts.0.producers;
-        used = halted_fair first counted lead steps s.replies why.0 (spent halts.0 new).writers (spent halts.0 new).readers halts.1;
+        used = halted_fair first counted hold lead steps s.replies why.0 (spent halts.0 new).writers (spent halts.0 new).readers halts.1;
         typed = λ n. (stop steps s.replies why.0 (spent halts.0 new).writers (spent halts.0 new).readers halts.1 n).payload ∙ moments_typed first go steps n;
       }
 
   -- what was added has a place on a tape
-  pub run_tapable : (steps : List Step) (end : Result Transcript RunStop) (marks : List Mark) → marks ≡ map mark_of old.writers → IsRunOf old new steps end → FoundMemory end → AllZip IsTapable marks new.writers
-  run_tapable steps end marks e r m =
+  pub run_tapable : (steps : List Step) (end : Result Transcript RunStop) (marks : List Mark) → length steps ≤ 4294967295 → marks ≡ map mark_of old.writers → IsRunOf old new steps end → FoundMemory end → AllZip IsTapable marks new.writers
+  run_tapable steps end marks l e r m =
       let out = came_out steps end r m in
       subst (λ ms. AllZip IsTapable ms new.writers) (sym e)
-      (writers_tapable start.producers out.ps old.writers new.writers r.goes_on.begins.0 (record { used = out.used.writers; typed = out.typed }))
+      (writers_tapable (length steps) start.producers out.ps old.writers new.writers l r.goes_on.begins.0 (record { used = out.used.writers; typed = out.typed }))
 
-  pub run_readers_tapable : (steps : List Step) (end : Result Transcript RunStop) (marks : List Mark) → marks ≡ map reader_mark_of old.readers → IsRunOf old new steps end → FoundMemory end → AllZip ReaderTapable marks new.readers
-  run_readers_tapable steps end marks e r m =
+  pub run_readers_tapable : (steps : List Step) (end : Result Transcript RunStop) (marks : List Mark) → length steps ≤ 4294967295 → marks ≡ map reader_mark_of old.readers → IsRunOf old new steps end → FoundMemory end → AllZip ReaderTapable marks new.readers
+  run_readers_tapable steps end marks l e r m =
       let out = came_out steps end r m in
       subst (λ ms. AllZip ReaderTapable ms new.readers) (sym e)
-      (readers_tapable old.readers new.readers r.goes_on.begins.1 out.used.readers)
+      (readers_tapable (length steps) old.readers new.readers l r.goes_on.begins.1 out.used.readers)

@@ -1,5 +1,5 @@
 -- What is kept of host ends before a run, and what they recorded behind it. Ours.
-use Rattle.std.specs.Prelude.{◌≡◌, ℕ, ◌≤◌, List, [], ◌∷◌, ◌++◌, length, drop, slice_get, All, Some}
+use Rattle.std.specs.Prelude.{◌≡◌, ℕ, ◌<◌, ◌≤◌, List, [], ◌∷◌, ◌++◌, length, drop, slice_get, All, Some}
 use Rattle.strm_machine.specs.declared.steps.Step.{Step}
 use Rattle.strm_codes.specs.Types.{payload_of}
 use Rattle.strm_buffers.specs.Said.{WriterSaid}
@@ -55,11 +55,13 @@ pub record IsTapable (mark : Mark) (tells : WriterTells) : Type 0 where
   pub reached : IsReached mark tells
   pub rooms : All FairRoom (drop mark.records tells.said)
   pub typed : tells.payload ≡ payload_of mark.ty
+  pub few : length (drop mark.records tells.said) < 4294967296
 
 -- what a host reader did has
 pub record ReaderTapable (mark : Mark) (tells : ReaderTells) : Type 0 where
   pub reached : ReaderReached mark tells
   pub taken : All FairTaking (drop mark.records tells.said)
+  pub few : length (drop mark.records tells.said) < 4294967296
 
 -- the element of a list at this place was put behind others
 pub record IsNext {A : Type 0} (xs : List A) (index : ℕ) (old new : List A) : Type 0 where

@@ -16,7 +16,7 @@ use std::alloc::Global;
 use strm_alike::runs_are_alike;
 use strm_buffers::hosts::Hosts;
 use strm_codes::counts::OutOfMemory;
-use strm_host_laws::guests::totals_are_counts;
+use strm_host_laws::guests::{states_are_sound, totals_are_counts};
 use strm_host_laws::runs::{moments_lead_to_the_end, writers_are_fed_exactly};
 use strm_machine::steps::Step;
 use strm_session::runs::{RunCause, RunStop, Transcript, run};
@@ -36,8 +36,7 @@ pub struct Taped {
 /// Runs the steps as `run` does, and puts them on a tape with the records that the host ends add.
 ///
 /// It is refused before anything is run where a host writer holds items, and then where a step has no place on a
-/// tape. After `OutOfMemory` there is no tape. It also comes where the run stops for want of memory, and where a
-/// host end adds more records than a tape has room for, which are 2^32 - 1.
+/// tape. After `OutOfMemory` there is no tape; it also comes where the run stops for want of memory.
 pub fn tape_run(alloc: Global, steps: &[Step], hosts: &mut Hosts) -> Result<Taped, TapeError>
     requires few { length steps.now ≤ 4294967295 }
     requires writers { length (tells_of writer_tells reader_tells hosts.old).writers ≤ 64 }
@@ -136,6 +135,7 @@ fn run_on_tape(alloc: Global, steps: &[Step], hosts: &mut Hosts) -> Result<Taped
     let end = run(alloc, steps, hosts);
     runs_are_alike();
     totals_are_counts();
+    states_are_sound();
     moments_lead_to_the_end();
     writers_are_fed_exactly();
     if wanted_memory(&end) {

@@ -105,14 +105,10 @@ fn writer_tape(
     ensures sound { IfOk result IsWriterTape }
 {
     sound_type(&mark.ty);
-    let said = match writer_records_behind(alloc, writer, mark) {
-        Ok(said) => said,
-        Err(error) => return Err(error),
-    };
-    if said.len() > 4_294_967_295 {
-        return Err(OutOfMemory);
+    match writer_records_behind(alloc, writer, mark) {
+        Ok(said) => Ok(WriterTape { ty: mark.ty, said }),
+        Err(error) => Err(error),
     }
-    Ok(WriterTape { ty: mark.ty, said })
 }
 
 // Adds a record of a host reader, by its place, at the end of others.
@@ -169,14 +165,10 @@ fn reader_tape(
     ensures sound { IfOk result IsReaderTape }
 {
     sound_type(&mark.ty);
-    let said = match reader_records_behind(alloc, reader, mark) {
-        Ok(said) => said,
-        Err(error) => return Err(error),
-    };
-    if said.len() > 4_294_967_295 {
-        return Err(OutOfMemory);
+    match reader_records_behind(alloc, reader, mark) {
+        Ok(said) => Ok(ReaderTape { ty: mark.ty, said }),
+        Err(error) => Err(error),
     }
-    Ok(ReaderTape { ty: mark.ty, said })
 }
 
 // Adds the tape of a host writer at the end.

@@ -17,15 +17,15 @@ pub tape_behind-requires-clause-writers : goal.tape_behind-requires-clause-write
 tape_behind-requires-clause-writers g c =
     let run : IsRunOf (tells_of (λ b. (goal.HostWriter-dyn g b).writer_tells b.1) (λ b. (goal.HostReader-dyn g b).reader_tells b.1) c.args.hosts.now) (tells_of (λ b. (goal.HostWriter-dyn g b).writer_tells b.1) (λ b. (goal.HostReader-dyn g b).reader_tells b.1) c.run-end.new.hosts) c.args.steps.now c.run-end.result = record { ok = c.run-end.ensures.ok; received = c.run-end.ensures.received; stop = c.run-end.ensures.stop; at = c.run-end.ensures.at; goes_on = c.run-end.ensures.hosts; alone = c.run-end.ensures.alone; decided = c.run-end.ensures.decided } in
     run_tapable (tells_of (λ b. (goal.HostWriter-dyn g b).writer_tells b.1) (λ b. (goal.HostReader-dyn g b).reader_tells b.1) c.args.hosts.now) (tells_of (λ b. (goal.HostWriter-dyn g b).writer_tells b.1) (λ b. (goal.HostReader-dyn g b).reader_tells b.1) c.run-end.new.hosts)
-    (λ run count s. c.totals_are_counts.ensures 0 program_limits (tells_of (λ b. (goal.HostWriter-dyn g b).writer_tells b.1) (λ b. (goal.HostReader-dyn g b).reader_tells b.1) c.args.hosts.now) (tells_of (λ b. (goal.HostWriter-dyn g b).writer_tells b.1) (λ b. (goal.HostReader-dyn g b).reader_tells b.1) c.run-end.new.hosts) run count s) (c.moments_lead_to_the_end.ensures (start_among (tells_of (λ b. (goal.HostWriter-dyn g b).writer_tells b.1) (λ b. (goal.HostReader-dyn g b).reader_tells b.1) c.args.hosts.now) (tells_of (λ b. (goal.HostWriter-dyn g b).writer_tells b.1) (λ b. (goal.HostReader-dyn g b).reader_tells b.1) c.run-end.new.hosts))) (c.writers_are_fed_exactly.ensures.runs (start_among (tells_of (λ b. (goal.HostWriter-dyn g b).writer_tells b.1) (λ b. (goal.HostReader-dyn g b).reader_tells b.1) c.args.hosts.now) (tells_of (λ b. (goal.HostWriter-dyn g b).writer_tells b.1) (λ b. (goal.HostReader-dyn g b).reader_tells b.1) c.run-end.new.hosts))) (c.writers_are_fed_exactly.ensures.stops (start_among (tells_of (λ b. (goal.HostWriter-dyn g b).writer_tells b.1) (λ b. (goal.HostReader-dyn g b).reader_tells b.1) c.args.hosts.now) (tells_of (λ b. (goal.HostWriter-dyn g b).writer_tells b.1) (λ b. (goal.HostReader-dyn g b).reader_tells b.1) c.run-end.new.hosts)))
-    c.args.steps.now c.run-end.result c.in-Ok-of.marks.writers.items c.in-Ok-of.ensures.writers run (c.wanted_memory.ensures c.if-wanted_memory.false)
+    (λ run count s. c.totals_are_counts.ensures 0 program_limits (tells_of (λ b. (goal.HostWriter-dyn g b).writer_tells b.1) (λ b. (goal.HostReader-dyn g b).reader_tells b.1) c.args.hosts.now) (tells_of (λ b. (goal.HostWriter-dyn g b).writer_tells b.1) (λ b. (goal.HostReader-dyn g b).reader_tells b.1) c.run-end.new.hosts) run count s) (λ run count. c.states_are_sound.ensures.hosts 0 program_limits (tells_of (λ b. (goal.HostWriter-dyn g b).writer_tells b.1) (λ b. (goal.HostReader-dyn g b).reader_tells b.1) c.args.hosts.now) (tells_of (λ b. (goal.HostWriter-dyn g b).writer_tells b.1) (λ b. (goal.HostReader-dyn g b).reader_tells b.1) c.run-end.new.hosts) run count) (c.moments_lead_to_the_end.ensures (start_among (tells_of (λ b. (goal.HostWriter-dyn g b).writer_tells b.1) (λ b. (goal.HostReader-dyn g b).reader_tells b.1) c.args.hosts.now) (tells_of (λ b. (goal.HostWriter-dyn g b).writer_tells b.1) (λ b. (goal.HostReader-dyn g b).reader_tells b.1) c.run-end.new.hosts))) (c.writers_are_fed_exactly.ensures.runs (start_among (tells_of (λ b. (goal.HostWriter-dyn g b).writer_tells b.1) (λ b. (goal.HostReader-dyn g b).reader_tells b.1) c.args.hosts.now) (tells_of (λ b. (goal.HostWriter-dyn g b).writer_tells b.1) (λ b. (goal.HostReader-dyn g b).reader_tells b.1) c.run-end.new.hosts))) (c.writers_are_fed_exactly.ensures.stops (start_among (tells_of (λ b. (goal.HostWriter-dyn g b).writer_tells b.1) (λ b. (goal.HostReader-dyn g b).reader_tells b.1) c.args.hosts.now) (tells_of (λ b. (goal.HostWriter-dyn g b).writer_tells b.1) (λ b. (goal.HostReader-dyn g b).reader_tells b.1) c.run-end.new.hosts)))
+    c.args.steps.now c.run-end.result c.in-Ok-of.marks.writers.items c.requires.few c.in-Ok-of.ensures.writers run (c.wanted_memory.ensures c.if-wanted_memory.false)
 
 pub tape_behind-requires-clause-readers : goal.tape_behind-requires-clause-readers
 tape_behind-requires-clause-readers g c =
     let run : IsRunOf (tells_of (λ b. (goal.HostWriter-dyn g b).writer_tells b.1) (λ b. (goal.HostReader-dyn g b).reader_tells b.1) c.args.hosts.now) (tells_of (λ b. (goal.HostWriter-dyn g b).writer_tells b.1) (λ b. (goal.HostReader-dyn g b).reader_tells b.1) c.run-end.new.hosts) c.args.steps.now c.run-end.result = record { ok = c.run-end.ensures.ok; received = c.run-end.ensures.received; stop = c.run-end.ensures.stop; at = c.run-end.ensures.at; goes_on = c.run-end.ensures.hosts; alone = c.run-end.ensures.alone; decided = c.run-end.ensures.decided } in
     run_readers_tapable (tells_of (λ b. (goal.HostWriter-dyn g b).writer_tells b.1) (λ b. (goal.HostReader-dyn g b).reader_tells b.1) c.args.hosts.now) (tells_of (λ b. (goal.HostWriter-dyn g b).writer_tells b.1) (λ b. (goal.HostReader-dyn g b).reader_tells b.1) c.run-end.new.hosts)
-    (λ run count s. c.totals_are_counts.ensures 0 program_limits (tells_of (λ b. (goal.HostWriter-dyn g b).writer_tells b.1) (λ b. (goal.HostReader-dyn g b).reader_tells b.1) c.args.hosts.now) (tells_of (λ b. (goal.HostWriter-dyn g b).writer_tells b.1) (λ b. (goal.HostReader-dyn g b).reader_tells b.1) c.run-end.new.hosts) run count s) (c.moments_lead_to_the_end.ensures (start_among (tells_of (λ b. (goal.HostWriter-dyn g b).writer_tells b.1) (λ b. (goal.HostReader-dyn g b).reader_tells b.1) c.args.hosts.now) (tells_of (λ b. (goal.HostWriter-dyn g b).writer_tells b.1) (λ b. (goal.HostReader-dyn g b).reader_tells b.1) c.run-end.new.hosts))) (c.writers_are_fed_exactly.ensures.runs (start_among (tells_of (λ b. (goal.HostWriter-dyn g b).writer_tells b.1) (λ b. (goal.HostReader-dyn g b).reader_tells b.1) c.args.hosts.now) (tells_of (λ b. (goal.HostWriter-dyn g b).writer_tells b.1) (λ b. (goal.HostReader-dyn g b).reader_tells b.1) c.run-end.new.hosts))) (c.writers_are_fed_exactly.ensures.stops (start_among (tells_of (λ b. (goal.HostWriter-dyn g b).writer_tells b.1) (λ b. (goal.HostReader-dyn g b).reader_tells b.1) c.args.hosts.now) (tells_of (λ b. (goal.HostWriter-dyn g b).writer_tells b.1) (λ b. (goal.HostReader-dyn g b).reader_tells b.1) c.run-end.new.hosts)))
-    c.args.steps.now c.run-end.result c.in-Ok-of.marks.readers.items c.in-Ok-of.ensures.readers run (c.wanted_memory.ensures c.if-wanted_memory.false)
+    (λ run count s. c.totals_are_counts.ensures 0 program_limits (tells_of (λ b. (goal.HostWriter-dyn g b).writer_tells b.1) (λ b. (goal.HostReader-dyn g b).reader_tells b.1) c.args.hosts.now) (tells_of (λ b. (goal.HostWriter-dyn g b).writer_tells b.1) (λ b. (goal.HostReader-dyn g b).reader_tells b.1) c.run-end.new.hosts) run count s) (λ run count. c.states_are_sound.ensures.hosts 0 program_limits (tells_of (λ b. (goal.HostWriter-dyn g b).writer_tells b.1) (λ b. (goal.HostReader-dyn g b).reader_tells b.1) c.args.hosts.now) (tells_of (λ b. (goal.HostWriter-dyn g b).writer_tells b.1) (λ b. (goal.HostReader-dyn g b).reader_tells b.1) c.run-end.new.hosts) run count) (c.moments_lead_to_the_end.ensures (start_among (tells_of (λ b. (goal.HostWriter-dyn g b).writer_tells b.1) (λ b. (goal.HostReader-dyn g b).reader_tells b.1) c.args.hosts.now) (tells_of (λ b. (goal.HostWriter-dyn g b).writer_tells b.1) (λ b. (goal.HostReader-dyn g b).reader_tells b.1) c.run-end.new.hosts))) (c.writers_are_fed_exactly.ensures.runs (start_among (tells_of (λ b. (goal.HostWriter-dyn g b).writer_tells b.1) (λ b. (goal.HostReader-dyn g b).reader_tells b.1) c.args.hosts.now) (tells_of (λ b. (goal.HostWriter-dyn g b).writer_tells b.1) (λ b. (goal.HostReader-dyn g b).reader_tells b.1) c.run-end.new.hosts))) (c.writers_are_fed_exactly.ensures.stops (start_among (tells_of (λ b. (goal.HostWriter-dyn g b).writer_tells b.1) (λ b. (goal.HostReader-dyn g b).reader_tells b.1) c.args.hosts.now) (tells_of (λ b. (goal.HostWriter-dyn g b).writer_tells b.1) (λ b. (goal.HostReader-dyn g b).reader_tells b.1) c.run-end.new.hosts)))
+    c.args.steps.now c.run-end.result c.in-Ok-of.marks.readers.items c.requires.few c.in-Ok-of.ensures.readers run (c.wanted_memory.ensures c.if-wanted_memory.false)
 
 pub returns-in-Ok-tape_behind-clause-tape : goal.returns-in-Ok-tape_behind-clause-tape
 returns-in-Ok-tape_behind-clause-tape g c =
