@@ -76,10 +76,7 @@ fn writer_marks(alloc: Global, hosts: &Hosts) -> Result<Vec<Mark>, OutOfMemory>
 {
     let mut marks = Vec::new(alloc);
     for n in 0..hosts.writers.len() {
-        match push_item(&mut marks, writer_mark(&hosts.writers[n])) {
-            Ok(()) => {}
-            Err(error) => return Err(error),
-        }
+        push_item(&mut marks, writer_mark(&hosts.writers[n]))?;
     }
     Ok(marks)
 }
@@ -90,10 +87,7 @@ fn reader_marks(alloc: Global, hosts: &Hosts) -> Result<Vec<Mark>, OutOfMemory>
 {
     let mut marks = Vec::new(alloc);
     for r in 0..hosts.readers.len() {
-        match push_item(&mut marks, reader_mark(&hosts.readers[r])) {
-            Ok(()) => {}
-            Err(error) => return Err(error),
-        }
+        push_item(&mut marks, reader_mark(&hosts.readers[r]))?;
     }
     Ok(marks)
 }

@@ -86,10 +86,7 @@ fn writer_records_behind(
     let from = mark.records;
     let mut records = Vec::new(alloc);
     for k in 0..writer_records(writer) - from {
-        match push_writer_record(&mut records, writer, from + k, mark) {
-            Ok(()) => {}
-            Err(error) => return Err(error),
-        }
+        push_writer_record(&mut records, writer, from + k, mark)?;
     }
     Ok(records)
 }
@@ -146,10 +143,7 @@ fn reader_records_behind(
     let from = mark.records;
     let mut records = Vec::new(alloc);
     for k in 0..reader_records(reader) - from {
-        match push_reader_record(&mut records, reader, from + k, mark) {
-            Ok(()) => {}
-            Err(error) => return Err(error),
-        }
+        push_reader_record(&mut records, reader, from + k, mark)?;
     }
     Ok(records)
 }
@@ -208,10 +202,7 @@ fn writer_tapes(
             Ok(tape) => tape,
             Err(error) => return Err(error),
         };
-        match push_writer_tape(&mut tapes, tape) {
-            Ok(()) => {}
-            Err(error) => return Err(error),
-        }
+        push_writer_tape(&mut tapes, tape)?;
     }
     Ok(tapes)
 }
@@ -233,10 +224,7 @@ fn reader_tapes(
             Ok(tape) => tape,
             Err(error) => return Err(error),
         };
-        match push_reader_tape(&mut tapes, tape) {
-            Ok(()) => {}
-            Err(error) => return Err(error),
-        }
+        push_reader_tape(&mut tapes, tape)?;
     }
     Ok(tapes)
 }

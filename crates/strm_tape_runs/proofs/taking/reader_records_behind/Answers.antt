@@ -3,4 +3,4 @@ use Rattle.strm_tape_runs.proofs.taking.reader_records_behind.Goals as goal
 
 pub loop-k-preserved : goal.loop-k-preserved
 loop-k-preserved g c =
-    (behind_next _ c.args.mark.now.records c.loop-k.k c.loop-k.records.items c.push_reader_record.new.records.items c.in-Ok.ensures.next c.loop-k.invariant.0, c.in-Ok.ensures.each)
+    (behind_next _ c.args.mark.now.records c.loop-k.k c.loop-k.records.items c.push_reader_record.new.records.items c.in_ok-push_reader_record.ensures.next c.loop-k.invariant.0, c.in_ok-push_reader_record.ensures.each)
