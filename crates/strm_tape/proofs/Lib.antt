@@ -5,3 +5,4 @@ pub mod RecordLemmas
 pub mod TapeLemmas
 pub mod WrittenLemmas
 pub mod ManyLemmas
+pub mod SameLemmas

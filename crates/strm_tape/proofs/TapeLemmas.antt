@@ -37,7 +37,7 @@ length-region ss xs =
     let zeros : length (replicate {A = ℕ} size 0) ≡ size = length-replicate {A = ℕ} size 0 in
     length-stored_at ss (replicate size 0) 0 xs (omega (arith, zeros)) ∙ zeros
 
-items-region : (ss : List Scalar) (xs : List Item) → AreItems ss xs → items ss (region_bytes ss xs) (length xs) ≡ Some xs
+pub items-region : (ss : List Scalar) (xs : List Item) → AreItems ss xs → items ss (region_bytes ss xs) (length xs) ≡ Some xs
 items-region ss xs f =
     let size = item_size ss * length xs in
     let zeros : length (replicate {A = ℕ} size 0) ≡ size = length-replicate {A = ℕ} size 0 in

@@ -7,6 +7,7 @@ pub mod laws;
 mod lists;
 mod parts;
 mod records;
+pub mod sameness;
 mod shapes;
 mod steps;
 pub mod tapable;

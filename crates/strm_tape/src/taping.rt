@@ -50,7 +50,7 @@ fn put_room(out: &mut Vec<u8>, room: Option<u32>) -> Result<(), OutOfMemory>
 }
 
 // Items as they lie in bytes that were 0.
-fn put_items(out: &mut Vec<u8>, items: &Items) -> Result<(), OutOfMemory>
+pub(crate) fn put_items(out: &mut Vec<u8>, items: &Items) -> Result<(), OutOfMemory>
     ensures { OnOk result (out.new.items ≡ out.old.items
         ++ region_bytes (scalars_of items.now.payload) items.now.items) }
 {

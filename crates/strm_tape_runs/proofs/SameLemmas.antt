@@ -1,15 +1,10 @@
 -- Lists that have the same front, and where they differ.
-use Rattle.std.proofs.Common.{◌≡◌, inl, inr, ℕ, ◌+◌, ◌-◌, ◌<◌, ◌≤◌, Bool, List, length, take, drop, Some, sym, ap, subst, ◌∙◌, arith}
+use Rattle.std.proofs.Common.{◌≡◌, inl, inr, ℕ, ◌+◌, ◌-◌, ◌<◌, ◌≤◌, List, length, take, drop, Some, sym, ap, subst, ◌∙◌, arith}
 use Rattle.std.specs.Prelude.{◌≢◌, min, slice_get}
-use Rattle.std.specs.Bool.{Decides}
 use Rattle.std.proofs.lemmas.List.{take_more_same, take_all, length-drop, get_or-drop}
 use Rattle.std.proofs.lemmas.Bool.{cases_lt}
 use Rattle.std.proofs.lemmas.Option.{slice_get-get_or, slice_get_past, slice_get_within, slice_get_cases, get_or_from_slice_get, none-some}
 use Rattle.strm_tape_runs.specs.Differing.{DifferFirst}
-
--- a test of two values is one of values that are these
-pub decides_same : {A : Type 0} {x y : A} (x' y' : A) {r : Bool} → x ≡ x' → y ≡ y' → Decides r (x ≡ y) → Decides r (x' ≡ y')
-decides_same x' y' e f d = (λ t. sym e ∙ d.0 t ∙ f, λ q. d.1 (e ∙ q ∙ sym f))
 
 -- one more element is the same
 pub front_more : {A : Type 0} (xs ys : List A) (k : ℕ) (x : A) → slice_get xs k ≡ Some x → slice_get ys k ≡ Some x → take k xs ≡ take k ys → take (k + 1) xs ≡ take (k + 1) ys

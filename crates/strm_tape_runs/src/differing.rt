@@ -12,6 +12,7 @@ use crate::records::{
     reader_record_at, reader_records, same_reader_record, same_writer_record, writer_record_at,
     writer_records,
 };
+use std::alloc::Global;
 use strm_buffers::answers::ReaderSaid;
 use strm_buffers::hosts::Hosts;
 use strm_buffers::readers::HostReader;
@@ -22,6 +23,7 @@ use strm_tape::tape::{ReaderTape, Tape, WriterTape};
 
 // Whether this is a record of a host writer, by its place.
 fn is_writer_record(
+    alloc: Global,
     writer: &Box<dyn HostWriter>,
     index: usize,
     said: &WriterSaid,
@@ -30,7 +32,7 @@ fn is_writer_record(
     ensures { IfOk result (λ same. IsTrue same ↔ slice_get (writer_tells writer.now).said index ≡ Some said.now) }
 {
     match writer_record_at(writer, index) {
-        Ok(record) => Ok(same_writer_record(&record, said)),
+        Ok(record) => same_writer_record(alloc, &record, said),
         Err(error) => Err(error),
     }
 }
@@ -38,6 +40,7 @@ fn is_writer_record(
 /// The first place at which the records of a host writer behind so many differ from these, from 0; none where
 /// they are these.
 pub(crate) fn writer_difference(
+    alloc: Global,
     writer: &Box<dyn HostWriter>,
     from: usize,
     said: &[WriterSaid],
@@ -51,7 +54,7 @@ pub(crate) fn writer_difference(
     let added = writer_records(writer) - from;
     let both = added.min(said.len());
     for at in 0..both {
-        match is_writer_record(writer, from + at, &said[at]) {
+        match is_writer_record(alloc, writer, from + at, &said[at]) {
             Ok(true) => {}
             Ok(false) => return Ok(Some(at as u32)),
             Err(error) => return Err(error),
@@ -124,6 +127,7 @@ fn reader_said(tape: &ReaderTape) -> &[ReaderSaid]
 
 // Where the records of host writers behind their marks differ first from those of a tape.
 fn writers_difference(
+    alloc: Global,
     hosts: &Hosts,
     marks: &[Mark],
     tape: &Tape,
@@ -140,7 +144,7 @@ fn writers_difference(
     for n in 0..tape.writers() {
         let said = writer_said(tape.writer(n));
         let from = marks[n as usize].records;
-        match writer_difference(&hosts.writers[n as usize], from, said) {
+        match writer_difference(alloc, &hosts.writers[n as usize], from, said) {
             Ok(None) => {}
             Ok(Some(at)) => {
                 return Ok(Some(Difference {
@@ -185,6 +189,7 @@ fn readers_difference(hosts: &Hosts, marks: &[Mark], tape: &Tape) -> Option<Diff
 
 /// Where what host ends recorded behind their marks differs first from a tape.
 pub(crate) fn first_difference(
+    alloc: Global,
     hosts: &Hosts,
     marks: &Marks,
     tape: &Tape,
@@ -198,7 +203,7 @@ pub(crate) fn first_difference(
     ensures differ { IfOk result (λ found. IfSome found (λ d. FirstDiffer (tape_behind tape.now.steps marks.now
         (tells_of writer_tells reader_tells hosts.now)) tape.now d.reader d.end d.at)) }
 {
-    match writers_difference(hosts, &marks.writers, tape) {
+    match writers_difference(alloc, hosts, &marks.writers, tape) {
         Ok(None) => Ok(readers_difference(hosts, &marks.readers, tape)),
         Ok(Some(difference)) => Ok(Some(difference)),
         Err(error) => Err(error),

@@ -2,14 +2,14 @@
 
 ghost use Rattle.std.specs.Prelude.{◌≡◌, ◌↔◌, ◌<◌, length, slice_get, Some, IsTrue, IfOk};
 
+use std::alloc::Global;
 use strm_buffers::answers::ReaderSaid;
-use strm_buffers::items::Items;
 use strm_buffers::readers::HostReader;
 use strm_buffers::said::WriterSaid;
 use strm_buffers::writers::HostWriter;
 use strm_codes::counts::OutOfMemory;
 use strm_codes::payloads::Payload;
-use strm_codes::values::Value;
+use strm_tape::sameness::same_items;
 
 /// `HostWriter::records`.
 pub(crate) fn writer_records(writer: &Box<dyn HostWriter>) -> usize
@@ -45,28 +45,6 @@ pub(crate) fn reader_record_at(reader: &Box<dyn HostReader>, index: usize) -> Re
     reader.record_at(index)
 }
 
-// Whether two items are the same.
-fn same_value(a: &Value, b: &Value) -> bool
-    ensures { IsTrue result ↔ a.now ≡ b.now }
-{
-    a.as_slice() == b.as_slice()
-}
-
-// Whether two lists have the same items.
-fn same_items(a: &Items, b: &Items) -> bool
-    ensures { IsTrue result ↔ a.now.items ≡ b.now.items }
-{
-    if a.len() != b.len() {
-        return false;
-    }
-    for k in 0..a.len() {
-        if !same_value(&a.get(k), &b.get(k)) {
-            return false;
-        }
-    }
-    true
-}
-
 // Whether two payloads are the same.
 fn same_payload(a: Payload, b: Payload) -> bool
     ensures { IsTrue result ↔ a ≡ b }
@@ -81,13 +59,18 @@ fn same_poll(a: &WriterSaid, b: &WriterSaid) -> bool
     a.room == b.room && a.finish == b.finish && a.answer == b.answer
 }
 
-/// Whether two records of host writers are the same.
-pub fn same_writer_record(a: &WriterSaid, b: &WriterSaid) -> bool
-    ensures { IsTrue result ↔ a.now ≡ b.now }
+/// Whether two records of host writers are the same. After `OutOfMemory` nothing was kept.
+pub fn same_writer_record(
+    alloc: Global,
+    a: &WriterSaid,
+    b: &WriterSaid,
+) -> Result<bool, OutOfMemory>
+    ensures { IfOk result (λ same. IsTrue same ↔ a.now ≡ b.now) }
 {
-    same_poll(a, b)
-        && same_payload(a.items.payload(), b.items.payload())
-        && same_items(&a.items, &b.items)
+    if !same_poll(a, b) || !same_payload(a.items.payload(), b.items.payload()) {
+        return Ok(false);
+    }
+    same_items(alloc, &a.items, &b.items)
 }
 
 /// Whether two records of host readers are the same.

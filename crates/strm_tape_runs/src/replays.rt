@@ -68,7 +68,7 @@ pub fn replay(
     if wanted_memory(&end) {
         return Err(TapeError::OutOfMemory);
     }
-    match first_difference(hosts, &marks, tape) {
+    match first_difference(alloc, hosts, &marks, tape) {
         Ok(None) => Ok(end),
         Ok(Some(Difference { reader, end, at })) => Err(TapeError::Differs { reader, end, at }),
         Err(_) => Err(TapeError::OutOfMemory),
