@@ -2,7 +2,7 @@
 //!
 //! Meaning: `step_of` of `Steps.antt` of `strm_world`. Ours.
 
-ghost use Rattle.std.specs.Prelude.{◌≡◌, ◌≢◌, ◌≤◌, false, Err, IfOk, IfErr, IsTrue};
+ghost use Rattle.std.specs.Prelude.{◌≡◌, ◌≢◌, ◌≤◌, false, Err, IfOk, IfErr, IfSome, IsTrue};
 ghost use Rattle.strm_codes.specs.declared.refusals.Refusal.{Refusal};
 ghost use Rattle.strm_buffers.specs.AllTells.{tells_of};
 ghost use Rattle.strm_machine.specs.Acts.{act_of};
@@ -68,8 +68,55 @@ fn perform_step(store: &mut Store, hosts: &mut Hosts, step: &Step) -> Result<Rep
     ensures held { IsHandedOver store.old (tells_of writer_tells reader_tells hosts.old) (act_of step.now)
         → result ≢ Err StoreError.OutOfMemory }
 {
+    match operation_of(step) {
+        Some(asked) => {
+            let Asked {
+                side,
+                end,
+                address,
+                count,
+            } = asked;
+            reply(operate(store, hosts, side, &end, address, count))
+        }
+        None => perform_other(store, hosts, step),
+    }
+}
+
+// The same of a step that is no read or write.
+#[inline(always)]
+fn perform_other(store: &mut Store, hosts: &mut Hosts, step: &Step) -> Result<Reply, StoreError>
+    requires fits { Fits store.old (tells_of writer_tells reader_tells hosts.old) }
+    ensures meets { MeetsHosted store.old store.new (tells_of writer_tells reader_tells hosts.old)
+        (tells_of writer_tells reader_tells hosts.new) result (act_of step.now) }
+    ensures settled { IfOk result (λ reply. IsTrue (is_settled reply)) }
+    ensures refused { (refusal : Refusal) → result ≢ Err (StoreError.Refused refusal) }
+    ensures takes_no_memory { act_takes_memory (act_of step.now) ≡ false → may_poll (lone store.old) (act_of step.now) ≡ false
+        → result ≢ Err StoreError.OutOfMemory }
+    ensures held { IsHandedOver store.old (tells_of writer_tells reader_tells hosts.old) (act_of step.now)
+        → result ≢ Err StoreError.OutOfMemory }
+{
     store.sound();
     store.served();
+    match *step {
+        Step::Event { guest, handle } => reply(event(store, guest, handle)),
+        _ => perform_act(store, hosts, step),
+    }
+}
+
+// A read or write that a step asks for.
+struct Asked {
+    side: Side,
+    end: NamedEnd,
+    address: u32,
+    count: u32,
+}
+
+// What a step asks for, if it is a read or a write. Both are one, so that what is inlined stands there once.
+#[inline(always)]
+fn operation_of(step: &Step) -> Option<Asked>
+    ensures { IfSome result (λ asked.
+        act_of step.now ≡ acts.OnEnd asked.side asked.end (end_acts.Operate asked.address asked.count)) }
+{
     match *step {
         Step::Write {
             guest,
@@ -77,30 +124,25 @@ fn perform_step(store: &mut Store, hosts: &mut Hosts, step: &Step) -> Result<Rep
             handle,
             address,
             count,
-        } => reply(operate(
-            store,
-            hosts,
-            Side::Writing,
-            &NamedEnd { guest, ty, handle },
+        } => Some(Asked {
+            side: Side::Writing,
+            end: NamedEnd { guest, ty, handle },
             address,
             count,
-        )),
+        }),
         Step::Read {
             guest,
             ty,
             handle,
             address,
             count,
-        } => reply(operate(
-            store,
-            hosts,
-            Side::Reading,
-            &NamedEnd { guest, ty, handle },
+        } => Some(Asked {
+            side: Side::Reading,
+            end: NamedEnd { guest, ty, handle },
             address,
             count,
-        )),
-        Step::Event { guest, handle } => reply(event(store, guest, handle)),
-        _ => perform_act(store, hosts, step),
+        }),
+        _ => None,
     }
 }
 
