@@ -380,10 +380,7 @@ impl Store {
         self.sound();
         self.served();
         match self.admit(self.operation_found(side, end, address, count)) {
-            Ok(found) => {
-                let mine = begin(end.guest, address, found.1);
-                self.take(side, found.0, &end.ty.payload(), mine)
-            }
+            Ok(found) => self.take_apart(side, found.0, end.guest, address, found.1),
             Err(error) => Err(error),
         }
     }
