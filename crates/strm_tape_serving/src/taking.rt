@@ -153,15 +153,9 @@ fn answer_script(alloc: Global, input: &[u8], hosts: &mut Hosts) -> Result<Outpu
         (tells_of writer_tells reader_tells hosts.new) }
 {
     match parse(alloc, input) {
-        Ok(steps) => match taped(alloc, steps.as_slice(), hosts) {
-            Ok(bytes) => Ok(Output::Tape(bytes)),
-            Err(error) => Err(error),
-        },
+        Ok(steps) => Ok(Output::Tape(taped(alloc, steps.as_slice(), hosts)?)),
         Err(ParseError::TooLong) => Ok(Output::TooLong),
-        Err(ParseError::BadLine { line }) => match bad_line_text(alloc, line) {
-            Ok(text) => Ok(Output::BadLine(text)),
-            Err(error) => Err(error),
-        },
+        Err(ParseError::BadLine { line }) => Ok(Output::BadLine(bad_line_text(alloc, line)?)),
         Err(ParseError::OutOfMemory) => Err(OutOfMemory),
     }
 }
