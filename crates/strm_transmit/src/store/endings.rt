@@ -121,6 +121,7 @@ impl Store {
 
     /// What the end that a handle names is to be told, if anything: the report of its read or
     /// write, which ends with it, or once that the other end is gone.
+    #[inline(always)]
     pub fn take_event(&mut self, guest: u32, handle: u32) -> Result<Option<ReturnCode>, StoreError>
         ensures meets { Meets self.old self.new (replied replies.Event result)
             (react self.old (steps.Event guest handle)) }
