@@ -15,13 +15,13 @@ ghost use Rattle.strm_machine.specs.declared.acts.EndAct.TheVariants as end_acts
 ghost use Rattle.strm_machine.specs.declared.acts.LooseAct.TheVariants as loose_acts;
 ghost use Rattle.strm_world.specs.Steps.{step_of, may_poll, touches};
 ghost use Rattle.strm_world.specs.Does.{Fits, Does};
-ghost use Rattle.strm_transmit.specs.Meets.{Meets, refused_too, is_settled, act_takes_memory, takes_memory};
+ghost use Rattle.strm_transmit.specs.Meets.{Meets, replied, refused_too, is_settled, act_takes_memory, takes_memory};
 ghost use Rattle.strm_transmit.specs.Hosted.{answered, lone, MayBeDone, Leaves, IsHandedOver, MeetsAlone, MeetsHosted};
 
 use crate::errors::StoreError;
 use crate::store::Store;
 use strm_buffers::hosts::Hosts;
-use strm_codes::codes::TransmitIndex;
+use strm_codes::codes::{ReturnCode, TransmitIndex};
 use strm_machine::acts::{
     Act, ContextAct, EndAct, HostAct, LooseAct, Making, MemoryAct, NamedEnd, SetAct,
 };
@@ -76,7 +76,7 @@ fn perform_step(store: &mut Store, hosts: &mut Hosts, step: &Step) -> Result<Rep
                 address,
                 count,
             } = asked;
-            reply(operate(store, hosts, side, &end, address, count))
+            code_reply(store.operate(hosts, side, &end, address, count))
         }
         None => perform_other(store, hosts, step),
     }
@@ -184,7 +184,9 @@ fn perform_act(store: &mut Store, hosts: &mut Hosts, step: &Step) -> Result<Repl
     ensures held { IsHandedOver store.old (tells_of writer_tells reader_tells hosts.old) (act_of step.now)
         → result ≢ Err StoreError.OutOfMemory }
 {
-    reply(perform_apart(store, hosts, step))
+    // A copy, so that steps which are done at once need not lie in memory.
+    let apart = *step;
+    reply(perform_apart(store, hosts, &apart))
 }
 
 // The same, apart from the code of reads, writes and events; a refusal is an error still.
@@ -210,6 +212,18 @@ fn reply(answer: Result<Reply, StoreError>) -> Result<Reply, StoreError>
     match answer {
         Err(StoreError::Refused(refusal)) => Ok(Reply::Refused(refusal)),
         other => other,
+    }
+}
+
+// A code is a reply, and so is a refusal.
+#[inline(always)]
+fn code_reply(answer: Result<ReturnCode, StoreError>) -> Result<Reply, StoreError>
+    ensures { result ≡ refused_too (replied replies.Code answer) }
+{
+    match answer {
+        Ok(code) => Ok(Reply::Code(code)),
+        Err(StoreError::Refused(refusal)) => Ok(Reply::Refused(refusal)),
+        Err(error) => Err(error),
     }
 }
 
