@@ -31,10 +31,8 @@ fn is_writer_record(
     requires { index < length (writer_tells writer.now).said }
     ensures { IfOk result (λ same. IsTrue same ↔ slice_get (writer_tells writer.now).said index ≡ Some said.now) }
 {
-    match writer_record_at(writer, index) {
-        Ok(record) => same_writer_record(alloc, &record, said),
-        Err(error) => Err(error),
-    }
+    let record = writer_record_at(writer, index)?;
+    same_writer_record(alloc, &record, said)
 }
 
 /// The first place at which the records of a host writer behind so many differ from these, from 0; none where
@@ -54,10 +52,8 @@ pub(crate) fn writer_difference(
     let added = writer_records(writer) - from;
     let both = added.min(said.len());
     for at in 0..both {
-        match is_writer_record(alloc, writer, from + at, &said[at]) {
-            Ok(true) => {}
-            Ok(false) => return Ok(Some(at as u32)),
-            Err(error) => return Err(error),
+        if !is_writer_record(alloc, writer, from + at, &said[at])? {
+            return Ok(Some(at as u32));
         }
     }
     if added == said.len() {
@@ -144,16 +140,12 @@ fn writers_difference(
     for n in 0..tape.writers() {
         let said = writer_said(tape.writer(n));
         let from = marks[n as usize].records;
-        match writer_difference(alloc, &hosts.writers[n as usize], from, said) {
-            Ok(None) => {}
-            Ok(Some(at)) => {
-                return Ok(Some(Difference {
-                    reader: false,
-                    end: n,
-                    at,
-                }));
-            }
-            Err(error) => return Err(error),
+        if let Some(at) = writer_difference(alloc, &hosts.writers[n as usize], from, said)? {
+            return Ok(Some(Difference {
+                reader: false,
+                end: n,
+                at,
+            }));
         }
     }
     Ok(None)
@@ -203,9 +195,8 @@ pub(crate) fn first_difference(
     ensures differ { IfOk result (λ found. IfSome found (λ d. FirstDiffer (tape_behind tape.now.steps marks.now
         (tells_of writer_tells reader_tells hosts.now)) tape.now d.reader d.end d.at)) }
 {
-    match writers_difference(alloc, hosts, &marks.writers, tape) {
-        Ok(None) => Ok(readers_difference(hosts, &marks.readers, tape)),
-        Ok(Some(difference)) => Ok(Some(difference)),
-        Err(error) => Err(error),
+    match writers_difference(alloc, hosts, &marks.writers, tape)? {
+        None => Ok(readers_difference(hosts, &marks.readers, tape)),
+        Some(difference) => Ok(Some(difference)),
     }
 }

@@ -100,14 +100,9 @@ impl Marks {
         ensures readers { IfOk result (λ marks. marks.readers.items
             ≡ map reader_mark_of (tells_of writer_tells reader_tells hosts.now).readers) }
     {
-        let writers = match writer_marks(alloc, hosts) {
-            Ok(writers) => writers,
-            Err(error) => return Err(error),
-        };
-        match reader_marks(alloc, hosts) {
-            Ok(readers) => Ok(Marks { writers, readers }),
-            Err(error) => Err(error),
-        }
+        let writers = writer_marks(alloc, hosts)?;
+        let readers = reader_marks(alloc, hosts)?;
+        Ok(Marks { writers, readers })
     }
 }
 

@@ -124,14 +124,8 @@ fn run_on_tape(alloc: Global, steps: &[Step], hosts: &mut Hosts) -> Result<Taped
     ensures hosts { HostsGoOn (tells_of writer_tells reader_tells hosts.old)
         (tells_of writer_tells reader_tells hosts.new) }
 {
-    let copy = match copy_steps(alloc, steps) {
-        Ok(copy) => copy,
-        Err(error) => return Err(error),
-    };
-    let marks = match Marks::of(alloc, hosts) {
-        Ok(marks) => marks,
-        Err(error) => return Err(error),
-    };
+    let copy = copy_steps(alloc, steps)?;
+    let marks = Marks::of(alloc, hosts)?;
     let end = run(alloc, steps, hosts);
     runs_are_alike();
     totals_are_counts();
@@ -141,8 +135,6 @@ fn run_on_tape(alloc: Global, steps: &[Step], hosts: &mut Hosts) -> Result<Taped
     if wanted_memory(&end) {
         return Err(OutOfMemory);
     }
-    match tape_behind(alloc, copy, hosts, &marks) {
-        Ok(tape) => Ok(Taped { end, tape }),
-        Err(error) => Err(error),
-    }
+    let tape = tape_behind(alloc, copy, hosts, &marks)?;
+    Ok(Taped { end, tape })
 }

@@ -102,10 +102,8 @@ fn writer_tape(
     ensures sound { IfOk result IsWriterTape }
 {
     sound_type(&mark.ty);
-    match writer_records_behind(alloc, writer, mark) {
-        Ok(said) => Ok(WriterTape { ty: mark.ty, said }),
-        Err(error) => Err(error),
-    }
+    let said = writer_records_behind(alloc, writer, mark)?;
+    Ok(WriterTape { ty: mark.ty, said })
 }
 
 // Adds a record of a host reader, by its place, at the end of others.
@@ -159,10 +157,8 @@ fn reader_tape(
     ensures sound { IfOk result IsReaderTape }
 {
     sound_type(&mark.ty);
-    match reader_records_behind(alloc, reader, mark) {
-        Ok(said) => Ok(ReaderTape { ty: mark.ty, said }),
-        Err(error) => Err(error),
-    }
+    let said = reader_records_behind(alloc, reader, mark)?;
+    Ok(ReaderTape { ty: mark.ty, said })
 }
 
 // Adds the tape of a host writer at the end.
@@ -198,10 +194,7 @@ fn writer_tapes(
 {
     let mut tapes = Vec::new(alloc);
     for n in 0..marks.len() {
-        let tape = match writer_tape(alloc, &hosts.writers[n], &marks[n]) {
-            Ok(tape) => tape,
-            Err(error) => return Err(error),
-        };
+        let tape = writer_tape(alloc, &hosts.writers[n], &marks[n])?;
         push_writer_tape(&mut tapes, tape)?;
     }
     Ok(tapes)
@@ -220,10 +213,7 @@ fn reader_tapes(
 {
     let mut tapes = Vec::new(alloc);
     for r in 0..marks.len() {
-        let tape = match reader_tape(alloc, &hosts.readers[r], &marks[r]) {
-            Ok(tape) => tape,
-            Err(error) => return Err(error),
-        };
+        let tape = reader_tape(alloc, &hosts.readers[r], &marks[r])?;
         push_reader_tape(&mut tapes, tape)?;
     }
     Ok(tapes)
@@ -244,12 +234,7 @@ pub(crate) fn tape_behind(
     requires few_readers { length marks.now.readers.items ≤ 64 }
     ensures { IfOk result (λ tape. tape ≡ tape_behind steps.items marks.now (tells_of writer_tells reader_tells hosts.now)) }
 {
-    let writers = match writer_tapes(alloc, hosts, &marks.writers) {
-        Ok(writers) => writers,
-        Err(error) => return Err(error),
-    };
-    match reader_tapes(alloc, hosts, &marks.readers) {
-        Ok(readers) => Ok(Tape::new(steps, writers, readers)),
-        Err(error) => Err(error),
-    }
+    let writers = writer_tapes(alloc, hosts, &marks.writers)?;
+    let readers = reader_tapes(alloc, hosts, &marks.readers)?;
+    Ok(Tape::new(steps, writers, readers))
 }

@@ -5,7 +5,7 @@ use Rattle.strm_tape_runs.proofs.differing.writer_difference.Goals as goal
 
 pub loop-at-preserved : goal.loop-at-preserved
 loop-at-preserved g c =
-    behind_more _ _ c.args.from c.loop-at.at c.index-said-at.result (c.in-Ok-true.ensures.0 c.in-Ok-true.field-0-test)
+    behind_more _ _ c.args.from c.loop-at.at c.index-said-at.result (c.in_ok-is_writer_record.ensures.0 c.if-not-branch.false)
     (slice_get_read c.args.said.now _ c.loop-at.at _ refl (omega (arith, c.loop-at-test.true, c.min-both.ensures)) c.index-said-at.is) c.loop-at.invariant
 
 pub returns-else-added-said-clause-differ : goal.returns-else-added-said-clause-differ

@@ -29,10 +29,10 @@ writer_difference-requires-clause-few g c =
     let sound = subst IsWriterTape (get_or_from_slice_get c.args.tape.now.writers c.loop-n.n c.writer.result.now c.writer.result.now c.writer.ensures) (All-get_or IsWriterTape c.args.tape.now.writers c.loop-n.n c.writer.result.now there c.sound.ensures.writers) in
     omega (arith, sound.few, ap (λ xs. length xs) c.writer_said-said.ensures)
 
-pub returns-in-Ok-Some-clause-differ : goal.returns-in-Ok-Some-clause-differ
-returns-in-Ok-Some-clause-differ g c =
+pub returns-in-Some-clause-differ : goal.returns-in-Some-clause-differ
+returns-in-Some-clause-differ g c =
     let inside : c.loop-n.n < length c.args.marks.now = omega (arith, c.loop-n-test.true, c.writers-n-end.ensures, same_lengths (λ (m : Mark). m.ty) (λ (t : WriterTape). t.ty) c.args.marks.now c.args.tape.now.writers c.requires.types) in
-    let differs : DifferFirst c.in-Ok-Some.at (drop (get_or c.args.marks.now c.loop-n.n c.index-marks-n.result).records ((goal.HostWriter-dyn g (c.index.result.now.vtable, c.index.result.now.value)).writer_tells c.index.result.now.value).said) c.writer_said-said.result.now = (rw c.in-Ok-Some.field-0-is at c.in-Ok-Some.ensures.differ) in (
+    let differs : DifferFirst c.in-Some.at (drop (get_or c.args.marks.now c.loop-n.n c.index-marks-n.result).records ((goal.HostWriter-dyn g (c.index.result.now.vtable, c.index.result.now.value)).writer_tells c.index.result.now.value).said) c.writer_said-said.result.now = (rw c.in-Some.is at c.in_ok-at.ensures.differ) in (
       refl,
       (
         c.loop-n.invariant,
@@ -40,7 +40,7 @@ returns-in-Ok-Some-clause-differ g c =
             c.loop-n.n c.index-marks-n.result _ c.writer.result.now (read_at c.args.marks.now c.loop-n.n c.index-marks-n.result inside c.index-marks-n.is)
             (seen_there (λ b. (goal.HostWriter-dyn g (b.vtable, b.value)).writer_tells b.value) c.args.hosts.now.writers.items c.loop-n.n c.index.result.now (read_at c.args.hosts.now.writers.items c.loop-n.n c.index.result.now (length_seen (λ b. (goal.HostWriter-dyn g (b.vtable, b.value)).writer_tells b.value) IsReached c.args.marks.now c.args.hosts.now.writers.items c.loop-n.n c.requires.reached inside) c.index.ensures))
             c.writer.ensures
-            c.in-Ok-Some.at (differs_behind ((goal.HostWriter-dyn g (c.index.result.now.vtable, c.index.result.now.value)).writer_tells c.index.result.now.value).said c.writer_said-said.result.now c.writer.result.now.said c.index-marks-n.result _ c.in-Ok-Some.at c.index-marks-n.is c.writer_said-said.ensures differs),
+            c.in-Some.at (differs_behind ((goal.HostWriter-dyn g (c.index.result.now.vtable, c.index.result.now.value)).writer_tells c.index.result.now.value).said c.writer_said-said.result.now c.writer.result.now.said c.index-marks-n.result _ c.in-Some.at c.index-marks-n.is c.writer_said-said.ensures differs),
       ),
     )
 
@@ -51,7 +51,7 @@ loop-n-preserved g c =
     c.loop-n.n c.index-marks-n.result _ c.writer.result.now (read_at c.args.marks.now c.loop-n.n c.index-marks-n.result inside c.index-marks-n.is)
     (seen_there (λ b. (goal.HostWriter-dyn g (b.vtable, b.value)).writer_tells b.value) c.args.hosts.now.writers.items c.loop-n.n c.index.result.now (read_at c.args.hosts.now.writers.items c.loop-n.n c.index.result.now (length_seen (λ b. (goal.HostWriter-dyn g (b.vtable, b.value)).writer_tells b.value) IsReached c.args.marks.now c.args.hosts.now.writers.items c.loop-n.n c.requires.reached inside) c.index.ensures))
     c.writer.ensures
-    (behind_mark ((goal.HostWriter-dyn g (c.index.result.now.vtable, c.index.result.now.value)).writer_tells c.index.result.now.value).said c.writer_said-said.result.now c.writer.result.now.said c.index-marks-n.result _ c.index-marks-n.is c.writer_said-said.ensures (c.in-Ok-None.ensures.same c.in-Ok-None.field-0-is)) c.loop-n.invariant
+    (behind_mark ((goal.HostWriter-dyn g (c.index.result.now.vtable, c.index.result.now.value)).writer_tells c.index.result.now.value).said c.writer_said-said.result.now c.writer.result.now.said c.index-marks-n.result _ c.index-marks-n.is c.writer_said-said.ensures (c.in_ok-at.ensures.same c.in_default.is)) c.loop-n.invariant
 
 pub returns-clause-same : goal.returns-clause-same
 returns-clause-same g c = λ e.

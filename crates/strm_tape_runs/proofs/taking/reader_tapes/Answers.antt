@@ -17,8 +17,8 @@ pub loop-r-preserved : goal.loop-r-preserved
 loop-r-preserved g c = (
   seen_more (λ b. (goal.HostReader-dyn g (b.vtable, b.value)).reader_tells b.value) c.args.marks.now c.args.hosts.now.readers.items c.loop-r.r c.index-marks-r.result c.index.result.now c.index-marks-r.is c.index.ensures
       ReaderTapable reader_behind c.loop-r.tapes.items c.push_reader_tape.new.tapes.items c.requires.tapable c.loop-r-test.true c.loop-r.invariant.0
-      (c.in_ok-push_reader_tape.ensures ∙ ap (λ (x : ReaderTape). c.loop-r.tapes.items ++ x ∷ []) c.in-Ok.ensures.tape),
-  All-same IsReaderTape _ _ c.in_ok-push_reader_tape.ensures (All-push IsReaderTape c.loop-r.tapes.items c.in-Ok.tape c.loop-r.invariant.1 c.in-Ok.ensures.sound),
+      (c.in_ok-push_reader_tape.ensures ∙ ap (λ (x : ReaderTape). c.loop-r.tapes.items ++ x ∷ []) c.in_ok-tape.ensures.tape),
+  All-same IsReaderTape _ _ c.in_ok-push_reader_tape.ensures (All-push IsReaderTape c.loop-r.tapes.items c.in_ok-tape.tape c.loop-r.invariant.1 c.in_ok-tape.ensures.sound),
 )
 
 pub returns-clause-tapes : goal.returns-clause-tapes

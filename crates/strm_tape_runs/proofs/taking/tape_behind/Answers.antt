@@ -7,8 +7,8 @@ pub new-requires : goal.new-requires
 new-requires g c = record {
   few_steps = omega (arith, c.requires.few);
   steps = c.requires.steps;
-  few_writers = few_made writer_behind _ c.deref.ensures.value c.requires.few_writers c.in-Ok.ensures.tapes;
-  writers = c.in-Ok.ensures.sound;
-  few_readers = few_made reader_behind _ c.deref-2.ensures.value c.requires.few_readers c.in-Ok-reader_tapes.ensures.tapes;
-  readers = c.in-Ok-reader_tapes.ensures.sound;
+  few_writers = few_made writer_behind _ c.deref.ensures.value c.requires.few_writers c.in_ok-writers.ensures.tapes;
+  writers = c.in_ok-writers.ensures.sound;
+  few_readers = few_made reader_behind _ c.deref-2.ensures.value c.requires.few_readers c.in_ok-readers.ensures.tapes;
+  readers = c.in_ok-readers.ensures.sound;
 }

@@ -17,8 +17,8 @@ pub loop-n-preserved : goal.loop-n-preserved
 loop-n-preserved g c = (
   seen_more (λ b. (goal.HostWriter-dyn g (b.vtable, b.value)).writer_tells b.value) c.args.marks.now c.args.hosts.now.writers.items c.loop-n.n c.index-marks-n.result c.index.result.now c.index-marks-n.is c.index.ensures
       IsTapable writer_behind c.loop-n.tapes.items c.push_writer_tape.new.tapes.items c.requires.tapable c.loop-n-test.true c.loop-n.invariant.0
-      (c.in_ok-push_writer_tape.ensures ∙ ap (λ (x : WriterTape). c.loop-n.tapes.items ++ x ∷ []) c.in-Ok.ensures.tape),
-  All-same IsWriterTape _ _ c.in_ok-push_writer_tape.ensures (All-push IsWriterTape c.loop-n.tapes.items c.in-Ok.tape c.loop-n.invariant.1 c.in-Ok.ensures.sound),
+      (c.in_ok-push_writer_tape.ensures ∙ ap (λ (x : WriterTape). c.loop-n.tapes.items ++ x ∷ []) c.in_ok-tape.ensures.tape),
+  All-same IsWriterTape _ _ c.in_ok-push_writer_tape.ensures (All-push IsWriterTape c.loop-n.tapes.items c.in_ok-tape.tape c.loop-n.invariant.1 c.in_ok-tape.ensures.sound),
 )
 
 pub returns-clause-tapes : goal.returns-clause-tapes
