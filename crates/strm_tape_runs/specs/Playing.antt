@@ -34,6 +34,10 @@ WasRun old new steps = (end : Result Transcript RunStop) × IsRunOf old new step
 abbrev pub FoundMemory : Result Transcript RunStop → Type 0
 FoundMemory end = IfErr end (λ s. s.cause ≢ causes.OutOfMemory)
 
+-- and it did not stop for want of memory
+abbrev pub WasRunInMemory : Tells → Tells → List Step → Type 0
+WasRunInMemory old new steps = (end : Result Transcript RunStop) × IsRunOf old new steps end × FoundMemory end
+
 -- a host writer of which nothing is known but what a tape has of it: its records are to come
 abbrev pub taped_writer : WriterTape → Writer
 taped_writer tape = record {

@@ -7,7 +7,7 @@ ghost use Rattle.strm_buffers.specs.AllTells.{tells_of};
 ghost use Rattle.strm_session.specs.Records.{HostsGoOn};
 ghost use Rattle.strm_tape_runs.specs.Taking.{tape_of_run};
 ghost use Rattle.strm_tape_runs.specs.Errors.{IsReplayError};
-ghost use Rattle.strm_tape_runs.specs.Playing.{IsRunOf, WasRun, FoundMemory, IsPlayOf, AreEndsOf};
+ghost use Rattle.strm_tape_runs.specs.Playing.{IsRunOf, WasRun, WasRunInMemory, FoundMemory, IsPlayOf, AreEndsOf};
 ghost use Rattle.strm_tape_runs.specs.Differing.{FirstDiffer};
 
 use crate::differing::{Difference, first_difference};
@@ -42,12 +42,12 @@ pub fn replay(
     // It is the machine's play of that tape.
     ensures plays { IfOk result (λ end. IsPlayOf tape.now end) }
 
-    // Where it differs, the run is one of `run` too, and the first difference is told.
+    // Where it differs, the run is one of `run` too, which found memory, and the first difference is told.
     ensures differs { (reader : Bool) (end at : ℕ) → IsErrOf result (TapeError.Differs reader end at) →
         FirstDiffer (tape_of_run tape.now.steps (tells_of writer_tells reader_tells hosts.old)
         (tells_of writer_tells reader_tells hosts.new)) tape.now reader end at }
     ensures adds { (reader : Bool) (end at : ℕ) → IsErrOf result (TapeError.Differs reader end at) →
-        WasRun (tells_of writer_tells reader_tells hosts.old)
+        WasRunInMemory (tells_of writer_tells reader_tells hosts.old)
         (tells_of writer_tells reader_tells hosts.new) tape.now.steps }
     ensures other { (error : TapeError) → IsErrOf result error → IsReplayError error }
 

@@ -8,7 +8,7 @@ use Rattle.strm_session.specs.declared.runs.RunStop.{RunStop}
 use Rattle.strm_session.specs.declared.runs.Transcript.{Transcript}
 use Rattle.strm_tape.specs.Spelling.{TapeOf}
 use Rattle.strm_tape_runs.specs.Taking.{tape_of_run}
-use Rattle.strm_tape_runs.specs.Playing.{IsRunOf, WasRun, IsPlayOf}
+use Rattle.strm_tape_runs.specs.Playing.{IsRunOf, WasRunInMemory, IsPlayOf}
 use Rattle.strm_tape_runs.specs.Differing.{FirstDiffer}
 use Rattle.strm_tape_serving.specs.Texts.{differs_text}
 
@@ -33,10 +33,10 @@ pub record IsStoppedPlay (tape : TapeOf) (old new : Tells) (status : ℕ) (text 
   pub status_is : IsStatusOf status end.cause why
   pub text_is : text ≡ stopped_text end.replies why
 
--- the steps of a tape were run, and the first host end that recorded something else than the tape says did so
--- here
+-- the steps of a tape were run and found memory, and the first host end that recorded something else than the
+-- tape says did so here
 pub record IsOtherRun (tape : TapeOf) (old new : Tells) : Type 0 where
-  pub run : WasRun old new tape.steps
+  pub run : WasRunInMemory old new tape.steps
   pub reader : Bool
   pub end : ℕ
   pub at : ℕ

@@ -1,7 +1,7 @@
 -- Handles and ends agree after what is done where nothing refuses it, whether or not the store is trapped.
 use Rattle.std.proofs.Common.{◌≡◌, ℕ, None}
 use Rattle.strm_machine.specs.State.{State}
-use Rattle.strm_machine.specs.ErrorContexts.{context_given, message_in, with_context, with_context_handle}
+use Rattle.strm_machine.specs.ErrorContexts.{message_in, with_context, with_context_handle}
 use Rattle.strm_machine.specs.WaitableSets.{with_set}
 use Rattle.strm_machine.specs.Reactions.{makes, on_set, on_context, shares, performs}
 use Rattle.strm_machine.specs.Refusals.{refusal}

@@ -1,18 +1,16 @@
 -- The host writer that is released with the read end of a stream: what it was, and what fits and is known
 -- after it.
-use Rattle.std.proofs.Common.{◌≡◌, ℕ, ◌<◌, ◌||◌, Bool, true, false, cond, length, get_or, set, Option, Some, None, refl, sym, ap, subst, ◌∙◌, arith}
+use Rattle.std.proofs.Common.{◌≡◌, ℕ, ◌<◌, ◌||◌, Bool, true, false, cond, length, set, Option, Some, None, refl, sym, ap, subst, ◌∙◌}
 use Rattle.strm_buffers.specs.Tells.{Tells, told_by}
 use Rattle.strm_machine.specs.State.{State, no_producer, producer_at, stream_at, is_held}
 use Rattle.strm_machine.specs.declared.streams.Duty.TheVariants.{Serves, Ended}
 use Rattle.strm_machine.specs.declared.streams.Owner.{Owner}
 use Rattle.strm_machine.specs.declared.streams.Owner.TheVariants.{Held, Host, Loose, Gone}
-use Rattle.strm_machine.specs.declared.streams.Producer.{Producer}
 use Rattle.strm_machine.specs.declared.streams.Side.TheVariants.{Writing, Reading}
 use Rattle.strm_machine.specs.declared.streams.Side.{Side}
 use Rattle.strm_machine.specs.Sides.{end_of}
-use Rattle.strm_machine.specs.declared.streams.Stream.{Stream}
 use Rattle.strm_world.specs.Attaching.{has_items, without_ends}
-use Rattle.strm_world.specs.Releasing.{KnowsHeld, unless_spent, released_by, released_where, released_among, released, released_in, after_release}
+use Rattle.strm_world.specs.Releasing.{KnowsHeld, released_by, released_among, released, released_in, after_release}
 use Rattle.strm_world.specs.Does.{Fits}
 use Rattle.strm_world.proofs.FitsLemmas.{Fits-stream}
 use Rattle.strm_transmit.specs.Inside.{AreServed}

@@ -146,30 +146,6 @@ fn operation_of(step: &Step) -> Option<Asked>
     }
 }
 
-// A read or write of the end that is named.
-#[inline(always)]
-fn operate(
-    store: &mut Store,
-    hosts: &mut Hosts,
-    side: Side,
-    end: &NamedEnd,
-    address: u32,
-    count: u32,
-) -> Result<Reply, StoreError>
-    requires fits { Fits store.old (tells_of writer_tells reader_tells hosts.old) }
-    ensures meets { MeetsHosted store.old store.new (tells_of writer_tells reader_tells hosts.old)
-        (tells_of writer_tells reader_tells hosts.new) result (acts.OnEnd side end.now (end_acts.Operate address count)) }
-    ensures settled { IfOk result (λ reply. IsTrue (is_settled reply)) }
-    ensures takes_no_memory { may_poll (lone store.old) (acts.OnEnd side end.now (end_acts.Operate address count)) ≡ false
-        → result ≢ Err StoreError.OutOfMemory }
-    ensures held { IsHandedOver store.old (tells_of writer_tells reader_tells hosts.old) (acts.OnEnd side end.now (end_acts.Operate address count))
-        → result ≢ Err StoreError.OutOfMemory }
-{
-    store
-        .operate(hosts, side, end, address, count)
-        .map(Reply::Code)
-}
-
 // What any step does, seen as its act. Inlined, so that the place of its answer is made ready where it is
 // wanted alone.
 #[inline(always)]
@@ -338,7 +314,11 @@ fn on_end(
     store.sound();
     store.served();
     match act {
-        EndAct::Operate { address, count } => operate(store, hosts, side, end, address, count),
+        EndAct::Operate { address, count } => {
+            store
+                .operate(hosts, side, end, address, count)
+                .map(Reply::Code)
+        }
         EndAct::Drop => store.drop_side(hosts, side, end).map(done),
         EndAct::Cancel => cancel(store, side, end),
         EndAct::Lift => lift(store, side, end),

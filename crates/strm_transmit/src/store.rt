@@ -64,6 +64,20 @@ pub(crate) fn type_with(kind: TransmitKind, payload: Payload) -> TransmitIndex
     }
 }
 
+// A type of plain numbers, made anew from its scalar: then no more of its payload is loaded and kept.
+#[inline(always)]
+pub(crate) fn number_type(ty: TransmitIndex) -> Option<TransmitIndex>
+    ensures { IfSome result (λ same. same ≡ ty) }
+{
+    let Payload::One(scalar) = ty.payload() else {
+        return None;
+    };
+    if !scalar.is_whole_number() {
+        return None;
+    }
+    Some(type_with(ty.kind(), Payload::One(scalar)))
+}
+
 /// Guests, the streams between them, and what is kept of host ends.
 #[derive(Drop)]
 pub struct Store {

@@ -5,9 +5,12 @@ use Rattle.strm_codes.specs.declared.payloads.Payload.{Payload}
 use Rattle.strm_codes.specs.Layout.{scalars_of}
 use Rattle.strm_memory.specs.Items.{items_at, stored_at}
 use Rattle.strm_memory.specs.declared.copies.BadItem.{BadItem}
-use Rattle.strm_machine.specs.State.{Guest, memory_in, with_memory}
+use Rattle.strm_machine.specs.State.{Guest, memory_in}
 use Rattle.strm_machine.specs.Meetings.{carried}
+use Rattle.strm_machine.specs.Sides.{write_of, read_of}
 use Rattle.strm_machine.specs.declared.streams.Operation.{Operation}
+use Rattle.strm_machine.specs.declared.streams.Side.{Side}
+use Rattle.strm_machine.specs.declared.streams.Side.TheVariants.{Writing, Reading}
 use Rattle.strm_machine.proofs.CarryLemmas.{carried_some, carried_none}
 use Rattle.strm_memory.specs.Linear.{LinearMemory, untold, with_contents}
 use Rattle.strm_turns.specs.Guests.{linear_in, with_linear, Receives}
@@ -68,3 +71,12 @@ module _ (before between after : List Guest) (payload : Payload) (write read : O
       carried_some before payload write read n (stored xs) (subst (λ o. IsSomeAnd o (λ ys. stored xs ≡ stored ys)) (sym e) refl)
       ∙ ap Some (ap (with_linear before read.guest) (sym h) ∙ swapped before between after read.guest target filled k))
       whole
+
+-- what holds of a caller's operation and of the other side's holds of the write, and of the read
+pub of_write : (P : Operation → Type 0) (side : Side) (mine theirs : Operation) → P mine → P theirs → P (write_of side mine theirs)
+of_write P Writing mine theirs a b = a
+of_write P Reading mine theirs a b = b
+
+pub of_read : (P : Operation → Type 0) (side : Side) (mine theirs : Operation) → P mine → P theirs → P (read_of side mine theirs)
+of_read P Writing mine theirs a b = b
+of_read P Reading mine theirs a b = a

@@ -305,8 +305,9 @@ impl Channel {
     }
 
     /// The waiting operation of the end on a side met the other side, and so many items, which are of
-    /// the stream's payload, moved.
-    #[inline(always)]
+    /// the stream's payload, moved. Apart, since it stands for both sides: what is inlined with it would
+    /// grow past what the compiler inlines.
+    #[inline(never)]
     pub fn advance(&mut self, side: Side, payload: &Payload, count: ItemCount)
         requires payload { payload.now ≡ self.old.payload }
         requires open { IsSomeAnd (end_of side self.old).operation (λ operation.

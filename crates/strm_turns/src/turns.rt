@@ -22,7 +22,7 @@ ghost use Rattle.strm_turns.specs.Taking.{taken};
 
 use crate::channels::Channel;
 use crate::guests::{Guest, put_memory, receive_between, take_memory};
-use crate::sides::{opposite, same_side};
+use crate::sides::{opposite, read_of, same_side, write_of};
 use std::alloc::Global;
 use strm_codes::codes::{ReturnCode, StreamResult};
 use strm_codes::counts::ItemCount;
@@ -238,10 +238,9 @@ fn carry_from(
         (read_of side mine.now theirs.now) count ≡ None) }
     ensures err { OnErr result (seen guests.new.items ≡ seen guests.old.items) }
 {
-    match side {
-        Side::Writing => carry(alloc, guests, payload, mine, theirs, count),
-        Side::Reading => carry(alloc, guests, payload, theirs, mine, count),
-    }
+    let write = write_of(side, mine, theirs);
+    let read = read_of(side, mine, theirs);
+    carry(alloc, guests, payload, write, read, count)
 }
 
 // Both complete: items move, the caller completes, and the waiting side has met.

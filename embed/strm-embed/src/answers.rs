@@ -50,10 +50,12 @@ impl Code {
 
     #[inline]
     pub(crate) const fn of(word: u32) -> Code {
-        match word & 15 {
-            0 => Code::Completed(word >> 4),
-            1 => Code::Dropped(word >> 4),
-            2 => Code::Cancelled(word >> 4),
+        // Two bits tell codes apart, since Blocked has all bits: so no branch is taken.
+        let count = word >> 4;
+        match word & 3 {
+            0 => Code::Completed(count),
+            1 => Code::Dropped(count),
+            2 => Code::Cancelled(count),
             _ => Code::Blocked,
         }
     }

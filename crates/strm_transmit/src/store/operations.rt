@@ -29,7 +29,7 @@ ghost use Rattle.strm_transmit.specs.Meets.{Meets, replied, or_found};
 ghost use Rattle.strm_transmit.specs.Hosted.{lone, IsHandedOver, MeetsHosted, StillFits};
 
 use crate::errors::StoreError;
-use crate::store::{Store, type_with};
+use crate::store::{Store, number_type};
 use crate::telling::retell;
 use strm_buffers::hosts::Hosts;
 use strm_codes::codes::{ReturnCode, TransmitIndex};
@@ -54,20 +54,6 @@ fn items_asked(ty: TransmitIndex, count: u32) -> Result<ItemCount, StreamOpTooBi
         TransmitIndex::Stream(_) => ItemCount::new(count),
         TransmitIndex::Future(_) => ItemCount::new(1),
     }
-}
-
-// A type of plain numbers, made anew from its scalar: then no more of its payload is loaded and kept.
-#[inline(always)]
-fn number_type(ty: TransmitIndex) -> Option<TransmitIndex>
-    ensures { IfSome result (λ same. same ≡ ty) }
-{
-    let Payload::One(scalar) = ty.payload() else {
-        return None;
-    };
-    if !scalar.is_whole_number() {
-        return None;
-    }
-    Some(type_with(ty.kind(), Payload::One(scalar)))
 }
 
 impl Store {
@@ -172,9 +158,9 @@ impl Store {
         }
     }
 
-    // The same of one that is just called, apart from the code that refuses: so that is inlined in a run.
-    #[inline(never)]
-    fn take_apart(
+    // The same of one that is just called.
+    #[inline(always)]
+    fn take_called(
         &mut self,
         side: Side,
         stream: u32,
@@ -196,6 +182,30 @@ impl Store {
         let payload = self.stream(stream).payload();
         let mine = begin(guest, address, count);
         self.take(side, stream, &payload, mine)
+    }
+
+    // The same, apart from the code that refuses: so that is inlined in a run.
+    #[inline(never)]
+    fn take_apart(
+        &mut self,
+        side: Side,
+        stream: u32,
+        guest: u32,
+        address: u32,
+        count: ItemCount,
+    ) -> Result<ReturnCode, StoreError>
+        requires there { stream < length self.old.streams }
+        requires idle { (end_of side (stream_at self.old stream)).operation ≡ None }
+        requires mine { IsPlaced (sizes_of self.old.guests) (stream_at self.old stream).payload
+            (begun guest address count) }
+        requires numbers { IsTrue (is_open_of guest (end_of (opposite side) (stream_at self.old stream)).operation)
+            → IsTrue (is_number_or_none (stream_at self.old stream).payload) }
+        requires untrapped { self.old.trapped ≡ false }
+        ensures meets { Meets self.old self.new (replied replies.Code result)
+            (on_stream self.old stream side (begun guest address count)) }
+        ensures takes_no_memory { result ≢ Err StoreError.OutOfMemory }
+    {
+        self.take_called(side, stream, guest, address, count)
     }
 
     /// A read or write of the end that is named; a future's count is not looked at.
@@ -380,7 +390,7 @@ impl Store {
         self.sound();
         self.served();
         match self.admit(self.operation_found(side, end, address, count)) {
-            Ok(found) => self.take_apart(side, found.0, end.guest, address, found.1),
+            Ok(found) => self.take_called(side, found.0, end.guest, address, found.1),
             Err(error) => Err(error),
         }
     }

@@ -51,7 +51,7 @@ returns-in-Ok-Some-clause-differs g c = λ reader end at e.
 pub returns-in-Ok-Some-clause-adds : goal.returns-in-Ok-Some-clause-adds
 returns-in-Ok-Some-clause-adds g c = λ reader end at e.
     let run : IsRunOf (tells_of (λ b. (goal.HostWriter-dyn g b).writer_tells b.1) (λ b. (goal.HostReader-dyn g b).reader_tells b.1) c.args.hosts.now) (tells_of (λ b. (goal.HostWriter-dyn g b).writer_tells b.1) (λ b. (goal.HostReader-dyn g b).reader_tells b.1) c.run-end.new.hosts) c.steps.result.now c.run-end.result = record { ok = c.run-end.ensures.ok; received = c.run-end.ensures.received; stop = c.run-end.ensures.stop; at = c.run-end.ensures.at; goes_on = c.run-end.ensures.hosts; alone = c.run-end.ensures.alone; decided = c.run-end.ensures.decided } in
-    (c.run-end.result, subst (λ steps. IsRunOf (tells_of (λ b. (goal.HostWriter-dyn g b).writer_tells b.1) (λ b. (goal.HostReader-dyn g b).reader_tells b.1) c.args.hosts.now) (tells_of (λ b. (goal.HostWriter-dyn g b).writer_tells b.1) (λ b. (goal.HostReader-dyn g b).reader_tells b.1) c.run-end.new.hosts) steps c.run-end.result) c.steps.ensures run)
+    (c.run-end.result, subst (λ steps. IsRunOf (tells_of (λ b. (goal.HostWriter-dyn g b).writer_tells b.1) (λ b. (goal.HostReader-dyn g b).reader_tells b.1) c.args.hosts.now) (tells_of (λ b. (goal.HostWriter-dyn g b).writer_tells b.1) (λ b. (goal.HostReader-dyn g b).reader_tells b.1) c.run-end.new.hosts) steps c.run-end.result) c.steps.ensures run, c.wanted_memory.ensures c.if-wanted_memory.false)
 
 pub returns-then-wanted_memory-clause-wanting : goal.returns-then-wanted_memory-clause-wanting
 returns-then-wanted_memory-clause-wanting g c = λ e.

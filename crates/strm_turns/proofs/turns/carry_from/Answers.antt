@@ -1,44 +1,24 @@
-use Rattle.std.proofs.lemmas.List.{length-map}
-use Rattle.strm_turns.specs.Guests.{seen}
+use Rattle.std.proofs.Common.{◌≡◌, length, false}
+use Rattle.strm_codes.specs.Layout.{scalars_of}
+use Rattle.strm_memory.specs.Region.{is_out_of_bounds}
+use Rattle.strm_machine.specs.State.{memory_in}
 use Rattle.strm_machine.proofs.TurnLemmas.{front_inside}
+use Rattle.strm_turns.specs.Guests.{seen}
+use Rattle.strm_turns.proofs.CarryingLemmas.{of_write, of_read}
 use Rattle.strm_turns.proofs.turns.carry_from.Goals as goal
 
 pub carry-requires-clause-source : goal.carry-requires-clause-source
 carry-requires-clause-source c =
-    front_inside (seen c.args.guests.now.items) c.args.payload c.args.mine.now c.args.count c.requires.mine_left c.requires.mine
+    rw c.write_of-write.ensures
+    (of_write (λ o. is_out_of_bounds (length (memory_in (seen c.args.guests.now.items) o.guest)) (scalars_of c.args.payload) o.address c.args.count ≡ false)
+    c.args.side c.args.mine.now c.args.theirs.now
+    (front_inside (seen c.args.guests.now.items) c.args.payload c.args.mine.now c.args.count c.requires.mine_left c.requires.mine)
+    (front_inside (seen c.args.guests.now.items) c.args.payload c.args.theirs.now c.args.count c.requires.theirs_left c.requires.theirs))
 
 pub carry-requires-clause-target : goal.carry-requires-clause-target
 carry-requires-clause-target c =
-    front_inside (seen c.args.guests.now.items) c.args.payload c.args.theirs.now c.args.count c.requires.theirs_left c.requires.theirs
-
-pub carry-requires-in-Reading-clause-source : goal.carry-requires-in-Reading-clause-source
-carry-requires-in-Reading-clause-source c =
-    front_inside (seen c.args.guests.now.items) c.args.payload c.args.theirs.now c.args.count c.requires.theirs_left c.requires.theirs
-
-pub carry-requires-in-Reading-clause-target : goal.carry-requires-in-Reading-clause-target
-carry-requires-in-Reading-clause-target c =
-    front_inside (seen c.args.guests.now.items) c.args.payload c.args.mine.now c.args.count c.requires.mine_left c.requires.mine
-
-pub carry-requires-clause-writer : goal.carry-requires-clause-writer
-carry-requires-clause-writer c = simp length-map at c.requires.mine.there
-
-pub carry-requires-clause-reader : goal.carry-requires-clause-reader
-carry-requires-clause-reader c = simp length-map at c.requires.theirs.there
-
-pub carry-requires-in-Reading-clause-writer : goal.carry-requires-in-Reading-clause-writer
-carry-requires-in-Reading-clause-writer c = simp length-map at c.requires.theirs.there
-
-pub carry-requires-in-Reading-clause-reader : goal.carry-requires-in-Reading-clause-reader
-carry-requires-in-Reading-clause-reader c = simp length-map at c.requires.mine.there
-
-pub returns-in-Writing-clause-ok : goal.returns-in-Writing-clause-ok
-returns-in-Writing-clause-ok c = rw c.in-Writing.is c.carry.ensures.ok
-
-pub returns-in-Writing-clause-bad : goal.returns-in-Writing-clause-bad
-returns-in-Writing-clause-bad c = rw c.in-Writing.is c.carry.ensures.bad
-
-pub returns-in-Reading-clause-ok : goal.returns-in-Reading-clause-ok
-returns-in-Reading-clause-ok c = rw c.in-Reading.is c.carry-in-Reading.ensures.ok
-
-pub returns-in-Reading-clause-bad : goal.returns-in-Reading-clause-bad
-returns-in-Reading-clause-bad c = rw c.in-Reading.is c.carry-in-Reading.ensures.bad
+    rw c.read_of-read.ensures
+    (of_read (λ o. is_out_of_bounds (length (memory_in (seen c.args.guests.now.items) o.guest)) (scalars_of c.args.payload) o.address c.args.count ≡ false)
+    c.args.side c.args.mine.now c.args.theirs.now
+    (front_inside (seen c.args.guests.now.items) c.args.payload c.args.mine.now c.args.count c.requires.mine_left c.requires.mine)
+    (front_inside (seen c.args.guests.now.items) c.args.payload c.args.theirs.now c.args.count c.requires.theirs_left c.requires.theirs))

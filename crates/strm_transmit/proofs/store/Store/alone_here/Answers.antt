@@ -12,10 +12,10 @@ use Rattle.strm_transmit.proofs.store.Store.alone_here.Goals as goal
 pub returns-in-Ok-clause-meets : goal.returns-in-Ok-clause-meets
 returns-in-Ok-clause-meets c =
     let found = is_admitted c.args.self.now _ _ _ _ c.operation_found.ensures.exact c.in-Ok.ensures.exact in
-    meets_admitted c.args.self.now c.take_apart.new.self _ (replied replies.Code c.take_apart.result) _
+    meets_admitted c.args.self.now c.take_called.new.self _ (replied replies.Code c.take_called.result) _
     (reacts _ _ _ _ (λ q. on_stream c.args.self.now q.0 c.args.side (begun c.args.end.now.guest c.args.address q.1)) found
     (performs-on_end c.args.self.now c.args.side c.args.end.now (Operate c.args.address c.args.count)))
-    c.take_apart.ensures.meets
+    c.take_called.ensures.meets
 
 pub returns-in-Ok-clause-fits : goal.returns-in-Ok-clause-fits
 returns-in-Ok-clause-fits c =
