@@ -1,6 +1,6 @@
 -- What a turn does, by the held items that it handed over, or by the poll that it did.
 use Rattle.std.proofs.Common.{◌≡◌, ℕ, suc, ◌+◌, ◌<◌, ◌≤◌, ◌*◌, Bool, true, false, List, [], ◌∷◌, length, take, drop, Some, Result, Ok, Err, refl, sym, ap, ◌∙◌, arith, length-append, length-take}
-use Rattle.std.specs.Prelude.{◌^◌, ◌||◌, nat_lt, sum}
+use Rattle.std.specs.Prelude.{◌^◌, ◌||◌, nat_lt, sum, IsErrAnd}
 use Rattle.std.proofs.lemmas.List.{take-append-drop}
 use Rattle.std.proofs.lemmas.Bool.Decides.{nat_tests}
 use Rattle.strm_codes.specs.Layout.{scalars_of, item_size}
@@ -28,6 +28,11 @@ use Rattle.strm_producing.specs.Turning.{Scene, scene, handed_over, ended, Stopp
 use Rattle.strm_producing.specs.declared.turns.TurnError.{TurnError}
 use Rattle.strm_producing.specs.declared.turns.TurnError.TheVariants.{Failed, OutOfMemory, Broke}
 use Rattle.strm_producing.proofs.RegionLemmas.{lowered-none}
+
+-- an error that `?` hands on is the one that came
+pub handed_on : {T E : Type 0} {e : E} (r : Result T E) → IsErrAnd r (λ x. x ≡ e) → r ≡ Err e
+handed_on (Ok x) f = absurd f
+handed_on (Err x) f = ap Err f
 
 -- the address behind some of the items that a read has left
 pub room_behind : (guests : List Guest) (payload : Payload) (read : Operation) (n : ℕ) → IsPlaced (sizes_of guests) payload read → sum (sizes_of guests) ≤ memory_limit → read.address < 2 ^ 32 → n ≤ read.left → read.address + item_size (scalars_of payload) * n < 2 ^ 32

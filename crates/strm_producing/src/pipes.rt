@@ -81,10 +81,7 @@ pub fn fetch(
         Ok(polled) => polled,
         Err(_) => return Err(TurnError::OutOfMemory),
     };
-    match judge_fetch(kind, answer, items.len()) {
-        Ok(()) => {}
-        Err(error) => return Err(error),
-    }
+    judge_fetch(kind, answer, items.len())?;
     note_answer(producer, answer, 0);
     *kept = items;
     Ok(())
@@ -111,10 +108,7 @@ fn gather(
         return Err(OutOfMemory);
     }
     let mut window = Window::unbounded(alloc, kept.payload());
-    match give(writer, &mut window) {
-        Ok(()) => {}
-        Err(error) => return Err(error),
-    }
+    give(writer, &mut window)?;
     let given = window.into_items();
     if kept.len() == 0 {
         *kept = given;
@@ -184,10 +178,7 @@ pub fn offer(
         Ok(said) => said,
         Err(_) => return Err(TakeError::OutOfMemory),
     };
-    match judge(stream.kind(), &said) {
-        Ok(()) => {}
-        Err(error) => return Err(error),
-    }
+    judge(stream.kind(), &said)?;
     kept.skip(said.taken as usize);
     consumer.since = since_after(said.answer, since, said.taken);
     consumer.resting = said.answer == Answer::Pending;

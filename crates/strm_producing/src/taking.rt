@@ -89,10 +89,7 @@ fn poll_once(
         Ok(said) => said,
         Err(_) => return Err(TakeError::OutOfMemory),
     };
-    match judge(stream.kind(), &said) {
-        Ok(()) => {}
-        Err(error) => return Err(error),
-    }
+    judge(stream.kind(), &said)?;
     consumer.since = since_after(said.answer, since, said.taken);
     let count = count_of(said.taken);
     move_on(stream, Side::Writing, &write, count, result_of(said.answer));

@@ -152,10 +152,7 @@ fn poll_once(
         Err(_) => return Err(TurnError::OutOfMemory),
     };
     let held = held_by(writer);
-    match judge(stream.kind(), answer, &read, marked as usize + held) {
-        Ok(()) => {}
-        Err(error) => return Err(error),
-    }
+    judge(stream.kind(), answer, &read, marked as usize + held)?;
     note_answer(producer, answer, held);
     let count = count_of(marked);
     move_on(

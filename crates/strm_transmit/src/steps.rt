@@ -398,10 +398,8 @@ fn poll(store: &mut Store, guest: u32, set: u32) -> Result<Reply, StoreError>
     ensures settled { IfOk result (λ reply. IsTrue (is_settled reply)) }
     ensures takes_no_memory { result ≢ Err StoreError.OutOfMemory }
 {
-    match store.set_poll(guest, set) {
-        Ok(member) => Ok(Reply::Member(member)),
-        Err(error) => Err(error),
-    }
+    let member = store.set_poll(guest, set)?;
+    Ok(Reply::Member(member))
 }
 
 // What is done to the waitable set that a handle names.

@@ -50,10 +50,8 @@ fn make_set(guest: &mut Guest, counter: &mut HandleCounter) -> Result<u32, OutOf
         Ok(()) => {}
         Err(_) => return Err(OutOfMemory),
     }
-    match guest.sets.set_new() {
-        Ok(set) => Ok(insert_set(&mut guest.table, counter, set)),
-        Err(error) => Err(error),
-    }
+    let set = guest.sets.set_new()?;
+    Ok(insert_set(&mut guest.table, counter, set))
 }
 
 /// A waitable set more in a guest, without members, under its table's next handle: answers that.

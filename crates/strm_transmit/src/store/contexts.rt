@@ -167,10 +167,8 @@ impl Store {
             (react self.old (steps.ErrNew guest address len)) }
         ensures fits { StillFits self.old self.new }
     {
-        match self.admit(self.context_fits(guest, address, len)) {
-            Ok(()) => self.make_context(guest, address, len),
-            Err(error) => Err(error),
-        }
+        self.admit(self.context_fits(guest, address, len))?;
+        self.make_context(guest, address, len)
     }
 
     // How many bytes the message of an error context has.
@@ -187,15 +185,11 @@ impl Store {
         ensures { result ≡ or_found (refusal self.now (OnContext guest handle (Text address)))
             (context_number self.now guest handle) }
     {
-        match self.context_found(guest, handle) {
-            Ok(context) => {
-                if self.is_outside(guest, address, self.message_len(context) as usize) {
-                    return Err(Refusal::OutOfBounds);
-                }
-                Ok(context)
-            }
-            Err(refusal) => Err(refusal),
+        let context = self.context_found(guest, handle)?;
+        if self.is_outside(guest, address, self.message_len(context) as usize) {
+            return Err(Refusal::OutOfBounds);
         }
+        Ok(context)
     }
 
     // The message of an error context is put into the memory of a guest that has a handle to it.
@@ -227,10 +221,8 @@ impl Store {
         ensures fits { StillFits self.old self.new }
         ensures takes_no_memory { result ≢ Err StoreError.OutOfMemory }
     {
-        match self.admit(self.text_found(guest, handle, address)) {
-            Ok(context) => Ok(self.tell_context(guest, handle, address, context)),
-            Err(error) => Err(error),
-        }
+        let context = self.admit(self.text_found(guest, handle, address))?;
+        Ok(self.tell_context(guest, handle, address, context))
     }
 
     // The number of the error context that a handle of a guest names, where another guest may have a
@@ -243,12 +235,10 @@ impl Store {
         if self.is_unknown_guest(guest) || self.is_unknown_guest(to) {
             return Err(Refusal::UnknownGuest);
         }
-        match self.slot_found(guest, handle) {
-            Ok(context) => match self.handle_more_refusal(to) {
-                Some(refusal) => Err(refusal),
-                None => Ok(context),
-            },
-            Err(refusal) => Err(refusal),
+        let context = self.slot_found(guest, handle)?;
+        match self.handle_more_refusal(to) {
+            Some(refusal) => Err(refusal),
+            None => Ok(context),
         }
     }
 
@@ -284,10 +274,8 @@ impl Store {
         ensures fits { StillFits self.old self.new }
     {
         self.sound();
-        match self.admit(self.transfer_found(guest, handle, to)) {
-            Ok(context) => self.share(context, to),
-            Err(error) => Err(error),
-        }
+        let context = self.admit(self.transfer_found(guest, handle, to))?;
+        self.share(context, to)
     }
 
     // The number of the error context whose handle may be dropped.
@@ -317,13 +305,9 @@ impl Store {
         ensures fits { StillFits self.old self.new }
         ensures takes_no_memory { result ≢ Err StoreError.OutOfMemory }
     {
-        match self.admit(self.context_drop_found(guest, handle)) {
-            Ok(context) => {
-                self.drop_context(guest, handle, context);
-                Ok(())
-            }
-            Err(error) => Err(error),
-        }
+        let context = self.admit(self.context_drop_found(guest, handle))?;
+        self.drop_context(guest, handle, context);
+        Ok(())
     }
 
     /// The number of the error context that a handle names. Refused are an unknown guest, and what is
@@ -361,9 +345,7 @@ impl Store {
             (lowers_context self.old rep guest) }
         ensures fits { StillFits self.old self.new }
     {
-        match self.admit(self.lower_context_fits(rep, guest)) {
-            Ok(()) => self.share(rep, guest),
-            Err(error) => Err(error),
-        }
+        self.admit(self.lower_context_fits(rep, guest))?;
+        self.share(rep, guest)
     }
 }

@@ -157,10 +157,8 @@ impl Store {
     {
         let mut next = 0;
         while let Some(stream) = self.next_served(next) {
-            match self.drive_stream(hosts, stream) {
-                Ok(()) => next = stream + 1,
-                Err(error) => return Err(error),
-            }
+            self.drive_stream(hosts, stream)?;
+            next = stream + 1;
         }
         Ok(())
     }
@@ -172,9 +170,7 @@ impl Store {
         ensures meets { MeetsHosted self.old self.new (tells_of writer_tells reader_tells hosts.old)
             (tells_of writer_tells reader_tells hosts.new) (replied (λ _. replies.Done) result) Drive }
     {
-        match self.admit(Ok(())) {
-            Ok(()) => self.drive_all(hosts),
-            Err(error) => Err(error),
-        }
+        self.admit(Ok(()))?;
+        self.drive_all(hosts)
     }
 }

@@ -163,14 +163,10 @@ impl Store {
     {
         self.sound();
         self.served();
-        match self.admit(self.drop_found(side, end)) {
-            Ok(stream) => {
-                self.release(side, end, stream, Owner::Gone);
-                self.forsake(hosts, stream, side);
-                Ok(())
-            }
-            Err(error) => Err(error),
-        }
+        let stream = self.admit(self.drop_found(side, end))?;
+        self.release(side, end, stream, Owner::Gone);
+        self.forsake(hosts, stream, side);
+        Ok(())
     }
 
     /// Drops the read end of a stream.
@@ -292,10 +288,8 @@ impl Store {
         ensures fits { StillFits self.old self.new }
         ensures takes_no_memory { result ≢ Err StoreError.OutOfMemory }
     {
-        match self.admit(self.cancel_found(side, end)) {
-            Ok(stream) => Ok(self.cancel_on(stream, side)),
-            Err(error) => Err(error),
-        }
+        let stream = self.admit(self.cancel_found(side, end))?;
+        Ok(self.cancel_on(stream, side))
     }
 
     /// Cancels the read of a stream.

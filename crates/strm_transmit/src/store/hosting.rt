@@ -99,10 +99,7 @@ fn make_place(
     ensures ok { OnOk result (PlaceMade kept.old.items kept.new.items number stream.now.payload) }
     ensures err { OnErr result (HasGrown kept.old.items kept.new.items) }
 {
-    match grow(alloc, kept, number) {
-        Ok(()) => {}
-        Err(error) => return Err(error),
-    }
+    grow(alloc, kept, number)?;
     kept[number] = Items::new(alloc, stream.payload());
     Ok(())
 }
@@ -222,19 +219,15 @@ impl Store {
             (OnHost writer host_acts.New) }
     {
         self.served();
-        match self.admit(self.host_fits(hosts, writer)) {
-            Ok(()) => {
-                let number = writer as usize;
-                let holding = hosts.writer_held(number) > 0;
-                self.host(
-                    writer,
-                    hosts.writer_kind(number),
-                    hosts.writer_payload(number),
-                    holding,
-                )
-            }
-            Err(error) => Err(error),
-        }
+        self.admit(self.host_fits(hosts, writer))?;
+        let number = writer as usize;
+        let holding = hosts.writer_held(number) > 0;
+        self.host(
+            writer,
+            hosts.writer_kind(number),
+            hosts.writer_payload(number),
+            holding,
+        )
     }
 
     // Whether there is a host writer of this number.
@@ -256,12 +249,10 @@ impl Store {
             (tells_of writer_tells reader_tells hosts.new) (replied (λ _. replies.Done) result)
             (OnHost host (host_acts.Feed bytes.now)) }
     {
-        match self.admit(self.feed_fits(hosts, host, bytes)) {
-            Ok(()) => match hosts.feed(host as usize, bytes.as_slice()) {
-                Ok(()) => Ok(()),
-                Err(_) => Err(StoreError::OutOfMemory),
-            },
-            Err(error) => Err(error),
+        self.admit(self.feed_fits(hosts, host, bytes))?;
+        match hosts.feed(host as usize, bytes.as_slice()) {
+            Ok(()) => Ok(()),
+            Err(_) => Err(StoreError::OutOfMemory),
         }
     }
 
@@ -284,12 +275,10 @@ impl Store {
             (tells_of writer_tells reader_tells hosts.new) (replied (λ _. replies.Done) result)
             (OnHost host (host_acts.Grant count)) }
     {
-        match self.admit(self.grant_fits(hosts, host, count)) {
-            Ok(()) => match hosts.grant(host as usize, count) {
-                Ok(()) => Ok(()),
-                Err(_) => Err(StoreError::OutOfMemory),
-            },
-            Err(error) => Err(error),
+        self.admit(self.grant_fits(hosts, host, count))?;
+        match hosts.grant(host as usize, count) {
+            Ok(()) => Ok(()),
+            Err(_) => Err(StoreError::OutOfMemory),
         }
     }
 

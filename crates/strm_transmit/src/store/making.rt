@@ -175,10 +175,8 @@ impl Store {
             (react self.old (steps.Between writer reader ty)) }
         ensures fits { StillFits self.old self.new }
     {
-        match self.admit(self.pair_fits(writer, reader)) {
-            Ok(()) => self.make(writer, reader, ty),
-            Err(error) => Err(error),
-        }
+        self.admit(self.pair_fits(writer, reader))?;
+        self.make(writer, reader, ty)
     }
 
     /// A stream whose ends one guest gets: their handles go into its table, the read end's first.

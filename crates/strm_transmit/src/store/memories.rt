@@ -73,10 +73,8 @@ impl Store {
             (react self.old (steps.Guest size)) }
         ensures fits { StillFits self.old self.new }
     {
-        match self.admit(self.guest_fits(size)) {
-            Ok(()) => self.push_guest(size),
-            Err(error) => Err(error),
-        }
+        self.admit(self.guest_fits(size))?;
+        self.push_guest(size)
     }
 
     /// Whether there is a guest of this number.
@@ -146,13 +144,9 @@ impl Store {
         ensures fits { StillFits self.old self.new }
         ensures takes_no_memory { result ≢ Err StoreError.OutOfMemory }
     {
-        match self.admit(self.write_fits(guest, address, bytes)) {
-            Ok(()) => {
-                self.put_bytes(guest, address, bytes);
-                Ok(())
-            }
-            Err(error) => Err(error),
-        }
+        self.admit(self.write_fits(guest, address, bytes))?;
+        self.put_bytes(guest, address, bytes);
+        Ok(())
     }
 
     /// Bytes put into a guest's memory, from an address on.
@@ -190,9 +184,7 @@ impl Store {
             (react self.now (steps.Dump guest address len)) }
         ensures takes_no_memory { result ≢ Err StoreError.OutOfMemory }
     {
-        match self.admit(self.dump_fits(guest, address, len)) {
-            Ok(()) => Ok(self.bytes(guest, address, len)),
-            Err(error) => Err(error),
-        }
+        self.admit(self.dump_fits(guest, address, len))?;
+        Ok(self.bytes(guest, address, len))
     }
 }

@@ -135,12 +135,10 @@ impl Store {
         if self.is_unknown_guest(end.guest) || self.is_unknown_guest(to) {
             return Err(Refusal::UnknownGuest);
         }
-        match self.leaving(end) {
-            Ok(named) => match self.move_refusal(end, to) {
-                Some(refusal) => Err(refusal),
-                None => Ok(named),
-            },
-            Err(refusal) => Err(refusal),
+        let named = self.leaving(end)?;
+        match self.move_refusal(end, to) {
+            Some(refusal) => Err(refusal),
+            None => Ok(named),
         }
     }
 
@@ -178,10 +176,8 @@ impl Store {
         ensures fits { StillFits self.old self.new }
         ensures takes_no_memory { end.now.guest ≡ to → result ≢ Err StoreError.OutOfMemory }
     {
-        match self.admit(self.move_found(end, to)) {
-            Ok(found) => self.move_named(found, end, to),
-            Err(error) => Err(error),
-        }
+        let found = self.admit(self.move_found(end, to))?;
+        self.move_named(found, end, to)
     }
 
     /// Moves an end of a stream, the reading or the writing one, to another guest, or to the same: its
@@ -233,12 +229,10 @@ impl Store {
         if self.is_unknown_guest(end.guest) {
             return Err(Refusal::UnknownGuest);
         }
-        match self.found(side, end, EndAct::Lift) {
-            Ok(stream) => match self.lift_refusal(end) {
-                Some(refusal) => Err(refusal),
-                None => Ok(stream),
-            },
-            Err(refusal) => Err(refusal),
+        let stream = self.found(side, end, EndAct::Lift)?;
+        match self.lift_refusal(end) {
+            Some(refusal) => Err(refusal),
+            None => Ok(stream),
         }
     }
 
@@ -250,13 +244,9 @@ impl Store {
         ensures fits { StillFits self.old self.new }
         ensures takes_no_memory { result ≢ Err StoreError.OutOfMemory }
     {
-        match self.admit(self.lift_found(side, end)) {
-            Ok(stream) => {
-                self.release(side, end, stream, Owner::Loose);
-                Ok(stream)
-            }
-            Err(error) => Err(error),
-        }
+        let stream = self.admit(self.lift_found(side, end))?;
+        self.release(side, end, stream, Owner::Loose);
+        Ok(stream)
     }
 
     /// Takes the read end of a stream or future out of a guest: its handle is freed, the end is
@@ -330,10 +320,8 @@ impl Store {
             (react self.old (steps.Lower reader guest ty)) }
         ensures fits { StillFits self.old self.new }
     {
-        match self.admit(self.lower_fits(reader, guest, &ty)) {
-            Ok(()) => self.lower_loose(reader, guest, ty),
-            Err(error) => Err(error),
-        }
+        self.admit(self.lower_fits(reader, guest, &ty))?;
+        self.lower_loose(reader, guest, ty)
     }
 
     // Whether the loose read end of a stream may be dropped.
@@ -358,13 +346,9 @@ impl Store {
     {
         self.sound();
         self.served();
-        match self.admit(self.close_fits(reader)) {
-            Ok(()) => {
-                self.own(reader, Side::Reading, Owner::Gone);
-                self.forsake(hosts, reader, Side::Reading);
-                Ok(())
-            }
-            Err(error) => Err(error),
-        }
+        self.admit(self.close_fits(reader))?;
+        self.own(reader, Side::Reading, Owner::Gone);
+        self.forsake(hosts, reader, Side::Reading);
+        Ok(())
     }
 }

@@ -196,12 +196,8 @@ impl Store {
             (OnHost host (Pipe reader)) }
         ensures takes_no_memory { result ≢ Err StoreError.OutOfMemory }
     {
-        match self.admit(self.pipe_fits(hosts, reader, host)) {
-            Ok(()) => {
-                self.attach(hosts, reader, host);
-                Ok(())
-            }
-            Err(error) => Err(error),
-        }
+        self.admit(self.pipe_fits(hosts, reader, host))?;
+        self.attach(hosts, reader, host);
+        Ok(())
     }
 }

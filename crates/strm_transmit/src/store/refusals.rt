@@ -232,12 +232,10 @@ impl Store {
             ++ leave_reasons self.now end.now))
             (stream_named (named self.now end.now), side_named (named self.now end.now)) }
     {
-        match self.handle_found(end) {
-            Ok(named) => match leave_refusal(named.1, self.stream(named.0)) {
-                Some(refusal) => Err(refusal),
-                None => Ok(named),
-            },
-            Err(refusal) => Err(refusal),
+        let named = self.handle_found(end)?;
+        match leave_refusal(named.1, self.stream(named.0)) {
+            Some(refusal) => Err(refusal),
+            None => Ok(named),
         }
     }
 

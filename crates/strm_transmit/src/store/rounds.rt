@@ -322,9 +322,7 @@ impl Store {
             (tells_of writer_tells reader_tells hosts.old) (tells_of writer_tells reader_tells hosts.new)
             (λ world. pipe_round world stream writer reader) (λ world. fetches world stream writer reader))) }
     {
-        match self.fetch_if_due(hosts, stream, writer, reader) {
-            Ok(()) => self.offer_and_end(hosts, stream, writer, reader),
-            Err(error) => Err(error),
-        }
+        self.fetch_if_due(hosts, stream, writer, reader)?;
+        self.offer_and_end(hosts, stream, writer, reader)
     }
 }

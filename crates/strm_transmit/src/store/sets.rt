@@ -103,10 +103,8 @@ impl Store {
             (react self.old (steps.SetNew guest)) }
         ensures fits { StillFits self.old self.new }
     {
-        match self.admit(self.set_fits(guest)) {
-            Ok(()) => self.make_set(guest),
-            Err(error) => Err(error),
-        }
+        self.admit(self.set_fits(guest))?;
+        self.make_set(guest)
     }
 
     // The number of the set that is to be joined; set 0 is none.
@@ -131,13 +129,9 @@ impl Store {
         if self.is_unknown_guest(guest) {
             return Err(Refusal::UnknownGuest);
         }
-        match self.joined_found(guest, set) {
-            Ok(number) => match self.end_found(guest, handle) {
-                Ok(_) => Ok(number),
-                Err(refusal) => Err(refusal),
-            },
-            Err(refusal) => Err(refusal),
-        }
+        let number = self.joined_found(guest, set)?;
+        self.end_found(guest, handle)?;
+        Ok(number)
     }
 
     // A handle joins the set of a number, or leaves its own. After want of memory nothing has changed.
@@ -176,10 +170,8 @@ impl Store {
             (react self.old (steps.SetJoin guest set handle)) }
         ensures fits { StillFits self.old self.new }
     {
-        match self.admit(self.join_found(guest, set, handle)) {
-            Ok(number) => self.join_number(guest, set, handle, number),
-            Err(error) => Err(error),
-        }
+        let number = self.admit(self.join_found(guest, set, handle))?;
+        self.join_number(guest, set, handle, number)
     }
 
     /// Whether a guest's handle is in a waitable set. None is of a guest that isn't there.
@@ -291,10 +283,8 @@ impl Store {
         ensures fits { StillFits self.old self.new }
         ensures takes_no_memory { result ≢ Err StoreError.OutOfMemory }
     {
-        match self.admit(self.poll_found(guest, set)) {
-            Ok(number) => Ok(self.poll_number(guest, number)),
-            Err(error) => Err(error),
-        }
+        let number = self.admit(self.poll_found(guest, set))?;
+        Ok(self.poll_number(guest, number))
     }
 
     // Why a set may not be dropped.
@@ -318,12 +308,10 @@ impl Store {
         if self.is_unknown_guest(guest) {
             return Err(Refusal::UnknownGuest);
         }
-        match self.set_found(guest, set) {
-            Ok(number) => match self.drop_refusal(guest, number) {
-                Some(refusal) => Err(refusal),
-                None => Ok(number),
-            },
-            Err(refusal) => Err(refusal),
+        let number = self.set_found(guest, set)?;
+        match self.drop_refusal(guest, number) {
+            Some(refusal) => Err(refusal),
+            None => Ok(number),
         }
     }
 
@@ -346,12 +334,8 @@ impl Store {
         ensures fits { StillFits self.old self.new }
         ensures takes_no_memory { result ≢ Err StoreError.OutOfMemory }
     {
-        match self.admit(self.set_drop_found(guest, set)) {
-            Ok(number) => {
-                self.drop_number(guest, set, number);
-                Ok(())
-            }
-            Err(error) => Err(error),
-        }
+        let number = self.admit(self.set_drop_found(guest, set))?;
+        self.drop_number(guest, set, number);
+        Ok(())
     }
 }

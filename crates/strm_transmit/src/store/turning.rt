@@ -388,9 +388,7 @@ impl Store {
             → IsOk result }
     {
         self.open(stream, side, operation);
-        match self.host_turn(hosts, stream, side, number, &operation) {
-            Ok(()) => Ok(self.answer(stream, side)),
-            Err(error) => Err(error),
-        }
+        self.host_turn(hosts, stream, side, number, &operation)?;
+        Ok(self.answer(stream, side))
     }
 }

@@ -1,5 +1,6 @@
 use Rattle.std.proofs.Common.{refl, ◌+◌, ◌∙◌, arith}
 use Rattle.strm_world.proofs.DriveLemmas.{Does-drives_none}
+use Rattle.strm_producing.proofs.TurnLemmas.{handed_on}
 use Rattle.strm_transmit.proofs.DriveStoreLemmas.{drive_on, drive_end, ends_stop, drive_stop, drive_round, drive_wants}
 use Rattle.strm_transmit.proofs.WantsLemmas.{wanting_as}
 use Rattle.strm_transmit.proofs.store.Store.drive_all.Goals as goal
@@ -35,20 +36,21 @@ loop-stream-preserved g c =
     let next = c.in-Some.ensures.next in
     let made = c.in-Some.ensures.served.made next.side next.number c.in-Some.stream next.serves in
     record {
-      does = drive_on c.args.self.now c.loop-stream.self _ _ c.in-Some.ensures.served c.loop-stream.next i.does _ _ c.in-Some.stream _ next refl c.in-Ok.ensures.does;
-      fits = c.in-Ok.ensures.fits;
-      made = c.in-Ok.ensures.there ∙ i.made;
+      does = drive_on c.args.self.now c.loop-stream.self _ _ c.in-Some.ensures.served c.loop-stream.next i.does _ _ c.in-Some.stream _ next refl c.in_ok-drive_stream.ensures.does;
+      fits = c.in_ok-drive_stream.ensures.fits;
+      made = c.in_ok-drive_stream.ensures.there ∙ i.made;
       within = omega (arith, made, i.made);
     }
 
-pub returns-in-Err-clause-does : goal.returns-in-Err-clause-does
-returns-in-Err-clause-does g c =
-    let i = c.loop-stream.invariant in
+pub returns-in_err-drive_stream-clause-does : goal.returns-in_err-drive_stream-clause-does
+returns-in_err-drive_stream-clause-does g c =
+    rw (handed_on c.from_residual.result c.from_residual.ensures.1)
+    (let i = c.loop-stream.invariant in
     let next = c.in-Some.ensures.next in
     let made = c.in-Some.ensures.served.made next.side next.number c.in-Some.stream next.serves in
     drive_round c.args.self.now _ _ _ _
-    (drive_stop c.args.self.now _ _ _ (c.in-Some.stream + 1) _ c.in-Err.error c.in-Err.ensures.stop (omega (arith, made, i.made))
-    (drive_on c.args.self.now c.loop-stream.self _ _ c.in-Some.ensures.served c.loop-stream.next i.does _ _ c.in-Some.stream _ next (ends_stop c.in-Err.error c.in-Err.ensures.stop) c.in-Err.ensures.does))
+    (drive_stop c.args.self.now _ _ _ (c.in-Some.stream + 1) _ c.in_err-drive_stream.field-0.0 c.in_err-drive_stream.ensures.stop (omega (arith, made, i.made))
+    (drive_on c.args.self.now c.loop-stream.self _ _ c.in-Some.ensures.served c.loop-stream.next i.does _ _ c.in-Some.stream _ next (ends_stop c.in_err-drive_stream.field-0.0 c.in_err-drive_stream.ensures.stop) c.in_err-drive_stream.ensures.does)))
 
 pub returns-clause-does : goal.returns-clause-does
 returns-clause-does g c =
@@ -59,11 +61,12 @@ returns-clause-does g c =
 pub returns-clause-fits : goal.returns-clause-fits
 returns-clause-fits g c = c.loop-stream.invariant.fits
 
-pub returns-in-Err-clause-wanting : goal.returns-in-Err-clause-wanting
-returns-in-Err-clause-wanting g c =
-    let i = c.loop-stream.invariant in
+pub returns-in_err-drive_stream-clause-wanting : goal.returns-in_err-drive_stream-clause-wanting
+returns-in_err-drive_stream-clause-wanting g c =
+    rw (handed_on c.from_residual.result c.from_residual.ensures.1)
+    (let i = c.loop-stream.invariant in
     let next = c.in-Some.ensures.next in
     let made = c.in-Some.ensures.served.made next.side next.number c.in-Some.stream next.serves in
-    wanting_as c.in-Err.error
+    wanting_as c.in_err-drive_stream.field-0.0
     (drive_wants c.args.self.now c.loop-stream.self _ _ _ c.in-Some.ensures.served c.loop-stream.next i.does c.in-Some.stream next (omega (arith, made, i.made)))
-    c.in-Err.ensures.wanting
+    c.in_err-drive_stream.ensures.wanting)

@@ -2,17 +2,20 @@ use Rattle.std.proofs.Common.{refl, ◌∙◌}
 use Rattle.strm_machine.specs.Reactions.{performs}
 use Rattle.strm_machine.specs.declared.acts.Act.TheVariants.{OnMemory}
 use Rattle.strm_machine.specs.declared.acts.MemoryAct.TheVariants.{Dump}
+use Rattle.strm_producing.proofs.TurnLemmas.{handed_on}
 use Rattle.strm_transmit.proofs.StepLemmas.{is_admitted, reacts, meets_not_admitted}
 use Rattle.strm_transmit.proofs.store.Store.dump.Goals as goal
 
 pub bytes-requires-clause-may : goal.bytes-requires-clause-may
-bytes-requires-clause-may c = (is_admitted c.args.self.now _ _ _ _ c.dump_fits.ensures c.in-Ok.ensures.exact).none
+bytes-requires-clause-may c = (is_admitted c.args.self.now _ _ _ _ c.dump_fits.ensures c.in_ok-admit.ensures.exact).none
 
-pub returns-in-Ok-clause-meets : goal.returns-in-Ok-clause-meets
-returns-in-Ok-clause-meets c =
+pub returns-clause-meets : goal.returns-clause-meets
+returns-clause-meets c =
     reacts _ _ _ _ (λ _. performs c.args.self.now (OnMemory c.args.guest (Dump c.args.address c.args.len)))
-    (is_admitted c.args.self.now _ _ _ _ c.dump_fits.ensures c.in-Ok.ensures.exact) refl
+    (is_admitted c.args.self.now _ _ _ _ c.dump_fits.ensures c.in_ok-admit.ensures.exact) refl
     ∙ c.bytes.ensures
 
-pub returns-in-Err-clause-meets : goal.returns-in-Err-clause-meets
-returns-in-Err-clause-meets c = meets_not_admitted _ _ _ _ _ c.dump_fits.ensures c.in-Err.ensures.exact
+pub returns-in_err-admit-clause-meets : goal.returns-in_err-admit-clause-meets
+returns-in_err-admit-clause-meets c =
+    rw (handed_on c.from_residual.result c.from_residual.ensures.1)
+    (meets_not_admitted _ _ _ _ _ c.dump_fits.ensures c.in_err-admit.ensures.exact)

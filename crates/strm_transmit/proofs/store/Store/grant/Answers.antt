@@ -1,31 +1,34 @@
 use Rattle.std.proofs.Common.{◌≡◌, true, false, refl}
 use Rattle.strm_machine.specs.declared.acts.HostAct.TheVariants.{Grant}
 use Rattle.strm_machine.specs.declared.acts.Act.TheVariants.{OnHost}
+use Rattle.strm_producing.proofs.TurnLemmas.{handed_on}
 use Rattle.strm_transmit.proofs.HostStepLemmas.{hosted_not_admitted}
 use Rattle.strm_transmit.proofs.HostingLemmas.{no_logs, host_refusal-same, host_admitted, grant_fits, hosted_grant, hosted_wanting}
 use Rattle.strm_transmit.proofs.store.Store.grant.Goals as goal
 
 pub grant-requires : goal.grant-requires
 grant-requires g c =
-    grant_fits c.args.self.now _ c.args.host c.args.count (host_admitted _ _ _ (Grant c.args.count) _ c.grant_fits.ensures c.in-Ok.ensures.exact)
+    grant_fits c.args.self.now _ c.args.host c.args.count (host_admitted _ _ _ (Grant c.args.count) _ c.grant_fits.ensures c.in_ok-admit.ensures.exact)
 
-pub returns-in-Ok-grant : goal.returns-in-Ok-grant
-returns-in-Ok-grant g c =
+pub returns-in-Ok : goal.returns-in-Ok
+returns-in-Ok g c =
     record {
-      meets = hosted_grant c.args.self.now _ _ c.args.host c.args.count (host_admitted _ _ _ (Grant c.args.count) _ c.grant_fits.ensures c.in-Ok.ensures.exact)
-          c.requires.fits c.in-Ok-grant.ensures.ok;
-    }
-
-pub returns-in-Err-grant : goal.returns-in-Err-grant
-returns-in-Err-grant g c =
-    record {
-      meets = hosted_wanting c.args.self.now c.args.self.now _ _ c.args.host (Grant c.args.count) (host_admitted _ _ _ (Grant c.args.count) _ c.grant_fits.ensures c.in-Ok.ensures.exact)
-          c.requires.fits refl c.in-Err-grant.ensures.err;
+      meets = hosted_grant c.args.self.now _ _ c.args.host c.args.count (host_admitted _ _ _ (Grant c.args.count) _ c.grant_fits.ensures c.in_ok-admit.ensures.exact)
+          c.requires.fits c.in-Ok.ensures.ok;
     }
 
 pub returns-in-Err : goal.returns-in-Err
 returns-in-Err g c =
     record {
-      meets = hosted_not_admitted c.args.self.now _ (OnHost c.args.host (Grant c.args.count)) _ _ _ _ (λ logs. host_refusal-same c.args.self.now _ c.args.host (Grant c.args.count) logs no_logs) (c.grant_fits.ensures no_logs) c.in-Err.ensures.exact c.requires.fits
-          (λ u. let no : true ≡ false = u in cc);
+      meets = hosted_wanting c.args.self.now c.args.self.now _ _ c.args.host (Grant c.args.count) (host_admitted _ _ _ (Grant c.args.count) _ c.grant_fits.ensures c.in_ok-admit.ensures.exact)
+          c.requires.fits refl c.in-Err.ensures.err;
+    }
+
+pub returns-in_err-admit : goal.returns-in_err-admit
+returns-in_err-admit g c =
+    record {
+      meets =
+          rw (handed_on c.from_residual.result c.from_residual.ensures.1)
+          (hosted_not_admitted c.args.self.now _ (OnHost c.args.host (Grant c.args.count)) _ _ _ _ (λ logs. host_refusal-same c.args.self.now _ c.args.host (Grant c.args.count) logs no_logs) (c.grant_fits.ensures no_logs) c.in_err-admit.ensures.exact c.requires.fits
+          (λ u. let no : true ≡ false = u in cc));
     }

@@ -1,19 +1,22 @@
 use Rattle.std.proofs.Common.{refl, ◌∙◌}
 use Rattle.strm_machine.specs.WaitableSets.{ready_member}
 use Rattle.strm_machine.specs.Reactions.{polls, performs}
+use Rattle.strm_producing.proofs.TurnLemmas.{handed_on}
 use Rattle.strm_transmit.proofs.StepLemmas.{is_admitted, reacts, meets_not_admitted}
 use Rattle.strm_transmit.proofs.StillLemmas.{done_fits}
 use Rattle.strm_transmit.proofs.store.Store.set_poll.Goals as goal
 
-pub returns-in-Ok-clause-meets : goal.returns-in-Ok-clause-meets
+pub returns-clause-meets : goal.returns-clause-meets
 unfolding performs
-returns-in-Ok-clause-meets c =
+returns-clause-meets c =
     reacts _ _ _ _ (λ n. polls c.args.self.now c.args.guest (ready_member c.args.self.now c.args.guest n))
-    (is_admitted c.args.self.now _ _ _ _ c.poll_found.ensures.exact c.in-Ok.ensures.exact) refl
+    (is_admitted c.args.self.now _ _ _ _ c.poll_found.ensures.exact c.in_ok-number.ensures.exact) refl
     ∙ c.poll_number.ensures
 
-pub returns-in-Err-clause-meets : goal.returns-in-Err-clause-meets
-returns-in-Err-clause-meets c = meets_not_admitted _ _ _ _ _ c.poll_found.ensures.exact c.in-Err.ensures.exact
+pub returns-in_err-number-clause-meets : goal.returns-in_err-number-clause-meets
+returns-in_err-number-clause-meets c =
+    rw (handed_on c.from_residual.result c.from_residual.ensures.1)
+    (meets_not_admitted _ _ _ _ _ c.poll_found.ensures.exact c.in_err-number.ensures.exact)
 
-pub returns-in-Ok-clause-fits : goal.returns-in-Ok-clause-fits
-returns-in-Ok-clause-fits c = done_fits _ _ _ _ c.in-Ok.ensures.sound c.in-Ok.ensures.served (returns-in-Ok-clause-meets c)
+pub returns-clause-fits : goal.returns-clause-fits
+returns-clause-fits c = done_fits _ _ _ _ c.in_ok-number.ensures.sound c.in_ok-number.ensures.served (returns-clause-meets c)

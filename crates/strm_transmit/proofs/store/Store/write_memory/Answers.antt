@@ -2,21 +2,24 @@ use Rattle.std.proofs.Common.{refl, ◌∙◌}
 use Rattle.strm_machine.specs.Reactions.{performs}
 use Rattle.strm_machine.specs.declared.acts.Act.TheVariants.{OnMemory}
 use Rattle.strm_machine.specs.declared.acts.MemoryAct.TheVariants.{Poke}
+use Rattle.strm_producing.proofs.TurnLemmas.{handed_on}
 use Rattle.strm_transmit.proofs.StepLemmas.{is_admitted, reacts, meets_not_admitted}
 use Rattle.strm_transmit.proofs.StillLemmas.{done_fits}
 use Rattle.strm_transmit.proofs.store.Store.write_memory.Goals as goal
 
 pub put_bytes-requires : goal.put_bytes-requires
-put_bytes-requires c = (is_admitted c.args.self.now _ _ _ _ c.write_fits.ensures c.in-Ok.ensures.exact).none
+put_bytes-requires c = (is_admitted c.args.self.now _ _ _ _ c.write_fits.ensures c.in_ok-admit.ensures.exact).none
 
-pub returns-in-Ok-clause-meets : goal.returns-in-Ok-clause-meets
-returns-in-Ok-clause-meets c =
+pub returns-clause-meets : goal.returns-clause-meets
+returns-clause-meets c =
     reacts _ _ _ _ (λ _. performs c.args.self.now (OnMemory c.args.guest (Poke c.args.address c.args.bytes.now)))
-    (is_admitted c.args.self.now _ _ _ _ c.write_fits.ensures c.in-Ok.ensures.exact) refl
+    (is_admitted c.args.self.now _ _ _ _ c.write_fits.ensures c.in_ok-admit.ensures.exact) refl
     ∙ c.put_bytes.ensures
 
-pub returns-in-Err-clause-meets : goal.returns-in-Err-clause-meets
-returns-in-Err-clause-meets c = meets_not_admitted _ _ _ _ _ c.write_fits.ensures c.in-Err.ensures.exact
+pub returns-in_err-admit-clause-meets : goal.returns-in_err-admit-clause-meets
+returns-in_err-admit-clause-meets c =
+    rw (handed_on c.from_residual.result c.from_residual.ensures.1)
+    (meets_not_admitted _ _ _ _ _ c.write_fits.ensures c.in_err-admit.ensures.exact)
 
-pub returns-in-Ok-clause-fits : goal.returns-in-Ok-clause-fits
-returns-in-Ok-clause-fits c = done_fits _ _ _ _ c.in-Ok.ensures.sound c.in-Ok.ensures.served (returns-in-Ok-clause-meets c)
+pub returns-clause-fits : goal.returns-clause-fits
+returns-clause-fits c = done_fits _ _ _ _ c.in_ok-admit.ensures.sound c.in_ok-admit.ensures.served (returns-clause-meets c)
