@@ -10,7 +10,9 @@
      between the two. It is not copied, and freed once.
    - One call at a time is made on a store, from whichever thread, and none from a signal handler.
    - Pointers are not NULL, also where a length is 0, and what they point at is nobody else's during the call.
-   - A guest's memory, by strm_memory_at, is read and written between calls only, never during one.
+   - A guest's memory, by strm_memory_at, is read and written between calls only, never during one. Its block
+     is the store's: nobody else frees it or hands it to realloc, whatever the length, as an engine that grows
+     its memories would.
    - malloc, realloc and free are one allocator for all of the program.
    All else is answered: any number may be passed as a guest, a handle, an address, a count or a payload. */
 #ifndef STRM_H

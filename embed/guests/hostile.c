@@ -1,5 +1,5 @@
-/* Calls one import after the other, at random, with arguments at random. Each call of `attack` is one such
-   call; what is refused traps the guest there. */
+/* Calls one import after the other, or has its memory grow, at random, with arguments at random. Each call of
+   `attack` is one such call; what is refused traps the guest there. */
 #include "canon.h"
 
 static uint32_t seed = 1;
@@ -20,9 +20,17 @@ static uint32_t number(void) {
     }
 }
 
+/* How many answers of memory.grow were others than a memory of one size has: its pages to 0, and -1 to more. */
+static uint32_t wrong;
+
+static void grow(uint32_t pages) {
+    uint32_t wanted = pages == 0 ? __builtin_wasm_memory_size(0) : 0xffffffffu;
+    wrong += __builtin_wasm_memory_grow(0, pages) != wanted;
+}
+
 EXPORT("attack") void attack(void) {
     uint32_t a = number(), b = number(), c = number();
-    switch (draw() % 20) {
+    switch (draw() % 22) {
     case 0: stream_new(); break;
     case 1: stream_read(a, (void *)b, c); break;
     case 2: stream_write(a, (void *)b, c); break;
@@ -42,6 +50,10 @@ EXPORT("attack") void attack(void) {
     case 16: waitable_set_poll(a, (uint32_t *)b); break;
     case 17: waitable_set_drop(a); break;
     case 18: error_context_new((void *)a, b % 8192); break;
-    default: error_context_drop(a); break;
+    case 19: error_context_drop(a); break;
+    case 20: grow(0); break;
+    default: grow(a); break;
     }
 }
+
+EXPORT("wrong") uint32_t get_wrong(void) { return wrong; }

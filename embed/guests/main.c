@@ -158,6 +158,14 @@ static bool attack(guest *guest) {
     return true;
 }
 
+/* Whether a guest's memory is still the store's memory of it, as long as it was. */
+static bool has_its_memory(line *line, const guest *guest) {
+    uint8_t *at = NULL;
+    size_t len = 0;
+    return strm_memory_at(&line->store, guest->canon.number, &at, &len) == STRM_DONE &&
+           guest->env.memory.data == at && guest->env.memory.size == len && len == MEMORY;
+}
+
 static void run_hostile(uint32_t size, uint32_t calls) {
     static uint8_t before[GUESTS][MEMORY];
     line line;
@@ -176,6 +184,8 @@ static void run_hostile(uint32_t size, uint32_t calls) {
         strm_moved(&line.store, k, &now[k]);
         must(then[k].low == now[k].low, "another guest's stream moved");
     }
+    for (int k = 0; k < GUESTS; k++) must(has_its_memory(&line, line.guests[k]), "a memory moved");
+    must(has_its_memory(&line, enemy) && Z_hostileZ_wrong(enemy->instance) == 0, "the hostile guest's memory moved or grew");
     printf("hostile: %u calls, %u done, %u refused\n", calls, done, calls - done);
     must(turns(&line, 0xffffffff), "no end");
     guest_free(enemy);
