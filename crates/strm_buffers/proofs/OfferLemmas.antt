@@ -218,17 +218,17 @@ module _ (o : Offered) (wanted : ℕ) (s : IsOffer o.payload o.source o.taken o.
       }
 
 -- the bytes of those that are taken of a memory
-pub taken_lie : (payload : Payload) (source : Source) (memory : LinearMemory) (address count taken : ℕ) (bad : Bool) (new : List ℕ) → IsOffer payload source taken bad → source ≡ Region memory address count → IsBytes memory.bytes
-    → new ≡ take (item_size (scalars_of payload) * taken) (drop address memory.bytes) → length new ≡ item_size (scalars_of payload) * taken → Lie (scalars_of payload) new 0 taken (first_lent (scalars_of payload) source taken)
-taken_lie payload source memory address count taken bad new o e b is size =
-    let ss = scalars_of payload in
-    let lent = drop address memory.bytes in
-    let w = item_size ss * taken in
-    let good = subst (λ (s : Source). taken ≤ length (good_lent ss s)) e o.good in
-    let are = good_take ss lent count taken good in
-    let same : take w new ≡ take w lent = ap (take w) is ∙ take-take w w lent (omega arith) in
-    let lie = lie_made ss new 0 taken (take taken (good_items ss lent count)) (omega (arith, size)) (items-same ss lent new taken same ∙ are) (AreItems-items ss lent taken _ (IsBytes-drop memory.bytes address b) are) in
-    record { lie = lie.lie; is = lie.is ∙ sym (ap (λ (s : Source). first_lent ss s taken) e ∙ ap listed are) }
+module _ (payload : Payload) (source : Source) (memory : LinearMemory) (address count taken : ℕ) (bad : Bool) (o : IsOffer payload source taken bad) (e : source ≡ Region memory address count) (b : IsBytes memory.bytes) where
+  pub taken_lie : (new : List ℕ) → let w = item_size (scalars_of payload) * taken in new ≡ take w (drop address memory.bytes) → length new ≡ w → Lie (scalars_of payload) new 0 taken (first_lent (scalars_of payload) source taken)
+  taken_lie new is size =
+      let ss = scalars_of payload in
+      let lent = drop address memory.bytes in
+      let w = item_size ss * taken in
+      let good = subst (λ (s : Source). taken ≤ length (good_lent ss s)) e o.good in
+      let are = good_take ss lent count taken good in
+      let same : take w new ≡ take w lent = ap (take w) is ∙ take-take w w lent (omega arith) in
+      let lie = lie_made ss new 0 taken (take taken (good_items ss lent count)) (omega (arith, size)) (items-same ss lent new taken same ∙ are) (AreItems-items ss lent taken _ (IsBytes-drop memory.bytes address b) are) in
+      record { lie = lie.lie; is = lie.is ∙ sym (ap (λ (s : Source). first_lent ss s taken) e ∙ ap listed are) }
 
 -- where the item behind so many of a memory lies
 pub behind_fits : (payload : Payload) (memory : LinearMemory) (address count taken : ℕ) (source : Source) → IsSource payload source → source ≡ Region memory address count → taken < count → address + item_size (scalars_of payload) * taken + item_size (scalars_of payload) ≤ length memory.bytes

@@ -50,23 +50,23 @@ pub record KeptMore (payload : Payload) (bytes new : List ℕ) (saids news : Lis
   pub taken : AreTaken payload new news
   pub is : items_in (scalars_of payload) new 0 (taken_in news) ≡ items_in (scalars_of payload) bytes 0 (taken_in saids) ++ took
 
-pub kept_more : (payload : Payload) (bytes given new : List ℕ) (saids news : List ReaderSaid) (said : ReaderSaid) (took : List Item) → IsBytes bytes → AreTaken payload bytes saids → new ≡ bytes ++ given → news ≡ saids ++ said ∷ []
-    → LieIn (scalars_of payload) given 0 said.taken → items_in (scalars_of payload) given 0 said.taken ≡ took → length given ≡ item_size (scalars_of payload) * said.taken → KeptMore payload bytes new saids news took
-kept_more payload bytes given new saids news said took b a e f l i size =
-    let ss = scalars_of payload in
-    let w = item_size ss in
-    let n = taken_in saids in
-    let count : taken_in news ≡ n + said.taken = ap taken_in f ∙ taken_in-more saids said in
-    let more : w * (n + said.taken) ≡ w * n + w * said.taken = grind arith in
-    let old = taken_lie payload bytes saids b a in
-    let behind = lie_more ss bytes given 0 n said.taken (items_in ss given 0 said.taken) (record { lie = old; all = omega (arith, a.all) }) (lie_is ss given 0 said.taken l) l.fit (omega (arith, size)) in
-    let all : bytes ++ take (w * said.taken) given ≡ new = ap (λ xs. bytes ++ xs) (take_all (w * said.taken) given (omega (arith, size))) ∙ sym e in
-    let lie : Lie ss new 0 (taken_in news) (items_in ss bytes 0 n ++ items_in ss given 0 said.taken) =
-    subst (λ m. Lie ss new 0 m (items_in ss bytes 0 n ++ items_in ss given 0 said.taken)) (sym count) (subst (λ xs. Lie ss xs 0 (n + said.taken) (items_in ss bytes 0 n ++ items_in ss given 0 said.taken)) all behind) in
-    record {
-      taken = record { all = ap length e ∙ omega (arith, length-append bytes given, a.all, size, more, ap (λ m. w * m) count); good = lie.lie.good };
-      is = lie.is ∙ ap (λ xs. items_in ss bytes 0 n ++ xs) i;
-    }
+module _ (payload : Payload) (bytes given new : List ℕ) (saids news : List ReaderSaid) (said : ReaderSaid) (took : List Item) (b : IsBytes bytes) (a : AreTaken payload bytes saids) (e : new ≡ bytes ++ given) (f : news ≡ saids ++ said ∷ []) where
+  pub kept_more : let ss = scalars_of payload in LieIn ss given 0 said.taken → items_in ss given 0 said.taken ≡ took → length given ≡ item_size ss * said.taken → KeptMore payload bytes new saids news took
+  kept_more l i size =
+      let ss = scalars_of payload in
+      let w = item_size ss in
+      let n = taken_in saids in
+      let count : taken_in news ≡ n + said.taken = ap taken_in f ∙ taken_in-more saids said in
+      let more : w * (n + said.taken) ≡ w * n + w * said.taken = grind arith in
+      let old = taken_lie payload bytes saids b a in
+      let behind = lie_more ss bytes given 0 n said.taken (items_in ss given 0 said.taken) (record { lie = old; all = omega (arith, a.all) }) (lie_is ss given 0 said.taken l) l.fit (omega (arith, size)) in
+      let all : bytes ++ take (w * said.taken) given ≡ new = ap (λ xs. bytes ++ xs) (take_all (w * said.taken) given (omega (arith, size))) ∙ sym e in
+      let lie : Lie ss new 0 (taken_in news) (items_in ss bytes 0 n ++ items_in ss given 0 said.taken) =
+      subst (λ m. Lie ss new 0 m (items_in ss bytes 0 n ++ items_in ss given 0 said.taken)) (sym count) (subst (λ xs. Lie ss xs 0 (n + said.taken) (items_in ss bytes 0 n ++ items_in ss given 0 said.taken)) all behind) in
+      record {
+        taken = record { all = ap length e ∙ omega (arith, length-append bytes given, a.all, size, more, ap (λ m. w * m) count); good = lie.lie.good };
+        is = lie.is ∙ ap (λ xs. items_in ss bytes 0 n ++ xs) i;
+      }
 
 -- and what it tells of them, where it keeps them
 pub kept_holds : (keeps : Bool) (payload : Payload) (bytes new : List ℕ) (saids news : List ReaderSaid) (took : List Item) → (keeps ≡ true → KeptMore payload bytes new saids news took)
@@ -75,13 +75,12 @@ kept_holds true payload bytes new saids news took h = ap Some (h refl).is
 kept_holds false payload bytes new saids news took h = refl
 
 -- after a poll that did a turn
-pub polled_more : (payload : Payload) (old new : Offered) (wanted : ℕ) (bytes given kept : List ℕ) (saids news : List ReaderSaid) (finish : Bool) (answer : Answer) → old.payload ≡ payload → new ≡ after_taking wanted old → IsBytes bytes → AreTaken payload bytes saids
-    → kept ≡ bytes ++ given → news ≡ saids ++ reader_record old new finish answer ∷ [] → LieIn (scalars_of new.payload) given 0 new.taken → items_in (scalars_of new.payload) given 0 new.taken ≡ first_lent (scalars_of new.payload) new.source new.taken
-    → length given ≡ item_size (scalars_of new.payload) * new.taken → KeptMore payload bytes kept saids news (first_lent (scalars_of old.payload) old.source new.taken)
-polled_more payload old new wanted bytes given kept saids news finish answer h e b a k f lie items size =
-    let p : new.payload ≡ payload = ap (λ (o : Offered). o.payload) e ∙ h in
-    let s = ap (λ (o : Offered). o.source) e in
-    let took = subst (λ q. items_in (scalars_of q) given 0 new.taken ≡ first_lent (scalars_of q) new.source new.taken) p items
-    ∙ ap (λ src. first_lent (scalars_of payload) src new.taken) s ∙ ap (λ q. first_lent (scalars_of q) old.source new.taken) (sym h) in
-    kept_more payload bytes given kept saids news (reader_record old new finish answer) _ b a k f
-    (subst (λ q. LieIn (scalars_of q) given 0 new.taken) p lie) took (subst (λ q. length given ≡ item_size (scalars_of q) * new.taken) p size)
+module _ (payload : Payload) (old new : Offered) (wanted : ℕ) (bytes given kept : List ℕ) (saids news : List ReaderSaid) (finish : Bool) (answer : Answer) (h : old.payload ≡ payload) (e : new ≡ after_taking wanted old) (b : IsBytes bytes) (a : AreTaken payload bytes saids) (k : kept ≡ bytes ++ given) (f : news ≡ saids ++ reader_record old new finish answer ∷ []) where
+  pub polled_more : let ss = scalars_of new.payload in LieIn ss given 0 new.taken → items_in ss given 0 new.taken ≡ first_lent ss new.source new.taken → length given ≡ item_size ss * new.taken → KeptMore payload bytes kept saids news (first_lent (scalars_of old.payload) old.source new.taken)
+  polled_more lie items size =
+      let p : new.payload ≡ payload = ap (λ (o : Offered). o.payload) e ∙ h in
+      let s = ap (λ (o : Offered). o.source) e in
+      let took = subst (λ q. items_in (scalars_of q) given 0 new.taken ≡ first_lent (scalars_of q) new.source new.taken) p items
+      ∙ ap (λ src. first_lent (scalars_of payload) src new.taken) s ∙ ap (λ q. first_lent (scalars_of q) old.source new.taken) (sym h) in
+      kept_more payload bytes given kept saids news (reader_record old new finish answer) _ b a k f
+      (subst (λ q. LieIn (scalars_of q) given 0 new.taken) p lie) took (subst (λ q. length given ≡ item_size (scalars_of q) * new.taken) p size)

@@ -15,7 +15,7 @@ returns-in-Region-clause-lie c =
     let bytes = subst IsBytes c.bytes-bytes.ensures c.are_bytes.ensures in
     let is : new ≡ take (item_size (scalars_of o.payload) * o.taken) (drop r.address r.memory.bytes) = rw (← c.size.ensures.exact, ← c.bytes-bytes.ensures, ← c.split_at.ensures.back) c.split_at-in-Region.ensures.front in
     let size : length new ≡ item_size (scalars_of o.payload) * o.taken = c.split_at-in-Region.ensures.front_len ∙ ap (λ w. w * o.taken) c.size.ensures.exact in
-    subst (λ (v : Offered). LieIn (scalars_of v.payload) new 0 v.taken) c.self.view_is (taken_lie o.payload o.source r.memory r.address r.count o.taken o.bad new c.self.invariant r.is bytes is size).lie
+    subst (λ (v : Offered). LieIn (scalars_of v.payload) new 0 v.taken) c.self.view_is (taken_lie o.payload o.source r.memory r.address r.count o.taken o.bad c.self.invariant r.is bytes new is size).lie
 
 pub returns-in-Region-clause-items : goal.returns-in-Region-clause-items
 returns-in-Region-clause-items c =
@@ -26,4 +26,4 @@ returns-in-Region-clause-items c =
     let is : new ≡ take (item_size (scalars_of o.payload) * o.taken) (drop r.address r.memory.bytes) = rw (← c.size.ensures.exact, ← c.bytes-bytes.ensures, ← c.split_at.ensures.back) c.split_at-in-Region.ensures.front in
     let size : length new ≡ item_size (scalars_of o.payload) * o.taken = c.split_at-in-Region.ensures.front_len ∙ ap (λ w. w * o.taken) c.size.ensures.exact in
     subst (λ (v : Offered). items_in (scalars_of v.payload) new 0 v.taken ≡ first_lent (scalars_of v.payload) v.source v.taken) c.self.view_is
-    (taken_lie o.payload o.source r.memory r.address r.count o.taken o.bad new c.self.invariant r.is bytes is size).is
+    (taken_lie o.payload o.source r.memory r.address r.count o.taken o.bad c.self.invariant r.is bytes new is size).is
