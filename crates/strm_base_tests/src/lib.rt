@@ -11,6 +11,8 @@ mod codes;
 #[cfg(test)]
 mod contexts;
 #[cfg(test)]
+mod errors;
+#[cfg(test)]
 mod handles;
 #[cfg(test)]
 mod ids;

@@ -1,7 +1,7 @@
 -- The items that an offer lends.
 use Rattle.std.proofs.Common.{◌≡◌, ℕ, zero, suc, ◌+◌, ◌*◌, ◌-◌, ◌<◌, ◌≤◌, List, [], ◌∷◌, length, take, drop, min, Bool, true, false, Option, Some, None, refl, sym, ap, subst, ◌∙◌, arith, length-drop}
 use Rattle.std.proofs.lemmas.Bool.Decides.{nat_tests}
-use Rattle.std.proofs.lemmas.List.{drop-map, drop-drop, drop-take, take_all, length-take-le}
+use Rattle.std.proofs.lemmas.List.{drop-map, drop-drop, drop-take, take-take, take_all, length-take-le}
 use Rattle.std.proofs.lemmas.Option.{slice_get_within, slice_get_past}
 use Rattle.std.specs.Bool.{then_some}
 use Rattle.std.specs.Prelude.{slice_get, nat_lt, ◌||◌, ◌&&◌, if◌then◌else◌, IsTrue, IsSome}
@@ -14,13 +14,14 @@ use Rattle.strm_codes.specs.Items.{FitsItem}
 use Rattle.strm_memory.specs.Bytes.{IsBytes, bytes_at}
 use Rattle.strm_memory.specs.Items.{decode, items, byte_items, is_number_or_none}
 use Rattle.strm_memory.proofs.ItemLemmas.{item_fits}
-use Rattle.strm_memory.proofs.AppendLemmas.{items-bytes}
+use Rattle.strm_memory.proofs.AppendLemmas.{items-bytes, items-same}
 use Rattle.strm_memory.proofs.ByteLemmas.{IsBytes-drop}
 use Rattle.strm_memory.proofs.RegionLemmas.{AreItems-items, items-number_or_none}
 use Rattle.strm_memory.specs.Linear.{LinearMemory}
 use Rattle.strm_buffers.specs.Listing.{Item, TypedItems, listed, items_in, good_items}
 use Rattle.strm_buffers.specs.Offers.{Offered, items_lent, item_behind, good_lent, left_of, is_cut, asks_bad, after_taking, IsSource, IsBadNext, IsOffer, Shows}
 use Rattle.strm_buffers.specs.Tells.{first_lent}
+use Rattle.strm_buffers.proofs.ListingLemmas.{Lie, lie_made}
 use Rattle.strm_buffers.proofs.GoodLemmas.{length-good_items, behind_good, good_take, good_counted, one_there}
 use Rattle.strm_buffers.specs.declared.sources.Source.{Source}
 use Rattle.strm_buffers.specs.declared.sources.Source.TheVariants.{Region, Listed}
@@ -215,6 +216,19 @@ module _ (o : Offered) (wanted : ℕ) (s : IsOffer o.payload o.source o.taken o.
         good = good;
         next = λ b. stops o.bad refl b;
       }
+
+-- the bytes of those that are taken of a memory
+module _ (payload : Payload) (source : Source) (memory : LinearMemory) (address count taken : ℕ) (bad : Bool) (o : IsOffer payload source taken bad) (e : source ≡ Region memory address count) (b : IsBytes memory.bytes) where
+  pub taken_lie : (new : List ℕ) → let w = item_size (scalars_of payload) * taken in new ≡ take w (drop address memory.bytes) → length new ≡ w → Lie (scalars_of payload) new 0 taken (first_lent (scalars_of payload) source taken)
+  taken_lie new is size =
+      let ss = scalars_of payload in
+      let lent = drop address memory.bytes in
+      let w = item_size ss * taken in
+      let good = subst (λ (s : Source). taken ≤ length (good_lent ss s)) e o.good in
+      let are = good_take ss lent count taken good in
+      let same : take w new ≡ take w lent = ap (take w) is ∙ take-take w w lent (omega arith) in
+      let lie = lie_made ss new 0 taken (take taken (good_items ss lent count)) (omega (arith, size)) (items-same ss lent new taken same ∙ are) (AreItems-items ss lent taken _ (IsBytes-drop memory.bytes address b) are) in
+      record { lie = lie.lie; is = lie.is ∙ sym (ap (λ (s : Source). first_lent ss s taken) e ∙ ap listed are) }
 
 -- where the item behind so many of a memory lies
 pub behind_fits : (payload : Payload) (memory : LinearMemory) (address count taken : ℕ) (source : Source) → IsSource payload source → source ≡ Region memory address count → taken < count → address + item_size (scalars_of payload) * taken + item_size (scalars_of payload) ≤ length memory.bytes

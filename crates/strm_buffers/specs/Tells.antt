@@ -44,6 +44,10 @@ pub record ReaderTells : Type 0 where
   pub closed : Bool
   pub heard : Heard ℕ
 
+-- what a host writer holds are items of its payload
+abbrev pub HoldsItems : WriterTells → Type 0
+HoldsItems tells = AreItems (scalars_of tells.payload) tells.holds
+
 -- what all host ends tell, by their numbers
 pub record Tells : Type 0 where
   pub writers : List WriterTells

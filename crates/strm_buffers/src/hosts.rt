@@ -1,8 +1,8 @@
 //! The host ends of a store. Ours.
 
-ghost use Rattle.std.specs.Prelude.{◌≡◌, ◌<◌, length, OnOk, OnErr};
+ghost use Rattle.std.specs.Prelude.{◌≡◌, ◌<◌, All, length, OnOk, OnErr};
 ghost use Rattle.strm_buffers.specs.AllTells.{boxes_tell};
-ghost use Rattle.strm_buffers.specs.Tells.{told_by, with_told, ClosesWriter, fed, told_by_reader, with_told_reader, closed_reader, granted};
+ghost use Rattle.strm_buffers.specs.Tells.{HoldsItems, told_by, with_told, ClosesWriter, fed, told_by_reader, with_told_reader, closed_reader, granted};
 
 use crate::boxes;
 use crate::readers::HostReader;
@@ -50,6 +50,16 @@ impl Hosts {
         ensures { result ≡ length (told_by (boxes_tell writer_tells reader_tells self.now) n).holds }
     {
         boxes::held_by(&self.writers[n])
+    }
+
+    /// What each host writer holds are items of its payload: what a caller may have to know of boxes that
+    /// it was given. It asks each how many it holds, and changes nothing.
+    pub fn sound(&self)
+        ensures { All HoldsItems (boxes_tell writer_tells reader_tells self.now).writers }
+    {
+        for n in 0..self.count_writers() {
+            let _ = boxes::held_by(&self.writers[n]);
+        }
     }
 
     /// `HostWriter::feed`.

@@ -129,6 +129,7 @@ impl Items {
         ensures lie { LieIn (scalars_of self.now.payload) result.now 0 count }
         ensures items { items_in (scalars_of self.now.payload) result.now 0 count
             ≡ take count (drop start self.now.items) }
+        ensures all { length result.now ≡ item_size (scalars_of self.now.payload) * count }
     {
         let size = self.payload.size() as usize;
         let (_, behind) = self.bytes().split_at(size * start);

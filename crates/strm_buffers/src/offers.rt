@@ -10,6 +10,8 @@ ghost use Rattle.strm_codes.specs.Items.{FitsItem};
 ghost use Rattle.strm_codes.specs.declared.payloads.Payload.TheVariants.{One};
 ghost use Rattle.strm_codes.specs.declared.scalars.Scalar.TheVariants.{U8};
 ghost use Rattle.strm_buffers.specs.declared.sources.Source.TheVariants.{Region, Listed};
+ghost use Rattle.strm_buffers.specs.Listing.{LieIn, items_in};
+ghost use Rattle.strm_buffers.specs.Tells.{first_lent};
 ghost use Rattle.strm_buffers.specs.Offers.{items_lent, item_behind, good_lent, after_next, IsSource, IsBadNext, IsOffer, IsRegion, IsList, IsMemoryOf, IsItemsOf, Shows};
 
 use crate::items::Items;
@@ -166,6 +168,30 @@ impl Offer {
                 behind.split_at(*count as usize - taken).0
             }
             Source::Listed { items } => items.bytes().split_at(taken).1,
+        }
+    }
+
+    /// The bytes of the items that were taken, one behind the other.
+    pub fn taken_bytes(&self) -> &[u8]
+        ensures lie { LieIn (scalars_of self.now.payload) result.now 0 self.now.taken }
+        ensures items { items_in (scalars_of self.now.payload) result.now 0 self.now.taken
+            ≡ first_lent (scalars_of self.now.payload) self.now.source self.now.taken }
+        ensures all { length result.now
+            ≡ item_size (scalars_of self.now.payload) * self.now.taken }
+    {
+        let taken = self.taken as usize;
+        match &self.source {
+            Source::Region {
+                memory,
+                address,
+                ..
+            } => {
+                let bytes = memory.bytes();
+                are_bytes(bytes);
+                let (_, behind) = bytes.split_at(*address as usize);
+                behind.split_at(self.payload.size() as usize * taken).0
+            }
+            Source::Listed { items } => items.bytes_of(0, taken),
         }
     }
 

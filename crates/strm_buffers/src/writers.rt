@@ -16,7 +16,7 @@ use strm_codes::payloads::Payload;
 pub trait HostWriter: Drop {
     ghost use Rattle.strm_buffers.specs.Windows.{Between, room_of};
     ghost use Rattle.strm_buffers.specs.Said.{in_room, IfAnswered, IfNoMemory};
-    ghost use Rattle.strm_buffers.specs.Tells.{WriterTells, PollsWriter, KeepsWriter, ClosesWriter, Fills, writer_record, given, fed};
+    ghost use Rattle.strm_buffers.specs.Tells.{WriterTells, HoldsItems, PollsWriter, KeepsWriter, ClosesWriter, Fills, writer_record, given, fed};
 
     // What it tells of itself.
     ghost writer_tells: { Self → WriterTells };
@@ -58,10 +58,11 @@ pub trait HostWriter: Drop {
         ensures no_memory { IfNoMemory result (KeepsWriter (writer_tells self.old) (writer_tells self.new)) }
         ensures fills { Fills window.old window.new };
 
-    /// How many items it holds.
+    /// How many items it holds: items of its payload.
     fn held(&self) -> usize
         ensures exact { result ≡ length (writer_tells self.now).holds }
-        ensures most { result < 4294967295 };
+        ensures most { result < 4294967295 }
+        ensures fit { HoldsItems (writer_tells self.now) };
 
     /// Marks the first items that it holds, as many as there is room for. `OutOfMemory` comes only
     /// between host ends, and then nothing has changed.

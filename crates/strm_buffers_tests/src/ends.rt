@@ -129,6 +129,7 @@ fn host_writers_are_named_by_their_place(rt: HostRuntime) {
 }
 
 fn name(rt: &impl Abort, hosts: &mut Hosts) {
+    hosts.sound();
     is(rt, hosts.count_writers(), 2);
     is(rt, hosts.writer_kind(0), TransmitKind::Future);
     is(rt, hosts.writer_payload(1), BYTES);
@@ -190,4 +191,40 @@ fn a_script_of_takings_is_followed(rt: HostRuntime) {
     offer(&rt, rt.alloc(), &mut reader, 3, Turn::Failed, 3);
     offer(&rt, rt.alloc(), &mut reader, 3, Turn::Pending, 0);
     is(&rt, reader.records(), 3);
+}
+
+// Polls a reader that is in no box, which is offered the three bytes.
+fn offer_three(rt: &impl Abort, alloc: Global, reader: &mut ScriptedReader, taken: u32)
+    requires { reader.old.payload ≡ One U8 }
+    ensures { reader.new.payload ≡ One U8 }
+{
+    let mut offer = Offer::of_items(three_bytes(rt, alloc), 0);
+    is(rt, reader.poll(&mut offer, false), COMPLETED);
+    is(rt, offer.taken(), taken);
+}
+
+// A reader of a script that takes two items, and then all.
+fn two_and_all(rt: &impl Abort, alloc: Global) -> Vec<ReaderTurn> {
+    let mut turns = Vec::new(alloc);
+    push(rt, &mut turns, 2, Answer::Completed);
+    push(rt, &mut turns, 9, Answer::Completed);
+    turns
+}
+
+#[test]
+fn a_scripted_reader_keeps_what_it_takes(rt: HostRuntime) {
+    let turns = two_and_all(&rt, rt.alloc());
+    let mut reader = ScriptedReader::new(rt.alloc(), TransmitKind::Stream, BYTES, turns);
+    offer_three(&rt, rt.alloc(), &mut reader, 2);
+    offer_three(&rt, rt.alloc(), &mut reader, 3);
+    is(&rt, reader.taken_bytes(), [7, 8, 7, 8, 9].as_slice());
+}
+
+#[test]
+fn one_that_discards_keeps_nothing(rt: HostRuntime) {
+    let turns = two_and_all(&rt, rt.alloc());
+    let stream = TransmitKind::Stream;
+    let mut reader = ScriptedReader::discarding(rt.alloc(), stream, BYTES, turns);
+    offer_three(&rt, rt.alloc(), &mut reader, 2);
+    is(&rt, reader.taken_bytes(), [].as_slice());
 }

@@ -112,6 +112,7 @@ impl HostWriter for ScriptedWriter {
     }
 
     fn held(&self) -> usize {
+        self.held.sound();
         self.held.len()
     }
 

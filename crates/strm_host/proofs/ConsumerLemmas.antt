@@ -1,6 +1,6 @@
 -- A poll of a consumer is one of a host reader; and what a consumer of a future does is what one of a
 -- stream owes.
-use Rattle.std.proofs.Common.{◌≡◌, ℕ, ◌-◌, ◌<◌, ◌≤◌, Bool, true, false, [], ◌∷◌, ◌++◌, length, Some, None, refl, sym, ap, subst, ◌∙◌, arith}
+use Rattle.std.proofs.Common.{◌≡◌, ℕ, zero, suc, ◌-◌, ◌<◌, ◌≤◌, Bool, true, false, [], ◌∷◌, ◌++◌, length, Some, None, refl, sym, ap, subst, ◌∙◌, arith}
 use Rattle.std.specs.Prelude.{◌==◌, nat_lt, nat_le, not, ◌&&◌, if◌then◌else◌, IfSome}
 use Rattle.std.specs.Option.{option_map}
 use Rattle.std.proofs.lemmas.Bool.Decides.{nat_tests}
@@ -15,7 +15,7 @@ use Rattle.strm_buffers.specs.Offers.{Offered, items_lent, good_lent, IsOffer, I
 use Rattle.strm_buffers.specs.Tells.{ReaderTells, PollsReader, Rises, SameOffer, reader_record, first_lent}
 use Rattle.strm_buffers.proofs.OfferLemmas.{good_most, first_good, length-first_lent}
 use Rattle.strm_host.specs.Consuming.{Offering, ConsumerPlan, offering_of, with_taken}
-use Rattle.strm_host.specs.FutureConsuming.{FutureConsumerPlan, KeepsTaking, is_spent, stream_turn, taking_of, consumer_plan}
+use Rattle.strm_host.specs.FutureConsuming.{FutureConsumerPlan, KeepsTaking, is_spent, stream_turn, taking_of, consumer_plan, IsSettled}
 
 -- what is known of an offer that came back, said of the one that was lent
 module _ (o p : Offered) (same : SameOffer o p) (s : IsOffer p.payload p.source p.taken p.bad) where
@@ -102,3 +102,11 @@ stream_taken (Some next) offering finish taken (Ready u) false s k =
     ap (taking_of offering) k ∙ ap (λ (b : Bool). record { taken = taken; answer = if b then answer.Completed else answer.Cancelled }) (sym s)
 stream_taken (Some next) offering finish taken Failed spent s k = ap (taking_of offering) k
 stream_taken (Some next) offering finish taken NoMemory spent s k = tt
+
+-- a turn that is done says whether anything is left
+pub settled : (turn : Turn (Unit {0})) (left n : ℕ) → left ≡ n → IsSettled (stream_turn turn (left == 0)) n
+settled Pending left n e = tt
+settled (Ready u) zero n e = sym e
+settled (Ready u) (suc left) n e = omega arith
+settled Failed left n e = tt
+settled NoMemory left n e = tt

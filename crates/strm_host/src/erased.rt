@@ -135,6 +135,7 @@ impl<P: StreamProducer> HostWriter for Erased<P> {
     }
 
     fn held(&self) -> usize {
+        self.held.sound();
         self.held.len()
     }
 

@@ -89,10 +89,12 @@ impl<F> Consumer<F> {
 }
 
 impl<F: FutureConsumer> StreamConsumer for Consumer<F> {
+    ghost use Rattle.std.specs.Prelude.{◌-◌};
+    ghost use Rattle.strm_buffers.specs.Offers.{items_lent};
     ghost use Rattle.strm_buffers.specs.Said.{IfAnswered, IfNoMemory};
     ghost use Rattle.strm_buffers.specs.Tells.{Rises};
     ghost use Rattle.strm_host.specs.Consuming.{ConsumerPlan};
-    ghost use Rattle.strm_host.specs.FutureConsuming.{consumer_plan};
+    ghost use Rattle.strm_host.specs.FutureConsuming.{consumer_plan, IsSettled};
 
     type Item = F::Item;
 
@@ -118,6 +120,10 @@ impl<F: FutureConsumer> StreamConsumer for Consumer<F> {
         ensures plan { IfSome (consumer_plan (F.plan self.old.future)) (λ next. IfAnswered result (λ answer.
             next (offering_of source.entry.offer.now) finish
             ≡ record { taken = source.exit.0.now.taken; answer = answer })) }
+
+        // Where it is done, it answers Completed exactly where nothing is left.
+        ensures settled { IsSettled result
+            (items_lent source.entry.offer.now.source - source.exit.0.now.taken) }
 
         // The future was polled once.
         ensures leaves { IfAnswered result (λ _.

@@ -9,6 +9,8 @@ pub mod awaited;
 mod consumers;
 pub mod copying;
 pub mod countdown;
+#[cfg(test)]
+mod errors;
 pub mod greeting;
 #[cfg(test)]
 mod greetings;

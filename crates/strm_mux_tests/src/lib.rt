@@ -7,6 +7,8 @@ mod carried;
 #[cfg(test)]
 mod cuts;
 #[cfg(test)]
+mod errors;
+#[cfg(test)]
 mod faults;
 #[cfg(test)]
 mod lanes;

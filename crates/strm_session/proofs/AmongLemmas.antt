@@ -20,8 +20,9 @@ use Rattle.strm_machine.specs.declared.stops.Stop.TheVariants.{HostFailed, BadIt
 use Rattle.strm_machine.proofs.AskedLemmas.{bad-traps}
 use Rattle.std.specs.Prelude.{slice_get}
 use Rattle.std.proofs.lemmas.Option.{slice_get_within, slice_get-get_or}
-use Rattle.strm_world.specs.Does.{Logs, Begins, AllBegin, saids, Extends, world_of, spent, faults_of, Caused, Does, RunsTo, AreSupplied}
+use Rattle.strm_world.specs.Does.{Logs, Begins, AllBegin, saids, Extends, world_of, spent, faults_of, Caused, Does, RunsTo, AreSuppliedSince}
 use Rattle.strm_world.proofs.DoesLemmas.{rose_more}
+use Rattle.strm_world.proofs.GrowLemmas.{supplied_since_itself}
 use Rattle.strm_session.specs.Records.{HostsGoOn}
 use Rattle.strm_session.specs.Runs.{start, start_among, stop_of, HaltsBy, Raised, StaysThere, StopsAsking, WantsUnmet, StopsAmong, WantsThere, Before, Behind, InPoll, BeforeOffer, StopsWanting, WantsStep, Polling, Untouched, Unkept, LeavesWanting}
 use Rattle.strm_transmit.specs.Hosted.{lone}
@@ -44,7 +45,7 @@ extends_self tells = (all_begin_self (saids tells).writers, all_begin_self (said
 
 -- a call that did nothing to host ends
 pub goes_on_itself : (tells : Tells) → HostsGoOn tells tells
-goes_on_itself tells = record { begins = extends_self tells; faults = λ end. omega arith; supplied = λ s. s }
+goes_on_itself tells = record { begins = extends_self tells; faults = λ end. omega arith; supplied = supplied_since_itself tells }
 
 pub goes_on_same : (old new : Tells) → new ≡ old → HostsGoOn old new
 goes_on_same old new e = subst (HostsGoOn old) (sym e) (goes_on_itself old)
@@ -58,10 +59,10 @@ pub record LedOn (old : Tells) (steps : List Step) (k : ℕ) (told : List Reply)
 pub record LedAmong (old : Tells) (steps : List Step) (k : ℕ) (told : List Reply) (state : State) (now : Tells) : Type 0 where
   pub led : (logs : Logs) → Extends now logs → LedOn old steps k told state now logs
   pub faults : (end : HostEnd) → faults_of old end ≤ faults_of now end
-  pub supplied : AreSupplied old → AreSupplied now
+  pub supplied : AreSuppliedSince old now
 
 pub led_none : (old : Tells) (steps : List Step) → LedAmong old steps 0 [] start old
-led_none old steps = record { led = λ logs e. record { begins = e; goes_on = λ more. refl }; faults = λ end. omega arith; supplied = λ a. a }
+led_none old steps = record { led = λ logs e. record { begins = e; goes_on = λ more. refl }; faults = λ end. omega arith; supplied = supplied_since_itself old }
 
 -- one step more, which is answered or stops the run
 module _ (old now new : Tells) (steps : List Step) (k : ℕ) (step : Step) (told : List Reply) (state next : State) (at : IsAt steps k step) (l : LedAmong old steps k told state now) where
@@ -77,7 +78,7 @@ module _ (old now new : Tells) (steps : List Step) (k : ℕ) (step : Step) (told
               ∙ ap (λ (o : Outcome). after_step told o (λ told' world'. play told' world' more)) (d.gives logs e);
         };
     faults = λ end. le_trans (l.faults end) (d.faults end);
-    supplied = λ a. d.supplied (l.supplied a);
+    supplied = d.supplied old l.supplied;
   }
 
   halts_by : (stop : Option Stop) → Does state next now new (Err stop) (λ w. step_of w step) → HaltsBy (start_among old new) steps told new stop

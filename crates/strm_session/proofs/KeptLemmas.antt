@@ -2,7 +2,7 @@
 use Rattle.std.proofs.Common.{◌≡◌, ℕ, ◌≤◌, List, [], length, take, Option, Some, None, subst, arith}
 use Rattle.std.proofs.lemmas.List.{length-take, take_all}
 use Rattle.std.specs.Prelude.{All}
-use Rattle.strm_buffers.specs.Tells.{Tells}
+use Rattle.strm_buffers.specs.Tells.{Tells, HoldsItems}
 use Rattle.strm_laws.specs.Laws.{HasBytes, AreSteps}
 use Rattle.strm_laws.proofs.LawfulRuns.{AreSteps-take}
 use Rattle.strm_machine.specs.State.{State}
@@ -13,9 +13,9 @@ use Rattle.strm_machine.specs.declared.stops.Stop.{Stop}
 use Rattle.strm_world.specs.Ends.{Writer, Reader, writer_in, reader_in}
 use Rattle.strm_world.specs.HostPlays.{play, Ends, Halts}
 use Rattle.strm_host_laws.specs.HostLaws.{ClosesExactly, WriterStops, ReadersCloseExactly, ReaderStops}
-use Rattle.strm_world.specs.Does.{AreSupplied, spent}
+use Rattle.strm_world.specs.Does.{AreSuppliedSince, spent}
 use Rattle.strm_host_laws.specs.HostMoments.{HostMoment, host_moments, last_of}
-use Rattle.strm_session.specs.Runs.{start_among, HasLawsAmong, HasLawsFirst, IsKeptAmong, IsKeptBefore, AreOfItems, DeliversEach, HaltsBy, StopCloses, StopUses, StopsAmong}
+use Rattle.strm_session.specs.Runs.{start_among, HasLawsAmong, HasLawsFirst, IsKeptAmong, IsKeptBefore, DeliversEach, HaltsBy, StopCloses, StopUses, StopsAmong}
 use Rattle.strm_session.specs.declared.runs.RunCause.{RunCause}
 use Rattle.strm_session.proofs.SuppliedLemmas.{all_supply}
 
@@ -51,13 +51,13 @@ module _ (first : World) (laws : LawsAmong first) (leads : LeadsAmong first) whe
 pub stop_kept : (old new : Tells) → LawsAmong (start_among old new) → LeadsAmong (start_among old new) → (steps : List Step) (told : List Reply) (cause : RunCause) → AreSteps (take (length told) steps) → StopsAmong old new steps told cause → IsKeptBefore (start_among old new) steps told
 stop_kept old new laws leads steps told cause a s = kept_before (start_among old new) laws leads steps told s.world a s.before
 
--- what each host writer produced is delivered, where what it recorded and held were items
-pub delivers_each : (old new : Tells) (steps : List Step) (state : State) → IsKeptAmong (start_among old new) steps (spent state new) → AreOfItems old → AreSupplied new → DeliversEach (start_among old new) steps (spent state new)
-delivers_each old new steps state k o a s =
+-- what each host writer produced is delivered, since what it held and what it recorded are items
+pub delivers_each : (old new : Tells) (steps : List Step) (state : State) → IsKeptAmong (start_among old new) steps (spent state new) → All HoldsItems old.writers → AreSuppliedSince old new → DeliversEach (start_among old new) steps (spent state new)
+delivers_each old new steps state k h a s =
     let first = start_among old new in
     let laws = subst (λ (xs : List Step). HasLawsAmong first (host_moments first xs) (last_of first (host_moments first xs))) (take_all (length steps) steps (omega arith)) (all_laws first (take (length steps) steps) (k.laws (length steps))) in
     let now = subst (HasLawsAmong first (host_moments first steps)) k.ends laws in
-    now.writers.delivers (all_supply old new state o a (λ n. (now.writers.goes_on n).payload)) s
+    now.writers.delivers (all_supply old new state h a (λ n. (now.writers.goes_on n).payload)) s
 
 -- exactly the host ends that became gone were closed, where the machine halts
 module _ (first : World) (steps : List Step) where

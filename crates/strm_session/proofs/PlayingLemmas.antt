@@ -4,7 +4,7 @@ use Rattle.std.specs.Prelude.{All, IfOk, IfErr, IsErrAnd}
 use Rattle.std.proofs.Math.Nat.{le_trans}
 use Rattle.std.proofs.lemmas.List.{take_all, take_more, append-nil, drop_more, length-drop, length_push}
 use Rattle.std.proofs.lemmas.List.Elements.{All-nil, All-push}
-use Rattle.strm_buffers.specs.Tells.{Tells}
+use Rattle.strm_buffers.specs.Tells.{Tells, HoldsItems}
 use Rattle.strm_laws.specs.Laws.{HasBytes}
 use Rattle.strm_machine.specs.Acts.{act_of}
 use Rattle.strm_machine.specs.State.{State}
@@ -120,7 +120,7 @@ module _ (old now new : Tells) (steps left rest : List Step) (k : ℕ) (step : S
             goes_on = record {
               begins = begins_among old new steps k told state now p.led (d.begins _ (extends_self new));
               faults = λ end. le_trans (p.led.faults end) (d.faults end);
-              supplied = λ a. d.supplied (p.led.supplied a);
+              supplied = d.supplied old p.led.supplied;
             };
             all = tt;
             count = omega (arith, p.count, at.0.inside);
@@ -230,15 +230,15 @@ module _ (laws : LawsHold) (aside : StepHolds StaysAside) (put : StepHolds LieTh
       count = p.count;
     }
 
-    pub run_ended : (r : Result Ended RunCause) → IfOk r (λ e. (e.store ≡ state) × (e.moved ≡ counts_of state)) → IfErr r (λ cause. cause ≡ causes.OutOfMemory) → HasRun old new steps told r
-    run_ended (Err cause) o e = subst (λ c. HasRun old new steps told (Err c)) (sym e) unkept
-    run_ended (Ok ended) o e =
+    pub run_ended : All HoldsItems old.writers → (r : Result Ended RunCause) → IfOk r (λ e. (e.store ≡ state) × (e.moved ≡ counts_of state)) → IfErr r (λ cause. cause ≡ causes.OutOfMemory) → HasRun old new steps told r
+    run_ended held (Err cause) o e = subst (λ c. HasRun old new steps told (Err c)) (sym e) unkept
+    run_ended held (Ok ended) o e =
         let kept = kept_among (start_among old new) (among old new) (leads old new) steps told _ (record { few = few; bytes = bytes }) p.ok in
         record {
           ok = rw o.0 (record {
             played = p.ok;
             kept_among = kept;
-            delivers = λ items. delivers_each old new steps state kept items (p.goes_on.supplied items.recorded);
+            delivers = delivers_each old new steps state kept held p.goes_on.supplied;
             rules = p.rules_kept;
             alone = p.alone;
             kept = λ alone. run_kept laws aside put steps told state few bytes (p.alone alone);

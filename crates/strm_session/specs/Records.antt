@@ -10,7 +10,7 @@ use Rattle.strm_machine.specs.declared.stops.Stop.TheVariants as stops
 use Rattle.strm_machine.specs.declared.streams.HostEnd.{HostEnd}
 use Rattle.strm_machine.specs.declared.streams.HostEnd.TheVariants as ends
 use Rattle.strm_world.specs.Polls.{is_failed}
-use Rattle.strm_world.specs.Does.{saids, faults_of, Extends, AreSupplied}
+use Rattle.strm_world.specs.Does.{saids, faults_of, Extends, AreSuppliedSince}
 
 -- THE LAST RECORD
 
@@ -146,8 +146,8 @@ abbrev pub NoneRose : Tells → Tells → Type 0
 NoneRose old new = (end : HostEnd) → ¬ Rose (faults_of old end) (faults_of new end)
 
 -- host ends have their records of before, in front of those that were added; no count of their faults fell;
--- and host writers that recorded items alone still do
+-- and host writers recorded items alone
 pub record HostsGoOn (old new : Tells) : Type 0 where
   pub begins : Extends old (saids new)
   pub faults : (end : HostEnd) → faults_of old end ≤ faults_of new end
-  pub supplied : AreSupplied old → AreSupplied new
+  pub supplied : AreSuppliedSince old new

@@ -19,9 +19,7 @@ use Rattle.strm_machine.specs.Untouched.{StaysAside, LieThere}
 use Rattle.strm_machine.specs.Acts.{act_of}
 use Rattle.strm_machine.specs.declared.stops.Stop.{Stop}
 use Rattle.strm_machine.specs.declared.stops.Stop.TheVariants as stops
-use Rattle.strm_codes.specs.Layout.{scalars_of}
-use Rattle.strm_memory.specs.Items.{AreItems}
-use Rattle.strm_buffers.specs.Tells.{WriterTells, Tells, Rose}
+use Rattle.strm_buffers.specs.Tells.{Tells, Rose}
 use Rattle.strm_machine.specs.Hosting.{HostsHold}
 use Rattle.strm_world.specs.World.{World, writer_at, reader_at, stream_in}
 use Rattle.strm_world.specs.HostPlays.{play as play_among}
@@ -30,7 +28,7 @@ use Rattle.strm_transmit.specs.WantsMemory.{FailsOnce, HoldsBefore, WantsIn, up_
 use Rattle.strm_world.specs.Outcomes.{Goes}
 use Rattle.strm_world.specs.Steps.{step_of}
 use Rattle.strm_world.specs.Asking.{GuestAsksBad, AsksBadItem, ByGuest, stands_at}
-use Rattle.strm_world.specs.Does.{saids, spent, world_of, faults_of, Does, RunsTo, StopsWith, AreSupplied}
+use Rattle.strm_world.specs.Does.{saids, spent, world_of, faults_of, Does, RunsTo, StopsWith}
 use Rattle.strm_transmit.specs.Guests.{is_of_guests}
 use Rattle.strm_host_laws.specs.HostMoments.{HostMoment, host_moments, first_moments, last_of}
 use Rattle.strm_host_laws.specs.Isolation.{AreIsolated}
@@ -164,15 +162,6 @@ HasLawsFirst count first steps =
 pub record IsKeptAmong (first : World) (steps : List Step) (end : World) : Type 0 where
   pub ends : last_of first (host_moments first steps) ≡ end
   pub laws : (n count : ℕ) → HasLawsFirst count first (take n steps)
-
--- what a host writer holds are items of its payload
-abbrev pub HoldsItems : WriterTells → Type 0
-HoldsItems tells = AreItems (scalars_of tells.payload) tells.holds
-
--- what host writers recorded and hold are items of their payloads
-pub record AreOfItems (tells : Tells) : Type 0 where
-  pub recorded : AreSupplied tells
-  pub held : All HoldsItems tells.writers
 
 -- what the host writer of each stream produced in a run of these steps, which ends here, is received, held
 -- or given up
@@ -372,12 +361,12 @@ pub record StopsBy (steps : List Step) (told : List Reply) (cause : RunCause) : 
 
 -- a run of these steps comes to its end: it is the machine's play on them and on the records that host ends
 -- added, exactly those: none is left, and none is wanting; none says that its end failed, and each keeps the
--- rules; the laws of every run hold of it. What host writers that held and recorded items alone produced is
--- received, held or given up. Of guests alone it is the machine's without host ends
+-- rules; the laws of every run hold of it. What each host writer produced is received, held or given up. Of
+-- guests alone it is the machine's without host ends
 pub record IsWhole (old new : Tells) (steps : List Step) (replies : List Reply) (state : State) : Type 0 where
   pub played : RunsTo (start_among old new) steps replies state new
   pub kept_among : IsKeptAmong (start_among old new) steps (spent state new)
-  pub delivers : AreOfItems old → DeliversEach (start_among old new) steps (spent state new)
+  pub delivers : DeliversEach (start_among old new) steps (spent state new)
   pub rules : RulesKept old new
   pub alone : AreOfGuests steps → play [] start steps ≡ Ends replies state
   pub kept : AreOfGuests steps → IsKept steps replies state

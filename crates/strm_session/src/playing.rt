@@ -55,6 +55,7 @@ pub(crate) fn play_all<L: GivesSteps, R: KeepsReplies>(
         × HasRun (tells_of writer_tells reader_tells hosts.old) (tells_of writer_tells reader_tells hosts.new)
         (L.left steps.old) told result }
 {
+    hosts.sound();
     laws_hold();
     laws_hold_among();
     let mut store = Store::new(alloc, 0, PROGRAM_LIMITS);

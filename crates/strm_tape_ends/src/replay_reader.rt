@@ -4,7 +4,7 @@
 
 ghost use Rattle.std.specs.Prelude.{◌≡◌, ◌<◌, ◌++◌, ◌∷◌, [], length, map, IfOk, OnOk, Some, slice_get};
 ghost use Rattle.strm_codes.specs.Types.{kind_of, payload_of};
-ghost use Rattle.strm_ends.specs.Takings.{unpolled_reader};
+ghost use Rattle.strm_ends.specs.Takings.{unpolled_discarding};
 ghost use Rattle.strm_tape_ends.specs.ReaderPlans.{turn_for};
 
 use std::alloc::Global;
@@ -19,7 +19,7 @@ use strm_tape::tape::Tape;
 
 /// A host reader whose polls are the records of a host reader of a tape, in order: each takes as many items
 /// as the next record says, asks for one more where it says that one was none, and answers what it says.
-/// After the last it answers Pending and takes none. It ignores grants.
+/// After the last it answers Pending and takes none. It discards what it takes, and ignores grants.
 #[derive(Drop)]
 pub struct ReplayReader {
     end: ScriptedReader,
@@ -34,14 +34,14 @@ impl ReplayReader {
     pub fn new(alloc: Global, tape: &Tape, number: u32) -> Result<ReplayReader, OutOfMemory>
         requires { number < length tape.now.readers }
         ensures tells { (t : ReaderTape) → slice_get tape.now.readers number ≡ Some t →
-            IfOk result (λ r. replay_reader_tells r ≡ unpolled_reader (kind_of t.ty) (payload_of t.ty)) }
+            IfOk result (λ r. replay_reader_tells r ≡ unpolled_discarding (kind_of t.ty) (payload_of t.ty)) }
         ensures plan { (t : ReaderTape) → slice_get tape.now.readers number ≡ Some t →
             IfOk result (λ r. plan_of_reader r ≡ map turn_for t.said) }
     {
         let reader = tape.reader(number);
         let turns = turns_of(alloc, &reader.said)?;
         Ok(ReplayReader {
-            end: ScriptedReader::new(alloc, reader.ty.kind(), reader.ty.payload(), turns),
+            end: ScriptedReader::discarding(alloc, reader.ty.kind(), reader.ty.payload(), turns),
         })
     }
 }
@@ -79,11 +79,11 @@ fn turns_of(alloc: Global, said: &[ReaderSaid]) -> Result<Vec<ReaderTurn>, OutOf
 }
 
 impl HostReader for ReplayReader {
-    ghost use Rattle.std.specs.Prelude.{true, false};
+    ghost use Rattle.std.specs.Prelude.{true, false, OnErr};
     ghost use Rattle.strm_codes.specs.Layout.{scalars_of};
     ghost use Rattle.strm_buffers.specs.Offers.{after_taking, IsBadNext};
     ghost use Rattle.strm_buffers.specs.Said.{IfAnswered, IfNoMemory};
-    ghost use Rattle.strm_buffers.specs.Tells.{PollsReader, KeepsReader, SameOffer, reader_record, first_lent};
+    ghost use Rattle.strm_buffers.specs.Tells.{PollsReader, KeepsReader, SameOffer, reader_record, first_lent, closed_reader, granted};
     ghost use Rattle.strm_ends.specs.Takings.{turn_after};
     ghost use Rattle.strm_tape_ends.specs.ReaderPlans.{plan_of_reader, replay_reader_tells};
 
@@ -120,11 +120,22 @@ impl HostReader for ReplayReader {
         self.end.poll(offer, finish)
     }
 
-    fn grant(&mut self, count: u32) -> Result<(), OutOfMemory> {
+    fn grant(&mut self, count: u32) -> Result<(), OutOfMemory>
+        ensures ok { OnOk result (replay_reader_tells self.new ≡ granted (replay_reader_tells self.old) count) }
+        ensures err { OnErr result (replay_reader_tells self.new ≡ replay_reader_tells self.old) }
+
+        // Its plan stays.
+        ensures plan { plan_of_reader self.new ≡ plan_of_reader self.old }
+    {
         self.end.grant(count)
     }
 
-    fn close(&mut self) {
+    fn close(&mut self)
+        ensures closes { replay_reader_tells self.new ≡ closed_reader (replay_reader_tells self.old) }
+
+        // Its plan stays.
+        ensures plan { plan_of_reader self.new ≡ plan_of_reader self.old }
+    {
         self.end.close();
     }
 

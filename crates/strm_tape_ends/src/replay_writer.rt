@@ -206,6 +206,7 @@ impl HostWriter for ReplayWriter {
     }
 
     fn held(&self) -> usize {
+        self.held.sound();
         self.held.len()
     }
 

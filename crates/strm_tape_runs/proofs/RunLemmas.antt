@@ -22,6 +22,7 @@ use Rattle.strm_machine.specs.declared.streams.Producer.{Producer}
 use Rattle.strm_world.specs.Ends.{Writer, Reader}
 use Rattle.strm_world.specs.World.{World}
 use Rattle.strm_world.specs.HostPlays.{Played, play, Ends, Halts, Hangs}
+use Rattle.strm_world.proofs.GrowLemmas.{supplied_since_itself}
 use Rattle.strm_world.specs.Does.{Begins, AllBegin, held_while, first_duty, writer_of, writers_from, reader_of, readers_from, spent}
 use Rattle.strm_alike.specs.Alike.{bare_writer, bare_reader, AreAlike, ComeOutAlike}
 use Rattle.strm_session.specs.declared.runs.RunCause.{RunCause}
@@ -46,7 +47,7 @@ use Rattle.strm_tape_runs.proofs.ZipLemmas.{zip_with-map}
 
 -- host ends go on from themselves
 pub hosts_stay : (tells : Tells) → HostsGoOn tells tells
-hosts_stay tells = record { begins = extends_self tells; faults = λ end. omega arith; supplied = λ h. h }
+hosts_stay tells = record { begins = extends_self tells; faults = λ end. omega arith; supplied = supplied_since_itself tells }
 
 pub begins_length : {A : Type 0} (said log : List A) → Begins said log → length said ≤ length log
 begins_length said log e =

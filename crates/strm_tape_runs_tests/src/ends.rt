@@ -146,7 +146,7 @@ pub(crate) fn taken(alloc: Global, lines: &str, hosts: &mut Hosts) -> Result<Tap
         return Err(TapeError::NotATape);
     };
     let few = hosts.count_writers() <= 64 && hosts.count_readers() <= 64;
-    if !few || steps.as_slice().len() > 64 {
+    if !few || steps.as_slice().len() > 1000 {
         return Err(TapeError::NotATape);
     }
     tape_run(alloc, steps.as_slice(), hosts)

@@ -5,6 +5,8 @@
 #[cfg(test)]
 mod ends;
 #[cfg(test)]
+mod largest;
+#[cfg(test)]
 mod others;
 #[cfg(test)]
 mod refused;

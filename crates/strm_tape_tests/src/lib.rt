@@ -5,4 +5,8 @@
 #[cfg(test)]
 mod changed;
 #[cfg(test)]
+mod errors;
+#[cfg(test)]
+mod largest;
+#[cfg(test)]
 mod rows;

@@ -10,6 +10,8 @@ mod answers;
 #[cfg(test)]
 mod contexts;
 #[cfg(test)]
+mod errors;
+#[cfg(test)]
 mod futures;
 #[cfg(test)]
 mod hosts;

@@ -30,7 +30,7 @@ Does-then a b c x y z reply result m n d k = record {
   begins = λ logs e. d.begins logs (k.begins logs e);
   gives = λ logs e.
       subst (λ o. Gives result (world_of c z logs) (then_on o n)) (sym (d.gives logs (k.begins logs e))) (k.gives logs e);
-  supplied = λ s. k.supplied (d.supplied s);
+  supplied = λ first s. k.supplied first (d.supplied first s);
   faults = λ end. le_trans (d.faults end) (k.faults end);
   cause = caused_from x y z result d.faults k.cause;
 }
@@ -56,7 +56,7 @@ pub Does-untold : (old new : State) (tells : Tells) (result : Answered) (machine
 Does-untold old new tells result machine gives cause = record {
   begins = λ logs e. e;
   gives = λ logs e. gives logs;
-  supplied = λ s. s;
+  supplied = λ first s. s;
   faults = λ end. omega arith;
   cause = cause;
 }

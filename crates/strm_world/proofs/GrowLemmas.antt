@@ -2,8 +2,9 @@
 use Rattle.std.proofs.Common.{◌≡◌, ℕ, zero, suc, ◌<◌, ◌≤◌, List, [], ◌∷◌, ◌++◌, length, drop, refl, sym, ap, subst, ◌∙◌, append-nil, arith}
 use Rattle.std.proofs.Math.Nat.{le_trans}
 use Rattle.std.specs.Prelude.{slice_set, slice_index_or, map, All}
-use Rattle.std.proofs.lemmas.List.Elements.{All-append, All-set}
+use Rattle.std.proofs.lemmas.List.Elements.{All-append, All-drop, All-nil}
 use Rattle.std.proofs.lemmas.Bool.Decides.{nat_tests}
+use Rattle.std.proofs.lemmas.List.{drop_all}
 use Rattle.strm_buffers.specs.Listing.{Item}
 use Rattle.strm_buffers.specs.Said.{WriterSaid}
 use Rattle.strm_buffers.specs.Tells.{WriterTells, Tells, no_tells, told_by, with_told, PollsWriter, KeepsWriter, ClosesWriter, Rises, Rose}
@@ -14,14 +15,14 @@ use Rattle.strm_machine.specs.declared.streams.HostEnd.{HostEnd}
 use Rattle.strm_machine.specs.declared.streams.HostEnd.TheVariants as ends
 use Rattle.strm_world.specs.World.{World}
 use Rattle.strm_world.specs.Outcomes.{Outcome}
-use Rattle.strm_world.specs.Does.{Logs, Begins, AllBegin, first_log, Extends, world_of, Answered, Gives, faults_of, Caused, SaidFits, IsSupplied, AreSupplied, Does}
+use Rattle.strm_world.specs.Does.{Logs, Begins, AllBegin, first_log, Extends, world_of, Answered, Gives, faults_of, Caused, SaidFits, IsSuppliedSince, AreSuppliedSince, Does}
 use Rattle.strm_world.proofs.WorldLemmas.{begins-before}
 
 -- a writer that told more: records more of its items, and no fault less
 pub record Grows (old new : WriterTells) : Type 0 where
   pub more : List WriterSaid
   pub said : new.said ≡ old.said ++ more
-  pub supplied : IsSupplied old → IsSupplied new
+  pub supplied : (first : WriterTells) → IsSuppliedSince first old → IsSuppliedSince first new
   pub faults : old.faults ≤ new.faults
 
 -- THE CALLS OF A WRITER
@@ -34,9 +35,16 @@ nothing_more : {A : Type 0} (xs : List A) → xs ≡ xs ++ []
 nothing_more xs = sym (append-nil xs)
 
 -- records that are the same, of the same payload
-same_supplied : (old new : WriterTells) → new.payload ≡ old.payload → new.said ≡ old.said → IsSupplied old → IsSupplied new
-same_supplied old new e f s =
-    subst (λ p. All (SaidFits p) new.said) (sym e) (subst (λ xs. All (SaidFits old.payload) xs) (sym f) s)
+same_supplied : (old new : WriterTells) → new.payload ≡ old.payload → new.said ≡ old.said → (first : WriterTells) → IsSuppliedSince first old → IsSuppliedSince first new
+same_supplied old new e f first s =
+    let n = length first.said in
+    subst (λ p. All (SaidFits p) (drop n new.said)) (sym e) (subst (λ xs. All (SaidFits old.payload) (drop n xs)) (sym f) s)
+
+-- more behind the others
+all_behind : {A : Type 0} (P : A → Type 0) (k : ℕ) (xs more : List A) → All P (drop k xs) → All P more → All P (drop k (xs ++ more))
+all_behind P zero xs more a b = All-append P xs more a b
+all_behind P (suc k) [] more a b = All-drop P (suc k) more b
+all_behind P (suc k) (x ∷ xs) more a b = all_behind P k xs more a b
 
 pub grows-same : (old new : WriterTells) → new.payload ≡ old.payload → new.said ≡ old.said → old.faults ≤ new.faults → Grows old new
 grows-same old new e f g = record {
@@ -57,9 +65,10 @@ pub grows-polled : (old new : WriterTells) (said : WriterSaid) (marked : List It
 grows-polled old new said marked p = record {
   more = said ∷ [];
   said = p.said_more;
-  supplied = λ s.
-      subst (λ q. All (SaidFits q) new.said) (sym p.payload)
-      (subst (λ xs. All (SaidFits old.payload) xs) (sym p.said_more) (All-append (SaidFits old.payload) old.said (said ∷ []) s (all_one (SaidFits old.payload) said p.fits)));
+  supplied = λ first s.
+      let n = length first.said in
+      subst (λ q. All (SaidFits q) (drop n new.said)) (sym p.payload)
+      (subst (λ xs. All (SaidFits old.payload) (drop n xs)) (sym p.said_more) (all_behind (SaidFits old.payload) n old.said (said ∷ []) s (all_one (SaidFits old.payload) said p.fits)));
   faults = rises_at_most said.answer old.faults new.faults p.faults;
 }
 
@@ -108,26 +117,40 @@ faults-told : (tells : Tells) (n : ℕ) (w : WriterTells) → (told_by tells n).
 faults-told tells n w h (ends.Writer m) = faults-set tells.writers n m w h
 faults-told tells n w h (ends.Reader m) = omega arith
 
+supplied-set : (ws : List WriterTells) (n m : ℕ) (w first : WriterTells) → (IsSuppliedSince first (slice_index_or ws n no_tells) → IsSuppliedSince first w)
+    → IsSuppliedSince first (slice_index_or ws m no_tells) → IsSuppliedSince first (slice_index_or (slice_set ws n w) m no_tells)
+supplied-set [] n m w first g s = s
+supplied-set (x ∷ ws) zero zero w first g s = g s
+supplied-set (x ∷ ws) zero (suc m) w first g s = s
+supplied-set (x ∷ ws) (suc n) zero w first g s = s
+supplied-set (x ∷ ws) (suc n) (suc m) w first g s = supplied-set ws n m w first g s
+
+-- nothing was added since then
+pub supplied_since_itself : (tells : Tells) → AreSuppliedSince tells tells
+supplied_since_itself tells n =
+    let w = told_by tells n in
+    subst (All (SaidFits w.payload)) (sym (drop_all (length w.said) w.said (omega arith))) (All-nil (SaidFits w.payload))
+
 -- what host ends told after what they told before
 pub record Follows (tells told : Tells) : Type 0 where
   pub begins : (logs : Logs) → Extends told logs → Extends tells logs
-  pub supplied : AreSupplied tells → AreSupplied told
+  pub supplied : (first : Tells) → AreSuppliedSince first tells → AreSuppliedSince first told
   pub faults : (end : HostEnd) → faults_of tells end ≤ faults_of told end
 
 pub follows-same : (tells : Tells) → Follows tells tells
-follows-same tells = record { begins = λ logs e. e; supplied = λ s. s; faults = λ end. omega arith }
+follows-same tells = record { begins = λ logs e. e; supplied = λ first s. s; faults = λ end. omega arith }
 
 pub follows-told : (tells : Tells) (n : ℕ) (w : WriterTells) → n < length tells.writers → Grows (told_by tells n) w → Follows tells (with_told tells n w)
 follows-told tells n w there g = record {
   begins = λ logs e. (begin-before tells.writers logs.writers n w g e.0, e.1);
-  supplied = λ s. All-set IsSupplied tells.writers n w (g.supplied (s n no_tells there)) s;
+  supplied = λ first s m. supplied-set tells.writers n m w (told_by first m) (g.supplied (told_by first m)) (s m);
   faults = faults-told tells n w g.faults;
 }
 
 pub follows-then : (a b c : Tells) → Follows a b → Follows b c → Follows a c
 follows-then a b c f g = record {
   begins = λ logs e. f.begins logs (g.begins logs e);
-  supplied = λ s. g.supplied (f.supplied s);
+  supplied = λ first s. g.supplied first (f.supplied first s);
   faults = λ end. le_trans (f.faults end) (g.faults end);
 }
 

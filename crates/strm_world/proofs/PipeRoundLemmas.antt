@@ -62,7 +62,7 @@ module _ (old : State) (tells : Tells) (n s r : ℕ) (said : ReaderSaid) (t : Re
         subst (Gives result (world_of new more logs))
         (sym (offers-passed old tells n s r said t o (λ after answer. ends_if_done after s n r answer) logs (begins_is logs (d.begins logs e)) p))
         (d.gives logs e);
-    supplied = λ x. d.supplied (follows_is.supplied x);
+    supplied = λ first x. d.supplied first (follows_is.supplied first x);
     faults = λ end. let a = follows_is.faults end in let c = d.faults end in omega (arith, a, c);
     cause = cause d.cause;
   }

@@ -110,7 +110,7 @@ faults_told tells r t h (ends.Reader m) = faults_set tells.readers r m t h
 pub follows-told_reader : (tells : Tells) (r : ℕ) (t : ReaderTells) → r < length tells.readers → GrowsReader (told_by_reader tells r) t → Follows tells (with_told_reader tells r t)
 follows-told_reader tells r t there g = record {
   begins = λ logs e. (e.0, begin_before tells.readers logs.readers r t g e.1);
-  supplied = λ s. s;
+  supplied = λ first s. s;
   faults = faults_told tells r t g.faults;
 }
 

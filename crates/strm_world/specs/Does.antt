@@ -158,20 +158,20 @@ Caused result old new = Unit {0}
 abbrev pub SaidFits : Payload → WriterSaid → Type 0
 SaidFits payload said = AreItems (scalars_of payload) said.items
 
--- the items of all records of a writer are
-abbrev pub IsSupplied : WriterTells → Type 0
-IsSupplied tells = All (SaidFits tells.payload) tells.said
+-- the items of all records are that a writer added since it told this
+abbrev pub IsSuppliedSince : WriterTells → WriterTells → Type 0
+IsSuppliedSince first tells = All (SaidFits tells.payload) (drop (length first.said) tells.said)
 
--- the same of all host writers
-abbrev pub AreSupplied : Tells → Type 0
-AreSupplied tells = All IsSupplied tells.writers
+-- the same of each host writer
+abbrev pub AreSuppliedSince : Tells → Tells → Type 0
+AreSuppliedSince first tells = (n : ℕ) → IsSuppliedSince (told_by first n) (told_by tells n)
 
 -- a call did what the machine does, on whatever records are yet to come
 pub record Does (old new : State) (tells told : Tells) (result : Answered) (machine : World → Outcome) : Type 0 where
   pub begins : (logs : Logs) → Extends told logs → Extends tells logs
   pub gives : (logs : Logs) → Extends told logs →
       Gives result (world_of new told logs) (machine (world_of old tells logs))
-  pub supplied : AreSupplied tells → AreSupplied told
+  pub supplied : (first : Tells) → AreSuppliedSince first tells → AreSuppliedSince first told
   pub faults : (end : HostEnd) → faults_of tells end ≤ faults_of told end
   pub cause : Caused result tells told
 

@@ -9,7 +9,7 @@ use Rattle.strm_codes.specs.declared.codes.TransmitIndex.TheVariants as index
 use Rattle.strm_codes.specs.Types.{kind_of, payload_of}
 use Rattle.strm_buffers.specs.Tells.{WriterTells, ReaderTells, Tells}
 use Rattle.strm_ends.specs.Scripts.{unpolled_writer}
-use Rattle.strm_ends.specs.Takings.{unpolled_reader}
+use Rattle.strm_ends.specs.Takings.{unpolled_discarding}
 use Rattle.strm_tape.specs.Spelling.{WriterTape, ReaderTape, TapeOf}
 use Rattle.strm_tape_runs.specs.Taking.{writer_type, reader_type, HoldsNone}
 use Rattle.strm_tape_runs.specs.Playing.{AreEndsOf}
@@ -20,7 +20,7 @@ following t = unpolled_writer (kind_of t.ty) (payload_of t.ty)
 
 -- and a host reader
 abbrev pub following_reader : ReaderTape → ReaderTells
-following_reader t = unpolled_reader (kind_of t.ty) (payload_of t.ty)
+following_reader t = unpolled_discarding (kind_of t.ty) (payload_of t.ty)
 
 take_next : {W : Type 0} (n : ℕ) (xs : List W) (t : W) → slice_get xs n ≡ Some t → take (n + 1) xs ≡ take n xs ++ t ∷ []
 take_next n [] t e = absurd (none-some t e)
@@ -49,7 +49,7 @@ type_again : (ty : TransmitIndex) → writer_type (unpolled_writer (kind_of ty) 
 type_again (index.Stream payload) = refl
 type_again (index.Future payload) = refl
 
-reader_type_again : (ty : TransmitIndex) → reader_type (unpolled_reader (kind_of ty) (payload_of ty)) ≡ ty
+reader_type_again : (ty : TransmitIndex) → reader_type (unpolled_discarding (kind_of ty) (payload_of ty)) ≡ ty
 reader_type_again (index.Stream payload) = refl
 reader_type_again (index.Future payload) = refl
 

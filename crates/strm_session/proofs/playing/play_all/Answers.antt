@@ -8,7 +8,7 @@ returns-in-Ok g c =
     let among = c.laws_hold_among.ensures in (
       played.0,
       played.1,
-      run_ended laws.laws laws.aside laws.put among.laws among.leads among.writers among.readers among.fed among.granted _ _ _ c.requires.few played.0 c.play_steps.new.store _ played.2 c.finished.result c.finished.ensures.ok c.finished.ensures.stop,
+      run_ended laws.laws laws.aside laws.put among.laws among.leads among.writers among.readers among.fed among.granted _ _ _ c.requires.few played.0 c.play_steps.new.store _ played.2 c.sound.ensures c.finished.result c.finished.ensures.ok c.finished.ensures.stop,
     )
 
 pub returns-in-Err : goal.returns-in-Err
