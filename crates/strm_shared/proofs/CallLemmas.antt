@@ -1,5 +1,5 @@
 -- What a turn tells.
-use Rattle.std.proofs.Common.{◌≡◌, ◌≢◌, ℕ, ◌<◌, zero, suc, List, length, ◌++◌, ◌∷◌, [], cond, eqb, eq-eqb, Some, sym, ap, subst, ◌∙◌, refl, arith, Bool, true, false}
+use Rattle.std.proofs.Common.{◌≡◌, ◌≢◌, ℕ, ◌<◌, ◌≤◌, zero, suc, List, length, ◌++◌, ◌∷◌, [], cond, eqb, eq-eqb, Some, sym, ap, subst, ◌∙◌, refl, arith, Bool, true, false}
 use mathlib.Core.List.{IsPrefix}
 use Rattle.std.specs.List.{slice_index_or}
 use Rattle.atomic_table.specs.Seated.{TableId}
@@ -9,22 +9,71 @@ use Rattle.strm_shared.specs.declared.entry.Wait.{Wait}
 use Rattle.strm_shared.specs.declared.view.View.{View}
 use Rattle.strm_shared.specs.Accounts.{Account, idled}
 use Rattle.strm_shared.specs.Histories.{IsLegal, calls_by}
-use Rattle.strm_shared.specs.Waits.{wait, waits_by, Has}
+use Rattle.strm_shared.specs.Waits.{wait, waits_by, Has, AreWaits}
 use Rattle.strm_shared.specs.Plays.{looked, queued, own, own_waits, Enters}
 use Rattle.strm_shared.specs.Turns.{turned}
-use Rattle.strm_shared.specs.Tokens.{Token, token, Rests, Adds, Idles, last}
+use Rattle.strm_shared.specs.Tokens.{Token, token, Rests, IsOneHistory, Finds, Stays, Adds, Idles, last}
 use Rattle.strm_shared.proofs.HistoryLemmas.{calls_by-own, calls_by-other}
 
-adds_at : (z z' : TableId) (number t : ℕ) (v : View) (a b : Account) (e : Entry) → Rests number v → Enters v a → e.seat ≡ number → b.limits ≡ a.limits → b.log ≡ a.log ++ e ∷ [] → IsLegal b.limits b.log → t < last
+-- ## No turn
+
+pub rests_one : (z : TableId) (number : ℕ) (v : View) → Rests number v → IsOneHistory (token z number v)
+rests_one z number v rests = record {
+  legal = rests.legal;
+  own = rests.recalls.own number rests.numbered;
+  over = rests.recalls.over;
+  apart = rests.apart number rests.numbered;
+}
+
+-- a look at the ticket word changes nothing of it
+pub rests_looked : (number t : ℕ) (v : View) → Rests number v → Rests number (looked v t)
+rests_looked number t v rests = record {
+  numbered = rests.numbered;
+  ticketless = rests.ticketless;
+  free = rests.free;
+  bare = rests.bare;
+  legal = rests.legal;
+  recalls = rests.recalls;
+  apart = rests.apart;
+  below = rests.below;
+}
+
+stays_at : (z z' : TableId) (number : ℕ) (v : View) → Rests number v → v.top_ticket ≤ last → Stays (token z number v) (token z' number (looked v last))
+stays_at z z' number v rests top =
+    (refl, refl, refl, refl, refl, refl, refl, refl, (top, refl), rests_one z' number (looked v last) (rests_looked number last v rests))
+
+-- a seat that found no ticket left
+pub stays : (old : Token) (z z' : TableId) (number : ℕ) (v w : View) → token z number v ≡ old → Rests number v → w ≡ looked v last → v.top_ticket ≤ last → Stays old (token z' number w)
+stays old z z' number v w is rests after top =
+    subst (λ o. Stays o (token z' number w)) is
+    (subst (λ x. Stays (token z number v) (token z' number x)) (sym after) (stays_at z z' number v rests top))
+
+-- ## A turn
+
+-- what the waits are that a turn finds
+pub record Took (v : View) (t : ℕ) (a : Account) : Type 0 where
+  pub top : v.top_ticket ≤ t
+  pub few : t < last
+  pub waits : AreWaits a.limits a.log a.waits
+
+finds_at : (z z' : TableId) (number t : ℕ) (v : View) (a b : Account) (log : List Entry) → Rests number v → Enters v a → AreWaits a.limits a.log a.waits → log ≡ a.log → Finds log (token z number v) (token z' number (turned v t a b))
+finds_at z z' number t v a b log rests enters waits same = record {
+  waits = subst (λ x. AreWaits v.limits x a.waits) (sym same) (subst (λ l. AreWaits l a.log a.waits) enters.of_limits waits);
+  own = (enters.made number rests.numbered).1;
+}
+
+adds_at : (z z' : TableId) (number t : ℕ) (v : View) (a b : Account) (e : Entry) → Rests number v → Enters v a → e.seat ≡ number → b.limits ≡ a.limits → b.log ≡ a.log ++ e ∷ [] → IsLegal b.limits b.log → Took v t a
     → Adds a.log (token z number v) e (token z' number (turned v t a b))
-adds_at z z' number t v a b e rests enters by lim more legal few = record {
+adds_at z z' number t v a b e rests enters by lim more legal took = record {
   grew = enters.grew;
   ends = more;
   legal = subst (λ l. IsLegal l b.log) (lim ∙ enters.of_limits) legal;
   mine = ap (λ n. own n b.log) rests.numbered ∙ (ap (calls_by number) more ∙ (calls_by-own number a.log e by ∙ ap (λ l. l ++ e ∷ []) (enters.made number rests.numbered).0));
   own = ap (λ n. own n b.log) (sym rests.numbered);
   over = (refl, λ k p i. let t = enters.over k p i in ap (calls_by p.0) more ∙ (calls_by-other p.0 a.log e (λ q. t.1 (rests.numbered ∙ ap Some (sym by ∙ q))) ∙ t.0));
-  top = few;
+  finds = finds_at z z' number t v a b a.log rests enters took.waits refl;
+  rises = (took.top, refl);
+  top = took.few;
 }
 
 -- a turn of a seat: what the seat knew, found and left, and what it knows after it
@@ -33,7 +82,7 @@ pub record OneTurn (number t : ℕ) (v w : View) (a b : Account) : Type 0 where
   pub enters : Enters v a
   pub limits : b.limits ≡ a.limits
   pub legal : IsLegal b.limits b.log
-  pub few : t < last
+  pub took : Took v t a
   pub after : w ≡ turned v t a b
 
 -- a turn that made an entry
@@ -42,7 +91,7 @@ pub adds : (old : Token) (z z' : TableId) (number t : ℕ) (v w : View) (a b : A
 adds old z z' number t v w a b e is turn by more =
     subst (λ o. Adds a.log o e (token z' number w)) is
     (subst (λ x. Adds a.log (token z number v) e (token z' number x)) (sym turn.after)
-    (adds_at z z' number t v a b e turn.rests turn.enters by turn.limits more turn.legal turn.few))
+    (adds_at z z' number t v a b e turn.rests turn.enters by turn.limits more turn.legal turn.took))
 
 -- where a seat waits for nothing, a wait is another's
 head_not_own : (b : Bool) (w : Wait) (hs : List Place) → cond b (w.place ∷ hs) hs ≡ [] → b ≡ false
@@ -62,8 +111,8 @@ not_own_at n m h (suc k) (w ∷ ws) none in-range is same = not_own_at n m h k w
 pub not_own : (n m : ℕ) (h : Place) (ws : List Wait) → waits_by n ws ≡ [] → Has (wait m h) ws → m ≢ n
 not_own n m h ws none has = not_own_at n m h has.0 ws none has.1 has.2
 
-idles_at : (z z' : TableId) (number t : ℕ) (v : View) (a b : Account) → Rests number v → Enters v a → b.limits ≡ a.limits → b.log ≡ a.log → b.waits ≡ a.waits → IsLegal b.limits b.log → t < last → Idles (token z number v) (token z' number (turned v t a b))
-idles_at z z' number t v a b rests enters lim same waits legal few = let made = enters.made number rests.numbered in record {
+idles_at : (z z' : TableId) (number t : ℕ) (v : View) (a b : Account) → Rests number v → Enters v a → b.limits ≡ a.limits → b.log ≡ a.log → b.waits ≡ a.waits → IsLegal b.limits b.log → Took v t a → Idles (token z number v) (token z' number (turned v t a b))
+idles_at z z' number t v a b rests enters lim same waits legal took = let made = enters.made number rests.numbered in record {
   grew = subst (IsPrefix v.seen) (sym same) enters.grew;
   legal = subst (λ l. IsLegal l b.log) (lim ∙ enters.of_limits) legal;
   mine = ap (λ n. own n b.log) rests.numbered ∙ (ap (calls_by number) same ∙ made.0);
@@ -71,7 +120,9 @@ idles_at z z' number t v a b rests enters lim same waits legal few = let made = 
   over = (refl, λ k p i. ap (calls_by p.0) same ∙ (enters.over k p i).0);
   turns = refl;
   waits = (waits, ap (λ n. own_waits n b.waits) rests.numbered ∙ (ap (waits_by number) waits ∙ made.1));
-  top = few;
+  finds = finds_at z z' number t v a b b.log rests enters took.waits same;
+  rises = (took.top, refl);
+  top = took.few;
 }
 
 -- a turn that made none
@@ -79,8 +130,14 @@ pub idles : (old : Token) (z z' : TableId) (number t : ℕ) (v w : View) (a b : 
 idles old z z' number t v w a b is turn same =
     subst (λ o. Idles o (token z' number w)) is
     (subst (λ x. Idles (token z number v) (token z' number x)) (sym turn.after)
-    (idles_at z z' number t v a b turn.rests turn.enters turn.limits (ap (λ x. x.log) same) (ap (λ x. x.waits) same) turn.legal turn.few))
+    (idles_at z z' number t v a b turn.rests turn.enters turn.limits (ap (λ x. x.log) same) (ap (λ x. x.waits) same) turn.legal turn.took))
 
 -- the look and the draw change nothing of it
 pub enters_queued : (v : View) (t : ℕ) (a : Account) → Enters (queued (looked v t) t) a → Enters v a
 enters_queued v t a e = record { of_limits = e.of_limits; grew = e.grew; made = e.made; room = e.room; over = e.over }
+
+-- a turn that leaves the waits leaves the seat's own
+pub waiting_kept : (number t : ℕ) (v w : View) (a b : Account) → OneTurn number t v w a b → b.waits ≡ a.waits → w.waiting ≡ v.waiting
+waiting_kept number t v w a b turn same =
+    ap (λ (x : View). x.waiting) turn.after
+    ∙ (ap (λ n. own_waits n b.waits) turn.rests.numbered ∙ (ap (waits_by number) same ∙ (turn.enters.made number turn.rests.numbered).1))

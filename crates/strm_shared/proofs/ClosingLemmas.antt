@@ -21,5 +21,6 @@ module _ (seat : Token) (table : TableId) (number : ℕ) (view : View) (desk : A
         store_is ∙ ap (λ m. state_of m desk.log) enters.of_limits ∙ ap (state_of view.limits) (sym log_is),
         subst (IsPrefix view.seen) (sym log_is) enters.grew,
         ap (calls_by number) log_is ∙ (enters.made number rests.numbered).0,
+        λ k one e. ap (calls_by one.0) log_is ∙ (enters.over k one e).0,
         omega (arith, before, top),
       )

@@ -1,4 +1,5 @@
 pub mod StayLemmas
+pub mod WakeLemmas
 pub mod ReachedLemmas
 pub mod HistoryLemmas
 pub mod BlockLemmas
@@ -6,9 +7,13 @@ pub mod RowLemmas
 pub mod WaitLemmas
 pub mod AloneLemmas
 pub mod TotalLemmas
+pub mod FrontLemmas
+pub mod EndedLemmas
 pub mod RuleLemmas
 pub mod CallLemmas
 pub mod SyncLemmas
 pub mod MoveLemmas
 pub mod CauseLemmas
+pub mod GrowLemmas
 pub mod ClosingLemmas
+pub mod JoinLemmas

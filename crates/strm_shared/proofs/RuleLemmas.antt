@@ -1,5 +1,5 @@
 -- Each step keeps the rule.
-use Rattle.std.proofs.Common.{◌≡◌, ℕ, zero, suc, ◌+◌, ◌%◌, ◌<◌, ◌≤◌, ◌≢◌, ◌⊎◌, List, [], ◌∷◌, ◌++◌, length, get_or, set, eqb, sym, refl, ap, ◌∙◌, subst, inl, inr, ⊎_elim, arith, Bool, true, false, cond, nat_lt, Option, Some, None, append_assoc, length-append}
+use Rattle.std.proofs.Common.{◌≡◌, ℕ, ◌+◌, ◌%◌, ◌<◌, ◌≤◌, ◌≢◌, ◌⊎◌, List, [], ◌∷◌, ◌++◌, length, get_or, set, eqb, sym, refl, ap, ◌∙◌, subst, inl, inr, ⊎_elim, arith, true, false, Option, Some, None, append_assoc, length-append}
 use Rattle.std.proofs.lemmas.List.{append-nil}
 use mathlib.Core.Logic.{dite}
 use mathlib.Core.List.{IsPrefix}
@@ -17,8 +17,10 @@ use Rattle.strm_shared.specs.Histories.{calls_by}
 use Rattle.strm_shared.specs.Waits.{waits_by}
 use Rattle.strm_shared.specs.Accounts.{Account, account, opened}
 use Rattle.strm_shared.specs.Rules.{total, is, has_ticket, has_number, SeatFits, IsSlotOut, Orderly}
-use Rattle.strm_shared.specs.Plays.{Seated, first_view, looked, queued, holding, passed, own, own_waits, own_ended, looked_seats, numbered, old_half, new_half, longer, joined, spent, looks, draws, waits, passes, looks_seats, numbers, IsTurn}
+use Rattle.strm_shared.specs.Plays.{Seated, first_view, looked, queued, holding, passed, own, own_waits, own_ended, looked_seats, numbered, old_half, new_half, joined, spent, RecallsAll, looks, draws, waits, passes, recalls, looks_seats, numbers, IsTurn}
 use Rattle.strm_shared.proofs.HistoryLemmas.{calls_by-other}
+use Rattle.strm_shared.proofs.FrontLemmas.{front_self, front_trans, none_before, differ_with}
+use Rattle.strm_shared.proofs.EndedLemmas.{nothing_over, in_append, own_total, own_over, longer_has, join_recalls}
 use Rattle.strm_shared.proofs.TotalLemmas.{set_at, total-append, total-set, term_le, terms_le, is-le, is-yes, is-no}
 
 abbrev TableState : Type 0
@@ -27,31 +29,10 @@ TableState = State (Option Account) View
 abbrev table : List ℕ → List (Home (Option Account)) → List View → TableState
 table ws hs vs = record { words = ws; homes = hs; views = vs }
 
-prefix_self : (xs : List Entry) → IsPrefix xs xs
-prefix_self xs = ([], append-nil xs)
-
 -- the words grow, the history stays
 fits_more : (idle ticket serving seats ticket' seats' : ℕ) (log : List Entry) (waits : List Wait) (v : View) → ticket ≤ ticket' → seats ≤ seats' → SeatFits idle ticket serving seats log waits v → SeatFits idle ticket' serving seats' log waits v
 fits_more idle ticket serving seats ticket' seats' log waits v t n f =
-    record { saw = f.saw; made = f.made; unused = f.unused; over = f.over; at_turn = f.at_turn; looked = (omega (arith, f.looked.0), omega (arith, f.looked.1)) }
-
--- no seat has ended in a new one
-nothing_over : (log : List Entry) (k : ℕ) (p : ℕ × List Entry) → get_elem? [] k ≡ some p → calls_by p.0 log ≡ p.1
-nothing_over log k p e = absurd (some-ne-none p (sym e))
-
-in_append : (l m : List (ℕ × List Entry)) (k : ℕ) (p : ℕ × List Entry) → get_elem? (l ++ m) k ≡ some p → ((i : ℕ) × (get_elem? l i ≡ some p)) ⊎ ((i : ℕ) × (get_elem? m i ≡ some p))
-in_append [] m k p e = inr (k, e)
-in_append (x ∷ xs) m zero p e = inl (0, e)
-in_append (x ∷ xs) m (suc k) p e = ⊎_elim (λ (q : (i : ℕ) × (get_elem? xs i ≡ some p)). inl (suc q.0, q.1)) (λ (q : (i : ℕ) × (get_elem? m i ≡ some p)). inr q) (in_append xs m k p e)
-
-own_total : (x : ℕ) (o : Option ℕ) (calls : List Entry) → total (λ (p : ℕ × List Entry). is x (Some p.0)) (own_ended o calls) ≡ is x o
-own_total x None calls = refl
-own_total x (Some n) calls = omega arith
-
-own_over : (log : List Entry) (o : Option ℕ) (calls : List Entry) → ((n : ℕ) → o ≡ Some n → calls_by n log ≡ calls) → (k : ℕ) (p : ℕ × List Entry) → get_elem? (own_ended o calls) k ≡ some p → calls_by p.0 log ≡ p.1
-own_over log None calls made k p e = absurd (some-ne-none p (sym e))
-own_over log (Some n) calls made zero p e = let same : (n, calls) ≡ p = some-injective (n, calls) p e in ap (λ (q : ℕ × List Entry). calls_by q.0 log) (sym same) ∙ (made n refl ∙ ap (λ (q : ℕ × List Entry). q.1) same)
-own_over log (Some n) calls made (suc k) p e = absurd (some-ne-none p (sym e))
+    record { saw = f.saw; made = f.made; unused = f.unused; over = f.over; recalls = f.recalls; at_turn = f.at_turn; looked = (omega (arith, f.looked.0), omega (arith, f.looked.1)) }
 
 -- what a step of the seat id owes, after which its view v is w, and the words and homes are these, where the history
 -- and the turn stay
@@ -152,7 +133,7 @@ look_keeps limit n id m s o wide me _ =
         more = omega arith;
         tick = λ y. inl (omega arith);
         num = λ y. inl (omega arith);
-        fits = record { saw = f.saw; made = f.made; unused = f.unused; over = f.over; at_turn = f.at_turn; looked = (omega arith, f.looked.1) };
+        fits = record { saw = f.saw; made = f.made; unused = f.unused; over = f.over; recalls = f.recalls; at_turn = f.at_turn; looked = (omega arith, f.looked.1) };
         slot = same_slot limit s o id m.0 w (set s.words 0 x) me refl;
       }),
       (refl, omega (arith, f.looked.0)),
@@ -176,7 +157,7 @@ draw_keeps limit n id m old new next room rests s o wide me _ = let x : ℕ = ge
         more = omega arith;
         tick = λ y. dite (ℕ_discrete x y) (λ e. inr (omega arith, omega arith, is-le y (Some x))) (λ ne. inl (omega (arith, is-no y x ne)));
         num = λ y. inl (omega arith);
-        fits = record { saw = f.saw; made = f.made; unused = f.unused; over = f.over; at_turn = λ h. absurd (cc (rests, (f.at_turn h).0)); looked = (omega (arith, f.looked.0), f.looked.1) };
+        fits = record { saw = f.saw; made = f.made; unused = f.unused; over = f.over; recalls = f.recalls; at_turn = λ h. absurd (cc (rests, (f.at_turn h).0)); looked = (omega (arith, f.looked.0), f.looked.1) };
         slot = same_slot limit s o id v w (set s.words 0 new) me refl;
       }),
       ((λ _. refl), λ miss. absurd (miss hit)),
@@ -204,7 +185,7 @@ wait_keeps limit n id m t one queues free none-held lim s o wide me _ = let x : 
         more = omega arith;
         tick = λ y. inl (omega arith);
         num = λ y. inl (omega arith);
-        fits = record { saw = prefix_self o.log; made = f.made; unused = f.unused; over = f.over; at_turn = λ _. (mine', refl, refl, refl); looked = f.looked };
+        fits = record { saw = front_self o.log; made = f.made; unused = f.unused; over = f.over; recalls = record { own = λ k e. (f.made k e).0; over = f.over; front = front_trans v.behind v.seen o.log f.recalls.front f.saw }; at_turn = λ _. (mine', refl, refl, refl); looked = f.looked };
         slot = inr (set_here s.homes 0 none (omega arith), (id, w, set_at s.views id v w me, refl));
       }),
       (
@@ -217,6 +198,22 @@ wait_keeps limit n id m t one queues free none-held lim s o wide me _ = let x : 
     (λ else. one_turn limit s o id out.1.0 v out.1.1 me out.1.2 else mine' ((o.fits out.1.0 out.1.1 out.1.2).at_turn out.1.3).0)))
     o.slot)
     (λ other. (v, keeps, tt, unmoved limit s o 1 id m me same, ((λ is. absurd (other (cc (queues, is)))), λ _. refl)))
+
+-- a look that changes nothing
+pub recall_keeps : (limit : Limits) (n id : ℕ) (m : Seated) → Allows (Orderly limit) n id m 2 (λ y. y) (recalls (step n 2 0 0 none) m)
+recall_keeps limit n id m s o wide me _ =
+    let x : ℕ = get_or s.words 2 0 in let found : x ≡ o.seats = ap (λ l. get_or l 2 0) o.words in let v : View = m.0 in
+    let same : set s.words 2 x ≡ s.words = ap (λ l. set l 2 x) o.words ∙ (ap (λ k. o.ticket ∷ o.serving ∷ k ∷ []) found ∙ sym o.words) in (
+      v,
+      keeps,
+      tt,
+      unmoved limit s o 2 id m me same,
+      (
+        refl,
+        (o.fits id v me).recalls,
+        λ k e. differ_with k v.ended (λ y. omega (arith, o.numbers y, term_le (has_number y) s.views id v me, ap (is y) e)),
+      ),
+    )
 
 some_same : (x k : ℕ) → (let o : Option ℕ = Some x in o ≡ Some k) → x ≡ k
 some_same x k e = cc
@@ -236,7 +233,7 @@ look_seats_keeps limit n id m s o wide me _ =
         more = omega arith;
         tick = λ y. inl (omega arith);
         num = λ y. inl (omega arith);
-        fits = record { saw = f.saw; made = f.made; unused = f.unused; over = f.over; at_turn = f.at_turn; looked = (f.looked.0, omega arith) };
+        fits = record { saw = f.saw; made = f.made; unused = f.unused; over = f.over; recalls = f.recalls; at_turn = f.at_turn; looked = (f.looked.0, omega arith) };
         slot = same_slot limit s o id m.0 w (set s.words 2 x) me refl;
       }),
       (refl, omega (arith, f.looked.1)),
@@ -262,10 +259,10 @@ number_keeps limit n id m old new next bare s o wide me _ = let x : ℕ = get_or
         num = λ y. dite (ℕ_discrete x y)
             (λ e. inr (omega arith, omega arith, omega (arith, is-le y (Some x), o.unnumbered y (omega arith), term_le (has_number y) s.views id v me)))
             (λ ne. inl (omega (arith, is-no y x ne)));
-        fits = record { saw = f.saw; made = f.made; unused = λ k e. o.strangers k (omega (arith, some_same x k e)); over = f.over; at_turn = f.at_turn; looked = (f.looked.0, omega (arith, f.looked.1)) };
+        fits = record { saw = f.saw; made = f.made; unused = λ k e. o.strangers k (omega (arith, some_same x k e)); over = f.over; recalls = f.recalls; at_turn = f.at_turn; looked = (f.looked.0, omega (arith, f.looked.1)) };
         slot = same_slot limit s o id v w (set s.words 2 new) me refl;
       }),
-      ((λ _. refl), λ miss. absurd (miss hit)),
+      ((λ _. (refl, none_before x v.seen o.log f.saw (o.strangers x (omega arith)).0)), λ miss. absurd (miss hit)),
     ))
     (λ miss. (v, keeps, tt, unmoved limit s o 2 id m me (ap (λ l. set l 2 x) o.words ∙ (ap (λ k. o.ticket ∷ o.serving ∷ k ∷ []) found ∙ sym o.words)), ((λ hit. absurd (miss hit)), λ _. refl)))
 
@@ -292,20 +289,12 @@ split_keeps limit id v s o me = let a : View = old_half v in let b : View = new_
       strangers = o.strangers;
       fits = λ j u e. ⊎_elim
           (λ (q : get_elem? vs j ≡ some u). ⊎_elim
-          (λ (r : (j ≡ id) × (a ≡ u)). subst (SeatFits o.idle o.ticket o.serving o.seats o.log o.waits) r.1 (record { saw = f.saw; made = f.made; unused = λ n is. absurd cc; over = f.over; at_turn = f.at_turn; looked = f.looked }))
+          (λ (r : (j ≡ id) × (a ≡ u)). subst (SeatFits o.idle o.ticket o.serving o.seats o.log o.waits) r.1 (record { saw = f.saw; made = f.made; unused = λ n is. absurd cc; over = f.over; recalls = f.recalls; at_turn = f.at_turn; looked = f.looked }))
           (λ (r : (j ≢ id) × (get_elem? s.views j ≡ some u)). o.fits j u r.1)
           (at_set s.views id j a u q))
-          (λ (q : b ≡ u). subst (SeatFits o.idle o.ticket o.serving o.seats o.log o.waits) q (record { saw = f.saw; made = f.unused; unused = λ n is. absurd cc; over = nothing_over o.log; at_turn = λ h. absurd cc; looked = f.looked }))
+          (λ (q : b ≡ u). subst (SeatFits o.idle o.ticket o.serving o.seats o.log o.waits) q (record { saw = f.saw; made = f.unused; unused = λ n is. absurd cc; over = nothing_over o.log; recalls = record { own = λ n is. none_before n v.seen o.log f.saw (f.unused n is).0; over = nothing_over v.seen; front = (v.seen, refl) }; at_turn = λ h. absurd cc; looked = f.looked }))
           (at_snoc vs b u j e);
     }
-
-cond_has : {A : Type 0} (P : A → Type 0) (b : Bool) (x y : A) → P x → P y → P (cond b x y)
-cond_has P true x y p q = p
-cond_has P false x y p q = q
-
--- what holds of both lists holds of the longer
-pub longer_has : (P : List Entry → Type 0) (xs ys : List Entry) → P xs → P ys → P (longer xs ys)
-longer_has P xs ys p q = cond_has P (nat_lt (length xs) (length ys)) ys xs q p
 
 pub join_keeps : (limit : Limits) (id : ℕ) (v : View) (other : ℕ) (w : View) → v.holds ≡ false → w.holds ≡ false → Joins (Orderly limit) id v other w (joined v w) spent
 join_keeps limit id v other w rests free s o me apart them = let b : View = joined v w in let vs : List View = set s.views id b in let f = o.fits id v me in
@@ -336,7 +325,7 @@ join_keeps limit id v other w rests free s o me apart them = let b : View = join
       unnumbered = λ x h. omega (arith, sum (has_number x), o.unnumbered x h, both x);
       strangers = o.strangers;
       fits = λ j u e. ⊎_elim
-          (λ (r : (j ≡ other) × (spent ≡ u)). subst (SeatFits o.idle o.ticket o.serving o.seats o.log o.waits) r.1 (record { saw = (o.log, refl); made = λ n is. absurd cc; unused = λ n is. absurd cc; over = nothing_over o.log; at_turn = λ h. absurd cc; looked = (omega arith, omega arith) }))
+          (λ (r : (j ≡ other) × (spent ≡ u)). subst (SeatFits o.idle o.ticket o.serving o.seats o.log o.waits) r.1 (record { saw = (o.log, refl); made = λ n is. absurd cc; unused = λ n is. absurd cc; over = nothing_over o.log; recalls = record { own = λ n is. absurd cc; over = nothing_over []; front = ([], refl) }; at_turn = λ h. absurd cc; looked = (omega arith, omega arith) }))
           (λ (r : (j ≢ other) × (get_elem? vs j ≡ some u)). ⊎_elim
           (λ (q : (j ≡ id) × (b ≡ u)). subst (SeatFits o.idle o.ticket o.serving o.seats o.log o.waits) q.1 (record {
             saw = longer_has (λ l. IsPrefix l o.log) v.seen w.seen f.saw g.saw;
@@ -346,6 +335,7 @@ join_keeps limit id v other w rests free s o me apart them = let b : View = join
                 (λ (q : (i : ℕ) × (get_elem? (w.ended ++ own_ended w.number w.mine) i ≡ some p)). ⊎_elim (λ (r : (i : ℕ) × (get_elem? w.ended i ≡ some p)). g.over r.0 p r.1)
                 (λ (r : (i : ℕ) × (get_elem? (own_ended w.number w.mine) i ≡ some p)). own_over o.log w.number w.mine (λ n is. (g.made n is).0) r.0 p r.1) (in_append w.ended (own_ended w.number w.mine) q.0 p q.1))
                 (in_append v.ended (w.ended ++ own_ended w.number w.mine) k p e);
+            recalls = join_recalls v w o.log f.saw g.saw f.recalls g.recalls (λ n is. (f.made n is).0) (λ n is. (g.made n is).0) f.over g.over;
             at_turn = λ h. absurd (cc (rests, h));
             looked = (omega (arith, f.looked.0, g.looked.0), omega (arith, f.looked.1, g.looked.1));
           }))
@@ -395,7 +385,12 @@ passes_at limit n id v a more one turned s o wide me _ =
     let kept : (k : ℕ) → v.number ≢ Some k → waits_by k a.waits ≡ waits_by k o.waits = λ k ne. apart k ne ∙ ap (waits_by k) turn.3 in
     let other : (j : ℕ) (u : View) → get_elem? s.views j ≡ some u → j ≢ id → (k : ℕ) → 0 < has_number k u → (calls_by k (o.log ++ more) ≡ calls_by k o.log) × (waits_by k a.waits ≡ waits_by k o.waits) = λ j u at else k has.
     let ne : v.number ≢ Some k = λ e. omega (arith, terms_le (has_number k) s.views id j v u else me at, o.numbers k, is-yes k v.number e) in
-    (others k v o.log more how ne, kept k ne) in (
+    (others k v o.log more how ne, kept k ne) in
+    let kept_recalls : RecallsAll w = record {
+      own = λ k is. ap (λ z. own z a.log) (sym is);
+      over = λ k p e. ap (calls_by p.0) log ∙ (others p.0 v o.log more how (apart_over limit s o id v me k p e) ∙ f.over k p e);
+      front = front_trans v.behind v.seen a.log f.recalls.front (more, sym grew);
+    } in (
       w,
       gives,
       tt,
@@ -424,6 +419,7 @@ passes_at limit n id v a more one turned s o wide me _ =
               made = λ k is. (ap (calls_by k) (sym log) ∙ ap (λ z. own z a.log) (sym is), ap (λ z. own_waits z a.waits) (sym is));
               unused = λ k is. let ne : v.number ≢ Some k = λ e. omega (arith, o.numbers k, term_le (has_number k) s.views id v me, is-yes k v.number e, is-yes k v.fresh is) in let z = f.unused k is in (others k v o.log more how ne ∙ z.0, kept k ne ∙ z.1);
               over = λ k p e. ap (calls_by p.0) (refl) ∙ (others p.0 v o.log more how (apart_over limit s o id v me k p e) ∙ f.over k p e);
+              recalls = kept_recalls;
               at_turn = λ h. absurd cc;
               looked = f.looked;
             }))
@@ -432,12 +428,13 @@ passes_at limit n id v a more one turned s o wide me _ =
               made = λ k is. let t = other j u q.1 q.0 k (omega (arith, is-yes k u.number is)) in let z = g.made k is in (t.0 ∙ z.0, t.1 ∙ z.1);
               unused = λ k is. let t = other j u q.1 q.0 k (omega (arith, is-yes k u.fresh is)) in let z = g.unused k is in (t.0 ∙ z.0, t.1 ∙ z.1);
               over = λ k p e. (other j u q.1 q.0 p.0 (omega (arith, term_le (λ (r : ℕ × List Entry). is p.0 (Some r.0)) u.ended k p e, is-yes p.0 (Some p.0) refl))).0 ∙ g.over k p e;
+              recalls = g.recalls;
               at_turn = λ h. absurd (one_turn limit s o id j v u me q.1 q.0 turn.0 (g.at_turn h).0);
               looked = g.looked;
             })
             (at_set s.views id j w u e);
       },
-      λ b e. ap (λ z. (passed v z, [])) (same_held a b e),
+      λ b e. let same = same_held a b e in (ap (λ z. (passed v z, [])) same, kept_recalls),
     )
 
 pub pass_keeps : (limit : Limits) (n id : ℕ) (m : Seated) (a : Account) → n ≡ 1 → m.0.limits ≡ limit → m.0.holds ≡ true → m.1 ≡ (0, Some a) ∷ [] → IsTurn m.0 a
@@ -472,5 +469,5 @@ opens limit = let v : View = first_view limit in record {
   unnumbered = λ x h. omega (arith, is-no x 0 (λ e. omega arith));
   strangers = λ x h. (refl, refl);
   fits = λ j u e. ⊎_elim (λ (q : get_elem? [] j ≡ some u). absurd (some-ne-none u (sym q)))
-      (λ (q : v ≡ u). subst (SeatFits 0 0 0 1 [] []) q (record { saw = ([], refl); made = λ n is. (refl, refl); unused = λ n is. absurd cc; over = nothing_over []; at_turn = λ h. absurd cc; looked = (omega arith, omega arith) })) (at_snoc [] v u j e);
+      (λ (q : v ≡ u). subst (SeatFits 0 0 0 1 [] []) q (record { saw = ([], refl); made = λ n is. (refl, refl); unused = λ n is. absurd cc; over = nothing_over []; recalls = record { own = λ n is. refl; over = nothing_over []; front = ([], refl) }; at_turn = λ h. absurd cc; looked = (omega arith, omega arith) })) (at_snoc [] v u j e);
 }

@@ -69,17 +69,18 @@ pub prefix_trans : {A : Type 0} (xs ys zs : List A) → IsPrefix xs ys → IsPre
 prefix_trans xs ys zs p q = (p.0 ++ q.0, sym (append_assoc xs p.0 q.0) ∙ (ap (λ w. w ++ q.0) p.1 ∙ q.1))
 
 pub later_idles : (old mid new : Token) → Later old mid → Idles mid new → Later old new
-later_idles old mid new l i = record { grew = prefix_trans old.seen mid.seen new.seen l.grew i.grew; mine = i.mine ∙ l.mine; turns = omega (arith, l.turns, i.turns); ended = i.over.0 ∙ l.ended; waiting = i.waits.1 ∙ l.waiting }
+later_idles old mid new l i = record { grew = prefix_trans old.seen mid.seen new.seen l.grew i.grew; mine = i.mine ∙ l.mine; turns = omega (arith, l.turns, i.turns); ended = i.over.0 ∙ l.ended; waiting = i.waits.1 ∙ l.waiting; rises = (omega (arith, l.rises.0, i.rises.0), i.rises.1 ∙ l.rises.1) }
 
 pub later_delivered : (old mid new : Token) (e : Entry) → Later old mid → Delivered mid e new → Delivered old e new
 later_delivered old mid new e l d = let a = d.0.1 in (
-  (d.0.0, record { grew = prefix_trans old.seen mid.seen d.0.0 l.grew a.grew; ends = a.ends; legal = a.legal; mine = a.mine ∙ ap (λ x. x ++ e ∷ []) l.mine; own = a.own; over = (a.over.0 ∙ l.ended, a.over.1); top = a.top }),
+  (d.0.0, record { grew = prefix_trans old.seen mid.seen d.0.0 l.grew a.grew; ends = a.ends; legal = a.legal; mine = a.mine ∙ ap (λ x. x ++ e ∷ []) l.mine; own = a.own; over = (a.over.0 ∙ l.ended, a.over.1); finds = record { waits = a.finds.waits; own = a.finds.own ∙ l.waiting }; rises = (omega (arith, l.rises.0, a.rises.0), a.rises.1 ∙ l.rises.1); top = a.top }),
   omega (arith, l.turns, d.1),
   d.2,
+  d.3,
 )
 
 pub later_gives_up : (old mid new : Token) (e : SharedError) → Later old mid → GivesUp mid e new → GivesUp old e new
-later_gives_up old mid new (Worn t) l g = (g.0, g.1, prefix_trans old.seen mid.seen new.seen l.grew g.2, g.3 ∙ l.mine, g.4 ∙ l.waiting)
+later_gives_up old mid new (Worn t) l g = (g.0, g.1, prefix_trans old.seen mid.seen new.seen l.grew g.2, g.3 ∙ l.mine, g.4 ∙ l.waiting, g.5 ∙ l.ended, (omega (arith, l.rises.0, g.6.0), g.6.1 ∙ l.rises.1), g.7)
 later_gives_up old mid new HostStep l g = g
 later_gives_up old mid new (NoSeat n) l g = g
 later_gives_up old mid new OutOfMemory l g = g

@@ -25,7 +25,7 @@ use Rattle.strm_shared.specs.declared.entry.Entry.{Entry}
 use Rattle.strm_shared.specs.declared.entry.Wait.{Wait}
 use Rattle.strm_shared.specs.Histories.{entry}
 use Rattle.strm_shared.specs.Places.{is_blocked}
-use Rattle.strm_shared.specs.Waits.{is_at, wait, Each, waits_by, is_others, without, Apart, reads, awaits_next, awaits, awaited, reports, begun, IsClear, IsGood, IsKept}
+use Rattle.strm_shared.specs.Waits.{is_at, wait, Each, waits_by, is_others, without, Apart, reads, awaits_next, awaits, awaited, reports, begun, IsClear, IsGood, AreWaits, IsKept}
 use Rattle.strm_shared.proofs.HistoryLemmas.{grows}
 
 pub each_map : (P Q : Wait → Type 0) (ws : List Wait) → ((w : Wait) → P w → Q w) → Each P ws → Each Q ws
@@ -267,3 +267,7 @@ pub busy_kept : (limit : Limits) (store : State) (log : List Entry) (ws : List W
 busy_kept limit store log ws cap n p k own =
     let f = found (λ w. IsBusy store w.place) n p ws (each_map (IsGood store log) (λ w. IsBusy store w.place) ws (λ w g. g.1) k.waiting) own in
     subst (IsBusy store) f.2 f.1
+
+-- what is kept of the waits, by the history alone
+pub kept_waits : (limit : Limits) (store : State) (log : List Entry) (ws : List Wait) (cap : ℕ) → IsKept limit store log ws cap → AreWaits limit log ws
+kept_waits limit store log ws cap k = record { good = subst (λ s. Each (IsGood s log) ws) k.store_is k.waiting; apart = k.apart }

@@ -14,11 +14,11 @@ use Rattle.strm_shared.specs.declared.errors.SharedError.TheVariants.{HostStep, 
 use Rattle.strm_shared.specs.declared.store.SharedStore.{SharedStore}
 use Rattle.strm_shared.specs.declared.store.Closed.{Closed}
 use Rattle.strm_shared.specs.declared.view.View.{View}
-use Rattle.strm_shared.specs.Histories.{entry, IsLegal, state_of, calls_by}
+use Rattle.strm_shared.specs.Histories.{entry, IsLegal, state_of, calls_by, AreCallsIn}
 use Rattle.strm_shared.specs.Places.{named, operated, is_host_step, is_move, is_blocked, is_refused_busy}
 use Rattle.strm_shared.specs.Plays.{longer}
 use Rattle.strm_shared.specs.Waits.{wait, Has, IsClear, Answers}
-use Rattle.strm_shared.specs.Tokens.{Token, last, Stays, Idles, Later, Called, Begun, Delivered}
+use Rattle.strm_shared.specs.Tokens.{Token, last, IsOneHistory, Rises, Stays, Idles, Later, Called, Begun, Delivered}
 
 -- the seat is one of this store's
 abbrev pub IsOf : SharedStore → Token → Type 0
@@ -72,7 +72,7 @@ NotBegun old there OutOfMemory new =
 abbrev pub GivesUp : Token → SharedError → Token → Type 0
 GivesUp old (Worn ticket) new =
     (ticket ≡ last) × (new.top_ticket ≡ last) × IsPrefix old.seen new.seen × (new.mine ≡ old.mine)
-    × (new.waiting ≡ old.waiting)
+    × (new.waiting ≡ old.waiting) × (new.ended ≡ old.ended) × Rises old new × IsOneHistory new
 GivesUp old HostStep new = ⊥
 GivesUp old InSet new = ⊥
 GivesUp old (Waiting seat) new = ⊥
@@ -150,19 +150,21 @@ Keeps old new =
     × (new.left ≡ old.left) × (new.waiting ≡ old.waiting) × (new.turns ≡ old.turns)
     × (new.top_ticket ≡ old.top_ticket) × (old.top_seats ≤ new.top_seats)
 
--- a seat in which another ended: it has seen the longer history, and keeps the other's entries as they are
+-- a seat in which another ended: it has seen the longer history, of which the other is a front, and keeps the
+-- other's entries as they are. That is one history, in which both seats' entries stand
 abbrev pub Joined : Token → Token → Token → Type 0
 Joined old from new =
-    (new.seen ≡ longer old.seen from.seen) × (new.mine ≡ old.mine)
+    (new.seen ≡ longer old.seen from.seen) × IsPrefix old.seen new.seen × IsPrefix from.seen new.seen
+    × IsOneHistory new × (new.mine ≡ old.mine)
     × (new.ended ≡ old.ended ++ (from.ended ++ (from.number, from.mine) ∷ []))
     × (new.found ≡ old.found) × (new.left ≡ old.left) × (new.waiting ≡ old.waiting)
     × (new.turns ≡ old.turns) × (new.top_ticket ≡ max old.top_ticket from.top_ticket)
     × (new.top_seats ≡ max old.top_seats from.top_seats)
 
--- what a store ends with: a legal history, of which the seat has seen a front, with its entries, and the
--- store that the machine comes to by it; and a ticket was left
+-- what a store ends with: a legal history, of which the seat has seen a front, with its entries and those of
+-- the seats that ended in it, and the store that the machine comes to by it; and a ticket was left
 abbrev pub Ends : Token → Closed → Type 0
 Ends seat closed =
     IsLegal seat.limits closed.history.items × (closed.store ≡ state_of seat.limits closed.history.items)
     × IsPrefix seat.seen closed.history.items × (calls_by seat.number closed.history.items ≡ seat.mine)
-    × (seat.top_ticket < last)
+    × AreCallsIn seat.ended closed.history.items × (seat.top_ticket < last)

@@ -1,6 +1,8 @@
 -- Histories of calls: a call is an entry, and a history is legal where each reply is the machine's, from a
 -- store without guests and without host ends. Ours.
-use Rattle.std.specs.Prelude.{◌≡◌, ℕ, List, [], ◌∷◌, cond, ◌==◌}
+use Rattle.std.specs.Prelude.{◌≡◌, ◌≢◌, ℕ, List, [], ◌∷◌, map, cond, ◌==◌}
+use mathlib.Core.Option.{some}
+use lib.ListN.{get_elem?}
 use Rattle.strm_machine.specs.State.{State, empty}
 use Rattle.strm_machine.specs.Reactions.{react}
 use Rattle.strm_machine.specs.declared.limits.Limits.{Limits}
@@ -41,3 +43,23 @@ abbrev pub calls_by : ℕ → List Entry → List Entry
 calls_by number [] = []
 calls_by number (first ∷ more) =
     cond (first.seat == number) (first ∷ calls_by number more) (calls_by number more)
+
+-- SEATS THAT ENDED, EACH BY ITS NUMBER AND ITS CALLS
+
+-- their numbers
+abbrev pub numbers_of : List (ℕ × List Entry) → List ℕ
+numbers_of ended = map (λ (one : ℕ × List Entry). one.0) ended
+
+-- the calls of each in a history are these
+abbrev pub AreCallsIn : List (ℕ × List Entry) → List Entry → Type 0
+AreCallsIn ended log = (k : ℕ) (one : ℕ × List Entry) → get_elem? ended k ≡ some one → calls_by one.0 log ≡ one.1
+
+-- none of these numbers is this one
+abbrev pub NoneIs : ℕ → List ℕ → Type 0
+NoneIs number [] = Unit {0}
+NoneIs number (first ∷ more) = (first ≢ number) × NoneIs number more
+
+-- no two of these numbers are the same
+abbrev pub Differ : List ℕ → Type 0
+Differ [] = Unit {0}
+Differ (first ∷ more) = NoneIs first more × Differ more

@@ -4,6 +4,7 @@ pub mod Rows
 pub mod Places
 pub mod Reaching
 pub mod Waits
+pub mod Wakes
 pub mod Accounts
 pub mod Rules
 pub mod Plays

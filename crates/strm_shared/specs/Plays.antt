@@ -9,7 +9,7 @@ use Rattle.strm_shared.specs.declared.entry.Entry.{Entry}
 use Rattle.strm_shared.specs.declared.entry.Place.{Place}
 use Rattle.strm_shared.specs.declared.entry.Wait.{Wait}
 use Rattle.strm_shared.specs.declared.view.View.{View}
-use Rattle.strm_shared.specs.Histories.{calls_by}
+use Rattle.strm_shared.specs.Histories.{calls_by, numbers_of, AreCallsIn, Differ}
 use Rattle.strm_shared.specs.Waits.{waits_by}
 use Rattle.strm_shared.specs.Accounts.{Account}
 
@@ -23,7 +23,7 @@ Play = Step (Option Account) → Seated → ℕ → Seated → Type 0
 
 -- the view of the first seat of a store
 abbrev pub first_view : Limits → View
-first_view limits = record { limits = limits; number = Some 0; fresh = None; ticket = None; holds = false; seen = []; mine = []; ended = []; idle = 0; found = []; left = []; waiting = []; turns = 0; top_ticket = 0; top_seats = 0 }
+first_view limits = record { limits = limits; number = Some 0; fresh = None; ticket = None; holds = false; seen = []; mine = []; ended = []; behind = []; idle = 0; found = []; left = []; waiting = []; turns = 0; top_ticket = 0; top_seats = 1 }
 
 -- TURNS
 
@@ -61,6 +61,25 @@ pub record Enters (view : View) (found : Account) : Type 0 where
   pub room : length found.log + found.idle < 18446744073709551615
   pub over : (k : ℕ) (ended : ℕ × List Entry) → get_elem? view.ended k ≡ some ended → (calls_by ended.0 found.log ≡ ended.1) × (view.number ≢ Some ended.0)
 
+-- what a seat has seen is one history: the calls under its number are its own, those of the seats that ended in
+-- it are as they were, and the shorter of two histories that were seen is a front of it
+pub record Recalls (number : Option ℕ) (seen mine behind : List Entry) (ended : List (ℕ × List Entry)) : Type 0 where
+  pub own : (n : ℕ) → number ≡ Some n → calls_by n seen ≡ mine
+  pub over : AreCallsIn ended seen
+  pub front : IsPrefix behind seen
+
+-- the same, of a view
+abbrev pub RecallsAll : View → Type 0
+RecallsAll view = Recalls view.number view.seen view.mine view.behind view.ended
+
+-- the seat and those that ended in it have different numbers
+abbrev pub IsApart : View → Type 0
+IsApart view = (n : ℕ) → view.number ≡ Some n → Differ (n ∷ numbers_of view.ended)
+
+-- a look that changes nothing: it tells that what the seat has seen is one history
+abbrev pub recalls : Play
+recalls step me found new = (new ≡ me) × RecallsAll me.0 × IsApart me.0
+
 -- a look at the ticket word: no number that it ever had is greater
 abbrev pub looks : Play
 looks step me found new = (new ≡ (looked me.0 found, me.1)) × (me.0.top_ticket ≤ found)
@@ -78,7 +97,8 @@ waits step me found new =
 
 -- the turn is passed, once the value lies in the slot again
 abbrev pub passes : Play
-passes step me found new = (value : Account) → me.1 ≡ (0, Some value) ∷ [] → new ≡ (passed me.0 value, [])
+passes step me found new =
+    (value : Account) → me.1 ≡ (0, Some value) ∷ [] → (new ≡ (passed me.0 value, [])) × RecallsAll new.0
 
 -- what a turn may do: one entry of the seat, or an idle turn; and the waits of others stay
 abbrev pub IsTurn : View → Account → Type 0
@@ -94,18 +114,19 @@ IsTurn view left =
 abbrev pub looked_seats : View → ℕ → View
 looked_seats view number = record view { top_seats = number }
 
--- it has drawn a number for a new seat
+-- it has drawn a number for a new seat, and the word of seats is past that
 abbrev pub numbered : View → ℕ → View
-numbered view number = record view { fresh = Some number }
+numbered view number = record view { fresh = Some number; top_seats = number + 1 }
 
 -- a look at the word of seats
 abbrev pub looks_seats : Play
 looks_seats step me found new = (new ≡ (looked_seats me.0 found, me.1)) × (me.0.top_seats ≤ found)
 
--- a draw of a number
+-- a draw of a number: no call that the seat has seen is of it
 abbrev pub numbers : Play
 numbers step me found new =
-    (found ≡ step.first → new ≡ (numbered me.0 found, me.1)) × (found ≢ step.first → new ≡ me)
+    (found ≡ step.first → (new ≡ (numbered me.0 found, me.1)) × (calls_by found me.0.seen ≡ []))
+    × (found ≢ step.first → new ≡ me)
 
 -- the seat that was split: the drawn number is the new one's
 abbrev pub old_half : View → View
@@ -113,11 +134,15 @@ old_half view = record view { fresh = None }
 
 -- the new seat: it has the drawn number, and has seen as much
 abbrev pub new_half : View → View
-new_half view = record { limits = view.limits; number = view.fresh; fresh = None; ticket = None; holds = false; seen = view.seen; mine = []; ended = []; idle = 0; found = []; left = []; waiting = []; turns = 0; top_ticket = view.top_ticket; top_seats = view.top_seats }
+new_half view = record { limits = view.limits; number = view.fresh; fresh = None; ticket = None; holds = false; seen = view.seen; mine = []; ended = []; behind = []; idle = 0; found = []; left = []; waiting = []; turns = 0; top_ticket = view.top_ticket; top_seats = view.top_seats }
 
 -- the longer of two histories
 abbrev pub longer : List Entry → List Entry → List Entry
 longer one other = cond (nat_lt (length one) (length other)) other one
+
+-- and the shorter
+abbrev pub shorter : List Entry → List Entry → List Entry
+shorter one other = cond (nat_lt (length one) (length other)) one other
 
 -- an ended seat, with its calls
 abbrev pub own_ended : Option ℕ → List Entry → List (ℕ × List Entry)
@@ -126,8 +151,8 @@ own_ended (Some number) calls = (number, calls) ∷ []
 
 -- the seat that another ended in: it has seen the longer history, and keeps the other's calls
 abbrev pub joined : View → View → View
-joined view other = record view { ended = view.ended ++ (other.ended ++ own_ended other.number other.mine); seen = longer view.seen other.seen; top_ticket = max view.top_ticket other.top_ticket; top_seats = max view.top_seats other.top_seats }
+joined view other = record view { ended = view.ended ++ (other.ended ++ own_ended other.number other.mine); seen = longer view.seen other.seen; behind = shorter view.seen other.seen; top_ticket = max view.top_ticket other.top_ticket; top_seats = max view.top_seats other.top_seats }
 
 -- what is left of the seat that ended
 abbrev pub spent : View
-spent = record { limits = record { handles = 0; places = 0 }; number = None; fresh = None; ticket = None; holds = false; seen = []; mine = []; ended = []; idle = 0; found = []; left = []; waiting = []; turns = 0; top_ticket = 0; top_seats = 0 }
+spent = record { limits = record { handles = 0; places = 0 }; number = None; fresh = None; ticket = None; holds = false; seen = []; mine = []; ended = []; behind = []; idle = 0; found = []; left = []; waiting = []; turns = 0; top_ticket = 0; top_seats = 0 }

@@ -11,7 +11,8 @@ use Rattle.strm_machine.specs.declared.limits.Limits.{Limits}
 use Rattle.strm_shared.specs.declared.entry.Entry.{Entry}
 use Rattle.strm_shared.specs.declared.entry.Wait.{Wait}
 use Rattle.strm_shared.specs.declared.view.View.{View}
-use Rattle.strm_shared.specs.Histories.{calls_by}
+use Rattle.strm_shared.specs.Histories.{calls_by, AreCallsIn}
+use Rattle.strm_shared.specs.Plays.{RecallsAll}
 use Rattle.strm_shared.specs.Waits.{waits_by}
 use Rattle.strm_shared.specs.Accounts.{Account, account}
 
@@ -40,7 +41,8 @@ pub record SeatFits (idle ticket serving seats : ℕ) (log : List Entry) (waits 
   pub saw : IsPrefix view.seen log
   pub made : (n : ℕ) → view.number ≡ Some n → (calls_by n log ≡ view.mine) × (waits_by n waits ≡ view.waiting)
   pub unused : (n : ℕ) → view.fresh ≡ Some n → (calls_by n log ≡ []) × (waits_by n waits ≡ [])
-  pub over : (k : ℕ) (ended : ℕ × List Entry) → get_elem? view.ended k ≡ some ended → calls_by ended.0 log ≡ ended.1
+  pub over : AreCallsIn view.ended log
+  pub recalls : RecallsAll view
   pub at_turn : view.holds ≡ true → (view.ticket ≡ Some serving) × (view.seen ≡ log) × (view.idle ≡ idle) × (view.found ≡ waits)
   pub looked : (view.top_ticket ≤ ticket) × (view.top_seats ≤ seats)
 

@@ -1,8 +1,6 @@
 -- What contracts see of a seat, and what one turn does to it. Ours.
-use Rattle.std.specs.Prelude.{◌≡◌, ℕ, ◌+◌, ◌<◌, ◌≤◌, ◌++◌, ◌∷◌, ◌⊎◌, List, [], Some, None, false}
+use Rattle.std.specs.Prelude.{◌≡◌, ◌≢◌, ℕ, ◌+◌, ◌<◌, ◌≤◌, ◌++◌, ◌∷◌, ◌⊎◌, List, [], Some, None, false}
 use mathlib.Core.List.{IsPrefix}
-use mathlib.Core.Option.{some}
-use lib.ListN.{get_elem?}
 use Rattle.atomic_table.specs.Seated.{TableId}
 use Rattle.strm_machine.specs.WaitableSets.{is_in_set}
 use Rattle.strm_machine.specs.declared.limits.Limits.{Limits}
@@ -10,14 +8,14 @@ use Rattle.strm_shared.specs.declared.entry.Entry.{Entry}
 use Rattle.strm_shared.specs.declared.entry.Place.{Place}
 use Rattle.strm_shared.specs.declared.entry.Wait.{Wait}
 use Rattle.strm_shared.specs.declared.view.View.{View}
-use Rattle.strm_shared.specs.Histories.{IsLegal, state_of, calls_by}
-use Rattle.strm_shared.specs.Plays.{Seated}
-use Rattle.strm_shared.specs.Waits.{wait, without, begun, IsClear}
+use Rattle.strm_shared.specs.Histories.{IsLegal, state_of, calls_by, numbers_of, AreCallsIn, Differ}
+use Rattle.strm_shared.specs.Plays.{Seated, RecallsAll, IsApart}
+use Rattle.strm_shared.specs.Waits.{wait, waits_by, without, begun, waits_for, IsClear, AreWaits}
 
 -- a seat: of which table, its number and the store's limits; the history that it has seen, its own entries
 -- there and those of seats that ended in it; the waits that its last turn found and those that it left; the
--- handles for which it waits; how many turns it had; and the greatest numbers that it found in the ticket
--- word and in the word of seats
+-- handles for which it waits; how many turns it had; and the greatest numbers that it knows that the ticket
+-- word and the word of seats had
 pub record Token : Type 0 where
   pub table : TableId
   pub number : ℕ
@@ -41,13 +39,16 @@ token table number view =
 abbrev pub last : ℕ
 last = 18446744073709551615
 
--- between its turns a seat has no ticket, and has seen a legal history
+-- between its turns a seat has no ticket, and has seen one legal history, with its own calls
 pub record Rests (number : ℕ) (view : View) : Type 0 where
   pub numbered : view.number ≡ Some number
   pub ticketless : view.ticket ≡ None
   pub free : view.holds ≡ false
   pub bare : view.fresh ≡ None
   pub legal : IsLegal view.limits view.seen
+  pub recalls : RecallsAll view
+  pub apart : IsApart view
+  pub below : number < view.top_seats
 
 -- between its calls a seat waits for nothing, unless no ticket is left
 abbrev pub Unbound : View → Type 0
@@ -67,7 +68,30 @@ Same old new = (new.table ≡ old.table) × (new.number ≡ old.number) × (new.
 
 -- the calls of the seats that ended in this one are as they were
 abbrev pub Over : Token → Type 0
-Over new = (k : ℕ) (ended : ℕ × List Entry) → get_elem? new.ended k ≡ some ended → calls_by ended.0 new.seen ≡ ended.1
+Over new = AreCallsIn new.ended new.seen
+
+-- what a seat has seen is one legal history: the calls under its number there are its own, those of the seats
+-- that ended in it are theirs, and all of them have different numbers
+pub record IsOneHistory (seat : Token) : Type 0 where
+  pub legal : IsLegal seat.limits seat.seen
+  pub own : calls_by seat.number seat.seen ≡ seat.mine
+  pub over : Over seat
+  pub apart : Differ (seat.number ∷ numbers_of seat.ended)
+
+-- whatever a call answers: what a seat had seen is a front of what it has seen, which is one legal history, and
+-- the same seats have ended in it
+abbrev pub Continues : Token → Token → Type 0
+Continues old new = IsPrefix old.seen new.seen × (new.ended ≡ old.ended) × IsOneHistory new
+
+-- the greatest ticket that was found doesn't fall, and what is known of the word of seats stays
+abbrev pub Rises : Token → Token → Type 0
+Rises old new = (old.top_ticket ≤ new.top_ticket) × (new.top_seats ≡ old.top_seats)
+
+-- the waits that a turn finds are waits after this history, and the seat's own there are for the handles for
+-- which it waits
+pub record Finds (before : List Entry) (old new : Token) : Type 0 where
+  pub waits : AreWaits new.limits before new.found
+  pub own : waits_by new.number new.found ≡ old.waiting
 
 -- one entry was made, the last of the history, after these
 pub record Adds (before : List Entry) (old : Token) (made : Entry) (new : Token) : Type 0 where
@@ -77,6 +101,8 @@ pub record Adds (before : List Entry) (old : Token) (made : Entry) (new : Token)
   pub mine : new.mine ≡ old.mine ++ made ∷ []
   pub own : calls_by new.number new.seen ≡ new.mine
   pub over : (new.ended ≡ old.ended) × Over new
+  pub finds : Finds before old new
+  pub rises : Rises old new
   pub top : new.top_ticket < last
 
 -- an idle turn: it made no entry
@@ -88,13 +114,16 @@ pub record Idles (old new : Token) : Type 0 where
   pub over : (new.ended ≡ old.ended) × Over new
   pub turns : new.turns ≡ old.turns + 1
   pub waits : (new.left ≡ new.found) × (new.waiting ≡ old.waiting)
+  pub finds : Finds new.seen old new
+  pub rises : Rises old new
   pub top : new.top_ticket < last
 
--- no turn came: no ticket was left
+-- no turn came: no ticket was left. What was seen is one history
 abbrev pub Stays : Token → Token → Type 0
 Stays old new =
     (new.seen ≡ old.seen) × (new.mine ≡ old.mine) × (new.turns ≡ old.turns) × (new.found ≡ old.found)
     × (new.left ≡ old.left) × (new.waiting ≡ old.waiting) × (new.ended ≡ old.ended) × (new.top_ticket ≡ last)
+    × Rises old new × IsOneHistory new
 
 -- some idle turns, or none
 pub record Later (old new : Token) : Type 0 where
@@ -103,29 +132,39 @@ pub record Later (old new : Token) : Type 0 where
   pub turns : old.turns ≤ new.turns
   pub ended : new.ended ≡ old.ended
   pub waiting : new.waiting ≡ old.waiting
+  pub rises : Rises old new
 
 -- a turn with one entry, which names no handle for which a seat waits, and leaves the waits
 abbrev pub Called : Token → Entry → Token → Type 0
 Called old made new =
     ((before : List Entry) × Adds before old made new) × (new.turns ≡ old.turns + 1)
-    × (new.left ≡ new.found) × IsClear made.step new.found
+    × (new.left ≡ new.found) × (new.waiting ≡ old.waiting) × IsClear made.step new.found
 
 -- a turn with the read or write of a handle that was in no set; where it is answered Blocked, the seat waits
+-- for the report of that handle, and for no other
 abbrev pub Begun : Token → Place → Entry → Token → Type 0
 Begun old there made new =
     ((before : List Entry) × Adds before old made new
     × (is_in_set (state_of new.limits before) there.guest there.handle ≡ false))
     × (new.turns ≡ old.turns + 1) × (new.left ≡ begun made.reply new.found (wait made.seat there))
+    × (new.waiting ≡ waits_for made.reply there)
 
--- some turns, the last with the event that ends the seat's wait
+-- some turns, the last with the event that ends the seat's wait, after which it waits for nothing
 abbrev pub Delivered : Token → Entry → Token → Type 0
 Delivered old made new =
     ((before : List Entry) × Adds before old made new) × (old.turns < new.turns)
-    × (new.left ≡ without made.seat new.found)
+    × (new.left ≡ without made.seat new.found) × (new.waiting ≡ [])
 
--- a new seat has made no call, and has seen as much as the one that it was split from
-abbrev pub IsSplit : Token → Token → Type 0
-IsSplit old new =
+-- a new seat's number, by what the seat that it is split from knows of the word of seats before and after: it
+-- is none that the word had passed before, the word is past it then, and it isn't the last
+abbrev pub IsNextNumber : ℕ → ℕ → ℕ → Type 0
+IsNextNumber before after number = (before ≤ number) × (after ≡ number + 1) × (number < last)
+
+-- a new seat has another number and made no call, and has seen as much as the one that it was split from, by
+-- what that one was before and is after
+abbrev pub IsSplit : Token → Token → Token → Type 0
+IsSplit before old new =
     (new.table ≡ old.table) × (new.limits ≡ old.limits) × (new.seen ≡ old.seen) × (new.mine ≡ [])
     × (new.ended ≡ []) × (new.turns ≡ 0) × (new.top_ticket ≡ old.top_ticket)
-    × (new.top_seats ≡ old.top_seats) × (old.top_seats < last)
+    × (new.top_seats ≡ old.top_seats) × (new.number ≢ old.number)
+    × IsNextNumber before.top_seats old.top_seats new.number × IsOneHistory new

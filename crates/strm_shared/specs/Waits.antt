@@ -95,6 +95,11 @@ awaited one log = awaits one.seat one.place false log
 abbrev pub IsGood : State → List Entry → Wait → Type 0
 IsGood store log one = (awaited one log ≡ true) × IsBusy store one.place × IsInNoSet store one.place
 
+-- these are waits after a history: each is good, and no two wait for one handle
+pub record AreWaits (limits : Limits) (log : List Entry) (waits : List Wait) : Type 0 where
+  pub good : Each (IsGood (state_of limits log) log) waits
+  pub apart : Apart waits
+
 -- what the slot's value keeps: for each wait there is room for one entry more
 pub record IsKept (limits : Limits) (store : State) (log : List Entry) (waits : List Wait) (room : ℕ) : Type 0 where
   pub legal : IsLegal limits log

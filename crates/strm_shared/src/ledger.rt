@@ -7,7 +7,7 @@ ghost use Rattle.strm_machine.specs.WaitableSets.{is_in_set};
 ghost use Rattle.strm_machine.specs.declared.steps.Step.TheVariants as steps;
 ghost use Rattle.strm_shared.specs.Places.{named, operated, is_host_step, is_move, is_refused_busy};
 ghost use Rattle.strm_shared.specs.Histories.{entry, state_of, IsLegal};
-ghost use Rattle.strm_shared.specs.Waits.{wait, waits_by, without, begun, IsClear, Has, Delivers};
+ghost use Rattle.strm_shared.specs.Waits.{wait, waits_by, without, begun, IsClear, AreWaits, Has, Delivers};
 ghost use Rattle.strm_shared.specs.Accounts.{account, opened, entered, entered_with, idled};
 
 use crate::entry::{Place, Wait};
@@ -58,6 +58,13 @@ impl Ledger {
             idle: 0,
             waits: Vec::new(alloc),
         }
+    }
+
+    // What is kept of the waits: it does nothing.
+    pub(crate) fn sound(&self)
+        ensures { AreWaits self.now.limits self.now.log self.now.waits }
+    {
+        let _waits = &self.waits;
     }
 
     // The seat that waits for the handle that the step names.

@@ -3,7 +3,7 @@
 //! Meaning: `Rules.antt` and `Plays.antt`. Ours.
 
 ghost use Rattle.strm_shared.specs.Rules.{Orderly};
-ghost use Rattle.strm_shared.specs.Plays.{first_view, looks, draws, waits, passes, looks_seats, numbers, old_half, new_half, joined, spent};
+ghost use Rattle.strm_shared.specs.Plays.{first_view, looks, draws, waits, passes, recalls, looks_seats, numbers, old_half, new_half, joined, spent};
 
 use crate::desk::Desk;
 use crate::view::View;
@@ -45,6 +45,13 @@ pub struct Pass;
 
 impl Play<Option<Desk>, View> for Pass {
     ghost then = { passes };
+}
+
+/// A look that changes nothing.
+pub struct Recall;
+
+impl Play<Option<Desk>, View> for Recall {
+    ghost then = { recalls };
 }
 
 /// A look at the word of seats.

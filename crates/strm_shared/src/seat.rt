@@ -28,12 +28,13 @@ impl Model for Seat {
 
 impl Seat {
     ghost use Rattle.std.specs.Prelude.{◌≡◌};
-    ghost use Rattle.strm_shared.specs.Histories.{IsLegal};
+    ghost use Rattle.strm_shared.specs.Tokens.{IsOneHistory};
 
-    /// Its number, which its entries have. What it has seen is legal.
+    /// Its number, which its entries have. What it has seen is one legal history, in which its own entries
+    /// stand and those of the seats that ended in it.
     pub fn number(&self) -> u64
         ensures number { result ≡ self.now.number }
-        ensures legal { IsLegal self.now.limits self.now.seen }
+        ensures one { IsOneHistory self.now }
     {
         self.number
     }

@@ -1,9 +1,10 @@
 //! What a step names, and what a reply says.
 //!
-//! Meaning: `Places.antt`. Ours.
+//! Meaning: `Places.antt` and `Wakes.antt`. Ours.
 
-ghost use Rattle.std.specs.Prelude.{◌≡◌};
+ghost use Rattle.std.specs.Prelude.{◌≡◌, false};
 ghost use Rattle.strm_shared.specs.Places.{is_blocked, is_refused_busy, is_host_step, is_move, named, operated};
+ghost use Rattle.strm_shared.specs.Wakes.{ends_waits, WakesNone};
 
 use crate::entry::Place;
 use strm_codes::codes::ReturnCode;
@@ -91,7 +92,9 @@ pub(crate) fn is_host_step(step: &Step) -> bool
 
 // Whether a step may bring a report to an end, as the reads, the writes and the drops of the other end do,
 // or end the operation of one, as what tells a report does.
-pub(crate) fn ends_waits(step: &Step) -> bool {
+fn ends_waits(step: &Step) -> bool
+    ensures { result ≡ ends_waits step.now }
+{
     matches!(
         *step,
         Step::Write { .. }
@@ -103,6 +106,14 @@ pub(crate) fn ends_waits(step: &Step) -> bool {
             | Step::Event { .. }
             | Step::SetPoll { .. }
     )
+}
+
+// Whether those that wait are to look again after a step: after any other nothing is new for them.
+pub(crate) fn wakes(step: &Step) -> bool
+    ensures ends { result ≡ ends_waits step.now }
+    ensures quiet { result ≡ false → WakesNone step.now }
+{
+    ends_waits(step)
 }
 
 // Whether a step moves an end.

@@ -12,6 +12,8 @@ mod moves;
 #[cfg(test)]
 mod seats;
 #[cfg(test)]
+mod sleepers;
+#[cfg(test)]
 mod stores;
 #[cfg(test)]
 mod teams;

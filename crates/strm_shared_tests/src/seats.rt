@@ -4,7 +4,9 @@ ghost use Rattle.strm_shared.specs.Causes.{IsOf};
 ghost use Rattle.strm_shared.specs.Tokens.{Same};
 
 use crate::histories::{history, is_replayed};
-use crate::stores::{Answer, GUEST, STREAM, calls, is_right, with_guests, with_streams};
+use crate::stores::{
+    Answer, GUEST, STREAM, Way, answer, calls, is_right, with_guests, with_streams,
+};
 use std::alloc::Global;
 use std::sync::Wait;
 use strm_codes::codes::ReturnCode;
@@ -12,32 +14,6 @@ use strm_codes::refusals::Refusal;
 use strm_machine::replies::{Pair, Reply};
 use strm_machine::steps::Step;
 use strm_shared::{Entry, History, Seat, SharedError, SharedStore};
-
-// By which call a step is done.
-#[derive(Clone, Copy)]
-enum Way {
-    Call,
-    Sync,
-    SyncMove,
-}
-
-fn answer<R: Wait>(
-    rt: &R,
-    alloc: Global,
-    store: &SharedStore,
-    seat: &mut Seat,
-    way: Way,
-    step: &Step,
-) -> Answer
-    requires { IsOf store.now seat.old }
-    ensures { Same seat.old seat.new }
-{
-    match way {
-        Way::Call => store.call(rt, alloc, seat, step),
-        Way::Sync => store.sync(rt, alloc, seat, step),
-        Way::SyncMove => store.sync_move(rt, alloc, seat, step),
-    }
-}
 
 // Whether each row's step is answered so.
 fn are_answers<R: Wait>(

@@ -74,6 +74,33 @@ pub(crate) fn is_right(rt: &impl Abort, right: bool) {
     assert!(rt; right);
 }
 
+/// By which call a step is done.
+#[derive(Clone, Copy)]
+pub(crate) enum Way {
+    Call,
+    Sync,
+    SyncMove,
+}
+
+/// What that call answers.
+pub(crate) fn answer<R: Wait>(
+    rt: &R,
+    alloc: Global,
+    store: &SharedStore,
+    seat: &mut Seat,
+    way: Way,
+    step: &Step,
+) -> Answer
+    requires { IsOf store.now seat.old }
+    ensures { Same seat.old seat.new }
+{
+    match way {
+        Way::Call => store.call(rt, alloc, seat, step),
+        Way::Sync => store.sync(rt, alloc, seat, step),
+        Way::SyncMove => store.sync_move(rt, alloc, seat, step),
+    }
+}
+
 /// A step is called so often.
 pub(crate) fn calls<R: Wait>(
     rt: &R,

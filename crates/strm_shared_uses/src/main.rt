@@ -4,9 +4,10 @@
 //! `CALLING.md` of `strm_shared` quotes both.
 #![tactic(auto)]
 
-ghost use Rattle.std.specs.Prelude.{◌≡◌, ◌++◌, ◌∷◌, [], IfOk, IfSome};
+ghost use Rattle.std.specs.Prelude.{◌≡◌, ◌≢◌, ◌++◌, ◌∷◌, [], IfOk, IfSome};
+ghost use mathlib.Core.List.{IsPrefix};
 ghost use Rattle.strm_shared.specs.Causes.{IsOf};
-ghost use Rattle.strm_shared.specs.Histories.{entry, IsLegal};
+ghost use Rattle.strm_shared.specs.Histories.{entry, calls_by, IsLegal};
 ghost use Rattle.strm_shared.specs.Tokens.{Same};
 
 use std::alloc::Global;
@@ -75,6 +76,31 @@ pub fn in_order<R: Wait>(
     let one = store.call(rt, alloc, seat, first)?;
     let two = store.call(rt, alloc, seat, second)?;
     Ok((one, two))
+}
+
+/// Ends a seat in another, and makes a call: whatever that answers, there is one legal history, of which
+/// both seats had seen a front, and in which the calls of both stand, each under its own number.
+pub fn in_one_history<R: Wait>(
+    rt: &R,
+    alloc: Global,
+    store: &SharedStore,
+    seat: &mut Seat,
+    other: Seat,
+    step: &Step,
+) -> Result<Reply, SharedError>
+    requires of { IsOf store.now seat.old }
+    requires other { IsOf store.now other }
+    ensures same { Same seat.old seat.new }
+    ensures legal { IsLegal seat.new.limits seat.new.seen }
+    ensures fronts { IsPrefix seat.old.seen seat.new.seen × IsPrefix other.seen seat.new.seen }
+    ensures own { calls_by seat.new.number seat.new.seen ≡ seat.new.mine }
+    ensures made { IfOk result (λ reply.
+        seat.new.mine ≡ seat.old.mine ++ entry seat.old.number step.now reply ∷ []) }
+    ensures others { calls_by other.number seat.new.seen ≡ other.mine }
+    ensures apart { other.number ≢ seat.new.number }
+{
+    store.seat_join(rt, seat, other);
+    store.call(rt, alloc, seat, step)
 }
 
 // A store with two guests and a stream between them, whose ends have the handle 1.

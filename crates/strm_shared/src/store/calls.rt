@@ -6,7 +6,7 @@ ghost use Rattle.std.specs.Prelude.{◌≡◌, ◌≢◌, false, Err, IfOk, IfEr
 ghost use Rattle.strm_shared.specs.declared.errors.SharedError.TheVariants.{HostStep};
 ghost use Rattle.strm_shared.specs.Histories.{entry};
 ghost use Rattle.strm_shared.specs.Places.{is_host_step};
-ghost use Rattle.strm_shared.specs.Tokens.{token, Sits, Same, Called};
+ghost use Rattle.strm_shared.specs.Tokens.{token, Sits, Same, Continues, Called};
 ghost use Rattle.strm_shared.specs.Causes.{IsOf, IsInside, IsHostStep, IsWorn, Failed};
 
 use crate::errors::SharedError;
@@ -75,16 +75,17 @@ impl SharedStore {
     ) -> Result<Reply, SharedError>
         requires { IsOf self.now seat.old }
         ensures same { Same seat.old seat.new }
+        ensures one { Continues seat.old seat.new }
         ensures ok { IfOk result (λ reply.
             Called seat.old (entry seat.old.number step.now reply) seat.new) }
         ensures err { IfErr result (λ error. Failed seat.old step.now error seat.new) }
         ensures host { IsHostStep step.now result }
         ensures worn { IsWorn step.now seat.new result }
     {
+        let number = seat.number;
         if is_host_step(step) {
             return Err(SharedError::HostStep);
         }
-        let number = seat.number;
         self.make(rt, alloc, &mut seat.inside, number, step)
     }
 }

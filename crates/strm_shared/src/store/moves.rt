@@ -5,7 +5,7 @@
 ghost use Rattle.std.specs.Prelude.{◌≡◌, true, false, IfOk, IfErr, MatchOption};
 ghost use Rattle.strm_shared.specs.Histories.{entry};
 ghost use Rattle.strm_shared.specs.Places.{is_move, is_refused_busy};
-ghost use Rattle.strm_shared.specs.Tokens.{token, Sits, Same, Idles, Called};
+ghost use Rattle.strm_shared.specs.Tokens.{token, Sits, Same, Continues, Idles, Called};
 ghost use Rattle.strm_shared.specs.Causes.{IsOf, IsInside, IsHostStep, IsWorn, Failed, Moves, MovesBy, FailsToMove, FailsToMoveBy};
 
 use crate::errors::SharedError;
@@ -111,6 +111,7 @@ impl SharedStore {
     ) -> Result<Reply, SharedError>
         requires { IsOf self.now seat.old }
         ensures same { Same seat.old seat.new }
+        ensures one { Continues seat.old seat.new }
         ensures ok { IfOk result (λ reply. Moves seat.old step.now reply seat.new) }
         ensures err { IfErr result (λ error. FailsToMove seat.old step.now error seat.new) }
         ensures host { IsHostStep step.now result }

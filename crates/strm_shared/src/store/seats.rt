@@ -2,14 +2,15 @@
 //!
 //! Meaning: `Tokens.antt` and `Causes.antt`. Ours.
 
-ghost use Rattle.std.specs.Prelude.{◌≡◌, ◌-◌, ◌^◌, ◌<◌, ◌≤◌, None, IfOk, IfErr, MatchOption};
+ghost use Rattle.std.specs.Prelude.{◌≡◌, ◌-◌, ◌^◌, ◌<◌, ◌≤◌, [], None, IfOk, IfErr, MatchOption};
 ghost use Rattle.strm_shared.specs.declared.errors.SharedError.TheVariants.{NoSeat};
+ghost use Rattle.strm_shared.specs.Histories.{calls_by};
 ghost use Rattle.strm_shared.specs.Plays.{looked_seats, numbered};
 ghost use Rattle.strm_shared.specs.Tokens.{last, Same, IsSplit};
 ghost use Rattle.strm_shared.specs.Causes.{IsOf, Keeps, Joined};
 
 use crate::errors::SharedError;
-use crate::rule::{Both, Halves, LookSeats, Number};
+use crate::rule::{Both, Halves, LookSeats, Number, Recall};
 use crate::seat::{Inside, Seat};
 use crate::store::SharedStore;
 use std::sync::Wait;
@@ -25,7 +26,7 @@ impl SharedStore {
         ensures drawn { MatchOption result
             (seat.new.me ≡ (looked_seats seat.old.me.0 (2 ^ 64 - 1), seat.old.me.1))
             (λ t. (seat.new.me ≡ (numbered (looked_seats seat.old.me.0 t) t, seat.old.me.1))
-            × (t < 2 ^ 64 - 1)) }
+            × (t < 2 ^ 64 - 1) × (seat.old.me.0.top_seats ≤ t) × (calls_by t seat.old.me.0.seen ≡ [])) }
         ensures top { seat.old.me.0.top_seats ≤ seat.new.me.0.top_seats }
     {
         for _ in rt.forever() {
@@ -44,13 +45,14 @@ impl SharedStore {
         unreachable!()
     }
 
-    /// A new seat, which has seen what this one has and made no call. NoSeat comes exactly where the
-    /// word of seats was found at 2^64 - 1, and no other error. It may wait, and takes no memory.
+    /// A new seat, of a number of its own, which has seen what this one has and made no call. NoSeat comes
+    /// exactly where the word of seats was found at 2^64 - 1, and no other error. It may wait, and takes no
+    /// memory.
     pub fn seat_split<R: Wait>(&self, rt: &R, seat: &mut Seat) -> Result<Seat, SharedError>
         requires { IsOf self.now seat.old }
         ensures same { Same seat.old seat.new }
         ensures kept { Keeps seat.old seat.new }
-        ensures ok { IfOk result (λ new. IsSplit seat.new new) }
+        ensures ok { IfOk result (λ new. IsSplit seat.old seat.new new) }
         ensures err { IfErr result (λ error. (error ≡ NoSeat last) × (seat.new.top_seats ≡ last)) }
     {
         let Some(number) = self.draw_number(rt, &mut seat.inside) else {
@@ -60,8 +62,8 @@ impl SharedStore {
         Ok(Seat { number, inside })
     }
 
-    /// Ends a seat in another, which has then seen the longer of the two histories. The entries of the
-    /// one that ends stay as they are.
+    /// Ends a seat in another, which has then seen the longer of the two histories: the other is a front of
+    /// it, and it has the entries of both seats. The entries of the one that ends stay as they are.
     pub fn seat_join<R: Wait>(&self, _rt: &R, into: &mut Seat, from: Seat)
         requires into { IsOf self.now into.old }
         requires from { IsOf self.now from }
@@ -72,5 +74,7 @@ impl SharedStore {
         self.table
             .shared
             .join_seat::<Both>(&mut into.inside, inside);
+        // A view changes only by a step, and what it tells is told by one.
+        self.table.shared.load::<Recall>(&mut into.inside, SEATS);
     }
 }

@@ -8,7 +8,7 @@ ghost use Rattle.strm_machine.specs.declared.steps.Step.TheVariants as steps;
 ghost use Rattle.strm_shared.specs.Histories.{entry};
 ghost use Rattle.strm_shared.specs.Places.{operated};
 ghost use Rattle.strm_shared.specs.Waits.{waits_for, Delivers, Answers};
-ghost use Rattle.strm_shared.specs.Tokens.{token, Pauses, Sits, Unbound, Same, Idles, Begun, Delivered};
+ghost use Rattle.strm_shared.specs.Tokens.{token, Pauses, Sits, Unbound, Same, Continues, Idles, Begun, Delivered};
 ghost use Rattle.strm_shared.specs.Causes.{IsOf, IsInside, IsHostStep, IsWorn, NotBegun, GivesUp, Synced, NotSynced, Calls, Fails};
 
 use crate::entry::Place;
@@ -188,6 +188,7 @@ impl SharedStore {
     ) -> Result<Reply, SharedError>
         requires { IsOf self.now seat.old }
         ensures same { Same seat.old seat.new }
+        ensures one { Continues seat.old seat.new }
         ensures ok { IfOk result (λ reply. Calls seat.old step.now reply seat.new) }
         ensures err { IfErr result (λ error. Fails seat.old step.now error seat.new) }
         ensures host { IsHostStep step.now result }

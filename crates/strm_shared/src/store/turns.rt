@@ -3,13 +3,13 @@
 //! Meaning: `Turns.antt`, of steps as `Plays.antt` tells them. Ours.
 
 ghost use Rattle.std.specs.Prelude.{◌≡◌, ◌-◌, ◌^◌, ◌<◌, ◌≤◌, [], ◌∷◌, true, false, None, Some, MatchOption};
-ghost use Rattle.strm_shared.specs.Plays.{looked, queued, holding, passed, Enters, IsTurn};
+ghost use Rattle.strm_shared.specs.Plays.{looked, queued, holding, passed, Enters, IsTurn, RecallsAll};
 ghost use Rattle.strm_shared.specs.Turns.{Taken, OutOfTickets};
 
 use crate::desk::Desk;
 use crate::rule::{Await, Draw, Look, Pass};
 use crate::seat::Inside;
-use crate::steps::ends_waits;
+use crate::steps::wakes;
 use crate::store::SharedStore;
 use std::hint::spin_loop;
 use std::sync::Wait;
@@ -144,7 +144,9 @@ impl SharedStore {
             (λ desk. Taken seat.old.me desk seat.new.me) }
     {
         let ticket = self.draw(rt, seat)?;
-        Some(self.take(rt, seat, ticket))
+        let desk = self.take(rt, seat, ticket);
+        desk.sound();
+        Some(desk)
     }
 
     // Puts the value back, and passes the turn on.
@@ -155,6 +157,7 @@ impl SharedStore {
             × IsTurn seat.old.me.0 desk }
         ensures id { seat.new.table_id ≡ seat.old.table_id }
         ensures passed { seat.new.me ≡ (passed seat.old.me.0 desk, []) }
+        ensures recalls { RecallsAll seat.new.me.0 }
     {
         drop(self.table.shared.exchange(seat, 0, Some(desk)));
         self.table.shared.fetch_add::<Pass>(seat, SERVING, 1);
@@ -164,7 +167,7 @@ impl SharedStore {
     // Wakes those that wait for a report or for an end, where the step that was made may bring one or free
     // the other. Idle turns wake none, so that nobody is busy while all wait.
     pub(crate) fn tell<R: Wait>(&self, rt: &R, step: &Step) {
-        if ends_waits(step) {
+        if wakes(step) {
             self.reports.ring(rt);
         }
     }

@@ -3,7 +3,7 @@ use Rattle.strm_machine.specs.WaitableSets.{is_in_set}
 use Rattle.std.proofs.Common.{false}
 use Rattle.strm_shared.specs.Accounts.{idled}
 use Rattle.strm_shared.specs.Histories.{entry, state_of}
-use Rattle.strm_shared.specs.Waits.{wait, waits_by, begun}
+use Rattle.strm_shared.specs.Waits.{wait, waits_by, waits_for, begun}
 use Rattle.strm_shared.specs.Plays.{Seated, passed, own_waits, IsTurn}
 use Rattle.strm_shared.specs.Tokens.{token}
 use Rattle.strm_shared.specs.declared.view.View.{View}
@@ -47,9 +47,11 @@ returns-in-Ok-clause-ok g c =
     let none = (taken.2.made n rests.0.numbered).1 ∙ unbound in
     let free : is_in_set (state_of a.limits a.log) p.guest p.handle ≡ false = search rules in
     let limit = ap (λ (x : View). x.limits) after ∙ sym taken.2.of_limits in
+    let waiting : w.waiting ≡ waits_for r p =
+    ap (λ (x : View). x.waiting) after ∙ (ap (λ z. own_waits z b.waits) rests.0.numbered ∙ (ap (λ x. waits_by n x.waits) made ∙ begun_own n p r a.waits none)) in
     let turn : OneTurn n taken.0 v w a b =
-    record { rests = rests.0; enters = taken.2; limits = ap (λ x. x.limits) made; legal = c.in-Ok.ensures.legal; few = taken.3; after = after } in (
-      ap (λ (x : View). x.waiting) after ∙ (ap (λ z. own_waits z b.waits) rests.0.numbered ∙ (ap (λ x. waits_by n x.waits) made ∙ begun_own n p r a.waits none)),
+    record { rests = rests.0; enters = taken.2; limits = ap (λ x. x.limits) made; legal = c.in-Ok.ensures.legal; took = record { top = taken.4; few = taken.3; waits = taken.5 }; after = after } in (
+      waiting,
       (
         (
           a.log,
@@ -58,6 +60,7 @@ returns-in-Ok-clause-ok g c =
         ),
         ap (λ (x : View). x.turns) after,
         ap (λ (x : View). x.left) after ∙ (ap (λ x. x.waits) made ∙ ap (λ ws. begun r ws (wait n p)) (sym found)),
+        waiting,
       ),
     )
 
@@ -76,7 +79,7 @@ returns-in-Err-clause-err g c =
     let limit = ap (λ (x : View). x.limits) after ∙ sym taken.2.of_limits in
     let seen = ap (λ (x : View). x.seen) after ∙ ap (λ x. x.log) idle in
     let turn : OneTurn n taken.0 v w a b =
-    record { rests = c.requires.rests.0; enters = taken.2; limits = ap (λ x. x.limits) idle; legal = c.pass_idle-in-Err.ensures.legal; few = taken.3; after = after } in (
+    record { rests = c.requires.rests.0; enters = taken.2; limits = ap (λ x. x.limits) idle; legal = c.pass_idle-in-Err.ensures.legal; took = record { top = taken.4; few = taken.3; waits = taken.5 }; after = after } in (
       search rules,
       (
         idles (token c.args.seat.now.table_id n v) _ _ n taken.0 v w a b refl turn idle,

@@ -4,6 +4,12 @@ use Rattle.strm_shared.specs.Plays.{IsTurn, Seated}
 use Rattle.strm_shared.proofs.RuleLemmas.{pass_keeps}
 use Rattle.strm_shared.proofs.store.SharedStore.leave.Goals as goal
 
+pub returns-clause-recalls : goal.returns-clause-recalls
+returns-clause-recalls g c =
+    let e = c.exchange.ensures.3 in
+    let has : c.exchange.new.seat.me.1 ≡ (0, Some c.args.desk) ∷ [] = ap (λ (x : Seated). x.1) e ∙ ap (λ l. (0, Some c.args.desk) ∷ rest l) c.requires.turn.1 in
+    (c.fetch_add.ensures.2 c.args.desk has).1
+
 pub fetch_add-requires : goal.fetch_add-requires
 fetch_add-requires g c =
     let e = c.exchange.ensures.3 in let turn = c.requires.turn in let m : Seated = c.exchange.new.seat.me in

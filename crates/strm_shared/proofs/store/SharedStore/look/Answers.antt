@@ -41,13 +41,16 @@ returns-in-Some-deliver-clause-ok g c =
     let after = ap (λ (m : Seated). m.0) c.leave-in-Some-deliver.ensures.passed ∙ ap (λ (m : Seated). passed m.0 b) taken.1 in
     let found = ap (λ (x : View). x.found) after in
     let turns : w.turns ≡ v.turns + 1 = ap (λ (x : View). x.turns) after in
+    let waiting : w.waiting ≡ [] =
+    ap (λ (x : View). x.waiting) after ∙ (ap (λ z. own_waits z b.waits) rests.0.numbered ∙ (ap (λ x. waits_by n x.waits) made ∙ without_own n a.waits)) in
     let turn : OneTurn n taken.0 v w a b =
-    record { rests = rests.0; enters = taken.2; limits = ap (λ x. x.limits) made; legal = c.in-Some-deliver.ensures.legal; few = taken.3; after = after } in (
-      ap (λ (x : View). x.waiting) after ∙ (ap (λ z. own_waits z b.waits) rests.0.numbered ∙ (ap (λ x. waits_by n x.waits) made ∙ without_own n a.waits)),
+    record { rests = rests.0; enters = taken.2; limits = ap (λ x. x.limits) made; legal = c.in-Some-deliver.ensures.legal; took = record { top = taken.4; few = taken.3; waits = taken.5 }; after = after } in (
+      waiting,
       c.in-Some-deliver.ensures.turn.0,
       (
         (a.log, adds (token c.args.seat.now.table_id n v) _ _ n taken.0 v w a b (entry n (steps.Event c.args.place.guest c.args.place.handle) r) refl turn refl (ap (λ x. x.log) made)),
         omega arith,
         ap (λ (x : View). x.left) after ∙ (ap (λ x. x.waits) made ∙ ap (λ ws. without n ws) (sym found)),
+        waiting,
       ),
     )

@@ -5,7 +5,7 @@ use Rattle.strm_shared.specs.Waits.{wait, Has, IsClear}
 use Rattle.strm_shared.specs.Plays.{Seated, passed}
 use Rattle.strm_shared.specs.Tokens.{token}
 use Rattle.strm_shared.specs.declared.view.View.{View}
-use Rattle.strm_shared.proofs.CallLemmas.{OneTurn, adds, idles, not_own}
+use Rattle.strm_shared.proofs.CallLemmas.{OneTurn, adds, idles, not_own, waiting_kept}
 use Rattle.strm_shared.proofs.store.SharedStore.make.Goals as goal
 
 pub returns-in-Some-waiter-clause-err : goal.returns-in-Some-waiter-clause-err
@@ -24,7 +24,7 @@ returns-in-Some-waiter-clause-err g c =
     let none = (taken.2.made c.args.number rests.0.numbered).1 ∙ unbound in
     let found = ap (λ (x : View). x.found) after in
     let turn : OneTurn c.args.number taken.0 v w a b =
-    record { rests = rests.0; enters = taken.2; limits = ap (λ x. x.limits) idle; legal = c.pass_idle.ensures.legal; few = taken.3; after = after } in (
+    record { rests = rests.0; enters = taken.2; limits = ap (λ x. x.limits) idle; legal = c.pass_idle.ensures.legal; took = record { top = taken.4; few = taken.3; waits = taken.5 }; after = after } in (
       idles (token c.args.seat.now.table_id c.args.number v) _ _ c.args.number taken.0 v w a b refl turn idle,
       not_own c.args.number seat there.0 a.waits none there.2,
       (there.0, there.1, subst (Has (wait seat there.0)) (sym found) there.2),
@@ -41,10 +41,11 @@ returns-in-Ok-clause-ok g c =
     let after = ap (λ (m : Seated). m.0) c.leave-in-Ok.ensures.passed ∙ ap (λ (m : Seated). passed m.0 b) taken.1 in
     let found = ap (λ (x : View). x.found) after in
     let turn : OneTurn c.args.number taken.0 v w a b =
-    record { rests = c.requires.rests.0; enters = taken.2; limits = ap (λ x. x.limits) more; legal = c.in-Ok.ensures.legal; few = taken.3; after = after } in (
+    record { rests = c.requires.rests.0; enters = taken.2; limits = ap (λ x. x.limits) more; legal = c.in-Ok.ensures.legal; took = record { top = taken.4; few = taken.3; waits = taken.5 }; after = after } in (
       (a.log, adds (token c.args.seat.now.table_id c.args.number v) _ _ c.args.number taken.0 v w a b (entry c.args.number c.args.step.now c.in-Ok.reply) refl turn refl (ap (λ x. x.log) more)),
       ap (λ (x : View). x.turns) after,
       ap (λ (x : View). x.left) after ∙ (ap (λ x. x.waits) more ∙ sym found),
+      waiting_kept c.args.number taken.0 v w a b turn (ap (λ x. x.waits) more),
       subst (IsClear c.args.step.now) (sym found) c.in_default-waiter.ensures,
     )
 
@@ -60,7 +61,7 @@ returns-in-Err-clause-err g c =
     let after = ap (λ (m : Seated). m.0) c.leave-in-Err.ensures.passed ∙ ap (λ (m : Seated). passed m.0 b) taken.1 in
     let found = ap (λ (x : View). x.found) after in
     let turn : OneTurn c.args.number taken.0 v w a b =
-    record { rests = c.requires.rests.0; enters = taken.2; limits = ap (λ x. x.limits) idle; legal = c.pass_idle-in-Err.ensures.legal; few = taken.3; after = after } in (
+    record { rests = c.requires.rests.0; enters = taken.2; limits = ap (λ x. x.limits) idle; legal = c.pass_idle-in-Err.ensures.legal; took = record { top = taken.4; few = taken.3; waits = taken.5 }; after = after } in (
       idles (token c.args.seat.now.table_id c.args.number v) _ _ c.args.number taken.0 v w a b refl turn idle,
       subst (IsClear c.args.step.now) (sym found) c.in_default-waiter.ensures,
     )

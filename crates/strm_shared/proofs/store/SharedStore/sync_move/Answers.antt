@@ -1,8 +1,10 @@
 use Rattle.std.proofs.Common.{◌≡◌, IfOk, IfErr, subst, sym, rules, true, false}
 use Rattle.strm_shared.specs.Places.{is_move}
-use Rattle.strm_shared.specs.Tokens.{token}
+use Rattle.strm_shared.specs.Tokens.{token, Continues}
 use Rattle.strm_shared.specs.Causes.{MovesBy, FailsToMoveBy}
+use Rattle.strm_shared.proofs.CallLemmas.{rests_one}
 use Rattle.strm_shared.proofs.CauseLemmas.{move_host, move_worn}
+use Rattle.strm_shared.proofs.GrowLemmas.{continues_by, move_grows}
 use Rattle.strm_shared.proofs.store.SharedStore.sync_move.Goals as goal
 
 pub returns-then-is_move-clause-ok : goal.returns-then-is_move-clause-ok
@@ -46,3 +48,12 @@ returns-clause-err g c =
     let step = c.args.step.now in
     let is : is_move step ≡ false = search rules in
     subst (λ b. IfErr c.call.result (λ error. FailsToMoveBy b c.args.seat.now step error c.call.new.seat)) (sym is) c.call.ensures.err
+
+pub returns-then-is_move-clause-one : goal.returns-then-is_move-clause-one
+returns-then-is_move-clause-one g c =
+    let n = c.seat.inside.number in
+    let new = token c.shifts.new.seat.table_id n c.shifts.new.seat.me.0 in
+    let old = token c.seat.inside.inside.table_id n c.seat.inside.inside.me.0 in
+    let one = rests_one c.shifts.new.seat.table_id n c.shifts.new.seat.me.0 c.shifts.ensures.rests.0 in
+    subst (λ o. Continues o new) c.seat.view_is
+    (continues_by old new (move_grows old c.args.step.now new c.shifts.result c.shifts.ensures.ok c.shifts.ensures.err) one)
