@@ -9,6 +9,8 @@ mod cuts;
 #[cfg(test)]
 mod faults;
 #[cfg(test)]
+mod greatest;
+#[cfg(test)]
 mod lanes;
 #[cfg(test)]
 mod serving;
