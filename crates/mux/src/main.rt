@@ -13,9 +13,7 @@ ghost use Rattle.strm_mux.specs.Serving.{IsSizes, IsOutput, IsStatus, IsFaultles
 use std::alloc::Global;
 use std::process::ExitCode;
 use std::{env, io};
-use strm_mux::serving::{
-    BAD_LINE, DONE, OUT_OF_MEMORY, TOO_LONG, USAGE, WRITE_FAULT, mux_serve,
-};
+use strm_mux::serving::{BAD_LINE, DONE, OUT_OF_MEMORY, TOO_LONG, USAGE, WRITE_FAULT, mux_serve};
 use strm_ports::ports::{Sink, Source};
 use strm_ports::standard::{StdinSource, StdoutSink};
 

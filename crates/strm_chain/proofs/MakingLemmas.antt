@@ -23,10 +23,10 @@ use Rattle.strm_chain.specs.declared.stages.Stage.TheVariants.{Copy}
 use Rattle.strm_chain.specs.declared.workers.Worker.{Worker}
 use Rattle.strm_chain.specs.declared.workers.Doing.TheVariants.{Nothing, Reading, Writing, Ended}
 use Rattle.strm_chain.specs.Stages.{begun}
-use Rattle.strm_chain.specs.Playing.{Play, Adds, bytes_type}
+use Rattle.strm_chain.specs.Playing.{Play, no_play, Adds, bytes_type}
 use Rattle.strm_chain.specs.Flowing.{as_items, got_on}
 use Rattle.strm_chain.specs.Linking.{Sends, Takes}
-use Rattle.strm_chain.specs.Reporting.{tells_end, is_told}
+use Rattle.strm_chain.specs.Reporting.{last_report, tells_end, is_told}
 use Rattle.strm_chain.specs.Running.{guests_made, streams_made}
 use Rattle.strm_chain.specs.Keeping.{new_worker, worker_at, sink_of, Items, WritesOn, ReadsFrom, IsSink, IsJoined}
 use Rattle.strm_chain.specs.Making.{AreMade, IsNew, MakesPair, HasWrite, HasRead, source_of, AreJoined, IsReady}
@@ -50,6 +50,18 @@ no_streams made = append-nil made
 stream_more : (s : ℕ) → streams_made (s + 1) ≡ streams_made s ++ steps.Between s (s + 1) bytes_type ∷ []
 unfolding streams_made
 stream_more s = ap streams_made (add-one s)
+
+-- before the first step
+pub none_made : AreMade 0 0 no_play
+unfolding streams_made last_report
+none_made = record {
+  guests_are = refl;
+  streams_are = refl;
+  room = λ g l. absurd (omega (arith, l));
+  steps_are = refl;
+  even = refl;
+  quiet = λ g. refl;
+}
 
 pub guest_made : (p q : Play) (n k : ℕ) → Adds p q (steps.Guest 8192) (replies.Number n) → AreMade k 0 p → AreMade (k + 1) 0 q
 guest_made p q n k a m =

@@ -54,6 +54,9 @@ module _ (m : Moment) (s : ℕ) (first work : Work) (made : List ℕ) (got : Ite
   abbrev before : Option Operation
   before = (stream_at m.before s).reader.operation
 
+  abbrev after : Option Operation
+  after = (stream_at m.after s).reader.operation
+
   module _ (end : NamedEnd) (count : ℕ) (act : m.act ≡ OnEnd Reading end (Operate 0 count)) (guest : end.guest ≡ s + 1) (asks : end.ty ≡ bytes_type) (few : count ≤ 64) where
     called : (code : ReturnCode) → m.reply ≡ replies.Code code → TakesCall (scene s Reading m) (s + 1) 0 count
     called code reply =
@@ -68,7 +71,7 @@ module _ (m : Moment) (s : ℕ) (first work : Work) (made : List ℕ) (got : Ite
     low_at n more l = Low (payload_is m.before s ty) (ap (λ (p : Place). p.guest) here ∙ guest) (omega (arith, ap (λ (p : Place). p.address) here, more, l, few))
 
     -- a read that waits
-    pub own_read_waits : m.reply ≡ replies.Code codes.Blocked → Takes (s + 1) 0 first work made (memory_in m.before.guests (s + 1)) None got → Takes (s + 1) 0 first work made (memory_in m.after.guests (s + 1)) (stream_at m.after s).reader.operation (got ++ got_in s m) × ReceivesLow m s × IsSome (stream_at m.after s).reader.operation
+    pub own_read_waits : m.reply ≡ replies.Code codes.Blocked → Takes (s + 1) 0 first work made (memory_in m.before.guests (s + 1)) None got → Takes (s + 1) 0 first work made (memory_in m.after.guests (s + 1)) after (got ++ got_in s m) × ReceivesLow m s × IsSome after
     own_read_waits reply t =
         let o = opened Reading (scene s Reading m) (s + 1) 0 count change (called codes.Blocked reply) (call_report s Reading m codes.Blocked reply named) in (
           read_opens s (s + 1) 0 first work made m got (payload_is m.before s ty) end count o.1 o.0 act guest named o.2 t (omega (arith, room, few)) few,

@@ -99,7 +99,10 @@ module _ (p : Play) (ws : List Worker) (g chunk : ℕ) (j : IsJoined p ws) (l : 
   -- the guest goes on from a step on its write end, with so many bytes sent and doing this
   module _ (q : Play) (ws' : List Worker) (sent : ℕ) (d : Doing) (one : OneChanged g ws ws')
       (more : g + 1 < length ws) where
-    writer_again : Passes (length ws) p q (But g) Each → worker_at ws' g ≡ record w { doing = d; sent = sent } → w.doing ≢ Reading → d ≢ Reading → (handle : ℕ) → w.write ≡ Some handle → (d ≡ Ended → w.closed ≡ true) → WritesOn g (record w { doing = d; sent = sent }) q.state (got_on q.steps g) → IsJoined q ws'
+    abbrev changed : Worker
+    changed = record w { doing = d; sent = sent }
+
+    writer_again : Passes (length ws) p q (But g) Each → worker_at ws' g ≡ changed → w.doing ≢ Reading → d ≢ Reading → (handle : ℕ) → w.write ≡ Some handle → (d ≡ Ended → w.closed ≡ true) → WritesOn g changed q.state (got_on q.steps g) → IsJoined q ws'
     writer_again passes is a b handle has closed writes =
         let v : Worker = record w { doing = d; sent = sent } in
         joined_again p q ws ws' g j one

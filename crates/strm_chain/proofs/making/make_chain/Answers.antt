@@ -2,8 +2,11 @@ use Rattle.std.proofs.Common.{rules, ◌≡◌, ◌+◌, length, sym, subst, ari
 use Rattle.strm_chain.specs.Making.{AreMade, AreJoined, IsReady}
 use Rattle.strm_chain.proofs.MomentLemmas.{played_run}
 use Rattle.strm_chain.proofs.EndLemmas.{counts_are}
-use Rattle.strm_chain.proofs.MakingLemmas.{joined_last, ready_joined, ready_untold}
+use Rattle.strm_chain.proofs.MakingLemmas.{none_made, joined_last, ready_joined, ready_untold}
 use Rattle.strm_chain.proofs.making.make_chain.Goals as goal
+
+pub add_guests-requires : goal.add_guests-requires
+add_guests-requires c = subst (AreMade 0 0) (sym c.new-player.ensures) none_made
 
 pub loop-stage-init : goal.loop-stage-init
 loop-stage-init c =
