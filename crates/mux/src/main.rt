@@ -1,34 +1,64 @@
 //! The program of lanes: carries what its lines put on lanes over one stream, and writes each lane.
 #![tactic(auto)]
 
-ghost use Rattle.std.specs.Prelude.{◌≡◌, ◌≢◌, ℕ, List, Option, map, string_bytes};
+ghost use Rattle.std.specs.Prelude.{◌≡◌, ◌≢◌, ◌⊎◌, ℕ, List, map, string_bytes};
+ghost use Rattle.std.specs.Io.KnownBytes.{Appends};
 ghost use Rattle.std.specs.Process.{exit_status};
-ghost use Rattle.strm_mux.specs.Serving.{IsOutput, IsStatus};
+ghost use Rattle.strm_frames.specs.Frames.{Frame};
+ghost use Rattle.strm_lines.specs.Lines.{lines_of};
+ghost use Rattle.strm_ports.specs.Faults.{Rose, TakesPart};
+ghost use Rattle.strm_mux.specs.Lines.{Puts, IsFirstBad, IsTooLong};
+ghost use Rattle.strm_mux.specs.Serving.{IsSizes, IsOutput, IsStatus, IsFaultless};
 
 use std::alloc::Global;
-use std::io::{Read, Write};
 use std::process::ExitCode;
 use std::{env, io};
-use strm_mux::serving::{OUT_OF_MEMORY, WRITE_FAULT, mux_serve};
+use strm_mux::serving::{BAD_LINE, DONE, OUT_OF_MEMORY, TOO_LONG, USAGE, WRITE_FAULT, mux_serve};
+use strm_ports::ports::{Sink, Source};
 use strm_ports::standard::{StdinSource, StdoutSink};
 
-// Serves a reader and a writer. The program's status is that of `mux_serve`, and with it goes a text whose
-// cause is known, from what the reader had left.
-fn served<R: Read + Drop, W: Write + Drop>(
+// Serves a source and a sink. The program's status is that of `mux_serve`, and with it goes what that
+// writes.
+fn served<S: Source, K: Sink>(
     alloc: Global,
     words: &Vec<String>,
-    input: R,
-    output: W,
+    source: &mut S,
+    sink: &mut K,
 ) -> ExitCode
     ensures known { IsStatus (exit_status result) }
-    ensures told { exit_status result ≢ WRITE_FAULT → exit_status result ≢ OUT_OF_MEMORY →
-        (rest : Option (List ℕ)) × (faults : ℕ) × (text : List ℕ)
-        × IsOutput (map string_bytes words.now.items) (R.remaining input) rest
-        0 faults (exit_status result) text }
+    ensures told { exit_status result ≢ WRITE_FAULT → exit_status result ≢ OUT_OF_MEMORY → (text : List ℕ)
+        × IsOutput (map string_bytes words.now.items) (S.left source.old) (S.left source.new)
+        (S.faults source.old) (S.faults source.new) (exit_status result) text
+        × Appends (K.taken sink.old) (K.taken sink.new) text }
+    ensures part { exit_status result ≡ WRITE_FAULT → (status : ℕ) × (text : List ℕ)
+        × IsOutput (map string_bytes words.now.items) (S.left source.old) (S.left source.new)
+        (S.faults source.old) (S.faults source.new) status text
+        × TakesPart (K.taken sink.old) (K.taken sink.new) text }
+    ensures write_fault { exit_status result ≡ WRITE_FAULT →
+        Rose (K.faults sink.old) (K.faults sink.new) }
+    ensures nothing { exit_status result ≡ OUT_OF_MEMORY → sink.new ≡ sink.old }
+
+    // Lines that put something within the limit are carried and written, but for faults and want of
+    // memory; else the first bad line is told, that the input is too long, or how to call the program.
+    ensures complete { (input : List ℕ) (given : List Frame) →
+        IsFaultless (map string_bytes words.now.items) (S.left source.old) input
+        (S.faults source.old) (S.faults source.new) (K.faults sink.old) (K.faults sink.new) →
+        Puts (lines_of input) given → ¬ IsTooLong input →
+        (exit_status result ≡ DONE) ⊎ (exit_status result ≡ OUT_OF_MEMORY) }
+    ensures bad_line { (input : List ℕ) (line : ℕ) →
+        IsFaultless (map string_bytes words.now.items) (S.left source.old) input
+        (S.faults source.old) (S.faults source.new) (K.faults sink.old) (K.faults sink.new) →
+        IsFirstBad (lines_of input) line → ¬ IsTooLong input →
+        (exit_status result ≡ BAD_LINE) ⊎ (exit_status result ≡ OUT_OF_MEMORY) }
+    ensures too_long { (input : List ℕ) →
+        IsFaultless (map string_bytes words.now.items) (S.left source.old) input
+        (S.faults source.old) (S.faults source.new) (K.faults sink.old) (K.faults sink.new) →
+        IsTooLong input → (exit_status result ≡ TOO_LONG) ⊎ (exit_status result ≡ OUT_OF_MEMORY) }
+    ensures usage { ¬ IsSizes (map string_bytes words.now.items) →
+        ¬ Rose (K.faults sink.old) (K.faults sink.new) →
+        (exit_status result ≡ USAGE) ⊎ (exit_status result ≡ OUT_OF_MEMORY) }
 {
-    let mut source = StdinSource::new(input);
-    let mut sink = StdoutSink::new(output);
-    let status = mux_serve(alloc, words, &mut source, &mut sink);
+    let status = mux_serve(alloc, words, source, sink);
     ExitCode::from(status)
 }
 
@@ -49,5 +79,7 @@ fn main(rt: HostRuntime) -> io::Result<ExitCode> {
         // A word that is no UTF-8 is no number.
         Err(_) => {}
     }
-    Ok(served(alloc, &words, rt.stdin(), rt.stdout()))
+    let mut source = StdinSource::new(rt.stdin());
+    let mut sink = StdoutSink::new(rt.stdout());
+    Ok(served(alloc, &words, &mut source, &mut sink))
 }

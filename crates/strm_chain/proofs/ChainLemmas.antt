@@ -2,6 +2,7 @@
 use Rattle.std.proofs.Common.{◌≡◌, ◌≢◌, ℕ, ◌+◌, ◌-◌, ◌%◌, ◌<◌, ◌≤◌, Bool, true, false, List, [], ◌++◌, length, take, drop, refl, sym, ap, ◌∙◌, subst, inl, inr, arith}
 use Rattle.std.specs.Prelude.{Result, Ok, Err, IfOk, OnOk, map, None}
 use Rattle.std.proofs.Math.ListN.{get_or-map}
+use Rattle.std.proofs.lemmas.Bool.{cases_eq}
 use Rattle.std.proofs.lemmas.List.{ext_get_or, take-map, drop-map, length-map, length-append}
 use Rattle.strm_machine.specs.Plays.{play, Ends}
 use Rattle.strm_machine.specs.State.{State, empty, memory_in}
@@ -20,14 +21,19 @@ use Rattle.strm_chain.specs.declared.workers.ChainTurn.TheVariants.{Moved, Idle}
 use Rattle.strm_chain.specs.Stages.{composed}
 use Rattle.strm_chain.specs.Playing.{start, Play, IsPlayed}
 use Rattle.strm_chain.specs.Flowing.{got_on, Flows}
-use Rattle.strm_chain.specs.Turning.{Makes, Moves, IsIdle, TakesTurns, TakesSome, IsRun}
+use Rattle.strm_chain.specs.Reporting.{is_told}
+use Rattle.strm_chain.specs.Turning.{Turns}
+use Rattle.strm_chain.specs.Running.{guests_made, streams_made, AreTurns, AreSomeTurns, IsRun}
 use Rattle.strm_chain.specs.Turned.{Turned}
 use Rattle.strm_chain.specs.Making.{IsReady}
-use Rattle.strm_chain.specs.Keeping.{ChainState, new_worker, worker_at, sink_of, stages_of, input_of, IsJoined, IsJoinedUnless, IsChain, Begins, GoesOn}
+use Rattle.strm_chain.specs.Keeping.{ChainState, new_worker, worker_at, sink_of, stages_of, input_of, IsJoined, IsGoing, IsGoingUnless, IsChain, Begins, GoesOn}
 use Rattle.strm_chain.proofs.MomentLemmas.{played_run}
 use Rattle.strm_chain.proofs.JoinedLemmas.{OneChanged, either}
 use Rattle.strm_chain.proofs.TurnLemmas.{turn_joined}
-use Rattle.strm_chain.proofs.OutcomeLemmas.{turned_makes, turned_moves, turned_idle, turned_exactly, turned_stage, turned_source, turned_steps}
+use Rattle.strm_chain.proofs.PlayingLemmas.{follows_plays}
+use Rattle.strm_chain.proofs.ToldLemmas.{even_of, turned_other, turned_own}
+use Rattle.strm_chain.proofs.StandingLemmas.{stands}
+use Rattle.strm_chain.proofs.OutcomeLemmas.{turned_turns, turned_stage, turned_source, turned_steps}
 use Rattle.strm_chain.proofs.TurningLemmas.{run_of}
 use Rattle.strm_chain.proofs.EndLemmas.{plain_of, counts_are, output_is, flows, all_composed}
 
@@ -50,11 +56,27 @@ module _ {E : Type 0} (p q : Play) (ws ws' : List Worker) (g chunk : ℕ) (r : R
   abbrev IsTurned : Type 0
   IsTurned = IfOk r (λ turn. Turned g chunk (worker_at ws g) p turn (worker_at ws' g) q)
 
-  pub joined_ok : IsPlayed p → IsPlayed q → IsJoined p ws → IsTurned → OnOk r (IsJoined q ws')
-  joined_ok a b j t = by r t
+  -- the sink knows what it was told
+  told_on : (turn : ChainTurn) → IsPlayed p → IsGoing p ws → Turned g chunk (worker_at ws g) p turn (worker_at ws' g) q → is_told (length ws' - 1) q.steps q.replies ≡ (sink_of ws').closed
+  told_on turn a go y =
+      let k = length ws - 1 in
+      subst (λ n. is_told (n - 1) q.steps q.replies ≡ (worker_at ws' (n - 1)).closed) (sym one.many)
+      (elim (cases_eq g k) [
+        | inl e ↦ subst (λ n. is_told n q.steps q.replies ≡ (worker_at ws' n).closed) e
+            (turned_own g chunk (worker_at ws g) (worker_at ws' g) p q turn (even_of p a) (ap (λ n. (worker_at ws n).write) e ∙ go.joined.sink.write)
+            (subst (λ n. is_told n p.steps p.replies ≡ (worker_at ws n).closed) (sym e) go.told) y)
+        | inr ne ↦ turned_other k g chunk (worker_at ws g) (worker_at ws' g) p q turn (even_of p a) ne y ∙ go.told
+            ∙ sym (ap (λ (w : Worker). w.closed) (one.others k (λ e. ne (sym e))))
+      ])
+
+  pub going_ok : IsPlayed p → IsPlayed q → IsGoing p ws → IsTurned → OnOk r (IsGoing q ws')
+  going_ok a b go t = by r t
     where
-      by : (x : Result ChainTurn E) → IfOk x (λ turn. Turned g chunk (worker_at ws g) p turn (worker_at ws' g) q) → OnOk x (IsJoined q ws')
-      by (Ok turn) y = turn_joined p ws g chunk j there (played_run p a) within.1 q ws' turn (played_run q b).are one y
+      by : (x : Result ChainTurn E) → IfOk x (λ turn. Turned g chunk (worker_at ws g) p turn (worker_at ws' g) q) → OnOk x (IsGoing q ws')
+      by (Ok turn) y = record {
+        joined = turn_joined p ws g chunk go.joined there (played_run p a) within.1 q ws' turn (played_run q b).are one y;
+        told = told_on turn a go y;
+      }
       by (Err e) y = tt
 
   pub stages_ok : IsTurned → OnOk r (stages_of ws' ≡ stages_of ws)
@@ -72,33 +94,12 @@ module _ {E : Type 0} (p q : Play) (ws ws' : List Worker) (g chunk : ℕ) (r : R
           (λ none. turned_source g chunk (worker_at ws g) (worker_at ws' g) p q turn none y) j.source.0
       by (Err e) y = tt
 
-  pub makes_ok : IsTurned → OnOk r (Makes g chunk p q)
-  makes_ok t = by r t
+  pub turns_ok : IsGoing p ws → IsTurned → IfOk r (λ turn. Turns (length ws - 1) chunk g turn p q)
+  turns_ok go t = by r t
     where
-      by : (x : Result ChainTurn E) → IfOk x (λ turn. Turned g chunk (worker_at ws g) p turn (worker_at ws' g) q) → OnOk x (Makes g chunk p q)
-      by (Ok turn) y = turned_makes g chunk (worker_at ws g) (worker_at ws' g) p q turn (omega (arith, within.0)) y
+      by : (x : Result ChainTurn E) → IfOk x (λ turn. Turned g chunk (worker_at ws g) p turn (worker_at ws' g) q) → IfOk x (λ turn. Turns (length ws - 1) chunk g turn p q)
+      by (Ok turn) y = turned_turns (length ws - 1) g chunk (worker_at ws g) (worker_at ws' g) p q turn (omega (arith, within.0)) (stands p ws go g there) y
       by (Err e) y = tt
-
-  pub idle_ok : IsTurned → r ≡ Ok Idle → IsIdle g (worker_at ws g) p q
-  idle_ok t = by r t
-    where
-      by : (x : Result ChainTurn E) → IfOk x (λ turn. Turned g chunk (worker_at ws g) p turn (worker_at ws' g) q) → x ≡ Ok Idle → IsIdle g (worker_at ws g) p q
-      by (Ok turn) y e = turned_idle g chunk (worker_at ws g) (worker_at ws' g) p q turn y (let same : turn ≡ Idle = cc in same)
-      by (Err e) y f = cc
-
-  pub exactly_ok : IsTurned → IsIdle g (worker_at ws g) p q → IfOk r (λ turn. turn ≡ Idle)
-  exactly_ok t = by r t
-    where
-      by : (x : Result ChainTurn E) → IfOk x (λ turn. Turned g chunk (worker_at ws g) p turn (worker_at ws' g) q) → IsIdle g (worker_at ws g) p q → IfOk x (λ turn. turn ≡ Idle)
-      by (Ok turn) y i = turned_exactly g chunk (worker_at ws g) (worker_at ws' g) p q turn y i
-      by (Err e) y i = tt
-
-  pub moved_ok : IsTurned → r ≡ Ok Moved → Moves p q
-  moved_ok t = by r t
-    where
-      by : (x : Result ChainTurn E) → IfOk x (λ turn. Turned g chunk (worker_at ws g) p turn (worker_at ws' g) q) → x ≡ Ok Moved → Moves p q
-      by (Ok turn) y e = turned_moves g chunk (worker_at ws g) (worker_at ws' g) p q turn y (let same : turn ≡ Moved = cc in same)
-      by (Err e) y f = cc
 
   pub more_ok : IsTurned → OnOk r ((worker_at ws g).doing ≢ Ended → length p.steps < length q.steps)
   more_ok t = by r t
@@ -109,14 +110,14 @@ module _ {E : Type 0} (p q : Play) (ws ws' : List Worker) (g chunk : ℕ) (r : R
 
 -- ## A chain
 
-pub joined_of : (failed : Bool) (p : Play) (ws : List Worker) → IsJoinedUnless failed p ws → failed ≡ false → IsJoined p ws
-joined_of true p ws j e = cc
-joined_of false p ws j e = j
+pub going_of : (failed : Bool) (p : Play) (ws : List Worker) → IsGoingUnless failed p ws → failed ≡ false → IsGoing p ws
+going_of true p ws go e = cc
+going_of false p ws go e = go
 
-pub rests_of : (chain : ChainState) → IsChain chain → chain.failed ≡ false → (sink_of chain.workers).closed ≡ false → (sink_of chain.workers).doing ≢ Ended
+pub rests_of : (chain : ChainState) → IsChain chain → chain.failed ≡ false → is_told (length chain.workers - 1) chain.play.steps chain.play.replies ≡ false → (sink_of chain.workers).doing ≢ Ended
 rests_of chain c f untold e =
-    let j = joined_of chain.failed chain.play chain.workers c.joined f in
-    let wrong : false ≡ true = sym untold ∙ j.sink.ends e in cc
+    let go = going_of chain.failed chain.play chain.workers c.going f in
+    let wrong : false ≡ true = sym untold ∙ go.told ∙ go.joined.sink.ends e in cc
 
 pub goes_nowhere : (a : ChainState) → GoesOn a a
 goes_nowhere a = record { many = refl; stages = refl; input = refl; chunk = refl }
@@ -130,18 +131,12 @@ goes_further a b c x y = record {
 }
 
 -- the steps of a turn are behind those before it
-pub makes_longer : (g chunk : ℕ) (p q : Play) → Makes g chunk p q → length p.steps ≤ length q.steps
-makes_longer g chunk p q m = omega (arith, ap length m.steps_are, length-append p.steps m.made)
+pub turns_longer : (sink chunk g : ℕ) (turn : ChainTurn) (p q : Play) → Turns sink chunk g turn p q → length p.steps ≤ length q.steps
+turns_longer sink chunk g turn p q t = omega (arith, ap length t.steps_are, length-append p.steps t.made)
 
--- a run by a schedule
-module _ (stages : List Stage) (input : List ℕ) (chunk : ℕ) (schedule : List ℕ) (a b : ChainState) (steps : List Step)
-    (told : List Reply) (state : State) where
-  pub run_turned : Begins stages input chunk a → TakesTurns a.chunk (map (λ s. s % length a.workers) schedule) a.play b.play → steps ≡ b.play.steps → play [] start steps ≡ Ends told state → IsRun chunk (map (λ s. s % (length stages + 2)) schedule) steps told
-  run_turned x t e p =
-      run_of chunk (map (λ s. s % (length stages + 2)) schedule) a.play b.play steps told state x.makes
-      (subst (λ n. TakesTurns n (map (λ s. s % (length stages + 2)) schedule) a.play b.play) x.chunk_is
-      (subst (λ n. TakesTurns a.chunk (map (λ s. s % n) schedule) a.play b.play) x.many t))
-      e p
+-- the sink of a chain of these stages
+sink_number : (stages : List Stage) (input : List ℕ) (chunk : ℕ) (a b : ChainState) → Begins stages input chunk a → GoesOn a b → length b.workers - 1 ≡ length stages + 1
+sink_number stages input chunk a b x y = omega (arith, x.many, y.many)
 
 -- what flowed, of the stages and the input that it began with
 pub flows_begun : (stages : List Stage) (input : List ℕ) (chunk : ℕ) (a b : ChainState) (out : List ℕ) (steps : List Step) → Begins stages input chunk a → GoesOn a b → Flows (stages_of b.workers) (input_of b.workers) out steps → Flows stages input out steps
@@ -153,13 +148,14 @@ composed_begun stages input chunk a b out x y e =
     e ∙ ap (λ s. composed s (input_of b.workers)) (y.stages ∙ x.stages_are) ∙ ap (composed stages) (y.input ∙ x.input_is)
 
 -- the chain that was made
-pub begins_ready : (stages : List Stage) (input : List ℕ) (chunk : ℕ) (p : Play) (ws : List Worker) → IsReady stages input p ws → Begins stages input chunk (record { play = p; workers = ws; chunk = chunk; failed = false })
-begins_ready stages input chunk p ws r = record {
+pub begins_ready : (stages : List Stage) (input : List ℕ) (chunk : ℕ) (p : Play) (ws : List Worker) → IsReady stages input p ws → IsPlayed p → Begins stages input chunk (record { play = p; workers = ws; chunk = chunk; failed = false })
+begins_ready stages input chunk p ws r played = record {
   many = r.many;
   stages_are = r.stages_are;
   input_is = ap (λ (w : Worker). w.made) r.source.1;
   chunk_is = refl;
-  makes = r.made.makes;
+  steps_are = r.made.steps_are ∙ ap (λ n. guests_made n ++ streams_made (length stages + 1)) r.many;
+  plays = follows_plays p.steps p.replies p.state played;
   runs = refl;
 }
 
@@ -189,21 +185,38 @@ module _ (p : Play) (ws : List Worker) (some : (2 ≤ length ws) × (length ws �
 
 module _ {T E : Type 0} (steps : T → List Step) (replies : T → List Reply) (out : T → List ℕ) (ended : T → Bool)
     (stages : List Stage) (input : List ℕ) (chunk : ℕ) (a b : ChainState) (r : Result T E) (begins : Begins stages input chunk a) where
+  -- what it has come to is its play
+  abbrev pub IsPlayOf : Result T E → Type 0
+  IsPlayOf x = IfOk x (λ e. steps e ≡ b.play.steps) × IfOk x (λ e. replies e ≡ b.play.replies) × IfOk x (λ e. play [] start (steps e) ≡ Ends (replies e) b.play.state)
+
+  run_by : (whos : List ℕ) → AreTurns (length a.workers - 1) a.chunk whos a.play b.play → (x : Result T E) → IsPlayOf x → IfOk x (λ e. IsRun (length stages) chunk whos (steps e) (replies e))
+  run_by whos t (Ok e) p =
+      run_of (length stages) chunk whos a.play b.play (steps e) (replies e) begins.steps_are begins.plays
+      (subst (λ n. AreTurns n chunk whos a.play b.play) (omega (arith, begins.many)) (subst (λ n. AreTurns (length a.workers - 1) n whos a.play b.play) begins.chunk_is t))
+      p.0 p.1 p.2
+  run_by whos t (Err e) p = tt
+
   module _ (schedule : List ℕ) where
-    pub run_ok : TakesTurns a.chunk (map (λ s. s % length a.workers) schedule) a.play b.play → IfOk r (λ e. steps e ≡ b.play.steps) → IfOk r (λ e. play [] start (steps e) ≡ Ends (replies e) b.play.state) → IfOk r (λ e. IsRun chunk (map (λ s. s % (length stages + 2)) schedule) (steps e) (replies e))
-    run_ok turns = by r
-      where
-        by : (x : Result T E) → IfOk x (λ e. steps e ≡ b.play.steps) → IfOk x (λ e. play [] start (steps e) ≡ Ends (replies e) b.play.state) → IfOk x (λ e. IsRun chunk (map (λ s. s % (length stages + 2)) schedule) (steps e) (replies e))
-        by (Ok e) s p = run_turned stages input chunk schedule a b (steps e) (replies e) b.play.state begins turns s p
-        by (Err e) s p = tt
+    pub run_ok : AreTurns (length a.workers - 1) a.chunk (map (λ s. s % length a.workers) schedule) a.play b.play → IsPlayOf r → IfOk r (λ e. IsRun (length stages) chunk (map (λ s. s % (length stages + 2)) schedule) (steps e) (replies e))
+    run_ok turns p =
+        run_by (map (λ s. s % (length stages + 2)) schedule)
+        (subst (λ n. AreTurns (length a.workers - 1) a.chunk (map (λ s. s % n) schedule) a.play b.play) begins.many turns) r p
 
   -- by some schedule
-  pub some_run_ok : TakesSome a.chunk a.play b.play → IfOk r (λ e. steps e ≡ b.play.steps) → IfOk r (λ e. play [] start (steps e) ≡ Ends (replies e) b.play.state) → IfOk r (λ e. (whos : List ℕ) × IsRun chunk whos (steps e) (replies e))
-  some_run_ok turns = by r
+  pub some_run_ok : AreSomeTurns (length a.workers - 1) a.chunk a.play b.play → IsPlayOf r → IfOk r (λ e. (whos : List ℕ) × IsRun (length stages) chunk whos (steps e) (replies e))
+  some_run_ok turns p = by r (run_by turns.0 turns.1 r p)
     where
-      by : (x : Result T E) → IfOk x (λ e. steps e ≡ b.play.steps) → IfOk x (λ e. play [] start (steps e) ≡ Ends (replies e) b.play.state) → IfOk x (λ e. (whos : List ℕ) × IsRun chunk whos (steps e) (replies e))
-      by (Ok e) s p = (turns.0, run_of chunk turns.0 a.play b.play (steps e) (replies e) b.play.state begins.makes (subst (λ n. TakesTurns n turns.0 a.play b.play) begins.chunk_is turns.1) s p)
-      by (Err e) s p = tt
+      by : (x : Result T E) → IfOk x (λ e. IsRun (length stages) chunk turns.0 (steps e) (replies e)) → IfOk x (λ e. (whos : List ℕ) × IsRun (length stages) chunk whos (steps e) (replies e))
+      by (Ok e) y = (turns.0, y)
+      by (Err e) y = tt
+
+  -- it tells whether the sink was told
+  pub ended_ok : GoesOn a b → IfOk r (λ e. ended e ≡ is_told (length b.workers - 1) (steps e) (replies e)) → IfOk r (λ e. ended e ≡ is_told (length stages + 1) (steps e) (replies e))
+  ended_ok goes = by r
+    where
+      by : (x : Result T E) → IfOk x (λ e. ended e ≡ is_told (length b.workers - 1) (steps e) (replies e)) → IfOk x (λ e. ended e ≡ is_told (length stages + 1) (steps e) (replies e))
+      by (Ok e) f = f ∙ ap (λ n. is_told n (steps e) (replies e)) (sink_number stages input chunk a b begins goes)
+      by (Err e) f = tt
 
   pub flows_ok : GoesOn a b → IfOk r (λ e. Flows (stages_of b.workers) (input_of b.workers) (out e) (steps e)) → IfOk r (λ e. Flows stages input (out e) (steps e))
   flows_ok goes = by r
@@ -220,9 +233,28 @@ module _ {T E : Type 0} (steps : T → List Step) (replies : T → List Reply) (
       by (Err e) f = tt
 
   -- and where the sink was told
-  pub all_ok : GoesOn a b → (sink_of b.workers).closed ≡ true → IfOk r (λ e. ended e ≡ (sink_of b.workers).closed) → IfOk r (λ e. ended e ≡ true → out e ≡ composed (stages_of b.workers) (input_of b.workers)) → IfOk r (λ e. out e ≡ composed stages input)
-  all_ok goes told = by r
-    where
-      by : (x : Result T E) → IfOk x (λ e. ended e ≡ (sink_of b.workers).closed) → IfOk x (λ e. ended e ≡ true → out e ≡ composed (stages_of b.workers) (input_of b.workers)) → IfOk x (λ e. out e ≡ composed stages input)
-      by (Ok e) d f = composed_begun stages input chunk a b (out e) begins goes (f (d ∙ told))
-      by (Err e) d f = tt
+  module _ (goes : GoesOn a b) (told : is_told (length b.workers - 1) b.play.steps b.play.replies ≡ true) (plays : IsPlayOf r) where
+    told_by : (x : Result T E) → IsPlayOf x → IfOk x (λ e. is_told (length b.workers - 1) (steps e) (replies e) ≡ true)
+    told_by (Ok e) p = ap (λ xs. is_told (length b.workers - 1) xs (replies e)) p.0 ∙ ap (is_told (length b.workers - 1) b.play.steps) p.1 ∙ told
+    told_by (Err e) p = tt
+
+    pub told_ok : IfOk r (λ e. is_told (length stages + 1) (steps e) (replies e) ≡ true)
+    told_ok = by r (told_by r plays)
+      where
+        by : (x : Result T E) → IfOk x (λ e. is_told (length b.workers - 1) (steps e) (replies e) ≡ true) → IfOk x (λ e. is_told (length stages + 1) (steps e) (replies e) ≡ true)
+        by (Ok e) f = ap (λ n. is_told n (steps e) (replies e)) (sym (sink_number stages input chunk a b begins goes)) ∙ f
+        by (Err e) f = tt
+
+    pub all_ended_ok : IfOk r (λ e. ended e ≡ is_told (length b.workers - 1) (steps e) (replies e)) → IfOk r (λ e. ended e ≡ true)
+    all_ended_ok = by r (told_by r plays)
+      where
+        by : (x : Result T E) → IfOk x (λ e. is_told (length b.workers - 1) (steps e) (replies e) ≡ true) → IfOk x (λ e. ended e ≡ is_told (length b.workers - 1) (steps e) (replies e)) → IfOk x (λ e. ended e ≡ true)
+        by (Ok e) f g = g ∙ f
+        by (Err e) f g = tt
+
+    pub all_ok : IfOk r (λ e. ended e ≡ is_told (length b.workers - 1) (steps e) (replies e)) → IfOk r (λ e. ended e ≡ true → out e ≡ composed (stages_of b.workers) (input_of b.workers)) → IfOk r (λ e. out e ≡ composed stages input)
+    all_ok d f = by r (all_ended_ok d) f
+      where
+        by : (x : Result T E) → IfOk x (λ e. ended e ≡ true) → IfOk x (λ e. ended e ≡ true → out e ≡ composed (stages_of b.workers) (input_of b.workers)) → IfOk x (λ e. out e ≡ composed stages input)
+        by (Ok e) d f = composed_begun stages input chunk a b (out e) begins goes (f d)
+        by (Err e) d f = tt

@@ -49,6 +49,19 @@ length-items (b ∷ bytes) = ap suc (length-items bytes)
 items_again : (got : Items) (bytes : List ℕ) → got ≡ as_items bytes → got ≡ as_items (plain_of got)
 items_again got bytes e = e ∙ ap as_items (sym (plain-items bytes) ∙ ap plain_of (sym e))
 
+-- ## Where guests stand
+
+-- a guest has ended or not
+pub ended_or : (d : Doing) → (d ≡ Ended) ⊎ (d ≢ Ended)
+ended_or Ended = inl refl
+ended_or Nothing = inr (λ e. cc)
+ended_or Reading = inr (λ e. cc)
+ended_or Writing = inr (λ e. cc)
+
+-- an end that is held is not gone
+pub held_stays : (o : Owner) (g h : ℕ) → o ≡ Held g h → is_gone o ≡ true → ⊥
+held_stays o g h e f = let wrong : false ≡ true = sym (ap is_gone e) ∙ f in cc
+
 -- ## Stages
 
 -- the stage behind stream i is that of guest i + 1
@@ -150,15 +163,6 @@ module _ (p : Play) (ws : List Worker) (some : 2 ≤ length ws) (j : IsJoined p 
   }
 
   -- ## Where it has ended
-
-  ended_or : (d : Doing) → (d ≡ Ended) ⊎ (d ≢ Ended)
-  ended_or Ended = inl refl
-  ended_or Nothing = inr (λ e. cc)
-  ended_or Reading = inr (λ e. cc)
-  ended_or Writing = inr (λ e. cc)
-
-  held_stays : (o : Owner) (g h : ℕ) → o ≡ Held g h → is_gone o ≡ true → ⊥
-  held_stays o g h e f = let wrong : false ≡ true = sym (ap is_gone e) ∙ f in cc
 
   -- where the next guest has nothing more to read, this one has ended
   before_ended : (s : ℕ) → s + 1 < length ws → (worker_at ws (s + 1)).closed ≡ true → (worker_at ws s).doing ≡ Ended

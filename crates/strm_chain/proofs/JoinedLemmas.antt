@@ -19,9 +19,9 @@ use Rattle.strm_machine.specs.declared.replies.Reply.{Reply}
 use Rattle.strm_machine.proofs.StreamSteps.{StreamsStay, reaction_streams}
 use Rattle.strm_machine.proofs.TableLemmas.{owner_in}
 use Rattle.strm_chain.specs.declared.workers.Worker.{Worker}
-use Rattle.strm_chain.specs.Playing.{Play, Adds}
+use Rattle.strm_chain.specs.Playing.{Play, Adds, bytes_type}
 use Rattle.strm_chain.specs.Flowing.{got_on}
-use Rattle.strm_chain.specs.Keeping.{bytes_type, worker_at, sink_of, Items, IsPlain, WritesOn, ReadsFrom, Joins, IsSink, IsJoined}
+use Rattle.strm_chain.specs.Keeping.{worker_at, sink_of, Items, IsPlain, WritesOn, ReadsFrom, Joins, IsSink, IsJoined}
 use Rattle.strm_chain.proofs.MomentLemmas.{moment_at, IsSeen}
 use Rattle.strm_chain.proofs.RegionLemmas.{ReceivesLow, nothing_put}
 use Rattle.strm_chain.proofs.AfterLemmas.{Steady, Forsaken}

@@ -18,7 +18,9 @@ pub mod OwnLemmas
 pub mod TurnedLemmas
 pub mod ReadTurnLemmas
 pub mod TurnLemmas
-pub mod OutcomeLemmas
 pub mod EndLemmas
+pub mod ToldLemmas
+pub mod StandingLemmas
+pub mod OutcomeLemmas
 pub mod MakingLemmas
 pub mod ChainLemmas

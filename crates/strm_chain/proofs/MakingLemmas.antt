@@ -1,9 +1,8 @@
 -- The making of a chain leaves it joined.
-use Rattle.std.proofs.Common.{◌≡◌, ◌≢◌, ℕ, zero, suc, ◌+◌, ◌-◌, ◌<◌, ◌≤◌, true, false, List, [], ◌∷◌, ◌++◌, length, take, drop, get_or, set, Option, Some, None, refl, sym, ap, ◌∙◌, subst, inl, inr, arith}
-use Rattle.std.specs.Prelude.{map, All, replicate}
+use Rattle.std.proofs.Common.{◌≡◌, ◌≢◌, ℕ, zero, suc, ◌+◌, ◌-◌, ◌<◌, ◌≤◌, true, false, List, [], ◌∷◌, ◌++◌, length, take, drop, get_or, set, Option, Some, None, refl, sym, ap, ◌∙◌, subst, inl, inr, append_assoc, add-one, arith}
+use Rattle.std.specs.Prelude.{map, replicate}
 use Rattle.std.proofs.lemmas.Bool.{cases_eq, cases_lt}
-use Rattle.std.proofs.lemmas.List.{append-nil, length_push, length-set, length-replicate, length-map, take_more, take_all, map_push}
-use Rattle.std.proofs.lemmas.List.Elements.{All-push}
+use Rattle.std.proofs.lemmas.List.{append-nil, length_push, length-set, length-replicate, length-map, take_more, take_all, map_push, replicate_more}
 use Rattle.strm_handles.specs.Handles.{no_handles, Handles}
 use Rattle.strm_sets.specs.Sets.{no_sets}
 use Rattle.strm_machine.specs.State.{State, Guest, no_guest, no_stream, guest_in, memory_in, with_handles, stream_at}
@@ -22,22 +21,47 @@ use Rattle.strm_machine.proofs.TableLemmas.{at_push, set-keeps}
 use Rattle.strm_chain.specs.declared.stages.Stage.{Stage}
 use Rattle.strm_chain.specs.declared.stages.Stage.TheVariants.{Copy}
 use Rattle.strm_chain.specs.declared.workers.Worker.{Worker}
-use Rattle.strm_chain.specs.declared.workers.Doing.TheVariants.{Nothing, Ended}
+use Rattle.strm_chain.specs.declared.workers.Doing.TheVariants.{Nothing, Reading, Writing, Ended}
 use Rattle.strm_chain.specs.Stages.{begun}
-use Rattle.strm_chain.specs.Playing.{Play, Adds}
+use Rattle.strm_chain.specs.Playing.{Play, no_play, Adds, bytes_type}
 use Rattle.strm_chain.specs.Flowing.{as_items, got_on}
 use Rattle.strm_chain.specs.Linking.{Sends, Takes}
-use Rattle.strm_chain.specs.Turning.{IsMaking}
-use Rattle.strm_chain.specs.Keeping.{bytes_type, new_worker, worker_at, Items, WritesOn, ReadsFrom, IsSink, IsJoined}
+use Rattle.strm_chain.specs.Reporting.{last_report, tells_end, is_told}
+use Rattle.strm_chain.specs.Running.{guests_made, streams_made}
+use Rattle.strm_chain.specs.Keeping.{new_worker, worker_at, sink_of, Items, WritesOn, ReadsFrom, IsSink, IsJoined}
 use Rattle.strm_chain.specs.Making.{AreMade, IsNew, MakesPair, HasWrite, HasRead, source_of, AreJoined, IsReady}
 use Rattle.strm_chain.proofs.StageLemmas.{done-none, left-none}
 use Rattle.strm_chain.proofs.NamingLemmas.{IsPerformed, performed}
+use Rattle.strm_chain.proofs.ToldLemmas.{even_adds, last-adds}
+use Rattle.strm_machine.specs.declared.steps.Step.{Step}
 
 -- ## Guests
 
 guest_is : (state next : State) (size n : ℕ) → IsPerformed state (Make (AGuest size)) (replies.Number n) next → next ≡ record state { guests = state.guests ++ (record { memory = replicate size 0; base = None; handles = no_handles; sets = no_sets }) ∷ [] }
 unfolding performs
 guest_is state next size n p = sym (ap (λ (r : Reaction). r.state) p.does)
+
+-- ## The steps of the making so far
+
+no_streams : (made : List Step) → made ++ streams_made 0 ≡ made
+unfolding streams_made
+no_streams made = append-nil made
+
+stream_more : (s : ℕ) → streams_made (s + 1) ≡ streams_made s ++ steps.Between s (s + 1) bytes_type ∷ []
+unfolding streams_made
+stream_more s = ap streams_made (add-one s)
+
+-- before the first step
+pub none_made : AreMade 0 0 no_play
+unfolding streams_made last_report
+none_made = record {
+  guests_are = refl;
+  streams_are = refl;
+  room = λ g l. absurd (omega (arith, l));
+  steps_are = refl;
+  even = refl;
+  quiet = λ g. refl;
+}
 
 pub guest_made : (p q : Play) (n k : ℕ) → Adds p q (steps.Guest 8192) (replies.Number n) → AreMade k 0 p → AreMade (k + 1) 0 q
 guest_made p q n k a m =
@@ -50,7 +74,9 @@ guest_made p q n k a m =
       room = λ g l.
           ap (λ xs. length (memory_in xs g)) guests
           ∙ at_push p.state.guests x no_guest g (λ (y : Guest). length y.memory ≡ 8192) (λ e. length-replicate {A = ℕ} 8192 0) (λ ne. m.room g (omega (arith, l, m.guests_are, ne)));
-      makes = subst (All IsMaking) (sym a.steps_are) (All-push IsMaking p.steps (steps.Guest 8192) m.makes refl);
+      steps_are = a.steps_are ∙ ap (λ xs. xs ++ steps.Guest 8192 ∷ []) (m.steps_are ∙ no_streams (guests_made k)) ∙ replicate_more k (steps.Guest 8192) ∙ sym (no_streams (guests_made (k + 1)));
+      even = even_adds p q (steps.Guest 8192) (replies.Number n) a m.even;
+      quiet = λ g. last-adds g p q (steps.Guest 8192) (replies.Number n) a m.even ∙ m.quiet g;
     }
 
 -- ## Streams
@@ -89,7 +115,10 @@ pair_made p q s pair a =
         guests_are = is.many ∙ m.guests_are;
         streams_are = ap length is.streams ∙ length_push p.state.streams x ∙ ap (λ i. i + 1) m.streams_are;
         room = λ g l. ap length (is.memory g) ∙ m.room g l;
-        makes = subst (All IsMaking) (sym a.steps_are) (All-push IsMaking p.steps step m.makes tt);
+        steps_are = a.steps_are ∙ ap (λ xs. xs ++ step ∷ []) m.steps_are ∙ append_assoc (guests_made guests) (streams_made s) (step ∷ [])
+            ∙ ap (λ xs. guests_made guests ++ xs) (sym (stream_more s));
+        even = even_adds p q step (replies.Pair pair) a m.even;
+        quiet = λ g. last-adds g p q step (replies.Pair pair) a m.even ∙ m.quiet g;
       };
       new = λ e. ap (λ xs. get_or xs s no_stream) is.streams ∙ at_push p.state.streams x no_stream s (λ y. y ≡ x) (λ f. refl) (λ ne. absurd (ne (sym e)));
       others = λ k l. ap (λ xs. get_or xs k no_stream) is.streams
@@ -222,6 +251,8 @@ ready_joined stages input p ws r counts = record {
           owner = λ _. ap (λ (x : Stream). x.writer.owner) a.new;
           sends = rw (write_none, nothing, a.rests.0) (record { front = refl; within = omega arith; offers = tt });
           idle = λ _. write_none;
+          busy = λ e. absurd (let wrong : Nothing ≡ Writing = sym a.rests.1 ∙ e in cc);
+          gone = λ e. absurd (let wrong : Nothing ≡ Ended = sym a.rests.1 ∙ e in cc);
           over = λ e. absurd (let wrong : Nothing ≡ Ended = sym a.rests.1 ∙ e in cc);
         };
         reads = record {
@@ -237,6 +268,8 @@ ready_joined stages input p ws r counts = record {
             goes_on = ap (λ (x : Worker). x.work) b.fresh ∙ sym (left-none (begun v.work.stage));
           });
           idle = λ _. read_none;
+          busy = λ e. absurd (let wrong : Nothing ≡ Reading = sym (ap (λ (x : Worker). x.doing) b.fresh) ∙ e in cc);
+          unclosed = λ _. ap (λ (x : Worker). x.closed) b.fresh;
           plain = rw read_none tt;
           gone = λ e. absurd (let wrong : false ≡ true = sym (ap (λ (x : Worker). x.closed) b.fresh) ∙ e in cc);
         };
@@ -246,10 +279,16 @@ ready_joined stages input p ws r counts = record {
     write = ap (λ (x : Worker). x.write) r.sink.1;
     copies = ap stage_of r.sink.1;
     ends = λ e. absurd (let wrong : Nothing ≡ Ended = sym (ap (λ (x : Worker). x.doing) r.sink.1) ∙ e in cc);
+    ended = λ e. absurd (let wrong : false ≡ true = sym (ap (λ (x : Worker). x.closed) r.sink.1) ∙ e in cc);
   };
 }
 
--- ## The steps of the making
+-- and its sink was told nothing
+pub ready_untold : (stages : List Stage) (input : List ℕ) (p : Play) (ws : List Worker) → IsReady stages input p ws → is_told (length ws - 1) p.steps p.replies ≡ (sink_of ws).closed
+ready_untold stages input p ws r =
+    ap tells_end (r.made.quiet (length ws - 1)) ∙ sym (ap (λ (x : Worker). x.closed) r.sink.1)
+
+-- ## The calls of the making
 
 pub source_added : (input : List ℕ) (stages : List Stage) (guests : ℕ) (p q : Play) (pair : Pair) (ws : List Worker) → AreMade guests 0 p → MakesPair 0 p pair q → ws ≡ source_of input pair.write ∷ [] → AreJoined input 0 pair.read stages q ws × AreMade guests 1 q
 source_added input stages guests p q pair ws m x e =

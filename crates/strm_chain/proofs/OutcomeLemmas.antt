@@ -1,10 +1,12 @@
--- What a turn says of itself: its steps, whether it was idle, and what it leaves of its guest.
+-- What a turn says of itself: its steps, what it answers, and what it leaves of its guest.
 use Rattle.std.proofs.Common.{◌≡◌, ◌≢◌, ℕ, ◌+◌, ◌-◌, ◌<◌, ◌≤◌, List, [], ◌∷◌, ◌++◌, length, true, Some, None, refl, sym, ap, ◌∙◌, subst, inl, inr, append_assoc, arith}
 use Rattle.std.specs.Prelude.{count_by}
 use Rattle.std.proofs.lemmas.List.{append-nil, length_push}
 use Rattle.std.proofs.lemmas.List.Elements.{All-nil, All-cons}
+use Rattle.strm_codes.specs.Codes.{count_of}
 use Rattle.strm_codes.specs.declared.codes.ReturnCode.{ReturnCode}
-use Rattle.strm_machine.specs.Reactions.{Reaction}
+use Rattle.strm_codes.specs.declared.codes.ReturnCode.TheVariants as codes
+use Rattle.strm_machine.specs.Plays.{Ends as EndsSo, is_settled}
 use Rattle.strm_machine.specs.declared.steps.Step.{Step}
 use Rattle.strm_machine.specs.declared.steps.Step.TheVariants as steps
 use Rattle.strm_machine.specs.declared.replies.Reply.{Reply}
@@ -14,160 +16,123 @@ use Rattle.strm_chain.specs.declared.workers.Doing.{Doing}
 use Rattle.strm_chain.specs.declared.workers.Doing.TheVariants.{Nothing, Reading, Writing, Ended}
 use Rattle.strm_chain.specs.declared.workers.ChainTurn.{ChainTurn}
 use Rattle.strm_chain.specs.declared.workers.ChainTurn.TheVariants.{Moved, Idle}
-use Rattle.strm_chain.specs.Playing.{Play, Adds}
-use Rattle.strm_chain.specs.Keeping.{bytes_type}
-use Rattle.strm_chain.specs.Turning.{IsCount, IsStepOf, is_event, is_move, Makes, Moves, IsAt, HearsNone, IsIdle}
+use Rattle.strm_chain.specs.Playing.{Play, Adds, bytes_type}
+use Rattle.strm_chain.specs.Turning.{IsCount, IsStepOf, is_event, is_call, HasCall, Answers, NoStep, NoReport, Report, Call, Turns}
 use Rattle.strm_chain.specs.Turned.{Reads, HearsRead, TakesIn, Pokes, Writes, HearsWrite, HandsOver, Drops, Turned, Rests, Waits, ReadOpens, ReadServes, ReadSettles, WriteOpens, WriteServes, WriteSettles, Ends}
 use Rattle.strm_chain.proofs.StageLemmas.{left-stage}
-use Rattle.strm_chain.proofs.TurnedLemmas.{one_handle, no_handle}
+use Rattle.strm_chain.proofs.PlayingLemmas.{play-goes}
+use Rattle.strm_chain.proofs.StandingLemmas.{Stands}
+use Rattle.strm_chain.proofs.TurnedLemmas.{apart_doing, no_handle}
 
 -- ## Its steps
 
-makes_one : (g chunk : ℕ) (p q : Play) (step : Step) (reply : Reply) → Adds p q step reply → IsStepOf g chunk step → count_by is_event (step ∷ []) ≤ 1 → Makes g chunk p q
-makes_one g chunk p q step reply a own few = record {
-  made = step ∷ [];
-  steps_are = a.steps_are;
-  own = All-cons (IsStepOf g chunk) step [] own (All-nil (IsStepOf g chunk));
-  few = few;
-}
+-- the turn's one step, or its two
+module _ (sink g chunk : ℕ) (turn : ChainTurn) where
+  turns_one : (p q : Play) (step : Step) (reply : Reply) → Adds p q step reply → is_settled reply ≡ true → IsStepOf g chunk step → count_by is_event (step ∷ []) ≤ 1 → Answers sink g p (step ∷ []) (reply ∷ []) turn → Turns sink chunk g turn p q
+  turns_one p q step reply a settled own few answers = record {
+    made = step ∷ [];
+    told = reply ∷ [];
+    steps_are = a.steps_are;
+    replies_are = a.replies_are;
+    plays = play-goes [] p.state q.state step [] reply settled a.reacts;
+    own = All-cons (IsStepOf g chunk) step [] own (All-nil (IsStepOf g chunk));
+    few = few;
+    answers = answers;
+  }
 
-makes_two : (g chunk : ℕ) (p q r : Play) (step other : Step) (reply answer : Reply) → Adds p q step reply → Adds q r other answer → IsStepOf g chunk step → IsStepOf g chunk other → count_by is_event (step ∷ other ∷ []) ≤ 1 → Makes g chunk p r
-makes_two g chunk p q r step other reply answer a b own too few = record {
-  made = step ∷ other ∷ [];
-  steps_are = b.steps_are ∙ ap (λ xs. xs ++ other ∷ []) a.steps_are ∙ append_assoc p.steps (step ∷ []) (other ∷ []);
-  own = All-cons (IsStepOf g chunk) step (other ∷ []) own (All-cons (IsStepOf g chunk) other [] too (All-nil (IsStepOf g chunk)));
-  few = few;
-}
+  module _ (p q r : Play) (step other : Step) (reply answer : Reply) where
+    turns_two : Adds p q step reply → Adds q r other answer → is_settled reply ≡ true → is_settled answer ≡ true → IsStepOf g chunk step → IsStepOf g chunk other → count_by is_event (step ∷ other ∷ []) ≤ 1 → Answers sink g p (step ∷ other ∷ []) (reply ∷ answer ∷ []) turn → Turns sink chunk g turn p r
+    turns_two a b settled too own other_own few answers = record {
+      made = step ∷ other ∷ [];
+      told = reply ∷ answer ∷ [];
+      steps_are = b.steps_are ∙ ap (λ xs. xs ++ other ∷ []) a.steps_are ∙ append_assoc p.steps (step ∷ []) (other ∷ []);
+      replies_are = b.replies_are ∙ ap (λ xs. xs ++ answer ∷ []) a.replies_are ∙ append_assoc p.replies (reply ∷ []) (answer ∷ []);
+      plays = play-goes [] p.state q.state step (other ∷ []) reply settled a.reacts ∙ play-goes (reply ∷ []) q.state r.state other [] answer too b.reacts;
+      own = All-cons (IsStepOf g chunk) step (other ∷ []) own (All-cons (IsStepOf g chunk) other [] other_own (All-nil (IsStepOf g chunk)));
+      few = few;
+      answers = answers;
+    }
 
-pub turned_makes : (g chunk : ℕ) (w w' : Worker) (p q : Play) (turn : ChainTurn) → 1 ≤ chunk → Turned g chunk w p turn w' q → Makes g chunk p q
-turned_makes g chunk w w' p q turn some (Rests t e is same) = record {
-  made = [];
-  steps_are = ap (λ (x : Play). x.steps) same ∙ sym (append-nil p.steps);
-  own = All-nil (IsStepOf g chunk);
-  few = omega arith;
-}
-turned_makes g chunk w w' p q turn some (Waits t is x) = makes_one g chunk p q _ _ x.hears refl (omega arith)
-turned_makes g chunk w w' p q turn some (ReadOpens t x is) = makes_one g chunk p q _ _ x.adds (refl, record { some = some; most = omega arith }) (omega arith)
-turned_makes g chunk w w' p q turn some (ReadServes mid code t x y) = makes_two g chunk p mid q _ _ _ _ x.adds y.dumps (refl, record { some = some; most = omega arith }) refl (omega arith)
-turned_makes g chunk w w' p q turn some (ReadSettles mid code t x y) = makes_two g chunk p mid q _ _ _ _ x.adds y.dumps refl refl (omega arith)
-turned_makes g chunk w w' p q turn some (WriteOpens t x is) = makes_two g chunk p x.mid q _ _ _ _ x.pokes.adds x.adds refl (refl, x.pokes.some) (omega arith)
-turned_makes g chunk w w' p q turn some (WriteServes code t x h) = makes_two g chunk p x.mid q _ _ _ _ x.pokes.adds x.adds refl (refl, x.pokes.some) (omega arith)
-turned_makes g chunk w w' p q turn some (WriteSettles code t x h) = makes_one g chunk p q _ _ x.adds refl (omega arith)
-turned_makes g chunk w w' p q turn some (Ends t x) = makes_one g chunk p q _ _ x.adds refl (omega arith)
-
--- ## Moved
-
-moves_one : (p q : Play) (step : Step) (reply : Reply) → Adds p q step reply → is_move step reply ≡ true → Moves p q
-moves_one p q step reply a e = record {
+-- the first of these steps is a call, or the second
+call_first : (step : Step) (reply : Reply) (later : List Step) (rest : List Reply) → is_call step reply ≡ true → HasCall (step ∷ later) (reply ∷ rest)
+call_first step reply later rest is = record {
   before = [];
-  told = [];
-  even = refl;
+  told_before = [];
+  step = step;
+  reply = reply;
+  later = later;
+  told_later = rest;
+  steps_are = refl;
+  replies_are = refl;
+  is = is;
+}
+
+call_second : (first step : Step) (told reply : Reply) → is_call step reply ≡ true → HasCall (first ∷ step ∷ []) (told ∷ reply ∷ [])
+call_second first step told reply is = record {
+  before = first ∷ [];
+  told_before = told ∷ [];
   step = step;
   reply = reply;
   later = [];
   told_later = [];
-  steps_are = a.steps_are;
-  replies_are = a.replies_are;
-  moves = e;
+  steps_are = refl;
+  replies_are = refl;
+  is = is;
 }
 
-moves_first : (p q r : Play) (step other : Step) (reply answer : Reply) → Adds p q step reply → Adds q r other answer → is_move step reply ≡ true → Moves p r
-moves_first p q r step other reply answer a b e = record {
-  before = [];
-  told = [];
-  even = refl;
-  step = step;
-  reply = reply;
-  later = other ∷ [];
-  told_later = answer ∷ [];
-  steps_are = b.steps_are ∙ ap (λ xs. xs ++ other ∷ []) a.steps_are ∙ append_assoc p.steps (step ∷ []) (other ∷ []);
-  replies_are = b.replies_are ∙ ap (λ xs. xs ++ answer ∷ []) a.replies_are ∙ append_assoc p.replies (reply ∷ []) (answer ∷ []);
-  moves = e;
-}
+module _ (sink g chunk : ℕ) (w w' : Worker) (p q : Play) (turn : ChainTurn) (some : 1 ≤ chunk) (at : Stands sink g w p) where
+  -- what a guest that has no operation does is a call
+  calls : (made : List Step) (told : List Reply) → turn ≡ Moved → w.doing ≡ Nothing → HasCall made told → Answers sink g p made told turn
+  calls made told t rests x = Call t (at.going (apart_doing w Nothing Ended rests (λ e. cc))) (at.free rests) x
 
-moves_second : (p q r : Play) (step other : Step) (reply answer : Reply) → Adds p q step reply → Adds q r other answer → is_move other answer ≡ true → Moves p r
-moves_second p q r step other reply answer a b e = record {
-  before = step ∷ [];
-  told = reply ∷ [];
-  even = refl;
-  step = other;
-  reply = answer;
-  later = [];
-  told_later = [];
-  steps_are = b.steps_are ∙ ap (λ xs. xs ++ other ∷ []) a.steps_are ∙ append_assoc p.steps (step ∷ []) (other ∷ []);
-  replies_are = b.replies_are ∙ ap (λ xs. xs ++ answer ∷ []) a.replies_are ∙ append_assoc p.replies (reply ∷ []) (answer ∷ []);
-  moves = e;
-}
+  asked : IsCount chunk chunk
+  asked = record { some = some; most = omega arith }
 
-not_both : (turn : ChainTurn) → turn ≡ Idle → turn ≡ Moved → ⊥
-not_both turn e f = let wrong : Idle ≡ Moved = sym e ∙ f in cc
+  writes : (code : ReturnCode) → turn ≡ Moved → Writes g chunk w p q code → Turns sink chunk g turn p q
+  writes code t x =
+      let poke = steps.Poke g 64 x.bytes in
+      let step = steps.Write g bytes_type x.handle 64 (length x.bytes) in
+      turns_two sink g chunk turn p x.mid q poke step replies.Done (replies.Code code) x.pokes.adds x.adds refl refl refl (refl, x.pokes.some) (omega arith)
+      (calls (poke ∷ step ∷ []) (replies.Done ∷ replies.Code code ∷ []) t x.pokes.rests (call_second poke step replies.Done (replies.Code code) refl))
 
-pub turned_moves : (g chunk : ℕ) (w w' : Worker) (p q : Play) (turn : ChainTurn) → Turned g chunk w p turn w' q → turn ≡ Moved → Moves p q
-turned_moves g chunk w w' p q turn (Rests t e is same) m = absurd (not_both turn t m)
-turned_moves g chunk w w' p q turn (Waits t is x) m = absurd (not_both turn t m)
-turned_moves g chunk w w' p q turn (ReadOpens t x is) m = moves_one p q _ _ x.adds refl
-turned_moves g chunk w w' p q turn (ReadServes mid code t x y) m = moves_first p mid q _ _ _ _ x.adds y.dumps refl
-turned_moves g chunk w w' p q turn (ReadSettles mid code t x y) m = moves_first p mid q _ _ _ _ x.adds y.dumps refl
-turned_moves g chunk w w' p q turn (WriteOpens t x is) m = moves_second p x.mid q _ _ _ _ x.pokes.adds x.adds refl
-turned_moves g chunk w w' p q turn (WriteServes code t x h) m = moves_second p x.mid q _ _ _ _ x.pokes.adds x.adds refl
-turned_moves g chunk w w' p q turn (WriteSettles code t x h) m = moves_one p q _ _ x.adds refl
-turned_moves g chunk w w' p q turn (Ends t x) m = moves_one p q _ _ x.adds refl
-
--- ## Idle
-
-pub turned_idle : (g chunk : ℕ) (w w' : Worker) (p q : Play) (turn : ChainTurn) → Turned g chunk w p turn w' q → turn ≡ Idle → IsIdle g w p q
-turned_idle g chunk w w' p q turn (Rests t e is same) m = inl (e, same)
-turned_idle g chunk w w' p q turn (Waits t is x) m = inr x
-turned_idle g chunk w w' p q turn (ReadOpens t x is) m = absurd (not_both turn m t)
-turned_idle g chunk w w' p q turn (ReadServes mid code t x y) m = absurd (not_both turn m t)
-turned_idle g chunk w w' p q turn (ReadSettles mid code t x y) m = absurd (not_both turn m t)
-turned_idle g chunk w w' p q turn (WriteOpens t x is) m = absurd (not_both turn m t)
-turned_idle g chunk w w' p q turn (WriteServes code t x h) m = absurd (not_both turn m t)
-turned_idle g chunk w w' p q turn (WriteSettles code t x h) m = absurd (not_both turn m t)
-turned_idle g chunk w w' p q turn (Ends t x) m = absurd (not_both turn m t)
-
-two_doings : (d a b : Doing) → d ≡ a → d ≡ b → a ≢ b → ⊥
-two_doings d a b e f ne = ne (sym e ∙ f)
-
--- a guest that has no operation and has not ended is not idle
-rests_moves : (g : ℕ) (w : Worker) (p q : Play) → w.doing ≡ Nothing → IsIdle g w p q → ⊥
-rests_moves g w p q e (inl x) = two_doings w.doing Nothing Ended e x.0 (λ f. cc)
-rests_moves g w p q e (inr x) = by x.has
-  where
-    by : IsAt w x.handle → ⊥
-    by (inl y) = two_doings w.doing Nothing Reading e y.0 (λ f. cc)
-    by (inr y) = two_doings w.doing Nothing Writing e y.0 (λ f. cc)
-
--- nor is one that is told of its operation
-told_otherwise : (g h i : ℕ) (p q r : Play) (code : ReturnCode) → h ≡ i → Adds p q (steps.Event g h) (replies.Event (Some code)) → Adds p r (steps.Event g i) (replies.Event None) → ⊥
-told_otherwise g h i p q r code e a b =
-    let same = sym (subst (λ k. Adds p q (steps.Event g k) (replies.Event (Some code))) e a).reacts ∙ b.reacts in
-    let wrong : replies.Event (Some code) ≡ replies.Event None = ap (λ (x : Reaction). x.reply) same in cc
-
-told_moves : (g : ℕ) (w : Worker) (p q : Play) (r : Play) (h : ℕ) (code : ReturnCode) → IsAt w h → Adds p q (steps.Event g h) (replies.Event (Some code)) → w.doing ≢ Ended → ((i : ℕ) → IsAt w i → h ≡ i) → IsIdle g w p r → ⊥
-told_moves g w p q r h code at a ne one (inl x) = ne x.0
-told_moves g w p q r h code at a ne one (inr x) = told_otherwise g h x.handle p q r code (one x.handle x.has) a x.hears
-
-read_at : (w : Worker) (h i : ℕ) → w.doing ≡ Reading → w.read ≡ Some h → IsAt w i → h ≡ i
-read_at w h i e has (inl x) = one_handle w.read h i has x.1
-read_at w h i e has (inr x) = absurd (two_doings w.doing Reading Writing e x.0 (λ f. cc))
-
-write_at : (w : Worker) (h i : ℕ) → w.doing ≡ Writing → w.write ≡ Some h → IsAt w i → h ≡ i
-write_at w h i e has (inl x) = absurd (two_doings w.doing Writing Reading e x.0 (λ f. cc))
-write_at w h i e has (inr x) = one_handle w.write h i has x.1
-
-pub turned_exactly : (g chunk : ℕ) (w w' : Worker) (p q : Play) (turn : ChainTurn) → Turned g chunk w p turn w' q → IsIdle g w p q → turn ≡ Idle
-turned_exactly g chunk w w' p q turn (Rests t e is same) m = t
-turned_exactly g chunk w w' p q turn (Waits t is x) m = t
-turned_exactly g chunk w w' p q turn (ReadOpens t x is) m = absurd (rests_moves g w p q x.rests m)
-turned_exactly g chunk w w' p q turn (ReadServes mid code t x y) m = absurd (rests_moves g w p q x.rests m)
-turned_exactly g chunk w w' p q turn (ReadSettles mid code t x y) m =
-    absurd (told_moves g w p mid q x.handle code (inl (x.waits, x.has)) x.adds (λ e. two_doings w.doing Reading Ended x.waits e (λ f. cc)) (λ i at. read_at w x.handle i x.waits x.has at) m)
-turned_exactly g chunk w w' p q turn (WriteOpens t x is) m = absurd (rests_moves g w p q x.pokes.rests m)
-turned_exactly g chunk w w' p q turn (WriteServes code t x h) m = absurd (rests_moves g w p q x.pokes.rests m)
-turned_exactly g chunk w w' p q turn (WriteSettles code t x h) m =
-    absurd (told_moves g w p q q x.handle code (inr (x.waits, x.has)) x.adds (λ e. two_doings w.doing Writing Ended x.waits e (λ f. cc)) (λ i at. write_at w x.handle i x.waits x.has at) m)
-turned_exactly g chunk w w' p q turn (Ends t x) m = absurd (rests_moves g w p q x.rests m)
+  pub turned_turns : Turned g chunk w p turn w' q → Turns sink chunk g turn p q
+  turned_turns (Rests t e is same) = record {
+    made = [];
+    told = [];
+    steps_are = ap (λ (x : Play). x.steps) same ∙ sym (append-nil p.steps);
+    replies_are = ap (λ (x : Play). x.replies) same ∙ sym (append-nil p.replies);
+    plays = ap (λ (x : Play). EndsSo [] x.state) (sym same);
+    own = All-nil (IsStepOf g chunk);
+    few = omega arith;
+    answers = NoStep t (at.ended e) refl;
+  }
+  turned_turns (Waits t is x) =
+      turns_one sink g chunk turn p q (steps.Event g x.handle) (replies.Event None) x.hears refl refl (omega arith)
+      (NoReport x.handle t (at.busy x.handle x.has) refl refl)
+  turned_turns (ReadOpens t x is) =
+      let step = steps.Read g bytes_type x.handle 0 chunk in
+      let reply = replies.Code codes.Blocked in
+      turns_one sink g chunk turn p q step reply x.adds refl (refl, asked) (omega arith)
+      (calls (step ∷ []) (reply ∷ []) t x.rests (call_first step reply [] [] refl))
+  turned_turns (ReadServes mid code t x y) =
+      let step = steps.Read g bytes_type x.handle 0 chunk in
+      let dump = steps.Dump g 0 (count_of code) in
+      turns_two sink g chunk turn p mid q step dump (replies.Code code) (replies.Bytes y.bytes) x.adds y.dumps refl refl (refl, asked) refl (omega arith)
+      (calls (step ∷ dump ∷ []) (replies.Code code ∷ replies.Bytes y.bytes ∷ []) t x.rests (call_first step (replies.Code code) (dump ∷ []) (replies.Bytes y.bytes ∷ []) refl))
+  turned_turns (ReadSettles mid code t x y) =
+      let step = steps.Event g x.handle in
+      let dump = steps.Dump g 0 (count_of code) in
+      turns_two sink g chunk turn p mid q step dump (replies.Event (Some code)) (replies.Bytes y.bytes) x.adds y.dumps refl refl refl refl (omega arith)
+      (Report x.handle code (dump ∷ []) (replies.Bytes y.bytes ∷ []) t (at.busy x.handle (inl (x.waits, x.has))) refl refl)
+  turned_turns (WriteOpens t x is) = writes codes.Blocked t x
+  turned_turns (WriteServes code t x h) = writes code t x
+  turned_turns (WriteSettles code t x h) =
+      turns_one sink g chunk turn p q (steps.Event g x.handle) (replies.Event (Some code)) x.adds refl refl (omega arith)
+      (Report x.handle code [] [] t (at.busy x.handle (inr (x.waits, x.has))) refl refl)
+  turned_turns (Ends t x) =
+      let step = steps.DropWrite g bytes_type x.handle in
+      turns_one sink g chunk turn p q step replies.Done x.adds refl refl (omega arith)
+      (calls (step ∷ []) (replies.Done ∷ []) t x.rests (call_first step replies.Done [] [] refl))
 
 -- ## Its guest
 

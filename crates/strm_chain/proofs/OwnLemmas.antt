@@ -1,5 +1,6 @@
 -- What a guest's own reads, writes and events do to its links.
 use Rattle.std.proofs.Common.{◌≡◌, ◌≢◌, ℕ, zero, suc, ◌+◌, ◌-◌, ◌<◌, ◌≤◌, min, true, false, List, [], ◌∷◌, ◌++◌, length, take, drop, Option, Some, None, refl, sym, ap, ◌∙◌, subst, arith}
+use Rattle.std.specs.Prelude.{IsSome}
 use Rattle.std.proofs.lemmas.List.{append-nil, length-drop, length-take-le}
 use Rattle.strm_codes.specs.Codes.{count_of}
 use Rattle.strm_codes.specs.declared.codes.ReturnCode.{ReturnCode}
@@ -21,10 +22,11 @@ use Rattle.strm_machine.specs.declared.acts.EndAct.TheVariants.{Operate}
 use Rattle.strm_machine.specs.declared.acts.NamedEnd.{NamedEnd}
 use Rattle.strm_machine.specs.declared.replies.Reply.TheVariants as replies
 use Rattle.strm_machine.proofs.Changes.{Scene, scene, Change, ByRest, ByGoing, BySettling, ByOpening, ByServing, Settles}
+use Rattle.strm_chain.specs.Playing.{bytes_type}
 use Rattle.strm_chain.specs.declared.stages.Work.{Work}
 use Rattle.strm_chain.specs.Linking.{Sends, Takes, Arrived, HoldsIf, Holds}
 use Rattle.strm_chain.specs.Flowing.{as_items}
-use Rattle.strm_chain.specs.Keeping.{bytes_type, Items}
+use Rattle.strm_chain.specs.Keeping.{Items}
 use Rattle.strm_chain.proofs.UnnamedLemmas.{sends_in}
 use Rattle.strm_chain.proofs.RegionLemmas.{ReceivesLow, Nothing, Low}
 use Rattle.strm_chain.proofs.NamedLemmas.{TakesCall, opened, served, write_opens, write_serves, write_settles, call_taken, call_report, event_report, event_takes, read_opens, read_serves, read_settles}
@@ -52,6 +54,9 @@ module _ (m : Moment) (s : ℕ) (first work : Work) (made : List ℕ) (got : Ite
   abbrev before : Option Operation
   before = (stream_at m.before s).reader.operation
 
+  abbrev after : Option Operation
+  after = (stream_at m.after s).reader.operation
+
   module _ (end : NamedEnd) (count : ℕ) (act : m.act ≡ OnEnd Reading end (Operate 0 count)) (guest : end.guest ≡ s + 1) (asks : end.ty ≡ bytes_type) (few : count ≤ 64) where
     called : (code : ReturnCode) → m.reply ≡ replies.Code code → TakesCall (scene s Reading m) (s + 1) 0 count
     called code reply =
@@ -66,11 +71,12 @@ module _ (m : Moment) (s : ℕ) (first work : Work) (made : List ℕ) (got : Ite
     low_at n more l = Low (payload_is m.before s ty) (ap (λ (p : Place). p.guest) here ∙ guest) (omega (arith, ap (λ (p : Place). p.address) here, more, l, few))
 
     -- a read that waits
-    pub own_read_waits : m.reply ≡ replies.Code codes.Blocked → Takes (s + 1) 0 first work made (memory_in m.before.guests (s + 1)) None got → Takes (s + 1) 0 first work made (memory_in m.after.guests (s + 1)) (stream_at m.after s).reader.operation (got ++ got_in s m) × ReceivesLow m s
+    pub own_read_waits : m.reply ≡ replies.Code codes.Blocked → Takes (s + 1) 0 first work made (memory_in m.before.guests (s + 1)) None got → Takes (s + 1) 0 first work made (memory_in m.after.guests (s + 1)) after (got ++ got_in s m) × ReceivesLow m s × IsSome after
     own_read_waits reply t =
         let o = opened Reading (scene s Reading m) (s + 1) 0 count change (called codes.Blocked reply) (call_report s Reading m codes.Blocked reply named) in (
           read_opens s (s + 1) 0 first work made m got (payload_is m.before s ty) end count o.1 o.0 act guest named o.2 t (omega (arith, room, few)) few,
           low_at o.1 o.2.more (omega (arith, o.2.left)),
+          subst IsSome (sym o.2.is) refl,
         )
 
     -- a read that is over at once
@@ -164,10 +170,12 @@ module _ (m : Moment) (g sent : ℕ) (made : List ℕ) (got : Items)
         ∙ ap (λ t. record { guest = end.guest; address = 64; asked = items_asked t count; report = report_in g Writing m } ∷ []) asks)
 
     -- a write that waits
-    pub own_write_waits : m.reply ≡ replies.Code codes.Blocked → Sends g 64 sent made (memory_in m.after.guests g) (stream_at m.after g).writer.operation (got ++ got_in g m)
+    pub own_write_waits : m.reply ≡ replies.Code codes.Blocked → Sends g 64 sent made (memory_in m.after.guests g) (stream_at m.after g).writer.operation (got ++ got_in g m) × IsSome (stream_at m.after g).writer.operation
     own_write_waits reply =
-        let o = opened Writing (scene g Writing m) g 64 count change (calls codes.Blocked reply) (call_report g Writing m codes.Blocked reply named) in
-        write_opens g g 64 sent made (memory_in m.after.guests g) m got (payload_is m.before g ty) size (λ c l. same c) count o.1 o.0 o.2 old lies within inside
+        let o = opened Writing (scene g Writing m) g 64 count change (calls codes.Blocked reply) (call_report g Writing m codes.Blocked reply named) in (
+          write_opens g g 64 sent made (memory_in m.after.guests g) m got (payload_is m.before g ty) size (λ c l. same c) count o.1 o.0 o.2 old lies within inside,
+          subst IsSome (sym o.2.is) refl,
+        )
 
     -- a write that is over at once
     pub own_write_serves : (code : ReturnCode) → code ≢ codes.Blocked → m.reply ≡ replies.Code code → Sends g 64 (sent + count_of code) made (memory_in m.after.guests g) (stream_at m.after g).writer.operation (got ++ got_in g m) × ((stream_at m.after g).writer.operation ≡ None)

@@ -23,7 +23,8 @@ after-goes told (replies.BadItem s) state next h = cc
 after-goes told replies.StoreTrapped state next h = cc
 after-goes told _ state next h = refl
 
-play-goes : (told : List Reply) (state next : State) (step : Step) (more : List Step) (reply : Reply) → is_settled reply ≡ true → react state step ≡ goes reply next → play told state (step ∷ more) ≡ play (told ++ reply ∷ []) next more
+-- a step that is settled, and those behind it
+pub play-goes : (told : List Reply) (state next : State) (step : Step) (more : List Step) (reply : Reply) → is_settled reply ≡ true → react state step ≡ goes reply next → play told state (step ∷ more) ≡ play (told ++ reply ∷ []) next more
 play-goes told state next step more reply h e =
     ap (λ (r : Reaction). after_step told r.reply r.state (λ told' state'. play told' state' more)) e
     ∙ after-goes told reply next (λ told' state'. play told' state' more) h

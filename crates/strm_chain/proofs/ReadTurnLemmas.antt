@@ -27,10 +27,10 @@ use Rattle.strm_chain.specs.declared.workers.Doing.{Doing}
 use Rattle.strm_chain.specs.declared.workers.Doing.TheVariants.{Nothing, Reading, Writing, Ended}
 use Rattle.strm_chain.specs.declared.workers.ChainTurn.{ChainTurn}
 use Rattle.strm_chain.specs.Stages.{begun, left, done}
-use Rattle.strm_chain.specs.Playing.{Play, Adds}
+use Rattle.strm_chain.specs.Playing.{Play, Adds, bytes_type}
 use Rattle.strm_chain.specs.Flowing.{as_items, got_on}
 use Rattle.strm_chain.specs.Linking.{Sends, Takes, Arrived, Offers, OffersIf}
-use Rattle.strm_chain.specs.Keeping.{bytes_type, worker_at, sink_of, Items, IsPlain, WritesOn, ReadsFrom, IsSink, IsJoined}
+use Rattle.strm_chain.specs.Keeping.{worker_at, sink_of, Items, IsPlain, WritesOn, ReadsFrom, IsSink, IsJoined}
 use Rattle.strm_chain.specs.Turned.{Reads, HearsRead, after_read, EndsRead, WithMore, WithLast, TakesIn, Pokes, Writes, HearsWrite, HandsOver, Drops, Turned, Rests, Waits, ReadOpens, ReadServes, ReadSettles, WriteOpens, WriteServes, WriteSettles, Ends}
 use Rattle.strm_chain.proofs.StageLemmas.{left-stage}
 use Rattle.strm_chain.proofs.LinkLemmas.{takes_arrived}
@@ -120,6 +120,8 @@ module _ (p : Play) (ws : List Worker) (g chunk : ℕ) (j : IsJoined p ws) (l : 
             owner = after.steady.owner s ARead ∙ r.owner;
             takes = subst (Takes (s + 1) 0 (begun w.work.stage) w.work w.made (memory_in mid.state.guests (s + 1)) (stream_at mid.state s).reader.operation) (sym (look.got s)) own.0;
             idle = λ n. absurd (n refl);
+            busy = λ e. own.2;
+            unclosed = λ e. x.unclosed;
             plain = after.steady.plain s r.plain;
             gone = λ c. ap is_gone (after.steady.owner s AWrite) ∙ r.gone c;
           },
@@ -214,11 +216,16 @@ module _ (p : Play) (ws : List Worker) (g chunk : ℕ) (j : IsJoined p ws) (l : 
         write = refl;
         stage = refl;
         source = λ none. absurd (no_handle w.read x.handle none x.has);
-        sink = λ k. record { write = k.write; copies = k.copies; ends = λ f. absurd (let wrong = f in cc) };
+        sink = λ k. record {
+          write = k.write;
+          copies = k.copies;
+          ends = λ f. absurd (let wrong = f in cc);
+          ended = λ c. absurd (let wrong : false ≡ true = sym x.unclosed ∙ c in cc);
+        };
       }))
       (fewer (length ws) p q Each (But s) (But g) (λ k. k + 1 ≢ g) waits.0 (λ k _. tt) (λ k ne f. ne (ap (λ n. n + 1) f ∙ sym b.is)))
       (λ more. subst (λ u. WritesOn g u q.state (got_on q.steps g)) (sym is)
-      (writes_doing g w Reading q.state (got_on q.steps g) (apart_doing w Nothing Ended x.rests (λ e. cc)) (apart_doing w Nothing Writing x.rests (λ e. cc)) (λ e. cc)
+      (writes_doing g w Reading q.state (got_on q.steps g) (apart_doing w Nothing Ended x.rests (λ e. cc)) (apart_doing w Nothing Writing x.rests (λ e. cc)) (λ e. cc) (λ e. cc)
       (waits.0.writes g w more tt (j.joins g more).writes)))
       (λ k more f.
       let same : k ≡ s = omega (arith, f) in

@@ -1,5 +1,6 @@
 -- A step leaves the links as they are whose ends it does not name.
 use Rattle.std.proofs.Common.{◌≡◌, ◌≢◌, ℕ, ◌+◌, ◌<◌, ◌≤◌, true, false, ℤ, List, [], ◌++◌, length, Option, Some, None, refl, sym, ap, ◌∙◌, subst, inl, inr, arith}
+use Rattle.std.specs.Prelude.{IsSome}
 use Rattle.std.proofs.lemmas.Bool.{cases_lt}
 use Rattle.std.proofs.lemmas.List.{get_or_past, append-nil}
 use Rattle.strm_codes.specs.Layout.{scalars_of}
@@ -20,9 +21,9 @@ use Rattle.strm_machine.specs.declared.streams.Stream.{Stream}
 use Rattle.strm_machine.proofs.Changes.{Scene, scene, Change}
 use Rattle.strm_chain.specs.declared.workers.Worker.{Worker}
 use Rattle.strm_chain.specs.Linking.{Sends, Takes}
-use Rattle.strm_chain.specs.Playing.{Play}
+use Rattle.strm_chain.specs.Playing.{Play, bytes_type}
 use Rattle.strm_chain.specs.Flowing.{got_on}
-use Rattle.strm_chain.specs.Keeping.{bytes_type, worker_at, Items, IsPlain, WritesOn, ReadsFrom, IsJoined}
+use Rattle.strm_chain.specs.Keeping.{worker_at, Items, IsPlain, WritesOn, ReadsFrom, IsJoined}
 use Rattle.strm_chain.specs.Stages.{begun}
 use Rattle.strm_chain.proofs.UnnamedLemmas.{Still, Resting, Going, still}
 use Rattle.strm_chain.proofs.RegionLemmas.{ReceivesLow, Nothing}
@@ -50,6 +51,16 @@ some_none o x e f = let wrong : Some x ≡ None = sym e ∙ f in cc
 pub idle_stays : (side : Side) (v : Scene) → Still side v → (end_of side v.before).operation ≡ None → (end_of side v.after).operation ≡ None
 idle_stays side v (Resting r) e = r.is
 idle_stays side v (Going o p n x) e = absurd (some_none _ o x.was e)
+
+-- it is not one that has some
+pub no_operation : (o : Option Operation) → o ≡ None → IsSome o → ⊥
+no_operation None e some = cc
+no_operation (Some o) e some = cc
+
+-- and one with an operation has one
+pub busy_stays : (side : Side) (v : Scene) → Still side v → IsSome (end_of side v.before).operation → IsSome (end_of side v.after).operation
+busy_stays side v (Resting r) some = absurd (no_operation _ r.was some)
+busy_stays side v (Going o p n x) some = subst IsSome (sym x.is) refl
 
 -- no item is received where no stream changes
 nothing_got : (pay : Payload) (guests : List Guest) (g address n : ℕ) → n ≡ 0 → items_in pay guests g address n ≡ []
@@ -95,6 +106,8 @@ module _ (m : Moment) (s : ℕ) (w : Worker) (got new : Items) (ty : type_of (st
     sends = subst (Sends s 64 w.sent w.made (memory_in m.after.guests s) (stream_at m.after s).writer.operation) (sym e)
         (writer_keeps m s w.sent w.made got (payload_is m.before s ty) unnamed change aside there put low h.sends);
     idle = λ n. idle_stays Writing (scene s Writing m) (still s Writing m unnamed change) (h.idle n);
+    busy = λ e. busy_stays Writing (scene s Writing m) (still s Writing m unnamed change) (h.busy e);
+    gone = λ e. ap is_gone owner ∙ h.gone e;
     over = h.over;
   }
 
@@ -114,6 +127,8 @@ module _ (m : Moment) (s : ℕ) (w : Worker) (got new : Items) where
             sends = subst (Sends s 64 w.sent w.made (memory_in m.after.guests s) (stream_at m.after s).writer.operation) (sym (e ∙ ap (λ x. got ++ x) r.nothing ∙ append-nil got))
                 (subst (λ o. Sends s 64 w.sent w.made (memory_in m.after.guests s) o got) (sym r.is) (record { front = old.front; within = old.within; offers = tt }));
             idle = λ n. r.is;
+            busy = λ e. absurd (no_operation _ none (h.busy e));
+            gone = λ e. ap is_gone owner ∙ h.gone e;
             over = h.over;
           }
 
@@ -133,6 +148,8 @@ module _ (m : Moment) (s : ℕ) (w : Worker) (got new : Items) (ty : type_of (st
     takes = subst (Takes (s + 1) 0 (begun w.work.stage) w.work w.made (memory_in m.after.guests (s + 1)) (stream_at m.after s).reader.operation) (sym e)
         (reader_keeps m s (begun w.work.stage) w.work w.made got (payload_is m.before s ty) unnamed change aside there put low h.takes);
     idle = λ n. idle_stays Reading (scene s Reading m) (still s Reading m unnamed change) (h.idle n);
+    busy = λ e. busy_stays Reading (scene s Reading m) (still s Reading m unnamed change) (h.busy e);
+    unclosed = h.unclosed;
     plain = plain h.plain;
     gone = λ c. gone (h.gone c);
   }

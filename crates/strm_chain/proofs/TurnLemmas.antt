@@ -27,12 +27,11 @@ use Rattle.strm_chain.specs.declared.workers.Doing.{Doing}
 use Rattle.strm_chain.specs.declared.workers.Doing.TheVariants.{Nothing, Reading, Writing, Ended}
 use Rattle.strm_chain.specs.declared.workers.ChainTurn.{ChainTurn}
 use Rattle.strm_chain.specs.Stages.{begun, left, done}
-use Rattle.strm_chain.specs.Playing.{Play, Adds}
+use Rattle.strm_chain.specs.Playing.{Play, Adds, bytes_type}
 use Rattle.strm_chain.specs.Flowing.{as_items, got_on}
 use Rattle.strm_chain.specs.Linking.{Sends, Takes, Arrived, Offers, OffersIf}
-use Rattle.strm_chain.specs.Keeping.{bytes_type, worker_at, sink_of, Items, IsPlain, WritesOn, ReadsFrom, IsSink, IsJoined}
-use Rattle.strm_chain.specs.Turning.{HearsNone}
-use Rattle.strm_chain.specs.Turned.{Reads, HearsRead, after_read, EndsRead, WithMore, WithLast, TakesIn, Pokes, Writes, HearsWrite, HandsOver, Drops, Turned, Rests, Waits, ReadOpens, ReadServes, ReadSettles, WriteOpens, WriteServes, WriteSettles, Ends}
+use Rattle.strm_chain.specs.Keeping.{worker_at, sink_of, Items, IsPlain, WritesOn, ReadsFrom, IsSink, IsJoined}
+use Rattle.strm_chain.specs.Turned.{HearsNone, Reads, HearsRead, after_read, EndsRead, WithMore, WithLast, TakesIn, Pokes, Writes, HearsWrite, HandsOver, Drops, Turned, Rests, Waits, ReadOpens, ReadServes, ReadSettles, WriteOpens, WriteServes, WriteSettles, Ends}
 use Rattle.strm_chain.proofs.StageLemmas.{left-stage}
 use Rattle.strm_chain.proofs.LinkLemmas.{takes_arrived}
 use Rattle.strm_chain.proofs.RegionLemmas.{ReceivesLow, nothing_put, write_region_stays}
@@ -100,8 +99,11 @@ module _ (p : Play) (ws : List Worker) (g chunk : ℕ) (j : IsJoined p ws) (l : 
   -- the guest goes on from a step on its write end, with so many bytes sent and doing this
   module _ (q : Play) (ws' : List Worker) (sent : ℕ) (d : Doing) (one : OneChanged g ws ws')
       (more : g + 1 < length ws) where
-    writer_again : Passes (length ws) p q (But g) Each → worker_at ws' g ≡ record w { doing = d; sent = sent } → w.doing ≢ Reading → (handle : ℕ) → w.write ≡ Some handle → (d ≡ Ended → w.closed ≡ true) → WritesOn g (record w { doing = d; sent = sent }) q.state (got_on q.steps g) → IsJoined q ws'
-    writer_again passes is a handle has closed writes =
+    abbrev changed : Worker
+    changed = record w { doing = d; sent = sent }
+
+    writer_again : Passes (length ws) p q (But g) Each → worker_at ws' g ≡ changed → w.doing ≢ Reading → d ≢ Reading → (handle : ℕ) → w.write ≡ Some handle → (d ≡ Ended → w.closed ≡ true) → WritesOn g changed q.state (got_on q.steps g) → IsJoined q ws'
+    writer_again passes is a b handle has closed writes =
         let v : Worker = record w { doing = d; sent = sent } in
         joined_again p q ws ws' g j one
         (subst (SamePart w) (sym is) (record {
@@ -109,12 +111,12 @@ module _ (p : Play) (ws : List Worker) (g chunk : ℕ) (j : IsJoined p ws) (l : 
           write = refl;
           stage = refl;
           source = λ none. (refl, refl);
-          sink = λ k. record { write = k.write; copies = k.copies; ends = closed };
+          sink = λ k. record { write = k.write; copies = k.copies; ends = closed; ended = λ _. absurd (no_handle w.write handle k.write has) };
         }))
         (fewer (length ws) p q (But g) Each (But g) (λ k. k + 1 ≢ g) passes (λ k ne. ne) (λ k _. tt))
         (λ _. subst (λ u. WritesOn g u q.state (got_on q.steps g)) (sym is) writes)
         (λ s there e. subst (λ u. ReadsFrom s u q.state (got_on q.steps s)) (sym is)
-        (reads_doing s w d sent q.state (got_on q.steps s) a
+        (reads_doing s w d sent q.state (got_on q.steps s) a b
         (passes.reads s w there tt (subst (λ n. ReadsFrom s (worker_at ws n) p.state (got_on p.steps s)) e (j.joins s there).reads))))
 
   -- a write is called
@@ -184,13 +186,15 @@ module _ (p : Play) (ws : List Worker) (g chunk : ℕ) (j : IsJoined p ws) (l : 
         (size_after x.mid q pk.joined write_step (replies.Code code) x.adds k.look put k.only)
         (same_after x.mid q pk.joined write_step (replies.Code code) x.adds k.look put k.only)
         write_end (length x.bytes) refl refl refl old pk.lies pk.within size_mid (ap replies.Code blocked) in
-        writer_again q ws' w.sent Writing one more_there k.passes is (apart_doing w Nothing Reading x.pokes.rests (λ e. cc)) x.handle x.has (λ e. absurd (let wrong = e in cc))
+        writer_again q ws' w.sent Writing one more_there k.passes is (apart_doing w Nothing Reading x.pokes.rests (λ e. cc)) (λ e. cc) x.handle x.has (λ e. absurd (let wrong = e in cc))
         (record {
           handle = k.writes.handle;
           has = k.writes.has;
           owner = λ n. k.steady.owner g AWrite ∙ k.writes.owner (apart_doing w Nothing Ended x.pokes.rests (λ e. cc));
-          sends = subst (Sends g 64 w.sent w.made (memory_in q.state.guests g) (stream_at q.state g).writer.operation) (sym (k.look.got g)) own;
+          sends = subst (Sends g 64 w.sent w.made (memory_in q.state.guests g) (stream_at q.state g).writer.operation) (sym (k.look.got g)) own.0;
           idle = λ n. absurd (n refl);
+          busy = λ n. own.1;
+          gone = λ e. absurd (let wrong = e in cc);
           over = λ e. absurd (let wrong = e in cc);
         })
 
@@ -206,7 +210,7 @@ module _ (p : Play) (ws : List Worker) (g chunk : ℕ) (j : IsJoined p ws) (l : 
         (size_after x.mid q pk.joined write_step (replies.Code code) x.adds k.look put k.only)
         (same_after x.mid q pk.joined write_step (replies.Code code) x.adds k.look put k.only)
         write_end (length x.bytes) refl refl refl old pk.lies pk.within size_mid code (not_blocked code h.count h.ends) refl in
-        writer_again q ws' (w.sent + h.count) Nothing one more_there k.passes h.is (apart_doing w Nothing Reading x.pokes.rests (λ e. cc)) x.handle x.has (λ e. absurd (let wrong = e in cc))
+        writer_again q ws' (w.sent + h.count) Nothing one more_there k.passes h.is (apart_doing w Nothing Reading x.pokes.rests (λ e. cc)) (λ e. cc) x.handle x.has (λ e. absurd (let wrong = e in cc))
         (record {
           handle = k.writes.handle;
           has = k.writes.has;
@@ -214,6 +218,8 @@ module _ (p : Play) (ws : List Worker) (g chunk : ℕ) (j : IsJoined p ws) (l : 
           sends = subst (λ c. Sends g 64 (w.sent + c) w.made (memory_in q.state.guests g) (stream_at q.state g).writer.operation (got_on q.steps g)) (ap count_of h.ends)
               (subst (Sends g 64 (w.sent + count_of code) w.made (memory_in q.state.guests g) (stream_at q.state g).writer.operation) (sym (k.look.got g)) own.0);
           idle = λ n. own.1;
+          busy = λ e. absurd (let wrong = e in cc);
+          gone = λ e. absurd (let wrong = e in cc);
           over = λ e. absurd (let wrong = e in cc);
         })
 
@@ -233,7 +239,7 @@ module _ (p : Play) (ws : List Worker) (g chunk : ℕ) (j : IsJoined p ws) (l : 
       let own = own_write_settles m g w.sent w.made (got_on p.steps g) at.typed (names.only g AWrite ∙ end_itself g AWrite) (look.change g AWrite)
       (size_after p q j step reply x.adds look put names.only) (same_after p q j step reply x.adds look put names.only)
       g x.handle code (not_blocked code h.count h.ends) refl refl at.writes.sends in
-      writer_again q ws' (w.sent + h.count) Nothing one more (writer_passes p q ws step reply x.adds j look g after.steady put names.only) h.is (apart_doing w Writing Reading x.waits (λ e. cc)) x.handle x.has (λ e. absurd (let wrong = e in cc))
+      writer_again q ws' (w.sent + h.count) Nothing one more (writer_passes p q ws step reply x.adds j look g after.steady put names.only) h.is (apart_doing w Writing Reading x.waits (λ e. cc)) (λ e. cc) x.handle x.has (λ e. absurd (let wrong = e in cc))
       (record {
         handle = at.writes.handle;
         has = at.writes.has;
@@ -241,6 +247,8 @@ module _ (p : Play) (ws : List Worker) (g chunk : ℕ) (j : IsJoined p ws) (l : 
         sends = subst (λ c. Sends g 64 (w.sent + c) w.made (memory_in q.state.guests g) (stream_at q.state g).writer.operation (got_on q.steps g)) (ap count_of h.ends)
             (subst (Sends g 64 (w.sent + count_of code) w.made (memory_in q.state.guests g) (stream_at q.state g).writer.operation) (sym (look.got g)) own.0);
         idle = λ n. own.1;
+        busy = λ e. absurd (let wrong = e in cc);
+        gone = λ e. absurd (let wrong = e in cc);
         over = λ e. absurd (let wrong = e in cc);
       })
 
@@ -259,13 +267,15 @@ module _ (p : Play) (ws : List Worker) (g chunk : ℕ) (j : IsJoined p ws) (l : 
       let put = λ (r : Region). nothing_put r (put_by (act_of step) replies.Done) refl in
       let idle = at.writes.idle (apart_doing w Nothing Writing x.rests (λ e. cc)) in
       let own = dropped_sends m g w.sent w.made (got_on p.steps g) refl (names.only g AWrite ∙ end_itself g AWrite) (look.change g AWrite) at.writes.sends idle in
-      writer_again q ws' w.sent Ended one more (drop_passes p q ws step replies.Done x.adds j look g after put names.only) x.is (apart_doing w Nothing Reading x.rests (λ e. cc)) x.handle x.has (λ e. x.closed)
+      writer_again q ws' w.sent Ended one more (drop_passes p q ws step replies.Done x.adds j look g after put names.only) x.is (apart_doing w Nothing Reading x.rests (λ e. cc)) (λ e. cc) x.handle x.has (λ e. x.closed)
       (record {
         handle = at.writes.handle;
         has = at.writes.has;
         owner = λ n. absurd (n refl);
         sends = subst (Sends g 64 w.sent w.made (memory_in q.state.guests g) (stream_at q.state g).writer.operation) (sym (look.got g)) own.0;
         idle = λ n. own.1;
+        busy = λ e. absurd (let wrong = e in cc);
+        gone = λ e. ap is_gone after.gone;
         over = λ e. (x.closed, omega (arith, x.all, at.writes.sends.within));
       })
 

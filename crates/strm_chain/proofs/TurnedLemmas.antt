@@ -27,10 +27,10 @@ use Rattle.strm_chain.specs.declared.workers.Doing.{Doing}
 use Rattle.strm_chain.specs.declared.workers.Doing.TheVariants.{Nothing, Reading, Writing, Ended}
 use Rattle.strm_chain.specs.declared.workers.ChainTurn.{ChainTurn}
 use Rattle.strm_chain.specs.Stages.{begun, left, done}
-use Rattle.strm_chain.specs.Playing.{Play, Adds}
+use Rattle.strm_chain.specs.Playing.{Play, Adds, bytes_type}
 use Rattle.strm_chain.specs.Flowing.{as_items, got_on}
 use Rattle.strm_chain.specs.Linking.{Sends, Takes, Arrived, Offers, OffersIf}
-use Rattle.strm_chain.specs.Keeping.{bytes_type, worker_at, sink_of, Items, IsPlain, WritesOn, ReadsFrom, IsSink, IsJoined}
+use Rattle.strm_chain.specs.Keeping.{worker_at, sink_of, Items, IsPlain, WritesOn, ReadsFrom, IsSink, IsJoined}
 use Rattle.strm_chain.specs.Turned.{Reads, HearsRead, after_read, EndsRead, WithMore, WithLast, TakesIn, Pokes, Writes, HearsWrite, HandsOver, Drops, Turned, Rests, Waits, ReadOpens, ReadServes, ReadSettles, WriteOpens, WriteServes, WriteSettles, Ends}
 use Rattle.strm_chain.proofs.StageLemmas.{left-stage}
 use Rattle.strm_chain.proofs.LinkLemmas.{takes_arrived}
@@ -70,24 +70,28 @@ sends_longer g at sent made more memory o got t e = record {
 }
 
 -- a guest that has no operation, or begins a read or a write, writes on as before
-pub writes_doing : (g : ℕ) (w : Worker) (d : Doing) (state : State) (got : Items) → w.doing ≢ Ended → w.doing ≢ Writing → d ≢ Ended → WritesOn g w state got → WritesOn g (record w { doing = d }) state got
-writes_doing g w d state got a b c h = record {
+pub writes_doing : (g : ℕ) (w : Worker) (d : Doing) (state : State) (got : Items) → w.doing ≢ Ended → w.doing ≢ Writing → d ≢ Ended → d ≢ Writing → WritesOn g w state got → WritesOn g (record w { doing = d }) state got
+writes_doing g w d state got a b c ne h = record {
   handle = h.handle;
   has = h.has;
   owner = λ n. h.owner a;
   sends = h.sends;
   idle = λ n. h.idle b;
+  busy = λ e. absurd (ne e);
+  gone = λ e. absurd (c e);
   over = λ e. absurd (c e);
 }
 
 -- the same of a guest that reads
-pub reads_doing : (s : ℕ) (w : Worker) (d : Doing) (sent : ℕ) (state : State) (got : Items) → w.doing ≢ Reading → ReadsFrom s w state got → ReadsFrom s (record w { doing = d; sent = sent }) state got
-reads_doing s w d sent state got a h = record {
+pub reads_doing : (s : ℕ) (w : Worker) (d : Doing) (sent : ℕ) (state : State) (got : Items) → w.doing ≢ Reading → d ≢ Reading → ReadsFrom s w state got → ReadsFrom s (record w { doing = d; sent = sent }) state got
+reads_doing s w d sent state got a ne h = record {
   handle = h.handle;
   has = h.has;
   owner = h.owner;
   takes = h.takes;
   idle = λ n. h.idle a;
+  busy = λ e. absurd (ne e);
+  unclosed = λ e. absurd (ne e);
   plain = h.plain;
   gone = h.gone;
 }
@@ -111,6 +115,12 @@ unblocked code (WithLast e) f = let wrong : codes.Blocked ≡ codes.Dropped (cou
 pub plain_none : (o : Option Operation) → o ≡ None → IsPlain o
 plain_none None e = tt
 plain_none (Some o) e = absurd (let wrong = e in cc)
+
+-- a guest whose read is over does not read
+after_unread : (write : Option ℕ) (dropped : Bool) → after_read write dropped ≡ Reading → ⊥
+after_unread None true e = cc
+after_unread None false e = cc
+after_unread (Some h) dropped e = cc
 
 -- the dump of its bytes, which its stage takes
 module _ (p q : Play) (count s g : ℕ) (w w' : Worker) (code : ReturnCode) (e : g ≡ s + 1) (run : IsRunOf p) (are : AreSteps q.steps) (frame : Frame count p.state)
@@ -148,6 +158,8 @@ module _ (p q : Play) (count s g : ℕ) (w w' : Worker) (code : ReturnCode) (e :
         takes = subst (λ stage. Takes (s + 1) 0 (begun stage) (left w.work x.bytes) (w.made ++ done w.work x.bytes) memory (stream_at p.state s).reader.operation (got_on p.steps s)) (sym (left-stage w.work x.bytes))
             (subst (λ o. Takes (s + 1) 0 (begun w.work.stage) (left w.work x.bytes) (w.made ++ done w.work x.bytes) memory o (got_on p.steps s)) (sym h.none) taken);
         idle = λ n. h.none;
+        busy = λ f. absurd (after_unread w.write (is_dropped code) f);
+        unclosed = λ f. absurd (after_unread w.write (is_dropped code) f);
         plain = plain_none (stream_at p.state s).reader.operation h.none;
         gone = h.gone;
       } in
@@ -171,6 +183,8 @@ writes_taken g w w' code p q state got x a b h =
       owner = λ n. h.owner a;
       sends = sends_longer g 64 w.sent w.made (done w.work x.bytes) (memory_in state.guests g) (stream_at state g).writer.operation got h.sends (h.idle b);
       idle = λ n. h.idle b;
+      busy = λ f. absurd (let wrong : Nothing ≡ Writing = sym resting ∙ f in cc);
+      gone = λ f. absurd (let wrong : Nothing ≡ Ended = sym resting ∙ f in cc);
       over = λ f. absurd (let wrong : Nothing ≡ Ended = sym resting ∙ f in cc);
     } in
     subst (λ u. WritesOn g u state got) (sym x.is) there
@@ -180,6 +194,11 @@ sink_ends None true e = refl
 sink_ends None false e = cc
 sink_ends (Some h) dropped e = cc
 
+sink_over : (write : Option ℕ) (dropped : Bool) → write ≡ None → dropped ≡ true → after_read write dropped ≡ Ended
+sink_over None true e d = refl
+sink_over None false e d = cc
+sink_over (Some h) dropped e d = absurd (let wrong = e in cc)
+
 pub part_taken : (g handle : ℕ) (w w' : Worker) (code : ReturnCode) (p q : Play) → TakesIn g w code p w' q → w.read ≡ Some handle → SamePart w w'
 part_taken g handle w w' code p q x has =
     subst (SamePart w) (sym x.is) (record {
@@ -187,5 +206,5 @@ part_taken g handle w w' code p q x has =
       write = refl;
       stage = left-stage w.work x.bytes;
       source = λ none. absurd (no_handle w.read handle none has);
-      sink = λ k. record { write = k.write; copies = left-stage w.work x.bytes ∙ k.copies; ends = sink_ends w.write (is_dropped code) };
+      sink = λ k. record { write = k.write; copies = left-stage w.work x.bytes ∙ k.copies; ends = sink_ends w.write (is_dropped code); ended = sink_over w.write (is_dropped code) k.write };
     })

@@ -1,76 +1,68 @@
--- The steps of turns, put together.
-use Rattle.std.proofs.Common.{◌≡◌, ℕ, ◌+◌, ◌%◌, ◌<◌, ◌≤◌, length, get_or, List, [], ◌∷◌, ◌++◌, refl, sym, ap, ◌∙◌, subst, append_assoc, arith}
-use Rattle.std.specs.Prelude.{All, Result, Ok, Err, IfOk, count_by, map, take}
-use Rattle.std.proofs.lemmas.List.{append-nil, take_more, map_push}
+-- Turns, put together.
+use Rattle.std.proofs.Common.{◌≡◌, ℕ, ◌+◌, ◌-◌, ◌%◌, ◌<◌, ◌≤◌, length, get_or, List, [], ◌∷◌, ◌++◌, refl, sym, ap, ◌∙◌, subst, arith}
+use Rattle.std.specs.Prelude.{map, take}
+use Rattle.std.proofs.lemmas.List.{take_more, map_push}
 use Rattle.strm_machine.specs.declared.steps.Step.{Step}
 use Rattle.strm_machine.specs.declared.replies.Reply.{Reply}
-use Rattle.strm_machine.specs.State.{State}
 use Rattle.strm_machine.specs.Plays.{play, Ends}
+use Rattle.strm_chain.specs.declared.workers.ChainTurn.{ChainTurn}
 use Rattle.strm_chain.specs.Playing.{start, Play}
-use Rattle.strm_chain.specs.Turning.{IsStepOf, is_event, Makes, AreTurns, IsMaking, TakesTurns, TakesSome, IsRun}
+use Rattle.strm_chain.specs.Turning.{Turns}
+use Rattle.strm_chain.specs.Running.{making_of, AreTurns, AreSomeTurns, IsRun}
 
-turns-push : (chunk : ℕ) (whos : List ℕ) (who : ℕ) (made turn : List Step) → AreTurns chunk whos made → All (IsStepOf who chunk) turn → count_by is_event turn ≤ 1 → AreTurns chunk (whos ++ who ∷ []) (made ++ turn)
-turns-push chunk [] who made turn t own few = (turn, [], ap (λ xs. xs ++ turn) t ∙ sym (append-nil turn), own, few, refl)
-turns-push chunk (w ∷ ws) who made turn t own few =
-    (t.0, t.1 ++ turn, ap (λ xs. xs ++ turn) t.2 ∙ append_assoc t.0 t.1 turn, t.3, t.4, turns-push chunk ws who t.1 turn t.5 own few)
+module _ (sink chunk : ℕ) where
+  -- one turn more
+  pub turns-push : (whos : List ℕ) (who : ℕ) (turn : ChainTurn) (a b c : Play) → AreTurns sink chunk whos a b → Turns sink chunk who turn b c → AreTurns sink chunk (whos ++ who ∷ []) a c
+  turns-push [] who turn a b c same t = (turn, c, subst (λ x. Turns sink chunk who turn x c) same t, refl)
+  turns-push (w ∷ ws) who turn a b c more t = (more.0, more.1, more.2, turns-push ws who turn more.1 b c more.3 t)
 
-pub turns_none : (chunk : ℕ) (a : Play) → TakesTurns chunk [] a a
-turns_none chunk a = record { made = []; steps_are = sym (append-nil a.steps); turns = refl }
+  -- of a schedule
+  turns_at : (f : ℕ → ℕ) (schedule : List ℕ) (i d : ℕ) (turn : ChainTurn) (a b c : Play) → i < length schedule → AreTurns sink chunk (map f (take i schedule)) a b → Turns sink chunk (f (get_or schedule i d)) turn b c → AreTurns sink chunk (map f (take (i + 1) schedule)) a c
+  turns_at f schedule i d turn a b c l more t =
+      subst (λ whos. AreTurns sink chunk whos a c) (sym (ap (map f) (take_more schedule i d l) ∙ map_push f (take i schedule) (get_or schedule i d)))
+      (turns-push (map f (take i schedule)) (f (get_or schedule i d)) turn a b c more t)
 
-pub turns_more : (chunk : ℕ) (whos : List ℕ) (who : ℕ) (a b c : Play) → TakesTurns chunk whos a b → Makes who chunk b c → TakesTurns chunk (whos ++ who ∷ []) a c
-turns_more chunk whos who a b c t m = record {
-  made = t.made ++ m.made;
-  steps_are = m.steps_are ∙ ap (λ xs. xs ++ m.made) t.steps_are ∙ append_assoc a.steps t.made m.made;
-  turns = turns-push chunk whos who t.made m.made t.turns m.own m.few;
-}
+  turns-join : (xs ys : List ℕ) (a b c : Play) → AreTurns sink chunk xs a b → AreTurns sink chunk ys b c → AreTurns sink chunk (xs ++ ys) a c
+  turns-join [] ys a b c same t = subst (λ x. AreTurns sink chunk ys x c) same t
+  turns-join (x ∷ xs) ys a b c more t = (more.0, more.1, more.2, turns-join xs ys more.1 b c more.3 t)
 
--- one guest more of a schedule
-turns_at : (chunk : ℕ) (f : ℕ → ℕ) (schedule : List ℕ) (i d : ℕ) (a b c : Play) → i < length schedule → TakesTurns chunk (map f (take i schedule)) a b → Makes (f (get_or schedule i d)) chunk b c → TakesTurns chunk (map f (take (i + 1) schedule)) a c
-turns_at chunk f schedule i d a b c l t m =
-    subst (λ whos. TakesTurns chunk whos a c) (sym (ap (map f) (take_more schedule i d l) ∙ map_push f (take i schedule) (get_or schedule i d)))
-    (turns_more chunk (map f (take i schedule)) (f (get_or schedule i d)) a b c t m)
+  pub some_none : (a : Play) → AreSomeTurns sink chunk a a
+  some_none a = ([], refl)
 
-makes_as : (g chunk chunk' : ℕ) (a b : Play) → chunk' ≡ chunk → Makes g chunk' a b → Makes g chunk a b
-makes_as g chunk chunk' a b e m = subst (λ c. Makes g c a b) e m
+-- turns of a chain that has as many guests, and the same chunk
+turns_as : (sink sink' chunk chunk' who : ℕ) (turn : ChainTurn) (b c : Play) → sink' ≡ sink → chunk' ≡ chunk → Turns sink' chunk' who turn b c → Turns sink chunk who turn b c
+turns_as sink sink' chunk chunk' who turn b c e f t =
+    subst (λ k. Turns sink k who turn b c) f (subst (λ n. Turns n chunk' who turn b c) e t)
 
 -- a guest is named by the remainder of a number of the schedule
-module _ (chunk chunk' n r : ℕ) (schedule : List ℕ) (i d : ℕ) (a b c : Play) where
-  pub turns_mod : i < length schedule → chunk' ≡ chunk → r ≡ n → TakesTurns chunk (map (λ s. s % n) (take i schedule)) a b → Makes (get_or schedule i d % r) chunk' b c → TakesTurns chunk (map (λ s. s % n) (take (i + 1) schedule)) a c
-  turns_mod l e k t m =
-      turns_at chunk (λ s. s % n) schedule i d a b c l t
-      (makes_as (get_or schedule i d % n) chunk chunk' b c e (subst (λ x. Makes (get_or schedule i d % x) chunk' b c) k m))
-
--- what was made first, and then turns
-pub run_of : (chunk : ℕ) (whos : List ℕ) (a b : Play) (steps : List Step) (told : List Reply) (state : State) → All IsMaking a.steps → TakesTurns chunk whos a b → steps ≡ b.steps → play [] start steps ≡ Ends told state → IsRun chunk whos steps told
-run_of chunk whos a b steps told state m t e p = record {
-  making = a.steps;
-  made = t.made;
-  steps_are = e ∙ t.steps_are;
-  makes = m;
-  turns = t.turns;
-  state = state;
-  plays = p;
-}
+module _ (chunk chunk' n m r : ℕ) (schedule : List ℕ) (i d : ℕ) (turn : ChainTurn) (a b c : Play) where
+  pub turns_mod : i < length schedule → chunk' ≡ chunk → m ≡ n → r ≡ m → AreTurns (n - 1) chunk (map (λ s. s % n) (take i schedule)) a b → Turns (m - 1) chunk' (get_or schedule i d % r) turn b c → AreTurns (n - 1) chunk (map (λ s. s % n) (take (i + 1) schedule)) a c
+  turns_mod l e k all more t =
+      turns_at (n - 1) chunk (λ s. s % n) schedule i d turn a b c l more
+      (turns_as (n - 1) (m - 1) chunk chunk' (get_or schedule i d % n) turn b c (ap (λ x. x - 1) k) e
+      (subst (λ x. Turns (m - 1) chunk' (get_or schedule i d % x) turn b c) (all ∙ k) t))
 
 -- some schedule
-pub some_more : (chunk chunk' who : ℕ) (a b c : Play) → chunk' ≡ chunk → TakesSome chunk a b → Makes who chunk' b c → TakesSome chunk a c
-some_more chunk chunk' who a b c e t m = (t.0 ++ who ∷ [], turns_more chunk t.0 who a b c t.1 (makes_as who chunk chunk' b c e m))
+module _ (sink sink' chunk chunk' : ℕ) (a b c : Play) (e : sink' ≡ sink) (f : chunk' ≡ chunk) where
+  pub some_more : (who : ℕ) (turn : ChainTurn) → AreSomeTurns sink chunk a b → Turns sink' chunk' who turn b c → AreSomeTurns sink chunk a c
+  some_more who turn more t =
+      (more.0 ++ who ∷ [], turns-push sink chunk more.0 who turn a b c more.1 (turns_as sink sink' chunk chunk' who turn b c e f t))
 
-pub some_none : (chunk : ℕ) (a : Play) → TakesSome chunk a a
-some_none chunk a = ([], turns_none chunk a)
+  pub some_join : AreSomeTurns sink chunk a b → AreSomeTurns sink' chunk' b c → AreSomeTurns sink chunk a c
+  some_join s t =
+      let u : AreTurns sink chunk t.0 b c = subst (λ k. AreTurns sink k t.0 b c) f (subst (λ n. AreTurns n chunk' t.0 b c) e t.1) in
+      (s.0 ++ t.0, turns-join sink chunk s.0 t.0 a b c s.1 u)
 
-turns-join : (chunk : ℕ) (xs ys : List ℕ) (a b : List Step) → AreTurns chunk xs a → AreTurns chunk ys b → AreTurns chunk (xs ++ ys) (a ++ b)
-turns-join chunk [] ys a b s t = subst (λ m. AreTurns chunk ys (m ++ b)) (sym s) t
-turns-join chunk (x ∷ xs) ys a b s t =
-    (s.0, s.1 ++ b, ap (λ m. m ++ b) s.2 ∙ append_assoc s.0 s.1 b, s.3, s.4, turns-join chunk xs ys s.1 b s.5 t)
-
-pub some_join : (chunk chunk' : ℕ) (a b c : Play) → chunk' ≡ chunk → TakesSome chunk a b → TakesSome chunk' b c → TakesSome chunk a c
-some_join chunk chunk' a b c e s t =
-    let u : TakesTurns chunk t.0 b c = subst (λ n. TakesTurns n t.0 b c) e t.1 in (
-      s.0 ++ t.0,
-      record {
-        made = s.1.made ++ u.made;
-        steps_are = u.steps_are ∙ ap (λ xs. xs ++ u.made) s.1.steps_are ∙ append_assoc a.steps s.1.made u.made;
-        turns = turns-join chunk s.0 t.0 s.1.made u.made s.1.turns u.turns;
-      },
-    )
+-- what was made first, and then turns
+module _ (n chunk : ℕ) (whos : List ℕ) (a b : Play) (steps : List Step) (told : List Reply) where
+  pub run_of : a.steps ≡ making_of n → play [] start a.steps ≡ Ends a.replies a.state → AreTurns (n + 1) chunk whos a b → steps ≡ b.steps → told ≡ b.replies → play [] start steps ≡ Ends told b.state → IsRun n chunk whos steps told
+  run_of made plays turns steps_are replies_are all = record {
+    first = a;
+    last = b;
+    made = made;
+    plays = plays;
+    turns = turns;
+    steps_are = steps_are;
+    replies_are = replies_are;
+    plays_all = all;
+  }

@@ -1,9 +1,6 @@
 -- What a chain keeps from turn to turn: how its guests stand to the store. Ours.
-use Rattle.std.specs.Prelude.{◌≡◌, ◌≢◌, ℕ, ◌+◌, ◌-◌, ◌≤◌, ◌<◌, ℤ, Bool, true, false, List, [], length, map, take, drop, slice_index_or, All, Option, Some, None}
-use Rattle.strm_codes.specs.declared.codes.TransmitIndex.{TransmitIndex}
-use Rattle.strm_codes.specs.declared.codes.TransmitIndex.TheVariants as index
-use Rattle.strm_codes.specs.declared.payloads.Payload.TheVariants.{One}
-use Rattle.strm_codes.specs.declared.scalars.Scalar.TheVariants.{U8}
+use Rattle.std.specs.Prelude.{◌≡◌, ◌≢◌, ℕ, ◌+◌, ◌-◌, ◌≤◌, ◌<◌, ℤ, Bool, true, false, List, [], length, map, take, drop, slice_index_or, IsSome, Option, Some, None}
+use Rattle.strm_machine.specs.Plays.{play, Ends}
 use Rattle.strm_machine.specs.State.{State, memory_in, stream_at, is_gone}
 use Rattle.strm_machine.specs.Soundness.{type_of}
 use Rattle.strm_codes.specs.declared.codes.StreamResult.TheVariants.{Completed}
@@ -14,10 +11,11 @@ use Rattle.strm_chain.specs.declared.stages.Stage.TheVariants.{Copy}
 use Rattle.strm_chain.specs.declared.workers.Worker.{Worker}
 use Rattle.strm_chain.specs.declared.workers.Doing.TheVariants.{Nothing, Reading, Writing, Ended}
 use Rattle.strm_chain.specs.Stages.{begun}
-use Rattle.strm_chain.specs.Playing.{Play}
+use Rattle.strm_chain.specs.Playing.{start, Play, bytes_type}
 use Rattle.strm_chain.specs.Flowing.{got_on}
 use Rattle.strm_chain.specs.Linking.{Sends, Takes}
-use Rattle.strm_chain.specs.Turning.{IsMaking}
+use Rattle.strm_chain.specs.Reporting.{is_told}
+use Rattle.strm_chain.specs.Running.{making_of}
 
 -- what a chain has come to: what was played, its guests, and whether memory was wanting
 pub record ChainState : Type 0 where
@@ -25,10 +23,6 @@ pub record ChainState : Type 0 where
   pub workers : List Worker
   pub chunk : ℕ
   pub failed : Bool
-
--- the streams of a chain are of bytes
-abbrev pub bytes_type : TransmitIndex
-bytes_type = index.Stream (One U8)
 
 -- a guest that was just made, for a stage
 abbrev pub new_worker : Stage → Worker
@@ -63,14 +57,16 @@ abbrev pub Items : Type 0
 Items = List (Option (List ℤ))
 
 -- guest g writes on stream g, which has received this: it has handed over the front of what it put out,
--- and while it has not ended the end is its own; once it has, all was handed over and there is nothing
--- more to read
+-- and while it has not ended the end is its own; once it has, the end is gone, all was handed over and there
+-- is nothing more to read
 pub record WritesOn (g : ℕ) (w : Worker) (state : State) (received : Items) : Type 0 where
   pub handle : ℕ
   pub has : w.write ≡ Some handle
   pub owner : w.doing ≢ Ended → (stream_at state g).writer.owner ≡ Held g handle
   pub sends : Sends g 64 w.sent w.made (memory_in state.guests g) (stream_at state g).writer.operation received
   pub idle : w.doing ≢ Writing → (stream_at state g).writer.operation ≡ None
+  pub busy : w.doing ≡ Writing → IsSome (stream_at state g).writer.operation
+  pub gone : w.doing ≡ Ended → is_gone (stream_at state g).writer.owner ≡ true
   pub over : w.doing ≡ Ended → (w.closed ≡ true) × (w.sent ≡ length w.made)
 
 -- no operation has come out otherwise than with its items
@@ -87,6 +83,8 @@ pub record ReadsFrom (s : ℕ) (w : Worker) (state : State) (received : Items) :
   pub takes : Takes (s + 1) 0 (begun w.work.stage) w.work w.made (memory_in state.guests (s + 1))
       (stream_at state s).reader.operation received
   pub idle : w.doing ≢ Reading → (stream_at state s).reader.operation ≡ None
+  pub busy : w.doing ≡ Reading → IsSome (stream_at state s).reader.operation
+  pub unclosed : w.doing ≡ Reading → w.closed ≡ false
   pub plain : IsPlain (stream_at state s).reader.operation
   pub gone : w.closed ≡ true → is_gone (stream_at state s).writer.owner ≡ true
 
@@ -101,6 +99,7 @@ pub record IsSink (w : Worker) : Type 0 where
   pub write : w.write ≡ None
   pub copies : w.work.stage ≡ Copy
   pub ends : w.doing ≡ Ended → w.closed ≡ true
+  pub ended : w.closed ≡ true → w.doing ≡ Ended
 
 -- the guests of a chain, joined by streams from each to the next; the source reads nothing, and the sink
 -- copies and writes nothing
@@ -113,16 +112,21 @@ pub record IsJoined (play : Play) (workers : List Worker) : Type 0 where
   pub source : ((worker_at workers 0).read ≡ None) × ((worker_at workers 0).closed ≡ true)
   pub sink : IsSink (sink_of workers)
 
+-- and the sink knows what it was told
+pub record IsGoing (play : Play) (workers : List Worker) : Type 0 where
+  pub joined : IsJoined play workers
+  pub told : is_told (length workers - 1) play.steps play.replies ≡ (sink_of workers).closed
+
 -- the same, but where memory was wanting
-abbrev pub IsJoinedUnless : Bool → Play → List Worker → Type 0
-IsJoinedUnless true play workers = Unit {0}
-IsJoinedUnless false play workers = IsJoined play workers
+abbrev pub IsGoingUnless : Bool → Play → List Worker → Type 0
+IsGoingUnless true play workers = Unit {0}
+IsGoingUnless false play workers = IsGoing play workers
 
 -- what holds of a chain between two turns
 pub record IsChain (chain : ChainState) : Type 0 where
   pub chunk : (16 ≤ chain.chunk) × (chain.chunk ≤ 64)
   pub some : (2 ≤ length chain.workers) × (length chain.workers ≤ 10)
-  pub joined : IsJoinedUnless chain.failed chain.play chain.workers
+  pub going : IsGoingUnless chain.failed chain.play chain.workers
 
 -- a chain of these stages, this input and this chunk, in which no guest has had a turn
 pub record Begins (stages : List Stage) (input : List ℕ) (chunk : ℕ) (chain : ChainState) : Type 0 where
@@ -130,7 +134,8 @@ pub record Begins (stages : List Stage) (input : List ℕ) (chunk : ℕ) (chain 
   pub stages_are : stages_of chain.workers ≡ stages
   pub input_is : input_of chain.workers ≡ input
   pub chunk_is : chain.chunk ≡ chunk
-  pub makes : All IsMaking chain.play.steps
+  pub steps_are : chain.play.steps ≡ making_of (length stages)
+  pub plays : play [] start chain.play.steps ≡ Ends chain.play.replies chain.play.state
   pub runs : chain.failed ≡ false
 
 -- from turn to turn, a chain has as many guests of the same stages, the same input and the same chunk

@@ -1,7 +1,9 @@
 pub mod Stages
 pub mod Faults
 pub mod Playing
+pub mod Reporting
 pub mod Turning
+pub mod Running
 pub mod Flowing
 pub mod Linking
 pub mod Keeping

@@ -1,5 +1,5 @@
 -- The making of a chain: first its guests, then the streams from each to the next. Ours.
-use Rattle.std.specs.Prelude.{◌≡◌, ℕ, ◌+◌, ◌-◌, ◌<◌, true, List, [], length, map, drop, take, All, Some, None}
+use Rattle.std.specs.Prelude.{◌≡◌, ℕ, ◌+◌, ◌-◌, ◌<◌, true, List, [], length, map, drop, take, ◌++◌, Some, None}
 use Rattle.strm_machine.specs.State.{memory_in, stream_at}
 use Rattle.strm_machine.specs.Making.{made_stream}
 use Rattle.strm_machine.specs.declared.replies.Pair.{Pair}
@@ -7,16 +7,20 @@ use Rattle.strm_chain.specs.declared.stages.Stage.{Stage}
 use Rattle.strm_chain.specs.declared.stages.Stage.TheVariants.{Copy}
 use Rattle.strm_chain.specs.declared.workers.Worker.{Worker}
 use Rattle.strm_chain.specs.declared.workers.Doing.TheVariants.{Nothing}
-use Rattle.strm_chain.specs.Turning.{IsMaking}
-use Rattle.strm_chain.specs.Playing.{Play}
-use Rattle.strm_chain.specs.Keeping.{bytes_type, new_worker, worker_at}
+use Rattle.strm_chain.specs.Reporting.{last_report}
+use Rattle.strm_chain.specs.Running.{guests_made, streams_made}
+use Rattle.strm_chain.specs.Playing.{Play, bytes_type}
+use Rattle.strm_chain.specs.Keeping.{new_worker, worker_at}
 
 -- so many guests of 8,192 bytes and so many streams were made, and nothing else was done
 pub record AreMade (guests streams : ℕ) (play : Play) : Type 0 where
   pub guests_are : length play.state.guests ≡ guests
   pub streams_are : length play.state.streams ≡ streams
   pub room : (g : ℕ) → g < guests → length (memory_in play.state.guests g) ≡ 8192
-  pub makes : All IsMaking play.steps
+  pub steps_are : play.steps ≡ guests_made guests ++ streams_made streams
+  pub even : length play.steps ≡ length play.replies
+  -- nothing was reported to any guest
+  pub quiet : (g : ℕ) → last_report g None play.steps play.replies ≡ None
 
 -- stream s was made, with these handles for its two ends
 abbrev pub IsNew : Play → ℕ → ℕ → ℕ → Type 0

@@ -1,5 +1,9 @@
 -- A store of guests that is played step by step. Ours.
 use Rattle.std.specs.Prelude.{◌≡◌, ℕ, ◌≤◌, false, List, [], ◌∷◌, ◌++◌, length, All}
+use Rattle.strm_codes.specs.declared.codes.TransmitIndex.{TransmitIndex}
+use Rattle.strm_codes.specs.declared.codes.TransmitIndex.TheVariants as index
+use Rattle.strm_codes.specs.declared.payloads.Payload.TheVariants.{One}
+use Rattle.strm_codes.specs.declared.scalars.Scalar.TheVariants.{U8}
 use Rattle.strm_machine.specs.State.{State, empty}
 use Rattle.strm_machine.specs.Reactions.{react, goes}
 use Rattle.strm_machine.specs.Plays.{play}
@@ -12,6 +16,10 @@ use Rattle.strm_transmit.specs.Guests.{nobody, Unhosted}
 -- a chain begins with a store without guests, named 0, under these limits
 abbrev pub start : State
 start = empty 0 (record { handles = 1000000; places = 1000000 })
+
+-- the streams of a chain are of bytes
+abbrev pub bytes_type : TransmitIndex
+bytes_type = index.Stream (One U8)
 
 -- these steps were answered so, and led from a new store to this one, which goes on and needs no host end
 pub record Follows (steps : List Step) (replies : List Reply) (state : State) : Type 0 where

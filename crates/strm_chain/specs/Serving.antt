@@ -1,5 +1,5 @@
 -- What the program writes, and why. Ours.
-use Rattle.std.specs.Prelude.{◌≡◌, ◌≢◌, ◌≤◌, ◌<◌, ◌⊎◌, ℕ, List, length, codes, Option, Some, IfSome}
+use Rattle.std.specs.Prelude.{◌≡◌, ◌≢◌, ◌≤◌, ◌<◌, ◌+◌, ◌⊎◌, ℕ, true, List, length, codes, Option, Some, IfSome}
 use Rattle.std.specs.Io.KnownBytes.{IsAtEnd}
 use Rattle.strm_machine.specs.declared.steps.Step.{Step}
 use Rattle.strm_machine.specs.declared.replies.Reply.{Reply}
@@ -9,7 +9,8 @@ use Rattle.strm_lines.specs.Text.{too_long_text, read_fault_text}
 use Rattle.strm_chain.specs.declared.stages.Stage.{Stage}
 use Rattle.strm_chain.specs.Stages.{composed}
 use Rattle.strm_chain.specs.Flowing.{Flows}
-use Rattle.strm_chain.specs.Turning.{IsRun}
+use Rattle.strm_chain.specs.Reporting.{is_told}
+use Rattle.strm_chain.specs.Running.{IsRun}
 use Rattle.strm_chain.specs.Asking.{Asks, IsAsked}
 
 -- how the program is called
@@ -25,7 +26,9 @@ pub record IsPipedBy (chunk : ℕ) (stages : List Stage) (input output : List �
   pub whos : List ℕ
   pub steps : List Step
   pub replies : List Reply
-  pub runs : IsRun chunk whos steps replies
+  pub runs : IsRun (length stages) chunk whos steps replies
+  -- to its end: the sink was told that there is no more
+  pub told : is_told (length stages + 1) steps replies ≡ true
   pub flows : Flows stages input output steps
   pub output_is : output ≡ composed stages input
 

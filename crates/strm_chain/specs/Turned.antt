@@ -1,6 +1,6 @@
 -- What one turn of a guest did, as steps: nothing, an event that answers none, the opening or the end of a
 -- read or a write, or the drop of its write end. Ours.
-use Rattle.std.specs.Prelude.{◌≡◌, ℕ, ◌+◌, ◌≤◌, Bool, true, false, List, ◌++◌, length, take, drop, Option, Some, None}
+use Rattle.std.specs.Prelude.{◌≡◌, ℕ, ◌+◌, ◌≤◌, ◌⊎◌, Bool, true, false, List, ◌++◌, length, take, drop, Option, Some, None}
 use Rattle.strm_codes.specs.Codes.{count_of}
 use Rattle.strm_codes.specs.declared.codes.ReturnCode.{ReturnCode}
 use Rattle.strm_codes.specs.declared.codes.ReturnCode.TheVariants.{Completed, Dropped, Blocked}
@@ -13,14 +13,25 @@ use Rattle.strm_chain.specs.declared.workers.Doing.TheVariants.{Nothing, Reading
 use Rattle.strm_chain.specs.declared.workers.ChainTurn.{ChainTurn}
 use Rattle.strm_chain.specs.declared.workers.ChainTurn.TheVariants.{Moved, Idle}
 use Rattle.strm_chain.specs.Stages.{left, done}
-use Rattle.strm_chain.specs.Playing.{Play, Adds}
-use Rattle.strm_chain.specs.Turning.{IsCount, HearsNone}
-use Rattle.strm_chain.specs.Keeping.{bytes_type}
+use Rattle.strm_chain.specs.Playing.{Play, Adds, bytes_type}
+use Rattle.strm_chain.specs.Turning.{IsCount}
+
+-- a guest has an operation of this handle
+abbrev pub IsAt : Worker → ℕ → Type 0
+IsAt w handle =
+    ((w.doing ≡ Reading) × (w.read ≡ Some handle)) ⊎ ((w.doing ≡ Writing) × (w.write ≡ Some handle))
+
+-- guest g has an operation, and the one step of its turn is the event of that, which answers none
+pub record HearsNone (g : ℕ) (w : Worker) (play play' : Play) : Type 0 where
+  pub handle : ℕ
+  pub has : IsAt w handle
+  pub hears : Adds play play' (steps.Event g handle) (replies.Event None)
 
 -- guest g reads, to byte 0 of its memory, and is answered this code
 pub record Reads (g chunk : ℕ) (w : Worker) (play play' : Play) (code : ReturnCode) : Type 0 where
   pub handle : ℕ
   pub rests : w.doing ≡ Nothing
+  pub unclosed : w.closed ≡ false
   pub has : w.read ≡ Some handle
   pub adds : Adds play play' (steps.Read g bytes_type handle 0 chunk) (replies.Code code)
 

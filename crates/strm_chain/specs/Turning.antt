@@ -1,14 +1,20 @@
--- What one guest may do in one turn, and what a run of turns is. Ours.
-use Rattle.std.specs.Prelude.{◌≡◌, ℕ, ◌≤◌, ◌⊎◌, Bool, true, false, List, [], ◌∷◌, ◌++◌, length, count_by, All, Option, Some, None}
+-- What one turn of a guest is, by the machine. Ours.
+use Rattle.std.specs.Prelude.{◌≡◌, ℕ, ◌==◌, ◌≤◌, Bool, true, false, if◌then◌else◌, List, [], ◌∷◌, ◌++◌, count_by, All, IsSome, Some, None}
+use Rattle.strm_codes.specs.declared.codes.ReturnCode.{ReturnCode}
 use Rattle.strm_machine.specs.declared.steps.Step.{Step}
 use Rattle.strm_machine.specs.declared.steps.Step.TheVariants as steps
 use Rattle.strm_machine.specs.declared.replies.Reply.{Reply}
 use Rattle.strm_machine.specs.declared.replies.Reply.TheVariants as replies
-use Rattle.strm_machine.specs.State.{State}
+use Rattle.strm_machine.specs.declared.streams.Owner.TheVariants.{Held}
+use Rattle.strm_machine.specs.declared.streams.Side.{Side}
+use Rattle.strm_machine.specs.Sides.{end_of}
+use Rattle.strm_machine.specs.State.{State, stream_at, is_gone}
 use Rattle.strm_machine.specs.Plays.{play, Ends}
-use Rattle.strm_chain.specs.declared.workers.Worker.{Worker}
-use Rattle.strm_chain.specs.declared.workers.Doing.TheVariants.{Reading, Writing, Ended}
-use Rattle.strm_chain.specs.Playing.{start, Play, Adds}
+use Rattle.strm_laws.specs.Laws.{waiting}
+use Rattle.strm_chain.specs.declared.workers.ChainTurn.{ChainTurn}
+use Rattle.strm_chain.specs.declared.workers.ChainTurn.TheVariants.{Moved, Idle}
+use Rattle.strm_chain.specs.Playing.{Play}
+use Rattle.strm_chain.specs.Reporting.{is_told}
 
 -- STEPS OF A TURN
 
@@ -34,84 +40,68 @@ abbrev pub is_event : Step → Bool
 is_event (steps.Event guest handle) = true
 is_event _ = false
 
--- guest g made some steps, of which at most one is an event
-pub record Makes (g chunk : ℕ) (play play' : Play) : Type 0 where
-  pub made : List Step
-  pub steps_are : play'.steps ≡ play.steps ++ made
-  pub own : All (IsStepOf g chunk) made
-  pub few : count_by is_event made ≤ 1
+-- a read or a write that a code answers, or a drop that is done
+abbrev pub is_call : Step → Reply → Bool
+is_call (steps.Write guest ty handle address count) (replies.Code code) = true
+is_call (steps.Read guest ty handle address count) (replies.Code code) = true
+is_call (steps.DropWrite guest ty handle) replies.Done = true
+is_call (steps.DropRead guest ty handle) replies.Done = true
+is_call _ reply = false
 
--- IDLE AND MOVED
-
--- a guest has an operation of this handle
-abbrev pub IsAt : Worker → ℕ → Type 0
-IsAt w handle =
-    ((w.doing ≡ Reading) × (w.read ≡ Some handle)) ⊎ ((w.doing ≡ Writing) × (w.write ≡ Some handle))
-
--- guest g has an operation, and the one step of its turn is the event of that, which answers none
-pub record HearsNone (g : ℕ) (w : Worker) (play play' : Play) : Type 0 where
-  pub handle : ℕ
-  pub has : IsAt w handle
-  pub hears : Adds play play' (steps.Event g handle) (replies.Event None)
-
--- guest g has ended and makes no step, or hears nothing of its operation
-abbrev pub IsIdle : ℕ → Worker → Play → Play → Type 0
-IsIdle g w play play' = ((w.doing ≡ Ended) × (play' ≡ play)) ⊎ HearsNone g w play play'
-
--- a read, a write, a drop, or an event that answers a code
-abbrev pub is_move : Step → Reply → Bool
-is_move (steps.Write guest ty handle address count) reply = true
-is_move (steps.Read guest ty handle address count) reply = true
-is_move (steps.DropWrite guest ty handle) reply = true
-is_move (steps.DropRead guest ty handle) reply = true
-is_move (steps.Event guest handle) (replies.Event (Some code)) = true
-is_move _ reply = false
-
--- one of the steps of a turn is such
-pub record Moves (play play' : Play) : Type 0 where
+-- one of the steps of a turn is such, with its reply
+pub record HasCall (made : List Step) (told : List Reply) : Type 0 where
   pub before : List Step
-  pub told : List Reply
-  pub even : length told ≡ length before
+  pub told_before : List Reply
   pub step : Step
   pub reply : Reply
   pub later : List Step
   pub told_later : List Reply
-  pub steps_are : play'.steps ≡ play.steps ++ (before ++ step ∷ later)
-  pub replies_are : play'.replies ≡ play.replies ++ (told ++ reply ∷ told_later)
-  pub moves : is_move step reply ≡ true
+  pub steps_are : made ≡ before ++ step ∷ later
+  pub replies_are : told ≡ told_before ++ reply ∷ told_later
+  pub is : is_call step reply ≡ true
 
--- RUNS
+-- WHERE A GUEST STANDS
 
--- the turns of a schedule: each guest in its order makes its steps, at most one of them an event
-abbrev pub AreTurns : ℕ → List ℕ → List Step → Type 0
-AreTurns chunk [] made = made ≡ []
-AreTurns chunk (who ∷ more) made =
-    (turn rest : List Step) × (made ≡ turn ++ rest) × All (IsStepOf who chunk) turn
-    × (count_by is_event turn ≤ 1) × AreTurns chunk more rest
+-- guest g has an operation: the end that it holds under this handle has a read or write that it was not
+-- told of yet
+pub record HasOperation (g handle : ℕ) (state : State) : Type 0 where
+  pub stream : ℕ
+  pub side : Side
+  pub held : (end_of side (stream_at state stream)).owner ≡ Held g handle
+  pub waits : IsSome (waiting stream side state)
 
--- the steps that make the guests and streams of a chain
-abbrev pub IsMaking : Step → Type 0
-IsMaking (steps.Guest size) = size ≡ 8192
-IsMaking (steps.Between writer reader ty) = Unit {0}
-IsMaking _ = ⊥
+-- guest g has ended: it has dropped the write end of its stream. The sink, the last guest, has none: it has
+-- ended once it was told that there is no more
+abbrev pub has_ended : ℕ → ℕ → Play → Bool
+has_ended sink g before =
+    if g == sink then is_told sink before.steps before.replies
+    else is_gone (stream_at before.state g).writer.owner
 
--- guests took these turns
-pub record TakesTurns (chunk : ℕ) (whos : List ℕ) (play play' : Play) : Type 0 where
+-- TURNS
+
+-- what guest g does in a turn, from where it stood, and what the turn answers
+pub data Answers (sink g : ℕ) (before : Play) (made : List Step) (told : List Reply) (turn : ChainTurn) : Type 0 where
+  -- it has ended, and makes no step
+  NoStep : turn ≡ Idle → has_ended sink g before ≡ true → made ≡ [] → Answers sink g before made told turn
+  -- it has an operation, and the one step is the event of that, which answers none
+  NoReport : (handle : ℕ) → turn ≡ Idle → HasOperation g handle before.state →
+      made ≡ steps.Event g handle ∷ [] → told ≡ replies.Event None ∷ [] → Answers sink g before made told turn
+  -- it has one, and the event of that, the first step, answers a code
+  Report : (handle : ℕ) (code : ReturnCode) (later : List Step) (rest : List Reply) → turn ≡ Moved →
+      HasOperation g handle before.state → made ≡ steps.Event g handle ∷ later →
+      told ≡ replies.Event (Some code) ∷ rest → Answers sink g before made told turn
+  -- it has not ended and has no operation: it reads, writes or drops
+  Call : turn ≡ Moved → has_ended sink g before ≡ false → ((handle : ℕ) → ¬ HasOperation g handle before.state) →
+      HasCall made told → Answers sink g before made told turn
+
+-- a turn of guest g: its steps are reads, writes, drops, pokes, dumps and at most one event, of this guest
+-- alone, with the machine's replies, which lead from one state to the next
+pub record Turns (sink chunk g : ℕ) (turn : ChainTurn) (before after : Play) : Type 0 where
   pub made : List Step
-  pub steps_are : play'.steps ≡ play.steps ++ made
-  pub turns : AreTurns chunk whos made
-
--- guests took the turns of some schedule
-abbrev pub TakesSome : ℕ → Play → Play → Type 0
-TakesSome chunk play play' = (whos : List ℕ) × TakesTurns chunk whos play play'
-
--- a run of a chain: the steps that make it, and the turns of a schedule behind them; the replies are those
--- of the machine's play
-pub record IsRun (chunk : ℕ) (whos : List ℕ) (steps : List Step) (told : List Reply) : Type 0 where
-  pub making : List Step
-  pub made : List Step
-  pub steps_are : steps ≡ making ++ made
-  pub makes : All IsMaking making
-  pub turns : AreTurns chunk whos made
-  pub state : State
-  pub plays : play [] start steps ≡ Ends told state
+  pub told : List Reply
+  pub steps_are : after.steps ≡ before.steps ++ made
+  pub replies_are : after.replies ≡ before.replies ++ told
+  pub plays : play [] before.state made ≡ Ends told after.state
+  pub own : All (IsStepOf g chunk) made
+  pub few : count_by is_event made ≤ 1
+  pub answers : Answers sink g before made told turn

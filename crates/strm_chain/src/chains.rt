@@ -2,16 +2,17 @@
 //!
 //! Meaning: `Turning.antt`, `Flowing.antt`, `Faults.antt`. Ours.
 
-ghost use Rattle.std.specs.Prelude.{◌≡◌, ◌≢◌, ◌≤◌, ◌<◌, ◌+◌, ◌%◌, ◌↔◌, ◌++◌, ◌∷◌, ℕ, List, [], length, map, true, false, Ok, Err, IfOk, IfSome, IfErr, IsErr, OnOk, count_by, None};
+ghost use Rattle.std.specs.Prelude.{◌≡◌, ◌≢◌, ◌≤◌, ◌<◌, ◌+◌, ◌-◌, ◌%◌, ◌↔◌, ◌++◌, ◌∷◌, ℕ, List, [], length, map, true, false, Err, IfOk, IfSome, IfErr, IsErr, OnOk, count_by, None};
 ghost use Rattle.strm_machine.specs.Plays.{play, Ends};
 ghost use Rattle.strm_chain.specs.Playing.{start, IsPlayed};
 ghost use Rattle.strm_chain.specs.Stages.{composed};
 ghost use Rattle.strm_chain.specs.Flowing.{Flows};
 ghost use Rattle.strm_chain.specs.Faults.{is_twice, fault_of, IsFault};
-ghost use Rattle.strm_chain.specs.Turning.{Makes, Moves, IsIdle, TakesTurns, TakesSome, IsRun};
-ghost use Rattle.strm_chain.specs.Keeping.{worker_at, sink_of, stages_of, input_of, IsJoined, GoesOn};
+ghost use Rattle.strm_chain.specs.Reporting.{is_told};
+ghost use Rattle.strm_chain.specs.Turning.{Turns};
+ghost use Rattle.strm_chain.specs.Running.{AreTurns, AreSomeTurns, IsRun};
+ghost use Rattle.strm_chain.specs.Keeping.{worker_at, sink_of, stages_of, input_of, IsGoing, GoesOn};
 ghost use Rattle.strm_chain.specs.Turned.{Turned};
-ghost use Rattle.strm_chain.specs.declared.workers.ChainTurn.TheVariants.{Moved, Idle};
 ghost use Rattle.strm_chain.specs.declared.workers.Doing.TheVariants.{Ended};
 
 use crate::lists::Bytes8;
@@ -174,20 +175,14 @@ impl Chain {
     }
 
     /// One turn of a guest. After want of memory each turn answers that.
-    #[tactic(auto, using(crate::proofs::ChainLemmas::joined_of))]
+    #[tactic(auto, using(crate::proofs::ChainLemmas::going_of))]
     pub fn turn(&mut self, who: u32) -> Result<ChainTurn, ChainError>
         requires { who < length self.old.workers }
 
-        // Its steps are reads, writes, drops, pokes, dumps and at most one event, of this guest alone, and its
-        // reads and writes have counts from 1 to the chunk.
-        ensures makes { OnOk result (Makes who self.old.chunk self.old.play self.new.play) }
-
-        // It is idle exactly where the guest has ended, and where the guest has an operation of which the one
-        // event of the turn tells nothing.
-        ensures idle { result ≡ Ok Idle → IsIdle who (worker_at self.old.workers who) self.old.play self.new.play }
-        ensures exactly { IsIdle who (worker_at self.old.workers who) self.old.play self.new.play
-            → IfOk result (λ turn. turn ≡ Idle) }
-        ensures moved { result ≡ Ok Moved → Moves self.old.play self.new.play }
+        // It is one of this guest alone, and the machine answers its steps: the guest has ended and makes none,
+        // or it has an operation and is told of that, or not, or it reads, writes or drops.
+        ensures turns { IfOk result (λ turn. Turns (length self.old.workers - 1) self.old.chunk who turn
+            self.old.play self.new.play) }
 
         // The chain goes on with the same stages and input, and no other guest is changed.
         ensures goes_on { OnOk result (GoesOn self.old self.new) }
@@ -223,7 +218,8 @@ impl Chain {
 
     /// The sink was told that there is no more.
     pub fn ended(&self) -> bool
-        ensures { result ≡ (sink_of self.now.workers).closed }
+        ensures { self.now.failed ≡ false →
+            result ≡ is_told (length self.now.workers - 1) self.now.play.steps self.now.play.replies }
     {
         match self.workers.as_slice() {
             [.., sink] => sink.closed,
@@ -233,22 +229,32 @@ impl Chain {
 
     // A sink that was not told has not ended. It does nothing.
     fn sink_rests(&self)
-        ensures { self.now.failed ≡ false → (sink_of self.now.workers).closed ≡ false → (sink_of self.now.workers).doing ≢ Ended }
+        ensures { self.now.failed ≡ false →
+            is_told (length self.now.workers - 1) self.now.play.steps self.now.play.replies ≡ false →
+            (sink_of self.now.workers).doing ≢ Ended }
     {
         let _ = &self.workers;
     }
 
-    // What the chain has come to.
-    #[tactic(auto, using(crate::proofs::ChainLemmas::joined_of))]
-    fn finish(self) -> Result<ChainEnd, ChainError>
-        requires { self.failed ≡ false }
+    /// What the chain has come to, ended or not. After want of memory it answers that.
+    #[tactic(auto, using(crate::proofs::ChainLemmas::going_of))]
+    pub fn finish(self) -> Result<ChainEnd, ChainError>
+        // All that was played, with the machine's replies.
         ensures steps { IfOk result (λ end. end.steps ≡ self.play.steps) }
-        ensures replies { IfOk result (λ end. play [] start end.steps ≡ Ends end.replies self.play.state) }
-        ensures ended { IfOk result (λ end. end.ended ≡ (sink_of self.workers).closed) }
+        ensures replies { IfOk result (λ end. end.replies ≡ self.play.replies) }
+        ensures plays { IfOk result (λ end. play [] start end.steps ≡ Ends end.replies self.play.state) }
+
+        // It has ended exactly where the last report of the sink says that there is no more.
+        ensures ended { IfOk result (λ end. end.ended ≡ is_told (length self.workers - 1) end.steps end.replies) }
         ensures flows { IfOk result (λ end. Flows (stages_of self.workers) (input_of self.workers) end.output end.steps) }
-        ensures composed { IfOk result (λ end. end.ended ≡ true → end.output ≡ composed (stages_of self.workers) (input_of self.workers)) }
+        ensures composed { IfOk result (λ end. end.ended ≡ true →
+            end.output ≡ composed (stages_of self.workers) (input_of self.workers)) }
         ensures error { IfErr result (λ error. error ≡ ChainError.OutOfMemory) }
+        ensures again { self.failed ≡ true → result ≡ Err ChainError.OutOfMemory }
     {
+        if self.failed {
+            return Err(ChainError::OutOfMemory);
+        }
         let Chain {
             player,
             workers,
@@ -269,10 +275,11 @@ fn take_sink(workers: Vec<Worker>) -> Option<Worker>
 // What a chain of these guests has come to.
 fn end_of(player: Player, workers: Vec<Worker>) -> Result<ChainEnd, ChainError>
     requires some { (2 ≤ length workers.items) × (length workers.items ≤ 10) }
-    requires joined { IsJoined player workers.items }
+    requires going { IsGoing player workers.items }
     ensures steps { IfOk result (λ end. end.steps ≡ player.steps) }
-    ensures replies { IfOk result (λ end. play [] start end.steps ≡ Ends end.replies player.state) }
-    ensures ended { IfOk result (λ end. end.ended ≡ (sink_of workers.items).closed) }
+    ensures replies { IfOk result (λ end. end.replies ≡ player.replies) }
+    ensures plays { IfOk result (λ end. play [] start end.steps ≡ Ends end.replies player.state) }
+    ensures ended { IfOk result (λ end. end.ended ≡ is_told (length workers.items - 1) end.steps end.replies) }
     ensures flows { IfOk result (λ end. Flows (stages_of workers.items) (input_of workers.items) end.output end.steps) }
     ensures composed { IfOk result (λ end. end.ended ≡ true → end.output ≡ composed (stages_of workers.items) (input_of workers.items)) }
     ensures error { IfErr result (λ error. error ≡ ChainError.OutOfMemory) }
@@ -316,7 +323,7 @@ fn turn_at(
     turn
 }
 
-// One turn in a chain, which stays joined.
+// One turn in a chain, which goes on.
 fn turn_in(
     player: &mut Player,
     workers: &mut [Worker],
@@ -325,14 +332,11 @@ fn turn_in(
 ) -> Result<ChainTurn, OutOfMemory>
     requires chunk { (16 ≤ chunk) × (chunk ≤ 64) }
     requires there { who < length workers.old }
-    requires joined { IsJoined player.old workers.old }
-    ensures joined { OnOk result (IsJoined player.new workers.new) }
+    requires going { IsGoing player.old workers.old }
+    ensures going { OnOk result (IsGoing player.new workers.new) }
     ensures stages { OnOk result (stages_of workers.new ≡ stages_of workers.old) }
     ensures input { OnOk result (input_of workers.new ≡ input_of workers.old) }
-    ensures makes { OnOk result (Makes who chunk player.old player.new) }
-    ensures idle { result ≡ Ok Idle → IsIdle who (worker_at workers.old who) player.old player.new }
-    ensures exactly { IsIdle who (worker_at workers.old who) player.old player.new → IfOk result (λ turn. turn ≡ Idle) }
-    ensures moved { result ≡ Ok Moved → Moves player.old player.new }
+    ensures turns { IfOk result (λ turn. Turns (length workers.old - 1) chunk who turn player.old player.new) }
     ensures more { OnOk result ((worker_at workers.old who).doing ≢ Ended → length player.old.steps < length player.new.steps) }
     ensures few { length player.new.steps ≤ 4294967295 }
     ensures others { (g : ℕ) → g ≢ who → worker_at workers.new g ≡ worker_at workers.old g }
@@ -345,8 +349,8 @@ fn turn_in(
 fn take_turns(chain: &mut Chain, schedule: &[u32]) -> Result<(), ChainError>
     requires { chain.old.failed ≡ false }
     ensures error { IfErr result (λ error. error ≡ ChainError.OutOfMemory) }
-    ensures turns { OnOk result (TakesTurns chain.old.chunk (map (λ s. s % length chain.old.workers) schedule.now)
-        chain.old.play chain.new.play) }
+    ensures turns { OnOk result (AreTurns (length chain.old.workers - 1) chain.old.chunk
+        (map (λ s. s % length chain.old.workers) schedule.now) chain.old.play chain.new.play) }
     ensures goes_on { OnOk result (GoesOn chain.old chain.new) }
     ensures runs { OnOk result (chain.new.failed ≡ false) }
 {
@@ -362,7 +366,8 @@ fn take_round(chain: &mut Chain) -> Result<(), ChainError>
     requires runs { chain.old.failed ≡ false }
     requires rests { (sink_of chain.old.workers).doing ≢ Ended }
     ensures error { IfErr result (λ error. error ≡ ChainError.OutOfMemory) }
-    ensures turns { OnOk result (TakesSome chain.old.chunk chain.old.play chain.new.play) }
+    ensures turns { OnOk result (AreSomeTurns (length chain.old.workers - 1) chain.old.chunk
+        chain.old.play chain.new.play) }
     ensures goes_on { OnOk result (GoesOn chain.old chain.new) }
     ensures runs { OnOk result (chain.new.failed ≡ false) }
     ensures more { OnOk result (length chain.old.play.steps < length chain.new.play.steps) }
@@ -386,8 +391,13 @@ pub fn chain_run(
 ) -> Result<ChainEnd, ChainError>
     requires { (16 ≤ chunk) × (chunk ≤ 64) }
 
-    // The replies are those of the machine's play, and the steps those of these guests' turns, in order.
-    ensures runs { IfOk result (λ end. IsRun chunk (map (λ s. s % (length stages.now + 2)) schedule.now) end.steps end.replies) }
+    // The steps are those that make the chain and then those of these guests' turns, in order, and the
+    // replies those of the machine's play.
+    ensures runs { IfOk result (λ end. IsRun (length stages.now) chunk
+        (map (λ s. s % (length stages.now + 2)) schedule.now) end.steps end.replies) }
+
+    // It has ended exactly where the last report of the sink says that there is no more.
+    ensures ended { IfOk result (λ end. end.ended ≡ is_told (length stages.now + 1) end.steps end.replies) }
 
     // What stream 0 received is a front of the input, and what each stream behind a stage received a front
     // of what the stage makes of what was received before it. The output is what the last one received.
@@ -411,11 +421,14 @@ pub fn chain_all(
 ) -> Result<ChainEnd, ChainError>
     requires { (16 ≤ chunk) × (chunk ≤ 64) }
 
-    // The replies are those of the machine's play, and the steps those of guests' turns.
-    ensures runs { IfOk result (λ end. (whos : List ℕ) × IsRun chunk whos end.steps end.replies) }
+    // The steps are those that make the chain and then those of guests' turns, and the replies those of the
+    // machine's play.
+    ensures runs { IfOk result (λ end. (whos : List ℕ) × IsRun (length stages.now) chunk whos end.steps end.replies) }
     ensures flows { IfOk result (λ end. Flows stages.now input.items end.output end.steps) }
 
-    // It ends, and the output is what the stages make of the input.
+    // It ends: by its last report the sink was told that there is no more. The output is what the stages make
+    // of the input.
+    ensures told { IfOk result (λ end. is_told (length stages.now + 1) end.steps end.replies ≡ true) }
     ensures ended { IfOk result (λ end. end.ended ≡ true) }
     ensures composed { IfOk result (λ end. end.output ≡ composed stages.now input.items) }
     ensures err { IfErr result (IsFault stages.now (length input.items)) }

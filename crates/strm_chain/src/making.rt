@@ -3,7 +3,8 @@
 //! Meaning: `Making.antt`. Ours.
 
 ghost use Rattle.std.specs.Prelude.{◌≡◌, ◌≤◌, ◌<◌, ◌+◌, ◌++◌, ◌∷◌, [], ℕ, List, length, slice_index_or, IfOk, OnOk, Some};
-ghost use Rattle.strm_chain.specs.Keeping.{new_worker, IsJoined};
+ghost use Rattle.strm_chain.specs.Playing.{IsPlayed};
+ghost use Rattle.strm_chain.specs.Keeping.{new_worker, IsGoing};
 ghost use Rattle.strm_chain.specs.declared.stages.Stage.{Stage};
 ghost use Rattle.strm_chain.specs.declared.stages.Stage.TheVariants.{Copy};
 ghost use Rattle.strm_chain.specs.Making.{AreMade, MakesPair, source_of, AreJoined, IsReady};
@@ -29,7 +30,8 @@ pub(crate) fn make_chain(
 ) -> Result<(Player, Vec<Worker>), OutOfMemory>
     requires { length stages.now ≤ 8 }
     ensures ready { IfOk result (λ made. IsReady stages.now input.items made.0 made.1.items) }
-    ensures joined { IfOk result (λ made. IsJoined made.0 made.1.items) }
+    ensures going { IfOk result (λ made. IsGoing made.0 made.1.items) }
+    ensures played { IfOk result (λ made. IsPlayed made.0) }
 {
     let mut player = Player::new(alloc);
     add_guests(&mut player, stages.len() as u32 + 2)?;

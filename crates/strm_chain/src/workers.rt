@@ -4,7 +4,7 @@
 //! those that were handed over; so a write that is told of fewer items than it asked for is followed by one
 //! that begins behind those. Ours.
 
-ghost use Rattle.std.specs.Prelude.{◌≡◌, ◌≤◌, ◌+◌, ◌++◌, ◌⊎◌, List, ℕ, length, take, drop, true, None, IfOk, OnOk, IfSome};
+ghost use Rattle.std.specs.Prelude.{◌≡◌, ◌≤◌, ◌+◌, ◌++◌, ◌⊎◌, List, ℕ, length, take, drop, true, false, None, IfOk, OnOk, IfSome};
 ghost use Rattle.strm_machine.specs.Acts.{act_of};
 ghost use Rattle.strm_machine.specs.declared.steps.Step.TheVariants as steps;
 ghost use Rattle.strm_machine.specs.declared.replies.Reply.TheVariants as replies;
@@ -162,7 +162,8 @@ fn begin_read(
     guest: u32,
     chunk: u32,
 ) -> Result<ChainTurn, OutOfMemory>
-    requires { worker.old.doing ≡ doing.Nothing }
+    requires rests { worker.old.doing ≡ doing.Nothing }
+    requires unclosed { worker.old.closed ≡ false }
     ensures { IfOk result (λ turn. Turned guest chunk worker.old player.old turn worker.new player.new) }
 {
     let Some(handle) = worker.read else {

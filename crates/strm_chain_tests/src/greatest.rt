@@ -1,9 +1,13 @@
 //! The limits: eight stages, two that double, and 65,536 bytes; and one more of each.
 
+ghost use Rattle.std.specs.Prelude.{◌≤◌};
+
 use std::alloc::{AllocError, Global};
 use std::process::Abort;
-use strm_chain::chains::{ChainError, MAX_INPUT, chain_all};
+use strm_chain::chains::{Chain, ChainEnd, ChainError, MAX_INPUT, chain_all, chain_run};
+use strm_chain::serving::chain_serve;
 use strm_chain::stages::Stage;
+use strm_ports::in_memory::{BytesSink, BytesSource};
 
 // So many bytes, from 0 to 250 over and over.
 fn bytes(alloc: Global, count: usize) -> Result<Vec<u8>, AllocError> {
@@ -35,18 +39,102 @@ fn is_four_times(list: &[u8], count: usize) -> bool {
     is
 }
 
-fn is_whole(alloc: Global, count: usize) -> Result<bool, ChainError> {
-    let end = chain_all(alloc, FOUR_TIMES, bytes(alloc, count)?, 64)?;
-    Ok(end.ended && is_four_times(end.output.as_slice(), count))
+// Whether a chain has ended, and put out each of so many bytes four times.
+fn is_whole(end: &ChainEnd, count: usize) -> bool {
+    end.ended && is_four_times(end.output.as_slice(), count)
+}
+
+fn all_are_whole(alloc: Global, count: usize, chunk: u32) -> Result<bool, ChainError>
+    requires { (16 ≤ chunk) × (chunk ≤ 64) }
+{
+    let end = chain_all(alloc, FOUR_TIMES, bytes(alloc, count)?, chunk)?;
+    Ok(is_whole(&end, count))
 }
 
 fn holds(rt: &impl Abort, found: Result<bool, ChainError>) {
     assert_eq!(rt; found, Ok(true));
 }
 
+fn is_so(rt: &impl Abort, found: Result<bool, AllocError>) {
+    assert_eq!(rt; found, Ok(true));
+}
+
 #[test]
 fn the_greatest_input_with_eight_stages(rt: HostRuntime) {
-    holds(&rt, is_whole(rt.alloc(), MAX_INPUT));
+    holds(&rt, all_are_whole(rt.alloc(), MAX_INPUT, 64));
+}
+
+// These pieces take the most steps.
+#[test]
+fn the_greatest_input_in_the_least_pieces(rt: HostRuntime) {
+    holds(&rt, all_are_whole(rt.alloc(), MAX_INPUT, 16));
+}
+
+// So many rounds of ten guests, the last one first.
+fn rounds(alloc: Global, count: usize) -> Result<Vec<u32>, AllocError> {
+    let mut schedule: Vec<u32> = Vec::new(alloc);
+    for _ in 0..count {
+        schedule.extend_from_slice(&[9, 8, 7, 6, 5, 4, 3, 2, 1, 0])?;
+    }
+    Ok(schedule)
+}
+
+fn run_is_whole(alloc: Global, count: usize) -> Result<bool, ChainError> {
+    let schedule = rounds(alloc, 40_000)?;
+    let input = bytes(alloc, count)?;
+    let end = chain_run(alloc, FOUR_TIMES, input, 64, schedule.as_slice())?;
+    Ok(is_whole(&end, count))
+}
+
+#[test]
+fn the_greatest_input_by_a_schedule(rt: HostRuntime) {
+    holds(&rt, run_is_whole(rt.alloc(), MAX_INPUT));
+}
+
+// A caller who gives the guests their turns, and asks for what came of them.
+fn driven_is_whole(alloc: Global, count: usize) -> Result<bool, ChainError> {
+    let mut chain = Chain::new(alloc, FOUR_TIMES, bytes(alloc, count)?, 64)?;
+    for _ in 0..40_000u32 {
+        for who in 0..chain.guests() {
+            chain.turn(who)?;
+        }
+    }
+    let ended = chain.ended();
+    let end = chain.finish()?;
+    Ok(ended && is_whole(&end, count))
+}
+
+#[test]
+fn the_greatest_input_turn_by_turn(rt: HostRuntime) {
+    holds(&rt, driven_is_whole(rt.alloc(), MAX_INPUT));
+}
+
+const WORDS: [&str; 9] = [
+    "16",
+    "copy",
+    "add:3",
+    "twice",
+    "copy",
+    "add:253",
+    "twice",
+    "first:4294967295",
+    "without:251",
+];
+
+fn served_is_whole(alloc: Global, count: usize) -> Result<bool, AllocError> {
+    let mut words = Vec::new(alloc);
+    for word in WORDS {
+        words.push(String::from_str(alloc, word)?)?;
+    }
+    let mut source = BytesSource::new(bytes(alloc, count)?, 40_000, Vec::new(alloc));
+    let mut sink = BytesSink::new(alloc, 40_000, Vec::new(alloc));
+    let status = chain_serve(alloc, &words, &mut source, &mut sink);
+    Ok(status == 0 && is_four_times(sink.taken(), count))
+}
+
+#[test]
+fn the_greatest_input_of_the_program(rt: HostRuntime) {
+    is_so(&rt, served_is_whole(rt.alloc(), MAX_INPUT));
 }
 
 // The error of a chain of these stages and so many bytes.

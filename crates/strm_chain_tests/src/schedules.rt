@@ -166,6 +166,30 @@ fn are(rt: &impl Abort, found: Result<(u32, u32), ChainError>, wanted: (u32, u32
     assert_eq!(rt; found, Ok(wanted));
 }
 
+// The output of that chain after so many rounds, which a caller who drives it asks for.
+fn driven(alloc: Global, count: u32) -> Result<ChainEnd, ChainError> {
+    let input = [7u8].to_vec(alloc)?;
+    let mut chain = Chain::new(alloc, &[Stage::Copy], input, 16)?;
+    for _ in 0..count {
+        for who in 0..chain.guests() {
+            chain.turn(who)?;
+        }
+    }
+    chain.finish()
+}
+
+fn comes_to(alloc: Global, count: u32, ended: bool, output: &[u8]) -> Result<bool, ChainError> {
+    let end = driven(alloc, count)?;
+    Ok(end.ended == ended && end.output.as_slice() == output)
+}
+
+#[test]
+fn a_caller_has_the_output(rt: HostRuntime) {
+    holds(&rt, comes_to(rt.alloc(), 0, false, &[]), 0);
+    holds(&rt, comes_to(rt.alloc(), 3, false, &[7]), 3);
+    holds(&rt, comes_to(rt.alloc(), 4, true, &[7]), 4);
+}
+
 // In the first round the source writes, the stage reads that at once, and the sink's read waits. In the
 // second the source and the sink hear of it, between them the stage writes. In the third the source drops
 // its end, of which the stage is told, and the sink reads again. In the fourth the source has ended, so is

@@ -11,6 +11,8 @@ mod errors;
 #[cfg(test)]
 mod faults;
 #[cfg(test)]
+mod greatest;
+#[cfg(test)]
 mod lanes;
 #[cfg(test)]
 mod serving;

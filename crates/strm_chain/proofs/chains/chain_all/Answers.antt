@@ -1,11 +1,11 @@
-use Rattle.std.proofs.Common.{rules, ◌∙◌, arith, length}
-use Rattle.strm_chain.proofs.ChainLemmas.{goes_nowhere, goes_further, some_run_ok, flows_ok, all_ok}
+use Rattle.std.proofs.Common.{rules, ◌-◌, ◌∙◌, ap, sym, arith, length}
+use Rattle.strm_chain.proofs.ChainLemmas.{goes_nowhere, goes_further, some_run_ok, flows_ok, told_ok, all_ended_ok, all_ok}
 use Rattle.strm_chain.proofs.TurningLemmas.{some_none, some_join}
 use Rattle.strm_chain.proofs.chains.chain_all.Goals as goal
 
 pub loop-chain-init : goal.loop-chain-init
 loop-chain-init c = record {
-  from = (c.in_ok-chain.chain, c.in_ok-chain.ensures.begins, some_none c.in_ok-chain.chain.chunk c.in_ok-chain.chain.play, goes_nowhere c.in_ok-chain.chain);
+  from = (c.in_ok-chain.chain, c.in_ok-chain.ensures.begins, some_none (length c.in_ok-chain.chain.workers - 1) c.in_ok-chain.chain.chunk c.in_ok-chain.chain.play, goes_nowhere c.in_ok-chain.chain);
   runs = c.in_ok-chain.ensures.begins.runs;
   none = search rules;
 }
@@ -18,7 +18,8 @@ loop-chain-preserved c =
       from = (
         i.from.0,
         i.from.1,
-        some_join i.from.0.chunk c.loop-chain.chain.chunk i.from.0.play c.loop-chain.chain.play c.take_round.new.chain.play i.from.3.chunk i.from.2 e.turns,
+        some_join (length i.from.0.workers - 1) (length c.loop-chain.chain.workers - 1) i.from.0.chunk c.loop-chain.chain.chunk i.from.0.play c.loop-chain.chain.play c.take_round.new.chain.play
+            (ap (λ n. n - 1) i.from.3.many) i.from.3.chunk i.from.2 e.turns,
         goes_further i.from.0 c.loop-chain.chain c.take_round.new.chain i.from.3 e.goes_on,
       );
       runs = e.runs;
@@ -32,10 +33,28 @@ pub returns-clause-runs : goal.returns-clause-runs
 returns-clause-runs c =
     let i = c.loop-chain.invariant in
     some_run_ok (λ e. e.steps) (λ e. e.replies) (λ e. e.output) (λ e. e.ended) c.args.stages.now c.args.input.items c.args.chunk i.from.0 c.loop-chain.chain c.finish.result
-    i.from.1 i.from.2 c.finish.ensures.steps c.finish.ensures.replies
+    i.from.1 i.from.2 (c.finish.ensures.steps, c.finish.ensures.replies, c.finish.ensures.plays)
 
 pub returns-clause-flows : goal.returns-clause-flows
 returns-clause-flows c =
     let i = c.loop-chain.invariant in
     flows_ok (λ e. e.steps) (λ e. e.replies) (λ e. e.output) (λ e. e.ended) c.args.stages.now c.args.input.items c.args.chunk i.from.0 c.loop-chain.chain c.finish.result
     i.from.1 i.from.3 c.finish.ensures.flows
+
+pub returns-clause-told : goal.returns-clause-told
+returns-clause-told c =
+    let i = c.loop-chain.invariant in
+    told_ok (λ e. e.steps) (λ e. e.replies) (λ e. e.output) (λ e. e.ended) c.args.stages.now c.args.input.items c.args.chunk i.from.0 c.loop-chain.chain c.finish.result
+    i.from.1 i.from.3 (sym (c.ended.ensures i.runs) ∙ c.loop-chain-test.false) (c.finish.ensures.steps, c.finish.ensures.replies, c.finish.ensures.plays)
+
+pub returns-clause-ended : goal.returns-clause-ended
+returns-clause-ended c =
+    let i = c.loop-chain.invariant in
+    all_ended_ok (λ e. e.steps) (λ e. e.replies) (λ e. e.output) (λ e. e.ended) c.args.stages.now c.args.input.items c.args.chunk i.from.0 c.loop-chain.chain c.finish.result
+    i.from.1 i.from.3 (sym (c.ended.ensures i.runs) ∙ c.loop-chain-test.false) (c.finish.ensures.steps, c.finish.ensures.replies, c.finish.ensures.plays) c.finish.ensures.ended
+
+pub returns-clause-composed : goal.returns-clause-composed
+returns-clause-composed c =
+    let i = c.loop-chain.invariant in
+    all_ok (λ e. e.steps) (λ e. e.replies) (λ e. e.output) (λ e. e.ended) c.args.stages.now c.args.input.items c.args.chunk i.from.0 c.loop-chain.chain c.finish.result
+    i.from.1 i.from.3 (sym (c.ended.ensures i.runs) ∙ c.loop-chain-test.false) (c.finish.ensures.steps, c.finish.ensures.replies, c.finish.ensures.plays) c.finish.ensures.ended c.finish.ensures.composed

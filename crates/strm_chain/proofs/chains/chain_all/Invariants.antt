@@ -1,13 +1,13 @@
 use Rattle.std.proofs.Common.{◌≡◌, ◌-◌, length, false}
 use Rattle.std.specs.Prelude.{None}
 use Rattle.strm_chain.specs.Faults.{fault_of}
-use Rattle.strm_chain.specs.Turning.{TakesSome}
+use Rattle.strm_chain.specs.Running.{AreSomeTurns}
 use Rattle.strm_chain.specs.Keeping.{ChainState, Begins, GoesOn}
 use Rattle.strm_chain.proofs.chains.chain_all.Given as goal
 
 abbrev pub invariant-loop-chain : goal.invariant-loop-chain
 invariant-loop-chain l = record {
-  from : (first : ChainState) × Begins l.fn.stages l.fn.input.items l.fn.chunk first × TakesSome first.chunk first.play l.chain.play × GoesOn first l.chain;
+  from : (first : ChainState) × Begins l.fn.stages l.fn.input.items l.fn.chunk first × AreSomeTurns (length first.workers - 1) first.chunk first.play l.chain.play × GoesOn first l.chain;
   runs : l.chain.failed ≡ false;
   none : fault_of l.fn.stages (length l.fn.input.items) ≡ None;
 }

@@ -1,11 +1,11 @@
-use Rattle.std.proofs.Common.{◌≡◌, ◌≤◌, length, false}
-use Rattle.strm_chain.specs.Turning.{TakesSome}
+use Rattle.std.proofs.Common.{◌≡◌, ◌-◌, ◌≤◌, length, false}
+use Rattle.strm_chain.specs.Running.{AreSomeTurns}
 use Rattle.strm_chain.specs.Keeping.{GoesOn, sink_of}
 use Rattle.strm_chain.proofs.chains.take_round.Given as goal
 
 abbrev pub invariant-loop-who : goal.invariant-loop-who
 invariant-loop-who l = record {
-  turns : TakesSome l.fn.chain.chunk l.fn.chain.play l.chain.play;
+  turns : AreSomeTurns (length l.fn.chain.workers - 1) l.fn.chain.chunk l.fn.chain.play l.chain.play;
   goes_on : GoesOn l.fn.chain l.chain;
   runs : l.chain.failed ≡ false;
   sink : sink_of l.chain.workers ≡ sink_of l.fn.chain.workers;

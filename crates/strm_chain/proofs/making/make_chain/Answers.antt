@@ -2,8 +2,11 @@ use Rattle.std.proofs.Common.{rules, ◌≡◌, ◌+◌, length, sym, subst, ari
 use Rattle.strm_chain.specs.Making.{AreMade, AreJoined, IsReady}
 use Rattle.strm_chain.proofs.MomentLemmas.{played_run}
 use Rattle.strm_chain.proofs.EndLemmas.{counts_are}
-use Rattle.strm_chain.proofs.MakingLemmas.{joined_last, ready_joined}
+use Rattle.strm_chain.proofs.MakingLemmas.{none_made, joined_last, ready_joined, ready_untold}
 use Rattle.strm_chain.proofs.making.make_chain.Goals as goal
+
+pub add_guests-requires : goal.add_guests-requires
+add_guests-requires c = subst (AreMade 0 0) (sym c.new-player.ensures) none_made
 
 pub loop-stage-init : goal.loop-stage-init
 loop-stage-init c =
@@ -30,7 +33,11 @@ returns-clause-ready c =
     (subst (λ k. AreMade (length stages + 2) (k + 1) c.loop-stage.player) all i.made)
     c.new_worker.ensures)
 
-pub returns-clause-joined : goal.returns-clause-joined
-returns-clause-joined c =
-    ready_joined c.args.stages.now c.args.input.items c.loop-stage.player c.add_worker.new.workers.items (returns-clause-ready c)
-    (λ s. counts_are c.loop-stage.player s (played_run c.loop-stage.player c.played.ensures) c.conservation.ensures.conserves)
+pub returns-clause-going : goal.returns-clause-going
+returns-clause-going c =
+    let ready = returns-clause-ready c in
+    record {
+      joined = ready_joined c.args.stages.now c.args.input.items c.loop-stage.player c.add_worker.new.workers.items ready
+          (λ s. counts_are c.loop-stage.player s (played_run c.loop-stage.player c.played.ensures) c.conservation.ensures.conserves);
+      told = ready_untold c.args.stages.now c.args.input.items c.loop-stage.player c.add_worker.new.workers.items ready;
+    }

@@ -1,8 +1,7 @@
 use Rattle.std.proofs.Common.{◌≡◌, ◌+◌, subst}
 use Rattle.strm_machine.specs.declared.steps.Step.TheVariants as steps
 use Rattle.strm_machine.specs.declared.replies.Reply.TheVariants as replies
-use Rattle.strm_chain.specs.Playing.{Adds}
-use Rattle.strm_chain.specs.Keeping.{bytes_type}
+use Rattle.strm_chain.specs.Playing.{Adds, bytes_type}
 use Rattle.strm_chain.proofs.MakingLemmas.{pair_made}
 use Rattle.strm_chain.proofs.making.make_pair.Goals as goal
 
