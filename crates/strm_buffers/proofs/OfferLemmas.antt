@@ -12,17 +12,17 @@ use Rattle.strm_codes.specs.declared.scalars.Scalar.TheVariants.{U8}
 use Rattle.strm_codes.specs.declared.scalars.Scalar.{Scalar}
 use Rattle.strm_codes.specs.Items.{FitsItem}
 use Rattle.strm_memory.specs.Bytes.{IsBytes, bytes_at}
-use Rattle.strm_memory.specs.Items.{decode, items, byte_items, is_number_or_none}
-use Rattle.strm_memory.proofs.ItemLemmas.{item_fits}
+use Rattle.strm_memory.specs.Items.{decode, items, byte_items, good_items}
+use Rattle.strm_memory.proofs.ItemLemmas.{item_fits, block_fits}
 use Rattle.strm_memory.proofs.AppendLemmas.{items-bytes, items-same}
 use Rattle.strm_memory.proofs.ByteLemmas.{IsBytes-drop}
-use Rattle.strm_memory.proofs.RegionLemmas.{AreItems-items, items-number_or_none}
+use Rattle.strm_memory.proofs.RegionLemmas.{AreItems-items}
 use Rattle.strm_memory.specs.Linear.{LinearMemory}
-use Rattle.strm_buffers.specs.Listing.{Item, TypedItems, listed, items_in, good_items}
+use Rattle.strm_buffers.specs.Listing.{Item, TypedItems, listed, items_in}
 use Rattle.strm_buffers.specs.Offers.{Offered, items_lent, item_behind, good_lent, left_of, is_cut, asks_bad, after_taking, IsSource, IsBadNext, IsOffer, Shows}
 use Rattle.strm_buffers.specs.Tells.{first_lent}
 use Rattle.strm_buffers.proofs.ListingLemmas.{Lie, lie_made}
-use Rattle.strm_buffers.proofs.GoodLemmas.{length-good_items, behind_good, good_take, good_counted, one_there}
+use Rattle.strm_memory.proofs.GoodLemmas.{length-good_items, behind_good, good_take, good_counted, one_there, past_none, length-good_behind}
 use Rattle.strm_buffers.specs.declared.sources.Source.{Source}
 use Rattle.strm_buffers.specs.declared.sources.Source.TheVariants.{Region, Listed}
 
@@ -35,12 +35,6 @@ pub get_past : {A : Type 0} (k : ℕ) (xs : List A) → length xs ≤ k → None
 get_past k [] h = refl
 get_past zero (x ∷ xs) h = absurd (omega arith)
 get_past (suc k) (x ∷ xs) h = get_past k xs (omega (arith, h))
-
--- none stands past the end only
-past_none : {A : Type 0} (k : ℕ) (xs : List A) → slice_get xs k ≡ None → length xs ≤ k
-past_none k [] e = omega arith
-past_none zero (x ∷ xs) e = cc
-past_none (suc k) (x ∷ xs) e = omega (arith, past_none k xs e)
 
 -- UP TO THE FIRST BAD ONE
 
@@ -92,25 +86,24 @@ all_bytes (Region memory address count) h =
     omega (arith, least, length-good_items (U8 ∷ []) (drop address memory.bytes) count)
 all_bytes (Listed items) h = refl
 
--- no whole number is bad
-pub all_numbers : (payload : Payload) (memory : List ℕ) (address count : ℕ) → is_number_payload payload ≡ true → length (good_items (scalars_of payload) (drop address memory) count) ≡ count
-all_numbers payload memory address count t =
+-- so many are left behind those that are taken
+pub count_left : (payload : Payload) (source : Source) (taken count : ℕ) (memory : LinearMemory) (address all : ℕ) → source ≡ Region memory address all → taken ≤ length (good_lent (scalars_of payload) source) → taken + count ≤ items_lent source
+    → length (good_items (scalars_of payload) (drop (address + item_size (scalars_of payload) * taken) memory.bytes) count) ≡ min count (length (drop taken (good_lent (scalars_of payload) source)))
+count_left payload source taken count memory address all e h l =
     let ss = scalars_of payload in
-    counted (items ss (drop address memory) count) refl (items-number_or_none payload (drop address memory) count (numbers payload t))
-  where
-    numbers : (p : Payload) → is_number_payload p ≡ true → IsTrue (is_number_or_none p)
-    numbers Nothing t = cc
-    numbers (One s) t = t
-    numbers (Tuple shape) t = cc
+    let h' = subst (λ (s : Source). taken ≤ length (good_lent ss s)) e h in
+    let l' = subst (λ (s : Source). taken + count ≤ items_lent s) e l in
+    ap (λ b. length (good_items ss b count)) (sym (drop-drop (item_size ss * taken) address memory.bytes))
+    ∙ length-good_behind ss (drop address memory.bytes) all taken count h' l'
+    ∙ ap (λ (s : Source). min count (length (drop taken (good_lent ss s)))) (sym e)
 
-    counted : (o : Option (List Item)) → items (scalars_of payload) (drop address memory) count ≡ o → IsSome o → length (good_items (scalars_of payload) (drop address memory) count) ≡ count
-    counted None e h = cc
-    counted (Some xs) e h =
-        let ss = scalars_of payload in
-        omega (arith, good_counted ss (drop address memory) count count xs (omega arith) e, length-good_items ss (drop address memory) count)
-
-pub region_good : (payload : Payload) (source : Source) (memory : LinearMemory) (address count : ℕ) → source ≡ Region memory address count → is_number_payload payload ≡ true → length (good_lent (scalars_of payload) source) ≡ items_lent source
-region_good payload source memory address count e t = rw e (all_numbers payload memory.bytes address count t)
+-- where they lie
+pub left_fits : (payload : Payload) (source : Source) (taken count : ℕ) (memory : LinearMemory) (address all : ℕ) → source ≡ Region memory address all → IsSource payload source → taken + count ≤ items_lent source
+    → address + item_size (scalars_of payload) * taken + item_size (scalars_of payload) * count ≤ length memory.bytes
+left_fits payload source taken count memory address all e h l =
+    let h' = subst (λ (s : Source). IsSource payload s) e h in
+    let l' = subst (λ (s : Source). taken + count ≤ items_lent s) e l in
+    omega (arith, block_fits (item_size (scalars_of payload)) taken count all l', h'.0)
 
 -- an offer of which more good items are taken is one
 pub passed : (payload : Payload) (source : Source) (taken n : ℕ) (bad : Bool) → IsOffer payload source taken bad → taken + n ≤ length (good_lent (scalars_of payload) source) → IsOffer payload source (taken + n) bad

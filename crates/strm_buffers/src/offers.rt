@@ -3,7 +3,7 @@
 //! Source: wasmtime, `futures_and_streams.rs`, `Source` and `DirectSource`. Ours: the offer owns the
 //! items while the poll lasts, and gives them back unchanged.
 
-ghost use Rattle.std.specs.Prelude.{◌≡◌, ◌+◌, ◌*◌, ◌-◌, ◌≤◌, [], length, false, None, IsTrue, IfSome};
+ghost use Rattle.std.specs.Prelude.{◌≡◌, ◌+◌, ◌*◌, ◌-◌, ◌≤◌, min, [], length, false, None, IsTrue, IfSome};
 ghost use Rattle.std.specs.Bool.{then_some};
 ghost use Rattle.strm_codes.specs.Layout.{scalars_of, item_size};
 ghost use Rattle.strm_codes.specs.Items.{FitsItem};
@@ -12,7 +12,7 @@ ghost use Rattle.strm_codes.specs.declared.scalars.Scalar.TheVariants.{U8};
 ghost use Rattle.strm_buffers.specs.declared.sources.Source.TheVariants.{Region, Listed};
 ghost use Rattle.strm_buffers.specs.Listing.{LieIn, items_in};
 ghost use Rattle.strm_buffers.specs.Tells.{first_lent};
-ghost use Rattle.strm_buffers.specs.Offers.{items_lent, item_behind, good_lent, after_next, IsSource, IsBadNext, IsOffer, IsRegion, IsList, IsMemoryOf, IsItemsOf, Shows};
+ghost use Rattle.strm_buffers.specs.Offers.{items_lent, item_behind, good_lent, left_of, after_next, IsSource, IsBadNext, IsOffer, IsRegion, IsList, IsMemoryOf, IsItemsOf, Shows};
 
 use crate::items::Items;
 use crate::kept_bytes::are_bytes;
@@ -20,6 +20,7 @@ use crate::sources::Source;
 use std::marker::Model;
 use strm_codes::payloads::Payload;
 use strm_codes::values::Value;
+use strm_memory::good_items::count_good_items;
 use strm_memory::items::lift_item_into;
 use strm_memory::memories::GuestMemory;
 
@@ -132,15 +133,22 @@ impl Offer {
         self.taken = (self.taken as usize + count) as u32;
     }
 
-    /// Whether all items that were lent are good, as far as can be told without a look at them: those of a
-    /// list are, and whole numbers.
-    pub(crate) fn are_good(&self) -> bool
-        ensures { IsTrue result →
-            length (good_lent (scalars_of self.now.payload) self.now.source) ≡ items_lent self.now.source }
+    /// How many of the next so many items are good, up to the first bad one: those of a list are, and of a
+    /// memory only characters are looked at.
+    pub(crate) fn count_good(&self, count: u32) -> u32
+        requires { self.now.taken + count ≤ items_lent self.now.source }
+        ensures { result ≡ min count (length (left_of self.now)) }
     {
         match &self.source {
-            Source::Region { .. } => self.payload.is_number(),
-            Source::Listed { .. } => true,
+            Source::Region {
+                memory,
+                address,
+                ..
+            } => {
+                let at = *address as usize + self.payload.size() as usize * self.taken as usize;
+                count_good_items(memory.bytes(), at, &self.payload, count as usize) as u32
+            }
+            Source::Listed { .. } => count,
         }
     }
 

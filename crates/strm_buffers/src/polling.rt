@@ -95,14 +95,9 @@ pub fn take_up_to(offer: &mut Offer, wanted: u32)
 {
     offer.sound();
     let count = wanted.min(offer.remaining());
-    if offer.are_good() {
-        offer.pass(count);
-        return;
-    }
-    for _ in 0..count {
-        match offer.next() {
-            Some(_) => {}
-            None => return,
-        }
+    let good = offer.count_good(count);
+    offer.pass(good);
+    if good < count {
+        let _bad = offer.next();
     }
 }

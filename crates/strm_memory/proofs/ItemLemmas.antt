@@ -145,18 +145,6 @@ good_add ss source from n m =
 pub block_fits : (size done block n : ℕ) → done + block ≤ n → size * done + size * block ≤ size * n
 block_fits size done block n h = omega (arith, mul-le-mul_left size h)
 
--- so many items lie behind the first k of a size
-abbrev good_in : List Scalar → List ℕ → ℕ → ℕ → ℕ → ℕ → Bool
-good_in ss source from size k n = is_some (items ss (drop (from + size * k) source) n)
-
--- a block of items looked at
-pub good_block : (ss : List Scalar) (source : List ℕ) (from size done block n : ℕ) (b : Bool) → size ≡ item_size ss → done + block ≤ n → b ≡ good_in ss source from size done block → good_in ss source from size done (n - done) ≡ (b && good_in ss source from size (done + block) (n - (done + block)))
-good_block ss source from size done block n b e h g =
-    let split : n - done ≡ block + (n - (done + block)) = omega arith in
-    let same : item_size ss * block ≡ size * block = ap (λ x. x * block) (sym e) in
-    let place : from + size * (done + block) ≡ from + size * done + item_size ss * block = omega (arith, same) in
-    rw (g, split, place) (good_add ss source (from + size * done) block (n - (done + block)))
-
-pub good_none : (ss : List Scalar) (source : List ℕ) (n : ℕ) → is_some (items ss source (n - n)) ≡ true
+pub no_items : (ss : List Scalar) (source : List ℕ) → is_some (items ss source 0) ≡ true
 unfolding items
-good_none ss source n = let z : n - n ≡ 0 = omega arith in rw z refl
+no_items ss source = refl

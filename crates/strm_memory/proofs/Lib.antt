@@ -7,3 +7,4 @@ pub mod CopyLemmas
 pub mod ColumnLemmas
 pub mod RegionLemmas
 pub mod AppendLemmas
+pub mod GoodLemmas

@@ -1,7 +1,7 @@
 -- The items of a region of a memory, and a memory with items stored in a region.
 -- Canonical ABI, "Loading" and "Storing": `load_record` and `store_record`,
 -- `load_list_from_valid_range` and `store_list_into_valid_range`. Padding is never written.
-use Rattle.std.specs.Prelude.{ℕ, zero, suc, ◌+◌, ◌*◌, ◌<◌, IsSome, IsNone, ℤ, pos, Bool, true, false, List, [], ◌∷◌, ◌++◌, take, drop, map, slice_index_or, Option, Some, option_and_then}
+use Rattle.std.specs.Prelude.{ℕ, zero, suc, ◌+◌, ◌*◌, ◌<◌, IsSome, IsNone, ℤ, pos, Bool, true, false, List, [], ◌∷◌, ◌++◌, take, drop, map, slice_index_or, Option, Some, None, option_and_then}
 use Rattle.std.specs.Option.{option_map}
 use Rattle.strm_codes.specs.Scalars.{size_of, is_whole_number}
 use Rattle.strm_codes.specs.Layout.{gap_before, item_size}
@@ -81,6 +81,17 @@ abbrev pub is_number_or_none : Payload → Bool
 is_number_or_none Nothing = true
 is_number_or_none (One scalar) = is_whole_number scalar
 is_number_or_none (Tuple shape) = false
+
+-- an item before others; where it is none, nothing
+abbrev pub good_then : Option (List ℤ) → List (List ℤ) → List (List ℤ)
+good_then None rest = []
+good_then (Some x) rest = x ∷ rest
+
+-- at most so many items from the front of the bytes on, up to the first that is none
+unfoldable pub good_items : List Scalar → List ℕ → ℕ → List (List ℤ)
+good_items ss bytes zero = []
+good_items ss bytes (suc n) =
+    good_then (decode ss bytes) (good_items ss (drop (item_size ss) bytes) n)
 
 -- an item is none, and the ones before it are items: it is the first bad one of so many
 pub record IsFirstBad (ss : List Scalar) (bytes : List ℕ) (count index : ℕ) : Type 0 where

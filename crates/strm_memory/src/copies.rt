@@ -4,13 +4,12 @@
 //! lifted and then lowered; wasmtime, `futures_and_streams.rs`, `copy`. That numbers move as bytes,
 //! and that a bad item is found before any item moves, are ours.
 
-ghost use Rattle.std.specs.Prelude.{◌≡◌, ◌+◌, ◌*◌, ◌<◌, ◌≤◌, ◌↔◌, length, is_some, IsTrue, IsNone, IsSomeAnd, IsOk, IsErr, OnOk, OnErr};
+ghost use Rattle.std.specs.Prelude.{◌≡◌, ◌+◌, ◌*◌, ◌≤◌, ◌↔◌, length, IsTrue, IsNone, IsSomeAnd, IsOk, IsErr, OnOk, OnErr};
 ghost use Rattle.strm_codes.specs.Layout.{scalars_of, item_size};
 ghost use Rattle.strm_memory.specs.Bytes.{put_at, bytes_at};
 ghost use Rattle.strm_memory.specs.Items.{items, stored, items_at, stored_at, is_number_or_none};
 
-use crate::columns::{Column, is_good_column};
-use crate::fields::field_start;
+use crate::good_items::are_good_items;
 use crate::limits::copy_good_items;
 use crate::moves::copy_bytes;
 use strm_codes::counts::ItemCount;
@@ -125,51 +124,4 @@ fn copy_fields(
     }
     copy_good_items(source, from, destination, to, fields, size, count);
     Ok(())
-}
-
-// How many items are tested at once, field by field: at most 8,192 bytes of them, which stay near.
-fn items_in_block(size: usize) -> usize
-    ensures { 0 < result }
-{
-    match size {
-        0 | 1 => 8192,
-        2..=8 => 1024,
-        _ => 128,
-    }
-}
-
-// Whether each item's bytes stand for one.
-fn are_good_items(fields: &[Scalar], source: &[u8], from: usize, size: usize, count: usize) -> bool
-    requires size { size ≡ item_size fields.now }
-    requires holds { from + size * count ≤ length source.now }
-    ensures { result ≡ is_some (items_at fields.now source.now from count) }
-{
-    let most = items_in_block(size);
-    let mut done = 0;
-    while done < count {
-        let block = most.min(count - done);
-        if !is_good_block(fields, source, from + size * done, size, block) {
-            return false;
-        }
-        done += block;
-    }
-    true
-}
-
-// The same, field by field.
-fn is_good_block(fields: &[Scalar], source: &[u8], from: usize, size: usize, count: usize) -> bool
-    requires size { size ≡ item_size fields.now }
-    requires holds { from + size * count ≤ length source.now }
-    ensures { result ≡ is_some (items_at fields.now source.now from count) }
-{
-    let mut at = 0;
-    for k in 0..fields.len() {
-        let scalar = fields[k];
-        let start = field_start(fields, k, at);
-        if !is_good_column(source, from, scalar, Column { start, size, count }) {
-            return false;
-        }
-        at = start + scalar.size() as usize;
-    }
-    true
 }

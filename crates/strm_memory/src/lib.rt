@@ -8,6 +8,7 @@ mod columns;
 pub mod copies;
 mod field_lists;
 mod fields;
+pub mod good_items;
 pub mod items;
 pub mod laws;
 mod limits;

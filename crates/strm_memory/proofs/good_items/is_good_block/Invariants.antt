@@ -1,7 +1,7 @@
 use Rattle.std.proofs.Common.{◌≡◌, drop}
 use Rattle.strm_codes.specs.Layout.{end_offset}
 use Rattle.strm_memory.specs.Copies.{are_good_columns}
-use Rattle.strm_memory.proofs.copies.is_good_block.Given as goal
+use Rattle.strm_memory.proofs.good_items.is_good_block.Given as goal
 
 abbrev pub invariant-loop-k : goal.invariant-loop-k
 invariant-loop-k l = record {

@@ -3,7 +3,7 @@ use Rattle.strm_codes.specs.Scalars.{size_of}
 use Rattle.strm_memory.specs.Items.{scalar_at}
 use Rattle.strm_memory.proofs.FieldLemmas.{IsField, end_step}
 use Rattle.strm_memory.proofs.ColumnLemmas.{good_columns_step, good_columns_end, good_columns-items}
-use Rattle.strm_memory.proofs.copies.is_good_block.Goals as goal
+use Rattle.strm_memory.proofs.good_items.is_good_block.Goals as goal
 
 pub returns-then-not-is_good_column : goal.returns-then-not-is_good_column
 returns-then-not-is_good_column c =

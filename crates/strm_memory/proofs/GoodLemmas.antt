@@ -1,0 +1,231 @@
+-- The items at the front of bytes, up to the first that is none: each is the one that is found behind
+-- so many, and so many of them are items; how many they are, and what lies behind some of them.
+use Rattle.std.proofs.Common.{◌≡◌, ℕ, zero, suc, ◌+◌, ◌*◌, ◌-◌, ◌<◌, ◌≤◌, min, ℤ, Bool, true, false, List, [], ◌∷◌, length, take, drop, Option, Some, None, refl, sym, ap, subst, ◌∙◌, arith, ⊎_elim, length-drop}
+use Rattle.std.proofs.lemmas.Bool.{cases_lt}
+use Rattle.std.proofs.lemmas.List.{drop-drop, take_all, length-take}
+use Rattle.std.specs.Prelude.{slice_get, option_and_then, is_some, nat_eq, ◌||◌, ◌&&◌}
+use Rattle.std.specs.List.{list_any}
+use Rattle.std.proofs.lemmas.Bool.Decides.{nat_tests}
+use Rattle.std.specs.Option.{option_map}
+use Rattle.strm_codes.specs.Layout.{item_size}
+use Rattle.strm_codes.specs.Sameness.{same_scalar}
+use Rattle.strm_codes.specs.declared.scalars.Scalar.{Scalar}
+use Rattle.strm_codes.specs.declared.scalars.Scalar.TheVariants.{Char}
+use Rattle.strm_memory.specs.Items.{decode, items, good_then, good_items}
+use Rattle.strm_memory.proofs.CopyLemmas.{HasNoChar, items-no_char}
+use Rattle.strm_memory.proofs.ItemLemmas.{good_add}
+
+-- an item: the numbers of its fields
+abbrev Item : Type 0
+Item = List ℤ
+
+-- one item lies where it is decoded
+pub one_there : (ss : List Scalar) (bytes : List ℕ) (x : Item) → decode ss bytes ≡ Some x → items ss bytes 1 ≡ Some (x ∷ [])
+unfolding items
+one_there ss bytes x e = ap (option_and_then (λ y. option_map (λ ys. y ∷ ys) (Some []))) e
+
+-- what is found at the front, and what stands behind it
+length-then : (d : Option Item) (rest : List Item) (n : ℕ) → length rest ≤ n → length (good_then d rest) ≤ suc n
+length-then None rest n h = omega arith
+length-then (Some x) rest n h = omega (arith, h)
+
+first_then : (d : Option Item) (rest : List Item) → d ≡ slice_get (good_then d rest) 0
+first_then None rest = refl
+first_then (Some x) rest = refl
+
+next_then : (d next : Option Item) (rest : List Item) (k : ℕ) → suc k ≤ length (good_then d rest) → (k ≤ length rest → next ≡ slice_get rest k) → next ≡ slice_get (good_then d rest) (suc k)
+next_then None next rest k h e = absurd (omega (arith, h))
+next_then (Some x) next rest k h e = e (omega (arith, h))
+
+take_then : (d : Option Item) (rest : List Item) (k : ℕ) (o : Option (List Item)) → suc k ≤ length (good_then d rest) → (k ≤ length rest → o ≡ Some (take k rest)) → option_and_then (λ x. option_map (λ xs. x ∷ xs) o) d ≡ Some (take (suc k) (good_then d rest))
+take_then None rest k o h e = absurd (omega (arith, h))
+take_then (Some x) rest k o h e = ap (option_map (λ xs. x ∷ xs)) (e (omega (arith, h)))
+
+counted_then : (d : Option Item) (rest : List Item) (k : ℕ) (o : Option (List Item)) (xs : List Item) → option_and_then (λ x. option_map (λ ys. x ∷ ys) o) d ≡ Some xs → ((ys : List Item) → o ≡ Some ys → k ≤ length rest) → suc k ≤ length (good_then d rest)
+counted_then None rest k o xs e f = cc
+counted_then (Some x) rest k None xs e f = cc
+counted_then (Some x) rest k (Some ys) xs e f = omega (arith, f ys refl)
+
+-- no more than were looked at
+pub length-good_items : (ss : List Scalar) (bytes : List ℕ) (n : ℕ) → length (good_items ss bytes n) ≤ n
+unfolding good_items
+length-good_items ss bytes zero = omega arith
+length-good_items ss bytes (suc n) =
+    length-then (decode ss bytes) (good_items ss (drop (item_size ss) bytes) n) n (length-good_items ss (drop (item_size ss) bytes) n)
+
+-- what is found behind so many of them
+pub behind_good : (ss : List Scalar) (bytes : List ℕ) (n k : ℕ) → k < n → k ≤ length (good_items ss bytes n) → decode ss (drop (item_size ss * k) bytes) ≡ slice_get (good_items ss bytes n) k
+unfolding good_items
+behind_good ss bytes zero k l h = absurd (omega (arith, l))
+behind_good ss bytes (suc n) zero l h =
+    let none : item_size ss * 0 ≡ 0 = omega arith in
+    ap (λ j. decode ss (drop j bytes)) none ∙ first_then (decode ss bytes) (good_items ss (drop (item_size ss) bytes) n)
+behind_good ss bytes (suc n) (suc k) l h =
+    let w = item_size ss in
+    let more : w * suc k ≡ w + w * k = grind arith in
+    next_then (decode ss bytes) (decode ss (drop (w * suc k) bytes)) (good_items ss (drop w bytes) n) k h
+    (λ m. ap (λ j. decode ss (drop j bytes)) more ∙ ap (decode ss) (sym (drop-drop (w * k) w bytes))
+    ∙ behind_good ss (drop w bytes) n k (omega (arith, l)) m)
+
+-- the first so many of them are items
+pub good_take : (ss : List Scalar) (bytes : List ℕ) (n k : ℕ) → k ≤ length (good_items ss bytes n) → items ss bytes k ≡ Some (take k (good_items ss bytes n))
+unfolding items good_items
+good_take ss bytes n zero h = refl
+good_take ss bytes zero (suc k) h = absurd (omega (arith, h))
+good_take ss bytes (suc n) (suc k) h =
+    take_then (decode ss bytes) (good_items ss (drop (item_size ss) bytes) n) k (items ss (drop (item_size ss) bytes) k) h
+    (λ m. good_take ss (drop (item_size ss) bytes) n k m)
+
+-- where so many of them are items, there are as many
+pub good_counted : (ss : List Scalar) (bytes : List ℕ) (n k : ℕ) (xs : List Item) → k ≤ n → items ss bytes k ≡ Some xs → k ≤ length (good_items ss bytes n)
+unfolding items good_items
+good_counted ss bytes n zero xs l e = omega arith
+good_counted ss bytes zero (suc k) xs l e = absurd (omega (arith, l))
+good_counted ss bytes (suc n) (suc k) xs l e =
+    counted_then (decode ss bytes) (good_items ss (drop (item_size ss) bytes) n) k (items ss (drop (item_size ss) bytes) k) xs e
+    (λ ys p. good_counted ss (drop (item_size ss) bytes) n k ys (omega (arith, l)) p)
+
+-- they are items themselves
+pub good_are : (ss : List Scalar) (bytes : List ℕ) (n : ℕ) → items ss bytes (length (good_items ss bytes n)) ≡ Some (good_items ss bytes n)
+good_are ss bytes n =
+    let g = good_items ss bytes n in
+    good_take ss bytes n (length g) (omega arith) ∙ ap Some (take_all (length g) g (omega arith))
+
+-- HOW MANY THEY ARE
+
+-- at least as many as are items
+good_least : (ss : List Scalar) (bytes : List ℕ) (n k : ℕ) → k ≤ n → is_some (items ss bytes k) ≡ true → k ≤ length (good_items ss bytes n)
+good_least ss bytes n k l e = go (items ss bytes k) refl e
+  where
+    go : (o : Option (List Item)) → items ss bytes k ≡ o → is_some o ≡ true → k ≤ length (good_items ss bytes n)
+    go None p q = cc
+    go (Some xs) p q = good_counted ss bytes n k xs l p
+
+-- where all are items, all
+pub good_all : (ss : List Scalar) (bytes : List ℕ) (n : ℕ) → is_some (items ss bytes n) ≡ true → length (good_items ss bytes n) ≡ n
+good_all ss bytes n e = omega (arith, good_least ss bytes n n (omega arith) e, length-good_items ss bytes n)
+
+-- none stands past the end only
+pub past_none : {A : Type 0} (k : ℕ) (xs : List A) → slice_get xs k ≡ None → length xs ≤ k
+past_none k [] e = omega arith
+past_none zero (x ∷ xs) e = cc
+past_none (suc k) (x ∷ xs) e = omega (arith, past_none k xs e)
+
+one_none : (ss : List Scalar) (bytes : List ℕ) → is_some (items ss bytes 1) ≡ false → decode ss bytes ≡ None
+unfolding items
+one_none ss bytes e = go (decode ss bytes) refl e
+  where
+    go : (o : Option Item) → decode ss bytes ≡ o → is_some (option_and_then (λ x. option_map (λ xs. x ∷ xs) (Some [])) o) ≡ false → decode ss bytes ≡ None
+    go None p q = p
+    go (Some x) p q = cc
+
+-- where the item behind some is none, those
+pub good_up_to : (ss : List Scalar) (bytes : List ℕ) (n k : ℕ) → k < n → is_some (items ss bytes k) ≡ true → is_some (items ss (drop (item_size ss * k) bytes) 1) ≡ false → length (good_items ss bytes n) ≡ k
+good_up_to ss bytes n k l e b =
+    let least = good_least ss bytes n k (omega (arith, l)) e in
+    let none = sym (behind_good ss bytes n k l least) ∙ one_none ss (drop (item_size ss * k) bytes) b in
+    omega (arith, least, past_none k (good_items ss bytes n) none)
+
+-- so many were found by blocks of `most`, and so many more, one by one, in the next block
+pub good_tested : (ss : List Scalar) (bytes : List ℕ) (from count most done block more : ℕ) → done ≤ count → block ≡ min most (count - done) → more ≤ block → is_some (items ss (drop from bytes) done) ≡ true → (done < count → is_some (items ss (drop (from + item_size ss * done) bytes) block) ≡ false) → is_some (items ss (drop (from + item_size ss * done) bytes) more) ≡ true
+    → (more < block → is_some (items ss (drop (from + item_size ss * done + item_size ss * more) bytes) (min 1 (block - more))) ≡ false) → done + more ≡ length (good_items ss (drop from bytes) count)
+good_tested ss bytes from count most done block more l is m good bad good_more bad_more =
+    let w = item_size ss in
+    let all : is_some (items ss (drop from bytes) (done + more)) ≡ true = good_add ss bytes from done more ∙ rw (good, good_more) refl in
+    ⊎_elim
+    (λ few.
+    let one : min 1 (block - more) ≡ 1 = omega (arith, few) in
+    let place : from + w * done + w * more ≡ from + w * (done + more) = grind arith in
+    let here : is_some (items ss (drop (w * (done + more)) (drop from bytes)) 1) ≡ false = rw (drop-drop (w * (done + more)) from bytes, ← place, ← one) (bad_more few) in
+    sym (good_up_to ss (drop from bytes) count (done + more) (omega (arith, is, few, l)) all here))
+    (λ whole.
+    ⊎_elim
+    (λ left.
+    let same : more ≡ block = omega (arith, whole, m) in
+    let no : true ≡ false = sym (subst (λ k. is_some (items ss (drop (from + w * done) bytes) k) ≡ true) same good_more) ∙ bad left in
+    absurd (never no))
+    (λ end.
+    let same : done + more ≡ count = omega (arith, end, l, is, m) in
+    same ∙ sym (good_all ss (drop from bytes) count (subst (λ k. is_some (items ss (drop from bytes) k) ≡ true) same all)))
+    (cases_lt done count))
+    (cases_lt more block)
+  where
+    never : true ≡ false → ⊥
+    never e = cc
+
+-- all are items where blocks of `most` were found up to the last
+pub good_blocks : (ss : List Scalar) (bytes : List ℕ) (from count most found : ℕ) → found ≤ count → is_some (items ss (drop from bytes) found) ≡ true → (found < count → is_some (items ss (drop (from + item_size ss * found) bytes) (min most (count - found))) ≡ false) → nat_eq found count ≡ is_some (items ss (drop from bytes) count)
+good_blocks ss bytes from count most found l good bad =
+    let w = item_size ss in
+    ⊎_elim
+    (λ few.
+    let block = min most (count - found) in
+    let rest = count - (found + block) in
+    let parts : count ≡ found + (block + rest) = omega (arith, few) in
+    let other : nat_eq found count ≡ false = grind (arith, nat_tests) in
+    let none = good_add ss bytes (from + w * found) block rest ∙ ap (λ b. b && is_some (items ss (drop (from + w * found + w * block) bytes) rest)) (bad few) in
+    other ∙ sym (ap (λ k. is_some (items ss (drop from bytes) k)) parts ∙ good_add ss bytes from found (block + rest) ∙ rw (good, none) refl))
+    (λ whole.
+    let same : found ≡ count = omega (arith, l, whole) in
+    let is : nat_eq found count ≡ true = grind (arith, nat_tests) in
+    is ∙ sym (subst (λ k. is_some (items ss (drop from bytes) k) ≡ true) same good))
+    (cases_lt found count)
+
+-- where no field is a character, all
+no_char : (ss : List Scalar) → list_any (λ s. same_scalar s Char) ss ≡ false → HasNoChar ss
+no_char [] e = tt
+no_char (s ∷ ss) e =
+    let both = neither (same_scalar s Char) (list_any (λ s. same_scalar s Char) ss) e in
+    ((λ c. differ (sym (subst (λ t. same_scalar t Char ≡ false) c both.0))), no_char ss both.1)
+  where
+    neither : (a b : Bool) → (a || b) ≡ false → (a ≡ false) × (b ≡ false)
+    neither true b e = cc
+    neither false b e = (refl, e)
+
+    differ : false ≡ true → ⊥
+    differ e = cc
+
+pub good_no_char : (ss : List Scalar) (bytes : List ℕ) (n : ℕ) → list_any (λ s. same_scalar s Char) ss ≡ false → n ≡ length (good_items ss bytes n)
+good_no_char ss bytes n e = sym (good_all ss bytes n (items-no_char ss n bytes (no_char ss e)))
+
+-- BEHIND SOME OF THEM
+
+drop_then : (d : Option Item) (rest : List Item) (k : ℕ) (xs : List Item) → suc k ≤ length (good_then d rest) → (k ≤ length rest → drop k rest ≡ xs) → drop (suc k) (good_then d rest) ≡ xs
+drop_then None rest k xs h e = absurd (omega (arith, h))
+drop_then (Some x) rest k xs h e = e (omega (arith, h))
+
+-- the others are those behind the bytes of some
+pub good_behind : (ss : List Scalar) (bytes : List ℕ) (n k : ℕ) → k ≤ length (good_items ss bytes n) → drop k (good_items ss bytes n) ≡ good_items ss (drop (item_size ss * k) bytes) (n - k)
+unfolding good_items
+good_behind ss bytes n zero h =
+    let none : item_size ss * 0 ≡ 0 = omega arith in
+    let whole : n - 0 ≡ n = omega arith in
+    rw (none, whole) refl
+good_behind ss bytes zero (suc k) h = absurd (omega (arith, h))
+good_behind ss bytes (suc n) (suc k) h =
+    let w = item_size ss in
+    let more : w * suc k ≡ w + w * k = grind arith in
+    let left : suc n - suc k ≡ n - k = omega arith in
+    drop_then (decode ss bytes) (good_items ss (drop w bytes) n) k (good_items ss (drop (w * suc k) bytes) (suc n - suc k)) h
+    (λ m. good_behind ss (drop w bytes) n k m ∙ rw (drop-drop (w * k) w bytes, ← more, ← left) refl)
+
+then_first : (d : Option Item) (rest : List Item) (k : ℕ) → good_then d (take k rest) ≡ take (suc k) (good_then d rest)
+then_first None rest k = refl
+then_first (Some x) rest k = refl
+
+-- of fewer the first
+good_first : (ss : List Scalar) (bytes : List ℕ) (n k : ℕ) → k ≤ n → good_items ss bytes k ≡ take k (good_items ss bytes n)
+unfolding good_items
+good_first ss bytes n zero h = refl
+good_first ss bytes zero (suc k) h = absurd (omega (arith, h))
+good_first ss bytes (suc n) (suc k) h =
+    ap (good_then (decode ss bytes)) (good_first ss (drop (item_size ss) bytes) n k (omega (arith, h)))
+    ∙ then_first (decode ss bytes) (good_items ss (drop (item_size ss) bytes) n) k
+
+-- of so many behind some, as many as are left
+pub length-good_behind : (ss : List Scalar) (bytes : List ℕ) (n k count : ℕ) → k ≤ length (good_items ss bytes n) → k + count ≤ n → length (good_items ss (drop (item_size ss * k) bytes) count) ≡ min count (length (drop k (good_items ss bytes n)))
+length-good_behind ss bytes n k count h l =
+    let behind = drop (item_size ss * k) bytes in
+    ap length (good_first ss behind (n - k) count (omega (arith, l)))
+    ∙ length-take count (good_items ss behind (n - k))
+    ∙ ap (λ xs. min count (length xs)) (sym (good_behind ss bytes n k h))
