@@ -86,24 +86,26 @@ all_bytes (Region memory address count) h =
     omega (arith, least, length-good_items (U8 ∷ []) (drop address memory.bytes) count)
 all_bytes (Listed items) h = refl
 
--- so many are left behind those that are taken
-pub count_left : (payload : Payload) (source : Source) (taken count : ℕ) (memory : LinearMemory) (address all : ℕ) → source ≡ Region memory address all → taken ≤ length (good_lent (scalars_of payload) source) → taken + count ≤ items_lent source
-    → length (good_items (scalars_of payload) (drop (address + item_size (scalars_of payload) * taken) memory.bytes) count) ≡ min count (length (drop taken (good_lent (scalars_of payload) source)))
-count_left payload source taken count memory address all e h l =
-    let ss = scalars_of payload in
-    let h' = subst (λ (s : Source). taken ≤ length (good_lent ss s)) e h in
-    let l' = subst (λ (s : Source). taken + count ≤ items_lent s) e l in
-    ap (λ b. length (good_items ss b count)) (sym (drop-drop (item_size ss * taken) address memory.bytes))
-    ∙ length-good_behind ss (drop address memory.bytes) all taken count h' l'
-    ∙ ap (λ (s : Source). min count (length (drop taken (good_lent ss s)))) (sym e)
+module _ (payload : Payload) (source : Source) (taken count : ℕ) (memory : LinearMemory) (address all : ℕ) (e : source ≡ Region memory address all) (l : taken + count ≤ items_lent source) where
+  abbrev behind_taken : ℕ
+  behind_taken = address + item_size (scalars_of payload) * taken
 
--- where they lie
-pub left_fits : (payload : Payload) (source : Source) (taken count : ℕ) (memory : LinearMemory) (address all : ℕ) → source ≡ Region memory address all → IsSource payload source → taken + count ≤ items_lent source
-    → address + item_size (scalars_of payload) * taken + item_size (scalars_of payload) * count ≤ length memory.bytes
-left_fits payload source taken count memory address all e h l =
-    let h' = subst (λ (s : Source). IsSource payload s) e h in
-    let l' = subst (λ (s : Source). taken + count ≤ items_lent s) e l in
-    omega (arith, block_fits (item_size (scalars_of payload)) taken count all l', h'.0)
+  -- so many are left behind those that are taken
+  pub count_left : taken ≤ length (good_lent (scalars_of payload) source) → length (good_items (scalars_of payload) (drop behind_taken memory.bytes) count) ≡ min count (length (drop taken (good_lent (scalars_of payload) source)))
+  count_left h =
+      let ss = scalars_of payload in
+      let h' = subst (λ (s : Source). taken ≤ length (good_lent ss s)) e h in
+      let l' = subst (λ (s : Source). taken + count ≤ items_lent s) e l in
+      ap (λ b. length (good_items ss b count)) (sym (drop-drop (item_size ss * taken) address memory.bytes))
+      ∙ length-good_behind ss (drop address memory.bytes) all taken count h' l'
+      ∙ ap (λ (s : Source). min count (length (drop taken (good_lent ss s)))) (sym e)
+
+  -- where they lie
+  pub left_fits : IsSource payload source → behind_taken + item_size (scalars_of payload) * count ≤ length memory.bytes
+  left_fits h =
+      let h' = subst (λ (s : Source). IsSource payload s) e h in
+      let l' = subst (λ (s : Source). taken + count ≤ items_lent s) e l in
+      omega (arith, block_fits (item_size (scalars_of payload)) taken count all l', h'.0)
 
 -- an offer of which more good items are taken is one
 pub passed : (payload : Payload) (source : Source) (taken n : ℕ) (bad : Bool) → IsOffer payload source taken bad → taken + n ≤ length (good_lent (scalars_of payload) source) → IsOffer payload source (taken + n) bad

@@ -102,3 +102,26 @@ fn a_read_stops_at_a_bad_item(rt: HostRuntime) {
     is(&rt, offer.taken(), 1);
     is(&rt, offer.bad(), true);
 }
+
+#[test]
+fn items_are_taken_in_one_piece(rt: HostRuntime) {
+    let alloc = rt.alloc();
+    let bytes = [97u8, 0, 0, 0, 98, 0, 0, 0, 0, 216, 0, 0, 99, 0, 0, 0]
+        .to_vec(alloc)
+        .expect(&rt, "memory");
+    let chars = Payload::One(Scalar::Char);
+    let mut offer = Offer::of_memory(GuestMemory::of_bytes(bytes), chars, 0, 4, 0);
+    let mut source: Source<'_, char> = Source {
+        offer: &mut offer,
+        items: PhantomData,
+    };
+    is(&rt, source.take(1), Ok(()));
+    is(&rt, source.taken_bytes(), [97, 0, 0, 0].as_slice());
+    is(&rt, source.take(4), Err(ReadError::BadItem));
+    is(
+        &rt,
+        source.taken_bytes(),
+        [97, 0, 0, 0, 98, 0, 0, 0].as_slice(),
+    );
+    is(&rt, offer.bad(), true);
+}

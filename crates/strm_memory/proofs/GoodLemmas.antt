@@ -11,7 +11,7 @@ use Rattle.strm_codes.specs.Layout.{item_size}
 use Rattle.strm_codes.specs.Sameness.{same_scalar}
 use Rattle.strm_codes.specs.declared.scalars.Scalar.{Scalar}
 use Rattle.strm_codes.specs.declared.scalars.Scalar.TheVariants.{Char}
-use Rattle.strm_memory.specs.Items.{decode, items, good_then, good_items}
+use Rattle.strm_memory.specs.Items.{decode, items, items_at, good_then, good_items}
 use Rattle.strm_memory.proofs.CopyLemmas.{HasNoChar, items-no_char}
 use Rattle.strm_memory.proofs.ItemLemmas.{good_add}
 
@@ -126,50 +126,63 @@ good_up_to ss bytes n k l e b =
     let none = sym (behind_good ss bytes n k l least) ∙ one_none ss (drop (item_size ss * k) bytes) b in
     omega (arith, least, past_none k (good_items ss bytes n) none)
 
--- so many were found by blocks of `most`, and so many more, one by one, in the next block
-pub good_tested : (ss : List Scalar) (bytes : List ℕ) (from count most done block more : ℕ) → done ≤ count → block ≡ min most (count - done) → more ≤ block → is_some (items ss (drop from bytes) done) ≡ true → (done < count → is_some (items ss (drop (from + item_size ss * done) bytes) block) ≡ false) → is_some (items ss (drop (from + item_size ss * done) bytes) more) ≡ true
-    → (more < block → is_some (items ss (drop (from + item_size ss * done + item_size ss * more) bytes) (min 1 (block - more))) ≡ false) → done + more ≡ length (good_items ss (drop from bytes) count)
-good_tested ss bytes from count most done block more l is m good bad good_more bad_more =
-    let w = item_size ss in
-    let all : is_some (items ss (drop from bytes) (done + more)) ≡ true = good_add ss bytes from done more ∙ rw (good, good_more) refl in
-    ⊎_elim
-    (λ few.
-    let one : min 1 (block - more) ≡ 1 = omega (arith, few) in
-    let place : from + w * done + w * more ≡ from + w * (done + more) = grind arith in
-    let here : is_some (items ss (drop (w * (done + more)) (drop from bytes)) 1) ≡ false = rw (drop-drop (w * (done + more)) from bytes, ← place, ← one) (bad_more few) in
-    sym (good_up_to ss (drop from bytes) count (done + more) (omega (arith, is, few, l)) all here))
-    (λ whole.
-    ⊎_elim
-    (λ left.
-    let same : more ≡ block = omega (arith, whole, m) in
-    let no : true ≡ false = sym (subst (λ k. is_some (items ss (drop (from + w * done) bytes) k) ≡ true) same good_more) ∙ bad left in
-    absurd (never no))
-    (λ end.
-    let same : done + more ≡ count = omega (arith, end, l, is, m) in
-    same ∙ sym (good_all ss (drop from bytes) count (subst (λ k. is_some (items ss (drop from bytes) k) ≡ true) same all)))
-    (cases_lt done count))
-    (cases_lt more block)
-  where
-    never : true ≡ false → ⊥
-    never e = cc
+-- so many items are found in blocks of `most`: all, or the next block has a bad one
+pub record InBlocks (ss : List Scalar) (bytes : List ℕ) (from count most found : ℕ) : Type 0 where
+  pub within : found ≤ count
+  pub good : is_some (items_at ss bytes from found) ≡ true
+  pub bad : found < count → is_some (items_at ss bytes (from + item_size ss * found) (min most (count - found))) ≡ false
 
--- all are items where blocks of `most` were found up to the last
-pub good_blocks : (ss : List Scalar) (bytes : List ℕ) (from count most found : ℕ) → found ≤ count → is_some (items ss (drop from bytes) found) ≡ true → (found < count → is_some (items ss (drop (from + item_size ss * found) bytes) (min most (count - found))) ≡ false) → nat_eq found count ≡ is_some (items ss (drop from bytes) count)
-good_blocks ss bytes from count most found l good bad =
-    let w = item_size ss in
-    ⊎_elim
-    (λ few.
-    let block = min most (count - found) in
-    let rest = count - (found + block) in
-    let parts : count ≡ found + (block + rest) = omega (arith, few) in
-    let other : nat_eq found count ≡ false = grind (arith, nat_tests) in
-    let none = good_add ss bytes (from + w * found) block rest ∙ ap (λ b. b && is_some (items ss (drop (from + w * found + w * block) bytes) rest)) (bad few) in
-    other ∙ sym (ap (λ k. is_some (items ss (drop from bytes) k)) parts ∙ good_add ss bytes from found (block + rest) ∙ rw (good, none) refl))
-    (λ whole.
-    let same : found ≡ count = omega (arith, l, whole) in
-    let is : nat_eq found count ≡ true = grind (arith, nat_tests) in
-    is ∙ sym (subst (λ k. is_some (items ss (drop from bytes) k) ≡ true) same good))
-    (cases_lt found count)
+module _ (ss : List Scalar) (bytes : List ℕ) (from count most : ℕ) where
+  -- all are items where all are found
+  pub good_blocks : (found : ℕ) → InBlocks ss bytes from count most found → nat_eq found count ≡ is_some (items_at ss bytes from count)
+  good_blocks found f =
+      let w = item_size ss in
+      ⊎_elim
+      (λ few.
+      let block = min most (count - found) in
+      let rest = count - (found + block) in
+      let parts : count ≡ found + (block + rest) = omega (arith, few) in
+      let other : nat_eq found count ≡ false = grind (arith, nat_tests) in
+      let none = good_add ss bytes (from + w * found) block rest ∙ ap (λ b. b && is_some (items ss (drop (from + w * found + w * block) bytes) rest)) (f.bad few) in
+      other ∙ sym (ap (λ k. is_some (items ss (drop from bytes) k)) parts ∙ good_add ss bytes from found (block + rest) ∙ rw (f.good, none) refl))
+      (λ whole.
+      let same : found ≡ count = omega (arith, f.within, whole) in
+      let is : nat_eq found count ≡ true = grind (arith, nat_tests) in
+      is ∙ sym (subst (λ k. is_some (items ss (drop from bytes) k) ≡ true) same f.good))
+      (cases_lt found count)
+
+  -- where the next block is looked at one by one
+  module _ (done block more : ℕ) (is : block ≡ min most (count - done)) (f : InBlocks ss bytes from count most done) (g : InBlocks ss bytes (from + item_size ss * done) block 1 more) where
+    both_good : is_some (items ss (drop from bytes) (done + more)) ≡ true
+    both_good = good_add ss bytes from done more ∙ rw (f.good, g.good) refl
+
+    then_bad : more < block → done + more ≡ length (good_items ss (drop from bytes) count)
+    then_bad few =
+        let w = item_size ss in
+        let one : min 1 (block - more) ≡ 1 = omega (arith, few) in
+        let place : from + w * done + w * more ≡ from + w * (done + more) = grind arith in
+        let here : is_some (items ss (drop (w * (done + more)) (drop from bytes)) 1) ≡ false = rw (drop-drop (w * (done + more)) from bytes, ← place, ← one) (g.bad few) in
+        sym (good_up_to ss (drop from bytes) count (done + more) (omega (arith, is, few, f.within)) both_good here)
+
+    then_all : block ≤ more → done + more ≡ length (good_items ss (drop from bytes) count)
+    then_all whole =
+        ⊎_elim
+        (λ left.
+        let same : more ≡ block = omega (arith, whole, g.within) in
+        let here : is_some (items ss (drop (from + item_size ss * done) bytes) block) ≡ true = subst (λ k. is_some (items ss (drop (from + item_size ss * done) bytes) k) ≡ true) same g.good in
+        let no : is_some (items ss (drop (from + item_size ss * done) bytes) block) ≡ false = ap (λ k. is_some (items ss (drop (from + item_size ss * done) bytes) k)) is ∙ f.bad left in
+        absurd (never (sym here ∙ no)))
+        (λ end.
+        let same : done + more ≡ count = omega (arith, end, f.within, is, g.within) in
+        same ∙ sym (good_all ss (drop from bytes) count (subst (λ k. is_some (items ss (drop from bytes) k) ≡ true) same both_good)))
+        (cases_lt done count)
+      where
+        never : true ≡ false → ⊥
+        never e = cc
+
+    -- both are the good ones
+    pub good_tested : done + more ≡ length (good_items ss (drop from bytes) count)
+    good_tested = ⊎_elim then_bad then_all (cases_lt more block)
 
 -- where no field is a character, all
 no_char : (ss : List Scalar) → list_any (λ s. same_scalar s Char) ss ≡ false → HasNoChar ss

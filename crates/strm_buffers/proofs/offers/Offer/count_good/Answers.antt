@@ -10,7 +10,7 @@ count_good_items-requires c =
     let o = c.self.inside in
     let r = c.in-Region in
     let there = subst (λ (v : Offered). v.taken + c.args.count ≤ items_lent v.source) (sym c.self.view_is) c.requires in
-    rw (c.size.ensures.exact, c.bytes.ensures) (left_fits o.payload o.source o.taken c.args.count r.memory r.address r.count r.is c.self.invariant.holds there)
+    rw (c.size.ensures.exact, c.bytes.ensures) (left_fits o.payload o.source o.taken c.args.count r.memory r.address r.count r.is there c.self.invariant.holds)
 
 pub overflow_cast-result : goal.overflow_cast-result
 overflow_cast-result c =
@@ -22,6 +22,6 @@ returns-in-Region c =
     let o = c.self.inside in
     let r = c.in-Region in
     let there = subst (λ (v : Offered). v.taken + c.args.count ≤ items_lent v.source) (sym c.self.view_is) c.requires in
-    let left = count_left o.payload o.source o.taken c.args.count r.memory r.address r.count r.is c.self.invariant.good there in
+    let left = count_left o.payload o.source o.taken c.args.count r.memory r.address r.count r.is there c.self.invariant.good in
     let counted = rw (c.size.ensures.exact, c.bytes.ensures) at c.count_good_items.ensures in
     subst (λ (v : Offered). c.count_good_items.result ≡ min c.args.count (length (left_of v))) c.self.view_is (counted ∙ left)
