@@ -86,14 +86,3 @@ module _ (old : Offered) (i : ℕ) (within : i ≤ length (left_of old)) (most :
           let cut : length (good_lent (scalars_of old.payload) old.source) < items_lent old.source = grind (arith, nat_tests) in
           let few : length (left_of old) < wanted = grind (arith, nat_tests) in
           absurd (omega (arith, cut, few, e, within, most, length-drop old.taken (good_lent (scalars_of old.payload) old.source)))
-
--- where fewer were taken than are wanted and left, a bad one was asked for, and else none
-pub asked : (old : Offered) (wanted taken : ℕ) → taken ≡ old.taken + min wanted (length (left_of old)) → old.taken ≤ length (good_lent (scalars_of old.payload) old.source) → taken - old.taken < min wanted (items_lent old.source - old.taken) → asks_bad wanted old ≡ true
-asked old wanted taken e most l =
-    let g = good_lent (scalars_of old.payload) old.source in
-    let size = length-drop old.taken g in
-    let few : length (left_of old) < wanted = omega (arith, e, l, size) in
-    let cut : length g < items_lent old.source = omega (arith, e, l, size, most) in
-    let is_cut' : is_cut (scalars_of old.payload) old.source ≡ true = grind (arith, nat_tests) in
-    let is_few : nat_lt (length (left_of old)) wanted ≡ true = grind (arith, nat_tests) in
-    rw (is_cut', is_few) refl
