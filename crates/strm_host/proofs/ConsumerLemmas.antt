@@ -1,6 +1,6 @@
 -- A poll of a consumer is one of a host reader; and what a consumer of a future does is what one of a
 -- stream owes.
-use Rattle.std.proofs.Common.{◌≡◌, ℕ, zero, suc, ◌-◌, ◌<◌, ◌≤◌, Bool, true, false, [], ◌∷◌, ◌++◌, length, Some, None, refl, sym, ap, subst, ◌∙◌, arith}
+use Rattle.std.proofs.Common.{◌≡◌, ℕ, ◌-◌, ◌<◌, ◌≤◌, Bool, true, false, [], ◌∷◌, ◌++◌, length, Some, None, refl, sym, ap, subst, ◌∙◌, arith}
 use Rattle.std.specs.Prelude.{◌==◌, nat_lt, nat_le, not, ◌&&◌, if◌then◌else◌, IfSome}
 use Rattle.std.specs.Option.{option_map}
 use Rattle.std.proofs.lemmas.Bool.Decides.{nat_tests}
@@ -104,9 +104,13 @@ stream_taken (Some next) offering finish taken Failed spent s k = ap (taking_of 
 stream_taken (Some next) offering finish taken NoMemory spent s k = tt
 
 -- a turn that is done says whether anything is left
-pub settled : (turn : Turn (Unit {0})) (left n : ℕ) → left ≡ n → IsSettled (stream_turn turn (left == 0)) n
-settled Pending left n e = tt
-settled (Ready u) zero n e = sym e
-settled (Ready u) (suc left) n e = omega arith
-settled Failed left n e = tt
-settled NoMemory left n e = tt
+pub settled : (turn : Turn (Unit {0})) (left n : ℕ) (none : Bool) → (left == 0) ≡ none → left ≡ n → IsSettled (stream_turn turn none) n
+settled Pending left n none q e = tt
+settled (Ready u) left n true q e =
+    let zero : left ≡ 0 = grind (arith, nat_tests) in
+    sym e ∙ zero
+settled (Ready u) left n false q e =
+    let some : 0 < left = grind (arith, nat_tests) in
+    omega (arith, e, some)
+settled Failed left n none q e = tt
+settled NoMemory left n none q e = tt

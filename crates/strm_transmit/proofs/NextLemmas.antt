@@ -146,6 +146,19 @@ next_of_all state from k (Some s) h l n = record {
   least = λ side m t x e b. n.least side m t (omega (arith, l, duty_known side state.producers state.consumers state.streams m t h e)) e b;
 }
 
+-- where the first number itself is served, the others need no look
+pub next_first : (state : State) (from k : ℕ) (o : Option ℕ) → o ≡ Some from → NextAmong state (below k) from o → NextServed state from o
+next_first state from k None e n = cc
+next_first state from k (Some t) e n =
+    let same : t ≡ from = cc in
+    record {
+      behind = n.behind;
+      side = n.side;
+      number = n.number;
+      serves = n.serves;
+      least = λ side m u x d b. omega (arith, same, b);
+    }
+
 -- ## The host ends that the store needs
 
 -- one that is there and of the stream's kind fits where its payload does

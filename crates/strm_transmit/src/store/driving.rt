@@ -45,6 +45,16 @@ fn next_of(duty: Duty, from: u32, least: Option<u32>) -> Option<u32>
     }
 }
 
+// Whether the least of some streams is this one.
+fn is_least(least: Option<u32>, number: u32) -> bool
+    ensures { result ≡ true → least ≡ Some number }
+{
+    match least {
+        Some(stream) => stream == number,
+        None => false,
+    }
+}
+
 impl Store {
     // What a host writer does.
     fn writer_duty(&self, number: usize) -> Duty
@@ -73,6 +83,10 @@ impl Store {
         for number in 0..MOST_HOSTS {
             let of_writers = next_of(self.writer_duty(number), from, least);
             least = next_of(self.reader_duty(number), from, of_writers);
+            if is_least(least, from) {
+                // None is less.
+                return least;
+            }
         }
         least
     }

@@ -1,4 +1,5 @@
-use Rattle.strm_transmit.proofs.NextLemmas.{next_none, next_both, next_of_all}
+use Rattle.std.proofs.Common.{◌+◌}
+use Rattle.strm_transmit.proofs.NextLemmas.{next_none, next_both, next_first, next_of_all}
 use Rattle.strm_transmit.proofs.store.Store.next_served.Goals as goal
 
 pub loop-number-init : goal.loop-number-init
@@ -12,3 +13,9 @@ loop-number-preserved c =
 pub returns-clause-next : goal.returns-clause-next
 returns-clause-next c =
     next_of_all c.args.self.now c.args.from c.loop-number.number _ (rw (← c.self.view_is) c.self.invariant.served) c.loop-number-test.false c.loop-number.invariant
+
+pub returns-then-is_least-clause-next : goal.returns-then-is_least-clause-next
+returns-then-is_least-clause-next c =
+    next_first c.args.self.now c.args.from (c.loop-number.number + 1) _ (c.is_least.ensures c.if-is_least.true)
+    (rw (c.next_of-least.ensures, c.next_of-of_writers.ensures, c.writer_duty.ensures, c.reader_duty.ensures)
+    (next_both c.args.self.now c.args.from c.loop-number.number _ c.loop-number.invariant))
