@@ -1,8 +1,8 @@
 -- What the steps of a turn leave of streams: owners, operations that come out plainly, and ends that are told
 -- Dropped only where the other one is gone.
-use Rattle.std.proofs.Common.{◌≡◌, ◌≢◌, ℕ, ◌<◌, Bool, true, false, cond, min, take, drop, List, length, get_or, set, Option, Some, None, refl, sym, ap, ◌∙◌, subst, inl, inr}
+use Rattle.std.proofs.Common.{◌≡◌, ◌≢◌, ℕ, ◌+◌, ◌-◌, ◌<◌, ◌≤◌, Bool, true, false, cond, min, take, drop, List, length, get_or, set, Option, Some, None, refl, sym, ap, ◌∙◌, subst, inl, inr, arith}
 use Rattle.std.specs.Prelude.{◌&&◌, not}
-use Rattle.std.proofs.lemmas.Bool.{cases_eq, cond_both}
+use Rattle.std.proofs.lemmas.Bool.{cases_eq, cond_both, ne_eqb, ltb-true}
 use Rattle.std.proofs.lemmas.List.{length-set, set-get_or, get_or-set_same, get_or-set_other}
 use Rattle.std.specs.Option.{option_map}
 use Rattle.strm_codes.specs.declared.codes.ReturnCode.{ReturnCode}
@@ -15,7 +15,7 @@ use Rattle.strm_codes.specs.Codes.{completed_code}
 use Rattle.strm_events.specs.Reports.{is_dropped, report_of, operation_report, idle_report, outcome_code, left_pending}
 use Rattle.strm_machine.specs.State.{State, Guest, no_stream, memory_in, stream_at, is_gone}
 use Rattle.strm_machine.specs.Sides.{opposite, end_of, with_end, write_of, read_of}
-use Rattle.strm_machine.specs.Meetings.{meeting_of, begun}
+use Rattle.strm_machine.specs.Meetings.{meeting_of, begun, advanced}
 use Rattle.strm_machine.specs.Turns.{Turn, turn, finds, rendezvous_by, moves, completes_alone}
 use Rattle.strm_machine.specs.Tests.{named, end_named, stream_named, side_named, items_asked}
 use Rattle.strm_machine.specs.Endings.{report_on, pending_of, told_end, delivered, dropped}
@@ -36,35 +36,36 @@ use Rattle.strm_machine.specs.declared.replies.Reply.{Reply}
 use Rattle.strm_machine.specs.declared.replies.Reply.TheVariants as replies
 use Rattle.strm_machine.proofs.TableLemmas.{OwnersStay, with_end-owners, owner_in, owner-set_stays, owner-set_same, owner-set_other}
 use Rattle.strm_machine.specs.Moves.{without_handle}
-use Rattle.strm_chain.specs.Keeping.{IsPlain}
+use Rattle.strm_chain.specs.Keeping.{HasItems, IsPlain, ArePlain}
+use Rattle.strm_codes.specs.declared.payloads.Payload.{Payload}
 use Rattle.strm_chain.proofs.NamingLemmas.{IsPerformed}
 
 -- ## A stream in the place of another
 
--- what is kept of a stream: who has its ends, and that the read that waits comes out plainly
+-- what is kept of a stream: who has its ends, and that its operations come out with their items
 pub record StaysOwned (old new : Stream) : Type 0 where
   pub owners : OwnersStay old new
-  pub plain : IsPlain old.reader.operation → IsPlain new.reader.operation
+  pub plain : ArePlain old → ArePlain new
 
 -- what a step keeps of all streams
 pub record Steady (old new : State) : Type 0 where
   pub many : length new.streams ≡ length old.streams
   pub owner : (s : ℕ) (side : Side) → owner_in new.streams s side ≡ owner_in old.streams s side
-  pub plain : (s : ℕ) → IsPlain (stream_at old s).reader.operation → IsPlain (stream_at new s).reader.operation
+  pub plain : (s : ℕ) → ArePlain (stream_at old s) → ArePlain (stream_at new s)
 
-plain-set : (streams : List Stream) (s : ℕ) (x : Stream) (k : ℕ) → s < length streams → (IsPlain (get_or streams s no_stream).reader.operation → IsPlain x.reader.operation) → IsPlain (get_or streams k no_stream).reader.operation → IsPlain (get_or (set streams s x) k no_stream).reader.operation
+plain-set : (streams : List Stream) (s : ℕ) (x : Stream) (k : ℕ) → s < length streams → (ArePlain (get_or streams s no_stream) → ArePlain x) → ArePlain (get_or streams k no_stream) → ArePlain (get_or (set streams s x) k no_stream)
 plain-set streams s x k l h p =
     elim (cases_eq k s) [
-      | inl e ↦ subst (λ n. IsPlain (get_or (set streams s x) n no_stream).reader.operation) (sym e)
-          (subst (λ (y : Stream). IsPlain y.reader.operation) (sym (get_or-set_same streams s x no_stream l)) (h (subst (λ n. IsPlain (get_or streams n no_stream).reader.operation) e p)))
-      | inr ne ↦ subst (λ (y : Stream). IsPlain y.reader.operation) (sym (get_or-set_other streams s k x no_stream ne)) p
+      | inl e ↦ subst (λ n. ArePlain (get_or (set streams s x) n no_stream)) (sym e)
+          (subst ArePlain (sym (get_or-set_same streams s x no_stream l)) (h (subst (λ n. ArePlain (get_or streams n no_stream)) e p)))
+      | inr ne ↦ subst ArePlain (sym (get_or-set_other streams s k x no_stream ne)) p
     ]
 
 steady_set : (old new : State) (s : ℕ) (x : Stream) → new.streams ≡ set old.streams s x → s < length old.streams → StaysOwned (stream_at old s) x → Steady old new
 steady_set old new s x e l h = record {
   many = ap length e ∙ length-set old.streams s x;
   owner = λ k side. ap (λ xs. owner_in xs k side) e ∙ owner-set_stays old.streams s x k side h.owners;
-  plain = λ k p. subst (λ xs. IsPlain (get_or xs k no_stream).reader.operation) (sym e) (plain-set old.streams s x k l h.plain p);
+  plain = λ k p. subst (λ xs. ArePlain (get_or xs k no_stream)) (sym e) (plain-set old.streams s x k l h.plain p);
 }
 
 -- ## A read or write
@@ -72,43 +73,119 @@ steady_set old new s x e l h = record {
 owned_same : (stream : Stream) → StaysOwned stream stream
 owned_same stream = record { owners = record { writer = refl; reader = refl }; plain = λ p. p }
 
-moves-owned : (side : Side) (guests : List Guest) (stream : Stream) (mine theirs : Operation) (n : ℕ) (after : Option (List Guest)) → StaysOwned stream (moves side guests stream mine theirs n after).stream
-moves-owned side guests stream mine theirs n None = owned_same stream
-moves-owned Writing guests stream mine theirs n (Some after) = record { owners = record { writer = refl; reader = refl }; plain = λ p. refl }
-moves-owned Reading guests stream mine theirs n (Some after) = record { owners = record { writer = refl; reader = refl }; plain = λ p. p }
+-- one that is called with some items, and one that some were moved of
+begun_items : (guest address n : ℕ) → 1 ≤ n → HasItems (begun guest address n)
+begun_items guest address n some = record {
+  outcome = refl;
+  unmet = λ e. refl;
+  left = λ e. some;
+  moved = λ e. absurd (let wrong : false ≡ true = e in cc);
+}
 
-waits-owned : (side : Side) (stream : Stream) (mine : Operation) → mine.outcome ≡ Completed → StaysOwned stream (with_end side stream (record (end_of side stream) { operation = Some mine }))
-waits-owned Writing stream mine c = record { owners = record { writer = refl; reader = refl }; plain = λ p. p }
-waits-owned Reading stream mine c = record { owners = record { writer = refl; reader = refl }; plain = λ p. c }
+advanced_items : (payload : Payload) (o : Operation) (n : ℕ) → 1 ≤ n → HasItems (advanced payload o n)
+advanced_items payload o n some = record {
+  outcome = refl;
+  unmet = λ e. absurd (let wrong : true ≡ false = e in cc);
+  left = λ e. omega (arith, ltb-true 0 (o.left - n) e);
+  moved = λ e. omega (arith, some);
+}
 
-alone-owned : (who side : Side) (guests : List Guest) (stream : Stream) (mine theirs : Operation) → mine.outcome ≡ Completed → StaysOwned stream (completes_alone who side guests stream mine theirs).stream
-alone-owned Writing Writing guests stream mine theirs c = owned_same stream
-alone-owned Reading Reading guests stream mine theirs c = owned_same stream
-alone-owned Writing Reading guests stream mine theirs c = record { owners = record { writer = refl; reader = refl }; plain = λ p. c }
-alone-owned Reading Writing guests stream mine theirs c = record { owners = record { writer = refl; reader = refl }; plain = λ p. refl }
+moves-owned : (side : Side) (guests : List Guest) (stream : Stream) (mine theirs : Operation) (n : ℕ) (after : Option (List Guest)) → 1 ≤ n → StaysOwned stream (moves side guests stream mine theirs n after).stream
+moves-owned side guests stream mine theirs n None some = owned_same stream
+moves-owned Writing guests stream mine theirs n (Some after) some = record { owners = record { writer = refl; reader = refl }; plain = λ p. (p.0, advanced_items stream.payload theirs n some) }
+moves-owned Reading guests stream mine theirs n (Some after) some = record { owners = record { writer = refl; reader = refl }; plain = λ p. (advanced_items stream.payload theirs n some, p.1) }
 
-meeting-owned : (m : Meeting) (side : Side) (guests : List Guest) (stream : Stream) (mine theirs : Operation) → mine.outcome ≡ Completed → StaysOwned stream (rendezvous_by m side guests stream mine theirs).stream
-meeting-owned BothComplete side guests stream mine theirs c = moves-owned side guests stream mine theirs _ _
-meeting-owned WriteCompletes side guests stream mine theirs c = alone-owned Writing side guests stream mine theirs c
-meeting-owned ReadCompletes side guests stream mine theirs c = alone-owned Reading side guests stream mine theirs c
+waits-owned : (side : Side) (stream : Stream) (mine : Operation) → HasItems mine → StaysOwned stream (with_end side stream (record (end_of side stream) { operation = Some mine }))
+waits-owned Writing stream mine c = record { owners = record { writer = refl; reader = refl }; plain = λ p. (c, p.1) }
+waits-owned Reading stream mine c = record { owners = record { writer = refl; reader = refl }; plain = λ p. (p.0, c) }
 
-finds-owned : (side : Side) (guests : List Guest) (stream : Stream) (mine : Operation) (o : Option Operation) → mine.outcome ≡ Completed → StaysOwned stream (finds side guests stream mine o).stream
-finds-owned side guests stream mine None c = waits-owned side stream mine c
-finds-owned side guests stream mine (Some theirs) c =
+-- where both have items, both complete
+meeting_some : (write read : ℕ) → 1 ≤ write → 1 ≤ read → meeting_of write read ≡ BothComplete
+meeting_some write read a b = rw (ne_eqb write 0 (λ e. omega (arith, a, e)), ne_eqb read 0 (λ e. omega (arith, b, e))) refl
+
+both_meet : (side : Side) (mine theirs : Operation) → 1 ≤ mine.left → 1 ≤ theirs.left → meeting_of (write_of side mine theirs).left (read_of side mine theirs).left ≡ BothComplete
+both_meet Writing mine theirs a b = meeting_some mine.left theirs.left a b
+both_meet Reading mine theirs a b = meeting_some theirs.left mine.left b a
+
+finds-owned : (side : Side) (guests : List Guest) (stream : Stream) (mine : Operation) (o : Option Operation) → IsPlain o → 1 ≤ mine.left → HasItems mine → StaysOwned stream (finds side guests stream mine o).stream
+finds-owned side guests stream mine None f l c = waits-owned side stream mine c
+finds-owned side guests stream mine (Some theirs) f l c =
     cond_both theirs.is_open _ _ (λ (t : Turn). StaysOwned stream t.stream)
-    (λ e. meeting-owned (meeting_of (write_of side mine theirs).left (read_of side mine theirs).left) side guests stream mine theirs c)
+    (λ e. subst (λ m. StaysOwned stream (rendezvous_by m side guests stream mine theirs).stream) (sym (both_meet side mine theirs l (f.left e)))
+    (moves-owned side guests stream mine theirs (min mine.left theirs.left) _ (omega (arith, l, f.left e))))
     (λ e. waits-owned side stream mine c)
 
 learns-owned : (side : Side) (stream : Stream) → StaysOwned stream (with_end side stream (record (end_of side stream) { told = true }))
 learns-owned Writing stream = record { owners = record { writer = refl; reader = refl }; plain = λ p. p }
 learns-owned Reading stream = record { owners = record { writer = refl; reader = refl }; plain = λ p. p }
 
-turn-owned : (side : Side) (guests : List Guest) (stream : Stream) (mine : Operation) → mine.outcome ≡ Completed → StaysOwned stream (turn side guests stream mine).stream
+-- the operation of one end
+pub plain_on : (side : Side) (stream : Stream) → ArePlain stream → IsPlain (end_of side stream).operation
+plain_on Writing stream p = p.0
+plain_on Reading stream p = p.1
+
+turn-owned : (side : Side) (guests : List Guest) (stream : Stream) (mine : Operation) → ArePlain stream → 1 ≤ mine.left → HasItems mine → StaysOwned stream (turn side guests stream mine).stream
 unfolding turn
-turn-owned side guests stream mine c =
+turn-owned side guests stream mine p l c =
     cond_both (is_gone (end_of (opposite side) stream).owner) _ _ (λ (t : Turn). StaysOwned stream t.stream)
     (λ e. learns-owned side stream)
-    (λ e. finds-owned side guests stream mine (end_of (opposite side) stream).operation c)
+    (λ e. finds-owned side guests stream mine (end_of (opposite side) stream).operation (plain_on (opposite side) stream p) l c)
+
+-- ## What completes has moved items
+
+-- a code that completes says so of some items
+abbrev CountsSome : Option ReturnCode → Type 0
+CountsSome code = (n : ℕ) → code ≡ Some (codes.Completed n) → 1 ≤ n
+
+other_code : (code : ReturnCode) (n : ℕ) → Some code ≡ Some (codes.Completed n) → code ≢ codes.Completed n → 1 ≤ n
+other_code code n e ne = absurd (ne (let same : code ≡ codes.Completed n = cc in same))
+
+moves-some : (side : Side) (guests : List Guest) (stream : Stream) (mine theirs : Operation) (n : ℕ) (after : Option (List Guest)) → stream.kind ≡ AStream → 1 ≤ n → CountsSome (moves side guests stream mine theirs n after).code
+moves-some side guests stream mine theirs n None k some m e = absurd (let wrong = e in cc)
+moves-some side guests stream mine theirs n (Some after) k some m e =
+    let same : Some (codes.Completed n) ≡ Some (codes.Completed m) = ap (λ kind. Some (completed_code kind n)) (sym k) ∙ e in
+    let is : n ≡ m = cc in omega (arith, is, some)
+
+finds-some : (side : Side) (guests : List Guest) (stream : Stream) (mine : Operation) (o : Option Operation) → stream.kind ≡ AStream → IsPlain o → 1 ≤ mine.left → CountsSome (finds side guests stream mine o).code
+finds-some side guests stream mine None k f l m e = other_code codes.Blocked m e (λ b. cc)
+finds-some side guests stream mine (Some theirs) k f l i c =
+    (cond_both theirs.is_open _ _ (λ (t : Turn). CountsSome t.code)
+    (λ e. subst (λ m. CountsSome (rendezvous_by m side guests stream mine theirs).code) (sym (both_meet side mine theirs l (f.left e)))
+    (moves-some side guests stream mine theirs (min mine.left theirs.left) _ k (omega (arith, l, f.left e))))
+    (λ e m b. other_code codes.Blocked m b (λ x. cc))) i c
+
+turn-some : (side : Side) (guests : List Guest) (stream : Stream) (mine : Operation) → stream.kind ≡ AStream → ArePlain stream → 1 ≤ mine.left → CountsSome (turn side guests stream mine).code
+unfolding turn
+turn-some side guests stream mine k p l =
+    cond_both (is_gone (end_of (opposite side) stream).owner) _ _ (λ (t : Turn). CountsSome t.code)
+    (λ e m b. other_code (codes.Dropped 0) m b (λ x. cc))
+    (λ e. finds-some side guests stream mine (end_of (opposite side) stream).operation k (plain_on (opposite side) stream p) l)
+
+idle-some : (gone told passed : Bool) → CountsSome (idle_report gone told passed)
+idle-some gone told passed n e = by (gone && not told && not passed) e
+  where
+    by : (b : Bool) → cond b (Some (codes.Dropped 0)) None ≡ Some (codes.Completed n) → 1 ≤ n
+    by true f = other_code (codes.Dropped 0) n f (λ x. cc)
+    by false f = absurd (let wrong = f in cc)
+
+pending-some : (gone passed : Bool) (o : Operation) → HasItems o → CountsSome (operation_report AStream (pending_of o) gone passed)
+pending-some true passed o h n e = other_code (codes.Dropped o.moved) n e (λ x. cc)
+pending-some false passed o h n e = by o.met refl e
+  where
+    by : (b : Bool) → o.met ≡ b → cond b (Some (outcome_code AStream o.outcome o.moved)) None ≡ Some (codes.Completed n) → 1 ≤ n
+    by true met f =
+        let same : Some (codes.Completed o.moved) ≡ Some (codes.Completed n) = ap (λ x. Some (outcome_code AStream x o.moved)) (sym h.outcome) ∙ f in
+        let is : o.moved ≡ n = cc in omega (arith, is, h.moved met)
+    by false met f = absurd (let wrong = f in cc)
+
+report-some : (side : Side) (stream : Stream) → stream.kind ≡ AStream → ArePlain stream → CountsSome (report_on side stream)
+report-some side stream k p n e =
+    by (end_of side stream).operation (plain_on side stream p)
+    (ap (λ kind. report_of kind (option_map pending_of (end_of side stream).operation) (is_gone (end_of (opposite side) stream).owner) (end_of side stream).told stream.passed) (sym k) ∙ e)
+  where
+    by : (o : Option Operation) → IsPlain o → report_of AStream (option_map pending_of o) (is_gone (end_of (opposite side) stream).owner) (end_of side stream).told stream.passed ≡ Some (codes.Completed n) → 1 ≤ n
+    by None q f = idle-some (is_gone (end_of (opposite side) stream).owner) (end_of side stream).told stream.passed n f
+    by (Some o) q f = pending-some (is_gone (end_of (opposite side) stream).owner) stream.passed o q n f
 
 -- ## Dropped is told only where the other end is gone
 
@@ -177,7 +254,7 @@ report-only stream k p c e d =
   where
     by : (o : Option Operation) → IsPlain o → report_of AStream (option_map pending_of o) (is_gone stream.writer.owner) stream.reader.told stream.passed ≡ Some c → is_gone stream.writer.owner ≡ true
     by None p f = idle-only (is_gone stream.writer.owner) stream.reader.told stream.passed c f
-    by (Some o) p f = pending-only stream (is_gone stream.writer.owner) o p c f d
+    by (Some o) p f = pending-only stream (is_gone stream.writer.owner) o p.outcome c f d
 
 -- ## Whole steps
 
@@ -188,22 +265,31 @@ written_is state next s t (Some x) code e =
     let same : x ≡ code = cc in
     (ap Some same, sym (ap (λ (r : Reaction). r.state) e))
 
+-- a read or write of some items, on a stream whose operations come out with theirs
+pub record IsOfSome (state : State) (s count : ℕ) : Type 0 where
+  pub plain : ArePlain (stream_at state s)
+  pub kind : (stream_at state s).kind ≡ AStream
+  pub some : 1 ≤ count
+
 -- a read or write that answers a code
 pub record Operated (state next : State) (s : ℕ) (side : Side) (code : ReturnCode) : Type 0 where
   pub steady : Steady state next
   pub only : is_dropped code ≡ true → is_gone (end_of (opposite side) (stream_at state s)).owner ≡ true
+  pub some : (n : ℕ) → code ≡ codes.Completed n → 1 ≤ n
 
 module _ (state next : State) (s : ℕ) (side : Side) (end : NamedEnd) (address count : ℕ) (code : ReturnCode) where
-  pub operate_after : IsPerformed state (OnEnd side end (Operate address count)) (replies.Code code) next → stream_named (named state end) ≡ s → s < length state.streams → Operated state next s side code
+  pub operate_after : IsPerformed state (OnEnd side end (Operate address count)) (replies.Code code) next → stream_named (named state end) ≡ s → s < length state.streams → IsOfSome state s (items_asked end.ty count) → Operated state next s side code
   unfolding performs
-  operate_after p e l =
+  operate_after p e l z =
       let n = stream_named (named state end) in
       let mine = begun end.guest address (items_asked end.ty count) in
       let t = turn side state.guests (stream_at state n) mine in
       let w = written_is state next n t t.code code p.does in
+      let y : IsOfSome state n (items_asked end.ty count) = subst (λ k. IsOfSome state k (items_asked end.ty count)) (sym e) z in
       record {
-        steady = steady_set state next n t.stream (ap (λ (x : State). x.streams) w.1) (subst (λ k. k < length state.streams) (sym e) l) (turn-owned side state.guests (stream_at state n) mine refl);
+        steady = steady_set state next n t.stream (ap (λ (x : State). x.streams) w.1) (subst (λ k. k < length state.streams) (sym e) l) (turn-owned side state.guests (stream_at state n) mine y.plain y.some (begun_items end.guest address (items_asked end.ty count) y.some));
         only = λ d. subst (λ k. is_gone (end_of (opposite side) (stream_at state k)).owner ≡ true) e (turn-only side state.guests (stream_at state n) mine code w.0 d);
+        some = λ i c. turn-some side state.guests (stream_at state n) mine y.kind y.plain y.some i (w.0 ∙ ap Some c);
       }
 
 left_plain : (code : Option ReturnCode) (o : Option Operation) → IsPlain o → IsPlain (left_pending code o)
@@ -212,8 +298,8 @@ left_plain (Some code) o p = tt
 
 delivered-owned : (side : Side) (stream : Stream) → StaysOwned stream (delivered side stream)
 unfolding delivered
-delivered-owned Writing stream = record { owners = record { writer = refl; reader = refl }; plain = λ p. p }
-delivered-owned Reading stream = record { owners = record { writer = refl; reader = refl }; plain = left_plain (report_on Reading stream) stream.reader.operation }
+delivered-owned Writing stream = record { owners = record { writer = refl; reader = refl }; plain = λ p. (left_plain (report_on Writing stream) stream.writer.operation p.0, p.1) }
+delivered-owned Reading stream = record { owners = record { writer = refl; reader = refl }; plain = λ p. (p.0, left_plain (report_on Reading stream) stream.reader.operation p.1) }
 
 -- an event that answers this
 pub record Told (state next : State) (s : ℕ) (side : Side) (code : Option ReturnCode) : Type 0 where
@@ -246,6 +332,10 @@ untold : (state : State) (s : ℕ) (side : Side) → report_on side (stream_at s
 untold state s side e =
     ap (λ xs. record state { streams = xs }) (ap (set state.streams s) (undelivered side (stream_at state s) e) ∙ set-get_or state.streams s no_stream)
 
+-- it tells of some items where it tells that all is done
+pub told_some : (state next : State) (s : ℕ) (side : Side) (code : ReturnCode) → Told state next s side (Some code) → (stream_at state s).kind ≡ AStream → ArePlain (stream_at state s) → (n : ℕ) → code ≡ codes.Completed n → 1 ≤ n
+told_some state next s side code t k p n e = report-some side (stream_at state s) k p n (t.reports ∙ ap Some e)
+
 pub told_gone : (state next : State) (s : ℕ) (code : ReturnCode) → Told state next s Reading (Some code) → (stream_at state s).kind ≡ AStream → IsPlain (stream_at state s).reader.operation → is_dropped code ≡ true → is_gone (stream_at state s).writer.owner ≡ true
 told_gone state next s code t k p d = report-only (stream_at state s) k p code t.reports d
 
@@ -255,7 +345,7 @@ pub record Forsaken (state next : State) (s : ℕ) : Type 0 where
   pub readers : (k : ℕ) → owner_in next.streams k Reading ≡ owner_in state.streams k Reading
   pub others : (k : ℕ) → k ≢ s → owner_in next.streams k Writing ≡ owner_in state.streams k Writing
   pub gone : owner_in next.streams s Writing ≡ Gone
-  pub plain : (k : ℕ) → IsPlain (stream_at state k).reader.operation → IsPlain (stream_at next k).reader.operation
+  pub plain : (k : ℕ) → ArePlain (stream_at state k) → ArePlain (stream_at next k)
 
 pub drop_after : (state next : State) (s : ℕ) (end : NamedEnd) → IsPerformed state (OnEnd Writing end Drop) replies.Done next → stream_named (named state end) ≡ s → s < length state.streams → Forsaken state next s
 unfolding performs dropped
@@ -268,7 +358,7 @@ drop_after state next s end p e l =
       readers = λ k. ap (λ xs. owner_in xs k Reading) is ∙ owner-set_same state.streams s x k Reading refl;
       others = λ k ne. ap (λ xs. owner_in xs k Writing) is ∙ owner-set_other state.streams s x k Writing ne;
       gone = ap (λ xs. owner_in xs s Writing) is ∙ ap (λ (y : Stream). y.writer.owner) (get_or-set_same state.streams s x no_stream l);
-      plain = λ k q. subst (λ xs. IsPlain (get_or xs k no_stream).reader.operation) (sym is) (plain-set state.streams s x k l (λ y. y) q);
+      plain = λ k q. subst (λ xs. ArePlain (get_or xs k no_stream)) (sym is) (plain-set state.streams s x k l (λ y. y) q);
     }
 
 -- bytes put into a memory, and bytes shown

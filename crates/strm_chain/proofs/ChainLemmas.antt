@@ -3,7 +3,7 @@ use Rattle.std.proofs.Common.{◌≡◌, ◌≢◌, ℕ, ◌+◌, ◌-◌, ◌%�
 use Rattle.std.specs.Prelude.{Result, Ok, Err, IfOk, OnOk, map, None}
 use Rattle.std.proofs.Math.ListN.{get_or-map}
 use Rattle.std.proofs.lemmas.Bool.{cases_eq}
-use Rattle.std.proofs.lemmas.List.{ext_get_or, take-map, drop-map, length-map, length-append}
+use Rattle.std.proofs.lemmas.List.{ext_get_or, take-map, drop-map, length-map, take-append-le, take_all}
 use Rattle.strm_machine.specs.Plays.{play, Ends}
 use Rattle.strm_machine.specs.State.{State, empty, memory_in}
 use Rattle.strm_machine.specs.Moments.{received}
@@ -26,6 +26,7 @@ use Rattle.strm_chain.specs.Turning.{Turns}
 use Rattle.strm_chain.specs.Running.{guests_made, streams_made, AreTurns, AreSomeTurns, IsRun}
 use Rattle.strm_chain.specs.Turned.{Turned}
 use Rattle.strm_chain.specs.Making.{IsReady}
+use Rattle.strm_chain.specs.Measuring.{IsStuck, Lowers}
 use Rattle.strm_chain.specs.Keeping.{ChainState, new_worker, worker_at, sink_of, stages_of, input_of, IsJoined, IsGoing, IsGoingUnless, IsChain, Begins, GoesOn}
 use Rattle.strm_chain.proofs.MomentLemmas.{played_run}
 use Rattle.strm_chain.proofs.JoinedLemmas.{OneChanged, either}
@@ -33,7 +34,8 @@ use Rattle.strm_chain.proofs.TurnLemmas.{turn_joined}
 use Rattle.strm_chain.proofs.PlayingLemmas.{follows_plays}
 use Rattle.strm_chain.proofs.ToldLemmas.{even_of, turned_other, turned_own}
 use Rattle.strm_chain.proofs.StandingLemmas.{stands}
-use Rattle.strm_chain.proofs.OutcomeLemmas.{turned_turns, turned_stage, turned_source, turned_steps}
+use Rattle.strm_chain.proofs.OutcomeLemmas.{turned_turns, turned_stage, turned_source}
+use Rattle.strm_chain.proofs.RoundLemmas.{AreAlike, turn_lowers, somebody_goes}
 use Rattle.strm_chain.proofs.TurningLemmas.{run_of}
 use Rattle.strm_chain.proofs.EndLemmas.{plain_of, counts_are, output_is, flows, all_composed}
 
@@ -86,12 +88,16 @@ module _ {E : Type 0} (p q : Play) (ws ws' : List Worker) (g chunk : ℕ) (r : R
       by (Ok turn) y = same_stages ws ws' g one (turned_stage g chunk (worker_at ws g) (worker_at ws' g) p q turn y)
       by (Err e) y = tt
 
+  same_input : IsJoined p ws → (turn : ChainTurn) → Turned g chunk (worker_at ws g) p turn (worker_at ws' g) q → input_of ws' ≡ input_of ws
+  same_input j turn y =
+      either (λ w w'. w.read ≡ None → w'.made ≡ w.made) g ws ws' 0 one (λ w none. refl)
+      (λ none. turned_source g chunk (worker_at ws g) (worker_at ws' g) p q turn none y) j.source.0
+
   pub input_ok : IsJoined p ws → IsTurned → OnOk r (input_of ws' ≡ input_of ws)
   input_ok j t = by r t
     where
       by : (x : Result ChainTurn E) → IfOk x (λ turn. Turned g chunk (worker_at ws g) p turn (worker_at ws' g) q) → OnOk x (input_of ws' ≡ input_of ws)
-      by (Ok turn) y = either (λ w w'. w.read ≡ None → w'.made ≡ w.made) g ws ws' 0 one (λ w none. refl)
-          (λ none. turned_source g chunk (worker_at ws g) (worker_at ws' g) p q turn none y) j.source.0
+      by (Ok turn) y = same_input j turn y
       by (Err e) y = tt
 
   pub turns_ok : IsGoing p ws → IsTurned → IfOk r (λ turn. Turns (length ws - 1) chunk g turn p q)
@@ -101,23 +107,35 @@ module _ {E : Type 0} (p q : Play) (ws ws' : List Worker) (g chunk : ℕ) (r : R
       by (Ok turn) y = turned_turns (length ws - 1) g chunk (worker_at ws g) (worker_at ws' g) p q turn (omega (arith, within.0)) (stands p ws go g there) y
       by (Err e) y = tt
 
-  pub more_ok : IsTurned → OnOk r ((worker_at ws g).doing ≢ Ended → length p.steps < length q.steps)
-  more_ok t = by r t
+  pub lowers_ok : IsPlayed p → IsPlayed q → IsGoing p ws → 2 ≤ length ws → IsTurned → IfOk r (λ turn. Lowers g turn p.state ws q.state ws')
+  lowers_ok a b go some t = by r t
     where
-      by : (x : Result ChainTurn E) → IfOk x (λ turn. Turned g chunk (worker_at ws g) p turn (worker_at ws' g) q) → OnOk x ((worker_at ws g).doing ≢ Ended → length p.steps < length q.steps)
-      by (Ok turn) y = turned_steps g chunk (worker_at ws g) (worker_at ws' g) p q turn y
+      by : (x : Result ChainTurn E) → IfOk x (λ turn. Turned g chunk (worker_at ws g) p turn (worker_at ws' g) q) → IfOk x (λ turn. Lowers g turn p.state ws q.state ws')
+      by (Ok turn) y =
+          turn_lowers p q ws ws' g chunk turn some there within.1 one
+          (record { many = one.many; stages = same_stages ws ws' g one (turned_stage g chunk (worker_at ws g) (worker_at ws' g) p q turn y); input = same_input go.joined turn y })
+          go.joined (turn_joined p ws g chunk go.joined there (played_run p a) within.1 q ws' turn (played_run q b).are one y)
+          (played_run p a) (played_run q b) y
       by (Err e) y = tt
 
 -- ## A chain
+
+-- guests that were lent and put back
+pub written_back : (n : ℕ) (new old : List Worker) → length new ≡ length old → n ≡ length old → take n (new ++ drop (length new) old) ≡ new
+written_back n new old many e =
+    take-append-le n new (drop (length new) old) (omega (arith, many, e)) ∙ take_all n new (omega (arith, many, e))
 
 pub going_of : (failed : Bool) (p : Play) (ws : List Worker) → IsGoingUnless failed p ws → failed ≡ false → IsGoing p ws
 going_of true p ws go e = cc
 going_of false p ws go e = go
 
-pub rests_of : (chain : ChainState) → IsChain chain → chain.failed ≡ false → is_told (length chain.workers - 1) chain.play.steps chain.play.replies ≡ false → (sink_of chain.workers).doing ≢ Ended
-rests_of chain c f untold e =
-    let go = going_of chain.failed chain.play chain.workers c.going f in
-    let wrong : false ≡ true = sym untold ∙ go.told ∙ go.joined.sink.ends e in cc
+-- not all of its guests are stuck where it goes on
+pub goes_of : (chain : ChainState) → IsChain chain → IsPlayed chain.play → chain.failed ≡ false → is_told (length chain.workers - 1) chain.play.steps chain.play.replies ≡ false → ((g : ℕ) → g < length chain.workers → IsStuck g (worker_at chain.workers g) chain.play.state) → ⊥
+goes_of c x played runs untold =
+    somebody_goes c.play c.workers played (going_of c.failed c.play c.workers x.going runs) x.some.0 untold
+
+pub alike_of : (a b : ChainState) → GoesOn a b → AreAlike a.workers b.workers
+alike_of a b x = record { many = x.many; stages = x.stages; input = x.input }
 
 pub goes_nowhere : (a : ChainState) → GoesOn a a
 goes_nowhere a = record { many = refl; stages = refl; input = refl; chunk = refl }
@@ -129,10 +147,6 @@ goes_further a b c x y = record {
   input = y.input ∙ x.input;
   chunk = y.chunk ∙ x.chunk;
 }
-
--- the steps of a turn are behind those before it
-pub turns_longer : (sink chunk g : ℕ) (turn : ChainTurn) (p q : Play) → Turns sink chunk g turn p q → length p.steps ≤ length q.steps
-turns_longer sink chunk g turn p q t = omega (arith, ap length t.steps_are, length-append p.steps t.made)
 
 -- the sink of a chain of these stages
 sink_number : (stages : List Stage) (input : List ℕ) (chunk : ℕ) (a b : ChainState) → Begins stages input chunk a → GoesOn a b → length b.workers - 1 ≡ length stages + 1
@@ -158,10 +172,6 @@ begins_ready stages input chunk p ws r played = record {
   plays = follows_plays p.steps p.replies p.state played;
   runs = refl;
 }
-
--- the sink is as it was where another guest took a turn
-pub sink_stays : (ws ws' : List Worker) (who : ℕ) → length ws' ≡ length ws → ((g : ℕ) → g ≢ who → worker_at ws' g ≡ worker_at ws g) → who < length ws - 1 → sink_of ws' ≡ sink_of ws
-sink_stays ws ws' who many others l = ap (λ n. worker_at ws' (n - 1)) many ∙ others (length ws - 1) (λ e. omega (arith, e, l))
 
 -- ## The end
 

@@ -42,7 +42,7 @@ unfolding plain_of
 plain-items [] = refl
 plain-items (b ∷ bytes) = ap (λ more. b ∷ more) (plain-items bytes)
 
-length-items : (bytes : List ℕ) → length (as_items bytes) ≡ length bytes
+pub length-items : (bytes : List ℕ) → length (as_items bytes) ≡ length bytes
 length-items [] = refl
 length-items (b ∷ bytes) = ap suc (length-items bytes)
 
@@ -70,7 +70,7 @@ stage_behind ws i l =
     get_or-map (λ (w : Worker). w.work.stage) (take (length ws - 2) (drop 1 ws)) i (new_worker Copy)
     ∙ ap (λ (w : Worker). w.work.stage) (get_or-take (length ws - 2) (drop 1 ws) i (new_worker Copy) l ∙ get_or-drop 1 ws i (new_worker Copy) ∙ ap (worker_at ws) (omega arith))
 
-shorter : {A : Type 0} (n : ℕ) (xs : List A) → n ≤ length xs → length (take n xs) ≡ n
+pub shorter : {A : Type 0} (n : ℕ) (xs : List A) → n ≤ length xs → length (take n xs) ≡ n
 shorter zero xs l = refl
 shorter (suc n) [] l = absurd (omega (arith, l))
 shorter (suc n) (x ∷ xs) l = ap suc (shorter n xs (omega (arith, l)))
@@ -95,11 +95,11 @@ rest_is g memory None rest h = (h, omega arith)
 rest_is g memory (Some o) rest h = (h.lies, omega (arith, h.inside, h.begun.whole))
 
 module _ (p : Play) (ws : List Worker) (some : 2 ≤ length ws) (j : IsJoined p ws) where
-  abbrev bytes : ℕ → List ℕ
+  abbrev pub bytes : ℕ → List ℕ
   bytes i = plain_of (got_on p.steps i)
 
   -- what was received on a stream are bytes
-  got_bytes : (i : ℕ) → i + 1 < length ws → got_on p.steps i ≡ as_items (bytes i)
+  pub got_bytes : (i : ℕ) → i + 1 < length ws → got_on p.steps i ≡ as_items (bytes i)
   got_bytes i l =
       let r = (j.joins i l).reads in
       let rest = rest_is (i + 1) (memory_in p.state.guests (i + 1)) (stream_at p.state i).reader.operation r.takes.rest r.takes.holds in
@@ -109,13 +109,13 @@ module _ (p : Play) (ws : List Worker) (some : 2 ≤ length ws) (j : IsJoined p 
   front_of : (n : ℕ) (whole front : List ℕ) → front ≡ take n whole → IsFront front whole
   front_of n whole front e = subst (λ f. IsFront f whole) (sym e) (sym (front_itself n whole))
 
-  first_front : IsFront (bytes 0) (input_of ws)
+  pub first_front : IsFront (bytes 0) (input_of ws)
   first_front =
       let l : 0 + 1 < length ws = omega (arith, some) in
       let h = (j.joins 0 l).writes in
       front_of ((worker_at ws 0).sent + moved_of (stream_at p.state 0).writer.operation) (input_of ws) (bytes 0) (ap plain_of h.sends.front ∙ plain-items _)
 
-  behind_front : (i : ℕ) → i < length ws - 2 → IsFront (bytes (i + 1)) (of (stage_at (stages_of ws) i) (bytes i))
+  pub behind_front : (i : ℕ) → i < length ws - 2 → IsFront (bytes (i + 1)) (of (stage_at (stages_of ws) i) (bytes i))
   behind_front i l =
       let w = worker_at ws (i + 1) in
       let here : i + 1 < length ws = omega (arith, l) in

@@ -21,7 +21,7 @@ use Rattle.strm_machine.proofs.TableLemmas.{owner_in}
 use Rattle.strm_chain.specs.declared.workers.Worker.{Worker}
 use Rattle.strm_chain.specs.Playing.{Play, Adds, bytes_type}
 use Rattle.strm_chain.specs.Flowing.{got_on}
-use Rattle.strm_chain.specs.Keeping.{worker_at, sink_of, Items, IsPlain, WritesOn, ReadsFrom, Joins, IsSink, IsJoined}
+use Rattle.strm_chain.specs.Keeping.{worker_at, sink_of, Items, ArePlain, WritesOn, ReadsFrom, Joins, IsSink, IsJoined}
 use Rattle.strm_chain.proofs.MomentLemmas.{moment_at, IsSeen}
 use Rattle.strm_chain.proofs.RegionLemmas.{ReceivesLow, nothing_put}
 use Rattle.strm_chain.proofs.AfterLemmas.{Steady, Forsaken}
@@ -152,7 +152,7 @@ module _ (p q : Play) (ws : List Worker) (step : Step) (reply : Reply) (a : Adds
                 (owner k Writing) (seen.got k) h
           ];
           reads = λ k w l _ h. reads_stay m k w _ _ (j.joins k l).typed (seen.change k Reading) (none k Reading) seen.aside (there (k + 1) (omega (arith, l))) (λ c few. put _ (λ e some. omega (arith, few))) low
-              (owner k Reading) (λ x. ap is_gone (owner k Writing) ∙ x) (λ x. subst (λ xs. IsPlain (get_or xs k no_stream).reader.operation) (sym same) x) (seen.got k) h;
+              (owner k Reading) (λ x. ap is_gone (owner k Writing) ∙ x) (λ x. subst (λ xs. ArePlain (get_or xs k no_stream)) (sym same) x) (seen.got k) h;
         }
 
 -- of fewer streams

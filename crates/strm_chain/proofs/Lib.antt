@@ -21,6 +21,10 @@ pub mod TurnLemmas
 pub mod EndLemmas
 pub mod ToldLemmas
 pub mod StandingLemmas
+pub mod MeasureLemmas
+pub mod BoundLemmas
+pub mod StuckLemmas
+pub mod RoundLemmas
 pub mod OutcomeLemmas
 pub mod MakingLemmas
 pub mod ChainLemmas

@@ -270,7 +270,7 @@ ready_joined stages input p ws r counts = record {
           idle = λ _. read_none;
           busy = λ e. absurd (let wrong : Nothing ≡ Reading = sym (ap (λ (x : Worker). x.doing) b.fresh) ∙ e in cc);
           unclosed = λ _. ap (λ (x : Worker). x.closed) b.fresh;
-          plain = rw read_none tt;
+          plain = (rw write_none tt, rw read_none tt);
           gone = λ e. absurd (let wrong : false ≡ true = sym (ap (λ (x : Worker). x.closed) b.fresh) ∙ e in cc);
         };
       };

@@ -2,19 +2,21 @@
 use Rattle.std.proofs.Common.{◌≡◌, ℕ, ◌+◌, ◌<◌, ◌≤◌, List, [], ◌∷◌, ◌++◌, length, Some, refl, sym, ap, ◌∙◌, subst, arith}
 use Rattle.std.proofs.lemmas.List.{length_push}
 use Rattle.std.proofs.lemmas.List.Elements.{All-push, All-pop}
-use Rattle.strm_machine.specs.State.{State}
+use Rattle.strm_machine.specs.State.{State, stream_at}
 use Rattle.strm_machine.specs.Acts.{act_of}
 use Rattle.strm_machine.specs.Reactions.{Reaction, react}
-use Rattle.strm_machine.specs.Moments.{Moment, moment_of, got_in}
+use Rattle.strm_machine.specs.Moments.{Moment, moment_of, got_in, moved_of, received}
 use Rattle.strm_machine.specs.Soundness.{IsSound}
 use Rattle.strm_machine.specs.Untouched.{StaysAside, LieThere}
 use Rattle.strm_machine.specs.declared.streams.Side.{Side}
+use Rattle.strm_machine.specs.declared.streams.Side.TheVariants.{Reading}
 use Rattle.strm_machine.specs.declared.steps.Step.{Step}
 use Rattle.strm_machine.specs.declared.replies.Reply.{Reply}
 use Rattle.strm_machine.proofs.Changes.{scene, Change}
 use Rattle.strm_laws.specs.Conservation.{moments, last, got}
 use Rattle.strm_laws.specs.Laws.{HasBytes, AreSteps, HandlesHold}
 use Rattle.strm_laws.proofs.Calls.{got-push}
+use Rattle.strm_laws.proofs.Conserved.{conserves}
 use Rattle.strm_laws.proofs.Replies.{play-ends}
 use Rattle.strm_laws.proofs.LawfulRuns.{AreSteps-front, IsReady-empty, ready_after, first_reacts, sound}
 use Rattle.strm_laws.proofs.Handles.{handles_hold, held}
@@ -33,6 +35,16 @@ played_run p f = record {
   last_is = (play-ends [] start p.steps p.replies p.state (follows_plays p.steps p.replies p.state f)).0;
   are = record { few = f.few; bytes = f.bytes };
 }
+
+-- as many items as a stream counts were received on it
+pub count_is : (p : Play) (s : ℕ) → IsRunOf p → length (got_on p.steps s) ≡ received s p.state
+count_is p s r = (conserves start.tag start.limits p.steps s r.are).count ∙ ap (received s) (sym r.last_is)
+
+-- a read has moved no more than its stream received
+pub moved_within : (p : Play) (s : ℕ) → IsRunOf p → moved_of (stream_at p.state s).reader.operation ≤ received s p.state
+moved_within p s r =
+    let c = conserves start.tag start.limits p.steps s r.are in
+    subst (λ state. moved_of (stream_at state s).reader.operation ≤ received s state) (sym r.last_is) (omega (arith, c.told Reading, c.count))
 
 last-push : (state : State) (run : List Step) (step : Step) → last state (run ++ step ∷ []) ≡ (react (last state run) step).state
 last-push state [] step = refl

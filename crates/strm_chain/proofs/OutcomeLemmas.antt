@@ -158,18 +158,3 @@ turned_source g chunk w w' p q turn none (WriteOpens t x is) = ap (λ (v : Worke
 turned_source g chunk w w' p q turn none (WriteServes code t x h) = ap (λ (v : Worker). v.made) h.is
 turned_source g chunk w w' p q turn none (WriteSettles code t x h) = ap (λ (v : Worker). v.made) h.is
 turned_source g chunk w w' p q turn none (Ends t x) = ap (λ (v : Worker). v.made) x.is
-
-more_steps : (p q : Play) (step : Step) (reply : Reply) → Adds p q step reply → length p.steps < length q.steps
-more_steps p q step reply a = omega (arith, ap length a.steps_are, length_push p.steps step)
-
--- a guest that has not ended makes a step
-pub turned_steps : (g chunk : ℕ) (w w' : Worker) (p q : Play) (turn : ChainTurn) → Turned g chunk w p turn w' q → w.doing ≢ Ended → length p.steps < length q.steps
-turned_steps g chunk w w' p q turn (Rests t e is same) ne = absurd (ne e)
-turned_steps g chunk w w' p q turn (Waits t is x) ne = more_steps p q _ _ x.hears
-turned_steps g chunk w w' p q turn (ReadOpens t x is) ne = more_steps p q _ _ x.adds
-turned_steps g chunk w w' p q turn (ReadServes mid code t x y) ne = omega (arith, more_steps p mid _ _ x.adds, more_steps mid q _ _ y.dumps)
-turned_steps g chunk w w' p q turn (ReadSettles mid code t x y) ne = omega (arith, more_steps p mid _ _ x.adds, more_steps mid q _ _ y.dumps)
-turned_steps g chunk w w' p q turn (WriteOpens t x is) ne = omega (arith, more_steps p x.mid _ _ x.pokes.adds, more_steps x.mid q _ _ x.adds)
-turned_steps g chunk w w' p q turn (WriteServes code t x h) ne = omega (arith, more_steps p x.mid _ _ x.pokes.adds, more_steps x.mid q _ _ x.adds)
-turned_steps g chunk w w' p q turn (WriteSettles code t x h) ne = more_steps p q _ _ x.adds
-turned_steps g chunk w w' p q turn (Ends t x) ne = more_steps p q _ _ x.adds

@@ -13,7 +13,7 @@ use Rattle.strm_memory.specs.Bytes.{bytes_at}
 use Rattle.strm_machine.specs.State.{State, memory_in, stream_at, is_gone}
 use Rattle.strm_machine.specs.Tests.{items_asked}
 use Rattle.strm_machine.specs.Soundness.{type_of}
-use Rattle.strm_machine.specs.Moments.{Moment, Place, is_named, got_in, received, target, report_in, accepted_in, as_report, count_reported, k_of}
+use Rattle.strm_machine.specs.Moments.{Moment, Place, is_named, got_in, moved_of, received, target, report_in, accepted_in, as_report, count_reported, k_of}
 use Rattle.strm_machine.specs.declared.streams.Side.{Side}
 use Rattle.strm_machine.specs.declared.streams.Side.TheVariants.{Writing, Reading}
 use Rattle.strm_machine.specs.declared.streams.Operation.{Operation}
@@ -25,6 +25,7 @@ use Rattle.strm_machine.proofs.Changes.{Scene, scene, Change, ByRest, ByGoing, B
 use Rattle.strm_chain.specs.Playing.{bytes_type}
 use Rattle.strm_chain.specs.declared.stages.Work.{Work}
 use Rattle.strm_chain.specs.Linking.{Sends, Takes, Arrived, HoldsIf, Holds}
+use Rattle.strm_chain.specs.Measuring.{taken_from}
 use Rattle.strm_chain.specs.Flowing.{as_items}
 use Rattle.strm_chain.specs.Keeping.{Items}
 use Rattle.strm_chain.proofs.UnnamedLemmas.{sends_in}
@@ -57,6 +58,14 @@ module _ (m : Moment) (s : ℕ) (first work : Work) (made : List ℕ) (got : Ite
   abbrev after : Option Operation
   after = (stream_at m.after s).reader.operation
 
+  -- a read is over with this code: its bytes lie where it read to, and count as taken
+  pub record IsOver (code : ReturnCode) : Type 0 where
+    pub arrived : Arrived 0 (count_of code) first work made (memory_in m.after.guests (s + 1)) (got ++ got_in s m)
+    pub low : ReceivesLow m s
+    pub none : after ≡ None
+    pub few : count_of code ≤ 64
+    pub taken : taken_from m.before s + count_of code ≤ taken_from m.after s
+
   module _ (end : NamedEnd) (count : ℕ) (act : m.act ≡ OnEnd Reading end (Operate 0 count)) (guest : end.guest ≡ s + 1) (asks : end.ty ≡ bytes_type) (few : count ≤ 64) where
     called : (code : ReturnCode) → m.reply ≡ replies.Code code → TakesCall (scene s Reading m) (s + 1) 0 count
     called code reply =
@@ -81,22 +90,24 @@ module _ (m : Moment) (s : ℕ) (first work : Work) (made : List ℕ) (got : Ite
 
     -- a read that is over at once
     module _ (code : ReturnCode) (ne : code ≢ codes.Blocked) (reply : m.reply ≡ replies.Code code) where
-      pub own_read_serves : Takes (s + 1) 0 first work made (memory_in m.before.guests (s + 1)) None got → Arrived 0 (count_of code) first work made (memory_in m.after.guests (s + 1)) (got ++ got_in s m) × ReceivesLow m s × ((stream_at m.after s).reader.operation ≡ None) × (count_of code ≤ 64)
+      pub own_read_serves : Takes (s + 1) 0 first work made (memory_in m.before.guests (s + 1)) None got → IsOver code
       own_read_serves t =
           let x = served Reading (scene s Reading m) (s + 1) 0 count code change (called code reply) (call_report s Reading m code reply named ∙ reported code ne) in
-          let k = counted m s code ty in (
-            read_serves s (s + 1) 0 first work made m got (payload_is m.before s ty) end count (count_of code) code act guest named x k t (omega (arith, room, few)),
-            low_at (count_reported (stream_at m.before s).kind code) x.more x.within,
-            x.is,
-            omega (arith, k, x.within, few),
-          )
+          let k = counted m s code ty in
+          record {
+            arrived = read_serves s (s + 1) 0 first work made m got (payload_is m.before s ty) end count (count_of code) code act guest named x k t (omega (arith, room, few));
+            low = low_at (count_reported (stream_at m.before s).kind code) x.more x.within;
+            none = x.is;
+            few = omega (arith, k, x.within, few);
+            taken = omega (arith, ap moved_of x.was, ap moved_of x.is, x.more, k);
+          }
 
   -- a read that waited is told of
   module _ (g handle : ℕ) (code : ReturnCode) (ne : code ≢ codes.Blocked) (act : m.act ≡ Event g handle)
       (reply : m.reply ≡ replies.Event (Some code))
       (stays : memory_in m.after.guests (s + 1) ≡ memory_in m.before.guests (s + 1)) where
-    pub own_read_settles : Takes (s + 1) 0 first work made (memory_in m.before.guests (s + 1)) before got → Arrived 0 (count_of code) first work made (memory_in m.after.guests (s + 1)) (got ++ got_in s m) × ReceivesLow m s × ((stream_at m.after s).reader.operation ≡ None) × (count_of code ≤ 64)
-    own_read_settles t = by change
+    pub own_read_settles : moved_of before ≤ received s m.before → Takes (s + 1) 0 first work made (memory_in m.before.guests (s + 1)) before got → IsOver code
+    own_read_settles within t = by change
       where
         tells : report_in s Reading m ≡ Some code
         tells = event_report s Reading m code reply named ∙ reported code ne
@@ -107,33 +118,37 @@ module _ (m : Moment) (s : ℕ) (first work : Work) (made : List ℕ) (got : Ite
         k : count_of code ≡ count_reported (stream_at m.before s).kind code
         k = counted m s code ty
 
-        by : Change Reading (scene s Reading m) → Arrived 0 (count_of code) first work made (memory_in m.after.guests (s + 1)) (got ++ got_in s m) × ReceivesLow m s × ((stream_at m.after s).reader.operation ≡ None) × (count_of code ≤ 64)
+        by : Change Reading (scene s Reading m) → IsOver code
         by (ByGoing o p n x) = absurd (let wrong : None ≡ Some code = sym x.unreported ∙ tells in cc)
         by (ByOpening g' address asked p n x) = absurd (let wrong = sym x.takes ∙ none_taken in cc)
         by (ByServing g' address asked c x) = absurd (let wrong = sym x.takes ∙ none_taken in cc)
         by (BySettling o c x) =
             let same : c ≡ code = (let y : Some c ≡ Some code = sym x.report ∙ tells in cc) in
             let y = subst (λ z. Settles Reading (scene s Reading m) o z) same x in
-            let some : Takes (s + 1) 0 first work made (memory_in m.before.guests (s + 1)) (Some o) got = subst (λ q. Takes (s + 1) 0 first work made (memory_in m.before.guests (s + 1)) q got) y.was t in (
-              read_settles s (s + 1) 0 first work made m got (payload_is m.before s ty) (count_of code) o code y k some stays,
-              Nothing (omega (arith, y.same)),
-              y.is,
-              omega (arith, k, y.counts, some.holds.begun.whole, some.holds.few),
-            )
+            let some : Takes (s + 1) 0 first work made (memory_in m.before.guests (s + 1)) (Some o) got = subst (λ q. Takes (s + 1) 0 first work made (memory_in m.before.guests (s + 1)) q got) y.was t in
+            record {
+              arrived = read_settles s (s + 1) 0 first work made m got (payload_is m.before s ty) (count_of code) o code y k some stays;
+              low = Nothing (omega (arith, y.same));
+              none = y.is;
+              few = omega (arith, k, y.counts, some.holds.begun.whole, some.holds.few);
+              taken = omega (arith, ap moved_of y.was, ap moved_of y.is, y.same, y.counts, k, within);
+            }
         by (ByRest x) =
             let none : Takes (s + 1) 0 first work made (memory_in m.before.guests (s + 1)) None got = subst (λ q. Takes (s + 1) 0 first work made (memory_in m.before.guests (s + 1)) q got) x.was t in
-            let nothing : count_of code ≡ 0 = k ∙ sym (ap (k_of (stream_at m.before s).kind 0) tells) ∙ x.counts in (
-              record {
+            let nothing : count_of code ≡ 0 = k ∙ sym (ap (k_of (stream_at m.before s).kind 0) tells) ∙ x.counts in
+            record {
+              arrived = record {
                 taken = none.taken;
                 split = ap (λ z. got ++ z) x.nothing ∙ append-nil got ∙ none.split ∙ ap (λ z. as_items none.taken ++ z) none.holds
                     ∙ ap (λ n. as_items none.taken ++ as_items (bytes_at (memory_in m.after.guests (s + 1)) 0 n)) (sym nothing);
                 makes = none.makes;
                 goes_on = none.goes_on;
-              },
-              Nothing (omega (arith, x.same)),
-              x.is,
-              omega (arith, nothing),
-            )
+              };
+              low = Nothing (omega (arith, x.same));
+              none = x.is;
+              few = omega (arith, nothing);
+              taken = omega (arith, nothing, x.same, ap moved_of x.was, ap moved_of x.is);
+            }
 
 -- ## Writes
 

@@ -30,15 +30,16 @@ use Rattle.strm_chain.specs.Stages.{begun, left, done}
 use Rattle.strm_chain.specs.Playing.{Play, Adds, bytes_type}
 use Rattle.strm_chain.specs.Flowing.{as_items, got_on}
 use Rattle.strm_chain.specs.Linking.{Sends, Takes, Arrived, Offers, OffersIf}
-use Rattle.strm_chain.specs.Keeping.{worker_at, sink_of, Items, IsPlain, WritesOn, ReadsFrom, IsSink, IsJoined}
+use Rattle.strm_chain.specs.Measuring.{taken_from}
+use Rattle.strm_chain.specs.Keeping.{worker_at, sink_of, Items, WritesOn, ReadsFrom, IsSink, IsJoined}
 use Rattle.strm_chain.specs.Turned.{Reads, HearsRead, after_read, EndsRead, WithMore, WithLast, TakesIn, Pokes, Writes, HearsWrite, HandsOver, Drops, Turned, Rests, Waits, ReadOpens, ReadServes, ReadSettles, WriteOpens, WriteServes, WriteSettles, Ends}
 use Rattle.strm_chain.proofs.StageLemmas.{left-stage}
 use Rattle.strm_chain.proofs.LinkLemmas.{takes_arrived}
 use Rattle.strm_chain.proofs.RegionLemmas.{ReceivesLow, nothing_put, write_region_stays}
 use Rattle.strm_chain.proofs.KeepLemmas.{poke_leaves}
-use Rattle.strm_chain.proofs.MomentLemmas.{IsRunOf, IsSeen, moment_at, run_before, are_before, seen}
+use Rattle.strm_chain.proofs.MomentLemmas.{IsRunOf, IsSeen, moved_within, moment_at, run_before, are_before, seen}
 use Rattle.strm_chain.proofs.NamingLemmas.{IsPerformed, performed, operate_names, drop_names, event_names, unnamed_reader}
-use Rattle.strm_chain.proofs.AfterLemmas.{operate_after, event_after, told_gone, drop_after, poke_after, dump_after, event_none}
+use Rattle.strm_chain.proofs.AfterLemmas.{Told, operate_after, event_after, told_some, told_gone, drop_after, poke_after, dump_after, event_none}
 use Rattle.strm_chain.proofs.StayLemmas.{low_unless, kind_is}
 use Rattle.strm_chain.proofs.JoinedLemmas.{Frame, frame_of, Passes, Each, But, got_same, same_passes, reader_passes, writer_passes, drop_passes, poke_passes, fewer, both_pass, none_pass, SamePart, OneChanged, joined_again, joined_same, unchanged}
 use Rattle.strm_chain.proofs.OwnLemmas.{own_read_waits, own_read_serves, own_read_settles, front_itself, next_within, own_write_waits, own_write_serves, own_write_settles, dropped_sends}
@@ -84,6 +85,8 @@ module _ (p : Play) (ws : List Worker) (g chunk : ℕ) (j : IsJoined p ws) (l : 
   pub record ReadIsOver (mid : Play) (s : ℕ) (code : ReturnCode) : Type 0 where
     pub passes : Passes (length ws) p mid Each (But s)
     pub arrives : Arrives s w code mid.state (got_on mid.steps s)
+    pub taken : taken_from p.state s + count_of code ≤ taken_from mid.state s
+    pub some : (n : ℕ) → code ≡ codes.Completed n → 1 ≤ n
 
   module _ (mid : Play) (s : ℕ) (are : AreSteps mid.steps) (b : BeforeIt ws g s) where
     abbrev call : ℕ → Step
@@ -108,7 +111,7 @@ module _ (p : Play) (ws : List Worker) (g chunk : ℕ) (j : IsJoined p ws) (l : 
         let names = operate_names p.state ARead (end_at x.handle) 0 chunk s reply look.sound look.holds does.free (read_owner s x.handle b x.has) in
         let named : is_named s ARead m ≡ true = names.only s ARead ∙ end_itself s ARead in
         let there : s < length p.state.streams = omega (arith, b.there, j.streams) in
-        let after = operate_after p.state mid.state s ARead (end_at x.handle) 0 chunk codes.Blocked does names.stream there in
+        let after = operate_after p.state mid.state s ARead (end_at x.handle) 0 chunk codes.Blocked does names.stream there (record { plain = r.plain; kind = kind_is p.state s ty; some = x.some }) in
         let idle : (stream_at p.state s).reader.operation ≡ None = r.idle (apart_doing w Nothing Reading x.rests (λ e. cc)) in
         let own = own_read_waits m s (begun w.work.stage) w.work w.made (got_on p.steps s) ty named (look.change s ARead) (room_after step reply look)
         (end_at x.handle) chunk refl b.is refl most refl
@@ -140,22 +143,25 @@ module _ (p : Play) (ws : List Worker) (g chunk : ℕ) (j : IsJoined p ws) (l : 
         let names = operate_names p.state ARead (end_at x.handle) 0 chunk s reply look.sound look.holds does.free (read_owner s x.handle b x.has) in
         let named : is_named s ARead m ≡ true = names.only s ARead ∙ end_itself s ARead in
         let there : s < length p.state.streams = omega (arith, b.there, j.streams) in
-        let after = operate_after p.state mid.state s ARead (end_at x.handle) 0 chunk code does names.stream there in
+        let after = operate_after p.state mid.state s ARead (end_at x.handle) 0 chunk code does names.stream there (record { plain = r.plain; kind = kind_is p.state s ty; some = x.some }) in
         let idle : (stream_at p.state s).reader.operation ≡ None = r.idle (apart_doing w Nothing Reading x.rests (λ e. cc)) in
         let own = own_read_serves m s (begun w.work.stage) w.work w.made (got_on p.steps s) ty named (look.change s ARead) (room_after step reply look)
         (end_at x.handle) chunk refl b.is refl most code ne refl
         (subst (λ o. Takes (s + 1) 0 (begun w.work.stage) w.work w.made (memory_in p.state.guests (s + 1)) o (got_on p.steps s)) idle r.takes) in
         record {
-          passes = reader_passes p mid ws step reply x.adds j look s after.steady (λ q. nothing_put q (put_by (act_of step) reply) refl) names.only own.1;
+          passes = reader_passes p mid ws step reply x.adds j look s after.steady (λ q. nothing_put q (put_by (act_of step) reply) refl) names.only own.low;
           arrives = record {
             handle = r.handle;
             has = r.has;
             owner = after.steady.owner s ARead ∙ r.owner;
-            arrived = subst (Arrived 0 (count_of code) (begun w.work.stage) w.work w.made (memory_in mid.state.guests (s + 1))) (sym (look.got s)) own.0;
-            none = own.2;
-            few = own.3;
+            arrived = subst (Arrived 0 (count_of code) (begun w.work.stage) w.work w.made (memory_in mid.state.guests (s + 1))) (sym (look.got s)) own.arrived;
+            none = own.none;
+            few = own.few;
+            plain = after.steady.plain s r.plain;
             gone = λ d. ap is_gone (after.steady.owner s AWrite) ∙ after.only d;
           };
+          taken = own.taken;
+          some = after.some;
         }
 
     -- a read that waited is over
@@ -173,19 +179,33 @@ module _ (p : Play) (ws : List Worker) (g chunk : ℕ) (j : IsJoined p ws) (l : 
         let there : s < length p.state.streams = omega (arith, b.there, j.streams) in
         let after = event_after p.state mid.state g x.handle s ARead (Some code) does names.stream names.on there in
         let own = own_read_settles m s (begun w.work.stage) w.work w.made (got_on p.steps s) ty named (look.change s ARead) (room_after step reply look)
-        g x.handle code ne refl refl (ap (λ xs. memory_in xs (s + 1)) after.guests) r.takes in
+        g x.handle code ne refl refl (ap (λ xs. memory_in xs (s + 1)) after.guests) (moved_within p s run) r.takes in
         record {
-          passes = reader_passes p mid ws step reply x.adds j look s after.steady (λ q. nothing_put q (put_by (act_of step) reply) refl) names.only own.1;
+          passes = reader_passes p mid ws step reply x.adds j look s after.steady (λ q. nothing_put q (put_by (act_of step) reply) refl) names.only own.low;
           arrives = record {
             handle = r.handle;
             has = r.has;
             owner = after.steady.owner s ARead ∙ r.owner;
-            arrived = subst (Arrived 0 (count_of code) (begun w.work.stage) w.work w.made (memory_in mid.state.guests (s + 1))) (sym (look.got s)) own.0;
-            none = own.2;
-            few = own.3;
-            gone = λ d. ap is_gone (after.steady.owner s AWrite) ∙ told_gone p.state mid.state s code after (kind_is p.state s ty) r.plain d;
+            arrived = subst (Arrived 0 (count_of code) (begun w.work.stage) w.work w.made (memory_in mid.state.guests (s + 1))) (sym (look.got s)) own.arrived;
+            none = own.none;
+            few = own.few;
+            plain = after.steady.plain s r.plain;
+            gone = λ d. ap is_gone (after.steady.owner s AWrite) ∙ told_gone p.state mid.state s code after (kind_is p.state s ty) r.plain.1 d;
           };
+          taken = own.taken;
+          some = told_some p.state mid.state s ARead code after (kind_is p.state s ty) r.plain;
         }
+
+  -- what a guest hears of its read
+  module _ (q : Play) (s handle : ℕ) (code : Option ReturnCode) (are : AreSteps q.steps) (b : BeforeIt ws g s) (has : w.read ≡ Some handle) where
+    pub hears_read : Adds p q (steps.Event g handle) (replies.Event code) → Told p.state q.state s ARead code
+    hears_read a =
+        let step = steps.Event g handle in
+        let reply = replies.Event code in
+        let look = seen p q step reply run are a in
+        let does = performed p.state (act_of step) reply q.state a.reacts refl in
+        let names = event_names p.state g handle s ARead reply look.sound look.holds does.free (read_owner s handle b has) in
+        event_after p.state q.state g handle s ARead code does names.stream names.on (omega (arith, b.there, j.streams))
 
   -- the turn of a guest whose read is over
   module _ (mid q : Play) (ws' : List Worker) (code : ReturnCode) (handle : ℕ) where

@@ -23,7 +23,7 @@ use Rattle.strm_chain.specs.declared.workers.Worker.{Worker}
 use Rattle.strm_chain.specs.Linking.{Sends, Takes}
 use Rattle.strm_chain.specs.Playing.{Play, bytes_type}
 use Rattle.strm_chain.specs.Flowing.{got_on}
-use Rattle.strm_chain.specs.Keeping.{worker_at, Items, IsPlain, WritesOn, ReadsFrom, IsJoined}
+use Rattle.strm_chain.specs.Keeping.{worker_at, Items, ArePlain, WritesOn, ReadsFrom, IsJoined}
 use Rattle.strm_chain.specs.Stages.{begun}
 use Rattle.strm_chain.proofs.UnnamedLemmas.{Still, Resting, Going, still}
 use Rattle.strm_chain.proofs.RegionLemmas.{ReceivesLow, Nothing}
@@ -140,7 +140,7 @@ module _ (m : Moment) (s : ℕ) (w : Worker) (got new : Items) (ty : type_of (st
     (low : (t : ℕ) → ReceivesLow m t)
     (owner : (stream_at m.after s).reader.owner ≡ (stream_at m.before s).reader.owner)
     (gone : is_gone (stream_at m.before s).writer.owner ≡ true → is_gone (stream_at m.after s).writer.owner ≡ true) where
-  pub reads_stay : (IsPlain (stream_at m.before s).reader.operation → IsPlain (stream_at m.after s).reader.operation) → new ≡ got ++ got_in s m → ReadsFrom s w m.before got → ReadsFrom s w m.after new
+  pub reads_stay : (ArePlain (stream_at m.before s) → ArePlain (stream_at m.after s)) → new ≡ got ++ got_in s m → ReadsFrom s w m.before got → ReadsFrom s w m.after new
   reads_stay plain e h = record {
     handle = h.handle;
     has = h.has;

@@ -30,7 +30,7 @@ use Rattle.strm_chain.specs.Stages.{begun, left, done}
 use Rattle.strm_chain.specs.Playing.{Play, Adds, bytes_type}
 use Rattle.strm_chain.specs.Flowing.{as_items, got_on}
 use Rattle.strm_chain.specs.Linking.{Sends, Takes, Arrived, Offers, OffersIf}
-use Rattle.strm_chain.specs.Keeping.{worker_at, sink_of, Items, IsPlain, WritesOn, ReadsFrom, IsSink, IsJoined}
+use Rattle.strm_chain.specs.Keeping.{worker_at, sink_of, Items, WritesOn, ReadsFrom, IsSink, IsJoined}
 use Rattle.strm_chain.specs.Turned.{HearsNone, Reads, HearsRead, after_read, EndsRead, WithMore, WithLast, TakesIn, Pokes, Writes, HearsWrite, HandsOver, Drops, Turned, Rests, Waits, ReadOpens, ReadServes, ReadSettles, WriteOpens, WriteServes, WriteSettles, Ends}
 use Rattle.strm_chain.proofs.StageLemmas.{left-stage}
 use Rattle.strm_chain.proofs.LinkLemmas.{takes_arrived}
@@ -38,7 +38,7 @@ use Rattle.strm_chain.proofs.RegionLemmas.{ReceivesLow, nothing_put, write_regio
 use Rattle.strm_chain.proofs.KeepLemmas.{poke_leaves}
 use Rattle.strm_chain.proofs.MomentLemmas.{IsRunOf, IsSeen, moment_at, run_before, are_before, seen}
 use Rattle.strm_chain.proofs.NamingLemmas.{NamesOnly, performed, operate_names, drop_names, event_names, unnamed_reader}
-use Rattle.strm_chain.proofs.AfterLemmas.{Steady, operate_after, event_after, told_gone, drop_after, poke_after, dump_after, event_none}
+use Rattle.strm_chain.proofs.AfterLemmas.{Steady, Told, operate_after, event_after, told_gone, drop_after, poke_after, dump_after, event_none}
 use Rattle.strm_chain.proofs.StayLemmas.{low_unless, kind_is}
 use Rattle.strm_chain.proofs.JoinedLemmas.{Frame, frame_of, Passes, Each, But, got_same, same_passes, reader_passes, writer_passes, drop_passes, poke_passes, fewer, both_pass, none_pass, SamePart, OneChanged, joined_again, joined_same, unchanged}
 use Rattle.strm_chain.proofs.OwnLemmas.{own_read_waits, own_read_serves, own_read_settles, front_itself, next_within, own_write_waits, own_write_serves, own_write_settles, dropped_sends}
@@ -140,6 +140,7 @@ module _ (p : Play) (ws : List Worker) (g chunk : ℕ) (j : IsJoined p ws) (l : 
       look : IsSeen mw x.mid.steps q.steps
       only : NamesOnly mw g AWrite
       steady : Steady x.mid.state q.state
+      some : (n : ℕ) → code ≡ codes.Completed n → 1 ≤ n
       passes : Passes (length ws) p q (But g) Each
       idle : (stream_at x.mid.state g).writer.operation ≡ None
       writes : WritesOn g w x.mid.state (got_on x.mid.steps g)
@@ -155,7 +156,8 @@ module _ (p : Play) (ws : List Worker) (g chunk : ℕ) (j : IsJoined p ws) (l : 
         let resting = x.pokes.rests in
         let owner = h.owner (apart_doing w Nothing Ended resting (λ e. cc)) ∙ held_same g g h.handle x.handle refl (one_handle w.write h.handle x.handle h.has x.has) in
         let names = operate_names x.mid.state AWrite write_end 64 (length x.bytes) g reply look.sound look.holds does.free owner in
-        let after = operate_after x.mid.state q.state g AWrite write_end 64 (length x.bytes) code does names.stream (omega (arith, more_there, jm.streams)) in
+        let after = operate_after x.mid.state q.state g AWrite write_end 64 (length x.bytes) code does names.stream (omega (arith, more_there, jm.streams))
+        (record { plain = (jm.joins g more_there).reads.plain; kind = kind_is x.mid.state g (jm.joins g more_there).typed; some = x.pokes.some.some }) in
         let poke = steps.Poke g 64 x.bytes in
         let before = seen p x.mid poke replies.Done run (are_before x.mid q write_step reply x.adds are) x.pokes.adds in
         let put = performed p.state (act_of poke) replies.Done x.mid.state x.pokes.adds.reacts refl in
@@ -166,10 +168,15 @@ module _ (p : Play) (ws : List Worker) (g chunk : ℕ) (j : IsJoined p ws) (l : 
           look = look;
           only = names.only;
           steady = after.steady;
+          some = after.some;
           passes = both_pass (length ws) p x.mid q (But g) Each (fewer (length ws) p x.mid Each Each (But g) Each first (λ k _. tt) (λ k _. tt)) second;
           idle = h.idle (apart_doing w Nothing Writing resting (λ e. cc));
           writes = h;
         }
+
+    -- where it completes, it has handed over some
+    pub write_some : (n : ℕ) → code ≡ codes.Completed n → 1 ≤ n
+    write_some = write_is_made.some
 
     size_mid : 64 + length x.bytes ≤ length (memory_in x.mid.state.guests g)
     size_mid = omega (arith, is_poked.few, is_poked.joined.room g l)
@@ -222,6 +229,18 @@ module _ (p : Play) (ws : List Worker) (g chunk : ℕ) (j : IsJoined p ws) (l : 
           gone = λ e. absurd (let wrong = e in cc);
           over = λ e. absurd (let wrong = e in cc);
         })
+
+  -- what a guest hears of its write
+  module _ (q : Play) (handle : ℕ) (code : Option ReturnCode) (are : AreSteps q.steps) (waits : w.doing ≡ Writing) (has : w.write ≡ Some handle) where
+    pub hears_write : Adds p q (steps.Event g handle) (replies.Event code) → Told p.state q.state g AWrite code
+    hears_write a =
+        let step = steps.Event g handle in
+        let reply = replies.Event code in
+        let more = behind_it p ws g handle j l has in
+        let look = seen p q step reply run are a in
+        let does = performed p.state (act_of step) reply q.state a.reacts refl in
+        let names = event_names p.state g handle g AWrite reply look.sound look.holds does.free (write_owner handle more (apart_doing w Writing Ended waits (λ e. cc)) has) in
+        event_after p.state q.state g handle g AWrite code does names.stream names.on (omega (arith, more, j.streams))
 
   -- a write that waited is over
   write_turn_settles : (q : Play) (ws' : List Worker) (code : ReturnCode) → AreSteps q.steps → OneChanged g ws ws' → (x : HearsWrite g w p q code) → HandsOver w code (worker_at ws' g) → IsJoined q ws'

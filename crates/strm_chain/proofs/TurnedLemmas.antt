@@ -30,7 +30,7 @@ use Rattle.strm_chain.specs.Stages.{begun, left, done}
 use Rattle.strm_chain.specs.Playing.{Play, Adds, bytes_type}
 use Rattle.strm_chain.specs.Flowing.{as_items, got_on}
 use Rattle.strm_chain.specs.Linking.{Sends, Takes, Arrived, Offers, OffersIf}
-use Rattle.strm_chain.specs.Keeping.{worker_at, sink_of, Items, IsPlain, WritesOn, ReadsFrom, IsSink, IsJoined}
+use Rattle.strm_chain.specs.Keeping.{worker_at, sink_of, Items, ArePlain, WritesOn, ReadsFrom, IsSink, IsJoined}
 use Rattle.strm_chain.specs.Turned.{Reads, HearsRead, after_read, EndsRead, WithMore, WithLast, TakesIn, Pokes, Writes, HearsWrite, HandsOver, Drops, Turned, Rests, Waits, ReadOpens, ReadServes, ReadSettles, WriteOpens, WriteServes, WriteSettles, Ends}
 use Rattle.strm_chain.proofs.StageLemmas.{left-stage}
 use Rattle.strm_chain.proofs.LinkLemmas.{takes_arrived}
@@ -107,14 +107,11 @@ pub record Arrives (s : ℕ) (w : Worker) (code : ReturnCode) (state : State) (g
   pub none : (stream_at state s).reader.operation ≡ None
   pub few : count_of code ≤ 64
   pub gone : is_dropped code ≡ true → is_gone (stream_at state s).writer.owner ≡ true
+  pub plain : ArePlain (stream_at state s)
 
 pub unblocked : (code : ReturnCode) → EndsRead code → code ≢ codes.Blocked
 unblocked code (WithMore e) f = let wrong : codes.Blocked ≡ codes.Completed (count_of code) = sym f ∙ e in cc
 unblocked code (WithLast e) f = let wrong : codes.Blocked ≡ codes.Dropped (count_of code) = sym f ∙ e in cc
-
-pub plain_none : (o : Option Operation) → o ≡ None → IsPlain o
-plain_none None e = tt
-plain_none (Some o) e = absurd (let wrong = e in cc)
 
 -- a guest whose read is over does not read
 after_unread : (write : Option ℕ) (dropped : Bool) → after_read write dropped ≡ Reading → ⊥
@@ -160,7 +157,7 @@ module _ (p q : Play) (count s g : ℕ) (w w' : Worker) (code : ReturnCode) (e :
         idle = λ n. h.none;
         busy = λ f. absurd (after_unread w.write (is_dropped code) f);
         unclosed = λ f. absurd (after_unread w.write (is_dropped code) f);
-        plain = plain_none (stream_at p.state s).reader.operation h.none;
+        plain = h.plain;
         gone = h.gone;
       } in
       subst (λ u. ReadsFrom s u q.state (got_on q.steps s)) (sym x.is)

@@ -6,6 +6,7 @@ use Rattle.strm_machine.specs.Soundness.{type_of}
 use Rattle.strm_codes.specs.declared.codes.StreamResult.TheVariants.{Completed}
 use Rattle.strm_machine.specs.declared.streams.Operation.{Operation}
 use Rattle.strm_machine.specs.declared.streams.Owner.TheVariants.{Held}
+use Rattle.strm_machine.specs.declared.streams.Stream.{Stream}
 use Rattle.strm_chain.specs.declared.stages.Stage.{Stage}
 use Rattle.strm_chain.specs.declared.stages.Stage.TheVariants.{Copy}
 use Rattle.strm_chain.specs.declared.workers.Worker.{Worker}
@@ -69,10 +70,22 @@ pub record WritesOn (g : ℕ) (w : Worker) (state : State) (received : Items) : 
   pub gone : w.doing ≡ Ended → is_gone (stream_at state g).writer.owner ≡ true
   pub over : w.doing ≡ Ended → (w.closed ≡ true) × (w.sent ≡ length w.made)
 
--- no operation has come out otherwise than with its items
+-- an operation comes out with its items: it is open until it has met, has items left as long as it is open, and
+-- has moved some once it has met
+pub record HasItems (operation : Operation) : Type 0 where
+  pub outcome : operation.outcome ≡ Completed
+  pub unmet : operation.met ≡ false → operation.is_open ≡ true
+  pub left : operation.is_open ≡ true → 1 ≤ operation.left
+  pub moved : operation.met ≡ true → 1 ≤ operation.moved
+
+-- the same, where there is one
 abbrev pub IsPlain : Option Operation → Type 0
 IsPlain None = Unit {0}
-IsPlain (Some operation) = operation.outcome ≡ Completed
+IsPlain (Some operation) = HasItems operation
+
+-- the same of both ends of a stream
+abbrev pub ArePlain : Stream → Type 0
+ArePlain stream = IsPlain stream.writer.operation × IsPlain stream.reader.operation
 
 -- guest s + 1 reads from stream s, which has received this: it has put out what its stage makes of what it
 -- has taken, and where there is nothing more to read, the other end is gone
@@ -85,7 +98,7 @@ pub record ReadsFrom (s : ℕ) (w : Worker) (state : State) (received : Items) :
   pub idle : w.doing ≢ Reading → (stream_at state s).reader.operation ≡ None
   pub busy : w.doing ≡ Reading → IsSome (stream_at state s).reader.operation
   pub unclosed : w.doing ≡ Reading → w.closed ≡ false
-  pub plain : IsPlain (stream_at state s).reader.operation
+  pub plain : ArePlain (stream_at state s)
   pub gone : w.closed ≡ true → is_gone (stream_at state s).writer.owner ≡ true
 
 -- stream s is of bytes, and joins guest s to the next one

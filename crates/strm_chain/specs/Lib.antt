@@ -7,6 +7,7 @@ pub mod Running
 pub mod Flowing
 pub mod Linking
 pub mod Keeping
+pub mod Measuring
 pub mod Turned
 pub mod Making
 pub mod Asking

@@ -32,6 +32,7 @@ pub record Reads (g chunk : ℕ) (w : Worker) (play play' : Play) (code : Return
   pub handle : ℕ
   pub rests : w.doing ≡ Nothing
   pub unclosed : w.closed ≡ false
+  pub some : 1 ≤ chunk
   pub has : w.read ≡ Some handle
   pub adds : Adds play play' (steps.Read g bytes_type handle 0 chunk) (replies.Code code)
 

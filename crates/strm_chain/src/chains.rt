@@ -12,8 +12,8 @@ ghost use Rattle.strm_chain.specs.Reporting.{is_told};
 ghost use Rattle.strm_chain.specs.Turning.{Turns};
 ghost use Rattle.strm_chain.specs.Running.{AreTurns, AreSomeTurns, IsRun};
 ghost use Rattle.strm_chain.specs.Keeping.{worker_at, sink_of, stages_of, input_of, IsGoing, GoesOn};
+ghost use Rattle.strm_chain.specs.Measuring.{to_do, IsStuck, Lowers};
 ghost use Rattle.strm_chain.specs.Turned.{Turned};
-ghost use Rattle.strm_chain.specs.declared.workers.Doing.TheVariants.{Ended};
 
 use crate::lists::Bytes8;
 use crate::making::make_chain;
@@ -189,9 +189,10 @@ impl Chain {
         ensures others { (g : ℕ) → g ≢ who → worker_at self.new.workers g ≡ worker_at self.old.workers g }
         ensures many { length self.new.workers ≡ length self.old.workers }
         ensures error { IfErr result (λ error. error ≡ ChainError.OutOfMemory) }
-        ensures more { OnOk result ((worker_at self.old.workers who).doing ≢ Ended
-            → length self.old.play.steps < length self.new.play.steps) }
-        ensures few { OnOk result (length self.new.play.steps ≤ 4294967295) }
+
+        // A turn that moved leaves less to do. One that was idle leaves all as it was, and its guest stuck.
+        ensures lowers { IfOk result (λ turn. Lowers who turn self.old.play.state self.old.workers
+            self.new.play.state self.new.workers) }
         ensures runs { OnOk result (self.new.failed ≡ false) }
         ensures failed { IsErr result ↔ (self.new.failed ≡ true) }
         ensures again { self.old.failed ≡ true → result ≡ Err ChainError.OutOfMemory }
@@ -227,13 +228,14 @@ impl Chain {
         }
     }
 
-    // A sink that was not told has not ended. It does nothing.
-    fn sink_rests(&self)
+    // As long as the sink was not told, some guest is not stuck. It does nothing.
+    fn somebody_goes(&self)
         ensures { self.now.failed ≡ false →
             is_told (length self.now.workers - 1) self.now.play.steps self.now.play.replies ≡ false →
-            (sink_of self.now.workers).doing ≢ Ended }
+            ((g : ℕ) → g < length self.now.workers →
+            IsStuck g (worker_at self.now.workers g) self.now.play.state) → ⊥ }
     {
-        let _ = &self.workers;
+        self.player.played();
     }
 
     /// What the chain has come to, ended or not. After want of memory it answers that.
@@ -332,13 +334,13 @@ fn turn_in(
 ) -> Result<ChainTurn, OutOfMemory>
     requires chunk { (16 ≤ chunk) × (chunk ≤ 64) }
     requires there { who < length workers.old }
+    requires some { 2 ≤ length workers.old }
     requires going { IsGoing player.old workers.old }
     ensures going { OnOk result (IsGoing player.new workers.new) }
     ensures stages { OnOk result (stages_of workers.new ≡ stages_of workers.old) }
     ensures input { OnOk result (input_of workers.new ≡ input_of workers.old) }
     ensures turns { IfOk result (λ turn. Turns (length workers.old - 1) chunk who turn player.old player.new) }
-    ensures more { OnOk result ((worker_at workers.old who).doing ≢ Ended → length player.old.steps < length player.new.steps) }
-    ensures few { length player.new.steps ≤ 4294967295 }
+    ensures lowers { IfOk result (λ turn. Lowers who turn player.old.state workers.old player.new.state workers.new) }
     ensures others { (g : ℕ) → g ≢ who → worker_at workers.new g ≡ worker_at workers.old g }
     ensures many { length workers.new ≡ length workers.old }
 {
@@ -361,23 +363,22 @@ fn take_turns(chain: &mut Chain, schedule: &[u32]) -> Result<(), ChainError>
     Ok(())
 }
 
-// One round of all guests.
+// One round of all guests, which leaves less to do.
 fn take_round(chain: &mut Chain) -> Result<(), ChainError>
     requires runs { chain.old.failed ≡ false }
-    requires rests { (sink_of chain.old.workers).doing ≢ Ended }
+    requires untold { is_told (length chain.old.workers - 1) chain.old.play.steps chain.old.play.replies ≡ false }
     ensures error { IfErr result (λ error. error ≡ ChainError.OutOfMemory) }
     ensures turns { OnOk result (AreSomeTurns (length chain.old.workers - 1) chain.old.chunk
         chain.old.play chain.new.play) }
     ensures goes_on { OnOk result (GoesOn chain.old chain.new) }
     ensures runs { OnOk result (chain.new.failed ≡ false) }
-    ensures more { OnOk result (length chain.old.play.steps < length chain.new.play.steps) }
-    ensures few { OnOk result (length chain.new.play.steps ≤ 4294967295) }
+    ensures less { OnOk result (to_do chain.new.play.state chain.new.workers
+        < to_do chain.old.play.state chain.old.workers) }
 {
-    let sink = chain.guests() - 1;
-    for who in 0..sink {
+    chain.somebody_goes();
+    for who in 0..chain.guests() {
         chain.turn(who)?;
     }
-    chain.turn(sink)?;
     Ok(())
 }
 
@@ -435,7 +436,6 @@ pub fn chain_all(
 {
     let mut chain = Chain::new(alloc, stages, input, chunk)?;
     while !chain.ended() {
-        chain.sink_rests();
         take_round(&mut chain)?;
     }
     chain.finish()

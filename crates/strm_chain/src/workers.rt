@@ -164,6 +164,7 @@ fn begin_read(
 ) -> Result<ChainTurn, OutOfMemory>
     requires rests { worker.old.doing ≡ doing.Nothing }
     requires unclosed { worker.old.closed ≡ false }
+    requires some { 1 ≤ chunk }
     ensures { IfOk result (λ turn. Turned guest chunk worker.old player.old turn worker.new player.new) }
 {
     let Some(handle) = worker.read else {

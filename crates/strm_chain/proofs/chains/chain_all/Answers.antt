@@ -27,7 +27,7 @@ loop-chain-preserved c =
     }
 
 pub loop-chain-smaller : goal.loop-chain-smaller
-loop-chain-smaller c = omega (arith, c.in_ok-take_round.ensures.more, c.in_ok-take_round.ensures.few)
+loop-chain-smaller c = c.in_ok-take_round.ensures.less
 
 pub returns-clause-runs : goal.returns-clause-runs
 returns-clause-runs c =

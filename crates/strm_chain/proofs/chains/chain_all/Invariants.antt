@@ -2,6 +2,7 @@ use Rattle.std.proofs.Common.{◌≡◌, ◌-◌, length, false}
 use Rattle.std.specs.Prelude.{None}
 use Rattle.strm_chain.specs.Faults.{fault_of}
 use Rattle.strm_chain.specs.Running.{AreSomeTurns}
+use Rattle.strm_chain.specs.Measuring.{to_do}
 use Rattle.strm_chain.specs.Keeping.{ChainState, Begins, GoesOn}
 use Rattle.strm_chain.proofs.chains.chain_all.Given as goal
 
@@ -13,4 +14,4 @@ invariant-loop-chain l = record {
 }
 
 abbrev pub decreases-loop-chain : goal.decreases-loop-chain
-decreases-loop-chain l = 4294967296 - length l.chain.play.steps
+decreases-loop-chain l = to_do l.chain.play.state l.chain.workers

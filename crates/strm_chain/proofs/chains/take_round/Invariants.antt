@@ -1,6 +1,7 @@
-use Rattle.std.proofs.Common.{◌≡◌, ◌-◌, ◌≤◌, length, false}
+use Rattle.std.proofs.Common.{◌≡◌, ◌-◌, length, false}
 use Rattle.strm_chain.specs.Running.{AreSomeTurns}
-use Rattle.strm_chain.specs.Keeping.{GoesOn, sink_of}
+use Rattle.strm_chain.specs.Keeping.{GoesOn}
+use Rattle.strm_chain.proofs.RoundLemmas.{SoFar}
 use Rattle.strm_chain.proofs.chains.take_round.Given as goal
 
 abbrev pub invariant-loop-who : goal.invariant-loop-who
@@ -8,6 +9,5 @@ invariant-loop-who l = record {
   turns : AreSomeTurns (length l.fn.chain.workers - 1) l.fn.chain.chunk l.fn.chain.play l.chain.play;
   goes_on : GoesOn l.fn.chain l.chain;
   runs : l.chain.failed ≡ false;
-  sink : sink_of l.chain.workers ≡ sink_of l.fn.chain.workers;
-  longer : length l.fn.chain.play.steps ≤ length l.chain.play.steps;
+  round : SoFar l.who l.fn.chain.play.state l.fn.chain.workers l.chain.play.state l.chain.workers;
 }

@@ -1,4 +1,4 @@
-use Rattle.strm_chain.proofs.ChainLemmas.{going_ok, stages_ok, input_ok, turns_ok, more_ok}
+use Rattle.strm_chain.proofs.ChainLemmas.{going_ok, stages_ok, input_ok, turns_ok, lowers_ok}
 use Rattle.strm_chain.proofs.chains.turn_in.Goals as goal
 
 pub returns-clause-going : goal.returns-clause-going
@@ -25,8 +25,8 @@ returns-clause-turns c =
     turns_ok c.args.player.now c.turn_at.new.player c.args.workers.now c.turn_at.new.workers c.args.who c.args.chunk c.turn_at.result c.requires.chunk c.requires.there
     (record { many = e.many; others = e.others }) c.requires.going e.turned
 
-pub returns-clause-more : goal.returns-clause-more
-returns-clause-more c =
+pub returns-clause-lowers : goal.returns-clause-lowers
+returns-clause-lowers c =
     let e = c.turn_at.ensures in
-    more_ok c.args.player.now c.turn_at.new.player c.args.workers.now c.turn_at.new.workers c.args.who c.args.chunk c.turn_at.result c.requires.chunk c.requires.there
-    (record { many = e.many; others = e.others }) e.turned
+    lowers_ok c.args.player.now c.turn_at.new.player c.args.workers.now c.turn_at.new.workers c.args.who c.args.chunk c.turn_at.result c.requires.chunk c.requires.there
+    (record { many = e.many; others = e.others }) e.before e.after c.requires.going c.requires.some e.turned
