@@ -9,7 +9,7 @@ use std::collections::BTreeSet;
 use std::io;
 
 /// The most runs that a case is given.
-const MOST_RUNS: usize = 4000;
+const MOST_RUNS: usize = 2000;
 
 /// The smallest case that was found to differ still.
 pub fn shrunk(runner: &Runner, case: &Case) -> io::Result<Case> {
