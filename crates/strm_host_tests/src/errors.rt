@@ -45,7 +45,12 @@ fn errors_of_readers_print(rt: HostRuntime) {
 #[test]
 fn errors_of_values_print(rt: HostRuntime) {
     let alloc = rt.alloc();
-    prints(&rt, alloc, &NotErrorContext, "the value is no error context");
+    prints(
+        &rt,
+        alloc,
+        &NotErrorContext,
+        "the value is no error context",
+    );
     let bad = "the next item is no Unicode scalar value";
     prints(&rt, alloc, &ReadError::BadItem, bad);
     prints(&rt, alloc, &ReadError::OutOfMemory, "out of memory");

@@ -14,8 +14,18 @@ fn prints<T: Display>(rt: &impl Abort, alloc: Global, value: &T, wanted: &str) {
 #[test]
 fn errors_of_a_shared_store_print(rt: HostRuntime) {
     let alloc = rt.alloc();
-    prints(&rt, alloc, &SharedError::HostStep, "the step is of a host end");
-    prints(&rt, alloc, &SharedError::InSet, "the end is in a waitable set");
+    prints(
+        &rt,
+        alloc,
+        &SharedError::HostStep,
+        "the step is of a host end",
+    );
+    prints(
+        &rt,
+        alloc,
+        &SharedError::InSet,
+        "the end is in a waitable set",
+    );
     let waiting = SharedError::Waiting { seat: 5 };
     prints(&rt, alloc, &waiting, "seat 5 waits for the report");
     let worn = SharedError::Worn { ticket: 9 };

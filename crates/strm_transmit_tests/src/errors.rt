@@ -29,7 +29,12 @@ fn errors_of_the_store_print(rt: HostRuntime) {
     let bad = StoreError::BadItem { stream: 12 };
     let text = "an item of stream 12 is no Unicode scalar value";
     prints(&rt, alloc, &bad, text);
-    prints(&rt, alloc, &StoreError::StoreTrapped, "the store is trapped");
+    prints(
+        &rt,
+        alloc,
+        &StoreError::StoreTrapped,
+        "the store is trapped",
+    );
     prints(&rt, alloc, &StoreError::OutOfMemory, "out of memory");
 }
 
@@ -38,10 +43,20 @@ fn errors_of_turns_print(rt: HostRuntime) {
     let alloc = rt.alloc();
     prints(&rt, alloc, &TurnError::Failed, "the host writer failed");
     prints(&rt, alloc, &TurnError::OutOfMemory, "out of memory");
-    prints(&rt, alloc, &TurnError::Broke, "the host writer broke its rules");
+    prints(
+        &rt,
+        alloc,
+        &TurnError::Broke,
+        "the host writer broke its rules",
+    );
     prints(&rt, alloc, &TakeError::Failed, "the host reader failed");
     prints(&rt, alloc, &TakeError::OutOfMemory, "out of memory");
     let bad = "the host reader asked for an item that is no Unicode scalar value";
     prints(&rt, alloc, &TakeError::BadItem, bad);
-    prints(&rt, alloc, &TakeError::Broke, "the host reader broke its rules");
+    prints(
+        &rt,
+        alloc,
+        &TakeError::Broke,
+        "the host reader broke its rules",
+    );
 }
