@@ -115,9 +115,9 @@ fn items_are_taken_in_one_piece(rt: HostRuntime) {
         offer: &mut offer,
         items: PhantomData,
     };
-    is(&rt, source.take(1), Ok(()));
+    is(&rt, source.take_up_to(1), Ok(()));
     is(&rt, source.taken_bytes(), [97, 0, 0, 0].as_slice());
-    is(&rt, source.take(4), Err(ReadError::BadItem));
+    is(&rt, source.take_up_to(4), Err(ReadError::BadItem));
     is(
         &rt,
         source.taken_bytes(),
