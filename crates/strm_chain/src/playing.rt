@@ -2,7 +2,7 @@
 //!
 //! Meaning: `Playing.antt`, and `play` of `Plays.antt` of `strm_machine`. Ours.
 
-ghost use Rattle.std.specs.Prelude.{◌≡◌, ◌∷◌, ◌++◌, ◌-◌, [], true, false, OnOk, OnErr, IfOk, IfSome, length, take};
+ghost use Rattle.std.specs.Prelude.{◌≡◌, ◌≤◌, ◌<◌, ◌∷◌, ◌++◌, ◌-◌, [], true, false, OnOk, OnErr, IfOk, IfSome, length, take};
 ghost use Rattle.strm_machine.specs.Acts.{act_of};
 ghost use Rattle.strm_machine.specs.State.{memory_in, stream_at};
 ghost use Rattle.strm_laws.specs.Laws.{HasBytes};
@@ -144,6 +144,14 @@ fn sound(step: &Step)
     }
 }
 
+// Whether the laws speak of no step more.
+fn is_full(steps: &Steps) -> bool
+    ensures room { result ≡ false → length steps.now < 4294967295 }
+    ensures full { result ≡ true → 4294967295 ≤ length steps.now }
+{
+    steps.as_slice().len() >= MAX_STEPS
+}
+
 // Plays one step, and keeps it and its reply.
 fn play_once(
     alloc: Global,
@@ -160,7 +168,7 @@ fn play_once(
     ensures reacts { IfOk result (λ reply. react store.old step.now ≡ goes reply store.new) }
 {
     sound(step);
-    if steps.as_slice().len() >= MAX_STEPS {
+    if is_full(steps) {
         return Err(OutOfMemory);
     }
     let reply = answer(alloc, store, step)?;
