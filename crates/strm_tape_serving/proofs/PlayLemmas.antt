@@ -54,12 +54,15 @@ status_of_play tape old new status text h (inr s) end plays =
     let stopped = h.stopped s in
     subst (IsStatusOfPlay status) (one_play tape (Err stopped.end) end stopped.replay.plays plays) (stopped.why, stopped.status_is)
 
--- a replay that answers an error was run, or nothing was done
-pub run_or_not : {R : Type 0} (result : Result R TapeError) (error : TapeError) (old new : Tells) (steps : List Step) → result ≡ Err error → ((e : TapeError) → IsErrOf result e → IsReplayError e) → (IsErrOf result OutOfMemory → (new ≡ old) ⊎ WasRun old new steps) → ((reader : Bool) (end at : ℕ) → IsErrOf result (Differs reader end at) → WasRunInMemory old new steps) → (new ≡ old) ⊎ WasRun old new steps
-run_or_not result OutOfMemory old new steps e other wanting adds = wanting e
-run_or_not result (Differs reader end at) old new steps e other wanting adds =
-    let ran = adds reader end at e in
-    inr (ran.0, ran.1)
-run_or_not result NotATape old new steps e other wanting adds = absurd (other NotATape e)
-run_or_not result NotTapable old new steps e other wanting adds = absurd (other NotTapable e)
-run_or_not result (Holding n) old new steps e other wanting adds = absurd (other (Holding n) e)
+module _ {R : Type 0} (result : Result R TapeError) (old new : Tells) (steps : List Step) where
+  -- it was run, or nothing was done
+  abbrev pub RunOrNot : Type 0
+  RunOrNot = (new ≡ old) ⊎ WasRun old new steps
+
+  -- so is each replay that answers an error
+  pub run_or_not : (error : TapeError) → result ≡ Err error → ((e : TapeError) → IsErrOf result e → IsReplayError e) → (IsErrOf result OutOfMemory → RunOrNot) → ((reader : Bool) (end at : ℕ) → IsErrOf result (Differs reader end at) → WasRunInMemory old new steps) → RunOrNot
+  run_or_not OutOfMemory e other wanting adds = wanting e
+  run_or_not (Differs reader end at) e other wanting adds = let ran = adds reader end at e in inr (ran.0, ran.1)
+  run_or_not NotATape e other wanting adds = absurd (other NotATape e)
+  run_or_not NotTapable e other wanting adds = absurd (other NotTapable e)
+  run_or_not (Holding n) e other wanting adds = absurd (other (Holding n) e)

@@ -51,4 +51,4 @@ returns-in-Err-Differs-clause-complete g c = λ played same plays calm.
 
 pub returns-in-Err-clause-wanting : goal.returns-in-Err-clause-wanting
 returns-in-Err-clause-wanting g c = λ _.
-    run_or_not c.replay.result c.in-Err.field-0 _ _ _ c.in-Err.is c.replay.ensures.other c.replay.ensures.wanting c.replay.ensures.adds
+    run_or_not c.replay.result _ _ _ c.in-Err.field-0 c.in-Err.is c.replay.ensures.other c.replay.ensures.wanting c.replay.ensures.adds
