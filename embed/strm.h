@@ -6,15 +6,20 @@
    header is written from its exports by embed/declare.
 
    WHAT THE CALLER OWES. Nothing checks it:
-   - A store is {NULL} before strm_store_new and after strm_store_free, and each other call is of a store
-     between the two. It is not copied, and freed once.
-   - One call at a time is made on a store, from whichever thread, and none from a signal handler.
+   - A store is {NULL} before strm_store_new, and strm_store_free leaves it so. It is not copied. Of {NULL}
+     strm_store_free does nothing, and each other call answers STRM_NO_STORE, or 0 where it answers no status.
+   - One call at a time is made on a store, from whichever thread, and none from a signal handler. Where two
+     threads make calls on it, or read or write its memories, a lock or a join lies between them.
    - Pointers are not NULL, also where a length is 0, and what they point at is nobody else's during the call.
+     A length is PTRDIFF_MAX at most.
    - A guest's memory, by strm_memory_at, is read and written between calls only, never during one. Its block
      is the store's: nobody else frees it or hands it to realloc, whatever the length, as an engine that grows
      its memories would.
    - malloc, realloc and free are one allocator for all of the program.
-   All else is answered: any number may be passed as a guest, a handle, an address, a count or a payload. */
+   All else is answered: any number may be passed as a guest, a handle, an address, a count or a payload.
+
+   WHERE IT RUNS. The archive is ELF for Linux on x86-64, and uses the instructions of the level x86-64-v2
+   (SSE4.1 among them) without a test: a processor without them stops the program. */
 #ifndef STRM_H
 #define STRM_H
 #include <stdbool.h>
@@ -103,7 +108,9 @@ enum {
     /* No payload, or no type, has the word. */
     STRM_UNKNOWN_PAYLOAD = 67,
     /* No stream has the number, or none of which an end is there. */
-    STRM_UNKNOWN_STREAM = 68
+    STRM_UNKNOWN_STREAM = 68,
+    /* The handle is of no store: it is {NULL}. */
+    STRM_NO_STORE = 69
 };
 
 /* A code, of a read, a write, a cancel or an event: STRM_BLOCKED where it waits, STRM_NO_EVENT where there is
@@ -152,17 +159,17 @@ typedef struct {
    context one each. `tag` is a number of the caller's own. STRM_OUT_OF_MEMORY. */
 strm_status strm_store_new(strm_store *store, uint64_t tag, size_t handles, uint32_t places);
 
-/* Gives a store up, with the memories of its guests, and leaves {NULL}. */
+/* Gives a store up, with the memories of its guests, and leaves {NULL}. Of {NULL} it does nothing. */
 void strm_store_free(strm_store *store);
 
-/* The number that the store was made with. */
+/* The number that the store was made with; 0 of {NULL}. */
 uint64_t strm_tag(strm_store *store);
 
 /* Whether an earlier call trapped the store, which then answers STRM_STORE_TRAPPED to all that
-   changes it. */
+   changes it; not so of {NULL}. */
 bool strm_trapped(strm_store *store);
 
-/* How many streams and futures were made so far. */
+/* How many streams and futures were made so far; 0 of {NULL}. */
 uint32_t strm_streams(strm_store *store);
 
 /* Puts at `out` how many items were received on a stream so far. STRM_UNKNOWN_STREAM where it was
@@ -301,14 +308,14 @@ strm_status strm_new_between(
 /* Moves an end of a stream, read or write, to the guest `to`, which may be the same, and puts its
    handle there at `out`. Refused: STRM_UNKNOWN_GUEST, STRM_UNKNOWN_HANDLE, STRM_WRONG_KIND,
    STRM_WRONG_TYPE, STRM_BUSY, STRM_LIFT_DROPPED, STRM_LIFT_IN_SET, STRM_INDEX_OVERFLOW.
-   STRM_OUT_OF_MEMORY, STRM_UNKNOWN_PAYLOAD. */
+   STRM_OUT_OF_MEMORY, where the two guests differ; STRM_UNKNOWN_PAYLOAD. */
 strm_status strm_stream_transfer(
     strm_store *store, uint32_t guest, strm_payload payload, uint32_t handle, uint32_t to, uint32_t *out);
 
 /* Moves an end of a future, read or write, to the guest `to`, which may be the same, and puts its
    handle there at `out`. Refused: STRM_UNKNOWN_GUEST, STRM_UNKNOWN_HANDLE, STRM_WRONG_KIND,
    STRM_WRONG_TYPE, STRM_BUSY, STRM_LIFT_DROPPED, STRM_LIFT_IN_SET, STRM_INDEX_OVERFLOW.
-   STRM_OUT_OF_MEMORY, STRM_UNKNOWN_PAYLOAD. */
+   STRM_OUT_OF_MEMORY, where the two guests differ; STRM_UNKNOWN_PAYLOAD. */
 strm_status strm_future_transfer(
     strm_store *store, uint32_t guest, strm_payload payload, uint32_t handle, uint32_t to, uint32_t *out);
 

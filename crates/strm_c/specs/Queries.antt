@@ -1,5 +1,5 @@
 -- What is asked of a store and changes nothing of it. Ours.
-use Rattle.std.specs.Prelude.{◌≡◌, ℕ, ◌+◌, ◌*◌, Result, Option, Some}
+use Rattle.std.specs.Prelude.{ℕ, ◌+◌, ◌*◌, Result}
 use Rattle.strm_machine.specs.State.{State}
 use Rattle.strm_machine.specs.Refusals.{first_of, context_reasons, bytes_reasons}
 use Rattle.strm_machine.specs.ErrorContexts.{context_number}

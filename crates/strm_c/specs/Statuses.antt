@@ -31,14 +31,18 @@ no_payload = 67
 abbrev pub no_stream : ℕ
 no_stream = 68
 
+-- the handle is of no store
+abbrev pub no_store : ℕ
+no_store = 69
+
 -- an error of the store's; a host end can't fail where none is there
 abbrev pub error_status : StoreError → ℕ
 error_status (Refused refusal) = refusal_number refusal
 error_status (BadItem stream) = 64
 error_status StoreTrapped = 65
 error_status OutOfMemory = no_memory
-error_status (HostFailed end) = 69
-error_status (HostBroke end) = 69
+error_status (HostFailed end) = 70
+error_status (HostBroke end) = 70
 
 -- an answer of the store's
 abbrev pub answer_status : {T : Type 0} → Result T StoreError → ℕ
@@ -68,29 +72,47 @@ answer_word f (Ok value) word = f value
 answer_word f (Err error) word = word
 
 -- the status, the word and the store afterwards are the machine's
-pub record Answers (reaction : Reaction) (status old_word new_word : ℕ) (new : Option State) : Type 0 where
+pub record IsAnswer (reaction : Reaction) (status old_word new_word : ℕ) (new : Option State) : Type 0 where
   pub status_is : status ≡ status_of reaction.reply
   pub word_is : new_word ≡ word_in reaction.reply old_word
   pub state_is : new ≡ Some reaction.state
 
 -- or, where the machine does the step, memory was wanted and nothing has changed
-abbrev pub AnswersOr : State → Reaction → ℕ → ℕ → ℕ → Option State → Type 0
-AnswersOr old reaction status old_word new_word new =
-    (status ≢ no_memory → Answers reaction status old_word new_word new)
+abbrev pub IsAnswerOr : State → Reaction → ℕ → ℕ → ℕ → Option State → Type 0
+IsAnswerOr old reaction status old_word new_word new =
+    (status ≢ no_memory → IsAnswer reaction status old_word new_word new)
     × (status ≡ no_memory → (is_done reaction.reply ≡ true) × (new_word ≡ old_word) × (new ≡ Some old))
 
--- nothing was done, since a word is no payload's or no type's
-pub record IsUnknown (old : State) (status old_word new_word : ℕ) (new : Option State) : Type 0 where
-  pub status_is : status ≡ no_payload
+-- nothing was done, which the status tells
+pub record IsNothing (old : Option State) (why status old_word new_word : ℕ) (new : Option State) : Type 0 where
+  pub status_is : status ≡ why
   pub word_is : new_word ≡ old_word
-  pub state_is : new ≡ Some old
+  pub state_is : new ≡ old
 
--- a call that names a payload or a type by a word: the machine's step of it, if there is one
-abbrev pub AnswersOf : {T : Type 0} → Option T → (T → Reaction) → State → ℕ → ℕ → ℕ → Option State → Type 0
-AnswersOf (Some named) step old status old_word new_word new = Answers (step named) status old_word new_word new
-AnswersOf None step old status old_word new_word new = IsUnknown old status old_word new_word new
+-- a call on a handle: the machine's step of its store, if it is of one
+abbrev pub Answers : Option State → (State → Reaction) → ℕ → ℕ → ℕ → Option State → Type 0
+Answers (Some old) step status old_word new_word new = IsAnswer (step old) status old_word new_word new
+Answers None step status old_word new_word new = IsNothing None no_store status old_word new_word new
 
 -- the same where memory may be wanted
-abbrev pub AnswersOfOr : {T : Type 0} → Option T → (T → Reaction) → State → ℕ → ℕ → ℕ → Option State → Type 0
-AnswersOfOr (Some named) step old status old_word new_word new = AnswersOr old (step named) status old_word new_word new
-AnswersOfOr None step old status old_word new_word new = IsUnknown old status old_word new_word new
+abbrev pub AnswersOr : Option State → (State → Reaction) → ℕ → ℕ → ℕ → Option State → Type 0
+AnswersOr (Some old) step status old_word new_word new = IsAnswerOr old (step old) status old_word new_word new
+AnswersOr None step status old_word new_word new = IsNothing None no_store status old_word new_word new
+
+-- a call that names a payload or a type by a word: the machine's step of it, if the word is one's
+abbrev pub AnswersOf : {T : Type 0} → Option State → Option T → (State → T → Reaction)
+    → ℕ → ℕ → ℕ → Option State → Type 0
+AnswersOf (Some old) (Some named) step status old_word new_word new =
+    IsAnswer (step old named) status old_word new_word new
+AnswersOf (Some old) None step status old_word new_word new =
+    IsNothing (Some old) no_payload status old_word new_word new
+AnswersOf None named step status old_word new_word new = IsNothing None no_store status old_word new_word new
+
+-- the same where memory may be wanted
+abbrev pub AnswersOfOr : {T : Type 0} → Option State → Option T → (State → T → Reaction)
+    → ℕ → ℕ → ℕ → Option State → Type 0
+AnswersOfOr (Some old) (Some named) step status old_word new_word new =
+    IsAnswerOr old (step old named) status old_word new_word new
+AnswersOfOr (Some old) None step status old_word new_word new =
+    IsNothing (Some old) no_payload status old_word new_word new
+AnswersOfOr None named step status old_word new_word new = IsNothing None no_store status old_word new_word new

@@ -1,6 +1,6 @@
 //! What C holds of a store.
 
-ghost use Rattle.std.specs.Prelude.{◌≡◌, Option, Some, None, IsSome};
+ghost use Rattle.std.specs.Prelude.{◌≡◌, true, false, Option, Some, None, IsSome, IfSome};
 ghost use Rattle.strm_machine.specs.State.{State};
 ghost use Rattle.std.specs.Coded.{codes};
 ghost use Rattle.strm_contexts.specs.Contexts.{contexts_code};
@@ -63,6 +63,15 @@ impl StoreHandle {
         }
     }
 
+    // Whether it is of no store.
+    #[inline(always)]
+    fn is_none(&mut self) -> bool
+        ensures { (result ≡ true → self.old.state ≡ None) × (result ≡ false → IsSome self.old.state)
+            × (self.new ≡ self.old) }
+    {
+        self.at.is_null()
+    }
+
     /// A handle of a store.
     pub(crate) fn of(store: Box<GuestStore>) -> StoreHandle
         ensures { result.state ≡ Some store.value }
@@ -78,13 +87,17 @@ impl StoreHandle {
         self.raise().into_box()
     }
 
-    /// Takes the store out, and leaves none.
-    pub(crate) fn take(&mut self, alloc: Global) -> Box<GuestStore>
-        requires { IsSome self.old.state }
-        ensures taken { self.old.state ≡ Some result.value }
+    /// Takes the store out, if it is of one, and leaves none.
+    pub(crate) fn take(&mut self, alloc: Global) -> Option<Box<GuestStore>>
+        ensures taken { IfSome result (λ taken. self.old.state ≡ Some taken.value) }
+        ensures none { result ≡ None → self.old.state ≡ None }
         ensures empty { self.new.state ≡ None }
+        ensures nothing { self.old.state ≡ None → self.new ≡ self.old }
     {
-        mem::replace(self, StoreHandle::none(alloc)).into_box()
+        if self.is_none() {
+            return None;
+        }
+        Some(mem::replace(self, StoreHandle::none(alloc)).into_box())
     }
 }
 

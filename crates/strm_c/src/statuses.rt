@@ -28,11 +28,14 @@ pub const UNKNOWN_PAYLOAD: Status = 67;
 /// No stream has the number, or none of which an end is there.
 pub const UNKNOWN_STREAM: Status = 68;
 
+/// The handle is of no store: it is {NULL}.
+pub const NO_STORE: Status = 69;
+
 /// The word of no event, which no code has.
 pub const NO_EVENT: u32 = 3;
 
 // A host end failed or broke its rules. It can't: there is none.
-const HOST_END: Status = 69;
+const HOST_END: Status = 70;
 
 /// The status of an error.
 pub fn error_status(error: StoreError) -> Status

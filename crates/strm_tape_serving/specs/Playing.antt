@@ -50,6 +50,11 @@ pub record IsOfTape (tape : TapeOf) (old new : Tells) (status : ℕ) (text : Lis
   pub stopped : IsStop status → IsStoppedPlay tape old new status text
   pub differs : status ≡ 10 → IsOtherRun tape old new × (text ≡ differs_text)
 
+-- the status of a play that came out so
+abbrev pub IsStatusOfPlay : ℕ → Result Transcript RunStop → Type 0
+IsStatusOfPlay status (Ok t) = status ≡ 0
+IsStatusOfPlay status (Err s) = (why : Stop) × IsStatusOf status s.cause why
+
 -- the statuses of playing
 abbrev pub IsPlayStatus : ℕ → Type 0
 IsPlayStatus status = (status ≡ 0) ⊎ ((5 ≤ status) × (status ≤ 10))

@@ -2,17 +2,19 @@
 //!
 //! Meaning: `Playing.antt`; what it is to play a tape, `Playing.antt` of `strm_tape_runs`. Ours.
 
-ghost use Rattle.std.specs.Prelude.{◌≡◌, ◌≢◌, ◌⊎◌, ℕ, List, IfOk, Ok};
+ghost use Rattle.std.specs.Prelude.{◌≡◌, ◌≢◌, ◌⊎◌, ℕ, List, Result, IfOk, Ok};
 ghost use Rattle.std.specs.Io.KnownBytes.{Appends};
 ghost use Rattle.strm_buffers.specs.AllTells.{tells_of};
 ghost use Rattle.strm_buffers.specs.Tells.{Tells};
 ghost use Rattle.strm_ports.specs.Faults.{Rose, TakesPart};
 ghost use Rattle.strm_session.specs.Records.{HostsGoOn};
 ghost use Rattle.strm_session.specs.Serving.{IsStop};
+ghost use Rattle.strm_session.specs.declared.runs.RunStop.{RunStop};
+ghost use Rattle.strm_session.specs.declared.runs.Transcript.{Transcript};
 ghost use Rattle.strm_tape.specs.Spelling.{TapeOf};
 ghost use Rattle.strm_tape_runs.specs.Taking.{tape_of_run};
-ghost use Rattle.strm_tape_runs.specs.Playing.{AreEndsOf};
-ghost use Rattle.strm_tape_serving.specs.Playing.{IsReplay, IsOfTape, IsPlayStatus};
+ghost use Rattle.strm_tape_runs.specs.Playing.{AreEndsOf, WasRun, IsPlayOf};
+ghost use Rattle.strm_tape_serving.specs.Playing.{IsReplay, IsOfTape, IsPlayStatus, IsStatusOfPlay};
 
 use crate::statuses::{DIFFERS, DONE, OUT_OF_MEMORY};
 use crate::texts::differs_text;
@@ -55,6 +57,21 @@ pub fn tape_play<K: Sink>(alloc: Global, tape: &Tape, hosts: &mut Hosts, sink: &
     ensures nothing { result ≡ 9 → sink.new ≡ sink.old }
     ensures goes_on { HostsGoOn (tells_of writer_tells reader_tells hosts.old)
         (tells_of writer_tells reader_tells hosts.new) }
+
+    // Which comes, but for faults of the sink and want of memory: where the host ends recorded what the tape
+    // says, the status of the machine's play of it; else that they did not. Without memory the steps were run,
+    // or nothing was done.
+    ensures complete { (end : Result Transcript RunStop) →
+        tape_of_run tape.now.steps (tells_of writer_tells reader_tells hosts.old)
+        (tells_of writer_tells reader_tells hosts.new) ≡ tape.now → IsPlayOf tape.now end →
+        ¬ Rose (K.faults sink.old) (K.faults sink.new) → IsStatusOfPlay result end ⊎ (result ≡ 9) }
+    ensures differs { tape_of_run tape.now.steps (tells_of writer_tells reader_tells hosts.old)
+        (tells_of writer_tells reader_tells hosts.new) ≢ tape.now →
+        ¬ Rose (K.faults sink.old) (K.faults sink.new) → (result ≡ 10) ⊎ (result ≡ 9) }
+    ensures wanting { result ≡ 9 →
+        (tells_of writer_tells reader_tells hosts.new ≡ tells_of writer_tells reader_tells hosts.old)
+        ⊎ WasRun (tells_of writer_tells reader_tells hosts.old)
+        (tells_of writer_tells reader_tells hosts.new) tape.now.steps }
 {
     match replay(alloc, tape, hosts) {
         Ok(end) => match output_of(alloc, end) {

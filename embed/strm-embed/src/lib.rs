@@ -25,7 +25,8 @@
 //! ```
 //!
 //! What is proved is the archive that this crate links; the crate itself is plain Rust over it, with one
-//! `unsafe` block a call, and no dependency.
+//! `unsafe` block a call, and no dependency. The archive is for Linux on x86-64, and needs a processor of the
+//! level x86-64-v2.
 
 mod answers;
 mod payload;

@@ -191,6 +191,9 @@ pub const UNKNOWN_PAYLOAD: u32 = 67;
 /// No stream has the number, or none of which an end is there.
 pub const UNKNOWN_STREAM: u32 = 68;
 
+/// The handle is of no store: it is {NULL}.
+pub const NO_STORE: u32 = 69;
+
 #[rustfmt::skip]
 unsafe extern "C" {
     pub fn strm_store_new(store: *mut StoreHandle, tag: u64, handles: usize, places: u32) -> u32;

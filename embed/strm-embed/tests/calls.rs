@@ -144,6 +144,10 @@ fn a_guest_without_bytes_has_none() {
     let guest = store.add_guest(0).unwrap();
     assert_eq!(store.memory(guest).unwrap(), []);
     assert_eq!(store.memory_mut(guest).unwrap(), []);
+    let nowhere = std::ptr::NonNull::dangling().as_ptr();
+    assert_eq!(store.memory_at(guest), Ok((nowhere, 0)));
+    assert_eq!(store.memory_write(guest, 0, &[]), Ok(()));
+    assert_eq!(store.memory_read(guest, 0, &mut []), Ok(()));
 }
 
 #[test]

@@ -2,15 +2,14 @@
 //!
 //! Source: Canonical ABI, `canon error-context.new` and the others.
 
-ghost use Rattle.std.specs.Prelude.{◌≡◌, Some};
-ghost use Rattle.strm_machine.specs.State.{State};
+ghost use Rattle.std.specs.Prelude.{◌≡◌, None, IfSome};
 ghost use Rattle.strm_machine.specs.Reactions.{react, lowers_context};
 ghost use Rattle.strm_machine.specs.declared.steps.Step.TheVariants as steps;
 ghost use Rattle.strm_c.specs.Queries.{context_answer};
-ghost use Rattle.strm_c.specs.Statuses.{Answers, AnswersOr, answer_status, answer_word};
+ghost use Rattle.strm_c.specs.Statuses.{Answers, AnswersOr, no_store, answer_status, answer_word};
 
 use crate::handles::StoreHandle;
-use crate::statuses::{Status, done, number};
+use crate::statuses::{NO_STORE, Status, done, number};
 
 /// Makes an error context of `len` bytes from `address` of the guest's memory on, its message, and puts its
 /// handle at `out`. `canon error-context.new`. Refused: UnknownGuest, MessageTooLong, OutOfBounds, BadText,
@@ -23,15 +22,13 @@ pub extern "C" fn strm_error_context_new(
     len: u32,
     out: &mut u32,
 ) -> Status
-    ghost s: { State }
-    requires { store.old.state ≡ Some s }
-    ensures answers { AnswersOr s (react s (steps.ErrNew guest address len))
+    ensures answers { AnswersOr store.old.state (λ s. react s (steps.ErrNew guest address len))
         result out.old out.new store.new.state }
 {
-    number(
-        store.store_mut().error_context_new(guest, address, len),
-        out,
-    )
+    let Some(store) = store.get_mut() else {
+        return NO_STORE;
+    };
+    number(store.error_context_new(guest, address, len), out)
 }
 
 /// Puts the message of an error context at `address` of the guest's memory, and its bytes' number at `out`.
@@ -44,17 +41,13 @@ pub extern "C" fn strm_error_context_message(
     address: u32,
     out: &mut u32,
 ) -> Status
-    ghost s: { State }
-    requires { store.old.state ≡ Some s }
-    ensures answers { Answers (react s (steps.ErrText guest handle address))
+    ensures answers { Answers store.old.state (λ s. react s (steps.ErrText guest handle address))
         result out.old out.new store.new.state }
 {
-    number(
-        store
-            .store_mut()
-            .error_context_message(guest, handle, address),
-        out,
-    )
+    let Some(store) = store.get_mut() else {
+        return NO_STORE;
+    };
+    number(store.error_context_message(guest, handle, address), out)
 }
 
 /// Gives the guest `to` a handle to an error context, and puts it at `out`; the first guest keeps its own.
@@ -67,15 +60,13 @@ pub extern "C" fn strm_error_context_transfer(
     to: u32,
     out: &mut u32,
 ) -> Status
-    ghost s: { State }
-    requires { store.old.state ≡ Some s }
-    ensures answers { AnswersOr s (react s (steps.ErrMove guest handle to))
+    ensures answers { AnswersOr store.old.state (λ s. react s (steps.ErrMove guest handle to))
         result out.old out.new store.new.state }
 {
-    number(
-        store.store_mut().error_context_transfer(guest, handle, to),
-        out,
-    )
+    let Some(store) = store.get_mut() else {
+        return NO_STORE;
+    };
+    number(store.error_context_transfer(guest, handle, to), out)
 }
 
 /// Puts the number of the error context of a handle at `out`, by which strm_error_context_lower names it.
@@ -87,13 +78,17 @@ pub extern "C" fn strm_error_context_rep(
     handle: u32,
     out: &mut u32,
 ) -> Status
-    ghost s: { State }
-    requires { store.old.state ≡ Some s }
-    ensures status { result ≡ answer_status (context_answer s guest handle) }
-    ensures number { out.new ≡ answer_word (λ number. number) (context_answer s guest handle) out.old }
-    ensures same { store.new.state ≡ Some s }
+    ensures status { IfSome store.old.state (λ s.
+        result ≡ answer_status (context_answer s guest handle)) }
+    ensures number { IfSome store.old.state (λ s.
+        out.new ≡ answer_word (λ number. number) (context_answer s guest handle) out.old) }
+    ensures none { store.old.state ≡ None → (result ≡ no_store) × (out.new ≡ out.old) }
+    ensures same { store.new.state ≡ store.old.state }
 {
-    number(store.store_mut().error_context_rep(guest, handle), out)
+    let Some(store) = store.get_mut() else {
+        return NO_STORE;
+    };
+    number(store.error_context_rep(guest, handle), out)
 }
 
 /// Gives a guest a handle to the error context of a number, and puts it at `out`. Refused: UnknownGuest,
@@ -105,12 +100,13 @@ pub extern "C" fn strm_error_context_lower(
     guest: u32,
     out: &mut u32,
 ) -> Status
-    ghost s: { State }
-    requires { store.old.state ≡ Some s }
-    ensures answers { AnswersOr s (lowers_context s rep guest)
+    ensures answers { AnswersOr store.old.state (λ s. lowers_context s rep guest)
         result out.old out.new store.new.state }
 {
-    number(store.store_mut().error_context_lower(rep, guest), out)
+    let Some(store) = store.get_mut() else {
+        return NO_STORE;
+    };
+    number(store.error_context_lower(rep, guest), out)
 }
 
 /// Gives up a handle of an error context, and the context with the last. `canon error-context.drop`.
@@ -121,10 +117,11 @@ pub extern "C" fn strm_error_context_drop(
     guest: u32,
     handle: u32,
 ) -> Status
-    ghost s: { State }
-    requires { store.old.state ≡ Some s }
-    ensures answers { Answers (react s (steps.ErrDrop guest handle))
+    ensures answers { Answers store.old.state (λ s. react s (steps.ErrDrop guest handle))
         result 0 0 store.new.state }
 {
-    done(store.store_mut().error_context_drop(guest, handle))
+    let Some(store) = store.get_mut() else {
+        return NO_STORE;
+    };
+    done(store.error_context_drop(guest, handle))
 }

@@ -2,9 +2,8 @@
 //!
 //! Source: Canonical ABI, `canon future.new` and the others.
 
-ghost use Rattle.std.specs.Prelude.{◌≡◌, ◌≢◌, Some, IfSome};
+ghost use Rattle.std.specs.Prelude.{◌≡◌, ◌≢◌, IfSome};
 ghost use Rattle.strm_codes.specs.declared.codes.TransmitIndex.TheVariants as index;
-ghost use Rattle.strm_machine.specs.State.{State};
 ghost use Rattle.strm_machine.specs.Reactions.{react};
 ghost use Rattle.strm_machine.specs.declared.steps.Step.TheVariants as steps;
 ghost use Rattle.strm_c.specs.Pairs.{pair_in};
@@ -14,7 +13,7 @@ ghost use Rattle.strm_c.specs.Statuses.{AnswersOf, AnswersOfOr};
 use crate::exports::pairs::{StrmPair, pair};
 use crate::handles::StoreHandle;
 use crate::payloads::payload_at;
-use crate::statuses::{Status, UNKNOWN_PAYLOAD, code, done};
+use crate::statuses::{NO_STORE, Status, UNKNOWN_PAYLOAD, code, done};
 
 /// Makes a future whose two ends the guest gets, and puts their handles and the future's number at `out`.
 /// `canon future.new`. Refused: UnknownGuest, IndexOverflow, HandleLimit, Full. OUT_OF_MEMORY,
@@ -26,19 +25,20 @@ pub extern "C" fn strm_future_new(
     payload: u64,
     out: &mut StrmPair,
 ) -> Status
-    ghost s: { State }
-    requires { store.old.state ≡ Some s }
-    ensures answers { AnswersOfOr (payload_at payload)
-        (λ payload. react s (steps.New guest (index.Future payload)))
-        s result 0 0 store.new.state }
-    ensures pair { IfSome (payload_at payload) (λ payload. result ≡ 0 →
-        out.new ≡ pair_in (react s (steps.New guest (index.Future payload))).reply out.old) }
+    ensures answers { AnswersOfOr store.old.state (payload_at payload)
+        (λ s payload. react s (steps.New guest (index.Future payload)))
+        result 0 0 store.new.state }
+    ensures pair { IfSome store.old.state (λ s. IfSome (payload_at payload) (λ payload. result ≡ 0 →
+        out.new ≡ pair_in (react s (steps.New guest (index.Future payload))).reply out.old)) }
     ensures kept { result ≢ 0 → out.new ≡ out.old }
 {
+    let Some(store) = store.get_mut() else {
+        return NO_STORE;
+    };
     let Some(payload) = payload_at(payload) else {
         return UNKNOWN_PAYLOAD;
     };
-    pair(store.store_mut().future_new(guest, payload), out)
+    pair(store.future_new(guest, payload), out)
 }
 
 /// Writes the value that lies at `address` of the guest's memory, and puts the code at `out`.
@@ -53,21 +53,17 @@ pub extern "C" fn strm_future_write(
     address: u32,
     out: &mut u32,
 ) -> Status
-    ghost s: { State }
-    requires { store.old.state ≡ Some s }
-    ensures answers { AnswersOf (payload_at payload)
-        (λ payload. react s (steps.Write guest (index.Future payload) handle address 1))
-        s result out.old out.new store.new.state }
+    ensures answers { AnswersOf store.old.state (payload_at payload)
+        (λ s payload. react s (steps.Write guest (index.Future payload) handle address 1))
+        result out.old out.new store.new.state }
 {
+    let Some(store) = store.get_mut() else {
+        return NO_STORE;
+    };
     let Some(payload) = payload_at(payload) else {
         return UNKNOWN_PAYLOAD;
     };
-    code(
-        store
-            .store_mut()
-            .future_write(guest, payload, handle, address),
-        out,
-    )
+    code(store.future_write(guest, payload, handle, address), out)
 }
 
 /// Reads the value to `address` of the guest's memory, and puts the code at `out`. `canon future.read`.
@@ -82,21 +78,17 @@ pub extern "C" fn strm_future_read(
     address: u32,
     out: &mut u32,
 ) -> Status
-    ghost s: { State }
-    requires { store.old.state ≡ Some s }
-    ensures answers { AnswersOf (payload_at payload)
-        (λ payload. react s (steps.Read guest (index.Future payload) handle address 1))
-        s result out.old out.new store.new.state }
+    ensures answers { AnswersOf store.old.state (payload_at payload)
+        (λ s payload. react s (steps.Read guest (index.Future payload) handle address 1))
+        result out.old out.new store.new.state }
 {
+    let Some(store) = store.get_mut() else {
+        return NO_STORE;
+    };
     let Some(payload) = payload_at(payload) else {
         return UNKNOWN_PAYLOAD;
     };
-    code(
-        store
-            .store_mut()
-            .future_read(guest, payload, handle, address),
-        out,
-    )
+    code(store.future_read(guest, payload, handle, address), out)
 }
 
 /// Cancels the write that waits, and puts the code at `out`. `canon future.cancel-write`. Refused: UnknownGuest,
@@ -109,21 +101,17 @@ pub extern "C" fn strm_future_cancel_write(
     handle: u32,
     out: &mut u32,
 ) -> Status
-    ghost s: { State }
-    requires { store.old.state ≡ Some s }
-    ensures answers { AnswersOf (payload_at payload)
-        (λ payload. react s (steps.CancelWrite guest (index.Future payload) handle))
-        s result out.old out.new store.new.state }
+    ensures answers { AnswersOf store.old.state (payload_at payload)
+        (λ s payload. react s (steps.CancelWrite guest (index.Future payload) handle))
+        result out.old out.new store.new.state }
 {
+    let Some(store) = store.get_mut() else {
+        return NO_STORE;
+    };
     let Some(payload) = payload_at(payload) else {
         return UNKNOWN_PAYLOAD;
     };
-    code(
-        store
-            .store_mut()
-            .future_cancel_write(guest, payload, handle),
-        out,
-    )
+    code(store.future_cancel_write(guest, payload, handle), out)
 }
 
 /// Cancels the read that waits, and puts the code at `out`. `canon future.cancel-read`. Refused: UnknownGuest,
@@ -136,19 +124,17 @@ pub extern "C" fn strm_future_cancel_read(
     handle: u32,
     out: &mut u32,
 ) -> Status
-    ghost s: { State }
-    requires { store.old.state ≡ Some s }
-    ensures answers { AnswersOf (payload_at payload)
-        (λ payload. react s (steps.CancelRead guest (index.Future payload) handle))
-        s result out.old out.new store.new.state }
+    ensures answers { AnswersOf store.old.state (payload_at payload)
+        (λ s payload. react s (steps.CancelRead guest (index.Future payload) handle))
+        result out.old out.new store.new.state }
 {
+    let Some(store) = store.get_mut() else {
+        return NO_STORE;
+    };
     let Some(payload) = payload_at(payload) else {
         return UNKNOWN_PAYLOAD;
     };
-    code(
-        store.store_mut().future_cancel_read(guest, payload, handle),
-        out,
-    )
+    code(store.future_cancel_read(guest, payload, handle), out)
 }
 
 /// Drops the write end. `canon future.drop-writable`. Refused: UnknownGuest, UnknownHandle, WrongKind,
@@ -160,20 +146,17 @@ pub extern "C" fn strm_future_drop_writable(
     payload: u64,
     handle: u32,
 ) -> Status
-    ghost s: { State }
-    requires { store.old.state ≡ Some s }
-    ensures answers { AnswersOf (payload_at payload)
-        (λ payload. react s (steps.DropWrite guest (index.Future payload) handle))
-        s result 0 0 store.new.state }
+    ensures answers { AnswersOf store.old.state (payload_at payload)
+        (λ s payload. react s (steps.DropWrite guest (index.Future payload) handle))
+        result 0 0 store.new.state }
 {
+    let Some(store) = store.get_mut() else {
+        return NO_STORE;
+    };
     let Some(payload) = payload_at(payload) else {
         return UNKNOWN_PAYLOAD;
     };
-    done(
-        store
-            .store_mut()
-            .future_drop_writable(guest, payload, handle),
-    )
+    done(store.future_drop_writable(guest, payload, handle))
 }
 
 /// Drops the read end. `canon future.drop-readable`. Refused: UnknownGuest, UnknownHandle, WrongKind,
@@ -185,18 +168,15 @@ pub extern "C" fn strm_future_drop_readable(
     payload: u64,
     handle: u32,
 ) -> Status
-    ghost s: { State }
-    requires { store.old.state ≡ Some s }
-    ensures answers { AnswersOf (payload_at payload)
-        (λ payload. react s (steps.DropRead guest (index.Future payload) handle))
-        s result 0 0 store.new.state }
+    ensures answers { AnswersOf store.old.state (payload_at payload)
+        (λ s payload. react s (steps.DropRead guest (index.Future payload) handle))
+        result 0 0 store.new.state }
 {
+    let Some(store) = store.get_mut() else {
+        return NO_STORE;
+    };
     let Some(payload) = payload_at(payload) else {
         return UNKNOWN_PAYLOAD;
     };
-    done(
-        store
-            .store_mut()
-            .future_drop_readable(guest, payload, handle),
-    )
+    done(store.future_drop_readable(guest, payload, handle))
 }

@@ -2,16 +2,16 @@
 //!
 //! Ours.
 
-ghost use Rattle.std.specs.Prelude.{◌≡◌, ◌≢◌, ◌<◌, ◌↔◌, ◌≤◌, Some, IsSome, IfSome, length, take, drop};
-ghost use Rattle.strm_machine.specs.State.{State, memory_in};
+ghost use Rattle.std.specs.Prelude.{◌≡◌, ◌≢◌, ◌<◌, ◌↔◌, ◌≤◌, Some, None, IsSome, IfSome, length, take, drop};
+ghost use Rattle.strm_machine.specs.State.{memory_in};
 ghost use Rattle.strm_machine.specs.Bases.{base_in, with_base_in};
 ghost use Rattle.strm_machine.specs.Reactions.{react};
 ghost use Rattle.strm_machine.specs.declared.steps.Step.TheVariants as steps;
 ghost use Rattle.strm_c.specs.Queries.{bytes_answer};
-ghost use Rattle.strm_c.specs.Statuses.{Answers, AnswersOr, found_status};
+ghost use Rattle.strm_c.specs.Statuses.{Answers, AnswersOr, no_store, found_status};
 
 use crate::handles::StoreHandle;
-use crate::statuses::{Status, done, found, number};
+use crate::statuses::{NO_STORE, Status, done, found, number};
 use strm_codes::refusals::Refusal;
 use strm_embed::guest_store::GuestStore;
 
@@ -19,12 +19,13 @@ use strm_embed::guest_store::GuestStore;
 /// MemoryTooBig (268,435,456 bytes of all guests together), Full (1,048,576 guests). OUT_OF_MEMORY.
 #[unsafe(no_mangle)]
 pub extern "C" fn strm_add_guest(store: &mut StoreHandle, size: u32, out: &mut u32) -> Status
-    ghost s: { State }
-    requires { store.old.state ≡ Some s }
-    ensures answers { AnswersOr s (react s (steps.Guest size))
+    ensures answers { AnswersOr store.old.state (λ s. react s (steps.Guest size))
         result out.old out.new store.new.state }
 {
-    number(store.store_mut().add_guest(size), out)
+    let Some(store) = store.get_mut() else {
+        return NO_STORE;
+    };
+    number(store.add_guest(size), out)
 }
 
 /// Copies `len` bytes into a guest's memory, from `address` on. Refused: UnknownGuest, OutOfBounds.
@@ -35,12 +36,13 @@ pub extern "C" fn strm_memory_write(
     address: u32,
     bytes: &[u8],
 ) -> Status
-    ghost s: { State }
-    requires { store.old.state ≡ Some s }
-    ensures answers { Answers (react s (steps.Poke guest address bytes.now))
+    ensures answers { Answers store.old.state (λ s. react s (steps.Poke guest address bytes.now))
         result 0 0 store.new.state }
 {
-    done(store.store_mut().write_memory(guest, address, bytes))
+    let Some(store) = store.get_mut() else {
+        return NO_STORE;
+    };
+    done(store.write_memory(guest, address, bytes))
 }
 
 /// Copies `len` bytes of a guest's memory out, from `address` on; also of a store that was trapped. Refused:
@@ -52,15 +54,18 @@ pub extern "C" fn strm_memory_read(
     address: u32,
     out: &mut [u8],
 ) -> Status
-    ghost s: { State }
-    requires { store.old.state ≡ Some s }
-    ensures status { result ≡ found_status (bytes_answer s guest address (length out.old)) }
-    ensures bytes { result ≡ 0 → out.new
-        ≡ take (length out.old) (drop address (memory_in s.guests guest)) }
+    ensures status { IfSome store.old.state (λ s.
+        result ≡ found_status (bytes_answer s guest address (length out.old))) }
+    ensures bytes { IfSome store.old.state (λ s. result ≡ 0 → out.new
+        ≡ take (length out.old) (drop address (memory_in s.guests guest))) }
+    ensures none { store.old.state ≡ None → result ≡ no_store }
     ensures kept { result ≢ 0 → out.new ≡ out.old }
-    ensures same { store.new.state ≡ Some s }
+    ensures same { store.new.state ≡ store.old.state }
 {
-    let status = found(store.store_mut().read_memory(guest, address, out));
+    let Some(store) = store.get_mut() else {
+        return NO_STORE;
+    };
+    let status = found(store.read_memory(guest, address, out));
     status
 }
 
@@ -105,15 +110,20 @@ pub extern "C" fn strm_memory_at(
     out: &mut *const u8,
     len: &mut usize,
 ) -> Status
-    ghost s: { State }
-    requires { store.old.state ≡ Some s }
-    ensures there { result ≡ 0 ↔ (guest < length s.guests) }
-    ensures unknown { result ≡ 1 ↔ (length s.guests ≤ guest) }
-    ensures told { result ≡ 0 → store.new.state ≡ Some (with_base_in s guest out.new) }
-    ensures again { result ≡ 0 → IfSome (base_in s.guests guest) (λ base. out.new ≡ base) }
-    ensures size { result ≡ 0 → len.new ≡ length (memory_in s.guests guest) }
+    ensures there { IfSome store.old.state (λ s. result ≡ 0 ↔ (guest < length s.guests)) }
+    ensures unknown { IfSome store.old.state (λ s. result ≡ 1 ↔ (length s.guests ≤ guest)) }
+    ensures none { store.old.state ≡ None → result ≡ no_store }
+    ensures told { IfSome store.old.state (λ s. result ≡ 0 →
+        store.new.state ≡ Some (with_base_in s guest out.new)) }
+    ensures again { IfSome store.old.state (λ s. result ≡ 0 →
+        IfSome (base_in s.guests guest) (λ base. out.new ≡ base)) }
+    ensures size { IfSome store.old.state (λ s. result ≡ 0 →
+        len.new ≡ length (memory_in s.guests guest)) }
     ensures kept { result ≢ 0 → (out.new ≡ out.old) × (len.new ≡ len.old) }
-    ensures same { result ≢ 0 → store.new.state ≡ Some s }
+    ensures same { result ≢ 0 → store.new.state ≡ store.old.state }
 {
-    tell(store.store_mut(), guest, out, len)
+    let Some(store) = store.get_mut() else {
+        return NO_STORE;
+    };
+    tell(store, guest, out, len)
 }

@@ -2,19 +2,18 @@
 //!
 //! Source: Canonical ABI, `lift_stream` and `lower_stream`.
 
-ghost use Rattle.std.specs.Prelude.{◌≡◌, ◌≢◌, Some, IfSome};
+ghost use Rattle.std.specs.Prelude.{◌≡◌, ◌≢◌, IfSome};
 ghost use Rattle.strm_codes.specs.declared.codes.TransmitIndex.TheVariants as index;
-ghost use Rattle.strm_machine.specs.State.{State};
 ghost use Rattle.strm_machine.specs.Reactions.{react};
 ghost use Rattle.strm_machine.specs.declared.steps.Step.TheVariants as steps;
 ghost use Rattle.strm_c.specs.Pairs.{pair_in};
 ghost use Rattle.strm_c.specs.Payloads.{payload_at, type_at};
-ghost use Rattle.strm_c.specs.Statuses.{Answers, AnswersOf, AnswersOfOr};
+ghost use Rattle.strm_c.specs.Statuses.{Answers, AnswersOf, AnswersOfOr, no_memory};
 
 use crate::exports::pairs::{StrmPair, pair};
 use crate::handles::StoreHandle;
 use crate::payloads::{payload_at, type_at};
-use crate::statuses::{Status, UNKNOWN_PAYLOAD, done, number};
+use crate::statuses::{NO_STORE, Status, UNKNOWN_PAYLOAD, done, number};
 
 /// Makes a stream or future from one guest to another, which may be the same, and puts the handles of its
 /// ends and its number at `out`. Refused: UnknownGuest, IndexOverflow, HandleLimit, Full. OUT_OF_MEMORY,
@@ -27,24 +26,25 @@ pub extern "C" fn strm_new_between(
     ty: u64,
     out: &mut StrmPair,
 ) -> Status
-    ghost s: { State }
-    requires { store.old.state ≡ Some s }
-    ensures answers { AnswersOfOr (type_at ty)
-        (λ ty. react s (steps.Between writer reader ty))
-        s result 0 0 store.new.state }
-    ensures pair { IfSome (type_at ty) (λ ty. result ≡ 0 →
-        out.new ≡ pair_in (react s (steps.Between writer reader ty)).reply out.old) }
+    ensures answers { AnswersOfOr store.old.state (type_at ty)
+        (λ s ty. react s (steps.Between writer reader ty))
+        result 0 0 store.new.state }
+    ensures pair { IfSome store.old.state (λ s. IfSome (type_at ty) (λ ty. result ≡ 0 →
+        out.new ≡ pair_in (react s (steps.Between writer reader ty)).reply out.old)) }
     ensures kept { result ≢ 0 → out.new ≡ out.old }
 {
+    let Some(store) = store.get_mut() else {
+        return NO_STORE;
+    };
     let Some(ty) = type_at(ty) else {
         return UNKNOWN_PAYLOAD;
     };
-    pair(store.store_mut().new_between(writer, reader, ty), out)
+    pair(store.new_between(writer, reader, ty), out)
 }
 
 /// Moves an end of a stream, read or write, to the guest `to`, which may be the same, and puts its handle there
 /// at `out`. Refused: UnknownGuest, UnknownHandle, WrongKind, WrongType, Busy, LiftDropped, LiftInSet,
-/// IndexOverflow. OUT_OF_MEMORY, UNKNOWN_PAYLOAD.
+/// IndexOverflow. OUT_OF_MEMORY, where the two guests differ; UNKNOWN_PAYLOAD.
 #[unsafe(no_mangle)]
 pub extern "C" fn strm_stream_transfer(
     store: &mut StoreHandle,
@@ -54,26 +54,23 @@ pub extern "C" fn strm_stream_transfer(
     to: u32,
     out: &mut u32,
 ) -> Status
-    ghost s: { State }
-    requires { store.old.state ≡ Some s }
-    ensures answers { AnswersOfOr (payload_at payload)
-        (λ payload. react s (steps.Move guest (index.Stream payload) handle to))
-        s result out.old out.new store.new.state }
+    ensures answers { AnswersOfOr store.old.state (payload_at payload)
+        (λ s payload. react s (steps.Move guest (index.Stream payload) handle to))
+        result out.old out.new store.new.state }
+    ensures takes_no_memory { guest ≡ to → result ≢ no_memory }
 {
+    let Some(store) = store.get_mut() else {
+        return NO_STORE;
+    };
     let Some(payload) = payload_at(payload) else {
         return UNKNOWN_PAYLOAD;
     };
-    number(
-        store
-            .store_mut()
-            .stream_transfer(guest, payload, handle, to),
-        out,
-    )
+    number(store.stream_transfer(guest, payload, handle, to), out)
 }
 
 /// Moves an end of a future, read or write, to the guest `to`, which may be the same, and puts its handle there
 /// at `out`. Refused: UnknownGuest, UnknownHandle, WrongKind, WrongType, Busy, LiftDropped, LiftInSet,
-/// IndexOverflow. OUT_OF_MEMORY, UNKNOWN_PAYLOAD.
+/// IndexOverflow. OUT_OF_MEMORY, where the two guests differ; UNKNOWN_PAYLOAD.
 #[unsafe(no_mangle)]
 pub extern "C" fn strm_future_transfer(
     store: &mut StoreHandle,
@@ -83,21 +80,18 @@ pub extern "C" fn strm_future_transfer(
     to: u32,
     out: &mut u32,
 ) -> Status
-    ghost s: { State }
-    requires { store.old.state ≡ Some s }
-    ensures answers { AnswersOfOr (payload_at payload)
-        (λ payload. react s (steps.Move guest (index.Future payload) handle to))
-        s result out.old out.new store.new.state }
+    ensures answers { AnswersOfOr store.old.state (payload_at payload)
+        (λ s payload. react s (steps.Move guest (index.Future payload) handle to))
+        result out.old out.new store.new.state }
+    ensures takes_no_memory { guest ≡ to → result ≢ no_memory }
 {
+    let Some(store) = store.get_mut() else {
+        return NO_STORE;
+    };
     let Some(payload) = payload_at(payload) else {
         return UNKNOWN_PAYLOAD;
     };
-    number(
-        store
-            .store_mut()
-            .future_transfer(guest, payload, handle, to),
-        out,
-    )
+    number(store.future_transfer(guest, payload, handle, to), out)
 }
 
 /// Takes a read end out of a guest, and puts the number of its stream at `out`, by which strm_lower and
@@ -111,16 +105,17 @@ pub extern "C" fn strm_lift(
     handle: u32,
     out: &mut u32,
 ) -> Status
-    ghost s: { State }
-    requires { store.old.state ≡ Some s }
-    ensures answers { AnswersOf (type_at ty)
-        (λ ty. react s (steps.Lift guest ty handle))
-        s result out.old out.new store.new.state }
+    ensures answers { AnswersOf store.old.state (type_at ty)
+        (λ s ty. react s (steps.Lift guest ty handle))
+        result out.old out.new store.new.state }
 {
+    let Some(store) = store.get_mut() else {
+        return NO_STORE;
+    };
     let Some(ty) = type_at(ty) else {
         return UNKNOWN_PAYLOAD;
     };
-    number(store.store_mut().lift(guest, ty, handle), out)
+    number(store.lift(guest, ty, handle), out)
 }
 
 /// Gives a guest the loose read end of a stream, and puts its handle at `out`. Refused: UnknownGuest,
@@ -133,25 +128,27 @@ pub extern "C" fn strm_lower(
     ty: u64,
     out: &mut u32,
 ) -> Status
-    ghost s: { State }
-    requires { store.old.state ≡ Some s }
-    ensures answers { AnswersOfOr (type_at ty)
-        (λ ty. react s (steps.Lower reader guest ty))
-        s result out.old out.new store.new.state }
+    ensures answers { AnswersOfOr store.old.state (type_at ty)
+        (λ s ty. react s (steps.Lower reader guest ty))
+        result out.old out.new store.new.state }
 {
+    let Some(store) = store.get_mut() else {
+        return NO_STORE;
+    };
     let Some(ty) = type_at(ty) else {
         return UNKNOWN_PAYLOAD;
     };
-    number(store.store_mut().lower(reader, guest, ty), out)
+    number(store.lower(reader, guest, ty), out)
 }
 
 /// Drops the loose read end of a stream. Refused: UnknownReader.
 #[unsafe(no_mangle)]
 pub extern "C" fn strm_close(store: &mut StoreHandle, reader: u32) -> Status
-    ghost s: { State }
-    requires { store.old.state ≡ Some s }
-    ensures answers { Answers (react s (steps.Close reader))
+    ensures answers { Answers store.old.state (λ s. react s (steps.Close reader))
         result 0 0 store.new.state }
 {
-    done(store.store_mut().close(reader))
+    let Some(store) = store.get_mut() else {
+        return NO_STORE;
+    };
+    done(store.close(reader))
 }

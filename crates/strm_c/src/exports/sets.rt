@@ -2,15 +2,14 @@
 //!
 //! Source: Canonical ABI, `canon waitable-set.new` and the others.
 
-ghost use Rattle.std.specs.Prelude.{◌≡◌, Some};
-ghost use Rattle.strm_machine.specs.State.{State};
+ghost use Rattle.std.specs.Prelude.{◌≡◌, ◌≢◌, IfSome};
 ghost use Rattle.strm_machine.specs.Reactions.{react};
 ghost use Rattle.strm_machine.specs.declared.steps.Step.TheVariants as steps;
 ghost use Rattle.strm_c.specs.Members.{answer_member, member_in};
 ghost use Rattle.strm_c.specs.Statuses.{Answers, AnswersOr, answer_status};
 
 use crate::handles::StoreHandle;
-use crate::statuses::{NO_EVENT, Status, done, error_status, number};
+use crate::statuses::{NO_EVENT, NO_STORE, Status, done, error_status, number};
 use strm_machine::replies::Member;
 use strm_transmit::errors::StoreError;
 
@@ -18,12 +17,13 @@ use strm_transmit::errors::StoreError;
 /// IndexOverflow, HandleLimit, Full. OUT_OF_MEMORY.
 #[unsafe(no_mangle)]
 pub extern "C" fn strm_set_new(store: &mut StoreHandle, guest: u32, out: &mut u32) -> Status
-    ghost s: { State }
-    requires { store.old.state ≡ Some s }
-    ensures answers { AnswersOr s (react s (steps.SetNew guest))
+    ensures answers { AnswersOr store.old.state (λ s. react s (steps.SetNew guest))
         result out.old out.new store.new.state }
 {
-    number(store.store_mut().set_new(guest), out)
+    let Some(store) = store.get_mut() else {
+        return NO_STORE;
+    };
+    number(store.set_new(guest), out)
 }
 
 /// An end joins a set, and leaves the one that it was in; of set 0 it leaves that alone.
@@ -35,12 +35,13 @@ pub extern "C" fn strm_set_join(
     set: u32,
     handle: u32,
 ) -> Status
-    ghost s: { State }
-    requires { store.old.state ≡ Some s }
-    ensures answers { AnswersOr s (react s (steps.SetJoin guest set handle))
+    ensures answers { AnswersOr store.old.state (λ s. react s (steps.SetJoin guest set handle))
         result 0 0 store.new.state }
 {
-    done(store.store_mut().set_join(guest, set, handle))
+    let Some(store) = store.get_mut() else {
+        return NO_STORE;
+    };
+    done(store.set_join(guest, set, handle))
 }
 
 /// Tells the member of the least handle that has something to be told, and puts its handle and code at
@@ -53,24 +54,29 @@ pub extern "C" fn strm_set_poll(
     set: u32,
     out: &mut StrmMember,
 ) -> Status
-    ghost s: { State }
-    requires { store.old.state ≡ Some s }
-    ensures answers { Answers (react s (steps.SetPoll guest set)) result 0 0 store.new.state }
-    ensures member { out.new ≡ member_in (react s (steps.SetPoll guest set)).reply out.old }
+    ensures answers { Answers store.old.state (λ s. react s (steps.SetPoll guest set))
+        result 0 0 store.new.state }
+    ensures member { IfSome store.old.state (λ s.
+        out.new ≡ member_in (react s (steps.SetPoll guest set)).reply out.old) }
+    ensures kept { result ≢ 0 → out.new ≡ out.old }
 {
-    member(store.store_mut().set_poll(guest, set), out)
+    let Some(store) = store.get_mut() else {
+        return NO_STORE;
+    };
+    member(store.set_poll(guest, set), out)
 }
 
 /// Gives up a set without members. `canon waitable-set.drop`. Refused: UnknownGuest, UnknownHandle,
 /// WrongKind, SetNotEmpty.
 #[unsafe(no_mangle)]
 pub extern "C" fn strm_set_drop(store: &mut StoreHandle, guest: u32, set: u32) -> Status
-    ghost s: { State }
-    requires { store.old.state ≡ Some s }
-    ensures answers { Answers (react s (steps.SetDrop guest set))
+    ensures answers { Answers store.old.state (λ s. react s (steps.SetDrop guest set))
         result 0 0 store.new.state }
 {
-    done(store.store_mut().set_drop(guest, set))
+    let Some(store) = store.get_mut() else {
+        return NO_STORE;
+    };
+    done(store.set_drop(guest, set))
 }
 
 /// A member of a set and what it was told: its handle, and a code, or STRM_NO_EVENT.

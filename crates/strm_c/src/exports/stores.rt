@@ -2,17 +2,17 @@
 //!
 //! Source: wasmtime, `ConcurrentState`.
 
-ghost use Rattle.std.specs.Prelude.{◌≡◌, ◌≢◌, ◌<◌, ◌↔◌, ◌≤◌, Some, None, IsSome, IfSome, IsTrue, length};
+ghost use Rattle.std.specs.Prelude.{◌≡◌, ◌≢◌, ◌<◌, ◌↔◌, ◌≤◌, false, Some, None, IfSome, IsTrue, length};
 ghost use Rattle.strm_codes.specs.Types.{kind_of, payload_of};
-ghost use Rattle.strm_machine.specs.State.{State, empty, is_live, stream_at};
+ghost use Rattle.strm_machine.specs.State.{empty, is_live, stream_at};
 ghost use Rattle.strm_machine.specs.Soundness.{type_of};
 ghost use Rattle.strm_c.specs.Payloads.{type_word};
 ghost use Rattle.strm_c.specs.Queries.{count_of};
-ghost use Rattle.strm_c.specs.Statuses.{no_memory, no_stream};
+ghost use Rattle.strm_c.specs.Statuses.{no_memory, no_store, no_stream};
 
 use crate::handles::StoreHandle;
 use crate::payloads::type_word;
-use crate::statuses::{OUT_OF_MEMORY, Status, UNKNOWN_STREAM};
+use crate::statuses::{NO_STORE, OUT_OF_MEMORY, Status, UNKNOWN_STREAM};
 use std::alloc::Global;
 use strm_codes::codes::TransmitIndex;
 use strm_embed::guest_store::GuestStore;
@@ -46,46 +46,53 @@ pub extern "C" fn strm_store_new(
     }
 }
 
-/// Gives a store up, with the memories of its guests, and leaves {NULL}.
+/// Gives a store up, with the memories of its guests, and leaves {NULL}. Of {NULL} it does nothing.
 #[unsafe(no_mangle)]
 pub extern "C" fn strm_store_free(alloc: Global, store: &mut StoreHandle)
-    requires { IsSome store.old.state }
-    ensures { store.new.state ≡ None }
+    ensures gone { store.new.state ≡ None }
+    ensures nothing { store.old.state ≡ None → store.new ≡ store.old }
 {
     drop(store.take(alloc));
 }
 
-/// The number that the store was made with.
+/// The number that the store was made with; 0 of {NULL}.
 #[unsafe(no_mangle)]
 pub extern "C" fn strm_tag(store: &mut StoreHandle) -> u64
-    ghost s: { State }
-    requires { store.old.state ≡ Some s }
-    ensures tag { result ≡ s.tag }
-    ensures same { store.new.state ≡ Some s }
+    ensures tag { IfSome store.old.state (λ s. result ≡ s.tag) }
+    ensures none { store.old.state ≡ None → result ≡ 0 }
+    ensures same { store.new.state ≡ store.old.state }
 {
-    store.store_mut().tag()
+    let Some(store) = store.get_mut() else {
+        return 0;
+    };
+    store.tag()
 }
 
-/// Whether an earlier call trapped the store, which then answers STRM_STORE_TRAPPED to all that changes it.
+/// Whether an earlier call trapped the store, which then answers STRM_STORE_TRAPPED to all that changes it;
+/// not so of {NULL}.
 #[unsafe(no_mangle)]
 pub extern "C" fn strm_trapped(store: &mut StoreHandle) -> bool
-    ghost s: { State }
-    requires { store.old.state ≡ Some s }
-    ensures trapped { result ≡ s.trapped }
-    ensures same { store.new.state ≡ Some s }
+    ensures trapped { IfSome store.old.state (λ s. result ≡ s.trapped) }
+    ensures none { store.old.state ≡ None → result ≡ false }
+    ensures same { store.new.state ≡ store.old.state }
 {
-    store.store_mut().trapped()
+    let Some(store) = store.get_mut() else {
+        return false;
+    };
+    store.trapped()
 }
 
-/// How many streams and futures were made so far.
+/// How many streams and futures were made so far; 0 of {NULL}.
 #[unsafe(no_mangle)]
 pub extern "C" fn strm_streams(store: &mut StoreHandle) -> u32
-    ghost s: { State }
-    requires { store.old.state ≡ Some s }
-    ensures count { result ≡ length s.streams }
-    ensures same { store.new.state ≡ Some s }
+    ensures count { IfSome store.old.state (λ s. result ≡ length s.streams) }
+    ensures none { store.old.state ≡ None → result ≡ 0 }
+    ensures same { store.new.state ≡ store.old.state }
 {
-    store.store_mut().streams()
+    let Some(store) = store.get_mut() else {
+        return 0;
+    };
+    store.streams()
 }
 
 /// A count of 128 bits: low + 2^64 * high.
@@ -99,29 +106,36 @@ pub struct StrmCount {
 /// Puts at `out` how many items were received on a stream so far. UNKNOWN_STREAM where it was never made.
 #[unsafe(no_mangle)]
 pub extern "C" fn strm_moved(store: &mut StoreHandle, stream: u32, out: &mut StrmCount) -> Status
-    ghost s: { State }
-    requires { store.old.state ≡ Some s }
-    ensures made { result ≡ 0 ↔ (stream < length s.streams) }
-    ensures unknown { result ≡ no_stream ↔ (length s.streams ≤ stream) }
-    ensures count { result ≡ 0 → count_of out.new ≡ (stream_at s stream).received }
+    ensures made { IfSome store.old.state (λ s. result ≡ 0 ↔ (stream < length s.streams)) }
+    ensures unknown { IfSome store.old.state (λ s.
+        result ≡ no_stream ↔ (length s.streams ≤ stream)) }
+    ensures none { store.old.state ≡ None → result ≡ no_store }
+    ensures count { IfSome store.old.state (λ s. result ≡ 0 →
+        count_of out.new ≡ (stream_at s stream).received) }
     ensures kept { result ≢ 0 → out.new ≡ out.old }
-    ensures same { store.new.state ≡ Some s }
+    ensures same { store.new.state ≡ store.old.state }
 {
-    count(store.store_mut().moved(stream), out)
+    let Some(store) = store.get_mut() else {
+        return NO_STORE;
+    };
+    count(store.moved(stream), out)
 }
 
 /// Puts at `out` the type of a stream of which an end is there. UNKNOWN_STREAM of any other.
 #[unsafe(no_mangle)]
 pub extern "C" fn strm_transmit_index(store: &mut StoreHandle, stream: u32, out: &mut u64) -> Status
-    ghost s: { State }
-    requires { store.old.state ≡ Some s }
-    ensures live { result ≡ 0 ↔ IsTrue (is_live (stream_at s stream)) }
-    ensures gone { result ≢ 0 → result ≡ no_stream }
-    ensures ty { result ≡ 0 → out.new ≡ type_word (type_of (stream_at s stream)) }
+    ensures live { IfSome store.old.state (λ s. result ≡ 0 ↔ IsTrue (is_live (stream_at s stream))) }
+    ensures gone { IfSome store.old.state (λ s. result ≢ 0 → result ≡ no_stream) }
+    ensures none { store.old.state ≡ None → result ≡ no_store }
+    ensures ty { IfSome store.old.state (λ s. result ≡ 0 →
+        out.new ≡ type_word (type_of (stream_at s stream))) }
     ensures kept { result ≢ 0 → out.new ≡ out.old }
-    ensures same { store.new.state ≡ Some s }
+    ensures same { store.new.state ≡ store.old.state }
 {
-    word(store.store_mut().transmit_index(stream), out)
+    let Some(store) = store.get_mut() else {
+        return NO_STORE;
+    };
+    word(store.transmit_index(stream), out)
 }
 
 // A count, put at `out`.

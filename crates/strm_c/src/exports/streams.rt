@@ -2,9 +2,8 @@
 //!
 //! Source: Canonical ABI, `canon stream.new` and the others.
 
-ghost use Rattle.std.specs.Prelude.{◌≡◌, ◌≢◌, Some, IfSome};
+ghost use Rattle.std.specs.Prelude.{◌≡◌, ◌≢◌, IfSome};
 ghost use Rattle.strm_codes.specs.declared.codes.TransmitIndex.TheVariants as index;
-ghost use Rattle.strm_machine.specs.State.{State};
 ghost use Rattle.strm_machine.specs.Reactions.{react};
 ghost use Rattle.strm_machine.specs.declared.steps.Step.TheVariants as steps;
 ghost use Rattle.strm_c.specs.Pairs.{pair_in};
@@ -14,7 +13,7 @@ ghost use Rattle.strm_c.specs.Statuses.{Answers, AnswersOf, AnswersOfOr};
 use crate::exports::pairs::{StrmPair, pair};
 use crate::handles::StoreHandle;
 use crate::payloads::payload_at;
-use crate::statuses::{Status, UNKNOWN_PAYLOAD, code, done, event};
+use crate::statuses::{NO_STORE, Status, UNKNOWN_PAYLOAD, code, done, event};
 
 /// Makes a stream whose two ends the guest gets, and puts their handles and the stream's number at `out`.
 /// `canon stream.new`. Refused: UnknownGuest, IndexOverflow, HandleLimit, Full. OUT_OF_MEMORY,
@@ -26,19 +25,20 @@ pub extern "C" fn strm_stream_new(
     payload: u64,
     out: &mut StrmPair,
 ) -> Status
-    ghost s: { State }
-    requires { store.old.state ≡ Some s }
-    ensures answers { AnswersOfOr (payload_at payload)
-        (λ payload. react s (steps.New guest (index.Stream payload)))
-        s result 0 0 store.new.state }
-    ensures pair { IfSome (payload_at payload) (λ payload. result ≡ 0 →
-        out.new ≡ pair_in (react s (steps.New guest (index.Stream payload))).reply out.old) }
+    ensures answers { AnswersOfOr store.old.state (payload_at payload)
+        (λ s payload. react s (steps.New guest (index.Stream payload)))
+        result 0 0 store.new.state }
+    ensures pair { IfSome store.old.state (λ s. IfSome (payload_at payload) (λ payload. result ≡ 0 →
+        out.new ≡ pair_in (react s (steps.New guest (index.Stream payload))).reply out.old)) }
     ensures kept { result ≢ 0 → out.new ≡ out.old }
 {
+    let Some(store) = store.get_mut() else {
+        return NO_STORE;
+    };
     let Some(payload) = payload_at(payload) else {
         return UNKNOWN_PAYLOAD;
     };
-    pair(store.store_mut().stream_new(guest, payload), out)
+    pair(store.stream_new(guest, payload), out)
 }
 
 /// Writes `count` items that lie from `address` of the guest's memory on, and puts the code at `out`. A
@@ -55,19 +55,18 @@ pub extern "C" fn strm_stream_write(
     count: u32,
     out: &mut u32,
 ) -> Status
-    ghost s: { State }
-    requires { store.old.state ≡ Some s }
-    ensures answers { AnswersOf (payload_at payload)
-        (λ payload. react s (steps.Write guest (index.Stream payload) handle address count))
-        s result out.old out.new store.new.state }
+    ensures answers { AnswersOf store.old.state (payload_at payload)
+        (λ s payload. react s (steps.Write guest (index.Stream payload) handle address count))
+        result out.old out.new store.new.state }
 {
+    let Some(store) = store.get_mut() else {
+        return NO_STORE;
+    };
     let Some(payload) = payload_at(payload) else {
         return UNKNOWN_PAYLOAD;
     };
     code(
-        store
-            .store_mut()
-            .stream_write(guest, payload, handle, address, count),
+        store.stream_write(guest, payload, handle, address, count),
         out,
     )
 }
@@ -86,19 +85,18 @@ pub extern "C" fn strm_stream_read(
     count: u32,
     out: &mut u32,
 ) -> Status
-    ghost s: { State }
-    requires { store.old.state ≡ Some s }
-    ensures answers { AnswersOf (payload_at payload)
-        (λ payload. react s (steps.Read guest (index.Stream payload) handle address count))
-        s result out.old out.new store.new.state }
+    ensures answers { AnswersOf store.old.state (payload_at payload)
+        (λ s payload. react s (steps.Read guest (index.Stream payload) handle address count))
+        result out.old out.new store.new.state }
 {
+    let Some(store) = store.get_mut() else {
+        return NO_STORE;
+    };
     let Some(payload) = payload_at(payload) else {
         return UNKNOWN_PAYLOAD;
     };
     code(
-        store
-            .store_mut()
-            .stream_read(guest, payload, handle, address, count),
+        store.stream_read(guest, payload, handle, address, count),
         out,
     )
 }
@@ -113,21 +111,17 @@ pub extern "C" fn strm_stream_cancel_write(
     handle: u32,
     out: &mut u32,
 ) -> Status
-    ghost s: { State }
-    requires { store.old.state ≡ Some s }
-    ensures answers { AnswersOf (payload_at payload)
-        (λ payload. react s (steps.CancelWrite guest (index.Stream payload) handle))
-        s result out.old out.new store.new.state }
+    ensures answers { AnswersOf store.old.state (payload_at payload)
+        (λ s payload. react s (steps.CancelWrite guest (index.Stream payload) handle))
+        result out.old out.new store.new.state }
 {
+    let Some(store) = store.get_mut() else {
+        return NO_STORE;
+    };
     let Some(payload) = payload_at(payload) else {
         return UNKNOWN_PAYLOAD;
     };
-    code(
-        store
-            .store_mut()
-            .stream_cancel_write(guest, payload, handle),
-        out,
-    )
+    code(store.stream_cancel_write(guest, payload, handle), out)
 }
 
 /// Cancels the read that waits, and puts the code at `out`. `canon stream.cancel-read`. Refused: UnknownGuest,
@@ -140,19 +134,17 @@ pub extern "C" fn strm_stream_cancel_read(
     handle: u32,
     out: &mut u32,
 ) -> Status
-    ghost s: { State }
-    requires { store.old.state ≡ Some s }
-    ensures answers { AnswersOf (payload_at payload)
-        (λ payload. react s (steps.CancelRead guest (index.Stream payload) handle))
-        s result out.old out.new store.new.state }
+    ensures answers { AnswersOf store.old.state (payload_at payload)
+        (λ s payload. react s (steps.CancelRead guest (index.Stream payload) handle))
+        result out.old out.new store.new.state }
 {
+    let Some(store) = store.get_mut() else {
+        return NO_STORE;
+    };
     let Some(payload) = payload_at(payload) else {
         return UNKNOWN_PAYLOAD;
     };
-    code(
-        store.store_mut().stream_cancel_read(guest, payload, handle),
-        out,
-    )
+    code(store.stream_cancel_read(guest, payload, handle), out)
 }
 
 /// Drops the write end. `canon stream.drop-writable`. Refused: UnknownGuest, UnknownHandle, WrongKind,
@@ -164,20 +156,17 @@ pub extern "C" fn strm_stream_drop_writable(
     payload: u64,
     handle: u32,
 ) -> Status
-    ghost s: { State }
-    requires { store.old.state ≡ Some s }
-    ensures answers { AnswersOf (payload_at payload)
-        (λ payload. react s (steps.DropWrite guest (index.Stream payload) handle))
-        s result 0 0 store.new.state }
+    ensures answers { AnswersOf store.old.state (payload_at payload)
+        (λ s payload. react s (steps.DropWrite guest (index.Stream payload) handle))
+        result 0 0 store.new.state }
 {
+    let Some(store) = store.get_mut() else {
+        return NO_STORE;
+    };
     let Some(payload) = payload_at(payload) else {
         return UNKNOWN_PAYLOAD;
     };
-    done(
-        store
-            .store_mut()
-            .stream_drop_writable(guest, payload, handle),
-    )
+    done(store.stream_drop_writable(guest, payload, handle))
 }
 
 /// Drops the read end. `canon stream.drop-readable`. Refused: UnknownGuest, UnknownHandle, WrongKind,
@@ -189,20 +178,17 @@ pub extern "C" fn strm_stream_drop_readable(
     payload: u64,
     handle: u32,
 ) -> Status
-    ghost s: { State }
-    requires { store.old.state ≡ Some s }
-    ensures answers { AnswersOf (payload_at payload)
-        (λ payload. react s (steps.DropRead guest (index.Stream payload) handle))
-        s result 0 0 store.new.state }
+    ensures answers { AnswersOf store.old.state (payload_at payload)
+        (λ s payload. react s (steps.DropRead guest (index.Stream payload) handle))
+        result 0 0 store.new.state }
 {
+    let Some(store) = store.get_mut() else {
+        return NO_STORE;
+    };
     let Some(payload) = payload_at(payload) else {
         return UNKNOWN_PAYLOAD;
     };
-    done(
-        store
-            .store_mut()
-            .stream_drop_readable(guest, payload, handle),
-    )
+    done(store.stream_drop_readable(guest, payload, handle))
 }
 
 /// Puts what an end, of a stream or a future, is to be told at `out`: a code, or STRM_NO_EVENT. It ends
@@ -214,10 +200,11 @@ pub extern "C" fn strm_take_event(
     handle: u32,
     out: &mut u32,
 ) -> Status
-    ghost s: { State }
-    requires { store.old.state ≡ Some s }
-    ensures answers { Answers (react s (steps.Event guest handle))
+    ensures answers { Answers store.old.state (λ s. react s (steps.Event guest handle))
         result out.old out.new store.new.state }
 {
-    event(store.store_mut().take_event(guest, handle), out)
+    let Some(store) = store.get_mut() else {
+        return NO_STORE;
+    };
+    event(store.take_event(guest, handle), out)
 }

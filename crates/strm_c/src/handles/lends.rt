@@ -4,6 +4,8 @@
 ghost use Rattle.std.specs.Prelude.{◌≡◌, Some, IsSome};
 ghost use types.Logic.{sem};
 ghost use denote.Follow.{follows};
+ghost use Rattle.std.specs.Borrow.{LendsIf};
+ghost use Rattle.std.specs.Option.{option_copied_mut};
 ghost use Rattle.strm_embed.specs.contracts.guest_store.GuestStore.{the_row as store_row};
 ghost use Rattle.strm_c.specs.contracts.handles.StoreHandle.{the_row};
 ghost use Rattle.strm_c.specs.Lent.{handle_with};
@@ -12,8 +14,21 @@ use crate::handles::StoreHandle;
 use strm_embed::guest_store::GuestStore;
 
 impl StoreHandle {
-    /// The store. When the borrow ends, the handle has what was written through it.
-    pub(crate) fn store_mut(&mut self) -> &mut GuestStore
+    /// The store, if it is of one. When the borrow ends, the handle has what was written through it.
+    #[inline(always)]
+    pub(crate) fn get_mut(&mut self) -> Option<&mut GuestStore>
+        ensures* writes_back { sem 𝓛 (LendsIf the_row store_row self.entry result (handle_with self.old) self.old) }
+        ensures value { option_copied_mut result ≡ self.old.state }
+    {
+        if self.is_none() {
+            None
+        } else {
+            Some(self.store_mut())
+        }
+    }
+
+    // The store. When the borrow ends, the handle has what was written through it.
+    fn store_mut(&mut self) -> &mut GuestStore
         requires { IsSome self.old.state }
         ensures* writes_back { sem 𝓛 (follows the_row store_row self.entry.ghost_name result.ghost_name (handle_with self.old)) }
         ensures value { self.old.state ≡ Some result.now }

@@ -3,7 +3,7 @@
 use crate::answers::{done, wrote};
 use crate::sys;
 use crate::{Error, Guest, Store};
-use core::ptr;
+use core::ptr::NonNull;
 
 /// Guests and their memories.
 impl Store {
@@ -22,19 +22,21 @@ impl Store {
         wrote(|out| unsafe { sys::strm_add_guest(self.at(), size, out) }).map(Guest)
     }
 
-    // Where a guest's memory lies, and how many bytes it has.
+    // Where a guest's memory lies, and how many bytes it has. Of no bytes it is an address that a slice may
+    // have, which that of the archive need not be.
     fn place(&self, guest: Guest) -> Result<(*mut u8, usize), Error> {
-        let (mut at, mut len) = (ptr::NonNull::dangling().as_ptr(), 0);
+        let nowhere = NonNull::dangling().as_ptr();
+        let (mut at, mut len) = (nowhere, 0);
         // SAFETY: above.
         done(unsafe { sys::strm_memory_at(self.at(), guest.0, &mut at, &mut len) })?;
-        Ok((at, len))
+        Ok(if len == 0 { (nowhere, 0) } else { (at, len) })
     }
 
     /// A guest's memory.
     pub fn memory(&self, guest: Guest) -> Result<&[u8], Error> {
         let (at, len) = self.place(guest)?;
         // SAFETY: the bytes are the guest's, in one block that stays where it is until the store is given
-        // up, and calls by `&self` write none of them.
+        // up, and calls by `&self` write none of them; none have an address that is not null.
         Ok(unsafe { core::slice::from_raw_parts(at, len) })
     }
 
@@ -49,13 +51,13 @@ impl Store {
     pub fn memory_mut(&mut self, guest: Guest) -> Result<&mut [u8], Error> {
         let (at, len) = self.place(guest)?;
         // SAFETY: the bytes are the guest's, in one block that stays where it is until the store is given
-        // up, and `&mut self` leaves them to this borrow.
+        // up, and `&mut self` leaves them to this borrow; none have an address that is not null.
         Ok(unsafe { core::slice::from_raw_parts_mut(at, len) })
     }
 
-    /// Where a guest's memory lies, and how many bytes it has: the same until the store is dropped. It is for
-    /// a runtime whose guests use their memory in place. A write there while a call is made, or while the
-    /// memory is borrowed, is undefined.
+    /// Where a guest's memory lies, and how many bytes it has: the same until the store is dropped; of no
+    /// bytes a dangling address. It is for a runtime whose guests use their memory in place. A write there
+    /// while a call is made, or while the memory is borrowed, is undefined.
     pub fn memory_at(&mut self, guest: Guest) -> Result<(*mut u8, usize), Error> {
         self.place(guest)
     }

@@ -16,7 +16,7 @@ use Rattle.strm_c.specs.Owned.{owned}
 use Rattle.strm_c.specs.contracts.handles.StoreHandle.{the_row, the_type}
 
 owned_keyless : (a : Global) (p : Ptr) (s : Option State) → Keyless (owned a p s)
-owned_keyless a p None = tt
+owned_keyless a p None = λ e. tt
 owned_keyless a p (Some x) = (lies Stored.the_row stored.the_send p x, frees.frees a (raw (lone (Stored.the_row).mir)) p)
 
 pub send : IsSend the_row
