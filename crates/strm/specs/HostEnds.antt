@@ -1,12 +1,20 @@
 -- The host ends of the program, in the order of their numbers, by what each tells before it is used. Ours.
-use Rattle.std.specs.Prelude.{List, [], ◌∷◌}
+use Rattle.std.specs.Prelude.{ℕ, List, [], ◌∷◌}
 use Rattle.strm_codes.specs.declared.codes.TransmitKind.TheVariants.{Stream, Future}
 use Rattle.strm_codes.specs.declared.payloads.Payload.TheVariants.{Nothing, One, Tuple}
 use Rattle.strm_codes.specs.declared.scalars.Scalar.TheVariants.{U8, U32, Char}
-use Rattle.strm_buffers.specs.Tells.{WriterTells, ReaderTells}
+use Rattle.strm_buffers.specs.Tells.{WriterTells, ReaderTells, Tells}
 use Rattle.strm_ends.specs.Credits.{ungranted}
 use Rattle.strm_ends.specs.QueueTells.{unfed_writer}
 use Rattle.strm_host.specs.Erasing.{unpolled}
+
+-- what each of two streams of bytes that are ready holds; a third holds nothing
+abbrev pub five : List ℕ
+five = 1 ∷ 2 ∷ 3 ∷ 4 ∷ 5 ∷ []
+
+-- what a stream of bytes that is ready tells
+abbrev pub ready_writer : WriterTells
+ready_writer = unpolled Stream (One U8) 0
 
 -- the writers: five queues, and three streams of bytes that are ready
 abbrev pub writers : List WriterTells
@@ -16,9 +24,9 @@ writers =
     ∷ unfed_writer Stream Nothing
     ∷ unfed_writer Stream (One Char)
     ∷ unfed_writer Future (One U32)
-    ∷ unpolled Stream (One U8) 0
-    ∷ unpolled Stream (One U8) 0
-    ∷ unpolled Stream (One U8) 0 ∷ []
+    ∷ ready_writer
+    ∷ ready_writer
+    ∷ ready_writer ∷ []
 
 -- the readers, each with a credit
 abbrev pub readers : List ReaderTells
@@ -31,3 +39,7 @@ readers =
     ∷ ungranted Stream (One U8)
     ∷ ungranted Stream (Tuple (U8 ∷ U32 ∷ []))
     ∷ ungranted Future Nothing ∷ []
+
+-- all of them
+abbrev pub host_ends : Tells
+host_ends = record { writers = writers; readers = readers }

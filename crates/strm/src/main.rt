@@ -2,13 +2,17 @@
 //! writes a summary.
 #![tactic(auto)]
 
-ghost use Rattle.std.specs.Prelude.{◌≡◌, ◌≢◌, ◌∷◌, [], ℕ, List, Option, IfOk, map, string_bytes};
+ghost use Rattle.std.specs.Prelude.{◌≡◌, ◌≢◌, ℕ, List, Option, IfOk, drop, map, string_bytes};
 ghost use Rattle.std.specs.Process.{exit_status};
+ghost use Rattle.std.specs.Vec.Iter.{into_iter_items};
 ghost use Rattle.strm_buffers.specs.AllTells.{tells_of};
 ghost use Rattle.strm_session.specs.Serving.{IsOutput, IsStatus};
-ghost use Rattle.strm.specs.HostEnds.{writers, readers};
+ghost use Rattle.strm_host.specs.Erasing.{erased_tells};
+ghost use Rattle.strm.specs.HostEnds.{five, ready_writer, writers, readers};
+ghost use Rattle.strm.specs.Served.{IsServed};
 
 use std::alloc::{AllocError, Global};
+use std::env::Args;
 use std::io::{Read, Write};
 use std::process::ExitCode;
 use std::{env, io};
@@ -44,6 +48,7 @@ fn served<R: Read + Drop, W: Write + Drop>(
         × IsOutput (map string_bytes words.now.items) (R.remaining input) rest
         (tells_of writer_tells reader_tells hosts.old) (tells_of writer_tells reader_tells hosts.new)
         0 faults (exit_status result) text }
+    ensures answers { IsServed (map string_bytes words.now.items) (R.remaining input) (exit_status result) }
 {
     let mut source = StdinSource::new(input);
     let mut sink = StdoutSink::new(output);
@@ -63,30 +68,67 @@ const WORD: Payload = Payload::One(Scalar::U32);
 
 const CHAR: Payload = Payload::One(Scalar::Char);
 
+// The program's streams that are ready: two of five bytes, and one of none.
+#[derive(Drop)]
+struct Ready {
+    first: Erased<Vec<u8>>,
+    second: Erased<Vec<u8>>,
+    none: Erased<Empty<u8>>,
+}
+
 // The items of a stream that is ready.
-fn five(alloc: Global) -> Result<Vec<u8>, AllocError>
-    ensures { IfOk result (λ list. list.items ≡ 1 ∷ 2 ∷ 3 ∷ 4 ∷ 5 ∷ []) }
+fn five_bytes(alloc: Global) -> Result<Vec<u8>, AllocError>
+    ensures { IfOk result (λ list. list.items ≡ five) }
 {
     Ok(vec![in alloc; 1u8, 2, 3, 4, 5]?)
 }
 
-// Serves among the program's host ends: eight writers, which are five queues, two streams of five bytes,
-// and one of none; and eight readers, each with a credit.
+// What the streams that are ready hold, and that none was polled.
+fn ready_streams(alloc: Global) -> Result<Ready, AllocError>
+    ensures first { IfOk result (λ ready. ready.first.producer.items ≡ five) }
+    ensures second { IfOk result (λ ready. ready.second.producer.items ≡ five) }
+    ensures first_unpolled { IfOk result (λ ready. erased_tells ready.first ≡ ready_writer) }
+    ensures second_unpolled { IfOk result (λ ready. erased_tells ready.second ≡ ready_writer) }
+    ensures none_unpolled { IfOk result (λ ready. erased_tells ready.none ≡ ready_writer) }
+{
+    Ok(Ready {
+        first: Erased::stream(alloc, five_bytes(alloc)?),
+        second: Erased::stream(alloc, five_bytes(alloc)?),
+        none: Erased::stream(alloc, Empty::<u8>::new()),
+    })
+}
+
+// Serves among the program's host ends: eight writers, which are five queues and the three streams that are
+// ready; and eight readers, each with a credit.
 fn served_among_ends<R: Read + Drop, W: Write + Drop>(
     alloc: Global,
     words: &Vec<String>,
     input: R,
     output: W,
-) -> Result<ExitCode, AllocError> {
+    ready: Ready,
+) -> Result<ExitCode, AllocError>
+    requires first { ready.first.producer.items ≡ five }
+    requires second { ready.second.producer.items ≡ five }
+    requires first_unpolled { erased_tells ready.first ≡ ready_writer }
+    requires second_unpolled { erased_tells ready.second ≡ ready_writer }
+    requires none_unpolled { erased_tells ready.none ≡ ready_writer }
+    ensures { IfOk result (λ code.
+        IsServed (map string_bytes words.now.items) (R.remaining input) (exit_status code)) }
+{
+    let Ready {
+        first,
+        second,
+        none,
+    } = ready;
     let writers: [Box<dyn HostWriter>; 8] = [
         Box::new(alloc, QueueWriter::new(alloc, STREAM, BYTE))?,
         Box::new(alloc, QueueWriter::new(alloc, STREAM, WORD))?,
         Box::new(alloc, QueueWriter::new(alloc, STREAM, NOTHING))?,
         Box::new(alloc, QueueWriter::new(alloc, STREAM, CHAR))?,
         Box::new(alloc, QueueWriter::new(alloc, FUTURE, WORD))?,
-        Box::new(alloc, Erased::stream(alloc, five(alloc)?))?,
-        Box::new(alloc, Erased::stream(alloc, five(alloc)?))?,
-        Box::new(alloc, Erased::stream(alloc, Empty::<u8>::new()))?,
+        Box::new(alloc, first)?,
+        Box::new(alloc, second)?,
+        Box::new(alloc, none)?,
     ];
     let readers: [Box<dyn HostReader>; 8] = [
         Box::new(alloc, CreditReader::new(alloc, STREAM, BYTE))?,
@@ -108,24 +150,39 @@ fn served_among_ends<R: Read + Drop, W: Write + Drop>(
     Ok(served(alloc, words, input, output, &mut hosts))
 }
 
+// The words behind the program's name: all but the first.
+fn words_behind(alloc: Global, mut args: Args) -> Result<Vec<String>, AllocError>
+    ensures { IfOk result (λ words. words.items ≡ drop 1 (into_iter_items args)) }
+{
+    let _name = args.next();
+    args.collect(alloc)
+}
+
+// Serves the words behind the program's name, all of them, among the program's host ends.
+fn served_words<R: Read + Drop, W: Write + Drop>(
+    alloc: Global,
+    args: Args,
+    input: R,
+    output: W,
+) -> Result<ExitCode, AllocError>
+    ensures { IfOk result (λ code.
+        IsServed (map string_bytes (drop 1 (into_iter_items args))) (R.remaining input) (exit_status code)) }
+{
+    let words = words_behind(alloc, args)?;
+    served_among_ends(alloc, &words, input, output, ready_streams(alloc)?)
+}
+
 fn main(rt: HostRuntime) -> io::Result<ExitCode> {
     let alloc = rt.alloc();
-    let mut words: Vec<String> = Vec::new(alloc);
-    match env::args(&rt) {
-        Ok(mut all) => {
-            let _name = all.next();
-            match all.collect(alloc) {
-                Ok(rest) => words = rest,
-                Err(_) => return Ok(ExitCode::from(OUT_OF_MEMORY)),
-            }
-        }
+    let args = match env::args(&rt) {
+        Ok(args) => args,
         Err(error) if error.kind() == io::ErrorKind::OutOfMemory => {
             return Ok(ExitCode::from(OUT_OF_MEMORY));
         }
         // A word that is no UTF-8 is none of the program's.
-        Err(_) => {}
-    }
-    match served_among_ends(alloc, &words, rt.stdin(), rt.stdout()) {
+        Err(_) => Vec::new(alloc).into_iter(),
+    };
+    match served_words(alloc, args, rt.stdin(), rt.stdout()) {
         Ok(code) => Ok(code),
         Err(_) => Ok(ExitCode::from(OUT_OF_MEMORY)),
     }

@@ -4,10 +4,10 @@ use Rattle.strm_world.specs.Ends.{Writer, Reader}
 use Rattle.strm_world.specs.World.{World}
 use Rattle.strm_world.specs.HostPlays.{Played, Ends, Halts, Hangs}
 
--- a host writer without what no step looks at: how many records it made, whether it was closed, and what it
--- heard
+-- a host writer without what no step looks at: how many records it made, whether it was closed or is gone, and
+-- what it heard
 abbrev pub bare_writer : Writer → Writer
-bare_writer writer = record writer { spoken = 0; closed = false; heard = None }
+bare_writer writer = record writer { spoken = 0; closed = false; ended = false; heard = None }
 
 -- a host reader without it, and without what it took
 abbrev pub bare_reader : Reader → Reader

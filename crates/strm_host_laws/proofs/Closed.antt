@@ -1,12 +1,12 @@
--- Exactly the host writers that became gone were closed.
-use Rattle.std.proofs.Common.{◌≡◌, ℕ, zero, suc, ◌<◌, ◌||◌, Bool, true, false, List, [], ◌∷◌, ◌++◌, length, get_or, set, None, refl, sym, ap, subst, ◌∙◌, ◌⊎◌, inl, inr, arith}
+-- Exactly the host writers that became gone were closed, and tell that they are gone.
+use Rattle.std.proofs.Common.{◌≡◌, ℕ, zero, suc, ◌<◌, ◌||◌, Bool, true, false, List, [], ◌∷◌, ◌++◌, length, drop, get_or, set, None, refl, sym, ap, subst, ◌∙◌, ◌⊎◌, inl, inr, arith}
 use Rattle.std.proofs.lemmas.Bool.{cases_eq, or_parts, not-false}
 use Rattle.std.proofs.lemmas.List.{get_or-set_same, get_or-set_other, get_or_past, length-set, length-replicate}
 use Rattle.std.specs.Prelude.{slice_set, replicate, nat_le}
 use Rattle.strm_buffers.specs.declared.answers.Answer.{Answer}
 use Rattle.strm_buffers.specs.Listing.{Item}
-use Rattle.strm_buffers.specs.Said.{past_room}
-use Rattle.strm_buffers.specs.Tells.{Tells}
+use Rattle.strm_buffers.specs.Said.{WriterSaid, past_room}
+use Rattle.strm_buffers.specs.Tells.{WriterTells, Tells}
 use Rattle.strm_machine.specs.State.{host_limit, no_stream, no_producer, no_consumer, producer_at, consumer_at, is_loose}
 use Rattle.strm_machine.specs.Tests.{is_unknown_reader}
 use Rattle.strm_machine.specs.declared.acts.Act.TheVariants.{OnHost}
@@ -30,9 +30,9 @@ use Rattle.strm_world.specs.Attaching.{hosted_stream, has_items, new_producer, p
 use Rattle.strm_world.specs.HostPlays.{Ends, Halts, play}
 use Rattle.strm_world.specs.World.{World, stream_in, writer_at, reader_at, with_guests, with_kept, with_consumer, with_writer, with_reader, without_writer, leaves_writer, leaves_reader, with_stream_in}
 use Rattle.strm_world.specs.HostRefusals.{is_unknown_host, is_used, refusal_in}
-use Rattle.strm_world.specs.Does.{start}
+use Rattle.strm_world.specs.Does.{is_ended, saids, writers_from, start}
 use Rattle.strm_host_laws.specs.HostMoments.{Part, Acts, HostMoment, part_on, host_moments, first_moments, last_of}
-use Rattle.strm_host_laws.specs.HostLaws.{is_ended, ClosesExactly}
+use Rattle.strm_host_laws.specs.HostLaws.{ClosesExactly, EndsExactly}
 use Rattle.strm_host_laws.proofs.Chains.{is_part, Chain, moments-chain, first-chain, StopsAt, play-ends, play-halts}
 use Rattle.strm_host_laws.proofs.Goings.{with_state, with_passed, LeftBy, Begins, Stopping, hosted, Rules, Halted, Comes, with_stream_in-same, part-comes, feed-comes, grant-comes}
 use Rattle.strm_machine.proofs.Ways.{HostsFrom, HostsFromIn, set-from}
@@ -55,6 +55,7 @@ pub record Stands (first : World) (w : World) : Type 0 where
   pub kept : length w.state.producers ≡ host_limit
   pub there : (s n : ℕ) → (stream_in w s).writer.owner ≡ Host n → IsThere w s n
   pub closes : ClosesExactly first w.state w.writers
+  pub ends : EndsExactly w.state w.writers
 
 pub or-true : (b : Bool) → (b || true) ≡ true
 or-true true = refl
@@ -140,6 +141,22 @@ module _ (first : World) where
             ∙ ap (λ (x : Producer). (writer_at first k).closed || is_ended x.duty) (sym (get_or-set_other w.state.producers n k producer no_producer ne))
       ]
 
+  without-ends : (w : World) (n k : ℕ) → n < length w.writers → n < length w.state.producers → EndsExactly w.state w.writers
+      → (writer_in (without_writer w n).writers k).ended ≡ is_ended (producer_at (without_writer w n).state k).duty
+  without-ends w n k l p h =
+      let writer = closed_writer (writer_at w n) in
+      let producer = record (producer_at w.state n) { duty = Ended } in
+      elim (cases_eq k n) [
+        | inl e ↦
+            ap (λ j. (get_or (set w.writers n writer) j no_writer).ended) e
+            ∙ ap (λ (x : Writer). x.ended) (get_or-set_same w.writers n writer no_writer l)
+            ∙ sym (ap (λ j. is_ended (get_or (set w.state.producers n producer) j no_producer).duty) e ∙ ap (λ (x : Producer). is_ended x.duty) (get_or-set_same w.state.producers n producer no_producer p))
+        | inr ne ↦
+            ap (λ (x : Writer). x.ended) (get_or-set_other w.writers n k writer no_writer ne)
+            ∙ h k
+            ∙ ap (λ (x : Producer). is_ended x.duty) (sym (get_or-set_other w.state.producers n k producer no_producer ne))
+      ]
+
   Stands-without : (w : World) (n : ℕ) → n < length w.writers → n < host_limit → Stands first w → Stands first (without_writer w n)
   Stands-without w n l p h = record {
     kept = length-set w.state.producers n (record (producer_at w.state n) { duty = Ended }) ∙ h.kept;
@@ -152,6 +169,7 @@ module _ (first : World) where
           payload = set-keeps (λ (x : Writer). x.payload) w.writers n k (closed_writer (writer_at w n)) no_writer refl ∙ r.payload;
         };
     closes = λ k. without-closes w n k l (omega (arith, p, h.kept)) h.closes;
+    ends = λ k. without-ends w n k l (omega (arith, p, h.kept)) h.ends;
   }
 
   leaves-stands : (old new : Owner) (w : World) → Stands first w → ((n : ℕ) → old ≡ Host n → (n < length w.writers) × (n < host_limit)) → Stands first (leaves_writer old new w)
@@ -160,7 +178,7 @@ module _ (first : World) where
   leaves-stands _ new w h t = h
 
   leaves_reader-stands : (old new : Owner) (w : World) → Stands first w → Stands first (leaves_reader old new w)
-  leaves_reader-stands (Host r) Gone w h = record { kept = h.kept; there = λ s n e. (let k = h.there s n e in record { there = k.there; known = k.known; payload = k.payload }); closes = h.closes }
+  leaves_reader-stands (Host r) Gone w h = record { kept = h.kept; there = λ s n e. (let k = h.there s n e in record { there = k.there; known = k.known; payload = k.payload }); closes = h.closes; ends = h.ends }
   leaves_reader-stands (Host r) _ w h = h
   leaves_reader-stands _ new w h = h
 
@@ -185,12 +203,13 @@ module _ (first : World) where
             let r = h.there k n from.0 in
             record { there = r.there; known = r.known; payload = r.payload ∙ sym from.1 };
         closes = h.closes;
+        ends = h.ends;
       }))
       (λ n e. let r = h.there s n e in (omega (arith, r.there, same), r.known))
 
-  -- a writer that tells something else, and is closed as it was
-  Stands-writer : (w : World) (n : ℕ) (writer : Writer) → writer.closed ≡ (writer_at w n).closed → writer.payload ≡ (writer_at w n).payload → Stands first w → Stands first (with_writer w n writer)
-  Stands-writer w n writer e p h = record {
+  -- a writer that tells something else, and is closed and gone as it was
+  Stands-writer : (w : World) (n : ℕ) (writer : Writer) → writer.closed ≡ (writer_at w n).closed → writer.ended ≡ (writer_at w n).ended → writer.payload ≡ (writer_at w n).payload → Stands first w → Stands first (with_writer w n writer)
+  Stands-writer w n writer e g p h = record {
     kept = h.kept;
     there = λ s k f.
         let r = h.there s k f in
@@ -201,6 +220,7 @@ module _ (first : World) where
           payload = set-keeps (λ (x : Writer). x.payload) w.writers n k writer no_writer p ∙ r.payload;
         };
     closes = λ k. set-keeps (λ (x : Writer). x.closed) w.writers n k writer no_writer e ∙ h.closes k;
+    ends = λ k. set-keeps (λ (x : Writer). x.ended) w.writers n k writer no_writer g ∙ h.ends k;
   }
 
   -- something else is kept of a writer, and it is gone as it was
@@ -210,6 +230,7 @@ module _ (first : World) where
     kept = length-set w.state.producers n producer ∙ h.kept;
     there = λ s k f. let r = h.there s k f in record { there = r.there; known = r.known; payload = r.payload };
     closes = λ k. h.closes k ∙ ap (λ b. (writer_at first k).closed || b) (sym (set-keeps (λ (x : Producer). is_ended x.duty) w.state.producers n k producer no_producer e));
+    ends = λ k. h.ends k ∙ sym (set-keeps (λ (x : Producer). is_ended x.duty) w.state.producers n k producer no_producer e);
   }
 
   -- nothing becomes of host writers, and none gets a stream
@@ -228,6 +249,10 @@ module _ (first : World) where
         ap (λ ws. (writer_in ws k).closed) x
         ∙ h.closes k
         ∙ ap (λ ps. (writer_at first k).closed || is_ended (get_or ps k no_producer).duty) (sym e);
+    ends = λ k.
+        ap (λ ws. (writer_in ws k).ended) x
+        ∙ h.ends k
+        ∙ ap (λ ps. is_ended (get_or ps k no_producer).duty) (sym e);
   }
 
   -- all streams are as they were
@@ -251,6 +276,7 @@ module _ (first : World) where
           }
         ];
         closes = served.closes;
+        ends = served.ends;
       }
 
   -- ALL CHANGES
@@ -274,11 +300,11 @@ module _ (first : World) where
       says = λ w n room said more e h.
           let polled = with_writer w n (polled_writer (writer_at w n) room said more) in
           Stands-producer polled n (answered_producer polled n said.answer (past_room room said.items)) refl
-          (Stands-writer w n (polled_writer (writer_at w n) room said more) refl refl h);
+          (Stands-writer w n (polled_writer (writer_at w n) room said more) refl refl refl h);
       takes = λ w r took said more e. Stands-still w (with_reader w r (polled_reader (reader_at w r) took more)) refl refl (from_same w.state.streams);
       gives = λ w n k h.
           let writer = given_writer (writer_at w n) k in
-          Stands-producer (with_writer w n writer) n (record (producer_at w.state n) { holding = has_items writer.holds }) refl (Stands-writer w n writer refl refl h);
+          Stands-producer (with_writer w n writer) n (record (producer_at w.state n) { holding = has_items writer.holds }) refl (Stands-writer w n writer refl refl refl h);
       keeps = λ w n items. Stands-still w (with_kept w n items) refl refl (from_same w.state.streams);
     };
     reacts = λ w act. Stands-still w (with_state w (reaction w.state act).state) refl (reaction-producers w.state act) (reaction-from w.state act);
@@ -294,25 +320,35 @@ module _ (first : World) where
 
 -- WHERE A STEP STOPS
 
--- host writers are closed as they were
-abbrev pub SameClosed : World → World → Type 0
-SameClosed w v = (n : ℕ) → (writer_at v n).closed ≡ (writer_at w n).closed
+-- host writers are closed as they were, and gone as they were
+pub record SameClosed (w v : World) : Type 0 where
+  pub closed : (n : ℕ) → (writer_at v n).closed ≡ (writer_at w n).closed
+  pub ended : (n : ℕ) → (writer_at v n).ended ≡ (writer_at w n).ended
+
+same_set : (w : World) (n : ℕ) (writer : Writer) → writer.closed ≡ (writer_at w n).closed → writer.ended ≡ (writer_at w n).ended → SameClosed w (with_writer w n writer)
+same_set w n writer e g = record {
+  closed = λ k. set-keeps (λ (x : Writer). x.closed) w.writers n k writer no_writer e;
+  ended = λ k. set-keeps (λ (x : Writer). x.ended) w.writers n k writer no_writer g;
+}
 
 begins : Begins SameClosed
 begins = record {
-  stays = λ w n. refl;
-  joins = λ a b c f g n. g n ∙ f n;
-  opens = λ w s stream e n. ap (λ v. (writer_at v n).closed) (with_stream_in-same w s stream e.owners);
-  says = λ w n room said more e k. set-keeps (λ (x : Writer). x.closed) w.writers n k (polled_writer (writer_at w n) room said more) no_writer refl;
-  takes = λ w r took said more e n. refl;
-  gives = λ w n k j. set-keeps (λ (x : Writer). x.closed) w.writers n j (given_writer (writer_at w n) k) no_writer refl;
-  keeps = λ w n items k. refl;
+  stays = λ w. record { closed = λ n. refl; ended = λ n. refl };
+  joins = λ a b c f g. record { closed = λ n. g.closed n ∙ f.closed n; ended = λ n. g.ended n ∙ f.ended n };
+  opens = λ w s stream e. record {
+    closed = λ n. ap (λ v. (writer_at v n).closed) (with_stream_in-same w s stream e.owners);
+    ended = λ n. ap (λ v. (writer_at v n).ended) (with_stream_in-same w s stream e.owners);
+  };
+  says = λ w n room said more e. (let polled = same_set w n (polled_writer (writer_at w n) room said more) refl refl in record { closed = polled.closed; ended = polled.ended });
+  takes = λ w r took said more e. record { closed = λ n. refl; ended = λ n. refl };
+  gives = λ w n k. (let given = same_set w n (given_writer (writer_at w n) k) refl refl in record { closed = given.closed; ended = given.ended });
+  keeps = λ w n items. record { closed = λ k. refl; ended = λ k. refl };
 }
 
 stopping : Stopping SameClosed
 stopping = record {
   begins = begins;
-  polls = λ w n room said more e k. set-keeps (λ (x : Writer). x.closed) w.writers n k (polled_writer (writer_at w n) room said more) no_writer refl;
+  polls = λ w n room said more e. same_set w n (polled_writer (writer_at w n) room said more) refl refl;
 }
 
 -- RUNS
@@ -320,7 +356,7 @@ stopping = record {
 module _ (first : World) where
   pub part-closes : (w : World) (part : Part) → is_part part ≡ true → Comes (Kept first) SameClosed w (part_on w part)
   part-closes w (Acts (OnHost n (Feed bytes))) p =
-      feed-comes (Kept first) SameClosed (rules first) stopping w n bytes (λ e. Stands-writer first w n (fed_writer (writer_at w n) bytes) refl refl)
+      feed-comes (Kept first) SameClosed (rules first) stopping w n bytes (λ e. Stands-writer first w n (fed_writer (writer_at w n) bytes) refl refl refl)
   part-closes w (Acts (OnHost r (Grant count))) p =
       grant-comes (Kept first) SameClosed (rules first) stopping w r count
       (λ e. Stands-still first w (with_reader w r (granted_reader (reader_at w r) count)) refl refl (from_same first w.state.streams))
@@ -333,19 +369,38 @@ module _ (first : World) where
       let after : Stands first m.after = subst (Comes (Kept first) SameClosed m.before) f.goes (part-closes m.before m.part f.part) (subst (Stands first) (sym f.begins) h) in
       chain-closes m.after more c.1 after
 
-  stop-closes : (w : World) (stop : Stop) (writers : List Writer) (readers : List Reader) → StopsAt w stop writers readers → Stands first w → ClosesExactly first w.state writers
+  -- where a step stops
+  record Stopped (w : World) (writers : List Writer) : Type 0 where
+    closes : ClosesExactly first w.state writers
+    ends : EndsExactly w.state writers
+
+  stop-closes : (w : World) (stop : Stop) (writers : List Writer) (readers : List Reader) → StopsAt w stop writers readers → Stands first w → Stopped w writers
   stop-closes w stop writers readers s h =
       elim s.form [
         | inl p ↦
             let halted : Halted SameClosed w writers readers = subst (Comes (Kept first) SameClosed w) s.stopped (part-closes w s.part p) in
-            λ n. ap (λ ws. (writer_in ws n).closed) halted.is ∙ halted.kept n ∙ h.closes n
-        | inr e ↦ λ n. ap (λ ws. (writer_in ws n).closed) e.0 ∙ h.closes n
+            record {
+              closes = λ n. ap (λ ws. (writer_in ws n).closed) halted.is ∙ halted.kept.closed n ∙ h.closes n;
+              ends = λ n. ap (λ ws. (writer_in ws n).ended) halted.is ∙ halted.kept.ended n ∙ h.ends n;
+            }
+        | inr e ↦ record {
+          closes = λ n. ap (λ ws. (writer_in ws n).closed) e.0 ∙ h.closes n;
+          ends = λ n. ap (λ ws. (writer_in ws n).ended) e.0 ∙ h.ends n;
+        }
       ]
 
 none_ended : (m n : ℕ) → is_ended (get_or (replicate m no_producer) n no_producer).duty ≡ false
 none_ended zero n = refl
 none_ended (suc m) zero = refl
 none_ended (suc m) (suc n) = none_ended m n
+
+-- at first none is gone
+none_gone : (m : ℕ) (ws : List WriterTells) (logs : List (List WriterSaid)) (n : ℕ) → (get_or (writers_from (replicate m no_producer) ws logs) n no_writer).ended ≡ false
+none_gone m [] logs n = refl
+none_gone zero (w ∷ ws) logs zero = refl
+none_gone zero (w ∷ ws) logs (suc n) = none_gone zero ws (drop 1 logs) n
+none_gone (suc m) (w ∷ ws) logs zero = refl
+none_gone (suc m) (w ∷ ws) logs (suc n) = none_gone m ws (drop 1 logs) n
 
 pub or-false : (b : Bool) → (b || false) ≡ b
 or-false true = refl
@@ -358,6 +413,7 @@ Stands-start tag limits old new =
       kept = length-replicate {A = Producer} host_limit no_producer;
       there = λ s n e. absurd (no_host s n e);
       closes = λ n. sym (ap (λ b. (writer_at first n).closed || b) (none_ended host_limit n) ∙ or-false (writer_at first n).closed);
+      ends = λ n. none_gone host_limit old.writers (saids new).writers n ∙ sym (none_ended host_limit n);
     }
   where
     no_host : (s n : ℕ) → (get_or [] s no_stream).writer.owner ≡ Host n → ⊥
@@ -376,7 +432,15 @@ module _ (tag : ℕ) (limits : Limits) (old new : Tells) (run : List Step) where
   pub runs-close : (all : List Reply) (end : World) → play [] at_first run ≡ Ends all end → ClosesExactly at_first end.state end.writers
   runs-close all end e = subst (λ w. ClosesExactly at_first w.state w.writers) (play-ends all end [] at_first run e) run-stands.closes
 
-  pub stops-close : (all : List Reply) (stop : Stop) (writers : List Writer) (readers : List Reader) → play [] at_first run ≡ Halts all stop writers readers
-      → ClosesExactly at_first (last_of at_first (host_moments at_first run)).state writers
-  stops-close all stop writers readers e =
-      stop-closes at_first (last_of at_first (host_moments at_first run)) stop writers readers (play-halts stop writers readers [] at_first run all e) run-stands
+  module _ (all : List Reply) (stop : Stop) (writers : List Writer) (readers : List Reader) (e : play [] at_first run ≡ Halts all stop writers readers) where
+    abbrev before : World
+    before = last_of at_first (host_moments at_first run)
+
+    stopped : Stopped at_first before writers
+    stopped = stop-closes at_first before stop writers readers (play-halts stop writers readers [] at_first run all e) run-stands
+
+    pub stops-close : ClosesExactly at_first before.state writers
+    stops-close = stopped.closes
+
+    pub stops-end : EndsExactly before.state writers
+    stops-end = stopped.ends

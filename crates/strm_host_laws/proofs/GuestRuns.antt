@@ -40,6 +40,7 @@ use Rattle.strm_host_laws.proofs.Rooms.{has_room, room_next}
 use Rattle.strm_host_laws.proofs.FutureRead.{FutureRead}
 use Rattle.strm_host_laws.proofs.FuturesSeen.{effect_future, enters_future}
 use Rattle.strm_host_laws.proofs.ReadSeen.{entering, IsRead, ReadIn, effect_read, effect_enters, effect_unread}
+use Rattle.strm_host_laws.proofs.TakenItems.{run_items}
 use Rattle.strm_host_laws.proofs.HostAccounts.{is_hosted-push, is_piped-push, plains-push, host_got-push, all_taken-push, all_front, all_back, taken_unread, HostAccount, account_guests, whole_read, account_writing, account_reading}
 
 -- ## What holds of a run so far
@@ -328,7 +329,7 @@ module _ (tag : ℕ) (limits : Limits) (tells told : Tells) (run : List Step) (f
           told_writer = omega (arith, w.told, count);
           told_reader = omega (arith, r.told, count);
           count = count;
-          whole = run_keeps.whole g;
+          whole = run_keeps.whole g (run_items tag limits tells told run front s a);
         }
 
     pub stands_among : (side : Side) → Stands (stream_at end_state s).payload (waiting s side end_state) (calls s side (plains all_moments))
@@ -370,7 +371,7 @@ module _ (tag : ℕ) (limits : Limits) (tells told : Tells) (run : List Step) (f
           asked = among.asked;
           told = told_at;
           count = long ∙ among.count;
-          whole = subst (All IsSome) same (among.whole (subst (All IsSome) (sym (run_keeps.untaken none_had)) (All-nil IsSome)));
+          whole = subst (All IsSome) same among.whole;
         }
       where
         told_at : (side : Side) → all_reported (stream_at end_state s).kind s side (plains all_moments) + moved_at s side end_state ≡ length (got s (plains all_moments))

@@ -29,6 +29,7 @@ pub mod Took
 pub mod KeptItems
 pub mod FutureWritten
 pub mod Duties
+pub mod TakenItems
 pub mod ToldTaken
 pub mod Forms
 pub mod WrittenBack

@@ -31,10 +31,10 @@ use Rattle.strm_world.specs.Consuming.{lifted}
 use Rattle.strm_world.specs.Settling.{since_after}
 use Rattle.strm_world.specs.Attaching.{piped, without_ends, forsaken}
 use Rattle.strm_world.specs.HostPlays.{Ends, Halts, play}
-use Rattle.strm_world.specs.Does.{start}
+use Rattle.strm_world.specs.Does.{is_ended, start}
 use Rattle.strm_world.proofs.SettleLemmas.{delivered-owners}
 use Rattle.strm_host_laws.specs.HostMoments.{Part, Acts, HostMoment, part_on, host_moments, first_moments, last_of}
-use Rattle.strm_host_laws.specs.HostLaws.{is_ended, ReadersCloseExactly}
+use Rattle.strm_host_laws.specs.HostLaws.{ReadersCloseExactly}
 use Rattle.strm_host_laws.proofs.Chains.{is_part, Chain, moments-chain, first-chain, StopsAt, play-ends, play-halts}
 use Rattle.strm_host_laws.proofs.Closed.{is_new_reader, unused-unended, or-true, or-false}
 use Rattle.strm_host_laws.proofs.Effects.{pipe_is, loose_made}

@@ -47,6 +47,7 @@ use Rattle.strm_host_laws.proofs.ReadSeen.{taken_at, entering}
 use Rattle.strm_host_laws.proofs.Rooms.{HasRoom, WrittenOrRoom, written_or_room, written_or_room_next}
 use Rattle.strm_host_laws.proofs.Standing.{Holds, Holds-next, Holds-empty}
 use Rattle.strm_host_laws.proofs.StepsLeft.{left_after, Costs, first_cost}
+use Rattle.strm_host_laws.proofs.TakenItems.{run_items}
 use Rattle.strm_host_laws.proofs.Took.{TakesOn, Took, Rests, Takes, Passes, form_took}
 
 -- ## Items
@@ -403,5 +404,6 @@ pub run-tells_taken : (tag : ℕ) (limits : Limits) (old new : Tells) (run : Lis
 run-tells_taken tag limits old new run count s r a =
     let first = start tag limits old new in
     record {
-      told = told_run s r first (first_moments count first run) (length run) (first-chain count first run) (Holds-empty tag limits) (inr (omega (arith, a.few))) (first_cost s count first run a.bytes);
+      items = run_items tag limits old new run count s a;
+      told = λ e. told_run s r first (first_moments count first run) (length run) (first-chain count first run) (Holds-empty tag limits) (inr (omega (arith, a.few))) (first_cost s count first run a.bytes) e (run_items tag limits old new run count s a);
     }

@@ -53,6 +53,7 @@ pub record TakesOn (stream r : ℕ) (m : HostMoment) : Type 0 where
   pub busy : IsTaken Writing m.before.state stream → ⊥
   pub place : source stream (plain m) ≡ record { guest = operation.guest; address = operation.address }
   pub counts : HasRoom m.before.state stream m.part → received stream m.after.state ≡ received stream m.before.state + count
+  pub good : length (lifted m.before.state.guests (stream_in m.before stream).payload operation count) ≡ count
   pub holds : (reader_at m.after r).holds ≡ option_map (λ xs. xs ++ lifted m.before.state.guests (stream_in m.before stream).payload operation count) (reader_at m.before r).holds
 
 -- it tells what it told and uses no record, and nothing is received on a stream of which it has the read end
@@ -169,6 +170,7 @@ module _ (m : HostMoment) (h : Holds m.before.state) where
               let made = (owner_taken Reading w.state t j h i.owner).made in
               let room : HasRoom w.state t (Turns t) = subst (HasRoom w.state t) i.part_is has in
               counts_here w v t j write i.turned made (placed_small (sizes_of w.state.guests) (stream_in w t).payload write (waiting_placed Writing w.state t write made i.operation_is h.sound)) (room refl);
+          good = i.turned.good;
           holds = holds_here w v t j write i.turned;
         }))
         | inr ne ↦ Rests (record {
@@ -262,6 +264,10 @@ module _ (m : HostMoment) (h : Holds m.before.state) where
               told_counts Writing end address count j c t
               ∙ counts_here open_world c.mid t j write c.turned (subst (λ k. t < k) (sym (back-length w t stream)) found.made) (placed_small (sizes_of w.state.guests) (stream_in w t).payload write c.begun.placed) (omega (arith, was, room))
               ∙ ap (λ k. k + c.turned.said.taken) was;
+          good =
+              let n = c.turned.said.taken in
+              subst (λ gs. length (lifted gs (stream_in w t).payload write n) ≡ n) (back-guests w t stream)
+              (subst (λ (x : Stream). length (lifted open_world.state.guests x.payload write n) ≡ n) here c.turned.good);
           holds =
               told_holds Writing end address count j c j
               ∙ holds_here open_world c.mid t j write c.turned

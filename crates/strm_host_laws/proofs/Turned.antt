@@ -1,8 +1,8 @@
 -- What the turn of a host end does where it goes on: of a host writer the items that it hands over, the records
 -- that it uses, and what it holds then; of a host reader its record, and the items that it takes.
 use Rattle.std.proofs.Common.{◌≡◌, ℕ, zero, suc, ◌+◌, ◌≤◌, ◌||◌, ◌&&◌, Bool, List, [], ◌∷◌, ◌++◌, length, take, drop, Option, Some, None, true, false, refl, sym, ap, ◌∙◌, arith, append-nil, take-append-drop, length-take, length-append}
-use Rattle.std.proofs.lemmas.Bool.{cond_both, and_parts}
-use Rattle.std.specs.Prelude.{slice_set, nat_lt}
+use Rattle.std.proofs.lemmas.Bool.{cond_both, and_parts, eqb-true}
+use Rattle.std.specs.Prelude.{slice_set, nat_lt, not}
 use Rattle.std.proofs.lemmas.Bool.Decides.{nat_tests}
 use Rattle.strm_codes.specs.declared.codes.StreamResult.{StreamResult}
 use Rattle.strm_codes.specs.declared.codes.StreamResult.TheVariants as results
@@ -23,7 +23,7 @@ use Rattle.strm_machine.specs.declared.replies.Reply.{Reply}
 use Rattle.strm_world.specs.Ends.{Writer, no_writer, polled_writer, given_writer, polled_reader}
 use Rattle.strm_world.specs.World.{World, stream_in, writer_at, reader_at, with_writer, with_reader, with_stream_in}
 use Rattle.strm_world.specs.Outcomes.{done}
-use Rattle.strm_world.specs.Polls.{AfterWriter, is_failed, is_writer_poll, writer_says, is_reader_poll, tells_truly, reader_says}
+use Rattle.strm_world.specs.Polls.{AfterWriter, is_failed, is_writer_poll, writer_says, is_reader_poll, are_items, tells_truly, reader_says}
 use Rattle.strm_world.specs.Settling.{result_of, moved_on}
 use Rattle.strm_world.specs.Attaching.{has_items}
 use Rattle.strm_world.specs.Consuming.{lifted, with_taken, consumer_turn}
@@ -204,6 +204,8 @@ pub record Taken (w : World) (s r : ℕ) (write : Operation) (v : World) : Type 
   pub coming : (reader_at w r).coming ≡ said ∷ more
   pub polled : is_reader_poll write.left (consumer_at w.state r).since write.asked said ≡ true
   pub kept : breaks_as_reader (stream_in w s).kind said ≡ false
+  -- each item that it took is one
+  pub good : length (lifted w.state.guests (stream_in w s).payload write said.taken) ≡ said.taken
   pub is : v ≡ with_stream_in (taken_by w s r write said more) s (stream_taken w s write said)
 
 module _ (w : World) (s r : ℕ) (write : Operation) where
@@ -215,11 +217,15 @@ module _ (w : World) (s r : ℕ) (write : Operation) where
       → IfGoes (reader_says w s r write.left write.asked (lifted w.state.guests (stream_in w s).payload write) coming (λ after said. done (gave_up s r write after said))) AsTaken
   after_taking [] e = tt
   after_taking (said ∷ more) e =
+      let first = lifted w.state.guests (stream_in w s).payload write in
+      let polled = is_reader_poll write.left (consumer_at w.state r).since write.asked said in
+      let told = and_parts polled (tells_truly write.left first said) in
+      let took = λ (t : tells_truly write.left first said ≡ true). eqb-true (length (first said.taken)) said.taken (and_parts (are_items first said.taken) (not said.bad || (nat_lt said.taken write.left && not (are_items first (said.taken + 1)))) t).0 in
       cond_both (is_reader_poll write.left (consumer_at w.state r).since write.asked said && tells_truly write.left (lifted w.state.guests (stream_in w s).payload write) said) _ _ (λ o. IfGoes o AsTaken)
       (λ f. cond_both (is_failed said.answer) _ _ (λ o. IfGoes o AsTaken) (λ g. tt)
       (λ g. cond_both said.bad _ _ (λ o. IfGoes o AsTaken) (λ b. tt)
       (λ b. cond_both (breaks_as_reader (stream_in w s).kind said) _ _ (λ o. IfGoes o AsTaken) (λ k. tt)
-      (λ k. record { said = said; more = more; coming = e; polled = (and_parts (is_reader_poll write.left (consumer_at w.state r).since write.asked said) (tells_truly write.left (lifted w.state.guests (stream_in w s).payload write) said) f).0; kept = k; is = refl }))))
+      (λ k. record { said = said; more = more; coming = e; polled = (told f).0; kept = k; good = took (told f).1; is = refl }))))
       (λ f. tt)
 
   pub taking_is : IfGoes (consumer_turn w s r write) AsTaken

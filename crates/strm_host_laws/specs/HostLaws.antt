@@ -17,25 +17,18 @@ use Rattle.strm_machine.specs.declared.acts.EndAct.TheVariants.{Operate}
 use Rattle.strm_machine.specs.declared.acts.HostAct.TheVariants.{New, Feed, Pipe, Grant}
 use Rattle.strm_machine.specs.declared.replies.Reply.{Reply}
 use Rattle.strm_machine.specs.declared.replies.Reply.TheVariants as replies
-use Rattle.strm_machine.specs.declared.streams.Duty.{Duty}
-use Rattle.strm_machine.specs.declared.streams.Duty.TheVariants.{Ended}
 use Rattle.strm_machine.specs.declared.streams.Owner.{Owner}
 use Rattle.strm_machine.specs.declared.streams.Owner.TheVariants.{Host}
 use Rattle.strm_machine.specs.declared.streams.Side.{Side}
 use Rattle.strm_machine.specs.declared.streams.Side.TheVariants.{Writing, Reading}
 use Rattle.strm_world.specs.Ends.{Writer, Reader, writer_in, reader_in}
 use Rattle.strm_world.specs.World.{World, stream_in, writer_at, reader_at, held_of}
-use Rattle.strm_world.specs.Does.{SaidFits}
+use Rattle.strm_world.specs.Does.{is_ended, SaidFits}
 use Rattle.strm_laws.specs.Conservation.{calls, writes, reads, all_reported, all_handed}
 use Rattle.strm_laws.specs.Laws.{total, moved_at, IsAsked}
 use Rattle.strm_host_laws.specs.HostMoments.{Part, Acts, Turns, HostMoment}
 
 -- CLOSES
-
--- a host writer that was an end of a stream, and is gone
-abbrev pub is_ended : Duty → Bool
-is_ended Ended = true
-is_ended _ = false
 
 -- of host writers that tell this, in a run from a world to a state: those are closed that were closed
 -- at first, and those that became gone, and no others
@@ -43,6 +36,10 @@ abbrev pub ClosesExactly : World → State → List Writer → Type 0
 ClosesExactly first state writers =
     (n : ℕ) →
     (writer_in writers n).closed ≡ ((writer_at first n).closed || is_ended (producer_at state n).duty)
+
+-- those tell that they are gone that were ends of streams and are none any more, and no others
+abbrev pub EndsExactly : State → List Writer → Type 0
+EndsExactly state writers = (n : ℕ) → (writer_in writers n).ended ≡ is_ended (producer_at state n).duty
 
 -- RECORDS AND FEEDS
 
@@ -309,10 +306,11 @@ pub record ReaderStops (before after : Reader) : Type 0 where
   pub kind : after.kind ≡ before.kind
   pub payload : after.payload ≡ before.payload
 
--- a host reader that tells what it took has, behind what it had at first, exactly what was taken of its
--- stream, if all of that are items
+-- what host readers took of a stream are items; and a host reader that tells what it took has, behind what it
+-- had at first, exactly what was taken of its stream
 pub record TellsTaken (s r : ℕ) (all : List HostMoment) (first last : Reader) : Type 0 where
-  pub told : is_pipe_of s r all ≡ true → All IsSome (all_taken s all) →
+  pub items : All IsSome (all_taken s all)
+  pub told : is_pipe_of s r all ≡ true →
       option_map (λ xs. map Some xs) last.holds
       ≡ option_map (λ xs. map Some xs ++ all_taken s all) first.holds
 
@@ -321,7 +319,7 @@ pub record TellsTaken (s r : ℕ) (all : List HostMoment) (first last : Reader) 
 -- on stream s, which guests write, what was received is what the writes handed over, item by item, whoever
 -- received it. It is as many items as the writes report, or have moved so far, and as the reads do, together
 -- with what host readers took; no call reports more than it asked for. All that was told to an end adds up to
--- the same; as many were counted, and each is an item, if what host readers took are items
+-- the same; as many were counted, and each is an item
 pub record ConservesAmong (s : ℕ) (all : List HostMoment) (end : State) : Type 0 where
   pub items :
       host_got s all
@@ -342,7 +340,7 @@ pub record ConservesAmong (s : ℕ) (all : List HostMoment) (end : State) : Type
       + length (all_taken s all)
       ≡ length (host_got s all)
   pub count : length (host_got s all) ≡ received s end
-  pub whole : All IsSome (all_taken s all) → All IsSome (host_got s all)
+  pub whole : All IsSome (host_got s all)
 
 -- MOVES
 

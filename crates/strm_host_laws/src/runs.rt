@@ -16,7 +16,7 @@ ghost use Rattle.strm_world.specs.Does.{start};
 ghost use Rattle.strm_laws.specs.Laws.{AreSteps};
 ghost use Rattle.strm_host_laws.specs.HostMoments.{host_moments, first_moments, last_of};
 ghost use Rattle.strm_host_laws.specs.Isolation.{AreIsolated};
-ghost use Rattle.strm_host_laws.specs.HostLaws.{ClosesExactly, WriterGoesOn, WriterStops, Supplies, DeliversAll, ReadersCloseExactly, ReaderGoesOn, ReaderStops, TellsTaken};
+ghost use Rattle.strm_host_laws.specs.HostLaws.{ClosesExactly, EndsExactly, WriterGoesOn, WriterStops, Supplies, DeliversAll, ReadersCloseExactly, ReaderGoesOn, ReaderStops, TellsTaken};
 
 /// The moments of a run lead to where its play ends, from whichever world.
 pub fn moments_lead_to_the_end()
@@ -26,7 +26,7 @@ pub fn moments_lead_to_the_end()
 
 /// Exactly the host writers that became gone were closed: after whichever steps a host writer is closed
 /// where it was closed at first, and where it was an end of a stream and is none any more, and nowhere
-/// else. A step that stops closes none.
+/// else. A step that stops closes none, and those tell then that they are gone that were gone before it.
 pub fn ends_close_exactly()
     ensures runs { (tag : ℕ) (limits : Limits) (old new : Tells) (run : List Step) (replies : List Reply)
         (end : World) → play [] (start tag limits old new) run ≡ Ends replies end →
@@ -40,6 +40,11 @@ pub fn ends_close_exactly()
         play [] (start tag limits old new) run ≡ Halts replies stop writers readers →
         ClosesExactly (start tag limits old new)
         (last_of (start tag limits old new) (host_moments (start tag limits old new) run)).state writers }
+    ensures gone { (tag : ℕ) (limits : Limits) (old new : Tells) (run : List Step) (replies : List Reply)
+        (stop : Stop) (writers : List Writer) (readers : List Reader) →
+        play [] (start tag limits old new) run ≡ Halts replies stop writers readers →
+        EndsExactly (last_of (start tag limits old new) (host_moments (start tag limits old new) run)).state
+        writers }
 {}
 
 /// Exactly the host readers that became gone were closed, as for host writers.
@@ -96,10 +101,10 @@ pub fn producers_deliver_in_order()
         (last_of (start tag limits old new) (first_moments count (start tag limits old new) run)) }
 {}
 
-/// A host reader that got the read end of a stream has taken, behind what it held at first, exactly the
-/// items that left the writes there, in order, each as it lay in its guest's memory just before it was taken,
-/// or the front of what the stream's host writer held and produced, where each of them is an item: so what it
-/// tells is what was taken.
+/// What host readers take of a stream are items, each of them. A host reader that got the read end of a
+/// stream has taken, behind what it held at first, exactly the items that left the writes there, in order,
+/// each as it lay in its guest's memory just before it was taken, or the front of what the stream's host
+/// writer held and produced: so what it tells is what was taken.
 pub fn readers_tell_what_they_took()
     ensures { (tag : ℕ) (limits : Limits) (old new : Tells) (run : List Step) (count : ℕ) (s r : ℕ) → AreSteps run →
         TellsTaken s r (first_moments count (start tag limits old new) run)

@@ -1,47 +1,41 @@
 -- Plays among host ends, step by step, on whatever records are yet to come.
-use Rattle.std.proofs.Common.{◌≡◌, ℕ, ◌+◌, ◌≤◌, false, List, [], ◌∷◌, ◌++◌, length, take, drop, suc, Ok, Err, Option, Some, None, refl, sym, ap, subst, ◌∙◌, append_assoc, arith}
-use Rattle.std.proofs.Math.Seq.{split_at, drop-length}
+use Rattle.std.proofs.Common.{◌≡◌, ℕ, ◌+◌, ◌≤◌, false, List, [], ◌∷◌, ◌++◌, length, take, drop, get_or, suc, Ok, Err, Option, Some, None, refl, sym, ap, subst, ◌∙◌, append_assoc, arith}
+use Rattle.std.proofs.Math.Seq.{split_at}
 use Rattle.std.proofs.lemmas.List.{append-nil, take_all}
 use Rattle.std.proofs.Math.Nat.{le_trans}
-use Rattle.strm_buffers.specs.Tells.{Tells}
-use Rattle.strm_machine.specs.State.{State}
+use Rattle.strm_buffers.specs.Said.{WriterSaid}
+use Rattle.strm_buffers.specs.Tells.{WriterTells, Tells}
+use Rattle.strm_machine.specs.State.{State, no_producer}
+use Rattle.strm_machine.specs.declared.streams.Duty.{Duty}
+use Rattle.strm_machine.specs.declared.streams.Duty.TheVariants.{Unused, Serves, Ended}
+use Rattle.strm_machine.specs.declared.streams.Producer.{Producer}
 use Rattle.strm_machine.specs.declared.steps.Step.{Step}
 use Rattle.strm_machine.specs.declared.replies.Reply.{Reply}
 use Rattle.strm_machine.specs.declared.stops.Stop.{Stop}
 use Rattle.strm_machine.specs.declared.streams.HostEnd.{HostEnd}
 use Rattle.strm_world.specs.Outcomes.{Outcome}
 use Rattle.strm_world.specs.Steps.{step_of}
-use Rattle.strm_world.specs.HostPlays.{play, after_step, Ends}
+use Rattle.strm_world.specs.HostPlays.{play, after_step, Ends, Halts}
+use Rattle.strm_world.specs.Ends.{Writer, Reader, writer_in}
 use Rattle.strm_world.specs.World.{World}
-use Rattle.strm_world.specs.Asking.{GuestAsksBad, AsksBadItem, ByGuest, InCall, InDrive}
+use Rattle.strm_host_laws.specs.HostLaws.{EndsExactly}
+use Rattle.strm_world.specs.Asking.{GuestAsksBad, AsksBadItem, ByGuest, InCall, InDrive, stands_at}
 use Rattle.strm_world.proofs.AskingLemmas.{stops-asks, asks-stops}
 use Rattle.strm_machine.specs.Reactions.{Reaction}
 use Rattle.strm_machine.specs.declared.stops.Stop.TheVariants.{HostFailed, BadItem}
 use Rattle.strm_machine.proofs.AskedLemmas.{bad-traps}
 use Rattle.std.specs.Prelude.{slice_get}
 use Rattle.std.proofs.lemmas.Option.{slice_get_within, slice_get-get_or}
-use Rattle.strm_world.specs.Does.{Logs, Begins, AllBegin, saids, Extends, world_of, spent, faults_of, Caused, Does, RunsTo, AreSuppliedSince}
-use Rattle.strm_world.proofs.DoesLemmas.{rose_more}
+use Rattle.strm_world.specs.Does.{Logs, saids, Extends, is_ended, first_duty, first_log, writer_of, writers_from, world_of, spent, faults_of, Caused, Does, RunsTo, StopsWith, AreSuppliedSince}
+use Rattle.strm_world.proofs.DoesLemmas.{rose_more, extends_self}
 use Rattle.strm_world.proofs.GrowLemmas.{supplied_since_itself}
 use Rattle.strm_session.specs.Records.{HostsGoOn}
-use Rattle.strm_session.specs.Runs.{start, start_among, stop_of, HaltsBy, Raised, StaysThere, StopsAsking, WantsUnmet, StopsAmong, WantsThere, Before, Behind, InPoll, BeforeOffer, StopsWanting, WantsStep, Polling, Untouched, Unkept, LeavesWanting}
+use Rattle.strm_session.specs.Runs.{start, start_among, stop_of, halted_in, HaltsBy, Raised, StaysThere, StopsAsking, WantsUnmet, StopsAmong, WantsThere, Before, Behind, InPoll, BeforeOffer, StopsWanting, WantsStep, Polling, Untouched, Unkept, LeavesWanting}
 use Rattle.strm_transmit.specs.Hosted.{lone}
 use Rattle.strm_transmit.specs.WantsMemory.{WantsInPoll, InAPoll, InADrive}
 use Rattle.strm_session.specs.declared.runs.RunCause.{RunCause}
 use Rattle.strm_session.specs.declared.runs.RunCause.TheVariants as causes
 use Rattle.strm_session.proofs.PlayLemmas.{IsAt, take-at}
-
-module _ {A : Type 0} where
-  begins_self : (said : List A) → Begins said said
-  begins_self said = sym (ap (λ rest. said ++ rest) (drop-length said) ∙ append-nil said)
-
-  all_begin_self : (saids : List (List A)) → AllBegin saids saids
-  all_begin_self [] = tt
-  all_begin_self (said ∷ more) = (begins_self said, all_begin_self more)
-
--- where no more is to come
-pub extends_self : (tells : Tells) → Extends tells (saids tells)
-extends_self tells = (all_begin_self (saids tells).writers, all_begin_self (saids tells).readers)
 
 -- a call that did nothing to host ends
 pub goes_on_itself : (tells : Tells) → HostsGoOn tells tells
@@ -64,6 +58,48 @@ pub record LedAmong (old : Tells) (steps : List Step) (k : ℕ) (told : List Rep
 pub led_none : (old : Tells) (steps : List Step) → LedAmong old steps 0 [] start old
 led_none old steps = record { led = λ logs e. record { begins = e; goes_on = λ more. refl }; faults = λ end. omega arith; supplied = supplied_since_itself old }
 
+-- WHERE THE MACHINE HALTS
+
+-- what it knows of a host writer, by whether that is gone
+same_gone : (d e : Duty) (w : WriterTells) (log : List WriterSaid) → is_ended d ≡ is_ended e → writer_of d w log ≡ writer_of e w log
+same_gone Ended Ended w log e = refl
+same_gone Ended Unused w log e = cc
+same_gone Ended (Serves s) w log e = cc
+same_gone Unused Ended w log e = cc
+same_gone Unused Unused w log e = refl
+same_gone Unused (Serves s) w log e = refl
+same_gone (Serves s) Ended w log e = cc
+same_gone (Serves s) Unused w log e = refl
+same_gone (Serves s) (Serves t) w log e = refl
+
+first_of : (ps : List Producer) → first_duty ps ≡ (get_or ps 0 no_producer).duty
+first_of [] = refl
+first_of (p ∷ ps) = refl
+
+rest_of : (ps : List Producer) (n : ℕ) → (get_or (drop 1 ps) n no_producer).duty ≡ (get_or ps (suc n) no_producer).duty
+rest_of [] n = refl
+rest_of (p ∷ ps) n = refl
+
+-- and of all of them
+all_gone : (ps qs : List Producer) (ws : List WriterTells) (logs : List (List WriterSaid)) → ((n : ℕ) → (writer_in (writers_from ps ws logs) n).ended ≡ is_ended (get_or qs n no_producer).duty) → writers_from ps ws logs ≡ writers_from qs ws logs
+all_gone ps qs [] logs h = refl
+all_gone ps qs (w ∷ ws) logs h =
+    ap (λ x. x ∷ writers_from (drop 1 ps) ws (drop 1 logs)) (same_gone (first_duty ps) (first_duty qs) w (first_log logs) (h 0 ∙ ap is_ended (sym (first_of qs))))
+    ∙ ap (λ xs. writer_of (first_duty qs) w (first_log logs) ∷ xs) (all_gone (drop 1 ps) (drop 1 qs) ws (drop 1 logs) (λ n. h (suc n) ∙ ap is_ended (sym (rest_of qs n))))
+
+-- where the machine halts in these steps, host writers tell that they are gone as its state has it
+abbrev pub WritersGone : World → List Step → Type 0
+WritersGone first steps =
+    (replies : List Reply) (stop : Stop) (writers : List Writer) (readers : List Reader) → play [] first steps ≡ Halts replies stop writers readers → EndsExactly (halted_in first steps) writers
+
+-- so what they tell in a store's state there they tell in the machine's
+module _ (first : World) (steps : List Step) (gone : WritersGone first steps) (told : List Reply) (stop : Stop) (new : Tells) (state : State) (e : StopsWith first steps told stop new state) where
+  same_there : (spent state new).writers ≡ (spent (halted_in first steps) new).writers
+  same_there = all_gone state.producers (halted_in first steps).producers new.writers (saids new).writers (gone told stop _ _ e)
+
+  halts_there : HaltsBy first steps told new (Some stop)
+  halts_there = e ∙ ap (λ ws. Halts told stop ws (spent state new).readers) same_there
+
 -- one step more, which is answered or stops the run
 module _ (old now new : Tells) (steps : List Step) (k : ℕ) (step : Step) (told : List Reply) (state next : State) (at : IsAt steps k step) (l : LedAmong old steps k told state now) where
   pub led_more : (reply : Reply) → Does state next now new (Ok reply) (λ w. step_of w step) → LedAmong old steps (k + 1) (told ++ reply ∷ []) next new
@@ -81,17 +117,18 @@ module _ (old now new : Tells) (steps : List Step) (k : ℕ) (step : Step) (told
     supplied = d.supplied old l.supplied;
   }
 
-  halts_by : (stop : Option Stop) → Does state next now new (Err stop) (λ w. step_of w step) → HaltsBy (start_among old new) steps told new stop
-  halts_by None d = tt
-  halts_by (Some stop) d =
+  halts_with : (stop : Stop) → Does state next now new (Err (Some stop)) (λ w. step_of w step) → StopsWith (start_among old new) steps told stop new next
+  halts_with stop d =
       let logs = saids new in
       let rest = drop (suc k) steps in
       let e = extends_self new in
-      let cut : steps ≡ take k steps ++ step ∷ rest = split_at steps k step at.inside ∙ ap (λ s. take k steps ++ s ∷ rest) at.is in (
-        next,
-        ap (play [] (start_among old new)) cut ∙ (l.led logs (d.begins logs e)).goes_on (step ∷ rest)
-            ∙ ap (λ (o : Outcome). after_step told o (λ told' world'. play told' world' rest)) (d.gives logs e),
-      )
+      let cut : steps ≡ take k steps ++ step ∷ rest = split_at steps k step at.inside ∙ ap (λ s. take k steps ++ s ∷ rest) at.is in
+      ap (play [] (start_among old new)) cut ∙ (l.led logs (d.begins logs e)).goes_on (step ∷ rest)
+      ∙ ap (λ (o : Outcome). after_step told o (λ told' world'. play told' world' rest)) (d.gives logs e)
+
+  halts_by : WritersGone (start_among old new) steps → (stop : Option Stop) → Does state next now new (Err stop) (λ w. step_of w step) → HaltsBy (start_among old new) steps told new stop
+  halts_by gone None d = tt
+  halts_by gone (Some stop) d = halts_there (start_among old new) steps gone told stop new next (halts_with stop d)
 
   raised_by : (cause : RunCause) → Caused (Err (stop_of cause)) now new → Raised old new cause
   raised_by (causes.HostFailed end) c = rose_more (faults_of old end) (faults_of now end) (faults_of new end) (l.faults end) c
@@ -114,11 +151,13 @@ module _ (old now new : Tells) (steps : List Step) (k : ℕ) (step : Step) (told
   stays_there s (InDrive d) t = tt
 
   -- a step that stops at a bad item asks for it, and nothing moves
-  asking : (cause : RunCause) → length told ≡ k → state.trapped ≡ false → Does state next now new (Err (stop_of cause)) (λ w. step_of w step) → StopsAsking (start_among old new) steps told new cause
-  asking (causes.BadItem s) n t d =
+  asking : WritersGone (start_among old new) steps → (cause : RunCause) → length told ≡ k → state.trapped ≡ false → Does state next now new (Err (stop_of cause)) (λ w. step_of w step) → StopsAsking (start_among old new) steps told new cause
+  asking gone (causes.BadItem s) n t d =
       let gives = d.gives (saids new) (extends_self new) in
       let a = stops-asks before_it step t s _ _ gives in
       let same = sym gives ∙ asks-stops before_it step t s a in
+      let there = same_there (start_among old new) steps gone told (BadItem s) new next (halts_with (BadItem s) d) in
+      let stood : (spent next new).writers ≡ (stands_at before_it step s a).writers = cc in
       record {
         asks = record {
           world = before_it;
@@ -128,11 +167,10 @@ module _ (old now new : Tells) (steps : List Step) (k : ℕ) (step : Step) (told
           bad = a;
         };
         stays = stays_there s a t;
-        state = next;
-        writers = cc;
+        writers = sym there ∙ stood;
         readers = cc;
       }
-  asking _ n t d = tt
+  asking gone _ n t d = tt
 
   -- in a step that wants memory guests do not meet at a bad item
   unmet_there : (cause : RunCause) → length told ≡ k → (cause ≡ causes.OutOfMemory → (s : ℕ) → GuestAsksBad (lone state) step s → ⊥) → WantsUnmet before_it steps told cause
@@ -146,19 +184,23 @@ module _ (old now new : Tells) (steps : List Step) (k : ℕ) (step : Step) (told
   unmet_there (causes.HostFailed end) n m = tt
   unmet_there (causes.HostBroke end) n m = tt
 
+  -- where memory was wanted, guests did not meet at a bad item
+  abbrev pub NoneMet : RunCause → Type 0
+  NoneMet cause = cause ≡ causes.OutOfMemory → (s : ℕ) → GuestAsksBad (lone state) step s → ⊥
+
   -- a step that stops a run stops it so
-  pub stops_among : (cause : RunCause) → length told ≡ k → state.trapped ≡ false → (cause ≡ causes.OutOfMemory → (s : ℕ) → GuestAsksBad (lone state) step s → ⊥) → Does state next now new (Err (stop_of cause)) (λ w. step_of w step) → StopsAmong old new steps told cause
-  stops_among cause n t m d = record {
+  pub stops_among : WritersGone (start_among old new) steps → (cause : RunCause) → length told ≡ k → state.trapped ≡ false → NoneMet cause → Does state next now new (Err (stop_of cause)) (λ w. step_of w step) → StopsAmong old new steps told cause
+  stops_among gone cause n t m d = record {
     world = before_it;
     before = led_before (stop_of cause) n d;
-    halts = halts_by (stop_of cause) d;
+    halts = halts_by gone (stop_of cause) d;
     raised = raised_by cause d.cause;
-    asks = asking cause n t d;
+    asks = asking gone cause n t d;
     unmet = unmet_there cause n m;
   }
 
 -- what host ends tell where the step of number k found no memory
-module _ (old now new : Tells) (steps : List Step) (k : ℕ) (step : Step) (told : List Reply) (state next : State) (at : IsAt steps k step) (l : LedAmong old steps k told state now) (n : length told ≡ k) where
+module _ (old now new : Tells) (steps : List Step) (k : ℕ) (step : Step) (told : List Reply) (state next : State) (at : IsAt steps k step) (l : LedAmong old steps k told state now) (n : length told ≡ k) (gone : (tells : Tells) → WritersGone (start_among old tells) steps) where
   abbrev among : World
   among = start_among old new
 
@@ -175,8 +217,7 @@ module _ (old now new : Tells) (steps : List Step) (k : ℕ) (step : Step) (told
   -- had the host end that was polled failed
   polled_there : WantsInPoll state now new (λ w. step_of w step) → WantsThere old new steps told
   polled_there w =
-      let halts = halts_by old now w.more steps k step told state w.state at l (Some (HostFailed w.end)) w.does in
-      InPoll w.end w.more halts.0 w.fails halts.1
+      InPoll w.end w.more w.fails (halts_by old now w.more steps k step told state w.state at l (gone w.more) (Some (HostFailed w.end)) w.does)
 
   pub wants_there : Extends now (saids new) → WantsStep state next now new step → WantsThere old new steps told
   wants_there e (Polling (InAPoll w)) = polled_there w

@@ -72,7 +72,7 @@ module _ (first : World) (steps : List Step) where
 
   pub stop_closes : WritersClose → ReadersClose → (told : List Reply) (new : Tells) (stop : Option Stop) → HaltsBy first steps told new stop → StopCloses first steps new stop
   stop_closes w r told new None h = tt
-  stop_closes w r told new (Some stop) h = (h.0, w told stop _ _ h.1, r told stop _ _ h.1)
+  stop_closes w r told new (Some stop) h = (w told stop _ _ h, r told stop _ _ h)
 
   -- and each used the records of its polls there
   abbrev pub WritersStop : Type 0
@@ -85,4 +85,4 @@ module _ (first : World) (steps : List Step) where
 
   pub stop_uses : WritersStop → ReadersStop → (told : List Reply) (new : Tells) (stop : Option Stop) → HaltsBy first steps told new stop → StopUses first steps new stop
   stop_uses w r told new None h = tt
-  stop_uses w r told new (Some stop) h = (h.0, w told stop _ _ h.1, r told stop _ _ h.1)
+  stop_uses w r told new (Some stop) h = (w told stop _ _ h, r told stop _ _ h)

@@ -9,8 +9,6 @@ pub mod LawLemmas
 pub mod KeptLemmas
 pub mod SuppliedLemmas
 pub mod GeneratedLemmas
-pub mod LaterLemmas
-pub mod StepRecordLemmas
 pub mod RecordLemmas
 pub mod PlayingLemmas
 pub mod TrapLemmas

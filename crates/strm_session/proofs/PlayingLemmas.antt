@@ -26,7 +26,8 @@ use Rattle.strm_session.specs.Records.{StopsByRecord, StopRules}
 use Rattle.strm_session.specs.Runs.{start, start_among, AreOfGuests, counts_of, stop_of, StopsAmong, StopsWanting, LeavesWanting, Before, StopsStep, StopsAt, HasStopped}
 use Rattle.strm_session.specs.Playing.{IsPlayed, HasRun}
 use Rattle.strm_session.proofs.PlayLemmas.{IsAt, stops, stopped_before}
-use Rattle.strm_session.proofs.AmongLemmas.{extends_self, LedAmong, led_none, led_more, begins_among, runs_to, stops_among, stops_behind, wanting_there}
+use Rattle.strm_world.proofs.DoesLemmas.{extends_self}
+use Rattle.strm_session.proofs.AmongLemmas.{WritersGone, LedAmong, led_none, led_more, begins_among, runs_to, stops_among, stops_behind, wanting_there}
 use Rattle.strm_session.proofs.KeptLemmas.{LawsAmong, LeadsAmong, WritersClose, ReadersClose, WritersStop, ReadersStop, are_first, kept_among, stop_kept, stop_closes, stop_uses, delivers_each}
 use Rattle.strm_session.proofs.LawLemmas.{LawsHold, StepHolds, run_kept, front_kept}
 use Rattle.strm_session.proofs.RecordLemmas.{KeepOn, keep_none, rules_of_stop, rules_more, hosts_before, stops_by_record}
@@ -71,7 +72,7 @@ module _ (old now new : Tells) (steps left rest : List Step) (k : ℕ) (step : S
   abbrev Aside : Type 0 → Type 0
   Aside P = touches (lone state) (act_of step) ≡ false → P
 
-  module _ (laws : LawsAmong (start_among old now)) (leads : LeadsAmong (start_among old now)) (few : length steps ≤ 4294967295) where
+  module _ (laws : LawsAmong (start_among old now)) (leads : LeadsAmong (start_among old now)) (gone : (tells : Tells) → WritersGone (start_among old tells) steps) (few : length steps ≤ 4294967295) where
     -- with what this step puts into a memory
     bytes_more : HasBytes step → All HasBytes (take (k + 1) steps)
     bytes_more bytes =
@@ -104,11 +105,11 @@ module _ (old now new : Tells) (steps left rest : List Step) (k : ℕ) (step : S
           let touched = λ (all : AreOfGuests steps). alone (untouched_at steps k step state at.0 (alone_before old now steps k told state p.alone all).unhosted all) in
           record {
             ok = tt;
-            stop = stops_among old now new steps k step told state next at.0 p.led cause p.count p.running unmet d;
+            stop = stops_among old now new steps k step told state next at.0 p.led (gone new) cause p.count p.running unmet d;
             by_record = stops_by_record old now new state next step (stop_of cause) begins hold p.fits d;
             rules_kept = tt;
             rules = rules_of_stop old now new state next step (stop_of cause) p.keeps hold p.fits d;
-            wanting = wanting_there old now new steps k step told state next at.0 p.led p.count cause (d.begins _ (extends_self new)) wants;
+            wanting = wanting_there old now new steps k step told state next at.0 p.led p.count gone cause (d.begins _ (extends_self new)) wants;
             alone = λ _. tt;
             stop_alone = λ all.
                 let l = alone_before old now steps k told state p.alone all in (

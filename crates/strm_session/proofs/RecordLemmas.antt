@@ -1,5 +1,4 @@
--- Where a run stops since a host end failed or broke its rules, the record that says so is the last that the
--- end made.
+-- The records that a run added: each keeps the rules, and where a host end stopped it, its last one says why.
 use Rattle.std.proofs.Common.{◌≡◌, ℕ, zero, suc, List, [], ◌∷◌, ◌++◌, length, take, drop, map, get_or, Option, Some, None, Ok, Err, inl, inr, refl, sym, ap, ◌∙◌, subst, append_assoc, arith}
 use Rattle.std.proofs.lemmas.List.{drop_all, append-nil}
 use Rattle.std.proofs.lemmas.List.Elements.{All-nil, All-append}
@@ -17,94 +16,34 @@ use Rattle.strm_buffers.specs.Tells.{WriterTells, ReaderTells, Tells, no_tells, 
 use Rattle.strm_machine.specs.declared.streams.Producer.{Producer}
 use Rattle.strm_world.specs.Does.{AllBegin, Extends, saids, writers_from, readers_from, world_of, spent, Logs, Fits, Does}
 use Rattle.strm_world.specs.HostPlays.{play, Ends}
-use Rattle.strm_session.proofs.LaterLemmas.{Behind_one, Used, UsedLast, EndsFit}
-use Rattle.strm_session.proofs.StepRecordLemmas.{NamedBy, Halts, step-halts}
+use Rattle.strm_world.proofs.DoesLemmas.{extends_self}
+use Rattle.strm_world.proofs.LaterLemmas.{Used, UsedLast}
+use Rattle.strm_world.proofs.StepRecordLemmas.{Halts, act-halts}
+use Rattle.strm_world.proofs.LastRecordLemmas.{writer-coming, writer-spent, writer-kind, reader-coming, reader-spent, reader-kind, AreServing, ends_fit, halts_by_record}
+use Rattle.strm_world.specs.LastRecord.{SaysFailed, SaysBroken, ReaderSaysFailed, ReaderSaysBroken, SaysLast, HaltsByRecord, KeepsRules, ReaderKeepsRules, SaysWhy, ReaderSaysWhy}
+use Rattle.strm_machine.specs.Acts.{act_of}
 use Rattle.strm_world.specs.Steps.{step_of}
-use Rattle.strm_session.specs.Records.{SaysFailed, SaysBroken, ReaderSaysFailed, ReaderSaysBroken, SaysLast, HaltsByRecord, StopsByRecord, KeepsRules, ReaderKeepsRules, SaysWhy, ReaderSaysWhy, AddsKept, AddsWhy, WriterKeeps, WriterTellsWhy, ReaderKeeps, ReaderTellsWhy, RulesKept, RulesKeptBut, StopRules}
+use Rattle.strm_session.specs.Records.{StopsByRecord, AddsKept, AddsWhy, WriterKeeps, WriterTellsWhy, ReaderKeeps, ReaderTellsWhy, RulesKept, RulesKeptBut, StopRules}
 use Rattle.strm_session.specs.Runs.{start_among}
 use Rattle.strm_machine.specs.Hosting.{HostsHold}
 use Rattle.strm_laws.specs.Laws.{AreSteps}
-use Rattle.strm_session.proofs.AmongLemmas.{LedAmong, extends_self}
+use Rattle.strm_session.proofs.AmongLemmas.{LedAmong}
 use Rattle.strm_session.proofs.KeptLemmas.{LawsAmong, LeadsAmong, all_laws}
 use Rattle.strm_machine.specs.declared.streams.HostEnd.TheVariants as ends
 
--- WHAT HOST ENDS TELL
+-- where host ends and streams agree, a host end that has an end of a stream serves it
+serving : (state : State) → HostsHold state → AreServing state
+serving state h side n s = (h.serve side n s).serves
 
--- what is to come of a host writer is what it says behind what it said
-writer-coming : (ps : List Producer) (ws vs : List WriterTells) (n : ℕ) → AllBegin (map (λ w. w.said) ws) (map (λ w. w.said) vs) → (get_or vs n no_tells).said ≡ (get_or ws n no_tells).said ++ (get_or (writers_from ps ws (map (λ w. w.said) vs)) n no_writer).coming
-writer-coming ps [] [] n b = refl
-writer-coming ps [] (v ∷ vs) n b = absurd b
-writer-coming ps (w ∷ ws) [] n b = absurd b
-writer-coming ps (w ∷ ws) (v ∷ vs) zero b = b.0
-writer-coming ps (w ∷ ws) (v ∷ vs) (suc n) b = writer-coming (drop 1 ps) ws vs n b.1
-
-writer-spent : (ps : List Producer) (vs : List WriterTells) (n : ℕ) → (get_or (writers_from ps vs (map (λ w. w.said) vs)) n no_writer).coming ≡ []
-writer-spent ps [] n = refl
-writer-spent ps (v ∷ vs) zero = drop_all (length v.said) v.said (omega arith)
-writer-spent ps (v ∷ vs) (suc n) = writer-spent (drop 1 ps) vs n
-
-writer-kind : (ps : List Producer) (vs : List WriterTells) (logs : List (List WriterSaid)) (n : ℕ) → (get_or (writers_from ps vs logs) n no_writer).kind ≡ (get_or vs n no_tells).kind
-writer-kind ps [] logs n = refl
-writer-kind ps (v ∷ vs) logs zero = refl
-writer-kind ps (v ∷ vs) logs (suc n) = writer-kind (drop 1 ps) vs (drop 1 logs) n
-
--- the same of a host reader
-reader-coming : (ws vs : List ReaderTells) (n : ℕ) → AllBegin (map (λ w. w.said) ws) (map (λ w. w.said) vs) → (get_or vs n no_reader_tells).said ≡ (get_or ws n no_reader_tells).said ++ (get_or (readers_from ws (map (λ w. w.said) vs)) n no_reader).coming
-reader-coming [] [] n b = refl
-reader-coming [] (v ∷ vs) n b = absurd b
-reader-coming (w ∷ ws) [] n b = absurd b
-reader-coming (w ∷ ws) (v ∷ vs) zero b = b.0
-reader-coming (w ∷ ws) (v ∷ vs) (suc n) b = reader-coming ws vs n b.1
-
-reader-spent : (vs : List ReaderTells) (n : ℕ) → (get_or (readers_from vs (map (λ w. w.said) vs)) n no_reader).coming ≡ []
-reader-spent [] n = refl
-reader-spent (v ∷ vs) zero = drop_all (length v.said) v.said (omega arith)
-reader-spent (v ∷ vs) (suc n) = reader-spent vs n
-
-reader-kind : (vs : List ReaderTells) (logs : List (List ReaderSaid)) (n : ℕ) → (get_or (readers_from vs logs) n no_reader).kind ≡ (get_or vs n no_reader_tells).kind
-reader-kind [] logs n = refl
-reader-kind (v ∷ vs) logs zero = refl
-reader-kind (v ∷ vs) logs (suc n) = reader-kind vs (drop 1 logs) n
-
--- where host ends and streams agree, those in use are of the kinds of their streams
-ends_fit : (state : State) (tells : Tells) (logs : Logs) → HostsHold state → Fits state tells → EndsFit (world_of state tells logs)
-ends_fit state tells logs h fits = record {
-  writers = λ n s o. writer-kind state.producers tells.writers logs.writers n ∙ (fits.writers n s ((h.serve Writing n s).serves o)).kind;
-  readers = λ r s o. reader-kind tells.readers logs.readers r ∙ (fits.readers r s ((h.serve Reading r s).serves o)).kind;
-}
-
--- a record of which this holds is the last that was said, behind what had been said
-last_said : {A : Type 0} (P : A → Type 0) (old new coming rest : List A) → new ≡ old ++ coming → rest ≡ [] → Behind_one P coming rest → SaysLast P old new
-last_said P old new coming rest e r b =
-    (b.0, b.1, e ∙ ap (λ xs. old ++ xs) (b.2 ∙ ap (λ ys. b.0 ++ b.1 ∷ ys) r), b.3)
+-- a step that stops
+step_by_record : (now new : Tells) (state next : State) (step : Step) (stop : Option Stop) → HostsHold state → Fits state now → Does state next now new (Err stop) (λ w. step_of w step) → StopsByRecord now new stop
+step_by_record now new state next step None h fits d = tt
+step_by_record now new state next step (Some stop) h fits d = halts_by_record now new state next (act_of step) stop (serving state h) fits d
 
 -- what had been said before may be more than was asked for
 said_before : {A : Type 0} (P : A → Type 0) (old now new more : List A) → now ≡ old ++ more → SaysLast P now new → SaysLast P old new
 said_before P old now new more e s =
     (more ++ s.0, s.1, s.2 ∙ ap (λ xs. xs ++ (s.0 ++ s.1 ∷ [])) e ∙ append_assoc old more (s.0 ++ s.1 ∷ []) ∙ ap (λ xs. old ++ xs) (sym (append_assoc more s.0 (s.1 ∷ []))), s.3)
-
--- a step that stops by this has used all records that are told, and the last of them says why
-halted_by : (now new : Tells) (state next : State) (stop : Stop) → Extends now (saids new) → NamedBy (world_of state now (saids new)) stop (spent next new).writers (spent next new).readers → HaltsByRecord now new stop
-halted_by now new state next (HostFailed (ends.Writer n)) b h = last_said SaysFailed _ _ _ _ (writer-coming state.producers now.writers new.writers n b.0) (writer-spent next.producers new.writers n) h
-halted_by now new state next (HostFailed (ends.Reader r)) b h = last_said ReaderSaysFailed _ _ _ _ (reader-coming now.readers new.readers r b.1) (reader-spent new.readers r) h
-halted_by now new state next (HostBroke (ends.Writer n)) b h =
-    subst (λ kind. SaysLast (SaysBroken kind) (told_by now n).said (told_by new n).said) (writer-kind next.producers new.writers (saids new).writers n)
-    (last_said (SaysBroken _) _ _ _ _ (writer-coming state.producers now.writers new.writers n b.0) (writer-spent next.producers new.writers n) h)
-halted_by now new state next (HostBroke (ends.Reader r)) b h =
-    subst (λ kind. SaysLast (ReaderSaysBroken kind) (told_by_reader now r).said (told_by_reader new r).said) (reader-kind new.readers (saids new).readers r)
-    (last_said (ReaderSaysBroken _) _ _ _ _ (reader-coming now.readers new.readers r b.1) (reader-spent new.readers r) h)
-halted_by now new state next (BadItem s) b h = tt
-halted_by now new state next StoreTrapped b h = tt
-
--- a step that stops
-step_by_record : (now new : Tells) (state next : State) (step : Step) (stop : Option Stop) → HostsHold state → Fits state now → Does state next now new (Err stop) (λ w. step_of w step) → StopsByRecord now new stop
-step_by_record now new state next step None h fits d = tt
-step_by_record now new state next step (Some stop) h fits d =
-    let logs = saids new in
-    let e = extends_self new in
-    let first = world_of state now logs in
-    halted_by now new state next stop (d.begins logs e)
-    (subst (Halts first) (d.gives logs e) (step-halts first (ends_fit state now logs h fits) step)).named
 
 -- EACH RECORD
 
@@ -210,7 +149,7 @@ module _ (now new : Tells) (state next : State) (step : Step) (h : HostsHold sta
       let logs = saids new in
       let e = extends_self new in
       let b = d.begins logs e in
-      let later = subst (Halts here) (d.gives logs e) (step-halts here (ends_fit state now logs h fits) step) in
+      let later = subst (Halts here) (d.gives logs e) (act-halts here (ends_fit state now logs (serving state h) fits) (act_of step)) in
       record {
         rules = record { writers = λ n. writer_kept n b (later.writers n).coming; readers = λ r. reader_kept r b (later.readers r).coming };
         writer_kinds = λ n. sym (writer-kind next.producers new.writers (saids new).writers n) ∙ (later.writers n).kind ∙ writer_here n;
@@ -235,7 +174,7 @@ module _ (now new : Tells) (state next : State) (step : Step) (h : HostsHold sta
       let logs = saids new in
       let e = extends_self new in
       let b = d.begins logs e in
-      let by = subst (Halts here) (d.gives logs e) (step-halts here (ends_fit state now logs h fits) step) in
+      let by = subst (Halts here) (d.gives logs e) (act-halts here (ends_fit state now logs (serving state h) fits) (act_of step)) in
       record {
         writers = λ n. elim (by.writers n) [ inl x ↦ inl (writer_kept n b x.coming) | inr x ↦ inr (writer_stop stop n b x.coming) ];
         readers = λ r. elim (by.readers r) [ inl x ↦ inl (reader_kept r b x.coming) | inr x ↦ inr (reader_stop stop r b x.coming) ];

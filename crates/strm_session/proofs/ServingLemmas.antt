@@ -1,13 +1,13 @@
 -- The words of the program, and what a status tells.
-use Rattle.std.specs.Prelude.{IfSome}
-use Rattle.std.proofs.Common.{◌≡◌, ◌≢◌, ◌⊎◌, ℕ, ◌≤◌, List, [], ◌∷◌, length, map, get_or, Option, Some, None, refl, sym, ap, ◌∙◌, subst, ⊎_elim, inl, inr, decimal, arith}
+use Rattle.std.specs.Prelude.{IfSome, IfErr}
+use Rattle.std.proofs.Common.{◌≡◌, ◌≢◌, ◌⊎◌, ℕ, ◌≤◌, List, [], ◌∷◌, length, map, get_or, Option, Some, None, Result, Ok, Err, refl, sym, ap, ◌∙◌, subst, ⊎_elim, inl, inr, decimal, arith}
 use Rattle.std.proofs.lemmas.Bool.{cases_eq}
 use Rattle.std.specs.Prelude.{codes}
 use Rattle.strm_machine.specs.declared.steps.Step.{Step}
 use Rattle.strm_ports.specs.Faults.{Rose}
 use Rattle.strm_lines.specs.Grammar.{IsU32}
 use Rattle.strm_lines.specs.Lines.{lines_of, Spells, IsFirstBad, IsTooLong}
-use Rattle.strm_session.specs.Serving.{IsRun, IsGen, IsStop, IsStatusOf, PlaysOn, HaltsWith, StandsFor, IsOfInput, IsOutput, IsComplete}
+use Rattle.strm_session.specs.Serving.{IsRun, IsGen, IsStop, IsStatusOf, PlaysOn, HaltsWith, StandsFor, IsOfInput, IsOutput, IsComplete, EndsOrStops, WasRun, LeavesUnwritten}
 use Rattle.strm_world.specs.Ends.{Writer, Reader}
 use Rattle.strm_world.specs.World.{World}
 use Rattle.strm_world.specs.HostPlays.{Played, play, Ends, Halts}
@@ -19,6 +19,8 @@ use Rattle.strm_machine.specs.declared.stops.Stop.{Stop}
 use Rattle.strm_machine.specs.declared.stops.Stop.TheVariants as stops
 use Rattle.strm_session.specs.Records.{NoneRose, ObeyRules}
 use Rattle.strm_session.specs.Runs.{start_among, stop_of, HaltsBy, AsksBad, AsksItems, HasStopped}
+use Rattle.strm_session.specs.Playing.{HasRun}
+use Rattle.strm_session.specs.declared.playing.Ended.{Ended}
 use Rattle.strm_session.specs.declared.runs.RunCause.{RunCause}
 use Rattle.strm_session.specs.declared.runs.RunCause.TheVariants as causes
 use Rattle.strm_machine.specs.declared.stops.Stop.TheVariants.{BadItem}
@@ -59,16 +61,16 @@ halts_no_end told replies stop writers readers end e = cc
 module _ (old new : Tells) (steps : List Step) (told : List Reply) (status : ℕ) where
   -- a run that stops was not played to its end
   stops_no_end : (cause : RunCause) (why : Stop) → IsStatusOf status cause why → HaltsBy (start_among old new) steps told new (stop_of cause) → PlaysOn (start_among old new) steps → ⊥
-  stops_no_end (causes.HostFailed x) why s h plays = halts_no_end told plays.0 _ _ _ plays.1 (sym h.1 ∙ plays.2)
-  stops_no_end (causes.HostBroke x) why s h plays = halts_no_end told plays.0 _ _ _ plays.1 (sym h.1 ∙ plays.2)
-  stops_no_end (causes.BadItem x) why s h plays = halts_no_end told plays.0 _ _ _ plays.1 (sym h.1 ∙ plays.2)
+  stops_no_end (causes.HostFailed x) why s h plays = halts_no_end told plays.0 _ _ _ plays.1 (sym h ∙ plays.2)
+  stops_no_end (causes.HostBroke x) why s h plays = halts_no_end told plays.0 _ _ _ plays.1 (sym h ∙ plays.2)
+  stops_no_end (causes.BadItem x) why s h plays = halts_no_end told plays.0 _ _ _ plays.1 (sym h ∙ plays.2)
   stops_no_end causes.OutOfMemory why s h plays = absurd s
 
   -- and its status is that of the stop
   stands_for : (cause : RunCause) (why stop : Stop) → IsStatusOf status cause why → HaltsBy (start_among old new) steps told new (stop_of cause) → HaltsWith (start_among old new) steps stop → StandsFor status stop
-  stands_for (causes.HostFailed x) why stop s h halts = subst (StandsFor status) (ap stop_in (sym h.1 ∙ halts.3)) s.0
-  stands_for (causes.HostBroke x) why stop s h halts = subst (StandsFor status) (ap stop_in (sym h.1 ∙ halts.3)) s.0
-  stands_for (causes.BadItem x) why stop s h halts = subst (StandsFor status) (ap stop_in (sym h.1 ∙ halts.3)) s.0
+  stands_for (causes.HostFailed x) why stop s h halts = subst (StandsFor status) (ap stop_in (sym h ∙ halts.3)) s.0
+  stands_for (causes.HostBroke x) why stop s h halts = subst (StandsFor status) (ap stop_in (sym h ∙ halts.3)) s.0
+  stands_for (causes.BadItem x) why stop s h halts = subst (StandsFor status) (ap stop_in (sym h ∙ halts.3)) s.0
   stands_for causes.OutOfMemory why stop s h halts = absurd s
 
   -- a run that stops but for want of memory has a cause
@@ -83,6 +85,25 @@ module _ (old new : Tells) (steps : List Step) (told : List Reply) (status : ℕ
 
 three_of : (status : ℕ) → status ≢ 4 → (status ≢ 3 → ⊥) → status ≡ 3
 three_of status d n = ⊎_elim (λ e. e) (λ e. absurd (n e)) (cases_eq status 3)
+
+-- what holds holds at an error
+pub on_any : {T E P : Type 0} (r : Result T E) → P → IfErr r (λ _. P)
+on_any (Ok v) p = tt
+on_any (Err e) p = p
+
+-- what an input that was read leaves, its source does
+pub unwritten_of_source : {old new : Tells} (left : Option (List ℕ)) (input : List ℕ) → IfSome left (λ bytes. input ≡ bytes) → LeavesUnwritten (Some input) old new → LeavesUnwritten left old new
+unwritten_of_source left input e (inl same) = inl same
+unwritten_of_source None input e (inr w) = inr (record { steps = w.steps; spelled = tt; within = tt; replies = w.replies; run = w.run })
+unwritten_of_source {old} {new} (Some bytes) input e (inr w) = inr (subst (λ b. WasRun (Some b) old new) e w)
+
+-- a run of which nothing is written
+pub was_run : {old new : Tells} (input : List ℕ) (steps : List Step) (told : List Reply) (r : Result Ended RunCause) → Spells (lines_of input) steps → (IsTooLong input → ⊥) → HasRun old new steps told r → WasRun (Some input) old new
+was_run {old} {new} input steps told r s long h = record { steps = steps; spelled = s; within = long; replies = told; run = by r h }
+  where
+    by : (r : Result Ended RunCause) → HasRun old new steps told r → EndsOrStops old new steps told
+    by (Ok e) h = inl (e.store, h.ok)
+    by (Err cause) h = inr (cause, h.stop)
 
 module _ {rest : Option (List ℕ)} {old new : Tells} {before after status : ℕ} {text : List ℕ} where
   -- what is told of an input that was read is told of its source, which is at its end then

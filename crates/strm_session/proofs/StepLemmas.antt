@@ -24,7 +24,7 @@ use Rattle.strm_session.specs.declared.runs.RunCause.{RunCause}
 use Rattle.strm_session.specs.declared.runs.RunCause.TheVariants as causes
 use Rattle.strm_session.proofs.PlayLemmas.{goes_on_done}
 use Rattle.strm_session.proofs.RunningLemmas.{Running, step-runs}
-use Rattle.strm_session.proofs.AmongLemmas.{extends_self}
+use Rattle.strm_world.proofs.DoesLemmas.{extends_self}
 
 -- a step that was answered leaves the store untrapped
 pub does_runs : (old new : State) (tells told : Tells) (reply : Reply) (step : Step) → old.trapped ≡ false → Does old new tells told (Ok reply) (λ w. step_of w step) → new.trapped ≡ false

@@ -113,10 +113,10 @@ module _ (old new : Tells) (steps : List Step) where
   -- a bad item stops a run there, or memory was wanted there or before
   pub stops-in : (replies : List Reply) (cause : RunCause) (told : List Reply) (s : ℕ) (a : AsksBad first steps told s) → StopsAmong old new steps replies cause → StopsIn first steps told s a replies cause
   stops-in replies (causes.BadItem stream) told s a b =
-      let e = sym b.halts.1 ∙ asks-halts first refl steps told s a in
+      let e = sym b.halts ∙ asks-halts first refl steps told s a in
       (cc, cc)
-  stops-in replies (causes.HostFailed end) told s a b = let e = sym b.halts.1 ∙ asks-halts first refl steps told s a in cc
-  stops-in replies (causes.HostBroke end) told s a b = let e = sym b.halts.1 ∙ asks-halts first refl steps told s a in cc
+  stops-in replies (causes.HostFailed end) told s a b = let e = sym b.halts ∙ asks-halts first refl steps told s a in cc
+  stops-in replies (causes.HostBroke end) told s a b = let e = sym b.halts ∙ asks-halts first refl steps told s a in cc
   stops-in replies causes.OutOfMemory told s a b =
       ⊎_elim
       (λ l.

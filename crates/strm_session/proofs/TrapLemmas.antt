@@ -9,7 +9,7 @@ use Rattle.strm_machine.specs.declared.stops.Stop.TheVariants as stops
 use Rattle.strm_world.specs.Steps.{step_of}
 use Rattle.strm_world.specs.Does.{saids, world_of, Does}
 use Rattle.strm_world.proofs.OutcomeLemmas.{outcome-trapped}
-use Rattle.strm_session.proofs.AmongLemmas.{extends_self}
+use Rattle.strm_world.proofs.DoesLemmas.{extends_self}
 use Rattle.strm_session.proofs.StepLemmas.{does_runs, never_trapped}
 
 -- a store that answers was not trapped

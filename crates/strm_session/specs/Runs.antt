@@ -100,8 +100,8 @@ pub record HasWriterLaws (first : World) (all : List HostMoment) (end : World) :
   pub delivers : ((n : ℕ) → Supplies (writer_at first n)) → (s : ℕ) → DeliversAll s all end
 
 -- the laws of host readers in it: exactly those that became gone were closed; each used its records in order
--- and heard exactly the grants to it; and one that tells what it took has, behind what it had at first,
--- exactly what was taken of its stream, if all of that are items
+-- and heard exactly the grants to it; what was taken of each stream are items; and one that tells what it took
+-- has, behind what it had at first, exactly what was taken of its stream
 pub record HasReaderLaws (first : World) (all : List HostMoment) (end : World) : Type 0 where
   pub closes : ReadersCloseExactly first end.state end.readers
   pub goes_on : (r : ℕ) → ReaderGoesOn r all (reader_at first r) (reader_at end r)
@@ -181,11 +181,16 @@ stop_of (causes.HostBroke end) = Some (stops.HostBroke end)
 stop_of (causes.BadItem s) = Some (stops.BadItem s)
 stop_of causes.OutOfMemory = None
 
--- the machine halts behind these replies by this stop, and the host ends tell what they then do; nothing
--- is said for want of memory
+-- the machine's state where it halts, behind the last moment that was done: in the one that stops it no host end
+-- becomes an end of a stream, or is gone
+abbrev pub halted_in : World → List Step → State
+halted_in first steps = (last_of first (host_moments first steps)).state
+
+-- the machine halts behind these replies by this stop, and the host ends tell what they do in its state there;
+-- nothing is said for want of memory
 abbrev pub HaltsBy : World → List Step → List Reply → Tells → Option Stop → Type 0
-HaltsBy world steps told new None = Unit {0}
-HaltsBy world steps told new (Some stop) = (state : State) × StopsWith world steps told stop new state
+HaltsBy first steps told new None = Unit {0}
+HaltsBy first steps told new (Some stop) = StopsWith first steps told stop new (halted_in first steps)
 
 -- a host end that failed has raised its count of faults, or that stands at its counter's end
 abbrev pub Raised : Tells → Tells → RunCause → Type 0
@@ -217,9 +222,8 @@ StaysThere world step s _ = Unit {0}
 pub record StopsBad (first : World) (steps : List Step) (told : List Reply) (new : Tells) (s : ℕ) : Type 0 where
   pub asks : AsksBad first steps told s
   pub stays : StaysThere asks.world asks.step s asks.bad
-  pub state : State
-  pub writers : (spent state new).writers ≡ (stands_at asks.world asks.step s asks.bad).writers
-  pub readers : (spent state new).readers ≡ (stands_at asks.world asks.step s asks.bad).readers
+  pub writers : (spent (halted_in first steps) new).writers ≡ (stands_at asks.world asks.step s asks.bad).writers
+  pub readers : (spent (halted_in first steps) new).readers ≡ (stands_at asks.world asks.step s asks.bad).readers
 
 -- where a run stops at a bad item, it does so
 abbrev pub StopsAsking : World → List Step → List Reply → Tells → RunCause → Type 0
@@ -254,17 +258,16 @@ WantsUnmet world steps told _ = Unit {0}
 abbrev pub StopCloses : World → List Step → Tells → Option Stop → Type 0
 StopCloses first steps new None = Unit {0}
 StopCloses first steps new (Some stop) =
-    (state : State)
-    × ClosesExactly first (last_of first (host_moments first steps)).state (spent state new).writers
-    × ReadersCloseExactly first (last_of first (host_moments first steps)).state (spent state new).readers
+    let state = halted_in first steps in
+    ClosesExactly first state (spent state new).writers × ReadersCloseExactly first state (spent state new).readers
 
 -- where the machine halts, each host end used the records of its polls there, and heard no more than before
 abbrev pub StopUses : World → List Step → Tells → Option Stop → Type 0
 StopUses first steps new None = Unit {0}
 StopUses first steps new (Some stop) =
-    (state : State)
-    × ((n : ℕ) → WriterStops (writer_at (last_of first (host_moments first steps)) n) (writer_at (spent state new) n))
-    × ((r : ℕ) → ReaderStops (reader_at (last_of first (host_moments first steps)) r) (reader_at (spent state new) r))
+    let last = last_of first (host_moments first steps) in
+    ((n : ℕ) → WriterStops (writer_at last n) (writer_at (spent last.state new) n))
+    × ((r : ℕ) → ReaderStops (reader_at last r) (reader_at (spent last.state new) r))
 
 -- the step behind these replies is a drive round, in which memory was wanted before items that a host writer holds
 -- itself were offered along a pipe: host ends tell what they told then
@@ -290,8 +293,8 @@ pub data WantsThere (old new : Tells) (steps : List Step) (told : List Reply) : 
   Behind : (reply : Reply) (state : State) →
       play_among [] (start_among old new) (take (length told + 1) steps) ≡ world_plays.Ends (told ++ reply ∷ []) (spent state new) →
       WantsThere old new steps told
-  InPoll : (end : HostEnd) (more : Tells) (state : State) → FailsOnce end new more →
-      StopsWith (start_among old more) steps told (stops.HostFailed end) more state →
+  InPoll : (end : HostEnd) (more : Tells) → FailsOnce end new more →
+      HaltsBy (start_among old more) steps told more (Some (stops.HostFailed end)) →
       WantsThere old new steps told
   BeforeOffer : WantsOffer old new steps told → WantsThere old new steps told
 

@@ -129,6 +129,25 @@ pub record IsOutput (words : List (List ℕ)) (left rest : Option (List ℕ)) (o
   pub of_input : IsRun words → IsOfInput left rest old new before after status text
   pub of_numbers : (n seed : ℕ) → IsGen words n seed → IsOfNumbers old new n seed status text
 
+-- a run of these steps came to its end, or stopped
+abbrev pub EndsOrStops : Tells → Tells → List Step → List Reply → Type 0
+EndsOrStops old new steps replies =
+    ((state : State) × IsWhole old new steps replies state)
+    ⊎ ((cause : RunCause) × HasStopped old new steps replies cause)
+
+-- the steps that the lines of an input spell were run, to their end or to a stop
+pub record WasRun (left : Option (List ℕ)) (old new : Tells) : Type 0 where
+  pub steps : List Step
+  pub spelled : IfSome left (λ input. Spells (lines_of input) steps)
+  pub within : IfSome left (λ input. ¬ IsTooLong input)
+  pub replies : List Reply
+  pub run : EndsOrStops old new steps replies
+
+-- what is left where memory was wanting for the text: host ends as they were, where nothing was run; else what the
+-- run of the input did to them
+abbrev pub LeavesUnwritten : Option (List ℕ) → Tells → Tells → Type 0
+LeavesUnwritten left old new = (new ≡ old) ⊎ WasRun left old new
+
 -- the statuses of the program
 abbrev pub IsStatus : ℕ → Type 0
 IsStatus status = status ≤ 9

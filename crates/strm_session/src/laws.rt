@@ -13,7 +13,7 @@ ghost use Rattle.strm_world.specs.World.{World, writer_at, reader_at};
 ghost use Rattle.strm_world.specs.Ends.{Writer, Reader, writer_in, reader_in};
 ghost use Rattle.strm_world.specs.HostPlays.{play as play_among, Ends as EndsAmong, Halts as HaltsAmong};
 ghost use Rattle.strm_machine.specs.declared.stops.Stop.{Stop};
-ghost use Rattle.strm_host_laws.specs.HostLaws.{ClosesExactly, WriterStops, ReadersCloseExactly, ReaderStops};
+ghost use Rattle.strm_host_laws.specs.HostLaws.{ClosesExactly, EndsExactly, WriterStops, ReadersCloseExactly, ReaderStops};
 ghost use Rattle.strm_host_laws.specs.HostMoments.{host_moments, last_of};
 ghost use Rattle.strm_buffers.specs.Tells.{Tells};
 ghost use Rattle.strm_session.specs.Runs.{start, start_among, HasLaws, HasLawsFirst};
@@ -64,6 +64,10 @@ pub(crate) fn laws_hold_among()
         play_among [] (start_among old new) steps ≡ HaltsAmong replies stop writers readers →
         ReadersCloseExactly (start_among old new)
         (last_of (start_among old new) (host_moments (start_among old new) steps)).state readers }
+    ensures gone { (old new : Tells) (steps : List Step) (replies : List Reply) (stop : Stop)
+        (writers : List Writer) (readers : List Reader) →
+        play_among [] (start_among old new) steps ≡ HaltsAmong replies stop writers readers →
+        EndsExactly (last_of (start_among old new) (host_moments (start_among old new) steps)).state writers }
     ensures fed { (old new : Tells) (steps : List Step) (replies : List Reply) (stop : Stop)
         (writers : List Writer) (readers : List Reader) →
         play_among [] (start_among old new) steps ≡ HaltsAmong replies stop writers readers → (n : ℕ) →

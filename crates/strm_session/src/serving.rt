@@ -2,14 +2,14 @@
 //!
 //! Source: ours.
 
-ghost use Rattle.std.specs.Prelude.{◌≡◌, ◌≢◌, ◌≤◌, ◌+◌, ◌⊎◌, ◌↔◌, ℕ, List, [], length, map, IfOk, IsErr, IsTrue, Some, string_bytes};
+ghost use Rattle.std.specs.Prelude.{◌≡◌, ◌≢◌, ◌≤◌, ◌+◌, ◌⊎◌, ◌↔◌, ℕ, List, [], length, map, IfOk, IfErr, IsErr, IsTrue, Some, string_bytes};
 ghost use Rattle.std.specs.Io.KnownBytes.{Appends, Consumes};
 ghost use Rattle.strm_buffers.specs.AllTells.{tells_of};
 ghost use Rattle.strm_session.specs.Records.{HostsGoOn};
 ghost use Rattle.strm_ports.specs.Faults.{Rose, TakesPart};
-ghost use Rattle.strm_lines.specs.Lines.{lines_of, Spells};
+ghost use Rattle.strm_lines.specs.Lines.{lines_of, Spells, IsTooLong};
 ghost use Rattle.strm_lines.specs.Generator.{generated};
-ghost use Rattle.strm_session.specs.Serving.{IsRun, IsGen, IsOfInput, IsOfNumbers, IsSummary, IsStop, IsOutput, IsStatus, IsStatusOf, IsComplete, IsTranscript, IsStopped};
+ghost use Rattle.strm_session.specs.Serving.{IsRun, IsGen, IsOfInput, IsOfNumbers, IsSummary, IsStop, IsOutput, IsStatus, IsStatusOf, IsComplete, IsTranscript, IsStopped, WasRun, LeavesUnwritten};
 
 use crate::playing::play_all;
 use crate::runs::RunCause;
@@ -96,6 +96,8 @@ pub fn serve<S: Source, K: Sink>(
         × TakesPart (K.taken sink.old) (K.taken sink.new) text }
     ensures write_fault { result ≡ WRITE_FAULT → Rose (K.faults sink.old) (K.faults sink.new) }
     ensures nothing { result ≡ OUT_OF_MEMORY → sink.new ≡ sink.old }
+    ensures wanting { result ≡ OUT_OF_MEMORY → LeavesUnwritten (S.left source.old)
+        (tells_of writer_tells reader_tells hosts.old) (tells_of writer_tells reader_tells hosts.new) }
     ensures read { (front : List ℕ) × Consumes (S.left source.old) (S.left source.new) front
         × (length front ≤ MAX_BYTES + 1) }
     ensures unread { ¬ IsRun (map string_bytes words.now.items) → source.new ≡ source.old }
@@ -118,7 +120,7 @@ pub fn serve<S: Source, K: Sink>(
     }
 }
 
-// What is to be written.
+// What is to be written. Where that finds no memory, the host ends tell what a run of the input did.
 fn answer_words<S: Source>(
     alloc: Global,
     words: &Vec<String>,
@@ -131,6 +133,8 @@ fn answer_words<S: Source>(
     ensures told { IfOk result (λ a.
         IsOutput (map string_bytes words.now.items) (S.left source.old) (S.left source.new)
         (tells_of writer_tells reader_tells hosts.old) (tells_of writer_tells reader_tells hosts.new) (S.faults source.old) (S.faults source.new) a.status a.text) }
+    ensures wanting { IfErr result (λ _. LeavesUnwritten (S.left source.old)
+        (tells_of writer_tells reader_tells hosts.old) (tells_of writer_tells reader_tells hosts.new)) }
     ensures read { (front : List ℕ) × Consumes (S.left source.old) (S.left source.new) front
         × (length front ≤ MAX_BYTES + 1) }
     ensures unread { ¬ IsRun (map string_bytes words.now.items) → source.new ≡ source.old }
@@ -206,6 +210,8 @@ fn answer_source<S: Source>(
     ensures told { IfOk result (λ a. IsOfInput (S.left source.old) (S.left source.new)
         (tells_of writer_tells reader_tells hosts.old) (tells_of writer_tells reader_tells hosts.new)
         (S.faults source.old) (S.faults source.new) a.status a.text) }
+    ensures wanting { IfErr result (λ _. LeavesUnwritten (S.left source.old)
+        (tells_of writer_tells reader_tells hosts.old) (tells_of writer_tells reader_tells hosts.new)) }
     ensures read { (front : List ℕ) × Consumes (S.left source.old) (S.left source.new) front
         × (length front ≤ MAX_BYTES + 1) }
     ensures goes_on { HostsGoOn (tells_of writer_tells reader_tells hosts.old)
@@ -226,6 +232,8 @@ fn answer_input(alloc: Global, input: &[u8], hosts: &mut Hosts) -> Result<Output
     ensures told { (before after : ℕ) → IfOk result (λ a. IsOfInput (Some input.now) (Some [])
         (tells_of writer_tells reader_tells hosts.old) (tells_of writer_tells reader_tells hosts.new)
         before after a.status a.text) }
+    ensures wanting { IfErr result (λ _. LeavesUnwritten (Some input.now)
+        (tells_of writer_tells reader_tells hosts.old) (tells_of writer_tells reader_tells hosts.new)) }
     ensures goes_on { HostsGoOn (tells_of writer_tells reader_tells hosts.old)
         (tells_of writer_tells reader_tells hosts.new) }
 {
@@ -254,6 +262,9 @@ fn answer_steps(alloc: Global, steps: &StepRows, hosts: &mut Hosts) -> Result<Ou
         IfOk result (λ a. a.status ≡ DONE → IsTranscript (tells_of writer_tells reader_tells hosts.old) (tells_of writer_tells reader_tells hosts.new) input a.text) }
     ensures stopped { (input : List ℕ) → Spells (lines_of input) steps.now.items →
         IfOk result (λ a. IsStop a.status → IsStopped (tells_of writer_tells reader_tells hosts.old) (tells_of writer_tells reader_tells hosts.new) a.status input a.text) }
+    ensures wanting { (input : List ℕ) → Spells (lines_of input) steps.now.items → ¬ IsTooLong input →
+        IfErr result (λ _. WasRun (Some input)
+        (tells_of writer_tells reader_tells hosts.old) (tells_of writer_tells reader_tells hosts.new)) }
     ensures goes_on { HostsGoOn (tells_of writer_tells reader_tells hosts.old)
         (tells_of writer_tells reader_tells hosts.new) }
 {

@@ -52,7 +52,7 @@ use Rattle.strm_world.specs.Attaching.{has_items, hosts_new, is_dry, piped, pipe
 use Rattle.strm_world.specs.HostRefusals.{refusal_in}
 use Rattle.strm_world.specs.Steps.{reacts, operates_by, drops_in, on_host, performs_by, performs_in, unless_refused_in, outcome, step_of}
 use Rattle.strm_world.proofs.TouchLemmas.{touch-by}
-use Rattle.strm_session.proofs.LaterLemmas.{Used, all-set, StreamLater, stream_twice, operation_later, received_later, moved_later, without_ends_later}
+use Rattle.strm_world.proofs.LaterLemmas.{Used, all-set, StreamLater, stream_twice, operation_later, received_later, moved_later, without_ends_later}
 use Rattle.strm_tape.specs.Spelling.{IsRoom}
 use Rattle.strm_tape_runs.specs.Marks.{FairRoom, FairTaking}
 

@@ -26,8 +26,8 @@ use Rattle.strm_machine.specs.declared.streams.Producer.{Producer}
 use Rattle.strm_world.specs.Does.{AllBegin, saids, writers_from, readers_from, spent}
 use Rattle.strm_session.specs.declared.runs.RunStop.{RunStop}
 use Rattle.strm_session.specs.declared.runs.Transcript.{Transcript}
-use Rattle.strm_session.specs.Runs.{start, start_among, HaltsBy}
-use Rattle.strm_session.proofs.LaterLemmas.{Used}
+use Rattle.strm_session.specs.Runs.{start, start_among, halted_in, HaltsBy}
+use Rattle.strm_world.proofs.LaterLemmas.{Used}
 use Rattle.strm_tape_runs.specs.declared.marks.Mark.{Mark}
 use Rattle.strm_tape_runs.specs.Marks.{FairRoom, FairTaking, mark_of, reader_mark_of, IsTapable, ReaderTapable}
 use Rattle.strm_tape_runs.specs.Playing.{IsRunOf, FoundMemory}
@@ -267,11 +267,12 @@ module _ (old new : Tells) (counted : AllCounted (start_among old new)) (hold : 
   came_out steps (Err s) r m =
       let first = start_among old new in
       let why = stop_found s.cause m in
+      let there = spent (halted_in first steps) new in
       let halts = subst (λ (o : Option Stop). HaltsBy first steps s.replies new o) why.1 r.stop.stops.halts in
       record {
-        ps = halts.0.producers;
-        used = halted_fair first counted hold lead steps s.replies why.0 (spent halts.0 new).writers (spent halts.0 new).readers halts.1;
-        typed = λ n. (stop steps s.replies why.0 (spent halts.0 new).writers (spent halts.0 new).readers halts.1 n).payload ∙ moments_typed first go steps n;
+        ps = (halted_in first steps).producers;
+        used = halted_fair first counted hold lead steps s.replies why.0 there.writers there.readers halts;
+        typed = λ n. (stop steps s.replies why.0 there.writers there.readers halts n).payload ∙ moments_typed first go steps n;
       }
 
   -- what was added has a place on a tape

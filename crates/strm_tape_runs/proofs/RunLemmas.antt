@@ -30,8 +30,8 @@ use Rattle.strm_session.specs.declared.runs.RunCause.TheVariants as causes
 use Rattle.strm_session.specs.declared.runs.RunStop.{RunStop}
 use Rattle.strm_session.specs.declared.runs.Transcript.{Transcript}
 use Rattle.strm_session.specs.Records.{HostsGoOn}
-use Rattle.strm_session.specs.Runs.{start, start_among, stop_of, counts_of, HaltsBy}
-use Rattle.strm_session.proofs.AmongLemmas.{extends_self}
+use Rattle.strm_session.specs.Runs.{start, start_among, stop_of, counts_of, halted_in, HaltsBy}
+use Rattle.strm_world.proofs.DoesLemmas.{extends_self}
 use Rattle.strm_tape.specs.Spelling.{WriterTape, ReaderTape}
 use Rattle.strm_codes.specs.declared.codes.TransmitIndex.{TransmitIndex}
 use Rattle.strm_tape.specs.declared.errors.TapeError.{TapeError}
@@ -101,7 +101,7 @@ payload_back Future payload = refl
 
 -- a host writer that made no record yet
 new_writer : TransmitKind → Payload → List Item → List WriterSaid → Writer
-new_writer kind payload holds coming = record { kind = kind; payload = payload; holds = holds; coming = coming; spoken = 0; closed = false; heard = None }
+new_writer kind payload holds coming = record { kind = kind; payload = payload; holds = holds; coming = coming; spoken = 0; closed = false; ended = false; heard = None }
 
 held_none : (duty : Duty) → held_while duty [] ≡ []
 held_none Ended = refl
@@ -198,8 +198,9 @@ run_plays alike steps old new (Err s) held r m =
     let tape = tape_of_run steps old new in
     let why = stop_found s.cause m in
     let halts = subst (λ (o : Option Stop). HaltsBy (start_among old new) steps s.replies new o) why.1 r.stop.stops.halts in
-    let out = subst (λ (p : Played). ComeOutAlike p (play [] (taped_world tape) steps)) halts.1 (alike (start_among old new) (taped_world tape) steps (alike_tape steps old new held r.goes_on)) in
-    let too = halts_too s.replies why.0 (spent halts.0 new).writers (spent halts.0 new).readers (play [] (taped_world tape) steps) out in
+    let there = spent (halted_in (start_among old new) steps) new in
+    let out = subst (λ (p : Played). ComeOutAlike p (play [] (taped_world tape) steps)) halts (alike (start_among old new) (taped_world tape) steps (alike_tape steps old new held r.goes_on)) in
+    let too = halts_too s.replies why.0 there.writers there.readers (play [] (taped_world tape) steps) out in
     record { why = why.0; writers = too.writers; readers = too.readers; plays = too.halts; cause = why.1; at = r.at }
 
 -- WHERE THEY DIFFER

@@ -47,6 +47,7 @@ taped_writer tape = record {
   coming = tape.said;
   spoken = 0;
   closed = false;
+  ended = false;
   heard = None;
 }
 

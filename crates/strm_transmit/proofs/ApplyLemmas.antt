@@ -9,7 +9,7 @@ use Rattle.strm_machine.specs.declared.replies.Reply.{Reply}
 use Rattle.strm_world.specs.Does.{Answered, Does}
 use Rattle.strm_world.specs.Steps.{outcome}
 use Rattle.strm_transmit.specs.Meets.{Meets, refused_too}
-use Rattle.strm_transmit.specs.Hosted.{answered, MayBeDone, Leaves, MeetsAlone, MeetsHosted}
+use Rattle.strm_transmit.specs.Hosted.{answered, MayBeDone, Leaves, ErrsByRecord, MeetsAlone, MeetsHosted}
 use Rattle.strm_transmit.specs.declared.errors.StoreError.{StoreError}
 use Rattle.strm_transmit.specs.declared.errors.StoreError.TheVariants.{Refused, HostFailed, HostBroke, BadItem, StoreTrapped, OutOfMemory}
 use Rattle.strm_transmit.proofs.HostStepLemmas.{Settles}
@@ -45,6 +45,15 @@ refused-leaves old new tells told act (Err (BadItem stream)) l = l
 refused-leaves old new tells told act (Err StoreTrapped) l = l
 refused-leaves old new tells told act (Err OutOfMemory) l = l
 
+refused-record : (tells told : Tells) (result : Result Reply StoreError) → IfErr result (ErrsByRecord tells told) → IfErr (refused_too result) (ErrsByRecord tells told)
+refused-record tells told (Ok reply) l = l
+refused-record tells told (Err (Refused refusal)) l = tt
+refused-record tells told (Err (HostFailed end)) l = l
+refused-record tells told (Err (HostBroke end)) l = l
+refused-record tells told (Err (BadItem stream)) l = l
+refused-record tells told (Err StoreTrapped) l = l
+refused-record tells told (Err OutOfMemory) l = l
+
 pub refused-wanting : (old : State) (tells : Tells) (act : Act) (result : Result Reply StoreError) → (result ≡ Err OutOfMemory → MayBeDone old tells act) → refused_too result ≡ Err OutOfMemory → MayBeDone old tells act
 refused-wanting old tells act (Ok reply) m w = cc w
 refused-wanting old tells act (Err (Refused refusal)) m w = cc w
@@ -70,5 +79,6 @@ refused-hosted old new tells told result act m = record {
   fits = m.fits;
   alone = λ u. refused-alone old new tells told result act (m.alone u);
   err = refused-leaves old new tells told act result m.err;
+  by_record = refused-record tells told result m.by_record;
   wanting = refused-wanting old tells act result m.wanting;
 }

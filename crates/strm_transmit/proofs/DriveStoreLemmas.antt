@@ -38,7 +38,7 @@ use Rattle.strm_transmit.specs.declared.errors.StoreError.{StoreError}
 use Rattle.strm_transmit.specs.declared.errors.StoreError.TheVariants as errors
 use Rattle.strm_transmit.proofs.RoundLemmas.{ends_are}
 use Rattle.strm_transmit.proofs.WantsLemmas.{wanting_result, poll_as}
-use Rattle.strm_transmit.proofs.OperateLemmas.{Halts, hosted_polled, cause_of, stop_is}
+use Rattle.strm_transmit.proofs.OperateLemmas.{Halts, FitStill, hosted_polled, cause_of, stop_is}
 
 -- ## One stream
 
@@ -235,7 +235,11 @@ module _ (old new : State) (tells told : Tells) where
   abbrev pub WantsDriven : {T : Type 0} → Result T StoreError → Type 0
   WantsDriven result = IfErr result (λ error. IfWanting error (WantsInDrive old tells told))
 
-  pub hosted_drive : {T : Type 0} (f : T → Reply) (result : Result T StoreError) → old.trapped ≡ false → Does old new tells told (answered (replied f result)) (λ w. driven w (round_of w)) → Fits new told → Halts result new → WantsDriven result → MeetsHosted old new tells told (replied f result) Drive
+  -- it went round as the machine does
+  abbrev pub DroveSo : Result Reply StoreError → Type 0
+  DroveSo result = Does old new tells told (answered result) (λ w. driven w (round_of w))
+
+  pub hosted_drive : {T : Type 0} (f : T → Reply) (result : Result T StoreError) → old.trapped ≡ false → DroveSo (replied f result) → FitStill old new tells told → Halts result new → WantsDriven result → MeetsHosted old new tells told (replied f result) Drive
   hosted_drive f result t does fits halts wants =
       hosted_polled old new tells told Drive refl f result
       (Does-as old new tells told (answered (replied f result)) (λ w. driven w (round_of w)) (λ w. outcome w Drive) (λ logs. drive-is (world_of old tells logs) t) does)

@@ -24,7 +24,7 @@ use Rattle.strm_world.proofs.DoesLemmas.{Does-untold, Does-as}
 use Rattle.strm_world.proofs.OutcomeLemmas.{outcome-trapped, outcome-performs}
 use Rattle.strm_world.proofs.ReactedLemmas.{refusal-reacted, touches-state, answer_of, lifted}
 use Rattle.strm_transmit.specs.Meets.{is_done, Meets, admitted, or_found}
-use Rattle.strm_transmit.specs.Hosted.{answered, lone, MayBeDone, Stays, Leaves, MeetsHosted}
+use Rattle.strm_transmit.specs.Hosted.{answered, lone, MayBeDone, Stays, Leaves, ErrsByRecord, MeetsHosted}
 use Rattle.strm_transmit.specs.declared.errors.StoreError.{StoreError}
 use Rattle.strm_transmit.specs.declared.errors.StoreError.TheVariants.{Refused, HostFailed, HostBroke, BadItem, StoreTrapped, OutOfMemory}
 use Rattle.strm_transmit.proofs.StepLemmas.{not_admitted}
@@ -70,12 +70,13 @@ module _ (state : State) (tells : Tells) (act : Act) where
   abbrev IsCaused : StoreError → Type 0
   IsCaused error = ◌≡◌ {A = Result Reply StoreError} (Err error) (Err OutOfMemory) → MayBeDone state tells act
 
-  pub unchanged : (error : StoreError) → Leaves act state state tells tells error → Does state state tells tells (answered (Err error)) (λ w. outcome w act) → Fits state tells → IsCaused error → IsAlone error → Unchanged error
-  unchanged error leaves does fits caused alone = record {
+  pub unchanged : (error : StoreError) → Leaves act state state tells tells error → Does state state tells tells (answered (Err error)) (λ w. outcome w act) → Fits state tells → IsCaused error → ErrsByRecord tells tells error → IsAlone error → Unchanged error
+  unchanged error leaves does fits caused by_record alone = record {
     does = does;
     fits = fits;
     alone = λ u. record { meets = alone u; ends = refl };
     err = leaves;
+    by_record = by_record;
     wanting = caused;
   }
 
@@ -84,9 +85,9 @@ module _ (state : State) (tells : Tells) (act : Act) where
   hosted_not_admitted o wanted found error r e a fits =
       not_admitted state o wanted found (λ x. IsAlone x → Unchanged x) error e a
       (λ t. unchanged StoreTrapped (all_stays state tells)
-      (Does-untold state state tells (Err (Some stops.StoreTrapped)) (λ w. outcome w act) (λ logs. outcome-trapped (world_of state tells logs) act t) tt) fits (λ w. cc))
+      (Does-untold state state tells (Err (Some stops.StoreTrapped)) (λ w. outcome w act) (λ logs. outcome-trapped (world_of state tells logs) act t) tt) fits (λ w. cc) tt)
       (λ q t f. unchanged (Refused q) (all_stays state tells)
-      (Does-untold state state tells (Ok (replies.Refused q)) (λ w. outcome w act) (λ logs. outcome-refused (world_of state tells logs) act q t (r logs ∙ f)) tt) fits (λ w. cc))
+      (Does-untold state state tells (Ok (replies.Refused q)) (λ w. outcome w act) (λ logs. outcome-refused (world_of state tells logs) act q t (r logs ∙ f)) tt) fits (λ w. cc) tt)
 
 -- ## A call that is
 
@@ -174,6 +175,15 @@ module _ (old new : State) (tells : Tells) (act : Act) where
   meets-leaves (Err StoreTrapped) u m = record { same = m.1; ends = refl }
   meets-leaves (Err OutOfMemory) u m = rw (unpolled (lone old) act u) (record { same = m.1; ends = refl })
 
+  meets-record : (result : Result Reply StoreError) → Meets old new result (reaction old act) → IfErr result (ErrsByRecord tells tells)
+  meets-record (Ok reply) m = tt
+  meets-record (Err (Refused q)) m = tt
+  meets-record (Err (HostFailed end)) m = absurd m
+  meets-record (Err (HostBroke end)) m = absurd m
+  meets-record (Err (BadItem stream)) m = tt
+  meets-record (Err StoreTrapped) m = tt
+  meets-record (Err OutOfMemory) m = tt
+
   meets-wanting : (result : Result Reply StoreError) → touches (lone old) act ≡ false → Meets old new result (reaction old act) → result ≡ Err OutOfMemory → MayBeDone old tells act
   meets-wanting result u m w =
       done_may old tells act u (subst (λ (x : Result Reply StoreError). Meets old new x (reaction old act)) w m).0
@@ -186,5 +196,6 @@ module _ (old new : State) (tells : Tells) (act : Act) where
         fits = Fits-kept old new tells made (meets-types old new result (reaction old act) m types) fits;
         alone = λ _. record { meets = m; ends = refl };
         err = meets-leaves result u m;
+        by_record = meets-record result m;
         wanting = meets-wanting result u m;
       }

@@ -213,7 +213,7 @@ hosted_wanting old new tells told n act may fits same untold =
     subst (λ (x : State). MeetsHosted old x tells told (Err OutOfMemory) (OnHost n act)) (sym same)
     (subst (λ (x : Tells). MeetsHosted old old tells x (Err OutOfMemory) (OnHost n act)) (sym untold)
     (unchanged old tells (OnHost n act) OutOfMemory (all_stays old tells)
-    (Does-untold old old tells (Err None) (λ w. outcome w (OnHost n act)) (λ logs. tt) tt) fits (λ w. may) (λ u. cc u)))
+    (Does-untold old old tells (Err None) (λ w. outcome w (OnHost n act)) (λ logs. tt) tt) fits (λ w. may) tt (λ u. cc u)))
 
 -- a stream may be made for host writer n, in a store that its host ends fit
 pub record MayHost (old : State) (tells : Tells) (n : ℕ) : Type 0 where
@@ -232,6 +232,7 @@ module _ (old new : State) (tells : Tells) (n : ℕ) (h : MayHost old tells n) w
         fits = Fits-after (hosted_in old tells n) new tells tells is refl (hosted-fits old tells n h.served.made writer (omega (arith, h.served.all, writer.few)) h.fits);
         alone = λ u. cc u;
         err = tt;
+        by_record = tt;
         wanting = λ w. cc;
       }
 
@@ -255,6 +256,7 @@ hosted_feed state tells told n bytes may fits is =
           (Fits-told state tells n (fed (told_by tells n) bytes) (record { kind = refl; payload = refl }) fits);
       alone = λ u. cc u;
       err = tt;
+      by_record = tt;
       wanting = λ w. cc;
     }
 
@@ -280,6 +282,7 @@ hosted_grant state tells told r count may fits is =
           (Fits-told_reader state tells r (granted (told_by_reader tells r) count) (record { kind = refl; payload = refl }) fits);
       alone = λ u. cc u;
       err = tt;
+      by_record = tt;
       wanting = λ w. cc;
     }
 

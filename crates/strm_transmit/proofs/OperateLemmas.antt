@@ -22,7 +22,8 @@ use Rattle.strm_world.specs.World.{World}
 use Rattle.strm_world.specs.Steps.{operates_by, reads_from, writes_to, performs_in, outcome, may_poll, touches}
 use Rattle.strm_world.specs.Does.{world_of, Fits, Does, Answered}
 use Rattle.strm_transmit.specs.Meets.{replied}
-use Rattle.strm_transmit.specs.Hosted.{answered, lone, MayBeDone, Leaves, IsHandedOver, IsStop, MeetsHosted}
+use Rattle.strm_transmit.specs.Hosted.{answered, lone, MayBeDone, Leaves, IsHandedOver, IsStop, ErrsByRecord, MeetsHosted}
+use Rattle.strm_transmit.specs.Inside.{AreServed}
 use Rattle.strm_transmit.specs.Turning.{turn_for, polls_for}
 use Rattle.strm_transmit.specs.WantsMemory.{WantsInPoll, WantsIn, InAPoll, IfWanting}
 use Rattle.strm_transmit.specs.declared.errors.StoreError.{StoreError}
@@ -37,6 +38,7 @@ use Rattle.strm_world.specs.Settling.{answered as answers_at}
 use Rattle.strm_world.proofs.FitsLemmas.{KeepsKind, Fits-stream}
 use Rattle.strm_world.proofs.ReadLemmas.{Does-read, Does-read_stop}
 use Rattle.strm_world.proofs.WriteLemmas.{Does-write, Does-write_stop}
+use Rattle.strm_world.proofs.LastRecordLemmas.{AreServing, halts_by_record}
 use Rattle.strm_world.proofs.OutcomeLemmas.{refusal_in-on_end}
 use Rattle.strm_transmit.proofs.WantsLemmas.{wanting_result}
 use Rattle.strm_transmit.proofs.HostStepLemmas.{PerformsAs, does_admitted, Settles, unpolled}
@@ -47,6 +49,12 @@ use Rattle.strm_transmit.proofs.HostStepLemmas.{PerformsAs, does_admitted, Settl
 pub record Halts {T : Type 0} (result : Result T StoreError) (new : State) : Type 0 where
   pub stop : IfErr result IsStop
   pub trapped : IfErr result (λ _. new.trapped ≡ true)
+
+-- host ends fitted the store, of which each serves the stream that it has an end of, and fit it still
+pub record FitStill (old new : State) (tells told : Tells) : Type 0 where
+  pub served : AreServed old.producers old.consumers old.streams
+  pub before : Fits old tells
+  pub after : Fits new told
 
 module _ (old new : State) (tells told : Tells) (act : Act) (polls : may_poll (lone old) act ≡ true) where
   -- where memory was wanting
@@ -65,10 +73,25 @@ module _ (old new : State) (tells told : Tells) (act : Act) (polls : may_poll (l
   leaves_if f (Ok v) h w = tt
   leaves_if f (Err error) h w = leaves_stop error h.stop h.trapped w
 
-  pub hosted_polled : {T : Type 0} (f : T → Reply) (result : Result T StoreError) → Does old new tells told (answered (replied f result)) (λ w. outcome w act) → MayBeDone old tells act → Fits new told → Halts result new → WantsSo result → MeetsHosted old new tells told (replied f result) act
+  -- it did what the machine does
+  abbrev pub DidSo : Result Reply StoreError → Type 0
+  DidSo result = Does old new tells told (answered result) (λ w. outcome w act)
+
+  -- a host end that failed, or broke its rules, says so by its last record
+  by_last_record : AreServing old → Fits old tells → (result : Result Reply StoreError) → DidSo result → IfErr result (ErrsByRecord tells told)
+  by_last_record served fits (Ok v) does = tt
+  by_last_record served fits (Err (HostFailed end)) does = halts_by_record tells told old new act (stops.HostFailed end) served fits does
+  by_last_record served fits (Err (HostBroke end)) does = halts_by_record tells told old new act (stops.HostBroke end) served fits does
+  by_last_record served fits (Err (Refused r)) does = tt
+  by_last_record served fits (Err (BadItem stream)) does = tt
+  by_last_record served fits (Err StoreTrapped) does = tt
+  by_last_record served fits (Err OutOfMemory) does = tt
+
+  pub hosted_polled : {T : Type 0} (f : T → Reply) (result : Result T StoreError) → DidSo (replied f result) → MayBeDone old tells act → FitStill old new tells told → Halts result new → WantsSo result → MeetsHosted old new tells told (replied f result) act
   hosted_polled f result does may fits halts wants = record {
     does = does;
-    fits = fits;
+    fits = fits.after;
+    by_record = by_last_record fits.served.serves fits.before (replied f result) does;
     alone = λ u. absurd (true≢false (sym polls ∙ unpolled (lone old) act u));
     err = leaves_if f result halts wants;
     wanting = λ w. may;
@@ -210,7 +233,7 @@ module _ (old new : State) (tells told : Tells) (side : Side) (end : NamedEnd) (
   abbrev pub WantsTurn : {T : Type 0} → Result T StoreError → Type 0
   WantsTurn result = IfErr result (λ error. IfWanting error (WantsInPoll old tells told (polls_for side s n operation)))
 
-  pub hosted_across : {T : Type 0} (f : T → Reply) (result : Result T StoreError) → Does old new tells told (answered (replied f result)) (polls_for side s n operation) → Fits new told → Halts result new → WantsTurn result → MeetsHosted old new tells told (replied f result) act
+  pub hosted_across : {T : Type 0} (f : T → Reply) (result : Result T StoreError) → Does old new tells told (answered (replied f result)) (polls_for side s n operation) → FitStill old new tells told → Halts result new → WantsTurn result → MeetsHosted old new tells told (replied f result) act
   hosted_across f result does fits halts wants =
       hosted_polled old new tells told act across f result
       (does_admitted old new tells told act (answered (replied f result)) (polls_for side s n operation) may polls does) may fits halts

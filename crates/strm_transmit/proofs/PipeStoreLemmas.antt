@@ -281,6 +281,7 @@ hosted_pipe old new tells told s r may does fits = record {
   fits = fits;
   alone = λ u. cc u;
   err = tt;
+  by_record = tt;
   wanting = λ w. cc;
 }
 

@@ -19,6 +19,7 @@ use Rattle.strm_world.specs.World.{World, stream_in, with_stream_in}
 use Rattle.strm_world.specs.Attaching.{forsaken}
 use Rattle.strm_world.specs.Releasing.{KnowsHeld}
 use Rattle.strm_world.specs.HostRefusals.{refusal_in}
+use Rattle.strm_world.specs.LastRecord.{HaltsByRecord}
 use Rattle.strm_world.specs.Steps.{outcome, may_poll, touches}
 use Rattle.strm_world.specs.Does.{Logs, world_of, Answered, FitsWriter, FitsReader, Fits, Does}
 use Rattle.strm_transmit.specs.Meets.{Meets}
@@ -102,6 +103,13 @@ abbrev pub IsHandedOver : State → Tells → Act → Type 0
 IsHandedOver state tells (OnEnd Reading end (Operate address count)) = HasHeld state tells (stream_named (named state end))
 IsHandedOver state tells act = ⊥
 
+-- an error that a host end failed, or broke the rules of its kind: the end says so by its last record, which it
+-- made in the call
+abbrev pub ErrsByRecord : Tells → Tells → StoreError → Type 0
+ErrsByRecord tells told (HostFailed end) = HaltsByRecord tells told (stops.HostFailed end)
+ErrsByRecord tells told (HostBroke end) = HaltsByRecord tells told (stops.HostBroke end)
+ErrsByRecord tells told _ = Unit {0}
+
 -- an error of a call that polled a host end
 abbrev pub IsStop : StoreError → Type 0
 IsStop (Refused refusal) = ⊥
@@ -113,11 +121,13 @@ pub record MeetsAlone (old new : State) (tells told : Tells) (result : Result Re
   pub meets : Meets old new result (reaction old act)
   pub ends : told ≡ tells
 
--- a call is a step of the machine among host ends, which stay those that the store needs; memory is
--- wanting only where the step may be done, so never in place of a refusal
+-- a call is a step of the machine among host ends, which stay those that the store needs. A host end that
+-- failed, or broke its rules, says so by its last record. Memory is wanting only where the step may be done, so
+-- never in place of a refusal
 pub record MeetsHosted (old new : State) (tells told : Tells) (result : Result Reply StoreError) (act : Act) : Type 0 where
   pub does : Does old new tells told (answered result) (λ world. outcome world act)
   pub fits : Fits new told
   pub alone : touches (lone old) act ≡ false → MeetsAlone old new tells told result act
   pub err : IfErr result (Leaves act old new tells told)
+  pub by_record : IfErr result (ErrsByRecord tells told)
   pub wanting : result ≡ Err OutOfMemory → MayBeDone old tells act

@@ -1,5 +1,5 @@
 -- The close of a box with its duty ended is the machine's close.
-use Rattle.std.proofs.Common.{◌≡◌, ℕ, zero, suc, ◌<◌, Bool, List, [], ◌∷◌, length, drop, refl, sym, ap, ◌∙◌, arith}
+use Rattle.std.proofs.Common.{◌≡◌, ℕ, zero, suc, ◌<◌, Bool, true, List, [], ◌∷◌, length, drop, refl, sym, ap, ◌∙◌, arith}
 use Rattle.std.specs.Prelude.{slice_set}
 use Rattle.strm_codes.specs.declared.codes.TransmitKind.{TransmitKind}
 use Rattle.strm_codes.specs.declared.payloads.Payload.{Payload}
@@ -26,7 +26,7 @@ writers_from-both (q ∷ ps) (x ∷ ws) logs (suc n) p w k l =
     ∙ ap (λ d. slice_set (writers_from ps ws (drop 1 logs)) n (writer_of p.duty w (first_log d))) (drop_one n logs))
 
 same_closed : {k l : TransmitKind} {p q : Payload} {c d : List WriterSaid} {m n : ℕ} {a b : Bool} {x y : Heard (List ℕ)} → k ≡ l → p ≡ q → c ≡ d → m ≡ n → a ≡ b → x ≡ y
-    → writer_made k p [] c m a x ≡ writer_made l q [] d n b y
+    → writer_made k p [] c m a true x ≡ writer_made l q [] d n b true y
 same_closed e f g h i j = cc
 
 -- a writer that was closed, as its duty ended

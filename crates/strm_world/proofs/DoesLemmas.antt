@@ -1,5 +1,7 @@
 -- What one piece of code did and what the next one did make up what both do.
-use Rattle.std.proofs.Common.{◌≡◌, ℕ, ◌≤◌, Ok, Err, Option, Some, None, refl, sym, subst, arith}
+use Rattle.std.proofs.Common.{◌≡◌, ℕ, ◌≤◌, List, [], ◌∷◌, ◌++◌, Ok, Err, Option, Some, None, refl, sym, ap, subst, ◌∙◌, arith}
+use Rattle.std.proofs.Math.Seq.{drop-length}
+use Rattle.std.proofs.lemmas.List.{append-nil}
 use Rattle.strm_buffers.specs.Tells.{Tells, Rose}
 use Rattle.std.proofs.Math.Nat.{le_trans}
 use Rattle.std.proofs.lemmas.Bool.Decides.{nat_tests}
@@ -10,7 +12,7 @@ use Rattle.strm_machine.specs.declared.streams.HostEnd.{HostEnd}
 use Rattle.strm_machine.specs.declared.replies.Reply.{Reply}
 use Rattle.strm_world.specs.World.{World}
 use Rattle.strm_world.specs.Outcomes.{Outcome, Stops, then_on}
-use Rattle.strm_world.specs.Does.{Logs, world_of, Answered, Gives, faults_of, Caused, Does}
+use Rattle.strm_world.specs.Does.{Logs, Begins, AllBegin, saids, Extends, world_of, Answered, Gives, faults_of, Caused, Does}
 
 -- a count that rose has risen since it was less
 pub rose_more : (a b c : ℕ) → a ≤ b → Rose b c → Rose a c
@@ -71,3 +73,15 @@ Does-as a c x z result m n same d = record {
   faults = d.faults;
   cause = d.cause;
 }
+
+module _ {A : Type 0} where
+  begins_self : (said : List A) → Begins said said
+  begins_self said = sym (ap (λ rest. said ++ rest) (drop-length said) ∙ append-nil said)
+
+  all_begin_self : (saids : List (List A)) → AllBegin saids saids
+  all_begin_self [] = tt
+  all_begin_self (said ∷ more) = (begins_self said, all_begin_self more)
+
+-- where no more is to come
+pub extends_self : (tells : Tells) → Extends tells (saids tells)
+extends_self tells = (all_begin_self (saids tells).writers, all_begin_self (saids tells).readers)

@@ -1,5 +1,5 @@
 -- One host writer that told more, among the others: the world with that writer changed, and no other.
-use Rattle.std.proofs.Common.{◌≡◌, ℕ, zero, suc, ◌+◌, ◌<◌, Bool, List, [], ◌∷◌, ◌++◌, length, drop, append_assoc, refl, sym, ap, ◌∙◌, arith}
+use Rattle.std.proofs.Common.{◌≡◌, ℕ, zero, suc, ◌+◌, ◌<◌, Bool, false, List, [], ◌∷◌, ◌++◌, length, drop, append_assoc, refl, sym, ap, ◌∙◌, arith}
 use Rattle.std.specs.Prelude.{slice_set, slice_index_or}
 use Rattle.std.proofs.lemmas.List.{length-append}
 use Rattle.strm_codes.specs.declared.codes.TransmitKind.{TransmitKind}
@@ -91,12 +91,12 @@ begins-before said more log b =
     let e : log ≡ said ++ (more ++ rest) = b ∙ append_assoc said more rest in
     e ∙ ap (λ xs. said ++ xs) (sym (ap (drop (length said)) e ∙ drop-length said (more ++ rest)))
 
-abbrev pub writer_made : TransmitKind → Payload → List Item → List WriterSaid → ℕ → Bool → Heard (List ℕ) → Writer
-writer_made k p h c n b x =
-    record { kind = k; payload = p; holds = h; coming = c; spoken = n; closed = b; heard = x }
+abbrev pub writer_made : TransmitKind → Payload → List Item → List WriterSaid → ℕ → Bool → Bool → Heard (List ℕ) → Writer
+writer_made k p h c n b g x =
+    record { kind = k; payload = p; holds = h; coming = c; spoken = n; closed = b; ended = g; heard = x }
 
 pub same_writer : {k l : TransmitKind} {p q : Payload} {h i : List Item} {c : List WriterSaid} {m n : ℕ} {a b : Bool} {x y : Heard (List ℕ)} → k ≡ l → p ≡ q → h ≡ i → m ≡ n → a ≡ b → x ≡ y
-    → writer_made k p h c m a x ≡ writer_made l q i c n b y
+    → writer_made k p h c m a false x ≡ writer_made l q i c n b false y
 same_writer e f g h i j = cc
 
 -- a writer in use that was polled is the machine's with its next record used

@@ -1,5 +1,5 @@
 -- How code over a store and its host ends meets the machine, whatever records are yet to come. Ours.
-use Rattle.std.specs.Prelude.{◌≡◌, ℕ, ◌<◌, ◌≤◌, List, [], ◌∷◌, ◌++◌, length, drop, map, All, Option, Some, None, Result, Ok, Err}
+use Rattle.std.specs.Prelude.{◌≡◌, ℕ, ◌<◌, ◌≤◌, Bool, true, false, List, [], ◌∷◌, ◌++◌, length, drop, map, All, Option, Some, None, Result, Ok, Err}
 use Rattle.strm_codes.specs.Layout.{scalars_of}
 use Rattle.strm_codes.specs.declared.payloads.Payload.{Payload}
 use Rattle.strm_memory.specs.Items.{AreItems}
@@ -56,6 +56,11 @@ Extends tells logs =
 
 -- THE WORLD THAT THEY ARE
 
+-- a host end that was an end of a stream, and is gone
+abbrev pub is_ended : Duty → Bool
+is_ended Ended = true
+is_ended _ = false
+
 -- what a writer that is gone holds is given up
 abbrev pub held_while : Duty → List Item → List Item
 held_while Ended items = []
@@ -70,6 +75,7 @@ writer_of duty tells log = record {
   coming = drop (length tells.said) log;
   spoken = length tells.said;
   closed = tells.closed;
+  ended = is_ended duty;
   heard = tells.heard;
 }
 

@@ -2,6 +2,7 @@ pub mod Ends
 pub mod World
 pub mod Outcomes
 pub mod Polls
+pub mod LastRecord
 pub mod Settling
 pub mod Producing
 pub mod Consuming

@@ -1,13 +1,10 @@
-use Rattle.std.proofs.Common.{◌≡◌, ℕ, List, inl, inr, refl, ap, ◌∙◌}
+use Rattle.std.proofs.Common.{inl, inr, refl, ap, ◌∙◌}
 use denote.Param.Object.{read_made}
 use Rattle.strm_codes.specs.declared.codes.TransmitKind.TheVariants.{Stream}
-use Rattle.strm_codes.specs.declared.payloads.Payload.TheVariants.{One}
-use Rattle.strm_codes.specs.declared.scalars.Scalar.TheVariants.{U8}
 use Rattle.strm_buffers.specs.Tells.{WriterTells, ReaderTells}
 use Rattle.strm_ends.specs.QueueTells.{queue_tells}
 use Rattle.strm_ends.specs.Credits.{credit_tells, ungranted}
-use Rattle.strm_host.specs.Erasing.{erased_tells, unpolled}
-use Rattle.strm_host.specs.Lists.{list_faults}
+use Rattle.strm_host.specs.Erasing.{erased_tells}
 use Rattle.strm.proofs.served_among_ends.Object-1 as boxed_writer
 use Rattle.strm.proofs.served_among_ends.Object-2 as boxed_reader
 use Rattle.strm.proofs.served_among_ends.OwnLists as owns
@@ -27,19 +24,19 @@ served-requires-clause-writers g c =
     (both (queue _ _ _ c.into_dyn_box-in_ok-new-3.ensures.1 ∙ ap queue_tells c.in_ok-new-3.ensures.ok ∙ c.new-5.ensures.tells)
     (both (queue _ _ _ c.into_dyn_box-in_ok-new-4.ensures.1 ∙ ap queue_tells c.in_ok-new-4.ensures.ok ∙ c.new-7.ensures.tells)
     (both (queue _ _ _ c.into_dyn_box-in_ok-new-5.ensures.1 ∙ ap queue_tells c.in_ok-new-5.ensures.ok ∙ c.new-9.ensures.tells)
-    (both (list _ _ _ c.into_dyn_box-in_ok-new-6.ensures.1 ∙ ap erased_tells c.in_ok-new-6.ensures.ok ∙ c.stream.ensures.tells ∙ ap (λ (xs : List ℕ). unpolled Stream (One U8) (list_faults xs)) c.in_ok-five.ensures)
-    (both (list _ _ _ c.into_dyn_box-in_ok-new-7.ensures.1 ∙ ap erased_tells c.in_ok-new-7.ensures.ok ∙ c.stream-2.ensures.tells ∙ ap (λ (xs : List ℕ). unpolled Stream (One U8) (list_faults xs)) c.in_ok-five-2.ensures)
-    (both (none _ _ _ c.into_dyn_box-in_ok-new-8.ensures.1 ∙ ap erased_tells c.in_ok-new-8.ensures.ok ∙ c.stream-3.ensures.tells) refl))))))))
+    (both (list _ _ _ c.into_dyn_box-in_ok-new-6.ensures.1 ∙ ap erased_tells c.in_ok-new-6.ensures.ok ∙ c.requires.first_unpolled)
+    (both (list _ _ _ c.into_dyn_box-in_ok-new-7.ensures.1 ∙ ap erased_tells c.in_ok-new-7.ensures.ok ∙ c.requires.second_unpolled)
+    (both (none _ _ _ c.into_dyn_box-in_ok-new-8.ensures.1 ∙ ap erased_tells c.in_ok-new-8.ensures.ok ∙ c.requires.none_unpolled) refl))))))))
 
 pub served-requires-clause-readers : goal.served-requires-clause-readers
 served-requires-clause-readers g c =
     let credit = read_made {G = boxed_reader.Members} owns.own-2 (owns.own-2.entry (inl tt)) (inl tt) refl ReaderTells (λ j. j.1.reader_tells) in
     rw (c.in_ok-from_array-2.ensures.items)
-    (both (credit _ _ _ c.into_dyn_box-in_ok-new-9.ensures.1 ∙ ap credit_tells c.in_ok-new-9.ensures.ok ∙ c.new-15.ensures.tells)
-    (both (credit _ _ _ c.into_dyn_box-in_ok-new-10.ensures.1 ∙ ap credit_tells c.in_ok-new-10.ensures.ok ∙ c.new-17.ensures.tells)
-    (both (credit _ _ _ c.into_dyn_box-in_ok-new-11.ensures.1 ∙ ap credit_tells c.in_ok-new-11.ensures.ok ∙ c.new-19.ensures.tells)
-    (both (credit _ _ _ c.into_dyn_box-in_ok-new-12.ensures.1 ∙ ap credit_tells c.in_ok-new-12.ensures.ok ∙ c.new-21.ensures.tells)
-    (both (credit _ _ _ c.into_dyn_box-in_ok-new-13.ensures.1 ∙ ap credit_tells c.in_ok-new-13.ensures.ok ∙ c.new-23.ensures.tells)
-    (both (credit _ _ _ c.into_dyn_box-in_ok-new-14.ensures.1 ∙ ap credit_tells c.in_ok-new-14.ensures.ok ∙ c.new-25.ensures.tells)
-    (both (credit _ _ _ c.into_dyn_box-in_ok-new-15.ensures.1 ∙ ap credit_tells c.in_ok-new-15.ensures.ok ∙ c.new-27.ensures.tells ∙ ap (ungranted Stream) c.payload.ensures)
-    (both (credit _ _ _ c.into_dyn_box-in_ok-new-16.ensures.1 ∙ ap credit_tells c.in_ok-new-16.ensures.ok ∙ c.new-29.ensures.tells) refl))))))))
+    (both (credit _ _ _ c.into_dyn_box-in_ok-new-9.ensures.1 ∙ ap credit_tells c.in_ok-new-9.ensures.ok ∙ c.new-14.ensures.tells)
+    (both (credit _ _ _ c.into_dyn_box-in_ok-new-10.ensures.1 ∙ ap credit_tells c.in_ok-new-10.ensures.ok ∙ c.new-16.ensures.tells)
+    (both (credit _ _ _ c.into_dyn_box-in_ok-new-11.ensures.1 ∙ ap credit_tells c.in_ok-new-11.ensures.ok ∙ c.new-18.ensures.tells)
+    (both (credit _ _ _ c.into_dyn_box-in_ok-new-12.ensures.1 ∙ ap credit_tells c.in_ok-new-12.ensures.ok ∙ c.new-20.ensures.tells)
+    (both (credit _ _ _ c.into_dyn_box-in_ok-new-13.ensures.1 ∙ ap credit_tells c.in_ok-new-13.ensures.ok ∙ c.new-22.ensures.tells)
+    (both (credit _ _ _ c.into_dyn_box-in_ok-new-14.ensures.1 ∙ ap credit_tells c.in_ok-new-14.ensures.ok ∙ c.new-24.ensures.tells)
+    (both (credit _ _ _ c.into_dyn_box-in_ok-new-15.ensures.1 ∙ ap credit_tells c.in_ok-new-15.ensures.ok ∙ c.new-26.ensures.tells ∙ ap (ungranted Stream) c.payload.ensures)
+    (both (credit _ _ _ c.into_dyn_box-in_ok-new-16.ensures.1 ∙ ap credit_tells c.in_ok-new-16.ensures.ok ∙ c.new-28.ensures.tells) refl))))))))

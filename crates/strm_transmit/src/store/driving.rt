@@ -184,6 +184,7 @@ impl Store {
         ensures meets { MeetsHosted self.old self.new (tells_of writer_tells reader_tells hosts.old)
             (tells_of writer_tells reader_tells hosts.new) (replied (λ _. replies.Done) result) Drive }
     {
+        self.served();
         self.admit(Ok(()))?;
         self.drive_all(hosts)
     }

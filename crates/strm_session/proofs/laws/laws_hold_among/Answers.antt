@@ -53,3 +53,6 @@ returns-clause-fed c = λ old new steps replies stop writers readers e. c.writer
 
 pub returns-clause-granted : goal.returns-clause-granted
 returns-clause-granted c = λ old new steps replies stop writers readers e. c.readers_are_granted_exactly.ensures.stops _ steps replies stop writers readers e
+
+pub returns-clause-gone : goal.returns-clause-gone
+returns-clause-gone c = λ old new steps replies stop writers readers e. c.ends_close_exactly.ensures.gone 0 _ old new steps replies stop writers readers e

@@ -13,7 +13,7 @@ loop-preserved g c =
       i.0 ++ reply ∷ [],
       now.kept i.0 i.1,
       playing_more _ _ _ _ _ _ c.loop.counter c.next-step.result i.0 c.loop.store c.step_once.new.store i.2 c.next-step.ensures
-          (c.laws_hold_among.ensures.laws _ _) (c.laws_hold_among.ensures.leads _ _) c.requires.few reply c.sound.ensures now.ok c.step_once.ensures.fits now.goes_on
+          (c.laws_hold_among.ensures.laws _ _) (c.laws_hold_among.ensures.leads _ _) (λ tells. c.laws_hold_among.ensures.gone _ tells _) c.requires.few reply c.sound.ensures now.ok c.step_once.ensures.fits now.goes_on
           (λ untouched. record { goes_on = now.alone untouched i.0; state_is = now.state untouched; same = c.step_once.ensures.hosts untouched }),
     )
 
@@ -24,7 +24,7 @@ returns-in_err-_reply g c =
       i.0,
       now.err i.0 i.1,
       played_stop _ _ _ _ _ _ c.loop.counter c.next-step.result i.0 c.loop.store c.step_once.new.store i.2 c.next-step.ensures
-          (c.laws_hold_among.ensures.laws _ _) (c.laws_hold_among.ensures.leads _ _) c.requires.few c.in_err-_reply.field-0.0 c.sound.ensures now.stop now.unmet now.wanting
+          (c.laws_hold_among.ensures.laws _ _) (c.laws_hold_among.ensures.leads _ _) (λ tells. c.laws_hold_among.ensures.gone _ tells _) c.requires.few c.in_err-_reply.field-0.0 c.sound.ensures now.stop now.unmet now.wanting
           (λ untouched. (now.stop_alone untouched i.0, c.step_once.ensures.hosts untouched))
           c.from_residual.result c.from_residual.ensures.1,
     )

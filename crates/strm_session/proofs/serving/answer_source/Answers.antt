@@ -1,6 +1,6 @@
-use Rattle.std.proofs.lemmas.Result.{IfOk-weaker}
+use Rattle.std.proofs.lemmas.Result.{IfOk-weaker, IfErr-weaker}
 use Rattle.strm_session.proofs.AmongLemmas.{goes_on_itself}
-use Rattle.strm_session.proofs.ServingLemmas.{told_of_source}
+use Rattle.strm_session.proofs.ServingLemmas.{told_of_source, unwritten_of_source}
 use Rattle.strm_session.proofs.serving.answer_source.Goals as goal
 
 pub returns-in-Ok-clause-told : goal.returns-in-Ok-clause-told
@@ -18,3 +18,9 @@ returns-in-Err-Fault-clause-goes_on g c = goes_on_itself _
 
 pub returns-in-Err-OutOfMemory-clause-goes_on : goal.returns-in-Err-OutOfMemory-clause-goes_on
 returns-in-Err-OutOfMemory-clause-goes_on g c = goes_on_itself _
+
+pub returns-in-Ok-clause-wanting : goal.returns-in-Ok-clause-wanting
+returns-in-Ok-clause-wanting g c =
+    IfErr-weaker c.answer_input.result _ _
+    (λ e h. unwritten_of_source (g.S.Source.left c.args.source.now) c.in-Ok.input c.in-Ok.ensures.ok (rw c.as_slice.ensures at h))
+    c.answer_input.ensures.wanting

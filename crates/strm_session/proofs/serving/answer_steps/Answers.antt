@@ -1,6 +1,7 @@
 use Rattle.std.proofs.Common.{ap, ◌∙◌, refl}
 use Rattle.strm_lines.specs.Text.{transcript_text}
 use Rattle.strm_session.proofs.PlayingLemmas.{has_run}
+use Rattle.strm_session.proofs.ServingLemmas.{was_run, on_any}
 use Rattle.strm_session.proofs.serving.answer_steps.Goals as goal
 
 pub returns-in_ok-text-in-Err-clause-stopped : goal.returns-in_ok-text-in-Err-clause-stopped
@@ -30,3 +31,18 @@ returns-in_ok-text-in-Ok-clause-done g c = λ input s q.
       run = run.ok;
       text_is = c.in_ok-text-in-Ok.ensures played.0 played.1 ∙ ap (transcript_text played.0) (c.as_slice.ensures ∙ run.received);
     }
+
+pub returns-in_err-text-in-Ok-clause-wanting : goal.returns-in_err-text-in-Ok-clause-wanting
+returns-in_err-text-in-Ok-clause-wanting g c = λ input s long.
+    let played = c.in-Ok.ensures in
+    on_any _ (was_run input c.args.steps.now.items played.0 _ s long (has_run c.left-given.ensures refl played.2))
+
+pub returns-in_err-status-in-Err-clause-wanting : goal.returns-in_err-status-in-Err-clause-wanting
+returns-in_err-status-in-Err-clause-wanting g c = λ input s long.
+    let played = c.in-Err.ensures in
+    on_any _ (was_run input c.args.steps.now.items played.0 _ s long (has_run c.left-given.ensures refl played.2))
+
+pub returns-in_err-text-in-Err-clause-wanting : goal.returns-in_err-text-in-Err-clause-wanting
+returns-in_err-text-in-Err-clause-wanting g c = λ input s long.
+    let played = c.in-Err.ensures in
+    on_any _ (was_run input c.args.steps.now.items played.0 _ s long (has_run c.left-given.ensures refl played.2))

@@ -22,7 +22,7 @@ returns-in-Some-clause-meets g c =
       begins = c.begin-mine.ensures ∙ ap (λ q. begun c.args.end.now.guest c.args.address q.1) found.same;
       owner = c.in-Some.ensures.some;
     })
-    replies.Code c.poll_across.result c.poll_across.ensures.does c.poll_across.ensures.fits
+    replies.Code c.poll_across.result c.poll_across.ensures.does (record { served = c.served.ensures; before = c.requires.fits; after = c.poll_across.ensures.fits })
     (record { stop = c.poll_across.ensures.stop; trapped = c.poll_across.ensures.trapped }) c.poll_across.ensures.wanting
 
 pub returns-in-Some-clause-held : goal.returns-in-Some-clause-held

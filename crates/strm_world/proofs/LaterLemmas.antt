@@ -14,7 +14,7 @@ use Rattle.strm_world.specs.Settling.{went, settled, let_go, moved_on, with_some
 use Rattle.strm_world.specs.Attaching.{without_ends}
 use Rattle.std.specs.Prelude.{All}
 use Rattle.std.proofs.lemmas.List.Elements.{All-nil, All-push}
-use Rattle.strm_session.specs.Records.{KeepsRules, ReaderKeepsRules, SaysWhy, ReaderSaysWhy}
+use Rattle.strm_world.specs.LastRecord.{KeepsRules, ReaderKeepsRules, SaysWhy, ReaderSaysWhy}
 use Rattle.strm_codes.specs.declared.codes.StreamResult.{StreamResult}
 use Rattle.strm_machine.specs.Moves.{with_owner}
 use Rattle.strm_machine.specs.Turns.{with_received}

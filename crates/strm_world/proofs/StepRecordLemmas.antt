@@ -12,7 +12,6 @@ use Rattle.strm_buffers.specs.HostRules.{breaks_as_writer, breaks_as_reader}
 use Rattle.strm_machine.specs.Meetings.{begun}
 use Rattle.strm_machine.specs.Tests.{named, stream_named, items_asked}
 use Rattle.strm_machine.specs.State.{producer_at, consumer_at, is_host, no_stream}
-use Rattle.strm_machine.specs.Acts.{act_of}
 use Rattle.strm_machine.specs.Reactions.{reaction}
 use Rattle.strm_machine.specs.Sides.{opposite, end_of}
 use Rattle.strm_machine.specs.declared.acts.Act.{Act}
@@ -30,7 +29,6 @@ use Rattle.strm_machine.specs.declared.streams.Owner.TheVariants.{Host, Gone}
 use Rattle.strm_machine.specs.declared.streams.Side.{Side}
 use Rattle.strm_machine.specs.declared.streams.Side.TheVariants.{Writing, Reading}
 use Rattle.strm_machine.specs.declared.streams.Stream.{Stream}
-use Rattle.strm_machine.specs.declared.steps.Step.{Step}
 use Rattle.strm_world.specs.World.{World, stream_in, writer_at, reader_at, held_of, with_kept, with_writer, with_reader, leaves_writer, leaves_reader, with_stream_in, with_guests}
 use Rattle.strm_world.specs.Ends.{Writer, Reader, no_writer, no_reader, writer_in, reader_in, polled_writer, polled_reader, given_writer, fed_writer, granted_reader, closed_writer, closed_reader}
 use Rattle.strm_world.specs.Outcomes.{Outcome, Goes, Stops, Stuck, stops, done, then_on, of_reply}
@@ -42,15 +40,15 @@ use Rattle.strm_world.specs.Piping.{wants_items, fetches, gathered, passed_on, o
 use Rattle.strm_world.specs.Driving.{if_open, driven_by, drive_turn, driven}
 use Rattle.strm_world.specs.Attaching.{has_items, hosts_new, is_dry, piped, piped_by, without_ends, pipes, forsakes}
 use Rattle.strm_world.specs.HostRefusals.{refusal_in}
-use Rattle.strm_world.specs.Steps.{reacts, operates_by, drops_in, on_host, performs_by, performs_in, unless_refused_in, outcome, step_of}
+use Rattle.strm_world.specs.Steps.{reacts, operates_by, drops_in, on_host, performs_by, performs_in, unless_refused_in, outcome}
 use Rattle.strm_world.proofs.TouchLemmas.{touch-by}
 use Rattle.strm_machine.proofs.TableLemmas.{set-keeps}
-use Rattle.strm_session.specs.Records.{SaysFailed, SaysBroken, ReaderSaysFailed, ReaderSaysBroken, KeepsRules, ReaderKeepsRules, SaysWhy, ReaderSaysWhy}
+use Rattle.strm_world.specs.LastRecord.{SaysFailed, SaysBroken, ReaderSaysFailed, ReaderSaysBroken, KeepsRules, ReaderKeepsRules, SaysWhy, ReaderSaysWhy}
 use Rattle.strm_codes.specs.declared.codes.StreamResult.{StreamResult}
 use Rattle.strm_codes.specs.declared.codes.StreamResult.TheVariants as results
 use Rattle.strm_machine.specs.declared.replies.Reply.TheVariants as replies
 use Rattle.strm_machine.specs.declared.streams.HostEnd.TheVariants as ends
-use Rattle.strm_session.proofs.LaterLemmas.{Behind_one, used_more, all-set, set-there, WriterLater, ReaderLater, StreamLater, WriterStops, ReaderStops, EndsLater, IsLater, EndsFit, itself_later, stream_twice, operation_later, received_later, moved_later, without_ends_later}
+use Rattle.strm_world.proofs.LaterLemmas.{Behind_one, used_more, all-set, set-there, WriterLater, ReaderLater, StreamLater, WriterStops, ReaderStops, EndsLater, IsLater, EndsFit, itself_later, stream_twice, operation_later, received_later, moved_later, without_ends_later}
 
 -- a step from this world
 module _ (first : World) where
@@ -466,9 +464,8 @@ module _ (first : World) where
     unless-halts act (Some refusal) = itself_ends
     unless-halts act None = performs-halts act
 
-    pub step-halts : (step : Step) → Halts (step_of first step)
+    pub act-halts : (act : Act) → Halts (outcome first act)
     unfolding outcome
-    step-halts step =
-        let act = act_of step in
+    act-halts act =
         cond_both first.state.trapped (stops StoreTrapped first) (unless_refused_in first act (refusal_in first act)) Halts
         (λ e. record { named = tt; writers = λ n. inl (itself_ends.writers n); readers = λ r. inl (itself_ends.readers r) }) (λ e. unless-halts act (refusal_in first act))
