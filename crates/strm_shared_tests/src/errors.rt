@@ -3,7 +3,7 @@
 use std::alloc::Global;
 use std::fmt::Display;
 use std::process::Abort;
-use strm_shared::errors::SharedError;
+use strm_shared::SharedError;
 
 // What `{}` prints.
 fn prints<T: Display>(rt: &impl Abort, alloc: Global, value: &T, wanted: &str) {
