@@ -1,2 +1,3 @@
 pub mod TellsLemmas
 pub mod FollowLemmas
+pub mod OutcomeLemmas
