@@ -2,14 +2,12 @@
 //! its replies.
 #![tactic(auto)]
 
-ghost use Rattle.std.specs.Prelude.{◌≡◌, ◌⊎◌, ◌≤◌, ◌∷◌, [], length, map, string_bytes, IfOk, OnErr};
+ghost use Rattle.std.specs.Prelude.{◌≡◌, ◌∷◌, [], map, string_bytes, IfOk, IsOkAnd, OnErr};
 ghost use Rattle.std.specs.Process.{exit_status};
 ghost use Rattle.strm_buffers.specs.AllTells.{tells_of};
-ghost use Rattle.strm_tape.specs.Spelling.{TapeOf, IsTape, tape_spelling};
 ghost use Rattle.strm_tape_serving.specs.Modes.{Names, NamesNone};
-ghost use Rattle.strm_tape_serving.specs.Reading.{IsReadable, most_bytes};
-ghost use Rattle.tape.specs.HostEnds.{writers, readers, following, following_reader};
-ghost use Rattle.tape.specs.Outcomes.{port, Takes, Plays, PlaysRead, TellsUsage};
+ghost use Rattle.tape.specs.HostEnds.{writers, readers, unused, following, following_reader, followers};
+ghost use Rattle.tape.specs.Outcomes.{port, Takes, TakesAmong, Plays, PlaysAmong, PlaysRead, TellsUsage};
 
 use std::alloc::{AllocError, Global};
 use std::process::ExitCode;
@@ -64,10 +62,11 @@ fn taken<S: Source, K: Sink>(
 ) -> ExitCode
     requires writers { (tells_of writer_tells reader_tells hosts.old).writers ≡ writers }
     requires readers { (tells_of writer_tells reader_tells hosts.old).readers ≡ readers }
-    ensures takes { Takes (port (S.left source.old) (S.faults source.old))
-        (port (S.left source.new) (S.faults source.new)) (port (K.taken sink.old) (K.faults sink.old))
-        (port (K.taken sink.new) (K.faults sink.new)) (exit_status result) }
-    ensures nothing { exit_status result ≡ 9 → sink.new ≡ sink.old }
+    ensures takes { TakesAmong unused (tells_of writer_tells reader_tells hosts.new)
+        (port (S.left source.old) (S.faults source.old)) (port (S.left source.new) (S.faults source.new))
+        (port (K.taken sink.old) (K.faults sink.old)) (port (K.taken sink.new) (K.faults sink.new))
+        (exit_status result) }
+    ensures nothing { exit_status result ≡ OUT_OF_MEMORY → sink.new ≡ sink.old }
 {
     ExitCode::from(tape_take(alloc, source, sink, hosts))
 }
@@ -79,11 +78,13 @@ fn taken_among_ends<S: Source, K: Sink>(
     source: &mut S,
     sink: &mut K,
 ) -> Result<ExitCode, AllocError>
-    ensures takes { IfOk result (λ code. Takes (port (S.left source.old) (S.faults source.old))
-        (port (S.left source.new) (S.faults source.new)) (port (K.taken sink.old) (K.faults sink.old))
-        (port (K.taken sink.new) (K.faults sink.new)) (exit_status code)) }
-    ensures nothing { IfOk result (λ code. exit_status code ≡ 9 → sink.new ≡ sink.old) }
+    ensures takes { IfOk result (λ code. Takes
+        (port (S.left source.old) (S.faults source.old)) (port (S.left source.new) (S.faults source.new))
+        (port (K.taken sink.old) (K.faults sink.old)) (port (K.taken sink.new) (K.faults sink.new))
+        (exit_status code)) }
+    ensures nothing { IfOk result (λ code. exit_status code ≡ OUT_OF_MEMORY → sink.new ≡ sink.old) }
     ensures wanting { OnErr result (sink.new ≡ sink.old) }
+    ensures unread { OnErr result (source.new ≡ source.old) }
 {
     let writers: [Box<dyn HostWriter>; 8] = [
         Box::new(alloc, QueueWriter::new(alloc, STREAM, BYTE))?,
@@ -120,9 +121,10 @@ fn played<K: Sink>(alloc: Global, tape: &Tape, hosts: &mut Hosts, sink: &mut K) 
     requires writers { (tells_of writer_tells reader_tells hosts.old).writers ≡ map following tape.now.writers }
     requires readers { (tells_of writer_tells reader_tells hosts.old).readers
         ≡ map following_reader tape.now.readers }
-    ensures plays { Plays tape.now (port (K.taken sink.old) (K.faults sink.old))
-        (port (K.taken sink.new) (K.faults sink.new)) (exit_status result) }
-    ensures nothing { exit_status result ≡ 9 → sink.new ≡ sink.old }
+    ensures plays { PlaysAmong (followers tape.now) (tells_of writer_tells reader_tells hosts.new) tape.now
+        (port (K.taken sink.old) (K.faults sink.old)) (port (K.taken sink.new) (K.faults sink.new))
+        (exit_status result) }
+    ensures nothing { exit_status result ≡ OUT_OF_MEMORY → sink.new ≡ sink.old }
 {
     ExitCode::from(tape_play(alloc, tape, hosts, sink))
 }
@@ -133,9 +135,10 @@ fn played_among_ends<K: Sink>(
     tape: &Tape,
     sink: &mut K,
 ) -> Result<ExitCode, AllocError>
-    ensures plays { IfOk result (λ code. Plays tape.now (port (K.taken sink.old) (K.faults sink.old))
-        (port (K.taken sink.new) (K.faults sink.new)) (exit_status code)) }
-    ensures nothing { IfOk result (λ code. exit_status code ≡ 9 → sink.new ≡ sink.old) }
+    ensures plays { IfOk result (λ code. Plays tape.now
+        (port (K.taken sink.old) (K.faults sink.old)) (port (K.taken sink.new) (K.faults sink.new))
+        (exit_status code)) }
+    ensures nothing { IfOk result (λ code. exit_status code ≡ OUT_OF_MEMORY → sink.new ≡ sink.old) }
     ensures wanting { OnErr result (sink.new ≡ sink.old) }
 {
     let mut writers: Vec<Box<dyn HostWriter>> = Vec::new(alloc);
@@ -156,6 +159,28 @@ fn played_among_ends<K: Sink>(
     Ok(played(alloc, tape, &mut hosts, sink))
 }
 
+// Plays the tape that a source has left, or writes why that is none.
+fn played_from<S: Source, K: Sink>(
+    alloc: Global,
+    source: &mut S,
+    sink: &mut K,
+) -> Result<ExitCode, AllocError>
+    ensures plays { IfOk result (λ code. PlaysRead
+        (port (S.left source.old) (S.faults source.old)) (port (S.left source.new) (S.faults source.new))
+        (port (K.taken sink.old) (K.faults sink.old)) (port (K.taken sink.new) (K.faults sink.new))
+        (exit_status code)) }
+    ensures nothing { IfOk result (λ code. exit_status code ≡ OUT_OF_MEMORY → sink.new ≡ sink.old) }
+    ensures wanting { OnErr result (sink.new ≡ sink.old) }
+{
+    match tape_read(alloc, source, sink) {
+        Ok(tape) => {
+            tape.sound();
+            played_among_ends(alloc, &tape, sink)
+        }
+        Err(status) => Ok(ExitCode::from(status)),
+    }
+}
+
 // Does what the words say, from a source and to a sink.
 fn answered<S: Source, K: Sink>(
     alloc: Global,
@@ -163,32 +188,24 @@ fn answered<S: Source, K: Sink>(
     source: &mut S,
     sink: &mut K,
 ) -> Result<ExitCode, AllocError>
-    ensures takes { Names (map string_bytes words.now.items) Mode.Take → IfOk result (λ code.
-        Takes (port (S.left source.old) (S.faults source.old))
-        (port (S.left source.new) (S.faults source.new)) (port (K.taken sink.old) (K.faults sink.old))
-        (port (K.taken sink.new) (K.faults sink.new)) (exit_status code)) }
-    ensures plays { Names (map string_bytes words.now.items) Mode.Play → IfOk result (λ code.
-        PlaysRead (port (S.left source.old) (S.faults source.old))
-        (port (S.left source.new) (S.faults source.new)) (port (K.taken sink.old) (K.faults sink.old))
-        (port (K.taken sink.new) (K.faults sink.new)) (exit_status code)) }
-    ensures complete { (tape : TapeOf) → Names (map string_bytes words.now.items) Mode.Play → IsTape tape →
-        IsReadable (S.left source.old) (S.faults source.old) (S.faults source.new) (tape_spelling tape) →
-        length (tape_spelling tape) ≤ most_bytes → IfOk result (λ code.
-        Plays tape (port (K.taken sink.old) (K.faults sink.old))
-        (port (K.taken sink.new) (K.faults sink.new)) (exit_status code)
-        ⊎ (exit_status code ≡ 9)) }
-    ensures usage { NamesNone (map string_bytes words.now.items) → IfOk result (λ code.
-        TellsUsage (port (K.taken sink.old) (K.faults sink.old))
-        (port (K.taken sink.new) (K.faults sink.new)) (exit_status code)) }
-    ensures nothing { IfOk result (λ code. exit_status code ≡ 9 → sink.new ≡ sink.old) }
+    ensures takes { Names (map string_bytes words.now.items) Mode.Take → IfOk result (λ code. Takes
+        (port (S.left source.old) (S.faults source.old)) (port (S.left source.new) (S.faults source.new))
+        (port (K.taken sink.old) (K.faults sink.old)) (port (K.taken sink.new) (K.faults sink.new))
+        (exit_status code)) }
+    ensures plays { Names (map string_bytes words.now.items) Mode.Play → IfOk result (λ code. PlaysRead
+        (port (S.left source.old) (S.faults source.old)) (port (S.left source.new) (S.faults source.new))
+        (port (K.taken sink.old) (K.faults sink.old)) (port (K.taken sink.new) (K.faults sink.new))
+        (exit_status code)) }
+    ensures usage { NamesNone (map string_bytes words.now.items) → IsOkAnd result (λ code. TellsUsage
+        (port (K.taken sink.old) (K.faults sink.old)) (port (K.taken sink.new) (K.faults sink.new))
+        (exit_status code)) }
+    ensures unread { NamesNone (map string_bytes words.now.items) → source.new ≡ source.old }
+    ensures nothing { IfOk result (λ code. exit_status code ≡ OUT_OF_MEMORY → sink.new ≡ sink.old) }
     ensures wanting { OnErr result (sink.new ≡ sink.old) }
 {
     match tape_mode(words, sink) {
         Ok(Mode::Take) => taken_among_ends(alloc, source, sink),
-        Ok(Mode::Play) => match tape_read(alloc, source, sink) {
-            Ok(tape) => played_among_ends(alloc, &tape, sink),
-            Err(status) => Ok(ExitCode::from(status)),
-        },
+        Ok(Mode::Play) => played_from(alloc, source, sink),
         Err(status) => Ok(ExitCode::from(status)),
     }
 }
