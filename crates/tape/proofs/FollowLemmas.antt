@@ -7,7 +7,7 @@ use Rattle.std.proofs.lemmas.Option.{slice_get_cases, none-some}
 use Rattle.strm_codes.specs.declared.codes.TransmitIndex.{TransmitIndex}
 use Rattle.strm_codes.specs.declared.codes.TransmitIndex.TheVariants as index
 use Rattle.strm_codes.specs.Types.{kind_of, payload_of}
-use Rattle.strm_buffers.specs.Tells.{WriterTells, ReaderTells, Tells}
+use Rattle.strm_buffers.specs.Tells.{Tells}
 use Rattle.strm_ends.specs.Scripts.{unpolled_writer}
 use Rattle.strm_ends.specs.Takings.{unpolled_reader}
 use Rattle.strm_tape.specs.Spelling.{WriterTape, ReaderTape, TapeOf}

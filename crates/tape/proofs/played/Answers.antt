@@ -9,7 +9,7 @@ tape_play-requires g c = record { ends = ends_of c.args.tape.now _ c.requires.wr
 pub returns-clause-plays : goal.returns-clause-plays
 returns-clause-plays g c =
     let played = c.tape_play.ensures in
-    plays_among c.args.tape.now _ _ _ _ _ _ c.requires.writers c.requires.readers c.from.ensures (record {
+    plays_among _ _ _ _ c.from.ensures c.args.tape.now _ _ c.requires.writers c.requires.readers (record {
       known = played.known;
       writes = record { told = played.told; part = played.part; write_fault = played.write_fault };
       goes_on = played.goes_on;

@@ -5,7 +5,7 @@ use Rattle.tape.proofs.taken.Goals as goal
 pub returns-clause-takes : goal.returns-clause-takes
 returns-clause-takes g c =
     let taken = c.tape_take.ensures in
-    takes_among _ _ _ _ _ _ _ _ c.requires.writers c.requires.readers c.from.ensures (record {
+    takes_among _ _ _ _ c.from.ensures _ _ _ _ c.requires.writers c.requires.readers (record {
       known = taken.known;
       writes = record { told = taken.told; part = taken.part; write_fault = taken.write_fault };
       read = taken.read;
