@@ -7,20 +7,13 @@ use Rattle.std.proofs.lemmas.Option.{slice_get_cases, none-some}
 use Rattle.strm_codes.specs.declared.codes.TransmitIndex.{TransmitIndex}
 use Rattle.strm_codes.specs.declared.codes.TransmitIndex.TheVariants as index
 use Rattle.strm_codes.specs.Types.{kind_of, payload_of}
-use Rattle.strm_buffers.specs.Tells.{WriterTells, ReaderTells, Tells}
+use Rattle.strm_buffers.specs.Tells.{Tells}
 use Rattle.strm_ends.specs.Scripts.{unpolled_writer}
 use Rattle.strm_ends.specs.Takings.{unpolled_discarding}
 use Rattle.strm_tape.specs.Spelling.{WriterTape, ReaderTape, TapeOf}
 use Rattle.strm_tape_runs.specs.Taking.{writer_type, reader_type, HoldsNone}
 use Rattle.strm_tape_runs.specs.Playing.{AreEndsOf}
-
--- what a host writer that follows a tape tells before its first poll
-abbrev pub following : WriterTape → WriterTells
-following t = unpolled_writer (kind_of t.ty) (payload_of t.ty)
-
--- and a host reader
-abbrev pub following_reader : ReaderTape → ReaderTells
-following_reader t = unpolled_discarding (kind_of t.ty) (payload_of t.ty)
+use Rattle.tape.specs.HostEnds.{following, following_reader}
 
 take_next : {W : Type 0} (n : ℕ) (xs : List W) (t : W) → slice_get xs n ≡ Some t → take (n + 1) xs ≡ take n xs ++ t ∷ []
 take_next n [] t e = absurd (none-some t e)

@@ -1,2 +1,4 @@
 pub mod TellsLemmas
 pub mod FollowLemmas
+pub mod OutcomeLemmas
+pub mod NamingLemmas

@@ -1,1 +1,2 @@
 pub mod HostEnds
+pub mod Outcomes

@@ -2,12 +2,12 @@
 //! its replies.
 #![tactic(auto)]
 
-ghost use Rattle.std.specs.Prelude.{◌≡◌, ◌∷◌, [], IfOk};
+ghost use Rattle.std.specs.Prelude.{◌≡◌, ◌∷◌, [], map, string_bytes, IfOk, IsOkAnd, OnErr};
+ghost use Rattle.std.specs.Process.{exit_status};
 ghost use Rattle.strm_buffers.specs.AllTells.{tells_of};
-ghost use Rattle.strm_tape_runs.specs.Playing.{AreEndsOf};
-ghost use Rattle.strm_tape_serving.specs.Playing.{IsPlayStatus};
-ghost use Rattle.strm_tape_serving.specs.Taking.{IsTakeStatus};
-ghost use Rattle.tape.specs.HostEnds.{writers, readers};
+ghost use Rattle.strm_tape_serving.specs.Modes.{Names, NamesNone};
+ghost use Rattle.tape.specs.HostEnds.{writers, readers, unused, following, following_reader, followers};
+ghost use Rattle.tape.specs.Outcomes.{port, Takes, TakesAmong, Plays, PlaysAmong, PlaysRead, TellsUsage};
 
 use std::alloc::{AllocError, Global};
 use std::process::ExitCode;
@@ -62,6 +62,11 @@ fn taken<S: Source, K: Sink>(
 ) -> ExitCode
     requires writers { (tells_of writer_tells reader_tells hosts.old).writers ≡ writers }
     requires readers { (tells_of writer_tells reader_tells hosts.old).readers ≡ readers }
+    ensures takes { TakesAmong unused (tells_of writer_tells reader_tells hosts.new)
+        (port (S.left source.old) (S.faults source.old)) (port (S.left source.new) (S.faults source.new))
+        (port (K.taken sink.old) (K.faults sink.old)) (port (K.taken sink.new) (K.faults sink.new))
+        (exit_status result) }
+    ensures nothing { exit_status result ≡ OUT_OF_MEMORY → sink.new ≡ sink.old }
 {
     ExitCode::from(tape_take(alloc, source, sink, hosts))
 }
@@ -72,7 +77,15 @@ fn taken_among_ends<S: Source, K: Sink>(
     alloc: Global,
     source: &mut S,
     sink: &mut K,
-) -> Result<ExitCode, AllocError> {
+) -> Result<ExitCode, AllocError>
+    ensures takes { IfOk result (λ code. Takes
+        (port (S.left source.old) (S.faults source.old)) (port (S.left source.new) (S.faults source.new))
+        (port (K.taken sink.old) (K.faults sink.old)) (port (K.taken sink.new) (K.faults sink.new))
+        (exit_status code)) }
+    ensures nothing { IfOk result (λ code. exit_status code ≡ OUT_OF_MEMORY → sink.new ≡ sink.old) }
+    ensures wanting { OnErr result (sink.new ≡ sink.old) }
+    ensures unread { OnErr result (source.new ≡ source.old) }
+{
     let writers: [Box<dyn HostWriter>; 8] = [
         Box::new(alloc, QueueWriter::new(alloc, STREAM, BYTE))?,
         Box::new(alloc, QueueWriter::new(alloc, STREAM, WORD))?,
@@ -103,12 +116,31 @@ fn taken_among_ends<S: Source, K: Sink>(
     Ok(taken(alloc, source, sink, &mut hosts))
 }
 
-// Plays a tape among host ends that follow it.
+// Plays a tape among host ends that follow it, none of which was polled before.
+fn played<K: Sink>(alloc: Global, tape: &Tape, hosts: &mut Hosts, sink: &mut K) -> ExitCode
+    requires writers { (tells_of writer_tells reader_tells hosts.old).writers ≡ map following tape.now.writers }
+    requires readers { (tells_of writer_tells reader_tells hosts.old).readers
+        ≡ map following_reader tape.now.readers }
+    ensures plays { PlaysAmong (followers tape.now) (tells_of writer_tells reader_tells hosts.new) tape.now
+        (port (K.taken sink.old) (K.faults sink.old)) (port (K.taken sink.new) (K.faults sink.new))
+        (exit_status result) }
+    ensures nothing { exit_status result ≡ OUT_OF_MEMORY → sink.new ≡ sink.old }
+{
+    ExitCode::from(tape_play(alloc, tape, hosts, sink))
+}
+
+// The same among new ones.
 fn played_among_ends<K: Sink>(
     alloc: Global,
     tape: &Tape,
     sink: &mut K,
-) -> Result<ExitCode, AllocError> {
+) -> Result<ExitCode, AllocError>
+    ensures plays { IfOk result (λ code. Plays tape.now
+        (port (K.taken sink.old) (K.faults sink.old)) (port (K.taken sink.new) (K.faults sink.new))
+        (exit_status code)) }
+    ensures nothing { IfOk result (λ code. exit_status code ≡ OUT_OF_MEMORY → sink.new ≡ sink.old) }
+    ensures wanting { OnErr result (sink.new ≡ sink.old) }
+{
     let mut writers: Vec<Box<dyn HostWriter>> = Vec::new(alloc);
     for n in 0..tape.writers() {
         let Ok(writer) = ReplayWriter::new(alloc, tape, n) else {
@@ -124,7 +156,29 @@ fn played_among_ends<K: Sink>(
         readers.push(Box::new(alloc, reader)?)?;
     }
     let mut hosts = Hosts { writers, readers };
-    Ok(ExitCode::from(tape_play(alloc, tape, &mut hosts, sink)))
+    Ok(played(alloc, tape, &mut hosts, sink))
+}
+
+// Plays the tape that a source has left, or writes why that is none.
+fn played_from<S: Source, K: Sink>(
+    alloc: Global,
+    source: &mut S,
+    sink: &mut K,
+) -> Result<ExitCode, AllocError>
+    ensures plays { IfOk result (λ code. PlaysRead
+        (port (S.left source.old) (S.faults source.old)) (port (S.left source.new) (S.faults source.new))
+        (port (K.taken sink.old) (K.faults sink.old)) (port (K.taken sink.new) (K.faults sink.new))
+        (exit_status code)) }
+    ensures nothing { IfOk result (λ code. exit_status code ≡ OUT_OF_MEMORY → sink.new ≡ sink.old) }
+    ensures wanting { OnErr result (sink.new ≡ sink.old) }
+{
+    match tape_read(alloc, source, sink) {
+        Ok(tape) => {
+            tape.sound();
+            played_among_ends(alloc, &tape, sink)
+        }
+        Err(status) => Ok(ExitCode::from(status)),
+    }
 }
 
 // Does what the words say, from a source and to a sink.
@@ -133,13 +187,25 @@ fn answered<S: Source, K: Sink>(
     words: &Vec<String>,
     source: &mut S,
     sink: &mut K,
-) -> Result<ExitCode, AllocError> {
+) -> Result<ExitCode, AllocError>
+    ensures takes { Names (map string_bytes words.now.items) Mode.Take → IfOk result (λ code. Takes
+        (port (S.left source.old) (S.faults source.old)) (port (S.left source.new) (S.faults source.new))
+        (port (K.taken sink.old) (K.faults sink.old)) (port (K.taken sink.new) (K.faults sink.new))
+        (exit_status code)) }
+    ensures plays { Names (map string_bytes words.now.items) Mode.Play → IfOk result (λ code. PlaysRead
+        (port (S.left source.old) (S.faults source.old)) (port (S.left source.new) (S.faults source.new))
+        (port (K.taken sink.old) (K.faults sink.old)) (port (K.taken sink.new) (K.faults sink.new))
+        (exit_status code)) }
+    ensures usage { NamesNone (map string_bytes words.now.items) → IsOkAnd result (λ code. TellsUsage
+        (port (K.taken sink.old) (K.faults sink.old)) (port (K.taken sink.new) (K.faults sink.new))
+        (exit_status code)) }
+    ensures unread { NamesNone (map string_bytes words.now.items) → source.new ≡ source.old }
+    ensures nothing { IfOk result (λ code. exit_status code ≡ OUT_OF_MEMORY → sink.new ≡ sink.old) }
+    ensures wanting { OnErr result (sink.new ≡ sink.old) }
+{
     match tape_mode(words, sink) {
         Ok(Mode::Take) => taken_among_ends(alloc, source, sink),
-        Ok(Mode::Play) => match tape_read(alloc, source, sink) {
-            Ok(tape) => played_among_ends(alloc, &tape, sink),
-            Err(status) => Ok(ExitCode::from(status)),
-        },
+        Ok(Mode::Play) => played_from(alloc, source, sink),
         Err(status) => Ok(ExitCode::from(status)),
     }
 }

@@ -3,7 +3,9 @@ use denote.Param.Object.{read_made}
 use Rattle.strm_buffers.specs.Tells.{WriterTells, ReaderTells}
 use Rattle.strm_tape_ends.specs.Replays.{replay_tells}
 use Rattle.strm_tape_ends.specs.ReaderPlans.{replay_reader_tells}
-use Rattle.tape.proofs.FollowLemmas.{following, following_reader, follows_next, follow_all, ends_of}
+use Rattle.tape.specs.HostEnds.{following, following_reader}
+use Rattle.tape.proofs.FollowLemmas.{follows_next, follow_all}
+use Rattle.tape.proofs.OutcomeLemmas.{plays_wanting}
 use Rattle.tape.proofs.played_among_ends.Object-1 as boxed_writer
 use Rattle.tape.proofs.played_among_ends.Object-2 as boxed_reader
 use Rattle.tape.proofs.played_among_ends.OwnLists as owns
@@ -29,10 +31,16 @@ loop-r-preserved g c =
     (omega (arith, c.loop-r-test.true, c.readers-r-end.ensures)) c.loop-r.invariant c.in_ok-push-2.ensures.items
     (λ t e. made _ _ _ c.into_dyn_box-in_ok-new-2.ensures.1 ∙ ap replay_reader_tells c.in_ok-new-2.ensures.ok ∙ c.in-Ok-new.ensures.tells t e)
 
-pub tape_play-requires : goal.tape_play-requires
-tape_play-requires g c =
-    record {
-      ends = ends_of c.args.tape.now _
-          (follow_all (λ b. (owns.own-1.entry b.vtable).1.writer_tells b.value) following c.loop-n.writers.items c.args.tape.now.writers c.loop-n.n (omega (arith, c.loop-n-test.false, c.writers-n-end.ensures)) c.loop-n.invariant)
-          (follow_all (λ b. (owns.own-2.entry b.vtable).1.reader_tells b.value) following_reader c.loop-r.readers.items c.args.tape.now.readers c.loop-r.r (omega (arith, c.loop-r-test.false, c.readers-r-end.ensures)) c.loop-r.invariant);
-    }
+pub played-requires-clause-writers : goal.played-requires-clause-writers
+played-requires-clause-writers g c =
+    follow_all (λ b. (owns.own-1.entry b.vtable).1.writer_tells b.value) following c.loop-n.writers.items c.args.tape.now.writers c.loop-n.n (omega (arith, c.loop-n-test.false, c.writers-n-end.ensures)) c.loop-n.invariant
+
+pub played-requires-clause-readers : goal.played-requires-clause-readers
+played-requires-clause-readers g c =
+    follow_all (λ b. (owns.own-2.entry b.vtable).1.reader_tells b.value) following_reader c.loop-r.readers.items c.args.tape.now.readers c.loop-r.r (omega (arith, c.loop-r-test.false, c.readers-r-end.ensures)) c.loop-r.invariant
+
+pub returns-in_default-clause-plays : goal.returns-in_default-clause-plays
+returns-in_default-clause-plays g c = plays_wanting c.args.tape.now _ _ _ c.from.ensures
+
+pub returns-in_default-new-clause-plays : goal.returns-in_default-new-clause-plays
+returns-in_default-new-clause-plays g c = plays_wanting c.args.tape.now _ _ _ c.from-in_default-new.ensures

@@ -1,5 +1,5 @@
 use Rattle.std.proofs.Common.{◌≡◌, map, take}
-use Rattle.tape.proofs.FollowLemmas.{following, following_reader}
+use Rattle.tape.specs.HostEnds.{following, following_reader}
 use Rattle.tape.proofs.played_among_ends.OwnLists as owns
 use Rattle.tape.proofs.played_among_ends.Given as goal
 

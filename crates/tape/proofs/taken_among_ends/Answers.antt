@@ -1,4 +1,4 @@
-use Rattle.std.proofs.Common.{◌≡◌, ℕ, List, inl, inr, refl, ap, ◌∙◌}
+use Rattle.std.proofs.Common.{ℕ, List, inl, inr, refl, ap, ◌∙◌}
 use denote.Param.Object.{read_made}
 use Rattle.strm_codes.specs.declared.codes.TransmitKind.TheVariants.{Stream}
 use Rattle.strm_codes.specs.declared.payloads.Payload.TheVariants.{One}

@@ -1,0 +1,88 @@
+-- What the program does, put together.
+use Rattle.std.proofs.Common.{◌≡◌, ◌⊎◌, inl, inr, ℕ, ◌<◌, ◌≤◌, List, length, map, Option, Result, Ok, Err, IfSome, refl, sym, ap, ◌∙◌, subst, arith}
+use Rattle.strm_buffers.specs.Tells.{WriterTells, ReaderTells, Tells}
+use Rattle.strm_ports.specs.Faults.{Rose}
+use Rattle.strm_tape.specs.Spelling.{TapeOf, IsTape, tape_spelling}
+use Rattle.strm_tape_runs.proofs.RunLemmas.{hosts_stay}
+use Rattle.strm_tape_serving.specs.Reading.{IsReadable, most_bytes}
+use Rattle.tape.specs.HostEnds.{writers, readers, unused, following, following_reader, followers}
+use Rattle.tape.specs.Outcomes.{Port, IsRead, TakesAmong, PlaysAmong, Plays, ReadsTape, PlaysRead}
+
+-- what host ends tell, by the lists of it
+tells_are : (tells : Tells) (ws : List WriterTells) (rs : List ReaderTells) → tells.writers ≡ ws → tells.readers ≡ rs → tells ≡ record { writers = ws; readers = rs }
+tells_are tells ws rs e f =
+    ap (λ (xs : List WriterTells). record { writers = xs; readers = tells.readers }) e
+    ∙ ap (λ (ys : List ReaderTells). record { writers = ws; readers = ys }) f
+
+-- of host ends that told this before and tell that after, and by the status that is handed on
+module _ (ends after : Tells) (status code : ℕ) (same : code ≡ status) where
+  -- what is taken among host ends that tell what the program's do
+  pub takes_among : (source source_after sink sink_after : Port) → ends.writers ≡ writers → ends.readers ≡ readers → TakesAmong ends after source source_after sink sink_after status → TakesAmong unused after source source_after sink sink_after code
+  takes_among source source_after sink sink_after ws rs takes =
+      subst (λ (n : ℕ). TakesAmong unused after source source_after sink sink_after n) (sym same)
+      (subst (λ (t : Tells). TakesAmong t after source source_after sink sink_after status) (tells_are ends writers readers ws rs) takes)
+
+  -- what is played among host ends that tell what those do that follow the tape
+  pub plays_among : (tape : TapeOf) (sink sink_after : Port) → ends.writers ≡ map following tape.writers → ends.readers ≡ map following_reader tape.readers → PlaysAmong ends after tape sink sink_after status → PlaysAmong (followers tape) after tape sink sink_after code
+  plays_among tape sink sink_after ws rs plays =
+      subst (λ (n : ℕ). PlaysAmong (followers tape) after tape sink sink_after n) (sym same)
+      (subst (λ (t : Tells). PlaysAmong t after tape sink sink_after status) (tells_are ends (map following tape.writers) (map following_reader tape.readers) ws rs) plays)
+
+-- of a tape for whose host ends memory was wanting
+pub plays_wanting : (tape : TapeOf) (sink after : Port) (code : ℕ) → code ≡ 9 → Plays tape sink after code
+plays_wanting tape sink after code e = (
+  followers tape,
+  record {
+    known = inr (omega (arith, e), omega (arith, e));
+    writes = record {
+      told = λ p q. absurd (q e);
+      part = λ f. absurd (omega (arith, e, f));
+      write_fault = λ f. absurd (omega (arith, e, f));
+    };
+    goes_on = hosts_stay (followers tape);
+    complete = λ end same plays calm. inr e;
+    differs = λ other calm. inr e;
+    wanting = λ f. inl refl;
+  },
+)
+
+-- what was answered well is no error
+pub no_error : {A : Type 0} (answer : Result A ℕ) (x : A) (n m : ℕ) → answer ≡ Ok x → (answer ≡ Err n) ⊎ (answer ≡ Err m) → ⊥
+no_error answer x n m is (inl e) = cc
+no_error answer x n m is (inr e) = cc
+
+-- of an error, which it is
+pub of_error : {A : Type 0} (answer : Result A ℕ) (status n m : ℕ) → answer ≡ Err status → (answer ≡ Err n) ⊎ (answer ≡ Err m) → (status ≡ n) ⊎ (status ≡ m)
+of_error answer status n m is (inl e) = inl cc
+of_error answer status n m is (inr e) = inr cc
+
+-- a tape that was read and played
+module _ (source source_after : Port) where
+  -- the bytes that the source has left are these, and they are readable
+  abbrev pub Has : List ℕ → Type 0
+  Has bytes = IsReadable source.bytes source.faults source_after.faults bytes
+
+  -- no other tape has them as its spelling
+  abbrev pub IsOnly : TapeOf → Type 0
+  IsOnly tape = (t : TapeOf) → IsTape t → Has (tape_spelling t) → length (tape_spelling t) ≤ most_bytes → tape ≡ t
+
+  -- they are not too many, but for faults of a sink
+  abbrev pub IsWithin : Port → Port → Type 0
+  IsWithin sink sink_after = (bytes : List ℕ) → Has bytes → most_bytes < length bytes → ¬ Rose sink.faults sink_after.faults → ⊥
+
+  pub plays_read : (tape : TapeOf) (sink between after : Port) (status : ℕ) → between ≡ sink → ReadsTape tape source source_after → IsRead most_bytes source source_after → IsOnly tape → IsWithin sink between → Plays tape between after status → PlaysRead source source_after sink after status
+  plays_read tape sink between after status quiet reads read only within plays =
+      let here = subst (λ (port : Port). Plays tape port after status) quiet plays in
+      record {
+        played = inl (tape, reads, here);
+        read = read;
+        complete = λ t is few has. inl (subst (λ (x : TapeOf). Plays x sink after status) (only t is has few) here);
+        too_long = λ bytes many has room calm.
+            absurd (within bytes has many (subst (λ (port : Port). ¬ Rose sink.faults port.faults) (sym quiet) room));
+        not_a_tape = λ bytes few other has calm.
+            absurd (other (tape, reads.is_tape, subst (λ (left : Option (List ℕ)). IfSome left (λ b. tape_spelling tape ≡ b)) has.left_is reads.spelled));
+      }
+
+  -- the same by the status that is handed on
+  pub plays_same : (sink sink_after : Port) (status code : ℕ) → code ≡ status → PlaysRead source source_after sink sink_after status → PlaysRead source source_after sink sink_after code
+  plays_same sink sink_after status code e = subst (λ (n : ℕ). PlaysRead source source_after sink sink_after n) (sym e)

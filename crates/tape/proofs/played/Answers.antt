@@ -1,0 +1,19 @@
+-- What is played among host ends that follow the tape.
+use Rattle.tape.proofs.FollowLemmas.{ends_of}
+use Rattle.tape.proofs.OutcomeLemmas.{plays_among}
+use Rattle.tape.proofs.played.Goals as goal
+
+pub tape_play-requires : goal.tape_play-requires
+tape_play-requires g c = record { ends = ends_of c.args.tape.now _ c.requires.writers c.requires.readers }
+
+pub returns-clause-plays : goal.returns-clause-plays
+returns-clause-plays g c =
+    let played = c.tape_play.ensures in
+    plays_among _ _ _ _ c.from.ensures c.args.tape.now _ _ c.requires.writers c.requires.readers (record {
+      known = played.known;
+      writes = record { told = played.told; part = played.part; write_fault = played.write_fault };
+      goes_on = played.goes_on;
+      complete = played.complete;
+      differs = played.differs;
+      wanting = played.wanting;
+    })

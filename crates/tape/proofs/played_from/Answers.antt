@@ -1,0 +1,33 @@
+-- What is played of what a source has left, or why that is no tape.
+use Rattle.std.proofs.Common.{inr, ap}
+use Rattle.std.proofs.lemmas.Result.{IfOk-weaker}
+use Rattle.tape.specs.Outcomes.{port}
+use Rattle.tape.proofs.OutcomeLemmas.{no_error, of_error, plays_read, plays_same}
+use Rattle.tape.proofs.played_from.Goals as goal
+
+pub returns-in-Ok-clause-plays : goal.returns-in-Ok-clause-plays
+returns-in-Ok-clause-plays g c =
+    IfOk-weaker c.played_among_ends.result _ _
+    (λ code plays. plays_read _ _ _ _ _ _ _ (ap (λ k. port (g.K.Sink.taken k) (g.K.Sink.faults k)) c.in-Ok.ensures.quiet)
+    (record { is_tape = c.sound.ensures; spelled = c.in-Ok.ensures.tape; whole = c.in-Ok.ensures.whole })
+    c.tape_read.ensures.read c.in-Ok.ensures.complete
+    (λ bytes has many calm. no_error c.tape_read.result _ 3 9 c.in-Ok.is (c.tape_read.ensures.too_long bytes has many calm))
+    plays)
+    c.played_among_ends.ensures.plays
+
+pub returns-in-Err-clause-plays : goal.returns-in-Err-clause-plays
+returns-in-Err-clause-plays g c =
+    let none = c.in-Err.ensures in
+    let read = c.tape_read in
+    plays_same _ _ _ _ c.in-Err.status _ c.from.ensures (record {
+      played = inr (record {
+        known = none.known;
+        writes = record { told = none.told; part = none.part; write_fault = none.write_fault };
+      });
+      read = read.ensures.read;
+      complete = λ t is few has. inr (none.complete t is has few);
+      too_long = λ bytes many has room calm.
+          of_error read.result c.in-Err.status 3 9 c.in-Err.is (read.ensures.too_long bytes has many calm);
+      not_a_tape = λ bytes few other has calm.
+          of_error read.result c.in-Err.status 11 9 c.in-Err.is (read.ensures.not_a_tape bytes has few other calm);
+    })
