@@ -22,7 +22,7 @@ pub record Port : Type 0 where
   pub bytes : Option (List ℕ)
   pub faults : ℕ
 
--- the same, put together
+-- such bytes and such a count
 abbrev pub port : Option (List ℕ) → ℕ → Port
 port bytes faults = record { bytes = bytes; faults = faults }
 
@@ -82,7 +82,7 @@ pub record ReadsTape (tape : TapeOf) (source source_after : Port) : Type 0 where
   pub spelled : IfSome source.bytes (λ bytes. tape_spelling tape ≡ bytes)
   pub whole : IsAtEnd source_after.bytes
 
--- what a source has left is no tape
+-- what a source has left is no tape, and why was written
 pub record ReadsNone (source source_after sink sink_after : Port) (status : ℕ) : Type 0 where
   pub known : IsReadStatus status
   pub writes : Writes (IsNoTape source.bytes source.faults source_after.faults) sink sink_after status

@@ -177,7 +177,7 @@ fn played_from<S: Source, K: Sink>(
             tape.sound();
             played_among_ends(alloc, &tape, sink)
         }
-        Err(status) => Ok(ExitCode::from(status)),
+        Err(why) => Ok(ExitCode::from(why)),
     }
 }
 

@@ -1,4 +1,5 @@
 -- What is done for the words: what they name, and nothing else.
+use Rattle.std.proofs.Common.{rules}
 use Rattle.strm_tape_serving.specs.declared.modes.Mode.TheVariants.{Take, Play}
 use Rattle.tape.proofs.NamingLemmas.{take_only, play_only, not_none}
 use Rattle.tape.proofs.answered.Goals as goal
@@ -18,6 +19,9 @@ returns-in-Ok-Take-clause-unread g c = λ none.
 pub returns-in-Ok-Play-clause-takes : goal.returns-in-Ok-Play-clause-takes
 returns-in-Ok-Play-clause-takes g c = λ names.
     absurd (play_only c.tape_mode.result _ c.tape_mode.ensures.named _ c.in-Ok-Play.is c.in-Ok-Play.field-0-is names)
+
+pub returns-in-Ok-Play-clause-plays : goal.returns-in-Ok-Play-clause-plays
+returns-in-Ok-Play-clause-plays g c = search rules
 
 pub returns-in-Ok-Play-clause-usage : goal.returns-in-Ok-Play-clause-usage
 returns-in-Ok-Play-clause-usage g c = λ none.

@@ -19,7 +19,7 @@ pub returns-in-Err-clause-plays : goal.returns-in-Err-clause-plays
 returns-in-Err-clause-plays g c =
     let none = c.in-Err.ensures in
     let read = c.tape_read in
-    plays_same _ _ _ _ c.in-Err.status _ c.from.ensures (record {
+    plays_same _ _ _ _ c.in-Err.why _ c.from.ensures (record {
       played = inr (record {
         known = none.known;
         writes = record { told = none.told; part = none.part; write_fault = none.write_fault };
@@ -27,7 +27,7 @@ returns-in-Err-clause-plays g c =
       read = read.ensures.read;
       complete = λ t is few has. inr (none.complete t is has few);
       too_long = λ bytes many has room calm.
-          of_error read.result c.in-Err.status 3 9 c.in-Err.is (read.ensures.too_long bytes has many calm);
+          of_error read.result c.in-Err.why 3 9 c.in-Err.is (read.ensures.too_long bytes has many calm);
       not_a_tape = λ bytes few other has calm.
-          of_error read.result c.in-Err.status 11 9 c.in-Err.is (read.ensures.not_a_tape bytes has few other calm);
+          of_error read.result c.in-Err.why 11 9 c.in-Err.is (read.ensures.not_a_tape bytes has few other calm);
     })
