@@ -48,7 +48,7 @@ pub enum ChainError {
     /// The input has more than 65,536 bytes.
     #[error("the input has more than {max} bytes", max = MAX_INPUT)]
     TooLong,
-    /// An allocation was refused, or a play has no room for a step more.
+    /// An allocation was refused, or the play has no room for a turn of a caller or a schedule.
     #[error("out of memory")]
     OutOfMemory,
 }
