@@ -239,7 +239,6 @@ impl Chain {
     pub fn guests(&self) -> u32
         ensures count { result ≡ length self.now.workers }
         ensures some { 2 ≤ result }
-        ensures few { result ≤ 10 }
     {
         self.workers.len() as u32
     }
@@ -255,9 +254,10 @@ impl Chain {
         }
     }
 
-    // As long as the sink was not told, some guest is not stuck. It does nothing.
+    // As long as the sink was not told, some of at most ten guests is not stuck. It does nothing.
     fn somebody_goes(&self)
-        ensures { self.now.failed ≡ false →
+        ensures few { length self.now.workers ≤ 10 }
+        ensures goes { self.now.failed ≡ false →
             is_told (length self.now.workers - 1) self.now.play.steps self.now.play.replies ≡ false →
             ((g : ℕ) → g < length self.now.workers →
             IsStuck g (worker_at self.now.workers g) self.now.play.state) → ⊥ }

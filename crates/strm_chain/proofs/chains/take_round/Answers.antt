@@ -15,7 +15,7 @@ loop-who-init c = record {
 
 pub turn_with_room-requires-clause-room : goal.turn_with_room-requires-clause-room
 turn_with_room-requires-clause-room c =
-    omega (arith, c.requires.room, c.loop-who.invariant.short, c.loop-who-test.true, c.loop-who.auto.who-end, c.guests-who-end.ensures.few)
+    omega (arith, c.requires.room, c.loop-who.invariant.short, c.loop-who-test.true, c.loop-who.auto.who-end, c.guests-who-end.ensures.count, c.somebody_goes.ensures.few)
 
 pub loop-who-preserved : goal.loop-who-preserved
 loop-who-preserved c =
@@ -35,8 +35,8 @@ pub returns-clause-less : goal.returns-clause-less
 returns-clause-less c =
     let i = c.loop-who.invariant in
     round_falls _ c.args.chain.now.play.state c.loop-who.chain.play.state c.args.chain.now.workers c.loop-who.chain.workers
-    (omega (arith, c.loop-who-test.false, c.loop-who.auto.who-end, c.guests-who-end.ensures.count)) (c.somebody_goes.ensures c.requires.runs c.requires.untold) i.round
+    (omega (arith, c.loop-who-test.false, c.loop-who.auto.who-end, c.guests-who-end.ensures.count)) (c.somebody_goes.ensures.goes c.requires.runs c.requires.untold) i.round
 
 pub returns-clause-short : goal.returns-clause-short
 returns-clause-short c =
-    omega (arith, c.loop-who.invariant.short, c.loop-who-test.false, c.loop-who.auto.who-end, c.guests-who-end.ensures.few)
+    omega (arith, c.loop-who.invariant.short, c.loop-who-test.false, c.loop-who.auto.who-end, c.guests-who-end.ensures.count, c.somebody_goes.ensures.few)
