@@ -1,13 +1,12 @@
 -- What the steps of a turn leave of streams: owners, operations that come out plainly, and ends that are told
 -- Dropped only where the other one is gone.
-use Rattle.std.proofs.Common.{◌≡◌, ◌≢◌, ℕ, ◌+◌, ◌-◌, ◌<◌, ◌≤◌, Bool, true, false, cond, min, take, drop, List, length, get_or, set, Option, Some, None, refl, sym, ap, ◌∙◌, subst, inl, inr, arith}
+use Rattle.std.proofs.Common.{◌≡◌, ◌≢◌, ℕ, ◌-◌, ◌<◌, ◌≤◌, Bool, true, false, cond, min, take, drop, List, length, get_or, set, Option, Some, None, refl, sym, ap, ◌∙◌, subst, inl, inr, arith}
 use Rattle.std.specs.Prelude.{◌&&◌, not}
 use Rattle.std.proofs.lemmas.Bool.{cases_eq, cond_both, ne_eqb, ltb-true}
 use Rattle.std.proofs.lemmas.List.{length-set, set-get_or, get_or-set_same, get_or-set_other}
 use Rattle.std.specs.Option.{option_map}
 use Rattle.strm_codes.specs.declared.codes.ReturnCode.{ReturnCode}
 use Rattle.strm_codes.specs.declared.codes.ReturnCode.TheVariants as codes
-use Rattle.strm_codes.specs.declared.codes.StreamResult.{StreamResult}
 use Rattle.strm_codes.specs.declared.codes.StreamResult.TheVariants.{Completed}
 use Rattle.strm_codes.specs.declared.codes.TransmitKind.{TransmitKind}
 use Rattle.strm_codes.specs.declared.codes.TransmitKind.TheVariants.{Stream as AStream, Future}
@@ -23,7 +22,6 @@ use Rattle.strm_machine.specs.Reactions.{Reaction, goes, written, written_back, 
 use Rattle.strm_machine.specs.declared.streams.Side.{Side}
 use Rattle.strm_machine.specs.declared.streams.Side.TheVariants.{Writing, Reading}
 use Rattle.strm_machine.specs.declared.streams.Operation.{Operation}
-use Rattle.strm_machine.specs.declared.streams.Owner.{Owner}
 use Rattle.strm_machine.specs.declared.streams.Owner.TheVariants.{Gone}
 use Rattle.strm_machine.specs.declared.streams.Stream.{Stream}
 use Rattle.strm_machine.specs.declared.streams.Meeting.{Meeting}
@@ -32,9 +30,8 @@ use Rattle.strm_machine.specs.declared.acts.NamedEnd.{NamedEnd}
 use Rattle.strm_machine.specs.declared.acts.Act.TheVariants.{OnEnd, Event, OnMemory}
 use Rattle.strm_machine.specs.declared.acts.EndAct.TheVariants.{Operate, Drop}
 use Rattle.strm_machine.specs.declared.acts.MemoryAct.TheVariants.{Poke, Dump}
-use Rattle.strm_machine.specs.declared.replies.Reply.{Reply}
 use Rattle.strm_machine.specs.declared.replies.Reply.TheVariants as replies
-use Rattle.strm_machine.proofs.TableLemmas.{OwnersStay, with_end-owners, owner_in, owner-set_stays, owner-set_same, owner-set_other}
+use Rattle.strm_machine.proofs.TableLemmas.{OwnersStay, owner_in, owner-set_stays, owner-set_same, owner-set_other}
 use Rattle.strm_machine.specs.Moves.{without_handle}
 use Rattle.strm_chain.specs.Keeping.{HasItems, IsPlain, ArePlain}
 use Rattle.strm_codes.specs.declared.payloads.Payload.{Payload}

@@ -1,6 +1,6 @@
 -- How many bytes the streams of a chain carry at most.
-use Rattle.std.proofs.Common.{◌≡◌, ℕ, zero, suc, ◌+◌, ◌-◌, ◌*◌, ◌<◌, ◌≤◌, ◌==◌, ◌%◌, Bool, true, false, List, [], ◌∷◌, ◌++◌, length, take, refl, sym, ap, ◌∙◌, subst, arith}
-use Rattle.std.specs.Prelude.{map, filter, not, if◌then◌else◌, cond}
+use Rattle.std.proofs.Common.{◌≡◌, ℕ, zero, suc, ◌+◌, ◌*◌, ◌<◌, ◌≤◌, ◌==◌, ◌%◌, Bool, true, false, List, [], ◌∷◌, ◌++◌, length, take, refl, sym, ap, ◌∙◌, subst, arith}
+use Rattle.std.specs.Prelude.{filter, not, if◌then◌else◌}
 use Rattle.std.proofs.lemmas.Bool.{cond_both}
 use Rattle.std.proofs.lemmas.List.{length-map, take_more}
 use Rattle.strm_machine.specs.State.{stream_at}
@@ -12,7 +12,7 @@ use Rattle.strm_chain.specs.declared.workers.Worker.{Worker}
 use Rattle.strm_chain.specs.Stages.{of, twice, sums}
 use Rattle.strm_chain.specs.Faults.{is_twice}
 use Rattle.strm_chain.specs.Playing.{Play}
-use Rattle.strm_chain.specs.Flowing.{got_on, as_items, IsFront, stage_at}
+use Rattle.strm_chain.specs.Flowing.{IsFront, stage_at}
 use Rattle.strm_chain.specs.Keeping.{worker_at, stages_of, input_of, IsJoined}
 use Rattle.strm_chain.specs.Measuring.{most_of, most_in, taken_from}
 use Rattle.strm_chain.proofs.MomentLemmas.{IsRunOf, count_is}

@@ -1,11 +1,11 @@
 -- What the calls of a chain promise, from what each turn does.
-use Rattle.std.proofs.Common.{◌≡◌, ◌≢◌, ℕ, ◌+◌, ◌-◌, ◌%◌, ◌<◌, ◌≤◌, Bool, true, false, List, [], ◌++◌, length, take, drop, refl, sym, ap, ◌∙◌, subst, inl, inr, arith}
+use Rattle.std.proofs.Common.{◌≡◌, ℕ, ◌+◌, ◌-◌, ◌%◌, ◌<◌, ◌≤◌, Bool, true, false, List, [], ◌++◌, length, take, drop, refl, sym, ap, ◌∙◌, subst, inl, inr, arith}
 use Rattle.std.specs.Prelude.{Result, Ok, Err, IfOk, OnOk, map, None}
 use Rattle.std.proofs.Math.ListN.{get_or-map}
 use Rattle.std.proofs.lemmas.Bool.{cases_eq}
 use Rattle.std.proofs.lemmas.List.{ext_get_or, take-map, drop-map, length-map, take-append-le, take_all}
 use Rattle.strm_machine.specs.Plays.{play, Ends}
-use Rattle.strm_machine.specs.State.{State, empty, memory_in}
+use Rattle.strm_machine.specs.State.{empty, memory_in}
 use Rattle.strm_machine.specs.Moments.{received}
 use Rattle.strm_machine.specs.declared.limits.Limits.{Limits}
 use Rattle.strm_laws.specs.Conservation.{moments, last}
@@ -15,9 +15,7 @@ use Rattle.strm_machine.specs.declared.replies.Reply.{Reply}
 use Rattle.strm_chain.specs.declared.stages.Stage.{Stage}
 use Rattle.strm_chain.specs.declared.workers.Worker.{Worker}
 use Rattle.strm_chain.specs.declared.stages.Stage.TheVariants.{Copy}
-use Rattle.strm_chain.specs.declared.workers.Doing.TheVariants.{Ended}
 use Rattle.strm_chain.specs.declared.workers.ChainTurn.{ChainTurn}
-use Rattle.strm_chain.specs.declared.workers.ChainTurn.TheVariants.{Moved, Idle}
 use Rattle.strm_chain.specs.Stages.{composed}
 use Rattle.strm_chain.specs.Playing.{start, Play, IsPlayed}
 use Rattle.strm_chain.specs.Flowing.{got_on, Flows}

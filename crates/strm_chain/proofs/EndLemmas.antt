@@ -1,10 +1,10 @@
 -- What a joined chain has carried, and what it has put out once it has ended.
-use Rattle.std.proofs.Common.{◌≡◌, ◌≢◌, ℕ, zero, suc, ◌+◌, ◌-◌, ◌<◌, ◌≤◌, true, false, ℤ, pos, List, [], ◌∷◌, ◌++◌, length, take, drop, get_or, Option, Some, None, refl, sym, ap, ◌∙◌, subst, inl, inr, arith}
-use Rattle.std.specs.Prelude.{◌⊎◌, map}
+use Rattle.std.proofs.Common.{◌≡◌, ◌≢◌, ℕ, zero, suc, ◌+◌, ◌-◌, ◌<◌, ◌≤◌, true, false, pos, List, [], ◌∷◌, ◌++◌, length, take, drop, Option, Some, None, refl, sym, ap, ◌∙◌, subst, inl, inr, arith}
+use Rattle.std.specs.Prelude.{◌⊎◌}
 use Rattle.std.proofs.Math.ListN.{get_or-map}
-use Rattle.std.proofs.lemmas.List.{append-nil, take_all, take_more, get_or-drop, get_or-take, length-map, length-append, length-drop}
+use Rattle.std.proofs.lemmas.List.{take_all, take_more, get_or-drop, get_or-take, length-map, length-append, length-drop}
 use Rattle.strm_memory.specs.Bytes.{bytes_at}
-use Rattle.strm_machine.specs.State.{State, empty, memory_in, stream_at, is_gone}
+use Rattle.strm_machine.specs.State.{empty, memory_in, stream_at, is_gone}
 use Rattle.strm_machine.specs.Moments.{moved_of, received}
 use Rattle.strm_machine.specs.declared.streams.Operation.{Operation}
 use Rattle.strm_machine.specs.declared.streams.Owner.{Owner}
@@ -19,10 +19,10 @@ use Rattle.strm_chain.specs.declared.workers.Worker.{Worker}
 use Rattle.strm_chain.specs.declared.workers.Doing.{Doing}
 use Rattle.strm_chain.specs.declared.workers.Doing.TheVariants.{Nothing, Reading, Writing, Ended}
 use Rattle.strm_chain.specs.Stages.{of, composed, begun}
-use Rattle.strm_chain.specs.Playing.{start, Play}
+use Rattle.strm_chain.specs.Playing.{Play}
 use Rattle.strm_chain.specs.Flowing.{as_items, got_on, IsFront, stage_at, Flows}
-use Rattle.strm_chain.specs.Linking.{Sends, Takes, Holds, HoldsIf}
-use Rattle.strm_chain.specs.Keeping.{new_worker, worker_at, sink_of, stages_of, input_of, Items, WritesOn, ReadsFrom, IsJoined}
+use Rattle.strm_chain.specs.Linking.{Sends, Takes, HoldsIf}
+use Rattle.strm_chain.specs.Keeping.{new_worker, worker_at, sink_of, stages_of, input_of, Items, IsJoined}
 use Rattle.strm_chain.proofs.StageLemmas.{of_is_done}
 use Rattle.strm_chain.proofs.LinkLemmas.{as_items-append}
 use Rattle.strm_chain.proofs.PrefixLemmas.{passes, passes_all}

@@ -1,16 +1,14 @@
 -- A chain stays joined: what each step of a turn leaves of all links but those of its guest, and how the
 -- links of a chain are put together again.
-use Rattle.std.proofs.Common.{◌≡◌, ◌≢◌, ℕ, ◌+◌, ◌-◌, ◌<◌, ◌≤◌, true, false, List, [], ◌++◌, length, get_or, Option, Some, None, refl, sym, ap, ◌∙◌, subst, inl, inr, arith}
+use Rattle.std.proofs.Common.{◌≡◌, ◌≢◌, ℕ, ◌+◌, ◌-◌, ◌<◌, ◌≤◌, true, false, List, ◌++◌, length, get_or, None, refl, sym, ap, ◌∙◌, subst, inl, inr, arith}
 use Rattle.std.proofs.lemmas.Bool.{cases_eq}
 use Rattle.std.proofs.lemmas.List.{append-nil}
 use Rattle.strm_machine.specs.State.{State, memory_in, stream_at, no_stream, is_gone}
 use Rattle.strm_machine.specs.Acts.{act_of}
-use Rattle.strm_machine.specs.Sides.{end_of}
-use Rattle.strm_machine.specs.Soundness.{IsSound, type_with, type_of}
-use Rattle.strm_machine.specs.Reactions.{Reaction, react, reaction}
-use Rattle.strm_machine.specs.Moments.{Moment, is_named, got_in}
+use Rattle.strm_machine.specs.Soundness.{type_with, type_of}
+use Rattle.strm_machine.specs.Reactions.{Reaction}
+use Rattle.strm_machine.specs.Moments.{Moment, is_named}
 use Rattle.strm_machine.specs.Untouched.{LiesApart, Region, put_by}
-use Rattle.strm_machine.specs.declared.acts.Act.{Act}
 use Rattle.strm_machine.specs.declared.streams.Side.{Side}
 use Rattle.strm_machine.specs.declared.streams.Side.TheVariants.{Writing, Reading}
 use Rattle.strm_machine.specs.declared.streams.Stream.{Stream}
@@ -21,9 +19,9 @@ use Rattle.strm_machine.proofs.TableLemmas.{owner_in}
 use Rattle.strm_chain.specs.declared.workers.Worker.{Worker}
 use Rattle.strm_chain.specs.Playing.{Play, Adds, bytes_type}
 use Rattle.strm_chain.specs.Flowing.{got_on}
-use Rattle.strm_chain.specs.Keeping.{worker_at, sink_of, Items, ArePlain, WritesOn, ReadsFrom, Joins, IsSink, IsJoined}
+use Rattle.strm_chain.specs.Keeping.{worker_at, ArePlain, WritesOn, ReadsFrom, IsSink, IsJoined}
 use Rattle.strm_chain.proofs.MomentLemmas.{moment_at, IsSeen}
-use Rattle.strm_chain.proofs.RegionLemmas.{ReceivesLow, nothing_put}
+use Rattle.strm_chain.proofs.RegionLemmas.{ReceivesLow}
 use Rattle.strm_chain.proofs.AfterLemmas.{Steady, Forsaken}
 use Rattle.strm_chain.proofs.StayLemmas.{low_unless, got_none, writes_stay, writes_idle, reads_stay}
 use Rattle.strm_chain.proofs.NamingLemmas.{NamesOnly, unnamed_stream, unnamed_reader, unnamed_writer}

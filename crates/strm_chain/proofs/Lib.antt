@@ -27,4 +27,5 @@ pub mod StuckLemmas
 pub mod RoundLemmas
 pub mod OutcomeLemmas
 pub mod MakingLemmas
+pub mod RoomLemmas
 pub mod ChainLemmas

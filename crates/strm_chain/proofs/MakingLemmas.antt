@@ -1,16 +1,16 @@
 -- The making of a chain leaves it joined.
-use Rattle.std.proofs.Common.{◌≡◌, ◌≢◌, ℕ, zero, suc, ◌+◌, ◌-◌, ◌<◌, ◌≤◌, true, false, List, [], ◌∷◌, ◌++◌, length, take, drop, get_or, set, Option, Some, None, refl, sym, ap, ◌∙◌, subst, inl, inr, append_assoc, add-one, arith}
+use Rattle.std.proofs.Common.{◌≡◌, ℕ, zero, suc, ◌+◌, ◌-◌, ◌<◌, true, false, List, [], ◌∷◌, ◌++◌, length, take, drop, get_or, Some, None, refl, sym, ap, ◌∙◌, subst, inl, inr, append_assoc, add-one, arith}
 use Rattle.std.specs.Prelude.{map, replicate}
-use Rattle.std.proofs.lemmas.Bool.{cases_eq, cases_lt}
+use Rattle.std.proofs.lemmas.Bool.{cases_lt}
 use Rattle.std.proofs.lemmas.List.{append-nil, length_push, length-set, length-replicate, length-map, take_more, take_all, map_push, replicate_more}
 use Rattle.strm_handles.specs.Handles.{no_handles, Handles}
 use Rattle.strm_sets.specs.Sets.{no_sets}
 use Rattle.strm_machine.specs.State.{State, Guest, no_guest, no_stream, guest_in, memory_in, with_handles, stream_at}
 use Rattle.strm_machine.specs.Acts.{act_of}
-use Rattle.strm_machine.specs.Making.{made_stream, made_pair, with_ends, with_stream, with_read_end}
+use Rattle.strm_machine.specs.Making.{made_stream, made_pair, with_stream, with_read_end}
 use Rattle.strm_machine.specs.Moments.{received}
 use Rattle.strm_machine.specs.Soundness.{type_of}
-use Rattle.strm_machine.specs.Reactions.{Reaction, goes, performs}
+use Rattle.strm_machine.specs.Reactions.{Reaction, performs}
 use Rattle.strm_machine.specs.declared.acts.Act.TheVariants.{Make}
 use Rattle.strm_machine.specs.declared.acts.Making.TheVariants.{Guest as AGuest, Between}
 use Rattle.strm_machine.specs.declared.steps.Step.TheVariants as steps
@@ -24,11 +24,10 @@ use Rattle.strm_chain.specs.declared.workers.Worker.{Worker}
 use Rattle.strm_chain.specs.declared.workers.Doing.TheVariants.{Nothing, Reading, Writing, Ended}
 use Rattle.strm_chain.specs.Stages.{begun}
 use Rattle.strm_chain.specs.Playing.{Play, no_play, Adds, bytes_type}
-use Rattle.strm_chain.specs.Flowing.{as_items, got_on}
-use Rattle.strm_chain.specs.Linking.{Sends, Takes}
+use Rattle.strm_chain.specs.Flowing.{got_on}
 use Rattle.strm_chain.specs.Reporting.{last_report, tells_end, is_told}
 use Rattle.strm_chain.specs.Running.{guests_made, streams_made}
-use Rattle.strm_chain.specs.Keeping.{new_worker, worker_at, sink_of, Items, WritesOn, ReadsFrom, IsSink, IsJoined}
+use Rattle.strm_chain.specs.Keeping.{new_worker, worker_at, sink_of, Items, IsJoined}
 use Rattle.strm_chain.specs.Making.{AreMade, IsNew, MakesPair, HasWrite, HasRead, source_of, AreJoined, IsReady}
 use Rattle.strm_chain.proofs.StageLemmas.{done-none, left-none}
 use Rattle.strm_chain.proofs.NamingLemmas.{IsPerformed, performed}

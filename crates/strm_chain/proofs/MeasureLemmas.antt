@@ -5,9 +5,9 @@ use Rattle.strm_codes.specs.Codes.{count_of}
 use Rattle.strm_codes.specs.declared.codes.ReturnCode.{ReturnCode}
 use Rattle.strm_codes.specs.declared.codes.ReturnCode.TheVariants as codes
 use Rattle.strm_events.specs.Reports.{is_dropped}
-use Rattle.strm_machine.specs.State.{State, stream_at}
+use Rattle.strm_machine.specs.State.{State}
 use Rattle.strm_machine.specs.Acts.{act_of}
-use Rattle.strm_machine.specs.Moments.{Moment, moved_of, received}
+use Rattle.strm_machine.specs.Moments.{Moment, moved_of}
 use Rattle.strm_machine.specs.declared.streams.Side.TheVariants.{Writing as AWrite, Reading as ARead}
 use Rattle.strm_machine.specs.declared.steps.Step.{Step}
 use Rattle.strm_machine.specs.declared.steps.Step.TheVariants as steps
@@ -21,7 +21,7 @@ use Rattle.strm_chain.specs.declared.workers.Doing.TheVariants.{Nothing, Reading
 use Rattle.strm_chain.specs.declared.workers.ChainTurn.{ChainTurn}
 use Rattle.strm_chain.specs.declared.workers.ChainTurn.TheVariants.{Moved, Idle}
 use Rattle.strm_chain.specs.Playing.{Play, Adds}
-use Rattle.strm_chain.specs.Turned.{IsAt, HearsNone, after_read, EndsRead, WithMore, WithLast, TakesIn, HandsOver, Turned, Rests, Waits, ReadOpens, ReadServes, ReadSettles, WriteOpens, WriteServes, WriteSettles, Ends}
+use Rattle.strm_chain.specs.Turned.{IsAt, after_read, EndsRead, WithMore, WithLast, TakesIn, HandsOver, Turned, Rests, Waits, ReadOpens, ReadServes, ReadSettles, WriteOpens, WriteServes, WriteSettles, Ends}
 use Rattle.strm_chain.specs.Keeping.{worker_at, IsJoined}
 use Rattle.strm_chain.specs.Measuring.{taken_from, rank, unclosed, to_do_of, to_do_to, IsStuck, AtEnd, InRead, InWrite}
 use Rattle.strm_chain.proofs.MomentLemmas.{IsRunOf, moment_at, run_before, are_before, seen}
@@ -29,7 +29,7 @@ use Rattle.strm_chain.proofs.NamingLemmas.{performed}
 use Rattle.strm_chain.proofs.AfterLemmas.{told_some, event_none}
 use Rattle.strm_chain.proofs.StayLemmas.{kind_is}
 use Rattle.strm_chain.proofs.TurnedLemmas.{unblocked}
-use Rattle.strm_chain.proofs.ReadTurnLemmas.{BeforeIt, before_it, behind_it, ReadIsOver, read_serves, read_settles, hears_read}
+use Rattle.strm_chain.proofs.ReadTurnLemmas.{before_it, behind_it, ReadIsOver, read_serves, read_settles, hears_read}
 use Rattle.strm_chain.proofs.TurnLemmas.{write_some, hears_write}
 
 -- ## What is taken from a stream

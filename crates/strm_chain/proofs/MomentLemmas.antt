@@ -1,7 +1,5 @@
 -- One more step of a play, as a moment of its run; what the laws say there.
-use Rattle.std.proofs.Common.{◌≡◌, ℕ, ◌+◌, ◌<◌, ◌≤◌, List, [], ◌∷◌, ◌++◌, length, Some, refl, sym, ap, ◌∙◌, subst, arith}
-use Rattle.std.proofs.lemmas.List.{length_push}
-use Rattle.std.proofs.lemmas.List.Elements.{All-push, All-pop}
+use Rattle.std.proofs.Common.{◌≡◌, ℕ, ◌≤◌, List, [], ◌∷◌, ◌++◌, length, refl, sym, ap, ◌∙◌, subst, arith}
 use Rattle.strm_machine.specs.State.{State, stream_at}
 use Rattle.strm_machine.specs.Acts.{act_of}
 use Rattle.strm_machine.specs.Reactions.{Reaction, react}
@@ -14,14 +12,14 @@ use Rattle.strm_machine.specs.declared.steps.Step.{Step}
 use Rattle.strm_machine.specs.declared.replies.Reply.{Reply}
 use Rattle.strm_machine.proofs.Changes.{scene, Change}
 use Rattle.strm_laws.specs.Conservation.{moments, last, got}
-use Rattle.strm_laws.specs.Laws.{HasBytes, AreSteps, HandlesHold}
+use Rattle.strm_laws.specs.Laws.{AreSteps, HandlesHold}
 use Rattle.strm_laws.proofs.Calls.{got-push}
 use Rattle.strm_laws.proofs.Conserved.{conserves}
 use Rattle.strm_laws.proofs.Replies.{play-ends}
 use Rattle.strm_laws.proofs.LawfulRuns.{AreSteps-front, IsReady-empty, ready_after, first_reacts, sound}
 use Rattle.strm_laws.proofs.Handles.{handles_hold, held}
 use Rattle.strm_laws.proofs.OtherBytes.{other_bytes_stay, bytes_are_put}
-use Rattle.strm_chain.specs.Playing.{start, Follows, Play, IsPlayed, Adds}
+use Rattle.strm_chain.specs.Playing.{start, Play, IsPlayed, Adds}
 use Rattle.strm_chain.specs.Flowing.{got_on}
 use Rattle.strm_chain.proofs.PlayingLemmas.{follows_plays}
 

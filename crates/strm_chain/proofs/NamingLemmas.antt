@@ -1,9 +1,7 @@
 -- Which ends the steps of a guest name, and why none of them was refused.
-use Rattle.std.proofs.Common.{◌≡◌, ◌≢◌, ℕ, Bool, true, false, Ok, Err, Some, None, refl, sym, ap, ◌∙◌, subst, Option}
+use Rattle.std.proofs.Common.{◌≡◌, ◌≢◌, ℕ, Bool, true, false, Ok, Err, None, refl, sym, ap, ◌∙◌, subst}
 use Rattle.std.specs.Prelude.{◌==◌, ◌&&◌}
 use Rattle.std.proofs.lemmas.Bool.{eqb-true, ne_eqb}
-use Rattle.strm_codes.specs.declared.refusals.Refusal.{Refusal}
-use Rattle.strm_codes.specs.declared.codes.ReturnCode.{ReturnCode}
 use Rattle.strm_machine.specs.State.{State, stream_at}
 use Rattle.strm_machine.specs.Sides.{end_of, same_side}
 use Rattle.strm_machine.specs.Soundness.{IsSound}
@@ -19,7 +17,6 @@ use Rattle.strm_machine.specs.declared.acts.Act.{Act}
 use Rattle.strm_machine.specs.declared.acts.Act.TheVariants.{OnEnd, Event}
 use Rattle.strm_machine.specs.declared.acts.EndAct.TheVariants.{Operate, Drop}
 use Rattle.strm_machine.specs.declared.replies.Reply.{Reply}
-use Rattle.strm_machine.specs.declared.replies.Reply.TheVariants as replies
 use Rattle.strm_machine.proofs.ReactionLemmas.{reaction-by, refusal-on_end}
 use Rattle.strm_machine.proofs.RefusalLemmas.{event_fits, drop_fits, named_ok}
 use Rattle.strm_machine.proofs.NamedEndLemmas.{NamesEnd, IsFound, on_end-found, event-found}

@@ -1,7 +1,7 @@
 -- What a turn says of itself: its steps, what it answers, and what it leaves of its guest.
-use Rattle.std.proofs.Common.{◌≡◌, ◌≢◌, ℕ, ◌+◌, ◌-◌, ◌<◌, ◌≤◌, List, [], ◌∷◌, ◌++◌, length, true, Some, None, refl, sym, ap, ◌∙◌, subst, inl, inr, append_assoc, arith}
+use Rattle.std.proofs.Common.{◌≡◌, ℕ, ◌≤◌, List, [], ◌∷◌, ◌++◌, length, true, Some, None, refl, sym, ap, ◌∙◌, inl, inr, append_assoc, arith}
 use Rattle.std.specs.Prelude.{count_by}
-use Rattle.std.proofs.lemmas.List.{append-nil, length_push}
+use Rattle.std.proofs.lemmas.List.{append-nil}
 use Rattle.std.proofs.lemmas.List.Elements.{All-nil, All-cons}
 use Rattle.strm_codes.specs.Codes.{count_of}
 use Rattle.strm_codes.specs.declared.codes.ReturnCode.{ReturnCode}
@@ -12,13 +12,12 @@ use Rattle.strm_machine.specs.declared.steps.Step.TheVariants as steps
 use Rattle.strm_machine.specs.declared.replies.Reply.{Reply}
 use Rattle.strm_machine.specs.declared.replies.Reply.TheVariants as replies
 use Rattle.strm_chain.specs.declared.workers.Worker.{Worker}
-use Rattle.strm_chain.specs.declared.workers.Doing.{Doing}
-use Rattle.strm_chain.specs.declared.workers.Doing.TheVariants.{Nothing, Reading, Writing, Ended}
+use Rattle.strm_chain.specs.declared.workers.Doing.TheVariants.{Nothing, Ended}
 use Rattle.strm_chain.specs.declared.workers.ChainTurn.{ChainTurn}
-use Rattle.strm_chain.specs.declared.workers.ChainTurn.TheVariants.{Moved, Idle}
+use Rattle.strm_chain.specs.declared.workers.ChainTurn.TheVariants.{Moved}
 use Rattle.strm_chain.specs.Playing.{Play, Adds, bytes_type}
 use Rattle.strm_chain.specs.Turning.{IsCount, IsStepOf, is_event, is_call, HasCall, Answers, NoStep, NoReport, Report, Call, Turns}
-use Rattle.strm_chain.specs.Turned.{Reads, HearsRead, TakesIn, Pokes, Writes, HearsWrite, HandsOver, Drops, Turned, Rests, Waits, ReadOpens, ReadServes, ReadSettles, WriteOpens, WriteServes, WriteSettles, Ends}
+use Rattle.strm_chain.specs.Turned.{Writes, Turned, Rests, Waits, ReadOpens, ReadServes, ReadSettles, WriteOpens, WriteServes, WriteSettles, Ends}
 use Rattle.strm_chain.proofs.StageLemmas.{left-stage}
 use Rattle.strm_chain.proofs.PlayingLemmas.{play-goes}
 use Rattle.strm_chain.proofs.StandingLemmas.{Stands}

@@ -1,34 +1,28 @@
 -- What a guest's own reads, writes and events do to its links.
-use Rattle.std.proofs.Common.{◌≡◌, ◌≢◌, ℕ, zero, suc, ◌+◌, ◌-◌, ◌<◌, ◌≤◌, min, true, false, List, [], ◌∷◌, ◌++◌, length, take, drop, Option, Some, None, refl, sym, ap, ◌∙◌, subst, arith}
+use Rattle.std.proofs.Common.{◌≡◌, ◌≢◌, ℕ, zero, suc, ◌+◌, ◌≤◌, true, List, [], ◌∷◌, ◌++◌, length, take, drop, Option, Some, None, refl, sym, ap, ◌∙◌, subst, arith}
 use Rattle.std.specs.Prelude.{IsSome}
-use Rattle.std.proofs.lemmas.List.{append-nil, length-drop, length-take-le}
+use Rattle.std.proofs.lemmas.List.{append-nil, length-drop}
 use Rattle.strm_codes.specs.Codes.{count_of}
 use Rattle.strm_codes.specs.declared.codes.ReturnCode.{ReturnCode}
 use Rattle.strm_codes.specs.declared.codes.ReturnCode.TheVariants as codes
-use Rattle.strm_codes.specs.declared.codes.TransmitKind.TheVariants.{Stream as AStream}
-use Rattle.strm_codes.specs.declared.payloads.Payload.TheVariants.{One}
-use Rattle.strm_codes.specs.declared.scalars.Scalar.TheVariants.{U8}
-use Rattle.strm_events.specs.Reports.{is_dropped}
 use Rattle.strm_memory.specs.Bytes.{bytes_at}
-use Rattle.strm_machine.specs.State.{State, memory_in, stream_at, is_gone}
+use Rattle.strm_machine.specs.State.{memory_in, stream_at}
 use Rattle.strm_machine.specs.Tests.{items_asked}
 use Rattle.strm_machine.specs.Soundness.{type_of}
 use Rattle.strm_machine.specs.Moments.{Moment, Place, is_named, got_in, moved_of, received, target, report_in, accepted_in, as_report, count_reported, k_of}
-use Rattle.strm_machine.specs.declared.streams.Side.{Side}
 use Rattle.strm_machine.specs.declared.streams.Side.TheVariants.{Writing, Reading}
 use Rattle.strm_machine.specs.declared.streams.Operation.{Operation}
 use Rattle.strm_machine.specs.declared.acts.Act.TheVariants.{OnEnd, Event}
 use Rattle.strm_machine.specs.declared.acts.EndAct.TheVariants.{Operate}
 use Rattle.strm_machine.specs.declared.acts.NamedEnd.{NamedEnd}
 use Rattle.strm_machine.specs.declared.replies.Reply.TheVariants as replies
-use Rattle.strm_machine.proofs.Changes.{Scene, scene, Change, ByRest, ByGoing, BySettling, ByOpening, ByServing, Settles}
+use Rattle.strm_machine.proofs.Changes.{scene, Change, ByRest, ByGoing, BySettling, ByOpening, ByServing, Settles}
 use Rattle.strm_chain.specs.Playing.{bytes_type}
 use Rattle.strm_chain.specs.declared.stages.Work.{Work}
-use Rattle.strm_chain.specs.Linking.{Sends, Takes, Arrived, HoldsIf, Holds}
+use Rattle.strm_chain.specs.Linking.{Sends, Takes, Arrived}
 use Rattle.strm_chain.specs.Measuring.{taken_from}
 use Rattle.strm_chain.specs.Flowing.{as_items}
 use Rattle.strm_chain.specs.Keeping.{Items}
-use Rattle.strm_chain.proofs.UnnamedLemmas.{sends_in}
 use Rattle.strm_chain.proofs.RegionLemmas.{ReceivesLow, Nothing, Low}
 use Rattle.strm_chain.proofs.NamedLemmas.{TakesCall, opened, served, write_opens, write_serves, write_settles, call_taken, call_report, event_report, event_takes, read_opens, read_serves, read_settles}
 use Rattle.strm_chain.proofs.StayLemmas.{payload_is, kind_is}

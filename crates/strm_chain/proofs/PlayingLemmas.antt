@@ -1,5 +1,5 @@
 -- A play goes on by one step.
-use Rattle.std.proofs.Common.{◌≡◌, ℕ, ◌<◌, true, false, List, [], ◌∷◌, ◌++◌, length, refl, sym, ap, ◌∙◌, subst, append_assoc, arith}
+use Rattle.std.proofs.Common.{◌≡◌, ◌<◌, true, false, List, [], ◌∷◌, ◌++◌, length, refl, sym, ap, ◌∙◌, subst, append_assoc, arith}
 use Rattle.std.proofs.lemmas.List.{length_push, append-nil}
 use Rattle.std.proofs.lemmas.List.Elements.{All-nil, All-push}
 use Rattle.strm_machine.specs.State.{State}
@@ -9,7 +9,7 @@ use Rattle.strm_machine.specs.Plays.{Played, after_step, play, Ends, is_settled}
 use Rattle.strm_machine.specs.declared.steps.Step.{Step}
 use Rattle.strm_machine.specs.declared.replies.Reply.{Reply}
 use Rattle.strm_machine.specs.declared.replies.Reply.TheVariants as replies
-use Rattle.strm_machine.proofs.AskedLemmas.{Proceeds, react-by}
+use Rattle.strm_machine.proofs.AskedLemmas.{react-by}
 use Rattle.strm_world.specs.Steps.{touches}
 use Rattle.strm_world.specs.Does.{Fits}
 use Rattle.strm_transmit.specs.Hosted.{lone}

@@ -1,19 +1,14 @@
 -- A turn in which a guest reads, or hears of its read, leaves a chain joined.
-use Rattle.std.proofs.Common.{◌≡◌, ◌≢◌, ℕ, ◌+◌, ◌-◌, ◌<◌, ◌≤◌, min, true, false, Bool, List, [], ◌∷◌, ◌++◌, length, take, drop, Option, Some, None, refl, sym, ap, ◌∙◌, subst, inl, inr, arith}
+use Rattle.std.proofs.Common.{◌≡◌, ◌≢◌, ℕ, ◌+◌, ◌-◌, ◌<◌, ◌≤◌, true, false, List, length, Option, Some, None, refl, sym, ap, ◌∙◌, subst, inl, inr, arith}
 use Rattle.std.proofs.lemmas.Bool.{cases_eq, cases_lt}
-use Rattle.std.proofs.lemmas.List.{take-append-le, length-append}
 use Rattle.strm_codes.specs.Codes.{count_of}
 use Rattle.strm_codes.specs.declared.codes.ReturnCode.{ReturnCode}
 use Rattle.strm_codes.specs.declared.codes.ReturnCode.TheVariants as codes
-use Rattle.strm_events.specs.Reports.{is_dropped}
-use Rattle.strm_memory.specs.Bytes.{bytes_at}
-use Rattle.strm_machine.specs.State.{State, Guest, memory_in, stream_at, is_gone}
+use Rattle.strm_machine.specs.State.{memory_in, stream_at, is_gone}
 use Rattle.strm_machine.specs.Acts.{act_of, end_named_by}
-use Rattle.strm_machine.specs.Moments.{Moment, is_named, got_in, moved_of}
-use Rattle.strm_machine.specs.Untouched.{Region, LiesApart, put_by}
+use Rattle.strm_machine.specs.Moments.{is_named}
+use Rattle.strm_machine.specs.Untouched.{put_by}
 use Rattle.strm_machine.specs.declared.streams.Side.TheVariants.{Writing as AWrite, Reading as ARead}
-use Rattle.strm_machine.specs.declared.streams.Operation.{Operation}
-use Rattle.strm_machine.specs.declared.streams.Owner.{Owner}
 use Rattle.strm_machine.specs.declared.streams.Owner.TheVariants.{Held}
 use Rattle.strm_machine.specs.declared.acts.NamedEnd.{NamedEnd}
 use Rattle.strm_machine.specs.declared.steps.Step.{Step}
@@ -23,26 +18,21 @@ use Rattle.strm_machine.specs.declared.replies.Reply.TheVariants as replies
 use Rattle.strm_machine.proofs.NamedEndLemmas.{end_itself}
 use Rattle.strm_laws.specs.Laws.{AreSteps}
 use Rattle.strm_chain.specs.declared.workers.Worker.{Worker}
-use Rattle.strm_chain.specs.declared.workers.Doing.{Doing}
 use Rattle.strm_chain.specs.declared.workers.Doing.TheVariants.{Nothing, Reading, Writing, Ended}
-use Rattle.strm_chain.specs.declared.workers.ChainTurn.{ChainTurn}
-use Rattle.strm_chain.specs.Stages.{begun, left, done}
+use Rattle.strm_chain.specs.Stages.{begun}
 use Rattle.strm_chain.specs.Playing.{Play, Adds, bytes_type}
-use Rattle.strm_chain.specs.Flowing.{as_items, got_on}
-use Rattle.strm_chain.specs.Linking.{Sends, Takes, Arrived, Offers, OffersIf}
+use Rattle.strm_chain.specs.Flowing.{got_on}
+use Rattle.strm_chain.specs.Linking.{Takes, Arrived}
 use Rattle.strm_chain.specs.Measuring.{taken_from}
-use Rattle.strm_chain.specs.Keeping.{worker_at, sink_of, Items, WritesOn, ReadsFrom, IsSink, IsJoined}
-use Rattle.strm_chain.specs.Turned.{Reads, HearsRead, after_read, EndsRead, WithMore, WithLast, TakesIn, Pokes, Writes, HearsWrite, HandsOver, Drops, Turned, Rests, Waits, ReadOpens, ReadServes, ReadSettles, WriteOpens, WriteServes, WriteSettles, Ends}
-use Rattle.strm_chain.proofs.StageLemmas.{left-stage}
-use Rattle.strm_chain.proofs.LinkLemmas.{takes_arrived}
-use Rattle.strm_chain.proofs.RegionLemmas.{ReceivesLow, nothing_put, write_region_stays}
-use Rattle.strm_chain.proofs.KeepLemmas.{poke_leaves}
-use Rattle.strm_chain.proofs.MomentLemmas.{IsRunOf, IsSeen, moved_within, moment_at, run_before, are_before, seen}
-use Rattle.strm_chain.proofs.NamingLemmas.{IsPerformed, performed, operate_names, drop_names, event_names, unnamed_reader}
-use Rattle.strm_chain.proofs.AfterLemmas.{Told, operate_after, event_after, told_some, told_gone, drop_after, poke_after, dump_after, event_none}
-use Rattle.strm_chain.proofs.StayLemmas.{low_unless, kind_is}
-use Rattle.strm_chain.proofs.JoinedLemmas.{Frame, frame_of, Passes, Each, But, got_same, same_passes, reader_passes, writer_passes, drop_passes, poke_passes, fewer, both_pass, none_pass, SamePart, OneChanged, joined_again, joined_same, unchanged}
-use Rattle.strm_chain.proofs.OwnLemmas.{own_read_waits, own_read_serves, own_read_settles, front_itself, next_within, own_write_waits, own_write_serves, own_write_settles, dropped_sends}
+use Rattle.strm_chain.specs.Keeping.{worker_at, sink_of, WritesOn, ReadsFrom, IsJoined}
+use Rattle.strm_chain.specs.Turned.{Reads, HearsRead, TakesIn}
+use Rattle.strm_chain.proofs.RegionLemmas.{nothing_put}
+use Rattle.strm_chain.proofs.MomentLemmas.{IsRunOf, IsSeen, moved_within, moment_at, seen}
+use Rattle.strm_chain.proofs.NamingLemmas.{performed, operate_names, event_names}
+use Rattle.strm_chain.proofs.AfterLemmas.{Told, operate_after, event_after, told_some, told_gone}
+use Rattle.strm_chain.proofs.StayLemmas.{kind_is}
+use Rattle.strm_chain.proofs.JoinedLemmas.{Passes, Each, But, reader_passes, fewer, both_pass, SamePart, OneChanged, joined_again}
+use Rattle.strm_chain.proofs.OwnLemmas.{own_read_waits, own_read_serves, own_read_settles}
 use Rattle.strm_chain.proofs.TurnedLemmas.{apart_doing, held_same, one_handle, no_handle, writes_doing, Arrives, dump_passes, dump_reads, writes_taken, part_taken}
 
 -- ## The two ends of a guest

@@ -1,5 +1,5 @@
 -- A round of a chain that has not ended leaves less to do.
-use Rattle.std.proofs.Common.{◌≡◌, ◌≢◌, ℕ, ◌+◌, ◌-◌, ◌*◌, ◌<◌, ◌≤◌, Bool, true, false, List, length, refl, sym, ap, ◌∙◌, subst, inl, inr, arith}
+use Rattle.std.proofs.Common.{◌≡◌, ◌≢◌, ℕ, ◌+◌, ◌-◌, ◌<◌, ◌≤◌, false, List, length, refl, sym, ap, ◌∙◌, subst, inl, inr, arith}
 use Rattle.std.specs.Prelude.{◌⊎◌}
 use Rattle.std.proofs.lemmas.Bool.{cases_eq}
 use Rattle.strm_machine.specs.State.{State}
@@ -9,7 +9,7 @@ use Rattle.strm_chain.specs.declared.workers.ChainTurn.TheVariants.{Moved, Idle}
 use Rattle.strm_chain.specs.Playing.{Play, IsPlayed}
 use Rattle.strm_chain.specs.Reporting.{is_told}
 use Rattle.strm_chain.specs.Turned.{Turned}
-use Rattle.strm_chain.specs.Keeping.{worker_at, sink_of, stages_of, input_of, IsJoined, IsGoing}
+use Rattle.strm_chain.specs.Keeping.{worker_at, stages_of, input_of, IsJoined, IsGoing}
 use Rattle.strm_chain.specs.Measuring.{most_of, most_in, taken_from, rank, unclosed, to_do_of, to_do_to, to_do, IsStuck, Lowers, Less, Same}
 use Rattle.strm_chain.proofs.MomentLemmas.{IsRunOf, played_run}
 use Rattle.strm_chain.proofs.JoinedLemmas.{OneChanged}

@@ -1,9 +1,9 @@
 -- Where the guests of a joined chain stand, by the machine.
 use Rattle.std.specs.Prelude.{IsSome}
-use Rattle.std.proofs.Common.{◌≡◌, ◌≢◌, ℕ, ◌+◌, ◌-◌, ◌<◌, ◌≤◌, true, false, List, length, Some, refl, sym, ap, ◌∙◌, subst, inl, inr, arith}
+use Rattle.std.proofs.Common.{◌≡◌, ◌≢◌, ℕ, ◌+◌, ◌-◌, ◌<◌, ◌≤◌, true, false, List, length, refl, sym, ap, ◌∙◌, inl, inr, arith}
 use Rattle.std.proofs.lemmas.Bool.{cases_eq, cases_lt, cases_Bool, ne_eqb, eq-eqb}
 use Rattle.std.proofs.lemmas.List.{get_or_past}
-use Rattle.strm_machine.specs.State.{State, stream_at, no_stream, is_gone}
+use Rattle.strm_machine.specs.State.{stream_at, no_stream, is_gone}
 use Rattle.strm_machine.specs.Sides.{end_of}
 use Rattle.strm_machine.specs.declared.streams.Side.{Side}
 use Rattle.strm_machine.specs.declared.streams.Side.TheVariants.{Writing as AWrite, Reading as ARead}
@@ -13,7 +13,6 @@ use Rattle.strm_laws.specs.Laws.{waiting}
 use Rattle.strm_chain.specs.declared.workers.Worker.{Worker}
 use Rattle.strm_chain.specs.declared.workers.Doing.TheVariants.{Nothing, Reading, Writing, Ended}
 use Rattle.strm_chain.specs.Playing.{Play}
-use Rattle.strm_chain.specs.Reporting.{is_told}
 use Rattle.strm_chain.specs.Turning.{HasOperation, has_ended}
 use Rattle.strm_chain.specs.Turned.{IsAt}
 use Rattle.strm_chain.specs.Keeping.{worker_at, sink_of, IsJoined, IsGoing}

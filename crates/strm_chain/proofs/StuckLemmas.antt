@@ -1,12 +1,10 @@
 -- In a chain that has not ended some guest is not stuck.
-use Rattle.std.specs.Prelude.{IsSome, ◌&&◌, not, cond}
-use Rattle.std.proofs.Common.{◌≡◌, ◌≢◌, ℕ, zero, suc, ◌+◌, ◌-◌, ◌<◌, ◌≤◌, Bool, true, false, List, length, Option, Some, None, refl, sym, ap, ◌∙◌, subst, inl, inr, arith}
+use Rattle.std.specs.Prelude.{IsSome, ◌&&◌, cond}
+use Rattle.std.proofs.Common.{◌≡◌, ℕ, zero, suc, ◌+◌, ◌-◌, ◌<◌, ◌≤◌, Bool, true, false, List, length, Option, Some, None, refl, sym, ap, ◌∙◌, subst, inl, inr, arith}
 use Rattle.std.specs.Option.{option_map}
 use Rattle.std.proofs.lemmas.Bool.{cases_eq}
-use Rattle.strm_codes.specs.declared.codes.ReturnCode.{ReturnCode}
-use Rattle.strm_codes.specs.declared.codes.ReturnCode.TheVariants as codes
 use Rattle.strm_codes.specs.declared.codes.TransmitKind.TheVariants.{Stream as AStream}
-use Rattle.strm_events.specs.Reports.{report_of, operation_report, outcome_code}
+use Rattle.strm_events.specs.Reports.{report_of, outcome_code}
 use Rattle.strm_machine.specs.State.{State, stream_at, is_gone}
 use Rattle.strm_machine.specs.Sides.{opposite, end_of}
 use Rattle.strm_machine.specs.Endings.{report_on, pending_of}
@@ -17,9 +15,9 @@ use Rattle.strm_machine.specs.declared.streams.Operation.{Operation}
 use Rattle.strm_machine.specs.declared.streams.Stream.{Stream}
 use Rattle.strm_laws.proofs.LawfulRuns.{apart}
 use Rattle.strm_chain.specs.declared.workers.Worker.{Worker}
-use Rattle.strm_chain.specs.declared.workers.Doing.TheVariants.{Reading, Writing, Ended}
+use Rattle.strm_chain.specs.declared.workers.Doing.TheVariants.{Reading}
 use Rattle.strm_chain.specs.Playing.{start, Play}
-use Rattle.strm_chain.specs.Keeping.{HasItems, IsPlain, ArePlain, worker_at, sink_of, IsJoined}
+use Rattle.strm_chain.specs.Keeping.{IsPlain, ArePlain, worker_at, sink_of, IsJoined}
 use Rattle.strm_chain.specs.Measuring.{IsStuck, AtEnd, InRead, InWrite}
 use Rattle.strm_chain.proofs.MomentLemmas.{IsRunOf}
 use Rattle.strm_chain.proofs.AfterLemmas.{plain_on}

@@ -1,7 +1,7 @@
 -- What a guest was told last, step by step, and what a turn adds to it.
-use Rattle.std.proofs.Common.{◌≡◌, ◌≢◌, ℕ, suc, ◌+◌, ◌-◌, Bool, List, [], ◌∷◌, ◌++◌, length, Option, Some, None, refl, sym, ap, ◌∙◌, subst, inl, inr, arith}
+use Rattle.std.proofs.Common.{◌≡◌, ◌≢◌, ℕ, suc, ◌+◌, Bool, List, [], ◌∷◌, ◌++◌, length, Option, Some, None, refl, sym, ap, ◌∙◌, arith}
 use Rattle.std.specs.Option.{option_or}
-use Rattle.std.proofs.lemmas.Bool.{cases_eq, ne_eqb, eq-eqb}
+use Rattle.std.proofs.lemmas.Bool.{ne_eqb, eq-eqb}
 use Rattle.std.proofs.lemmas.List.{length_push}
 use Rattle.strm_codes.specs.declared.codes.ReturnCode.{ReturnCode}
 use Rattle.strm_codes.specs.declared.codes.ReturnCode.TheVariants as codes
@@ -19,7 +19,6 @@ use Rattle.strm_chain.specs.declared.workers.ChainTurn.{ChainTurn}
 use Rattle.strm_chain.specs.Playing.{start, Play, IsPlayed, Adds}
 use Rattle.strm_chain.specs.Reporting.{report_if, report_to, last_report, tells_end, is_told}
 use Rattle.strm_chain.specs.Turned.{Turned, Rests, Waits, ReadOpens, ReadServes, ReadSettles, WriteOpens, WriteServes, WriteSettles, Ends}
-use Rattle.strm_chain.specs.Keeping.{worker_at, sink_of, IsJoined}
 use Rattle.strm_chain.proofs.PlayingLemmas.{follows_plays}
 use Rattle.strm_chain.proofs.OwnLemmas.{reported}
 use Rattle.strm_chain.proofs.TurnedLemmas.{unblocked, no_handle}

@@ -1,47 +1,35 @@
 -- A turn leaves a chain joined, whatever its guest did in it.
-use Rattle.std.proofs.Common.{◌≡◌, ◌≢◌, ℕ, ◌+◌, ◌-◌, ◌<◌, ◌≤◌, min, true, false, Bool, List, [], ◌∷◌, ◌++◌, length, take, drop, Option, Some, None, refl, sym, ap, ◌∙◌, subst, inl, inr, arith}
-use Rattle.std.proofs.lemmas.Bool.{cases_eq}
+use Rattle.std.proofs.Common.{◌≡◌, ◌≢◌, ℕ, ◌+◌, ◌≤◌, min, true, false, Bool, List, ◌++◌, take, drop, Option, Some, None, refl, sym, ap, ◌∙◌, subst, arith}
 use Rattle.std.proofs.lemmas.List.{take-append-le, length-append}
 use Rattle.strm_codes.specs.Codes.{count_of}
 use Rattle.strm_codes.specs.declared.codes.ReturnCode.{ReturnCode}
 use Rattle.strm_codes.specs.declared.codes.ReturnCode.TheVariants as codes
 use Rattle.strm_events.specs.Reports.{is_dropped}
 use Rattle.strm_memory.specs.Bytes.{bytes_at}
-use Rattle.strm_machine.specs.State.{State, Guest, memory_in, stream_at, is_gone}
-use Rattle.strm_machine.specs.Acts.{act_of, end_named_by}
-use Rattle.strm_machine.specs.Moments.{Moment, is_named, got_in, moved_of}
-use Rattle.strm_machine.specs.Untouched.{Region, LiesApart, put_by}
-use Rattle.strm_machine.specs.declared.streams.Side.TheVariants.{Writing as AWrite, Reading as ARead}
+use Rattle.strm_machine.specs.State.{State, memory_in, stream_at, is_gone}
+use Rattle.strm_machine.specs.Acts.{act_of}
+use Rattle.strm_machine.specs.Moments.{moved_of}
 use Rattle.strm_machine.specs.declared.streams.Operation.{Operation}
-use Rattle.strm_machine.specs.declared.streams.Owner.{Owner}
 use Rattle.strm_machine.specs.declared.streams.Owner.TheVariants.{Held}
-use Rattle.strm_machine.specs.declared.acts.NamedEnd.{NamedEnd}
 use Rattle.strm_machine.specs.declared.steps.Step.{Step}
 use Rattle.strm_machine.specs.declared.steps.Step.TheVariants as steps
-use Rattle.strm_machine.specs.declared.replies.Reply.{Reply}
 use Rattle.strm_machine.specs.declared.replies.Reply.TheVariants as replies
-use Rattle.strm_machine.proofs.NamedEndLemmas.{end_itself}
 use Rattle.strm_laws.specs.Laws.{AreSteps}
 use Rattle.strm_chain.specs.declared.workers.Worker.{Worker}
 use Rattle.strm_chain.specs.declared.workers.Doing.{Doing}
 use Rattle.strm_chain.specs.declared.workers.Doing.TheVariants.{Nothing, Reading, Writing, Ended}
-use Rattle.strm_chain.specs.declared.workers.ChainTurn.{ChainTurn}
 use Rattle.strm_chain.specs.Stages.{begun, left, done}
-use Rattle.strm_chain.specs.Playing.{Play, Adds, bytes_type}
+use Rattle.strm_chain.specs.Playing.{Play}
 use Rattle.strm_chain.specs.Flowing.{as_items, got_on}
-use Rattle.strm_chain.specs.Linking.{Sends, Takes, Arrived, Offers, OffersIf}
-use Rattle.strm_chain.specs.Keeping.{worker_at, sink_of, Items, ArePlain, WritesOn, ReadsFrom, IsSink, IsJoined}
-use Rattle.strm_chain.specs.Turned.{Reads, HearsRead, after_read, EndsRead, WithMore, WithLast, TakesIn, Pokes, Writes, HearsWrite, HandsOver, Drops, Turned, Rests, Waits, ReadOpens, ReadServes, ReadSettles, WriteOpens, WriteServes, WriteSettles, Ends}
+use Rattle.strm_chain.specs.Linking.{Sends, Takes, Arrived, OffersIf}
+use Rattle.strm_chain.specs.Keeping.{Items, ArePlain, WritesOn, ReadsFrom}
+use Rattle.strm_chain.specs.Turned.{after_read, EndsRead, WithMore, WithLast, TakesIn}
 use Rattle.strm_chain.proofs.StageLemmas.{left-stage}
 use Rattle.strm_chain.proofs.LinkLemmas.{takes_arrived}
-use Rattle.strm_chain.proofs.RegionLemmas.{ReceivesLow, nothing_put, write_region_stays}
-use Rattle.strm_chain.proofs.KeepLemmas.{poke_leaves}
-use Rattle.strm_chain.proofs.MomentLemmas.{IsRunOf, IsSeen, moment_at, run_before, are_before, seen}
-use Rattle.strm_chain.proofs.NamingLemmas.{IsPerformed, performed, operate_names, drop_names, event_names, unnamed_reader}
-use Rattle.strm_chain.proofs.AfterLemmas.{operate_after, event_after, told_gone, drop_after, poke_after, dump_after, event_none}
-use Rattle.strm_chain.proofs.StayLemmas.{low_unless, kind_is}
-use Rattle.strm_chain.proofs.JoinedLemmas.{Frame, frame_of, Passes, Each, But, got_same, same_passes, reader_passes, writer_passes, drop_passes, poke_passes, fewer, both_pass, none_pass, SamePart, OneChanged, joined_again, joined_same, unchanged}
-use Rattle.strm_chain.proofs.OwnLemmas.{own_read_waits, own_read_serves, own_read_settles, front_itself, next_within, own_write_waits, own_write_serves, own_write_settles, dropped_sends}
+use Rattle.strm_chain.proofs.MomentLemmas.{IsRunOf, IsSeen, moment_at, seen}
+use Rattle.strm_chain.proofs.NamingLemmas.{performed}
+use Rattle.strm_chain.proofs.AfterLemmas.{dump_after}
+use Rattle.strm_chain.proofs.JoinedLemmas.{Frame, Passes, Each, got_same, same_passes, SamePart}
 
 -- ## Guests with one thing changed
 

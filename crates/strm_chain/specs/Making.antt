@@ -1,5 +1,5 @@
 -- The making of a chain: first its guests, then the streams from each to the next. Ours.
-use Rattle.std.specs.Prelude.{◌≡◌, ℕ, ◌+◌, ◌-◌, ◌<◌, true, List, [], length, map, drop, take, ◌++◌, Some, None}
+use Rattle.std.specs.Prelude.{◌≡◌, ℕ, ◌+◌, ◌-◌, ◌<◌, true, List, length, map, drop, take, ◌++◌, Some, None}
 use Rattle.strm_machine.specs.State.{memory_in, stream_at}
 use Rattle.strm_machine.specs.Making.{made_stream}
 use Rattle.strm_machine.specs.declared.replies.Pair.{Pair}

@@ -11,7 +11,7 @@ use Rattle.strm_chain.specs.declared.workers.Worker.{Worker}
 use Rattle.strm_chain.specs.declared.workers.Doing.{Doing}
 use Rattle.strm_chain.specs.declared.workers.Doing.TheVariants.{Nothing, Reading, Writing, Ended}
 use Rattle.strm_chain.specs.Faults.{is_twice}
-use Rattle.strm_chain.specs.Keeping.{ChainState, worker_at, stages_of, input_of}
+use Rattle.strm_chain.specs.Keeping.{worker_at, stages_of, input_of}
 
 -- the most bytes that stages make of so many
 abbrev pub most_of : List Stage → ℕ → ℕ

@@ -1,5 +1,5 @@
 -- A store of guests that is played step by step. Ours.
-use Rattle.std.specs.Prelude.{◌≡◌, ℕ, ◌≤◌, false, List, [], ◌∷◌, ◌++◌, length, All}
+use Rattle.std.specs.Prelude.{◌≡◌, ℕ, ◌+◌, ◌≤◌, false, List, [], ◌∷◌, ◌++◌, length, All}
 use Rattle.strm_codes.specs.declared.codes.TransmitIndex.{TransmitIndex}
 use Rattle.strm_codes.specs.declared.codes.TransmitIndex.TheVariants as index
 use Rattle.strm_codes.specs.declared.payloads.Payload.TheVariants.{One}
@@ -43,6 +43,10 @@ no_play = record { steps = []; replies = []; state = start }
 -- the steps of a play were answered so, and led to its state
 abbrev pub IsPlayed : Play → Type 0
 IsPlayed play = Follows play.steps play.replies play.state
+
+-- the laws speak of so many steps more: of no play of more than 4,294,967,295
+abbrev pub HasRoom : ℕ → Play → Type 0
+HasRoom count play = length play.steps + count ≤ 4294967295
 
 -- one step was played, and had this reply
 pub record Adds (play play' : Play) (step : Step) (reply : Reply) : Type 0 where

@@ -2,9 +2,9 @@
 //!
 //! Meaning: `Turning.antt`, `Flowing.antt`, `Faults.antt`. Ours.
 
-ghost use Rattle.std.specs.Prelude.{◌≡◌, ◌≢◌, ◌≤◌, ◌<◌, ◌+◌, ◌-◌, ◌%◌, ◌↔◌, ◌++◌, ◌∷◌, ℕ, List, [], length, map, true, false, Err, IfOk, IfSome, IfErr, IsErr, OnOk, count_by, None};
+ghost use Rattle.std.specs.Prelude.{◌≡◌, ◌≢◌, ◌≤◌, ◌<◌, ◌+◌, ◌-◌, ◌*◌, ◌%◌, ◌↔◌, ◌++◌, ◌∷◌, ℕ, List, [], length, map, true, false, Err, IfOk, IfSome, IfErr, IsErr, OnOk, count_by, None};
 ghost use Rattle.strm_machine.specs.Plays.{play, Ends};
-ghost use Rattle.strm_chain.specs.Playing.{start, IsPlayed};
+ghost use Rattle.strm_chain.specs.Playing.{start, IsPlayed, HasRoom};
 ghost use Rattle.strm_chain.specs.Stages.{composed};
 ghost use Rattle.strm_chain.specs.Flowing.{Flows};
 ghost use Rattle.strm_chain.specs.Faults.{is_twice, fault_of, IsFault};
@@ -12,7 +12,7 @@ ghost use Rattle.strm_chain.specs.Reporting.{is_told};
 ghost use Rattle.strm_chain.specs.Turning.{Turns};
 ghost use Rattle.strm_chain.specs.Running.{AreTurns, AreSomeTurns, IsRun};
 ghost use Rattle.strm_chain.specs.Keeping.{worker_at, sink_of, stages_of, input_of, IsGoing, GoesOn};
-ghost use Rattle.strm_chain.specs.Measuring.{to_do, IsStuck, Lowers};
+ghost use Rattle.strm_chain.specs.Measuring.{most_of, to_do, IsStuck, Lowers};
 ghost use Rattle.strm_chain.specs.Turned.{Turned};
 
 use crate::lists::Bytes8;
@@ -48,7 +48,7 @@ pub enum ChainError {
     /// The input has more than 65,536 bytes.
     #[error("the input has more than {max} bytes", max = MAX_INPUT)]
     TooLong,
-    /// An allocation was refused, or a play has no room for a step more.
+    /// An allocation was refused, or the play has no room for a turn of a caller or a schedule.
     #[error("out of memory")]
     OutOfMemory,
 }
@@ -175,7 +175,6 @@ impl Chain {
     }
 
     /// One turn of a guest. After want of memory each turn answers that.
-    #[tactic(auto, using(crate::proofs::ChainLemmas::going_of))]
     pub fn turn(&mut self, who: u32) -> Result<ChainTurn, ChainError>
         requires { who < length self.old.workers }
 
@@ -190,6 +189,11 @@ impl Chain {
         ensures many { length self.new.workers ≡ length self.old.workers }
         ensures error { IfErr result (λ error. error ≡ ChainError.OutOfMemory) }
 
+        // It is at most two steps. A play without room for these is answered as want of memory: since a turn that
+        // is idle may be a step too, a caller who gives turns without end comes to that.
+        ensures short { OnOk result (length self.new.play.steps ≤ length self.old.play.steps + 2) }
+        ensures full { ¬ HasRoom 2 self.old.play → result ≡ Err ChainError.OutOfMemory }
+
         // A turn that moved leaves less to do. One that was idle leaves all as it was, and its guest stuck.
         ensures lowers { IfOk result (λ turn. Lowers who turn self.old.play.state self.old.workers
             self.new.play.state self.new.workers) }
@@ -197,9 +201,31 @@ impl Chain {
         ensures failed { IsErr result ↔ (self.new.failed ≡ true) }
         ensures again { self.old.failed ≡ true → result ≡ Err ChainError.OutOfMemory }
     {
-        if self.failed {
+        if self.failed || !self.player.has_room() {
+            self.failed = true;
             return Err(ChainError::OutOfMemory);
         }
+        self.turn_with_room(who)
+    }
+
+    // One turn of a guest, for which there is room.
+    #[tactic(auto, using(crate::proofs::ChainLemmas::going_of))]
+    fn turn_with_room(&mut self, who: u32) -> Result<ChainTurn, ChainError>
+        requires there { who < length self.old.workers }
+        requires runs { self.old.failed ≡ false }
+        requires room { HasRoom 2 self.old.play }
+        ensures turns { IfOk result (λ turn. Turns (length self.old.workers - 1) self.old.chunk who turn
+            self.old.play self.new.play) }
+        ensures goes_on { OnOk result (GoesOn self.old self.new) }
+        ensures others { (g : ℕ) → g ≢ who → worker_at self.new.workers g ≡ worker_at self.old.workers g }
+        ensures many { length self.new.workers ≡ length self.old.workers }
+        ensures error { IfErr result (λ error. error ≡ ChainError.OutOfMemory) }
+        ensures lowers { IfOk result (λ turn. Lowers who turn self.old.play.state self.old.workers
+            self.new.play.state self.new.workers) }
+        ensures short { OnOk result (length self.new.play.steps ≤ length self.old.play.steps + 2) }
+        ensures runs { OnOk result (self.new.failed ≡ false) }
+        ensures failed { IsErr result ↔ (self.new.failed ≡ true) }
+    {
         match turn_in(&mut self.player, &mut self.workers, who, self.chunk) {
             Ok(turn) => Ok(turn),
             Err(_) => {
@@ -228,9 +254,10 @@ impl Chain {
         }
     }
 
-    // As long as the sink was not told, some guest is not stuck. It does nothing.
+    // As long as the sink was not told, some of at most ten guests is not stuck. It does nothing.
     fn somebody_goes(&self)
-        ensures { self.now.failed ≡ false →
+        ensures few { length self.now.workers ≤ 10 }
+        ensures goes { self.now.failed ≡ false →
             is_told (length self.now.workers - 1) self.now.play.steps self.now.play.replies ≡ false →
             ((g : ℕ) → g < length self.now.workers →
             IsStuck g (worker_at self.now.workers g) self.now.play.state) → ⊥ }
@@ -251,6 +278,9 @@ impl Chain {
         ensures flows { IfOk result (λ end. Flows (stages_of self.workers) (input_of self.workers) end.output end.steps) }
         ensures composed { IfOk result (λ end. end.ended ≡ true →
             end.output ≡ composed (stages_of self.workers) (input_of self.workers)) }
+
+        // It is a run of which the laws speak.
+        ensures within { IfOk result (λ end. length end.steps ≤ 4294967295) }
         ensures error { IfErr result (λ error. error ≡ ChainError.OutOfMemory) }
         ensures again { self.failed ≡ true → result ≡ Err ChainError.OutOfMemory }
     {
@@ -284,6 +314,7 @@ fn end_of(player: Player, workers: Vec<Worker>) -> Result<ChainEnd, ChainError>
     ensures ended { IfOk result (λ end. end.ended ≡ is_told (length workers.items - 1) end.steps end.replies) }
     ensures flows { IfOk result (λ end. Flows (stages_of workers.items) (input_of workers.items) end.output end.steps) }
     ensures composed { IfOk result (λ end. end.ended ≡ true → end.output ≡ composed (stages_of workers.items) (input_of workers.items)) }
+    ensures within { IfOk result (λ end. length end.steps ≤ 4294967295) }
     ensures error { IfErr result (λ error. error ≡ ChainError.OutOfMemory) }
 {
     conservation();
@@ -312,6 +343,7 @@ fn turn_at(
 ) -> Result<ChainTurn, OutOfMemory>
     requires chunk { (16 ≤ chunk) × (chunk ≤ 64) }
     requires there { who < length workers.old }
+    requires room { HasRoom 2 player.old }
     ensures turned { IfOk result (λ turn. Turned who chunk (worker_at workers.old who) player.old turn
         (worker_at workers.new who) player.new) }
     ensures others { (g : ℕ) → g ≢ who → worker_at workers.new g ≡ worker_at workers.old g }
@@ -336,11 +368,13 @@ fn turn_in(
     requires there { who < length workers.old }
     requires some { 2 ≤ length workers.old }
     requires going { IsGoing player.old workers.old }
+    requires room { HasRoom 2 player.old }
     ensures going { OnOk result (IsGoing player.new workers.new) }
     ensures stages { OnOk result (stages_of workers.new ≡ stages_of workers.old) }
     ensures input { OnOk result (input_of workers.new ≡ input_of workers.old) }
     ensures turns { IfOk result (λ turn. Turns (length workers.old - 1) chunk who turn player.old player.new) }
     ensures lowers { IfOk result (λ turn. Lowers who turn player.old.state workers.old player.new.state workers.new) }
+    ensures short { OnOk result (length player.new.steps ≤ length player.old.steps + 2) }
     ensures others { (g : ℕ) → g ≢ who → worker_at workers.new g ≡ worker_at workers.old g }
     ensures many { length workers.new ≡ length workers.old }
 {
@@ -363,10 +397,11 @@ fn take_turns(chain: &mut Chain, schedule: &[u32]) -> Result<(), ChainError>
     Ok(())
 }
 
-// One round of all guests, which leaves less to do.
+// One round of all guests, which leaves less to do, in at most two steps for each of ten guests.
 fn take_round(chain: &mut Chain) -> Result<(), ChainError>
     requires runs { chain.old.failed ≡ false }
     requires untold { is_told (length chain.old.workers - 1) chain.old.play.steps chain.old.play.replies ≡ false }
+    requires room { HasRoom 20 chain.old.play }
     ensures error { IfErr result (λ error. error ≡ ChainError.OutOfMemory) }
     ensures turns { OnOk result (AreSomeTurns (length chain.old.workers - 1) chain.old.chunk
         chain.old.play chain.new.play) }
@@ -374,10 +409,11 @@ fn take_round(chain: &mut Chain) -> Result<(), ChainError>
     ensures runs { OnOk result (chain.new.failed ≡ false) }
     ensures less { OnOk result (to_do chain.new.play.state chain.new.workers
         < to_do chain.old.play.state chain.old.workers) }
+    ensures short { OnOk result (length chain.new.play.steps ≤ length chain.old.play.steps + 20) }
 {
     chain.somebody_goes();
     for who in 0..chain.guests() {
-        chain.turn(who)?;
+        chain.turn_with_room(who)?;
     }
     Ok(())
 }
@@ -406,6 +442,9 @@ pub fn chain_run(
 
     // Where the chain has ended, the output is what the stages make of the input.
     ensures composed { IfOk result (λ end. end.ended ≡ true → end.output ≡ composed stages.now input.items) }
+
+    // A run of which the laws speak: where its play has no room for a turn of the schedule, memory is wanting.
+    ensures within { IfOk result (λ end. length end.steps ≤ 4294967295) }
     ensures err { IfErr result (IsFault stages.now (length input.items)) }
 {
     let mut chain = Chain::new(alloc, stages, input, chunk)?;
@@ -432,6 +471,11 @@ pub fn chain_all(
     ensures told { IfOk result (λ end. is_told (length stages.now + 1) end.steps end.replies ≡ true) }
     ensures ended { IfOk result (λ end. end.ended ≡ true) }
     ensures composed { IfOk result (λ end. end.output ≡ composed stages.now input.items) }
+
+    // It takes at most 800 steps for each byte that a stream carries at most, and 819 more. These are no more
+    // than a play may have: so no count of steps ends it.
+    ensures few { IfOk result (λ end. length end.steps
+        ≤ 800 * most_of stages.now (length input.items) + 819) }
     ensures err { IfErr result (IsFault stages.now (length input.items)) }
 {
     let mut chain = Chain::new(alloc, stages, input, chunk)?;

@@ -3,7 +3,7 @@
 //! Meaning: `Making.antt`. Ours.
 
 ghost use Rattle.std.specs.Prelude.{◌≡◌, ◌≤◌, ◌<◌, ◌+◌, ◌++◌, ◌∷◌, [], ℕ, List, length, slice_index_or, IfOk, OnOk, Some};
-ghost use Rattle.strm_chain.specs.Playing.{IsPlayed};
+ghost use Rattle.strm_chain.specs.Playing.{IsPlayed, HasRoom};
 ghost use Rattle.strm_chain.specs.Keeping.{new_worker, IsGoing};
 ghost use Rattle.strm_chain.specs.declared.stages.Stage.{Stage};
 ghost use Rattle.strm_chain.specs.declared.stages.Stage.TheVariants.{Copy};
@@ -52,7 +52,8 @@ fn add_source(
     workers: &mut Vec<Worker>,
     input: Vec<u8>,
 ) -> Result<u32, OutOfMemory>
-    requires { workers.old.items ≡ [] }
+    requires none { workers.old.items ≡ [] }
+    requires room { HasRoom 1 player.old }
     ensures { (stages : List Stage) (guests : ℕ) → AreMade guests 0 player.old → IfOk result (λ read.
         AreJoined input.items 0 read stages player.new workers.new.items × AreMade guests 1 player.new) }
 {
@@ -70,7 +71,8 @@ fn add_stage(
     stage: Stage,
     read: u32,
 ) -> Result<u32, OutOfMemory>
-    requires { length workers.old.items ≤ 8 }
+    requires few { length workers.old.items ≤ 8 }
+    requires room { HasRoom 1 player.old }
     ensures { (input : List ℕ) (stages : List Stage) (guests i : ℕ) → i < length stages → stage ≡ slice_index_or stages i Copy
         → AreJoined input i read stages player.old workers.old.items → AreMade guests (i + 1) player.old → IfOk result (λ next.
         AreJoined input (i + 1) next stages player.new workers.new.items × AreMade guests (i + 2) player.new) }
@@ -82,7 +84,8 @@ fn add_stage(
 
 // So many guests.
 fn add_guests(player: &mut Player, count: u32) -> Result<(), OutOfMemory>
-    requires { AreMade 0 0 player.old }
+    requires few { count ≤ 10 }
+    requires none { AreMade 0 0 player.old }
     ensures { OnOk result (AreMade count 0 player.new) }
 {
     for _made in 0..count {
@@ -93,6 +96,7 @@ fn add_guests(player: &mut Player, count: u32) -> Result<(), OutOfMemory>
 
 // A guest more; the answer is its number.
 fn add_guest(player: &mut Player) -> Result<u32, OutOfMemory>
+    requires { HasRoom 1 player.old }
     ensures { (n : ℕ) → AreMade n 0 player.old → OnOk result (AreMade (n + 1) 0 player.new) }
 {
     match player.play(&Step::Guest { size: MEMORY }) {
@@ -103,7 +107,8 @@ fn add_guest(player: &mut Player) -> Result<u32, OutOfMemory>
 
 // A stream from a guest to the next one.
 fn make_pair(player: &mut Player, writer: u32) -> Result<Pair, OutOfMemory>
-    requires { writer ≤ 8 }
+    requires few { writer ≤ 8 }
+    requires room { HasRoom 1 player.old }
     ensures { IfOk result (λ pair. MakesPair writer player.old pair player.new) }
 {
     match player.play(&Step::Between {

@@ -32,8 +32,11 @@ const LIMITS: Limits = Limits {
     places: 1_000_000,
 };
 
-// The most steps of a play.
+// The most steps of a play: the laws speak of no more.
 const MAX_STEPS: usize = 4_294_967_295;
+
+// The most steps of a turn.
+const TURN_STEPS: usize = 2;
 
 // A store among no host ends, with the steps that it was played and their replies.
 #[derive(Drop)]
@@ -60,7 +63,7 @@ impl Model for Player {
 }
 
 impl Player {
-    ghost use Rattle.strm_chain.specs.Playing.{no_play, Adds, IsPlayed};
+    ghost use Rattle.strm_chain.specs.Playing.{no_play, Adds, IsPlayed, HasRoom};
 
     // A store that was played no step.
     pub(crate) fn new(alloc: Global) -> Player
@@ -77,6 +80,7 @@ impl Player {
     // Plays one step of guests. Where an allocation is refused, all that was played is forgotten.
     pub(crate) fn play(&mut self, step: &Step) -> Result<Reply, OutOfMemory>
         requires guests { is_of_guests (act_of step.now) ≡ true }
+        requires room { HasRoom 1 self.old }
         ensures ok { IfOk result (λ reply. Adds self.old self.new step.now reply) }
         ensures err { OnErr result (self.new ≡ no_play) }
     {
@@ -95,6 +99,14 @@ impl Player {
                 Err(error)
             }
         }
+    }
+
+    // Whether there is room for the steps of a turn.
+    pub(crate) fn has_room(&self) -> bool
+        ensures room { result ≡ true → HasRoom 2 self.now }
+        ensures full { result ≡ false → ¬ HasRoom 2 self.now }
+    {
+        self.steps.as_slice().len() <= MAX_STEPS - TURN_STEPS
     }
 
     // Puts the first bytes of a guest's memory behind these, as many as a stream has received more than
@@ -144,14 +156,6 @@ fn sound(step: &Step)
     }
 }
 
-// Whether the laws speak of no step more.
-fn is_full(steps: &Steps) -> bool
-    ensures room { result ≡ false → length steps.now < 4294967295 }
-    ensures full { result ≡ true → 4294967295 ≤ length steps.now }
-{
-    steps.as_slice().len() >= MAX_STEPS
-}
-
 // Plays one step, and keeps it and its reply.
 fn play_once(
     alloc: Global,
@@ -162,15 +166,13 @@ fn play_once(
 ) -> Result<Reply, OutOfMemory>
     requires follows { Follows steps.old replies.old store.old }
     requires guests { is_of_guests (act_of step.now) ≡ true }
+    requires room { length steps.old < 4294967295 }
     ensures follows { OnOk result (Follows steps.new replies.new store.new) }
     ensures steps { OnOk result (steps.new ≡ steps.old ++ step.now ∷ []) }
     ensures replies { IfOk result (λ reply. replies.new ≡ replies.old ++ reply ∷ []) }
     ensures reacts { IfOk result (λ reply. react store.old step.now ≡ goes reply store.new) }
 {
     sound(step);
-    if is_full(steps) {
-        return Err(OutOfMemory);
-    }
     let reply = answer(alloc, store, step)?;
     keep_step(steps, step)?;
     keep_reply(replies, &reply)?;

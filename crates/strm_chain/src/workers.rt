@@ -9,7 +9,7 @@ ghost use Rattle.strm_machine.specs.Acts.{act_of};
 ghost use Rattle.strm_machine.specs.declared.steps.Step.TheVariants as steps;
 ghost use Rattle.strm_machine.specs.declared.replies.Reply.TheVariants as replies;
 ghost use Rattle.strm_transmit.specs.Guests.{is_of_guests};
-ghost use Rattle.strm_chain.specs.Playing.{Adds};
+ghost use Rattle.strm_chain.specs.Playing.{Adds, HasRoom};
 ghost use Rattle.strm_chain.specs.Stages.{left, done};
 ghost use Rattle.strm_chain.specs.Turning.{IsCount};
 ghost use Rattle.strm_chain.specs.Turned.{Turned, TakesIn, HandsOver};
@@ -82,7 +82,8 @@ pub(crate) fn take_turn(
     guest: u32,
     chunk: u32,
 ) -> Result<ChainTurn, OutOfMemory>
-    requires { (16 ≤ chunk) × (chunk ≤ 64) }
+    requires chunk { (16 ≤ chunk) × (chunk ≤ 64) }
+    requires room { HasRoom 2 player.old }
     ensures { IfOk result (λ turn. Turned guest chunk worker.old player.old turn worker.new player.new) }
 {
     match worker.doing {
@@ -119,7 +120,8 @@ fn hear_of_read(
     worker: &mut Worker,
     guest: u32,
 ) -> Result<ChainTurn, OutOfMemory>
-    requires { worker.old.doing ≡ doing.Reading }
+    requires waits { worker.old.doing ≡ doing.Reading }
+    requires room { HasRoom 2 player.old }
     ensures { (chunk : ℕ) → IfOk result (λ turn. Turned guest chunk worker.old player.old turn worker.new player.new) }
 {
     let Some(handle) = worker.read else {
@@ -140,7 +142,8 @@ fn hear_of_write(
     worker: &mut Worker,
     guest: u32,
 ) -> Result<ChainTurn, OutOfMemory>
-    requires { worker.old.doing ≡ doing.Writing }
+    requires waits { worker.old.doing ≡ doing.Writing }
+    requires room { HasRoom 2 player.old }
     ensures { (chunk : ℕ) → IfOk result (λ turn. Turned guest chunk worker.old player.old turn worker.new player.new) }
 {
     let Some(handle) = worker.write else {
@@ -165,6 +168,7 @@ fn begin_read(
     requires rests { worker.old.doing ≡ doing.Nothing }
     requires unclosed { worker.old.closed ≡ false }
     requires some { 1 ≤ chunk }
+    requires room { HasRoom 2 player.old }
     ensures { IfOk result (λ turn. Turned guest chunk worker.old player.old turn worker.new player.new) }
 {
     let Some(handle) = worker.read else {
@@ -200,6 +204,7 @@ fn begin_write(
     requires rests { worker.old.doing ≡ doing.Nothing }
     requires some { IsCount chunk (length bytes.now) }
     requires next { bytes.now ≡ take chunk (drop worker.old.sent worker.old.made) }
+    requires room { HasRoom 2 player.old }
     ensures { IfOk result (λ turn. Turned guest chunk worker.old player.old turn worker.new player.new) }
 {
     let Some(handle) = worker.write else {
@@ -230,6 +235,7 @@ fn end(player: &mut Player, worker: &mut Worker, guest: u32) -> Result<ChainTurn
     requires rests { worker.old.doing ≡ doing.Nothing }
     requires closed { worker.old.closed ≡ true }
     requires all { worker.old.write ≡ None ⊎ (length worker.old.made ≤ worker.old.sent) }
+    requires room { HasRoom 1 player.old }
     ensures { (chunk : ℕ) → IfOk result (λ turn. Turned guest chunk worker.old player.old turn worker.new player.new) }
 {
     let Some(handle) = worker.write else {
@@ -253,6 +259,7 @@ fn take_read(
     guest: u32,
     code: ReturnCode,
 ) -> Result<(), OutOfMemory>
+    requires { HasRoom 1 player.old }
     ensures { OnOk result (TakesIn guest worker.old code player.old worker.new player.new) }
 {
     let (count, dropped) = match code {
@@ -307,6 +314,7 @@ fn hand_over(worker: &mut Worker, code: ReturnCode) -> Result<(), OutOfMemory>
 // Plays a step that is answered by a code.
 fn play_code(player: &mut Player, step: &Step) -> Result<ReturnCode, OutOfMemory>
     requires guests { is_of_guests (act_of step.now) ≡ true }
+    requires room { HasRoom 1 player.old }
     ensures ok { IfOk result (λ code. Adds player.old player.new step.now (replies.Code code)) }
 {
     match player.play(step) {
@@ -318,6 +326,7 @@ fn play_code(player: &mut Player, step: &Step) -> Result<ReturnCode, OutOfMemory
 // Plays a step that is done.
 fn play_done(player: &mut Player, step: &Step) -> Result<(), OutOfMemory>
     requires guests { is_of_guests (act_of step.now) ≡ true }
+    requires room { HasRoom 1 player.old }
     ensures ok { OnOk result (Adds player.old player.new step.now replies.Done) }
 {
     match player.play(step) {
@@ -332,6 +341,7 @@ fn play_event(
     guest: u32,
     handle: u32,
 ) -> Result<Option<ReturnCode>, OutOfMemory>
+    requires { HasRoom 1 player.old }
     ensures ok { IfOk result (λ code. Adds player.old player.new (steps.Event guest handle) (replies.Event code)) }
 {
     match player.play(&Step::Event { guest, handle }) {
@@ -342,6 +352,7 @@ fn play_event(
 
 // Bytes are put where the guest writes from.
 fn poke(player: &mut Player, guest: u32, bytes: &Chunk) -> Result<(), OutOfMemory>
+    requires { HasRoom 1 player.old }
     ensures ok { OnOk result (Adds player.old player.new (steps.Poke guest 64 bytes.now) replies.Done) }
 {
     play_done(

@@ -95,8 +95,10 @@ fn the_greatest_input_by_a_schedule(rt: HostRuntime) {
 fn driven_is_whole(alloc: Global, count: usize) -> Result<bool, ChainError> {
     let mut chain = Chain::new(alloc, FOUR_TIMES, bytes(alloc, count)?, 64)?;
     for _ in 0..40_000u32 {
-        for who in 0..chain.guests() {
-            chain.turn(who)?;
+        for who in 0..10u32 {
+            if who < chain.guests() {
+                chain.turn(who)?;
+            }
         }
     }
     let ended = chain.ended();

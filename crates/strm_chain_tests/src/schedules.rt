@@ -171,8 +171,10 @@ fn driven(alloc: Global, count: u32) -> Result<ChainEnd, ChainError> {
     let input = [7u8].to_vec(alloc)?;
     let mut chain = Chain::new(alloc, &[Stage::Copy], input, 16)?;
     for _ in 0..count {
-        for who in 0..chain.guests() {
-            chain.turn(who)?;
+        for who in 0..3u32 {
+            if who < chain.guests() {
+                chain.turn(who)?;
+            }
         }
     }
     chain.finish()

@@ -1,14 +1,26 @@
-use Rattle.std.proofs.Common.{rules, ◌-◌, ◌∙◌, ap, sym, arith, length}
+use Rattle.std.proofs.Common.{rules, ◌≡◌, ◌-◌, ◌∙◌, ap, sym, arith, length}
+use Rattle.std.specs.Prelude.{None}
+use Rattle.strm_chain.specs.Faults.{fault_of}
 use Rattle.strm_chain.proofs.ChainLemmas.{goes_nowhere, goes_further, some_run_ok, flows_ok, told_ok, all_ended_ok, all_ok}
 use Rattle.strm_chain.proofs.TurningLemmas.{some_none, some_join}
+use Rattle.strm_chain.specs.Measuring.{to_do}
+use Rattle.strm_chain.proofs.RoomLemmas.{begins_few, few_steps, spent_more, few_ok}
 use Rattle.strm_chain.proofs.chains.chain_all.Goals as goal
 
 pub loop-chain-init : goal.loop-chain-init
-loop-chain-init c = record {
-  from = (c.in_ok-chain.chain, c.in_ok-chain.ensures.begins, some_none (length c.in_ok-chain.chain.workers - 1) c.in_ok-chain.chain.chunk c.in_ok-chain.chain.play, goes_nowhere c.in_ok-chain.chain);
-  runs = c.in_ok-chain.ensures.begins.runs;
-  none = search rules;
-}
+loop-chain-init c =
+    let none : fault_of c.args.stages.now (length c.args.input.items) ≡ None = search rules in
+    record {
+      from = (c.in_ok-chain.chain, c.in_ok-chain.ensures.begins, some_none (length c.in_ok-chain.chain.workers - 1) c.in_ok-chain.chain.chunk c.in_ok-chain.chain.play, goes_nowhere c.in_ok-chain.chain);
+      runs = c.in_ok-chain.ensures.begins.runs;
+      spent = begins_few c.args.stages.now c.args.input.items c.args.chunk c.in_ok-chain.chain c.in_ok-chain.ensures.begins none;
+      none = none;
+    }
+
+pub take_round-requires-clause-room : goal.take_round-requires-clause-room
+take_round-requires-clause-room c =
+    let i = c.loop-chain.invariant in
+    omega (arith, i.spent, few_steps c.args.stages.now (length c.args.input.items) i.none)
 
 pub loop-chain-preserved : goal.loop-chain-preserved
 loop-chain-preserved c =
@@ -23,6 +35,9 @@ loop-chain-preserved c =
         goes_further i.from.0 c.loop-chain.chain c.take_round.new.chain i.from.3 e.goes_on,
       );
       runs = e.runs;
+      spent = spent_more _ (length c.loop-chain.chain.play.steps) (length c.take_round.new.chain.play.steps)
+          (to_do c.loop-chain.chain.play.state c.loop-chain.chain.workers) (to_do c.take_round.new.chain.play.state c.take_round.new.chain.workers)
+          i.spent e.short e.less;
       none = i.none;
     }
 
@@ -58,3 +73,7 @@ returns-clause-composed c =
     let i = c.loop-chain.invariant in
     all_ok (λ e. e.steps) (λ e. e.replies) (λ e. e.output) (λ e. e.ended) c.args.stages.now c.args.input.items c.args.chunk i.from.0 c.loop-chain.chain c.finish.result
     i.from.1 i.from.3 (sym (c.ended.ensures i.runs) ∙ c.loop-chain-test.false) (c.finish.ensures.steps, c.finish.ensures.replies, c.finish.ensures.plays) c.finish.ensures.ended c.finish.ensures.composed
+
+pub returns-clause-few : goal.returns-clause-few
+returns-clause-few c =
+    few_ok (λ e. e.steps) c.finish.result c.loop-chain.chain.play.steps _ c.finish.ensures.steps (omega (arith, c.loop-chain.invariant.spent))

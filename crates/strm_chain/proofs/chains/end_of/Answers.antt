@@ -22,3 +22,6 @@ pub returns-clause-composed : goal.returns-clause-composed
 returns-clause-composed c = λ told.
     end_composed c.args.player c.args.workers.items c.requires.some c.requires.going.joined c.finish-steps.ensures.follows c.conservation.ensures.conserves
     _ c.in-Some.sink c.add_received.new.bytes (search rules) c.in-Some.ensures c.in_ok-add_received.ensures told
+
+pub returns-clause-within : goal.returns-clause-within
+returns-clause-within c = rw (c.finish-steps.ensures.steps) c.finish-steps.ensures.follows.few

@@ -1,4 +1,6 @@
 use Rattle.strm_chain.proofs.ChainLemmas.{going_ok, stages_ok, input_ok, turns_ok, lowers_ok}
+use Rattle.strm_chain.specs.Keeping.{worker_at}
+use Rattle.strm_chain.proofs.RoomLemmas.{short_ok}
 use Rattle.strm_chain.proofs.chains.turn_in.Goals as goal
 
 pub returns-clause-going : goal.returns-clause-going
@@ -30,3 +32,7 @@ returns-clause-lowers c =
     let e = c.turn_at.ensures in
     lowers_ok c.args.player.now c.turn_at.new.player c.args.workers.now c.turn_at.new.workers c.args.who c.args.chunk c.turn_at.result c.requires.chunk c.requires.there
     (record { many = e.many; others = e.others }) e.before e.after c.requires.going c.requires.some e.turned
+
+pub returns-clause-short : goal.returns-clause-short
+returns-clause-short c =
+    short_ok c.args.player.now c.turn_at.new.player (worker_at c.args.workers.now c.args.who) (worker_at c.turn_at.new.workers c.args.who) c.args.who c.args.chunk c.turn_at.result c.turn_at.ensures.turned

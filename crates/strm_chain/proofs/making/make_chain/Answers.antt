@@ -3,10 +3,19 @@ use Rattle.strm_chain.specs.Making.{AreMade, AreJoined, IsReady}
 use Rattle.strm_chain.proofs.MomentLemmas.{played_run}
 use Rattle.strm_chain.proofs.EndLemmas.{counts_are}
 use Rattle.strm_chain.proofs.MakingLemmas.{none_made, joined_last, ready_joined, ready_untold}
+use Rattle.strm_chain.proofs.RoomLemmas.{made_room}
 use Rattle.strm_chain.proofs.making.make_chain.Goals as goal
 
-pub add_guests-requires : goal.add_guests-requires
-add_guests-requires c = subst (AreMade 0 0) (sym c.new-player.ensures) none_made
+pub add_guests-requires-clause-none : goal.add_guests-requires-clause-none
+add_guests-requires-clause-none c = subst (AreMade 0 0) (sym c.new-player.ensures) none_made
+
+pub add_source-requires-clause-room : goal.add_source-requires-clause-room
+add_source-requires-clause-room c =
+    made_room (length c.args.stages.now + 2) 0 1 c.add_guests.new.player c.in_ok-add_guests.ensures (omega (arith, c.requires))
+
+pub add_stage-requires-clause-room : goal.add_stage-requires-clause-room
+add_stage-requires-clause-room c =
+    made_room (length c.args.stages.now + 2) (c.loop-stage.stage-index + 1) 1 c.loop-stage.player c.loop-stage.invariant.made (omega (arith, c.requires, c.loop-stage-test.true))
 
 pub loop-stage-init : goal.loop-stage-init
 loop-stage-init c =

@@ -2,7 +2,7 @@ use Rattle.std.proofs.Common.{rules, ◌≡◌, length, sym, subst, ap, ◌∙�
 use Rattle.strm_chain.specs.Keeping.{ChainState, worker_at}
 use Rattle.strm_chain.specs.Measuring.{Lowers}
 use Rattle.strm_chain.proofs.ChainLemmas.{written_back}
-use Rattle.strm_chain.proofs.chains.Chain.turn.Goals as goal
+use Rattle.strm_chain.proofs.chains.Chain.turn_with_room.Goals as goal
 
 pub returns-in-Ok-clause-others : goal.returns-in-Ok-clause-others
 returns-in-Ok-clause-others c = λ g ne.
