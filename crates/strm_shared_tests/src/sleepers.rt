@@ -52,7 +52,7 @@ const NUDGE: Step = Step::Event {
 struct Scene<'a> {
     way: Way,
     sleeps: &'a Step,
-    answer: Answer,
+    answer: &'a Answer,
     wakes: &'a Step,
 }
 
@@ -77,7 +77,7 @@ fn sleeps<R: Wait>(
     signs.begun.store(true, Ordering::SeqCst);
     let told = answer(rt, alloc, store, &mut seat, scene.way, scene.sleeps);
     signs.woken.store(true, Ordering::SeqCst);
-    told == scene.answer
+    told == *scene.answer
 }
 
 // Looks for a flag for ten seconds.
@@ -172,10 +172,11 @@ fn all_called<R: Wait>(rt: &R, alloc: Global, store: &SharedStore, seat: &mut Se
 /// A read that waits is told Dropped once the writer is dropped.
 #[test]
 fn a_drop_wakes_a_reader(rt: HostRuntime) {
+    let answer = Ok(Reply::Code(ReturnCode::Dropped(ItemCount::ZERO)));
     let scene = Scene {
         way: Way::Sync,
         sleeps: &read(1, 1, 2),
-        answer: Ok(Reply::Code(ReturnCode::Dropped(ItemCount::ZERO))),
+        answer: &answer,
         wakes: &Step::DropWrite {
             guest: 0,
             ty: STREAM,
@@ -188,10 +189,11 @@ fn a_drop_wakes_a_reader(rt: HostRuntime) {
 /// A move that waits for a write is done once the write is cancelled.
 #[test]
 fn a_cancel_wakes_a_move(rt: HostRuntime) {
+    let answer = Ok(Reply::Number(2));
     let scene = Scene {
         way: Way::SyncMove,
         sleeps: &MOVE,
-        answer: Ok(Reply::Number(2)),
+        answer: &answer,
         wakes: &Step::CancelWrite {
             guest: 0,
             ty: STREAM,
@@ -205,10 +207,11 @@ fn a_cancel_wakes_a_move(rt: HostRuntime) {
 /// A move that waits for a write that has its report is answered once a poll of a set told that.
 #[test]
 fn a_poll_wakes_a_move(rt: HostRuntime) {
+    let answer = Ok(Reply::Refused(Refusal::LiftInSet));
     let scene = Scene {
         way: Way::SyncMove,
         sleeps: &MOVE,
-        answer: Ok(Reply::Refused(Refusal::LiftInSet)),
+        answer: &answer,
         wakes: &Step::SetPoll { guest: 0, set: 2 },
     };
     let join = Step::SetJoin {
@@ -232,6 +235,7 @@ fn a_trap_wakes_a_reader(rt: HostRuntime) {
     let Some(bytes) = Chunk::new(&SURROGATE) else {
         return is_right(&rt, false);
     };
+    let answer = Ok(Reply::StoreTrapped);
     let scene = Scene {
         way: Way::Sync,
         sleeps: &Step::Read {
@@ -241,7 +245,7 @@ fn a_trap_wakes_a_reader(rt: HostRuntime) {
             address: 0,
             count: 1,
         },
-        answer: Ok(Reply::StoreTrapped),
+        answer: &answer,
         wakes: &Step::Write {
             guest: 0,
             ty: CHARS,
